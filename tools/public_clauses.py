@@ -1,4 +1,5 @@
-"""What the clauses of exported functions cite, which tools/quick compares with the rows of docs/DEFINITIONS.md.
+"""What the clauses of exported functions cite, which tools/quick compares with the rows of docs/DEFINITIONS.md, and what they reach through
+others: what they don't reach stands in files Private.
 
 Clauses are premises, promises and the ghost members of types: of what `lib.rt` exports, in whatever module it stands. Texts are read without
 comments and strings, as `rt fmt` lays them out: what stands in an item is deeper than its head. What isn't seen: that a clause gives a name of
@@ -18,7 +19,7 @@ MARK = re.compile(
 )
 PUBLIC_ITEM = re.compile(r"^pub (?:const |unsafe )*(?:fn|struct|enum|trait) (\w+)", re.M)
 NAME = re.compile(r"(?<![\w.])[^\W\d]\w*(?:\.\w+)?")
-DEFINED = re.compile(r" *((?:(?:abbrev|unfoldable|opaque|pub|data|record) +)+)([^\s:(){},=]+)")
+DEFINED = re.compile(r" *((?:(?:abbrev|unfoldable|opaque|pub|data|record) +)+)([^\s:(){},]+)")
 PART = re.compile(r" +(?:pub +)?((?:[^\s:(){},=]+ +)+):")
 
 
@@ -108,6 +109,38 @@ def cited(code):
                     at, file, name = passed_on.get((at, file), {}).get(name, (at, file, name))
                     if name in defined.get((at, file), ()):
                         yield (at, file, defined[at, file][name]), f"{crate}: {of}"
+
+
+def items(text):
+    """The definitions of a file of specs/, one item each, a `module` with all that it has: the names that it defines, and its text."""
+    plain = re.sub(r"--.*|^(?:pub )?use .*|^infix.*", "", text, flags=re.M)
+    return [(set(defined_in(it)), it) for it in re.split(r"^(?=(?:abbrev|unfoldable|opaque|pub|data|record|module)\b)", plain, flags=re.M)]
+
+
+def words_of(text, known):
+    """Those of the known names that a text has, each with what stands behind its dot; an operator by its signs."""
+    yield from (it.partition(".")[::2] for it in NAME.findall(text))
+    yield from ((it, "") for it in known if "◌" in it and all(sign in text for sign in it.split("◌")))
+
+
+def unreached(code):
+    """The definitions that no clause of an exported function reaches, neither itself nor through others, in files that aren't `Private`."""
+    specs = {(crate, path.split("/")[-1][:-5]): text for crate, files in code.items() for path, text in files.items() if path.endswith(".antt")}
+    split, passed_on = {place: items(text) for place, text in specs.items()}, {place: imports(text, "pub") for place, text in specs.items()}
+    here = {place: {name: (*place, name) for names, _ in split[place] for name in names} | imports(text) for place, text in specs.items()}
+    work, reached = [it for it, _ in cited(code)], set()
+    while work:
+        crate, file, name = work.pop()
+        place, *further = (crate, file), passed_on.get((crate, file), {}).get(name)
+        work += filter(None, further)
+        for number, (names, text) in enumerate(split.get(place, ())):
+            if name in names and (place, number) not in reached:
+                reached.add((place, number))
+                found = [(here[place].get(first), second) for first, second in words_of(text, here[place])]
+                work += [(at, its_file, its_name or second) for (at, its_file, its_name), second in (it for it in found if it[0])]
+    public = [place for place in sorted(specs) if place[1] != "Lib" and not place[1].startswith("Private")]
+    left = [(place, names) for place in public for number, (names, _) in enumerate(split[place]) if names and (place, number) not in reached]
+    return [f"{'/'.join(place)}: {', '.join(sorted(names))}" for place, names in left]
 
 
 def wrong(code, rows):

@@ -7,6 +7,7 @@ ghost use Rattle.a.specs.Words.{IsSaid, yes, IsLong as IsWide};
 ghost use Rattle.a.specs.Words as words;
 ghost use Rattle.a.specs.Passed.{passed};
 ghost use Rattle.a.specs.PrivateSteps.{step};
+ghost use Rattle.a.specs.PrivateLeads.{lead};
 ghost use Rattle.a.specs.declared.inner.Shown.{Shown};
 
 """
@@ -26,6 +27,7 @@ module _ (n : ℕ) where
   IsShort m = m ≡ n
 """,
     "specs/Passed.antt": "pub use Rattle.b.specs.Parts.{passed}\n",
+    "specs/PrivateLeads.antt": "use Rattle.a.specs.Words.{IsSaid}\n\nabbrev pub lead : ℕ → Type 0\nlead = IsSaid\n",
     "specs/PrivateSteps.antt": "abbrev pub step : ℕ\nstep = 1\n",
 }
 BELOW = {"specs/Parts.antt": "abbrev pub passed : ℕ\npassed = 1\n"}
@@ -65,7 +67,13 @@ PLAIN = [
 ]
 # Of all that is public in a public module.
 OPEN = "pub fn any() -> u8\n    ensures { IsSaid result }\n{\n    1\n}"
-NUMBER = len(CITED) + len(PLAIN) + 4
+# What no clause reaches beside this one, by the files of these definitions.
+LEFT = [
+    ("by a promise", CITED[0][1], ["a/Words: Answer, no, yes", "a/Words: IsLong, IsShort, long", "b/Parts: passed"]),
+    ("through another file", CITED[8][1], ["a/Words: IsSaid", "a/Words: Answer, no, yes", "a/Words: IsLong, IsShort, long"]),
+    ("through a definition", "pub fn call() -> u8\n    ensures { result ≡ lead }\n{\n    1\n}", ["a/Words: Answer, no, yes", "a/Words: IsLong, IsShort, long", "b/Parts: passed"]),
+]
+NUMBER = len(CITED) + len(PLAIN) + len(LEFT) + 4
 
 
 def code_with(text, file="inner"):
@@ -83,6 +91,7 @@ def failed():
     yield from [f"not found: a definition that is cited {how}" for how, text, name in CITED if cited(text) != [name]]
     yield from [f"found where none is cited: {what}" for what, text in PLAIN if cited(text)]
     yield from ["not found: a definition that a public module cites"] * (cited(OPEN, "open") != ["IsSaid"])
+    yield from [f"not as told: what no clause reaches beside one that cites {how}" for how, text, left in LEFT if public_clauses.unreached(code_with(text)) != left]
     found = [public_clauses.wrong(code_with(text), rows) for text, rows in [(CITED[0][1], ()), (CITED[0][1], {("a", "Words", "IsSaid")}), (CITED[-1][1], ())]]
     counts = [(len(without), len(private)) for without, private in found]
     yield from ["a row that lacks, one that is there, and a private file are told as " + str(counts)] * (counts != [(1, 0), (0, 0), (0, 1)])

@@ -1,4 +1,5 @@
-//! Statements that change rows of the register of `two_blocks` by hand, and what is printed then for a check, a reindex and a further check.
+//! Statements that change rows of the register of `two_blocks` by hand, and what is printed then for a check, a reindex and a further
+//! check.
 
 /// What is printed for a check, for a reindex, and for a check after it.
 pub type Verdicts = [&'static str; 3];

@@ -6,7 +6,7 @@ use sqlite::{Connection, MemStore};
 use std::alloc::AllocGlobal;
 use std::process::Abort;
 use std::test::Fail;
-use worked_samples::{BOOKS, DOCK, MOBY, MOBY_TEXT};
+use worked_samples::{BOOKS, CAFE, DOCK, MOBY, MOBY_TEXT};
 use zeb_engine::Limits;
 use zeb_packed::Blocks;
 
@@ -91,6 +91,44 @@ const STRANGER: Case = (
     &[],
 );
 
+/// The same, where another word's block spells nothing, so that the tables hold no content: the hit is asked for, and no record is shown.
+const STRANGER_BESIDE_DAMAGE: Case = (
+    &[
+        (
+            Statement::Execute(
+                "UPDATE blocks SET data = x'070201' WHERE idx = 0 AND reg = 0 AND term = 'moby'",
+            ),
+            "1",
+        ),
+        (
+            Statement::Execute(
+                "UPDATE blocks SET data = x'0102' WHERE idx = 0 AND reg = 0 AND term = 'whale'",
+            ),
+            "1",
+        ),
+    ],
+    &[
+        (Step::Find("@attr 1=4 moby"), DAMAGED),
+        (Step::Find("@attr 1=4 dick"), "hits 1\n1 a1\n"),
+    ],
+    &[],
+);
+
+/// A word that is listed at another place than its record has it: the place isn't there that an update would take.
+const MISPLACED: Case = (
+    &[(
+        Statement::Execute(
+            "UPDATE blocks SET data = x'010203' WHERE idx = 0 AND reg = 0 AND term = 'dick'",
+        ),
+        "1",
+    )],
+    &[
+        (Step::Update(&[&[DOCK]]), DAMAGED),
+        (Step::Dump("Default"), MOBY_TEXT),
+    ],
+    &[(Statement::Rows(COUNTS), "13|13\n")],
+);
+
 /// A term without its count is no term that an update may take away.
 const UNCOUNTED: Case = (
     &[(
@@ -173,9 +211,11 @@ const NO_RECORD: Case = (
     )],
     &[
         (Step::Delete(&[&[MOBY]]), DAMAGED),
+        (Step::Update(&[&[CAFE, DOCK]]), DAMAGED),
+        (Step::Update(&[&[], &[DOCK]]), DAMAGED),
         (Step::Find("@attr 1=4 moby"), "hits 1\n1 a1\n"),
     ],
-    &[],
+    &[(Statement::Rows(COUNTS), "13|13\n")],
 );
 
 /// A kept record with another's bytes, which have another identifier.
@@ -190,6 +230,7 @@ const OTHER_RECORD: Case = (
     &[
         (Step::Delete(&[&[MOBY]]), DAMAGED),
         (Step::Update(&[&[DOCK]]), DAMAGED),
+        (Step::Update(&[&[CAFE, DOCK]]), DAMAGED),
         (Step::Find("@attr 1=4 moby"), "hits 1\n1 a1\n"),
     ],
     &[(Statement::Rows(COUNTS), "13|13\n")],
@@ -224,11 +265,13 @@ const VERSION: Case = (
     &[(Statement::Rows(COUNTS), "13|13\n")],
 );
 
-const CASES: [Case; 14] = [
+const CASES: [Case; 16] = [
     KEPT,
     CUT,
     TAKEN_OUT,
     STRANGER,
+    STRANGER_BESIDE_DAMAGE,
+    MISPLACED,
     UNCOUNTED,
     UNLISTED,
     (COUNT_OF_NONE, MISCOUNTED, ALL_KEPT),

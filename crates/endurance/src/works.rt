@@ -18,8 +18,8 @@ type Counts = [u64; 4];
 /// A command over the database of `two_blocks`, what is printed for it, and its counts.
 type Worked = (Step<'static>, &'static str, Counts);
 
-/// A title has seven words in eight blocks, since `moby` has two: `again`, `cafe`, `dick`, `moby`, `or`, `the`, `whale`. It has three phrases
-/// and two dates, each in one block.
+/// A title has seven words in eight blocks, since `moby` has two: `again`, `cafe`, `dick`, `moby`, `or`, `the`, `whale`. It has three
+/// phrases and two dates, each in one block.
 const WORKED: [Worked; 40] = [
     // Each block of the words that are named.
     (Step::Find("dick"), "hits 1\n255 a1\n", [0, 0, 1, 0]),

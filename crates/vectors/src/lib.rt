@@ -5,6 +5,8 @@
 #[cfg(test)]
 mod analyses;
 #[cfg(test)]
+mod blocks;
+#[cfg(test)]
 mod extraction;
 #[cfg(test)]
 mod profiles;

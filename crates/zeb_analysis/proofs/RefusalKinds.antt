@@ -134,13 +134,13 @@ sound_in file text =
     sound_from file 1 (split_of text).slices (split_of text).fault
     (λ fault is. fault_behind text (split_of text).slices fault (subst (IsSplit text (split_of text).slices) is (IsSplit-split_of text)))
 
-all_append : {A : Type 0} (P : A → Type 0) (xs ys : List A) → AllByRecursion P xs → AllByRecursion P ys → AllByRecursion P (xs ++ ys)
-all_append P [] ys one two = two
-all_append P (x ∷ xs) ys one two = (one.0, all_append P xs ys one.1 two)
+all_of_both : {A : Type 0} (P : A → Type 0) (xs ys : List A) → AllByRecursion P xs → AllByRecursion P ys → AllByRecursion P (xs ++ ys)
+all_of_both P [] ys one two = two
+all_of_both P (x ∷ xs) ys one two = (one.0, all_of_both P xs ys one.1 two)
 
 sound_in_all : (file : ℕ) (texts : List (List ℕ)) → AllByRecursion IsSoundPlace (standing_in_all file texts)
 sound_in_all file [] = tt
-sound_in_all file (text ∷ texts) = all_append IsSoundPlace (standing_in file text) (standing_in_all (file + 1) texts) (sound_in file text) (sound_in_all (file + 1) texts)
+sound_in_all file (text ∷ texts) = all_of_both IsSoundPlace (standing_in file text) (standing_in_all (file + 1) texts) (sound_in file text) (sound_in_all (file + 1) texts)
 
 all_at : {A : Type 0} (P : A → Type 0) (xs : List A) (k : ℕ) (x : A) → AllByRecursion P xs → slice_get xs k ≡ Some x → P x
 all_at P [] k x all e = absurd (cc)

@@ -8,7 +8,7 @@ use Rattle.zeb_extract.specs.declared.naming.IdentFault.{IdentFault}
 use Rattle.zeb_extract.specs.declared.naming.IdentFault.TheVariants as ident
 use Rattle.zeb_extract.specs.Identifier.{identifier_of}
 use Rattle.zeb_analysis.specs.declared.faults.AnalysisFault.TheVariants.{Marc, TooManyRecords, Memory}
-use Rattle.zeb_analysis.specs.Refusals.{ident_fault}
+use Rattle.zeb_analysis.specs.PrivateRefusals.{ident_fault}
 use Rattle.zeb_analysis.specs.Analysing.{at_place, refusal_at, refused_name, refused_record, units_in}
 
 module _ (profile : List Directive) (limit before file nth : ℕ) (bytes : List ℕ) where

@@ -1,4 +1,5 @@
 pub mod Refusals
+pub mod PrivateRefusals
 pub mod Analysing
 pub mod PrivateWalk
 pub mod Printing

@@ -1,4 +1,5 @@
--- How the records of a file are read and analysed, one after the other. No public contract cites this.
+-- What only the contracts of private functions speak of; no public clause reaches it.
+-- How the records of a file are read and analysed, one after the other.
 use Rattle.std.specs.Prelude.{◌≡◌, ℕ, true, false, Bool, List, ◌++◌, length, None, Result, Ok, Err}
 use Rattle.zeb_profile.specs.declared.directives.Directive.{Directive}
 use Rattle.zeb_marc.specs.Splits.{Next, at_end, a_slice, a_fault}

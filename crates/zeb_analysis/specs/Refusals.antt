@@ -3,16 +3,8 @@ use Rattle.std.specs.Prelude.{ℕ, List, ◌++◌, codes}
 use Rattle.std.specs.Fmt.{decimal}
 use Rattle.zeb_marc.specs.Names.{fault_name as marc_name}
 use Rattle.zeb_extract.specs.Names.{fault_name as ident_name}
-use Rattle.zeb_extract.specs.declared.naming.IdentFault.{IdentFault}
-use Rattle.zeb_extract.specs.declared.naming.IdentFault.TheVariants as ident
 use Rattle.zeb_analysis.specs.declared.faults.AnalysisFault.{AnalysisFault}
 use Rattle.zeb_analysis.specs.declared.faults.AnalysisFault.TheVariants.{Marc, Ident, TooManyRecords, Memory}
-
--- want of memory is of no record
-abbrev pub ident_fault : ℕ → ℕ → IdentFault → AnalysisFault
-ident_fault file nth ident.Memory = Memory
-ident_fault file nth ident.NoIdentifier = Ident file nth ident.NoIdentifier
-ident_fault file nth ident.BadIdentifier = Ident file nth ident.BadIdentifier
 
 -- the record, by its file and its place there, and the name of its fault
 abbrev pub record_fault_text : ℕ → ℕ → List ℕ → List ℕ

@@ -29,7 +29,7 @@ pub enum AnalysisFault {
 }
 
 impl AnalysisFault {
-    ghost use Rattle.zeb_analysis.specs.Refusals.{ident_fault};
+    ghost use Rattle.zeb_analysis.specs.PrivateRefusals.{ident_fault};
 
     /// The fault of a record's identifier, or want of memory.
     pub(crate) fn of_identifier(file: u64, nth: u64, fault: IdentFault) -> AnalysisFault

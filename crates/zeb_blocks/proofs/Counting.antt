@@ -8,7 +8,7 @@ use Rattle.zeb_blocks.proofs.Steps.{NoPosting}
 use Rattle.zeb_blocks.proofs.Lists.{each_follows-append, each_follows-behind, last_from-append, length-bytes, postings_at-spelled, spelled_from-append, told_apart}
 
 -- so many postings stand before what is left, and this is the last of them
-pub record IsCounted (start : Posting) (bytes : List ℕ) (count : ℕ) (last : Posting) (left : List ℕ) : Type 0 where
+pub record IsReadUpTo (start : Posting) (bytes : List ℕ) (count : ℕ) (last : Posting) (left : List ℕ) : Type 0 where
   pub list : List Posting
   pub follow : EachFollows start list
   pub spelled : bytes ≡ spelled_from start list ++ left
@@ -16,7 +16,7 @@ pub record IsCounted (start : Posting) (bytes : List ℕ) (count : ℕ) (last : 
   pub end : last_from start list ≡ last
   pub room : count + length left ≤ length bytes
 
-unfoldable pub counted_none : (start : Posting) (bytes : List ℕ) → IsCounted start bytes 0 start bytes
+unfoldable pub counted_none : (start : Posting) (bytes : List ℕ) → IsReadUpTo start bytes 0 start bytes
 unfolding spelled_from
 counted_none start bytes = record { list = []; follow = tt; spelled = refl; counted = refl; end = refl; room = omega arith }
 
@@ -24,8 +24,8 @@ pub one_spelled : (before p : Posting) → spelled_from before (p ∷ []) ≡ by
 unfolding spelled_from
 one_spelled before p = append-nil (bytes_of (gaps_of before p))
 
-unfoldable pub counted_more : (start : Posting) (bytes : List ℕ) (count : ℕ) (last p : Posting) (left behind : List ℕ) → IsCounted start bytes count last left → Follows last p → left ≡ bytes_of (gaps_of last p) ++ behind
-    → IsCounted start bytes (count + 1) p behind
+unfoldable pub counted_more : (start : Posting) (bytes : List ℕ) (count : ℕ) (last p : Posting) (left behind : List ℕ) → IsReadUpTo start bytes count last left → Follows last p → left ≡ bytes_of (gaps_of last p) ++ behind
+    → IsReadUpTo start bytes (count + 1) p behind
 counted_more start bytes count last p left behind so_far next is =
     let one : EachFollows (last_from start so_far.list) (p ∷ []) = subst (λ (q : Posting). EachFollows q (p ∷ [])) (sym so_far.end) (next, tt) in
     record {
@@ -38,7 +38,7 @@ counted_more start bytes count last p left behind so_far next is =
     }
 
 -- where nothing is left, the bytes spell the list
-pub counted_all : (start : Posting) (bytes : List ℕ) (count : ℕ) (last : Posting) (left : List ℕ) → IsCounted start bytes count last left → length left ≡ 0
+pub counted_all : (start : Posting) (bytes : List ℕ) (count : ℕ) (last : Posting) (left : List ℕ) → IsReadUpTo start bytes count last left → length left ≡ 0
     → SpellsFrom start (postings_at count start bytes) bytes × (last_from start (postings_at count start bytes) ≡ last)
 counted_all start bytes count last (byte ∷ left) all none = absurd (omega arith)
 counted_all start bytes count last [] all none =
@@ -52,7 +52,7 @@ refused last left [] some none behind is = let e = ap length is in omega arith
 refused last left (p ∷ more) some none behind is = none p (spelled_from p more) behind.0 is
 
 -- where something is left that begins with no posting, they spell no list
-pub counted_damaged : (start : Posting) (bytes : List ℕ) (count : ℕ) (last : Posting) (left : List ℕ) → IsCounted start bytes count last left → 0 < length left → NoPosting last left → (list : List Posting) → ¬ SpellsFrom start list bytes
+pub counted_damaged : (start : Posting) (bytes : List ℕ) (count : ℕ) (last : Posting) (left : List ℕ) → IsReadUpTo start bytes count last left → 0 < length left → NoPosting last left → (list : List Posting) → ¬ SpellsFrom start list bytes
 counted_damaged start bytes count last left so_far some none list spells =
     let (more, is, left_is) = told_apart start so_far.list list left so_far.follow spells.follow (sym so_far.spelled ∙ spells.spelled) in
     let behind : EachFollows last more = subst (λ (q : Posting). EachFollows q more) so_far.end (each_follows-behind start so_far.list more (subst (EachFollows start) is spells.follow)) in

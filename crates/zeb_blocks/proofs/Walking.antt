@@ -4,7 +4,7 @@ use Rattle.std.proofs.lemmas.List.{append_assoc, append-nil}
 use Rattle.zeb_blocks.specs.declared.postings.Posting.{Posting}
 use Rattle.zeb_blocks.specs.Blocks.{BlockSpells, bytes_of, gaps_of, spelled_from, start_of}
 use Rattle.zeb_blocks.specs.Left.{Follows, SpellsFrom, last_from}
-use Rattle.zeb_blocks.proofs.Counting.{IsCounted, counted_damaged, counted_more, counted_none}
+use Rattle.zeb_blocks.proofs.Counting.{IsReadUpTo, counted_damaged, counted_more, counted_none}
 use Rattle.zeb_blocks.proofs.Rising.{lies_from}
 use Rattle.zeb_blocks.proofs.Steps.{NoPosting}
 use Rattle.zeb_blocks.proofs.Taking.{empty_block}
@@ -12,7 +12,7 @@ use Rattle.zeb_blocks.proofs.Taking.{empty_block}
 -- a list has grown by the postings that stand before what is left
 pub record IsWalked (start : Posting) (bytes : List ℕ) (old new : List Posting) (last : Posting) (left : List ℕ) : Type 0 where
   pub count : ℕ
-  pub counted : IsCounted start bytes count last left
+  pub counted : IsReadUpTo start bytes count last left
   pub pushed : new ≡ old ++ counted.list
 
 pub walked_none : (start : Posting) (bytes : List ℕ) (old : List Posting) → IsWalked start bytes old old start bytes

@@ -1,5 +1,5 @@
 -- What is left of a block that is read, and what was written of one: the list that its bytes spell, taken from them.
-use Rattle.std.specs.Prelude.{◌≡◌, ℕ, zero, suc, ◌+◌, ◌*◌, ◌%◌, ◌^◌, ◌<◌, ◌==◌, nat_lt, if◌then◌else◌, List, [], ◌∷◌}
+use Rattle.std.specs.Prelude.{◌≡◌, ℕ, zero, suc, ◌+◌, ◌*◌, ◌%◌, ◌==◌, nat_lt, if◌then◌else◌, List, [], ◌∷◌}
 use Rattle.zeb_blocks.specs.declared.postings.Posting.{Posting}
 use Rattle.zeb_blocks.specs.declared.gaps.Gaps.{Gaps}
 use Rattle.std.specs.declared.cmp.Ordering.TheVariants.{Less}
@@ -28,10 +28,6 @@ posting_after before gaps =
     if gaps.sysno == 0
     then posting_in_record before gaps
     else record { sysno = before.sysno + gaps.sysno; seq = gaps.seq; pos = gaps.pos }
-
--- its numbers fit 64 bits
-abbrev pub Fits : Posting → Type 0
-Fits p = (p.sysno < 2 ^ 64) × (p.seq < 2 ^ 64) × (p.pos < 2 ^ 64)
 
 abbrev pub gaps_at : List ℕ → Gaps
 gaps_at bytes = record { sysno = number_at bytes; seq = number_at (behind bytes); pos = number_at (behind (behind bytes)) }

@@ -16,7 +16,8 @@ pub(crate) struct Gaps {
 
 impl Gaps {
     ghost use Rattle.zeb_blocks.specs.Blocks.{bytes_of, gaps_of};
-    ghost use Rattle.zeb_blocks.specs.Left.{Fits, Follows, posting_after};
+    ghost use Rattle.zeb_blocks.specs.Left.{Follows, posting_after};
+    ghost use Rattle.zeb_blocks.specs.PrivateLeft.{Fits};
 
     /// The gaps of a posting that is above another.
     pub(crate) fn between(before: Posting, posting: Posting) -> Gaps

@@ -16,6 +16,3 @@ pub use laws::{
 pub use postings::Posting;
 pub use reading::{Damaged, Postings, push_block};
 pub use writing::{BlockWriter, spell};
-
-#[cfg(test)]
-mod tests;

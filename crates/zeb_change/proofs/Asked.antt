@@ -9,7 +9,7 @@ use Rattle.zeb_keys.specs.declared.keys.Key.{Key}
 use Rattle.zeb_register.specs.declared.registers.RecordChange.{RecordChange}
 use Rattle.zeb_register.specs.Content.{AreChangedAt, Content}
 use Rattle.zeb_register.specs.Formats.{Format, holds_in}
-use Rattle.zeb_register.specs.Hindrances.{HindersPlaces, IsStorablePlaced, Placed, TakesRegisterRowids, placed, rows_of}
+use Rattle.zeb_register.specs.Hindrances.{HindersPlaces, FitsEachLayout, Placed, TakesRegisterRowids, placed, rows_of}
 use Rattle.zeb_register.specs.Room.{FitInRow, HasRoom}
 use Rattle.zeb_register.proofs.Room.{room_left, room_serves}
 use Rattle.zeb_change.specs.declared.key_notes.KeyNotes.{KeyNotes}
@@ -19,7 +19,7 @@ use Rattle.zeb_change.specs.NoteWords.{KeyChange}
 use Rattle.zeb_change.specs.Noted.{IsNothingNoted}
 use Rattle.zeb_change.specs.PrivatePending.{AreGivenAs, AreGivenInOrder, number_in}
 use Rattle.zeb_change.proofs.PutNotes.{among_less}
-use Rattle.zeb_change.proofs.Reordering.{all_of, of_reordered}
+use Rattle.zeb_change.proofs.StableReorderings.{all_of, of_reordered}
 
 -- ---- the changes of a key in the order in which a layout takes them
 
@@ -52,15 +52,15 @@ module _ (changes : List KeyChange) (given : List RecordChange) (is : AreGivenIn
   pub rows_given : rows_of (map placed given) ≡ rows_of (map placed_by changes)
   rows_given = rows_reordered is.noted given is.stable ∙ ap rows_of (same_placed changes is.noted is.same)
 
-  pub storable_given : AllByRecursion IsStorablePlaced (map placed_by changes) → AllByRecursion IsStorablePlaced (map placed given)
+  pub storable_given : AllByRecursion FitsEachLayout (map placed_by changes) → AllByRecursion FitsEachLayout (map placed given)
   storable_given all =
-      let noted = all_behind IsStorablePlaced is.noted (subst (AllByRecursion IsStorablePlaced) (sym (same_placed changes is.noted is.same)) all) in
-      all_mapped IsStorablePlaced given (all_of number_in (λ g. IsStorablePlaced (placed g)) is.noted given is.stable noted)
+      let noted = all_behind FitsEachLayout is.noted (subst (AllByRecursion FitsEachLayout) (sym (same_placed changes is.noted is.same)) all) in
+      all_mapped FitsEachLayout given (all_of number_in (λ g. FitsEachLayout (placed g)) is.noted given is.stable noted)
 
   module _ (format : Format) (n left : ℕ) (db : ℤ) (key : Key) (old : Trees) (content : Content) (held : holds_in format old content) (room : HasRoom format (n + left) old) (fits : FitInRow (n + left) key)
       (many : n ≡ rows_of (map placed_by changes)) where
     -- nothing hinders the changes of a key
-    pub key_served : AllByRecursion IsStorablePlaced (map placed_by changes) → HindersPlaces db key (map placed given) old → ⊥
+    pub key_served : AllByRecursion FitsEachLayout (map placed_by changes) → HindersPlaces db key (map placed given) old → ⊥
     key_served storable = room_serves format (n + left) (λ k. n + left) db key (map placed given) old content held room fits (storable_given storable) few few
       where
         few : rows_of (map placed given) ≤ n + left

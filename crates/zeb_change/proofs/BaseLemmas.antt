@@ -10,7 +10,7 @@ use Rattle.sqlite_rules.proofs.ListLemmas.{has_contained, contains_had}
 use Rattle.zeb_profile.specs.declared.directives.Directive.{Directive}
 use Rattle.zeb_change.specs.Base.{Base, Kept, has_ident, kept_as, with_new, with_bytes, without_ident}
 use Rattle.zeb_change.specs.Stored.{IsKept, IsBase}
-use Rattle.zeb_change.specs.UnderWay.{AreNumbered, with_records}
+use Rattle.zeb_change.specs.UnderWay.{HaveSystemNumbers, with_records}
 use Rattle.zeb_change.proofs.KeptLemmas.{AreRisingKept, push_rises, kept_found}
 use Rattle.zeb_change.proofs.KeptChanges.{IsPutIn, IsTakenFrom, kept_of, new_put, bytes_put, bytes_rise, ident_taken}
 use Rattle.zeb_change.proofs.StoredLemmas.{told_id, at_id, at_other}
@@ -95,7 +95,7 @@ pub base_numbered : (profile : List Directive) (base : Base) → IsBase profile 
 base_numbered profile base is kept there = (is.from_one kept there, (let last = is.to_last kept there in let few = is.few in omega arith))
 
 -- the records of a database in place of those that it had
-pub with_numbered : (profile : List Directive) (id : ℤ) (records_of : ℤ → List Kept) (base : Base) → IsBase profile base → AreNumbered records_of → AreNumbered (with_records id base.records records_of)
+pub with_numbered : (profile : List Directive) (id : ℤ) (records_of : ℤ → List Kept) (base : Base) → IsBase profile base → HaveSystemNumbers records_of → HaveSystemNumbers (with_records id base.records records_of)
 with_numbered profile id records_of base is others other kept there = elim (told_id other id) [
   | inl same ↦ base_numbered profile base is kept (subst (λ (l : List Kept). Contains l kept) (at_id id records_of base.records other same) there)
   | inr differs ↦ others other kept (subst (λ (l : List Kept). Contains l kept) (at_other id records_of base.records other differs) there)

@@ -1,19 +1,17 @@
 -- The content in which the changed keys of a record, one after the other, have the newer places.
-use Rattle.std.proofs.Common.{◌≡◌, ◌≢◌, ◌↔◌, ◌⊎◌, ◌∙◌, ℕ, ℤ, List, [], ◌∷◌, ◌++◌, map, refl, sym, subst, inl, inr, Less, nat_cmp, int_cmp}
+use Rattle.std.proofs.Common.{◌≡◌, ◌≢◌, ◌↔◌, ◌⊎◌, ◌∙◌, ℕ, ℤ, List, [], ◌∷◌, ◌++◌, map, refl, sym, subst, inl, inr, Less}
 use Rattle.std.specs.List.{Contains}
 use Rattle.std.specs.List.Sorted.{IsStrictlySortedBy}
 use Rattle.std.specs.Cmp.{nat_cmp_total, int_cmp_total}
-use Rattle.std.proofs.lemmas.Cmp.{ranked, int_ranked}
-use Rattle.std.specs.declared.cmp.Ordering.TheVariants.{Equal}
 use Rattle.sqlite_rules.specs.Lists.{Has}
 use Rattle.sqlite_rules.proofs.ListLemmas.{has_contained, contains_had, all_has}
 use Rattle.sqlite_rules.proofs.ProbeLemmas.{has_mapped, mapped_has}
 use Rattle.zeb_keys.specs.declared.keys.Key.{Key}
 use Rattle.zeb_keys.specs.declared.keys.Occurrence.{Occurrence}
 use Rattle.zeb_keys.specs.Order.{key_order}
-use Rattle.zeb_keys.proofs.Rising.{key_total, keys_apart}
+use Rattle.zeb_keys.proofs.Rising.{key_total, keys_apart, numbers_apart}
 use Rattle.zeb_register.specs.declared.registers.Place.{Place}
-use Rattle.zeb_register.specs.Content.{Content, IsRising, posting_at, ArePlacesOf, Posting}
+use Rattle.zeb_register.specs.Content.{Content, HasRisingLists, posting_at, ArePlacesOf, Posting}
 use Rattle.sqlite.specs.Tree.{Trees}
 use Rattle.zeb_register.specs.Store.{KeepsLists}
 use Rattle.zeb_register.specs.declared.faults.RegFault.{RegFault}
@@ -21,7 +19,7 @@ use Rattle.zeb_register.specs.declared.faults.RegFault.TheVariants as register
 use Rattle.zeb_change.specs.declared.refusals.Refusal.TheVariants.{Damaged}
 use Rattle.zeb_change.specs.Outcomes.{register_refusal}
 use Rattle.zeb_register.proofs.RisingLists.{never_itself, told_by}
-use Rattle.zeb_register.proofs.ContentChanges.{changed_at, change_is, same_content}
+use Rattle.zeb_register.proofs.ContentChanges.{changed_at, change_is, same_content, integers_apart}
 use Rattle.zeb_change.specs.declared.changed_keys.ChangedKey.{ChangedKey}
 use Rattle.zeb_change.specs.Reposted.{ArePostingsOf, IsReposted, occurrence_at}
 use Rattle.zeb_change.specs.PrivateChangedKeys.{AreChangedKeys, key_in}
@@ -40,13 +38,13 @@ unfolding moved
 moved_more db sysno [] c content = refl
 moved_more db sysno (first ∷ changed) c content = moved_more db sysno changed c (changed_at db (key_in first) sysno first.new.items content)
 
-pub moved_rises : (db : ℤ) (sysno : ℕ) (changed : List ChangedKey) (content : Content) → IsRising content → IsRising (moved db sysno changed content)
+pub moved_rises : (db : ℤ) (sysno : ℕ) (changed : List ChangedKey) (content : Content) → HasRisingLists content → HasRisingLists (moved db sysno changed content)
 unfolding moved
 moved_rises db sysno [] content up = up
 moved_rises db sysno (c ∷ changed) content up = moved_rises db sysno changed _ (change_is db (key_in c) sysno c.new.items content up).rising
 
 -- what is no posting of the record in the database is as it was
-pub moved_others : (db : ℤ) (sysno : ℕ) (changed : List ChangedKey) (content : Content) → IsRising content → (d : ℤ) (key : Key) (p : Posting) → ¬ ((d ≡ db) × (p.sysno ≡ sysno))
+pub moved_others : (db : ℤ) (sysno : ℕ) (changed : List ChangedKey) (content : Content) → HasRisingLists content → (d : ℤ) (key : Key) (p : Posting) → ¬ ((d ≡ db) × (p.sysno ≡ sysno))
     → Has (moved db sysno changed content d key) p ↔ Has (content d key) p
 unfolding moved
 moved_others db sysno [] content up d key p other = (λ h. h, λ h. h)
@@ -57,7 +55,7 @@ moved_others db sysno (c ∷ changed) content up d key p other =
     (λ h. here.0 (later.0 h), λ h. later.1 (here.1 h))
 
 -- a key that isn't changed has the postings that it had
-pub moved_beside : (db : ℤ) (sysno : ℕ) (changed : List ChangedKey) (content : Content) → IsRising content → (key : Key) → ¬ Has (map key_in changed) key → (p : Posting)
+pub moved_beside : (db : ℤ) (sysno : ℕ) (changed : List ChangedKey) (content : Content) → HasRisingLists content → (key : Key) → ¬ Has (map key_in changed) key → (p : Posting)
     → Has (moved db sysno changed content db key) p ↔ Has (content db key) p
 unfolding moved
 moved_beside db sysno [] content up key none p = (λ h. h, λ h. h)
@@ -77,7 +75,7 @@ unfolding IsStrictlySortedBy
 later_rise first keys up = up.1
 
 -- a changed key has its newer places
-pub moved_part : (db : ℤ) (sysno : ℕ) (changed : List ChangedKey) (content : Content) → IsRising content → IsStrictlySortedBy key_order (map key_in changed)
+pub moved_part : (db : ℤ) (sysno : ℕ) (changed : List ChangedKey) (content : Content) → HasRisingLists content → IsStrictlySortedBy key_order (map key_in changed)
     → (c : ChangedKey) → Has changed c → ArePlacesOf sysno c.new.items (moved db sysno changed content db (key_in c))
 unfolding moved
 moved_part db sysno [] content up once c there = absurd there
@@ -104,7 +102,7 @@ told_key (first ∷ keys) key = elim (told_by key_total keys_apart key first) [
   | inr other ↦ elim (told_key keys key) [ inl there ↦ inl (inr there) | inr none ↦ inr (λ h. elim h [ inl same ↦ other same | inr later ↦ none later ]) ]
 ]
 
-pub moved_is : (db : ℤ) (sysno : ℕ) (elder newer : List Occurrence) (changed : List ChangedKey) (content : Content) → IsRising content → AreChangedKeys elder newer changed
+pub moved_is : (db : ℤ) (sysno : ℕ) (elder newer : List Occurrence) (changed : List ChangedKey) (content : Content) → HasRisingLists content → AreChangedKeys elder newer changed
     → ArePostingsOf sysno elder (content db) → IsReposted db sysno newer content (moved db sysno changed content)
 moved_is db sysno elder newer changed content up are was = record {
   rising = moved_rises db sysno changed content up;
@@ -126,12 +124,6 @@ moved_is db sysno elder newer changed content up are was = record {
         let before = was key place in
         let same = are.others key (λ h. none (has_contained (map key_in changed) key h)) place in
         (λ h. same.0 (before.0 (still.0 h)), λ h. still.1 (before.1 (same.1 h)))
-
-numbers_apart : (m n : ℕ) → nat_cmp m n ≡ Equal → m ≡ n
-numbers_apart m n e = ranked m n Equal (sym e)
-
-integers_apart : (m n : ℤ) → int_cmp m n ≡ Equal → m ≡ n
-integers_apart m n e = int_ranked m n Equal (sym e)
 
 -- there is one content in which the record has just these occurrences
 pub one_reposted : (db : ℤ) (sysno : ℕ) (newer : List Occurrence) (before a b : Content) → IsReposted db sysno newer before a → IsReposted db sysno newer before b → a ≡ b
@@ -164,7 +156,7 @@ one_reposted db sysno newer before a b left right = same_content a b left.rising
     by d key p (inr other) number = by_others d key p (λ h. other h.0)
 
 -- a key that is still to be changed has its elder places
-pub still_old : (db : ℤ) (sysno : ℕ) (elder newer : List Occurrence) (done rest : List ChangedKey) (c : ChangedKey) (content : Content) → IsRising content
+pub still_old : (db : ℤ) (sysno : ℕ) (elder newer : List Occurrence) (done rest : List ChangedKey) (c : ChangedKey) (content : Content) → HasRisingLists content
     → AreChangedKeys elder newer (done ++ c ∷ rest) → ArePostingsOf sysno elder (content db) → ArePlacesOf sysno c.old.items (moved db sysno done content db (key_in c))
 still_old db sysno elder newer done rest c content up are was place =
     let still = moved_beside db sysno done content up (key_in c) (not_yet done are.once) (posting_at sysno place) in

@@ -4,16 +4,17 @@ use Rattle.std.specs.Cmp.{nat_cmp_total}
 use Rattle.std.specs.List.Sorted.{IsStableByKey, IsStrictlySortedBy}
 use Rattle.sqlite_rules.specs.Lists.{Has}
 use Rattle.zeb_keys.specs.declared.keys.Key.{Key}
+use Rattle.zeb_keys.proofs.Rising.{numbers_apart}
 use Rattle.zeb_register.specs.declared.registers.RecordChange.{RecordChange}
-use Rattle.zeb_register.specs.Content.{AreChangedAt, AreListChanges, ArePlacesOf, Content, IsListChanged, IsRising, OldsRise, Posting, place_cmp, posting_at, posting_cmp}
-use Rattle.zeb_register.proofs.ContentChanges.{at_sysno, numbers_apart}
+use Rattle.zeb_register.specs.Content.{AreChangedAt, AreListChanges, ArePlacesOf, Content, IsListChanged, HasRisingLists, OldsRise, Posting, place_cmp, posting_at, posting_cmp}
+use Rattle.zeb_register.proofs.ContentChanges.{at_sysno}
 use Rattle.zeb_register.proofs.ListChanges.{list_changed, place_of, posting_is}
 use Rattle.zeb_register.proofs.RisingLists.{told_by}
 use Rattle.zeb_change.specs.NoteWords.{KeyChange}
 use Rattle.zeb_change.specs.Noted.{AreTurns}
 use Rattle.zeb_change.specs.PrivatePending.{AreGivenInOrder, number_in}
-use Rattle.zeb_change.proofs.Leading.{turns_given, turns_rise}
-use Rattle.zeb_change.proofs.Reordering.{AreApart, all_of, of_reordered}
+use Rattle.zeb_change.proofs.LeadsToContent.{turns_given, turns_rise}
+use Rattle.zeb_change.proofs.StableReorderings.{AreApart, all_of, of_reordered}
 
 -- ---- two changes
 
@@ -91,7 +92,7 @@ in_order = of_reordered number_in (λ noted given. (old new : List Posting) → 
 -- ---- the changes of a key
 
 module _ (changes : List KeyChange) (given : List RecordChange) (is : AreGivenInOrder changes given) where
-  pub put_in_order : (db : ℤ) (key : Key) (old new : Content) → IsRising old → AreTurns changes (old db key) (new db key)
+  pub put_in_order : (db : ℤ) (key : Key) (old new : Content) → HasRisingLists old → AreTurns changes (old db key) (new db key)
       → ((d : ℤ) (k : Key) → ¬ ((d ≡ db) × (k ≡ key)) → new d k ≡ old d k) → AreChangedAt db key given old new
   put_in_order db key old new up turns others = record {
     list = in_order is.noted given is.stable (old db key) (new db key) (up db key) (turns_given changes is.noted (old db key) (new db key) is.same turns);

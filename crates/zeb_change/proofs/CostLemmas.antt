@@ -15,6 +15,7 @@ use Rattle.zeb_change.specs.declared.changed_keys.ChangedKey.{ChangedKey}
 use Rattle.zeb_profile.specs.declared.directives.Directive.{Directive}
 use Rattle.std.specs.List.Sorted.{IsStrictlySortedBy}
 use Rattle.zeb_register.specs.declared.kept.Elder.{Elder}
+use Rattle.zeb_register.proofs.ContentChanges.{place_total}
 use Rattle.zeb_change.specs.Base.{Base, kept_as}
 use Rattle.zeb_change.specs.PrivateRecords.{IsElderAs, elder_bytes}
 use Rattle.zeb_change.specs.Occurs.{AreOccurrencesOf}
@@ -28,7 +29,6 @@ use Rattle.zeb_change.specs.PrivateTallies.{AreInRange}
 use Rattle.zeb_change.specs.Reposted.{occurrence_at}
 use Rattle.zeb_change.specs.PrivateChangedKeys.{AreChangedKeys, key_in}
 use Rattle.zeb_change.proofs.ChangeKeysContent.{told_key}
-use Rattle.zeb_change.proofs.Idle.{place_total}
 
 -- ---- counts
 

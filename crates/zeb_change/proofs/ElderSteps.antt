@@ -12,7 +12,8 @@ use Rattle.zeb_change.specs.declared.files.Fold.{Fold}
 use Rattle.zeb_change.specs.declared.refusals.Refusal.{Refusal}
 use Rattle.zeb_change.specs.Elders.{FindsWhole, FirstFindsWhole, IsSoOrDamaged, KeepsWhole, OfFirst}
 use Rattle.zeb_change.specs.Folding.{ident_in, splits_of}
-use Rattle.zeb_change.specs.Reading.{NoneFailed, ReadsNext}
+use Rattle.zeb_change.specs.Reading.{NoneFailed}
+use Rattle.zeb_change.specs.PrivateReading.{ReadsNext}
 use Rattle.zeb_change.proofs.Elders.{is_so}
 use Rattle.zeb_change.proofs.FoldAll.{fine_at}
 use Rattle.zeb_change.proofs.FoldFiles.{told_end, told_fault, told_slice}

@@ -6,7 +6,7 @@ use Rattle.zeb_register.specs.declared.registers.Work.{Work}
 use Rattle.zeb_change.specs.declared.settings.Kind.{Kind}
 use Rattle.zeb_change.specs.Conditions.{Conditions}
 use Rattle.zeb_change.specs.Costs.{IsCostIn, IsFilesCost, IsSlicesCost}
-use Rattle.zeb_change.specs.Folding.{Progress, folded, file_folded, splits_of}
+use Rattle.zeb_change.specs.Folding.{Progress, record_folded, file_folded, splits_of}
 use Rattle.zeb_change.specs.declared.pending.Pending.{Pending}
 use Rattle.zeb_change.specs.Noted.{IsDueFor}
 use Rattle.zeb_change.specs.PrivateTallies.{AreInRange}
@@ -49,7 +49,7 @@ module _ (c : Conditions) (kind : Kind) (file nth : ℕ) (left : List ℕ) (p : 
       none = rw (split_of-next left, is) refl
 
   -- a record stands next
-  pub slice_cost : (slice rest : List ℕ) (q : Progress) (first m : ℕ) → next_of left ≡ a_slice slice rest → IsCostIn c.profile kind slice p.base first → folded c kind file nth slice p ≡ Ok q
+  pub slice_cost : (slice rest : List ℕ) (q : Progress) (first m : ℕ) → next_of left ≡ a_slice slice rest → IsCostIn c.profile kind slice p.base first → record_folded c kind file nth slice p ≡ Ok q
       → IsSlicesCost c kind file (nth + 1) (split_of rest).slices q m → IsSlicesCost c kind file nth (split_of left).slices p (first + m)
   slice_cost slice rest q first m is cost fold more = subst (λ (slices : List (List ℕ)). IsSlicesCost c kind file nth slices p (first + m)) (sym some) (first, m, q, cost, fold, more, refl)
     where

@@ -8,10 +8,10 @@ use Rattle.zeb_change.specs.declared.settings.Kind.{Kind}
 use Rattle.zeb_change.specs.declared.refusals.Refusal.{Refusal}
 use Rattle.zeb_change.specs.Refused.{Why, why_of, Meets}
 use Rattle.zeb_change.specs.Conditions.{Conditions}
-use Rattle.zeb_change.specs.Folding.{Progress, folded, slices_folded, file_folded, ◌then◌}
+use Rattle.zeb_change.specs.Folding.{Progress, record_folded, slices_folded, file_folded, ◌then◌}
 use Rattle.zeb_change.specs.Base.{Kept}
 use Rattle.zeb_change.specs.Outcomes.{marc_refusal}
-use Rattle.zeb_change.specs.Reading.{ReadsNext}
+use Rattle.zeb_change.specs.PrivateReading.{ReadsNext}
 use Rattle.zeb_change.specs.PrivateStanding.{Standing, WillBe, WillBeFolded}
 use Rattle.zeb_change.specs.UnderWay.{KeepsNames, StandsFor}
 use Rattle.zeb_register.specs.Formats.{Format}
@@ -46,7 +46,7 @@ module _ (c : Conditions) (kind : Kind) (file nth : ℕ) (left : List ℕ) (p : 
   pub fault_folded : (fault : MarcFault) → next_of left ≡ a_fault fault → rest_folded c kind file nth left p ≡ Err (why_of (marc_refusal file nth fault))
   fault_folded fault is = rw (split_of-next left, is) refl
 
-  pub slice_folded : (slice rest : List ℕ) → next_of left ≡ a_slice slice rest → rest_folded c kind file nth left p ≡ folded c kind file nth slice p then rest_folded c kind file (nth + 1) rest
+  pub slice_folded : (slice rest : List ℕ) → next_of left ≡ a_slice slice rest → rest_folded c kind file nth left p ≡ record_folded c kind file nth slice p then rest_folded c kind file (nth + 1) rest
   slice_folded slice rest is = rw (split_of-next left, is) refl
 
 -- so far: what is left of the file, and the progress of which the tables are the image
@@ -81,20 +81,20 @@ module _ (format : Format) (c : Conditions) (kind : Kind) (file nth : ℕ) (id :
     next : (rest : List ℕ) × (next_of under.left ≡ a_slice slice rest) × (after ≡ Some rest)
     next = told_slice file nth (next_of under.left) slice after read
 
-    says : told ≡ folded c kind file nth slice under.progress then rest_folded c kind file (nth + 1) next.0
+    says : told ≡ record_folded c kind file nth slice under.progress then rest_folded c kind file (nth + 1) next.0
     says = under.rest ∙ slice_folded c kind file nth under.left under.progress slice next.0 next.1
 
     -- a record is refused
-    pub record_refused : (why : Why) → folded c kind file nth slice under.progress ≡ Err why → told ≡ Err why
+    pub record_refused : (why : Why) → record_folded c kind file nth slice under.progress ≡ Err why → told ≡ Err why
     record_refused why is = says ∙ ap (λ r. r then rest_folded c kind file (nth + 1) next.0) is
 
     -- a record is folded in
-    pub record_taken : (new : Standing) (then_fold : Fold) → Meets {A = Progress} {X = Unit {0}} (Good format c id records_of now new then_fold) (folded c kind file nth slice under.progress) (Ok tt)
-        → (further : Under format c kind file (nth + 1) id records_of told after old new then_fold) × (folded c kind file nth slice under.progress ≡ Ok further.progress) × (next_of under.left ≡ a_slice slice further.left)
-    record_taken new then_fold meets = by (folded c kind file nth slice under.progress) refl meets
+    pub record_taken : (new : Standing) (then_fold : Fold) → Meets {A = Progress} {X = Unit {0}} (Good format c id records_of now new then_fold) (record_folded c kind file nth slice under.progress) (Ok tt)
+        → (further : Under format c kind file (nth + 1) id records_of told after old new then_fold) × (record_folded c kind file nth slice under.progress ≡ Ok further.progress) × (next_of under.left ≡ a_slice slice further.left)
+    record_taken new then_fold meets = by (record_folded c kind file nth slice under.progress) refl meets
       where
-        by : (said : Result Progress Why) → folded c kind file nth slice under.progress ≡ said → Meets {A = Progress} {X = Unit {0}} (Good format c id records_of now new then_fold) said (Ok tt)
-            → (further : Under format c kind file (nth + 1) id records_of told after old new then_fold) × (folded c kind file nth slice under.progress ≡ Ok further.progress) × (next_of under.left ≡ a_slice slice further.left)
+        by : (said : Result Progress Why) → record_folded c kind file nth slice under.progress ≡ said → Meets {A = Progress} {X = Unit {0}} (Good format c id records_of now new then_fold) said (Ok tt)
+            → (further : Under format c kind file (nth + 1) id records_of told after old new then_fold) × (record_folded c kind file nth slice under.progress ≡ Ok further.progress) × (next_of under.left ≡ a_slice slice further.left)
         by (Ok q) is taken = (
           record {
             left = next.0;
@@ -109,10 +109,10 @@ module _ (format : Format) (c : Conditions) (kind : Kind) (file nth : ℕ) (id :
         by (Err why) is none = absurd none
 
 -- before the first record
-unfoldable pub at_first : (format : Format) (c : Conditions) (kind : Kind) (file : ℕ) (id : ℤ) (records_of : ℤ → List Kept) (text : List ℕ) (remaining : Option (List ℕ)) (old : Standing) (fold : Fold) (p : Progress)
+unfoldable pub before_first : (format : Format) (c : Conditions) (kind : Kind) (file : ℕ) (id : ℤ) (records_of : ℤ → List Kept) (text : List ℕ) (remaining : Option (List ℕ)) (old : Standing) (fold : Fold) (p : Progress)
     → remaining ≡ Some text → StandsFor fold p → WillBe format c.profile id records_of old p.base → Under format c kind file 1 id records_of (file_folded c kind file (split_of text) p) remaining old old fold
 unfolding file_folded
-at_first format c kind file id records_of text remaining old fold p is stands under_way = record {
+before_first format c kind file id records_of text remaining old fold p is stands under_way = record {
   left = text;
   progress = p;
   remains = is;

@@ -24,10 +24,10 @@ use Rattle.zeb_change.specs.Folding.{splits_of}
 use Rattle.zeb_change.specs.Noted.{IsNothingNoted}
 use Rattle.zeb_change.specs.PrivateAsked.{HasRoomAt}
 use Rattle.zeb_change.specs.PrivateStanding.{Standing, WillHoldSome, standing}
-use Rattle.zeb_change.specs.Reading.{ReadsNext}
+use Rattle.zeb_change.specs.PrivateReading.{ReadsNext}
 use Rattle.zeb_change.proofs.FoldFiles.{told_slice}
 use Rattle.zeb_change.proofs.RecordRoom.{rowids_same}
-use Rattle.zeb_change.proofs.Settling.{WritesNoted, settled, will_storable}
+use Rattle.zeb_change.proofs.SettledChanges.{WritesNoted, settled, will_storable}
 
 -- ---- what is noted is written
 

@@ -7,7 +7,7 @@ use Rattle.zeb_change.specs.declared.tally.Fate.TheVariants.{Inserted, Updated, 
 use Rattle.zeb_change.specs.declared.tally.Tally.{Tally}
 use Rattle.zeb_change.specs.Refused.{Why, too_many_records, Meets}
 use Rattle.zeb_change.specs.Conditions.{Conditions}
-use Rattle.zeb_change.specs.Folding.{Changed, Progress, changed_record, counted, folded}
+use Rattle.zeb_change.specs.Folding.{Changed, Progress, changed_record, counted, record_folded}
 use Rattle.zeb_change.specs.Base.{Base, Kept}
 use Rattle.zeb_change.specs.PrivateTallies.{IsTallied}
 use Rattle.zeb_change.specs.PrivateStanding.{Standing, WillBe, WillBeFolded, WillBeTaken}
@@ -15,16 +15,16 @@ use Rattle.zeb_change.specs.UnderWay.{StandsFor}
 use Rattle.zeb_register.specs.Formats.{Format}
 
 module _ (c : Conditions) (kind : Kind) (file nth : ℕ) (bytes : List ℕ) (p : Progress) where
-  pub too_many : nat_le c.limits.records p.taken ≡ true → folded c kind file nth bytes p ≡ Err too_many_records
-  unfolding folded
+  pub too_many : nat_le c.limits.records p.taken ≡ true → record_folded c kind file nth bytes p ≡ Err too_many_records
+  unfolding record_folded
   too_many full = rw full refl
 
-  pub folded_err : nat_le c.limits.records p.taken ≡ false → (why : Why) → changed_record c kind file nth bytes p.base ≡ Err why → folded c kind file nth bytes p ≡ Err why
-  unfolding folded
+  pub folded_err : nat_le c.limits.records p.taken ≡ false → (why : Why) → changed_record c kind file nth bytes p.base ≡ Err why → record_folded c kind file nth bytes p ≡ Err why
+  unfolding record_folded
   folded_err room why is = rw (room, is) refl
 
-  pub folded_ok : nat_le c.limits.records p.taken ≡ false → (changed : Changed) → changed_record c kind file nth bytes p.base ≡ Ok changed → folded c kind file nth bytes p ≡ Ok (counted changed.0 p changed.1)
-  unfolding folded
+  pub folded_ok : nat_le c.limits.records p.taken ≡ false → (changed : Changed) → changed_record c kind file nth bytes p.base ≡ Ok changed → record_folded c kind file nth bytes p ≡ Ok (counted changed.0 p changed.1)
+  unfolding record_folded
   folded_ok room changed is = rw (room, is) refl
 
 -- the tally counts what the definition counts
@@ -62,11 +62,11 @@ stands_by fold p tally base PassedOver stands one new is last = record {
 module _ (format : Format) (c : Conditions) (id : ℤ) (records_of : ℤ → List Kept) (old new : Standing) (kind : Kind) (file nth : ℕ) (bytes : List ℕ) (p : Progress) (before after : Fold) (fate : Fate) where
   pub one_folded : nat_le c.limits.records p.taken ≡ false → StandsFor before p → IsTallied fate before.tally after.tally
       → Meets (WillBeTaken format c.profile id records_of old new after.progress.last) (changed_record c kind file nth bytes p.base) (Ok fate)
-      → (done : Unit {0}) → Meets {A = Progress} {X = Unit {0}} (λ q _. WillBeFolded format c.profile id records_of old new after q) (folded c kind file nth bytes p) (Ok done)
+      → (done : Unit {0}) → Meets {A = Progress} {X = Unit {0}} (λ q _. WillBeFolded format c.profile id records_of old new after q) (record_folded c kind file nth bytes p) (Ok done)
   one_folded room stands one taken done = by (changed_record c kind file nth bytes p.base) refl taken
     where
       by : (said : Result Changed Why) → changed_record c kind file nth bytes p.base ≡ said → Meets (WillBeTaken format c.profile id records_of old new after.progress.last) said (Ok fate)
-          → Meets {A = Progress} {X = Unit {0}} (λ q _. WillBeFolded format c.profile id records_of old new after q) (folded c kind file nth bytes p) (Ok done)
+          → Meets {A = Progress} {X = Unit {0}} (λ q _. WillBeFolded format c.profile id records_of old new after q) (record_folded c kind file nth bytes p) (Ok done)
       by (Ok changed) is taken =
           let told : WillBeFolded format c.profile id records_of old new after (counted changed.0 p changed.1) = record {
             stands = stands_by before p after.tally changed.0 changed.1 stands (subst (λ f. IsTallied f before.tally after.tally) taken.fate_is one) after refl taken.last_is;

@@ -7,7 +7,8 @@ use Rattle.zeb_register.specs.Formats.{Format}
 use Rattle.zeb_change.specs.declared.files.Fold.{Fold}
 use Rattle.zeb_change.specs.declared.refusals.Refusal.{Refusal}
 use Rattle.zeb_change.specs.Base.{Base, Kept}
-use Rattle.zeb_change.specs.Inside.{Continues, WorksInside}
+use Rattle.zeb_change.specs.Inside.{Continues}
+use Rattle.zeb_change.specs.PrivateInside.{WorksInside}
 use Rattle.zeb_change.specs.PrivateStanding.{KeepsSome, Standing, WillBe, WillHoldSome}
 use Rattle.zeb_change.proofs.TransactionLemmas.{continues_then}
 

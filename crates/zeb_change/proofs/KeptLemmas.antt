@@ -1,5 +1,5 @@
 -- Lists of kept records: the one with an identifier, and the lists with one more, with other bytes of one, and without one.
-use Rattle.std.proofs.Common.{◌≡◌, ◌≢◌, ◌⊎◌, ◌∙◌, ℕ, zero, suc, Bool, true, false, List, [], ◌∷◌, ◌++◌, map, take, find, Option, Some, None, inl, inr, refl, sym, ap, arith}
+use Rattle.std.proofs.Common.{◌≡◌, ◌≢◌, ◌⊎◌, ◌∙◌, ℕ, Bool, true, false, List, [], ◌∷◌, ◌++◌, map, find, Option, Some, None, inl, inr, refl, sym, ap, arith}
 use Rattle.std.specs.List.{AllByRecursion}
 use Rattle.std.specs.List.Sorted.{IsStrictlySortedBy}
 use Rattle.std.specs.Ordering.{nat_cmp}
@@ -101,11 +101,3 @@ module _ (f : Kept → Kept) (same : (k : Kept) → (f k).sysno ≡ k.sysno) whe
   map_rises [] rising = tt
   map_rises (first ∷ rest) rising =
       (rw (same first) (all_mapped first.sysno rest rising.0), map_rises rest rising.1)
-
--- ---- the first of a list
-
-pub has_taken : {X : Type 0} (n : ℕ) (xs : List X) (x : X) → Has (take n xs) x → Has xs x
-has_taken zero xs x h = absurd h
-has_taken (suc n) [] x h = absurd h
-has_taken (suc n) (y ∷ xs) x (inl same) = inl same
-has_taken (suc n) (y ∷ xs) x (inr later) = inr (has_taken n xs x later)

@@ -15,7 +15,7 @@ use Rattle.zeb_register.specs.Content.{place_cmp}
 use Rattle.zeb_register.proofs.RisingLists.{never_itself}
 use Rattle.zeb_change.specs.declared.changed_keys.ChangedKey.{ChangedKey}
 use Rattle.zeb_change.specs.Reposted.{occurrence_at}
-use Rattle.zeb_change.specs.PrivateChangedKeys.{AreChangedKeys, IsNoted, key_in, place_in}
+use Rattle.zeb_change.specs.PrivateChangedKeys.{AreChangedKeys, IsAddedIfChanged, key_in, place_in}
 use Rattle.zeb_change.specs.PrivateKeyRuns.{AreOfKey, BeginsWithKey, Stops, IsNotAbove}
 
 -- all of one key
@@ -335,7 +335,7 @@ module _ (elder newer left_elder left_newer run_elder run_newer rest_elder rest_
   other_run c key_is old_is new_is differ up_elder up_newer =
       cut_on (changed ++ c ∷ []) (noted key so.cut_elder so.cut_newer run_elder run_newer changed cut_elder.of_key cut_newer.of_key before_below so.done c key_is old_is new_is differ up_elder up_newer some)
 
-  pub noted_run : (after : List ChangedKey) → IsNoted key (map place_in run_elder) (map place_in run_newer) changed after
+  pub noted_run : (after : List ChangedKey) → IsAddedIfChanged key (map place_in run_elder) (map place_in run_newer) changed after
       → IsStrictlySortedBy occurrence_order run_elder → IsStrictlySortedBy occurrence_order run_newer → SoFar elder newer rest_elder rest_newer after
   noted_run after noted up_elder up_newer = elim noted [
     | inl same ↦ subst (SoFar elder newer rest_elder rest_newer) (sym same.1) (same_run same.0)

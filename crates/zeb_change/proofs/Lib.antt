@@ -8,9 +8,9 @@ pub mod Reposted
 pub mod NoteWords
 pub mod PutNotes
 pub mod NotedChanges
-pub mod Leading
+pub mod LeadsToContent
 pub mod Asked
-pub mod Reordering
+pub mod StableReorderings
 pub mod Commuting
 pub mod UnderWay
 pub mod TakenLemmas
@@ -20,9 +20,9 @@ pub mod Elders
 pub mod KeyEquality
 pub mod KeyChanges
 pub mod ChangeKeysContent
-pub mod Idle
+pub mod EqualReplacements
 pub mod FoldSteps
-pub mod Settling
+pub mod SettledChanges
 pub mod FoldsOn
 pub mod FoldFiles
 pub mod FoldAll

@@ -5,9 +5,9 @@ use Rattle.std.proofs.lemmas.List.{append-nil, append_assoc}
 use Rattle.zeb_register.specs.declared.registers.Place.{Place}
 use Rattle.zeb_change.specs.declared.key_notes.KeyNotes.{KeyNotes}
 use Rattle.zeb_change.specs.declared.key_notes.PlaceCounts.{PlaceCounts}
-use Rattle.zeb_change.specs.NoteWords.{KeyChange, change_words, number_words, place_words, words_of}
+use Rattle.zeb_change.specs.NoteWords.{KeyChange, change_words, number_words, place_words, words_of_changes}
 use Rattle.zeb_change.specs.Noted.{IsNotedIn}
-use Rattle.zeb_change.specs.PrivateNotes.{TakesChange, TakesNumber, TakesPlaces, counts_in, places_in}
+use Rattle.zeb_change.specs.PrivateNoteWords.{TakesChange, TakesNumber, TakesPlaces, counts_in, places_in}
 
 -- ---- numbers
 
@@ -145,7 +145,7 @@ takes_change words a b c d left sysno old new before between after counts more o
 abbrev pub AreUnread : KeyNotes → List ℕ → ℕ → List PlaceCounts → List Place → Type 0
 AreUnread notes left taken counts places =
     (changes : List KeyChange) → IsNotedIn notes changes
-    → (more : List KeyChange) × (notes.count ≡ taken + length more) × (left ≡ words_of more)
+    → (more : List KeyChange) × (notes.count ≡ taken + length more) × (left ≡ words_of_changes more)
     × (counts ++ map counts_in more ≡ map counts_in changes) × (places ++ places_in more ≡ places_in changes)
 
 pub none_read : (notes : KeyNotes) → AreUnread notes notes.words.items 0 [] []
@@ -153,16 +153,16 @@ none_read notes changes noted = (changes, omega (arith, noted.count), noted.word
 
 pub one_read : (notes : KeyNotes) (left behind : List ℕ) (taken : ℕ) (counts now : List PlaceCounts) (places after : List Place) → taken < notes.count
     → AreUnread notes left taken counts places → TakesChange left behind counts now places after → AreUnread notes behind (taken + 1) now after
-unfolding words_of
+unfolding words_of_changes
 one_read notes left behind taken counts now places after below so_far takes changes noted = by (so_far changes noted)
   where
-    by : ((more : List KeyChange) × (notes.count ≡ taken + length more) × (left ≡ words_of more) × (counts ++ map counts_in more ≡ map counts_in changes)
+    by : ((more : List KeyChange) × (notes.count ≡ taken + length more) × (left ≡ words_of_changes more) × (counts ++ map counts_in more ≡ map counts_in changes)
         × (places ++ places_in more ≡ places_in changes))
-        → (more : List KeyChange) × (notes.count ≡ (taken + 1) + length more) × (behind ≡ words_of more) × (now ++ map counts_in more ≡ map counts_in changes)
+        → (more : List KeyChange) × (notes.count ≡ (taken + 1) + length more) × (behind ≡ words_of_changes more) × (now ++ map counts_in more ≡ map counts_in changes)
         × (after ++ places_in more ≡ places_in changes)
     by ([], counted, left_is, many, all) = absurd (omega (arith, counted, below))
     by (change ∷ more, counted, left_is, many, all) =
-        let told = takes change (words_of more) left_is in (
+        let told = takes change (words_of_changes more) left_is in (
           more,
           omega (arith, counted),
           told.0,
@@ -175,20 +175,20 @@ pub all_read : (notes : KeyNotes) (left : List ℕ) (taken : ℕ) (counts : List
     → (changes : List KeyChange) → IsNotedIn notes changes → (counts ≡ map counts_in changes) × (places ≡ places_in changes)
 all_read notes left taken counts places done so_far changes noted = by (so_far changes noted)
   where
-    by : ((more : List KeyChange) × (notes.count ≡ taken + length more) × (left ≡ words_of more) × (counts ++ map counts_in more ≡ map counts_in changes)
+    by : ((more : List KeyChange) × (notes.count ≡ taken + length more) × (left ≡ words_of_changes more) × (counts ++ map counts_in more ≡ map counts_in changes)
         × (places ++ places_in more ≡ places_in changes)) → (counts ≡ map counts_in changes) × (places ≡ places_in changes)
     by ([], counted, left_is, many, all) = (sym (append-nil counts) ∙ many, sym (append-nil places) ∙ all)
     by (change ∷ more, counted, left_is, many, all) = absurd (omega (arith, counted, done))
 
 -- one change more is noted
-pub words_more : (changes : List KeyChange) (change : KeyChange) → words_of (changes ++ change ∷ []) ≡ words_of changes ++ change_words change
-unfolding words_of
+pub words_more : (changes : List KeyChange) (change : KeyChange) → words_of_changes (changes ++ change ∷ []) ≡ words_of_changes changes ++ change_words change
+unfolding words_of_changes
 words_more [] change = append-nil (change_words change)
 words_more (first ∷ changes) change =
-    ap (λ (l : List ℕ). change_words first ++ l) (words_more changes change) ∙ sym (append_assoc (change_words first) (words_of changes) (change_words change))
+    ap (λ (l : List ℕ). change_words first ++ l) (words_more changes change) ∙ sym (append_assoc (change_words first) (words_of_changes changes) (change_words change))
 
-pub one_noted : (change : KeyChange) → words_of (change ∷ []) ≡ change_words change
-unfolding words_of
+pub one_noted : (change : KeyChange) → words_of_changes (change ∷ []) ≡ change_words change
+unfolding words_of_changes
 one_noted change = append-nil (change_words change)
 
 -- a change's words are put one part after the other

@@ -15,7 +15,7 @@ use Rattle.zeb_keys.specs.Order.{key_order, occurrence_order}
 use Rattle.zeb_keys.proofs.Rising.{key_total, occurrence_total}
 use Rattle.zeb_register.specs.declared.registers.Place.{Place}
 use Rattle.zeb_register.specs.Content.{IsStorablePlace, place_cmp}
-use Rattle.zeb_register.specs.Hindrances.{IsStorablePlaced}
+use Rattle.zeb_register.specs.Hindrances.{FitsEachLayout}
 use Rattle.zeb_register.specs.Room.{FitInRow}
 use Rattle.zeb_register.proofs.RisingLists.{joined_rises}
 use Rattle.zeb_register.proofs.Room.{rising_few}
@@ -81,7 +81,7 @@ module _ (elder newer : List Occurrence) (changed : List ChangedKey) (are : AreC
 
   module _ (c : ChangedKey) (here : Contains changed c) where
     -- each layout stores the places of a changed key
-    pub storable_put : (sysno : ℕ) → (1 ≤ sysno) × (sysno < 2 ^ 63) → ((o : Occurrence) → Contains newer o → IsStorableOccurrence o) → IsStorablePlaced (sysno, c.new.items)
+    pub storable_put : (sysno : ℕ) → (1 ≤ sysno) × (sysno < 2 ^ 63) → ((o : Occurrence) → Contains newer o → IsStorableOccurrence o) → FitsEachLayout (sysno, c.new.items)
     storable_put sysno numbered storable =
         let new = are.new c here in (
           numbered,

@@ -9,7 +9,7 @@ use Rattle.std.proofs.lemmas.List.{map-append}
 use Rattle.std.proofs.lemmas.List.Sums.{sum_by-append}
 use Rattle.zeb_keys.specs.declared.keys.Key.{Key}
 use Rattle.zeb_keys.specs.Order.{key_order}
-use Rattle.zeb_register.specs.Hindrances.{IsStorablePlaced, Placed, rows_of}
+use Rattle.zeb_register.specs.Hindrances.{FitsEachLayout, Placed, rows_of}
 use Rattle.zeb_register.specs.Room.{FitInRow}
 use Rattle.zeb_change.specs.declared.key_notes.KeyNotes.{KeyNotes}
 use Rattle.zeb_change.specs.Asked.{PutAmong, PutsPlaces, placed_by}
@@ -25,7 +25,7 @@ all_then : (P : Placed → Type 0) (xs : List Placed) (x : Placed) → AllByRecu
 all_then P [] x all last = (last, tt)
 all_then P (y ∷ xs) x all last = (all.0, all_then P xs x all.1 last)
 
-module _ (change : KeyChange) (storable : IsStorablePlaced (placed_by change)) where
+module _ (change : KeyChange) (storable : FitsEachLayout (placed_by change)) where
   abbrev own : ℕ
   own = rows_of (placed_by change ∷ [])
 
@@ -37,7 +37,7 @@ module _ (change : KeyChange) (storable : IsStorablePlaced (placed_by change)) w
       record {
         changes = puts.changes ++ change ∷ [];
         noted = noted_more v w puts.changes change more words puts.noted;
-        storable = subst (AllByRecursion IsStorablePlaced) (sym joined) (all_then IsStorablePlaced (map placed_by puts.changes) (placed_by change) puts.storable storable);
+        storable = subst (AllByRecursion FitsEachLayout) (sym joined) (all_then FitsEachLayout (map placed_by puts.changes) (placed_by change) puts.storable storable);
         many = ap (λ m. m + own) puts.many ∙ sym sum ∙ ap rows_of (sym joined);
       }
 

@@ -8,9 +8,9 @@ use Rattle.zeb_keys.specs.declared.keys.Key.{Key}
 use Rattle.zeb_keys.specs.declared.keys.Occurrence.{Occurrence}
 use Rattle.zeb_keys.proofs.Rising.{key_total, keys_apart}
 use Rattle.zeb_register.specs.declared.registers.Place.{Place}
-use Rattle.zeb_register.specs.Content.{Content, IsRising, posting_at, posting_cmp, IsChangedAt, Posting}
+use Rattle.zeb_register.specs.Content.{Content, HasRisingLists, posting_at, posting_cmp, IsChangedAt, Posting}
 use Rattle.zeb_register.proofs.RisingLists.{told_by}
-use Rattle.zeb_register.proofs.ContentChanges.{changed_at, change_is}
+use Rattle.zeb_register.proofs.ContentChanges.{choose, changed_at, change_is}
 use Rattle.zeb_change.specs.Reposted.{occurrence_at, IsReposted}
 use Rattle.zeb_change.proofs.StoredLemmas.{told_id}
 
@@ -52,14 +52,10 @@ unfolding places_in
 has_place [] key place = (λ h. h, λ h. h)
 has_place (o ∷ rest) key place = placed o rest key place (has_place rest key place) (told_by key_total keys_apart o.key key)
 
-choose : {A B : Type 0} → A ⊎ B → List Posting → List Posting → List Posting
-choose (inl here) new old = new
-choose (inr other) new old = old
-
 pub reposted : ℤ → ℕ → List Occurrence → Content → Content
 reposted db sysno newer before d key = choose (told_id d db) (changed_at db key sysno (places_in newer key) before db key) (before d key)
 
-pub reposted_is : (db : ℤ) (sysno : ℕ) (newer : List Occurrence) (before : Content) → IsRising before → IsReposted db sysno newer before (reposted db sysno newer before)
+pub reposted_is : (db : ℤ) (sysno : ℕ) (newer : List Occurrence) (before : Content) → HasRisingLists before → IsReposted db sysno newer before (reposted db sysno newer before)
 unfolding reposted choose
 reposted_is db sysno newer before rising = record {
   rising = λ d key. rises d key (told_id d db);

@@ -36,7 +36,7 @@ use Rattle.zeb_extract.proofs.Members.{Contains-map}
 use Rattle.zeb_register.specs.Content.{Content, IsStorable, IsStorablePosting}
 use Rattle.zeb_change.specs.Base.{Kept}
 use Rattle.zeb_change.specs.Stored.{ArePosted}
-use Rattle.zeb_change.specs.UnderWay.{AreNumbered}
+use Rattle.zeb_change.specs.UnderWay.{HaveSystemNumbers}
 
 -- the characters that there are
 characters : List Range
@@ -153,7 +153,7 @@ occurrence_storable targets fields o sysno is number =
 -- ---- what registers hold
 
 -- what is posted of numbered records can be stored
-pub posted_storable : (profile : List Directive) (records_of : ℤ → List Kept) → AreNumbered records_of → (content : Content) → ArePosted profile records_of content → IsStorable content
+pub posted_storable : (profile : List Directive) (records_of : ℤ → List Kept) → HaveSystemNumbers records_of → (content : Content) → ArePosted profile records_of content → IsStorable content
 posted_storable profile records_of numbered content posted db key p there =
     let it = (posted.each db p.sysno (record { key = key; seq = p.seq; pos = p.pos })).0 there in
     let number = subst (λ (n : ℕ). (1 ≤ n) × (n ≤ 999999999)) it.2 (numbered db it.0 it.1) in

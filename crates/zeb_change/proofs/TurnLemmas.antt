@@ -8,7 +8,7 @@ use Rattle.sqlite_rules.proofs.ListLemmas.{contains_had}
 use Rattle.zeb_marc.specs.Records.{first_fault}
 use Rattle.zeb_profile.specs.declared.directives.Directive.{Directive}
 use Rattle.zeb_keys.specs.declared.keys.Occurrence.{Occurrence}
-use Rattle.zeb_keys.specs.Order.{IsRising as AreRising}
+use Rattle.zeb_keys.specs.Order.{IsRising}
 use Rattle.zeb_register.specs.declared.kept.Elder.{Elder}
 use Rattle.zeb_register.specs.Content.{Content}
 use Rattle.zeb_register.specs.Sql.{Loses}
@@ -49,7 +49,7 @@ pub passed_over : (format : Format) (profile : List Directive) (id : ℤ) (recor
 passed_over format profile id records_of old mid pending last base fate same is_last under =
     record { fate_is = refl; last_is = is_last; under_way = same_way format profile id records_of old mid pending base same under; names = same_names format profile id records_of old mid same }
 
-pub none_rise : AreRising []
+pub none_rise : IsRising []
 unfolding IsStrictlySortedBy
 none_rise = tt
 

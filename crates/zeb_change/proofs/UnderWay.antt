@@ -9,7 +9,7 @@ use Rattle.zeb_profile.specs.declared.directives.Directive.{Directive}
 use Rattle.zeb_keys.specs.declared.keys.Occurrence.{Occurrence}
 use Rattle.zeb_register.specs.declared.RegFault.{RegFault}
 use Rattle.zeb_register.specs.declared.RegFault.TheVariants as fault
-use Rattle.zeb_register.specs.Content.{Content, IsRising}
+use Rattle.zeb_register.specs.Content.{Content, HasRisingLists}
 use Rattle.zeb_register.specs.Store.{Changes, KeepsRegisters, records_tree, record_row}
 use Rattle.zeb_register.proofs.Calls.{store_same}
 use Rattle.zeb_change.specs.declared.refusals.Refusal.{Refusal}
@@ -96,7 +96,7 @@ module _ (format : Format) (profile : List Directive) (id : ℤ) (records_of : �
   -- the keys of one record are noted
   abbrev pub IsMoved : ℕ → List Occurrence → List Occurrence → Pending → Pending → Type 0
   IsMoved sysno elder newer pending pending' =
-      (behind before after : Content) → LeadsTo id pending behind before → IsRising before → ArePostingsOf sysno elder (before id) → IsReposted id sysno newer before after
+      (behind before after : Content) → LeadsTo id pending behind before → HasRisingLists before → ArePostingsOf sysno elder (before id) → IsReposted id sysno newer before after
       → LeadsTo id pending' behind after
 
   module _ (stays : (old new : Trees) (content : Content) → KeepsRegisters old new → holds_in format old content → holds_in format new content) (old mid : State) (pending : Pending) (base next : Base)

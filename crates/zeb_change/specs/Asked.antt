@@ -14,7 +14,7 @@ use Rattle.zeb_register.specs.Calls.{MayRefuse}
 use Rattle.zeb_register.specs.Clauses.{InStore}
 use Rattle.zeb_register.specs.Content.{Content, IsStorable}
 use Rattle.zeb_register.specs.Formats.{Format}
-use Rattle.zeb_register.specs.Hindrances.{IsStorablePlaced, Placed, rows_of}
+use Rattle.zeb_register.specs.Hindrances.{FitsEachLayout, Placed, rows_of}
 use Rattle.zeb_register.specs.Room.{FitInRow, HasRoom}
 use Rattle.zeb_change.specs.declared.key_notes.KeyNotes.{KeyNotes}
 use Rattle.zeb_change.specs.declared.pending.Pending.{Pending}
@@ -32,7 +32,7 @@ placed_by change = (change.sysno, change.new)
 pub record PutsPlaces (notes : KeyNotes) (n : ℕ) : Type 0 where
   pub changes : List KeyChange
   pub noted : IsNotedIn notes changes
-  pub storable : AllByRecursion IsStorablePlaced (map placed_by changes)
+  pub storable : AllByRecursion FitsEachLayout (map placed_by changes)
   pub many : n ≡ rows_of (map placed_by changes)
 
 -- the notes put so many places in all, and a row of each of their keys holds as many as this bound says
@@ -48,8 +48,8 @@ pub record HasRoomFor (format : Format) (most : ℕ) (trees : Trees) (pending : 
   pub among : PutAmong (noted + spare) pending.notes.entries noted
   pub room : HasRoom format (noted + spare) trees
 
--- What a call does that writes what is noted. Let the registers hold a content that each layout can store once all is written, and let there be
--- room for it and for more: then the store fails for a cause alone, and what an accepted call leaves is room for the rest.
+-- What a call does that writes what is noted. Let the registers hold a content that each layout can store once all is written, and let
+-- there be room for it and for more: then the store fails for a cause alone, and what an accepted call leaves is room for the rest.
 abbrev pub WritesInRoom : {T : Type 0} → Format → ℤ → (old new : State) → (before after : Pending) → Result T RegFault → Type 0
 WritesInRoom format db old new before after result =
     (ahead : Content) (most spare : ℕ) → IsStorable ahead → InStore old new (λ trees. WillHold format trees db before ahead
@@ -69,8 +69,8 @@ abbrev pub rowids_for : Option (List ℕ) → ℕ
 rowids_for None = 0
 rowids_for (Some bytes) = 1
 
--- The record with these bytes asks for so many places, one for each of its occurrences, and for so many rowids; where there is no record, for
--- none. Each layout stores the numbers of an occurrence, and a row of its key holds as many places as this bound says.
+-- The record with these bytes asks for so many places, one for each of its occurrences, and for so many rowids; where there is no record,
+-- for none. Each layout stores the numbers of an occurrence, and a row of its key holds as many places as this bound says.
 pub record AsksRecord (profile : List Directive) (bound : ℕ) (bytes : Option (List ℕ)) (places rowids : ℕ) : Type 0 where
   pub occurrences : List Occurrence
   pub rising : IsRising occurrences

@@ -17,7 +17,7 @@ use Rattle.zeb_change.specs.declared.settings.Kind.{Kind}
 use Rattle.zeb_change.specs.declared.settings.Kind.TheVariants.{Update, Delete, Adelete}
 use Rattle.zeb_change.specs.Base.{Base, Kept, kept_as}
 use Rattle.zeb_change.specs.Conditions.{Conditions}
-use Rattle.zeb_change.specs.Folding.{Progress, folded, file_folded, ident_in}
+use Rattle.zeb_change.specs.Folding.{Progress, record_folded, file_folded, ident_in}
 
 -- each of the four counts rises by what the layout counts of a row, so many times
 abbrev pub IsWorkFor : ℕ → ℕ → Work → Work → Type 0
@@ -65,7 +65,7 @@ IsCostIn profile kind bytes base n =
 abbrev pub IsSlicesCost : Conditions → Kind → ℕ → ℕ → List (List ℕ) → Progress → ℕ → Type 0
 IsSlicesCost c kind file nth [] p n = n ≡ 0
 IsSlicesCost c kind file nth (slice ∷ slices) p n =
-    (first : ℕ) × (rest : ℕ) × (next : Progress) × IsCostIn c.profile kind slice p.base first × (folded c kind file nth slice p ≡ Ok next)
+    (first : ℕ) × (rest : ℕ) × (next : Progress) × IsCostIn c.profile kind slice p.base first × (record_folded c kind file nth slice p ≡ Ok next)
     × IsSlicesCost c kind file (nth + 1) slices next rest × (n ≡ first + rest)
 
 -- what the files cost from this one on

@@ -75,8 +75,8 @@ abbrev pub ◌then◌ : {A B : Type 0} → Result A Why → (A → Result B Why)
 (Err why) then f = Err why
 
 -- one slice of a file: more records than a command may have are refused before a record is looked at
-unfoldable pub folded : Conditions → Kind → ℕ → ℕ → List ℕ → Progress → Result Progress Why
-folded c kind file nth bytes p =
+unfoldable pub record_folded : Conditions → Kind → ℕ → ℕ → List ℕ → Progress → Result Progress Why
+record_folded c kind file nth bytes p =
     if nat_le c.limits.records p.taken then Err too_many_records
     else changed_record c kind file nth bytes p.base then λ changed. Ok (counted changed.0 p changed.1)
 
@@ -93,7 +93,7 @@ at_end file nth (Some fault) p = Err (why_of (marc_refusal file nth fault))
 -- the slices of a file from the nth on, and the fault that stands behind them, if one does
 abbrev pub slices_folded : Conditions → Kind → ℕ → ℕ → List (List ℕ) → Option MarcFault → Progress → Result Progress Why
 slices_folded c kind file nth [] last p = at_end file nth last p
-slices_folded c kind file nth (slice ∷ slices) last p = folded c kind file nth slice p then slices_folded c kind file (nth + 1) slices last
+slices_folded c kind file nth (slice ∷ slices) last p = record_folded c kind file nth slice p then slices_folded c kind file (nth + 1) slices last
 
 unfoldable pub file_folded : Conditions → Kind → ℕ → Split → Progress → Result Progress Why
 file_folded c kind file split p = slices_folded c kind file 1 split.slices split.fault p

@@ -1,6 +1,6 @@
 -- What work inside a transaction does to a connection, whatever it does to rows.
 use Rattle.std.specs.Prelude.{IsTrue, MatchResult, Result}
-use Rattle.sqlite.specs.State.{HasCleanDisk, State, KeepsCommit, Survives}
+use Rattle.sqlite.specs.State.{State, KeepsCommit}
 
 -- Inside a transaction: nothing is committed, the transaction goes on, and an open connection stays open.
 pub record Continues (old new : State) : Type 0 where
@@ -9,10 +9,5 @@ pub record Continues (old new : State) : Type 0 where
   pub stays_open : IsTrue old.is_open → IsTrue new.is_open
 
 -- Inside a transaction, what work did that was done or refused: a refusal leaves nothing committed.
-abbrev pub Stays : {T E : Type 0} → State → State → Result T E → Type 0
-Stays old new result = MatchResult result (λ _. Continues old new) (λ _. KeepsCommit old new)
-
--- What a call does that works inside a transaction: it leaves the transaction as said, and a crash leaves what it left before.
-pub record WorksInside {T E : Type 0} (old new : State) (result : Result T E) : Type 0 where
-  pub stays : HasCleanDisk new → IsTrue old.in_transaction → Stays old new result
-  pub crash : Survives old new (λ _. ⊥)
+abbrev pub StaysInside : {T E : Type 0} → State → State → Result T E → Type 0
+StaysInside old new result = MatchResult result (λ _. Continues old new) (λ _. KeepsCommit old new)

@@ -3,12 +3,15 @@ pub mod Refused
 pub mod Outcomes
 pub mod Base
 pub mod Conditions
+pub mod PrivateConditions
 pub mod Folding
 pub mod Occurs
 pub mod Costs
 pub mod Stored
 pub mod Inside
+pub mod PrivateInside
 pub mod Reading
+pub mod PrivateReading
 pub mod UnderWay
 pub mod Holding
 pub mod Elders
@@ -19,7 +22,7 @@ pub mod Asked
 pub mod PrivateKeyRuns
 pub mod PrivateChangedKeys
 pub mod PrivateTallies
-pub mod PrivateNotes
+pub mod PrivateNoteWords
 pub mod PrivatePending
 pub mod PrivateStanding
 pub mod PrivateRecords

@@ -24,6 +24,6 @@ change_words change =
     number_words change.sysno ++ (number_words (length change.old) ++ (number_words (length change.new)
     ++ (place_words change.old ++ place_words change.new)))
 
-unfoldable pub words_of : List KeyChange → List ℕ
-words_of [] = []
-words_of (change ∷ changes) = change_words change ++ words_of changes
+unfoldable pub words_of_changes : List KeyChange → List ℕ
+words_of_changes [] = []
+words_of_changes (change ∷ changes) = change_words change ++ words_of_changes changes

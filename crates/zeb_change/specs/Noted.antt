@@ -15,15 +15,15 @@ use Rattle.zeb_register.specs.Store.{IsStore, KeepsLists}
 use Rattle.zeb_change.specs.declared.key_notes.KeyNotes.{KeyNotes}
 use Rattle.zeb_change.specs.declared.pending.Pending.{Pending}
 use Rattle.zeb_change.specs.Costs.{IsWorkFor}
-use Rattle.zeb_change.specs.Inside.{Stays}
-use Rattle.zeb_change.specs.NoteWords.{KeyChange, words_of}
+use Rattle.zeb_change.specs.Inside.{StaysInside}
+use Rattle.zeb_change.specs.NoteWords.{KeyChange, words_of_changes}
 
 -- ---- what is noted
 
 -- the changes of a key, in the order in which they were noted
 pub record IsNotedIn (notes : KeyNotes) (changes : List KeyChange) : Type 0 where
   pub count : notes.count ≡ length changes
-  pub words : notes.words.items ≡ words_of changes
+  pub words : notes.words.items ≡ words_of_changes changes
 
 abbrev pub AreNoted : Option KeyNotes → List KeyChange → Type 0
 AreNoted None changes = changes ≡ []
@@ -85,7 +85,7 @@ IsSettled format row_work db old new before after work worked =
 
 -- What a call does that writes noted changes. It tells damage only of registers that don't hold what the changes say stood there.
 pub record Settles {T : Type 0} (format : Format) (row_work : ℕ) (db : ℤ) (old new : State) (before after : Pending) (work worked : Work) (result : Result T RegFault) : Type 0 where
-  pub stays : HasCleanDisk new → IsTrue old.in_transaction → Stays old new result
+  pub stays : HasCleanDisk new → IsTrue old.in_transaction → StaysInside old new result
   pub written : HasCleanDisk new → IsTrue old.in_transaction → IsStore old
       → OnOk result (IsSettled format row_work db old new before after work worked)
   pub honest : HasCleanDisk new → IsTrue old.in_transaction → IsStore old → result ≡ Err Damaged

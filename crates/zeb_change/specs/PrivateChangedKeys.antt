@@ -24,8 +24,8 @@ abbrev pub key_in : ChangedKey → Key
 key_in changed = changed.key.now
 
 -- a key is noted with its places in either record, where they differ
-abbrev pub IsNoted : Key → List Place → List Place → List ChangedKey → List ChangedKey → Type 0
-IsNoted key old new before after = ((old ≡ new) × (after ≡ before))
+abbrev pub IsAddedIfChanged : Key → List Place → List Place → List ChangedKey → List ChangedKey → Type 0
+IsAddedIfChanged key old new before after = ((old ≡ new) × (after ≡ before))
     ⊎ ((old ≢ new) × ((c : ChangedKey) × (after ≡ before ++ c ∷ []) × (key_in c ≡ key) × (c.old.items ≡ old) × (c.new.items ≡ new)))
 
 -- just the keys whose places differ, each once, with their places in either record

@@ -17,7 +17,7 @@ use Rattle.zeb_change.specs.Conditions.{Conditions}
 use Rattle.zeb_change.specs.Folding.{Changed, Progress}
 use Rattle.zeb_change.specs.Refused.{Meets, Why}
 use Rattle.zeb_change.specs.Stored.{AreKept, ArePosted, IsBase}
-use Rattle.zeb_change.specs.UnderWay.{AreNumbered, KeepsNames, StandsFor, conditions_of, with_records}
+use Rattle.zeb_change.specs.UnderWay.{HaveSystemNumbers, KeepsNames, StandsFor, conditions_of, with_records}
 use Rattle.zeb_change.specs.Noted.{IsDueFor, WillHold}
 
 -- the tables, and the changes of keys that are noted beside them
@@ -38,7 +38,7 @@ pub record WillStore (format : Format) (profile : List Directive) (id : ℤ) (s 
 -- as `IsUnderWay`, once the noted changes are written
 abbrev pub WillBe : (format : Format) → List Directive → ℤ → (ℤ → List Kept) → Standing → Base → Type 0
 WillBe format profile id records_of s base =
-    IsStore s.tables × WillStore format profile id s (with_records id base.records records_of) × IsBase profile base × AreNumbered records_of
+    IsStore s.tables × WillStore format profile id s (with_records id base.records records_of) × IsBase profile base × HaveSystemNumbers records_of
 
 -- as `HoldsSome`, once the noted changes are written
 abbrev pub WillHoldSome : (format : Format) → List Directive → ℤ → (ℤ → List Kept) → Standing → ℕ → Type 0

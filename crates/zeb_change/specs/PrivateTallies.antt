@@ -1,5 +1,5 @@
 -- What only the contracts of private functions speak of; no public clause reaches it.
--- What a tally counts.
+-- One record more in a tally, and counts of work within their type.
 use Rattle.std.specs.Prelude.{◌≡◌, ◌+◌, ◌<◌, ◌^◌}
 use Rattle.zeb_register.specs.declared.registers.Work.{Work}
 use Rattle.zeb_change.specs.declared.tally.Fate.{Fate}
@@ -13,7 +13,7 @@ IsTallied Updated old new = (new.records ≡ old.records + 1) × (new.inserted �
 IsTallied Deleted old new = (new.records ≡ old.records + 1) × (new.inserted ≡ old.inserted) × (new.updated ≡ old.updated) × (new.deleted ≡ old.deleted + 1)
 IsTallied PassedOver old new = (new.records ≡ old.records + 1) × (new.inserted ≡ old.inserted) × (new.updated ≡ old.updated) × (new.deleted ≡ old.deleted)
 
--- each count is a number of its type
+-- each count of work is a number of its type
 pub record AreInRange (work : Work) : Type 0 where
   pub dict_read : work.dict_read < 2 ^ 64
   pub dict_written : work.dict_written < 2 ^ 64

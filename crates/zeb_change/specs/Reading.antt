@@ -1,18 +1,10 @@
--- How the records of a file are read, one after the other.
-use Rattle.std.specs.Prelude.{◌≡◌, ◌≢◌, ◌+◌, ◌<◌, ◌≤◌, ℕ, Bool, true, false, List, length, slice_index_or, Option, Some, Result, Ok, Err}
+-- What is answered where a reader of the files has failed.
+use Rattle.std.specs.Prelude.{◌≡◌, ◌≢◌, ◌+◌, ◌<◌, ◌≤◌, ℕ, Bool, true, false, List, length, slice_index_or, Result, Err}
 use Rattle.std.specs.List.{AllByRecursion}
-use Rattle.zeb_marc.specs.Splits.{Next, at_end, a_slice, a_fault}
 use Rattle.zeb_change.specs.declared.refusals.Refusal.{Refusal}
 use Rattle.zeb_change.specs.declared.refusals.Refusal.TheVariants.{ReadFault}
-use Rattle.zeb_change.specs.Outcomes.{marc_refusal}
 
--- whether there is a record where this stands next, what the buffer keeps of it, and what is left unread
-abbrev pub ReadsNext : ℕ → ℕ → Next → Result Bool Refusal → List ℕ → Option (List ℕ) → Type 0
-ReadsNext file nth at_end answer kept left = answer ≡ Ok false
-ReadsNext file nth (a_slice slice rest) answer kept left = (answer ≡ Ok true) × (kept ≡ slice) × (left ≡ Some rest)
-ReadsNext file nth (a_fault fault) answer kept left = answer ≡ Err (marc_refusal file nth fault)
-
--- no read of these has failed
+-- no read of these readers has failed
 abbrev pub NoneFailed : {R : Type 0} → (R → Bool) → List R → Type 0
 NoneFailed has_failed = AllByRecursion (λ reader. has_failed reader ≡ false)
 

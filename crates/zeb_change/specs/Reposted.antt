@@ -5,7 +5,7 @@ use Rattle.sqlite_rules.specs.Lists.{Has}
 use Rattle.zeb_keys.specs.declared.keys.Key.{Key}
 use Rattle.zeb_keys.specs.declared.keys.Occurrence.{Occurrence}
 use Rattle.zeb_register.specs.declared.registers.Place.{Place}
-use Rattle.zeb_register.specs.Content.{Content, IsRising, posting_at, Posting}
+use Rattle.zeb_register.specs.Content.{Content, HasRisingLists, posting_at, Posting}
 
 abbrev pub occurrence_at : Key → Place → Occurrence
 occurrence_at key place = record { key = key; seq = place.seq; pos = place.pos }
@@ -20,6 +20,6 @@ ArePostingsOf sysno occurrences lists = (key : Key) (place : Place) → Has (lis
 
 -- the record with this number has just these occurrences then, and each other record's postings are as they were
 pub record IsReposted (db : ℤ) (sysno : ℕ) (newer : List Occurrence) (before after : Content) : Type 0 where
-  pub rising : IsRising after
+  pub rising : HasRisingLists after
   pub part : ArePostingsOf sysno newer (after db)
   pub others : (d : ℤ) (key : Key) (p : Posting) → ¬ ((d ≡ db) × (p.sysno ≡ sysno)) → Has (after d key) p ↔ Has (before d key) p

@@ -8,7 +8,7 @@ use Rattle.sqlite.specs.Tree.{Trees}
 use Rattle.zeb_marc.specs.Records.{first_fault}
 use Rattle.zeb_profile.specs.declared.directives.Directive.{Directive}
 use Rattle.zeb_keys.specs.declared.keys.Occurrence.{Occurrence}
-use Rattle.zeb_register.specs.Content.{Content, IsRising, posted}
+use Rattle.zeb_register.specs.Content.{Content, HasRisingLists, posted}
 use Rattle.zeb_register.specs.Formats.{Format, holds_in}
 use Rattle.zeb_register.specs.Store.{HasRecord}
 use Rattle.zeb_change.specs.Base.{Base, Kept}
@@ -36,7 +36,7 @@ pub record IsBase (profile : List Directive) (base : Base) : Type 0 where
 
 -- the postings are just those of the records' occurrences
 pub record ArePosted (profile : List Directive) (records_of : ℤ → List Kept) (content : Content) : Type 0 where
-  pub rising : IsRising content
+  pub rising : HasRisingLists content
   pub each : (id : ℤ) (n : ℕ) (o : Occurrence) → posted content id n o ↔ occurs profile (records_of id) n o
 
 abbrev pub AreKept : Trees → (ℤ → List Kept) → Type 0

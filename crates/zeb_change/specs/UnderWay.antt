@@ -23,13 +23,13 @@ abbrev pub with_records : ℤ → List Kept → (ℤ → List Kept) → ℤ → 
 with_records id records records_of other = if int_eq other id then records else records_of other
 
 -- each record has a number that a register can give
-abbrev pub AreNumbered : (ℤ → List Kept) → Type 0
-AreNumbered records_of = (id : ℤ) (kept : Kept) → Contains (records_of id) kept → (1 ≤ kept.sysno) × (kept.sysno ≤ 999999999)
+abbrev pub HaveSystemNumbers : (ℤ → List Kept) → Type 0
+HaveSystemNumbers records_of = (id : ℤ) (kept : Kept) → Contains (records_of id) kept → (1 ≤ kept.sysno) × (kept.sysno ≤ 999999999)
 
 -- the database with this id is as given, and each other has the records that it had
 abbrev pub IsUnderWay : (format : Format) → List Directive → ℤ → (ℤ → List Kept) → State → Base → Type 0
 IsUnderWay format profile id records_of s base =
-    IsStore s × AreStored format profile s.now.trees (with_records id base.records records_of) × IsBase profile base × AreNumbered records_of
+    IsStore s × AreStored format profile s.now.trees (with_records id base.records records_of) × IsBase profile base × HaveSystemNumbers records_of
 
 -- the texts and the databases are as they were
 abbrev pub KeepsNames : State → State → Type 0

@@ -1,8 +1,8 @@
 //! The keys whose places differ between two lists of occurrences.
 
 ghost use Rattle.std.specs.Prelude.{◌≡◌, ◌+◌, ◌≤◌, ◌<◌, ◌⊎◌, length, map, take, drop, IfOk, OnOk, IfSome, IfNone, []};
-ghost use Rattle.zeb_keys.specs.Order.{IsRising as AreRising};
-ghost use Rattle.zeb_change.specs.PrivateChangedKeys.{AreChangedKeys, IsNoted, place_in};
+ghost use Rattle.zeb_keys.specs.Order.{IsRising};
+ghost use Rattle.zeb_change.specs.PrivateChangedKeys.{AreChangedKeys, IsAddedIfChanged, place_in};
 ghost use Rattle.zeb_change.specs.PrivateKeyRuns.{BeginsWithKey, AreOfKey, Stops, IsNotAbove};
 
 use std::alloc::{AllocError, Global};
@@ -71,7 +71,7 @@ fn note<'a>(
     old: Vec<Place>,
     new: Vec<Place>,
 ) -> Result<(), AllocError>
-    ensures { OnOk result (IsNoted key.now old.items new.items changed.old.items changed.new.items) }
+    ensures { OnOk result (IsAddedIfChanged key.now old.items new.items changed.old.items changed.new.items) }
 {
     if old != new {
         changed.push(ChangedKey { key, old, new })?;
@@ -87,7 +87,7 @@ pub(crate) fn changed_keys<'a>(
     elder: &'a [Occurrence],
     newer: &'a [Occurrence],
 ) -> Result<Vec<ChangedKey<'a>>, AllocError>
-    ensures { AreRising elder.now → AreRising newer.now → IfOk result (λ changed. AreChangedKeys elder.now newer.now changed.items) }
+    ensures { IsRising elder.now → IsRising newer.now → IfOk result (λ changed. AreChangedKeys elder.now newer.now changed.items) }
 {
     let mut changed = Vec::new(alloc);
     let mut elder = elder;

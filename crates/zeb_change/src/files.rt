@@ -11,13 +11,15 @@ ghost use Rattle.zeb_register.specs.Hindrances.{HasRowids};
 ghost use Rattle.zeb_register.specs.Room.{HasRoom};
 ghost use Rattle.zeb_register.specs.Store.{records_tree};
 ghost use Rattle.zeb_change.specs.Asked.{AskFiles, AskSlices, AsksRecord};
-ghost use Rattle.zeb_change.specs.Folding.{Progress as FoldProgress, folded, file_folded, files_folded, splits_of};
+ghost use Rattle.zeb_change.specs.Folding.{Progress as FoldProgress, record_folded, file_folded, files_folded, splits_of};
 ghost use Rattle.zeb_change.specs.Base.{Base, Kept};
 ghost use Rattle.zeb_change.specs.Elders.{FindsWhole, FirstFindsWhole, OfFirst};
 ghost use Rattle.zeb_change.specs.Costs.{IsCostIn, IsFilesCost, IsSlicesCost, IsWorkFor, newer_of};
 ghost use Rattle.zeb_change.specs.Refused.{NeverUnready, Meets};
-ghost use Rattle.zeb_change.specs.Reading.{NamesFailed, NoneFailed, NoReadFault, ReadsNext, TellsFailed, BlamesFailed};
-ghost use Rattle.zeb_change.specs.Inside.{Stays, WorksInside};
+ghost use Rattle.zeb_change.specs.Reading.{NamesFailed, NoneFailed, NoReadFault, TellsFailed, BlamesFailed};
+ghost use Rattle.zeb_change.specs.PrivateReading.{ReadsNext};
+ghost use Rattle.zeb_change.specs.Inside.{StaysInside};
+ghost use Rattle.zeb_change.specs.PrivateInside.{WorksInside};
 ghost use Rattle.zeb_change.specs.Holding.{HoldsSome};
 ghost use Rattle.zeb_change.specs.UnderWay.{IsFolded, IsUnderWay, StandsFor, conditions_of};
 ghost use Rattle.zeb_change.specs.Noted.{noted_count};
@@ -100,7 +102,7 @@ fn note_record<S: Alter>(
     ensures folded { HasCleanDisk (state S.Store tx.new.conn.now) → IsTrue (state S.Store tx.old.conn.now).in_transaction
         → (format : Format) → Folds format setting.now fold.old fold.new (standing (state S.Store tx.old.conn.now) pending.old)
         (standing (state S.Store tx.new.conn.now) pending.new)
-        (λ c. folded c setting.now.kind incoming.entry.file incoming.entry.nth incoming.entry.bytes.now) result }
+        (λ c. record_folded c setting.now.kind incoming.entry.file incoming.entry.nth incoming.entry.bytes.now) result }
     ensures honest { HasCleanDisk (state S.Store tx.new.conn.now) → IsTrue (state S.Store tx.old.conn.now).in_transaction
         → (format : Format) → KeepsSome format setting.now.profile.now fold.old fold.new
         (standing (state S.Store tx.old.conn.now) pending.old) (standing (state S.Store tx.new.conn.now) pending.new) result }
@@ -143,7 +145,7 @@ fn take_record<S: Alter, L: Layout>(
     ensures folded { HasCleanDisk (state S.Store tx.new.conn.now) → IsTrue (state S.Store tx.old.conn.now).in_transaction
         → Folds L.format setting.now fold.old fold.new (standing (state S.Store tx.old.conn.now) pending.old)
         (standing (state S.Store tx.new.conn.now) pending.new)
-        (λ c. folded c setting.now.kind incoming.entry.file incoming.entry.nth incoming.entry.bytes.now) result }
+        (λ c. record_folded c setting.now.kind incoming.entry.file incoming.entry.nth incoming.entry.bytes.now) result }
     ensures honest { HasCleanDisk (state S.Store tx.new.conn.now) → IsTrue (state S.Store tx.old.conn.now).in_transaction
         → KeepsSome L.format setting.now.profile.now fold.old fold.new (standing (state S.Store tx.old.conn.now) pending.old)
         (standing (state S.Store tx.new.conn.now) pending.new) result }
@@ -291,7 +293,7 @@ pub fn fold_files<S: Alter, L: Layout, R: Source>(
 ) -> Result<(), Refusal>
     ensures same { tx.new.conn.ghost_name ≡ tx.old.conn.ghost_name }
     ensures stays { HasCleanDisk (state S.Store tx.new.conn.now) → IsTrue (state S.Store tx.old.conn.now).in_transaction
-        → Stays (state S.Store tx.old.conn.now) (state S.Store tx.new.conn.now) result }
+        → StaysInside (state S.Store tx.old.conn.now) (state S.Store tx.new.conn.now) result }
     ensures database { fold.new.progress.database ≡ fold.old.progress.database }
     ensures folded { HasCleanDisk (state S.Store tx.new.conn.now) → IsTrue (state S.Store tx.old.conn.now).in_transaction
         → (texts : List (List ℕ)) → map R.remaining readers.old ≡ map Some texts → NoneFailed R.has_failed readers.new
@@ -329,7 +331,8 @@ pub fn fold_files<S: Alter, L: Layout, R: Source>(
         → HasRoom L.format places (state S.Store tx.old.conn.now).now.trees
         → HasRowids rowids records_tree (state S.Store tx.old.conn.now).now.trees → rowids < 2 ^ 63
         → result ≡ Err Refusal.Store → MayRefuse (state S.Store tx.old.conn.now) (state S.Store tx.new.conn.now) }
-    // Whatever rows the tables have: what is kept under the first record's identifier is whole, or the fold is refused as damage or by a failure.
+    // Whatever rows the tables have: what is kept under the first record's identifier is whole, or the fold is refused as damage or by a
+    // failure.
     ensures elder { InStore (state S.Store tx.old.conn.now) (state S.Store tx.new.conn.now) (λ trees.
         fold.old.tally.records < setting.now.limits.records
         → (texts : List (List ℕ)) → map R.remaining readers.old ≡ map Some texts → NoneFailed R.has_failed readers.new

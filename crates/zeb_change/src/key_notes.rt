@@ -3,7 +3,7 @@
 ghost use Rattle.std.specs.Prelude.{◌≡◌, ◌+◌, ◌++◌, [], List, IfOk, OnOk, length, map};
 ghost use Rattle.zeb_change.specs.NoteWords.{KeyChange, change_words};
 ghost use Rattle.zeb_change.specs.Noted.{IsNotedIn};
-ghost use Rattle.zeb_change.specs.PrivateNotes.{TakesChange, counts_in, places_in};
+ghost use Rattle.zeb_change.specs.PrivateNoteWords.{TakesChange, counts_in, places_in};
 ghost use Rattle.zeb_change.specs.PrivatePending.{change_in};
 
 use crate::words::{put_number, put_places, take_number, take_places};

@@ -2,8 +2,8 @@
 
 ghost use Rattle.std.specs.Prelude.{◌≡◌, ◌⊎◌, ◌+◌, ◌<◌, ◌≤◌, ◌^◌, ℕ, ℤ, length, OnOk};
 ghost use Rattle.std.specs.List.{Contains};
-ghost use Rattle.zeb_keys.specs.Order.{IsRising as AreRising};
-ghost use Rattle.zeb_register.specs.Content.{Content, IsRising};
+ghost use Rattle.zeb_keys.specs.Order.{IsRising};
+ghost use Rattle.zeb_register.specs.Content.{Content, HasRisingLists};
 ghost use Rattle.zeb_keys.specs.declared.keys.Occurrence.{Occurrence};
 ghost use Rattle.zeb_register.specs.Room.{FitInRow};
 ghost use Rattle.zeb_change.specs.Asked.{IsStorableOccurrence, PutAmong};
@@ -29,16 +29,16 @@ pub fn note_keys(
     elder: &[Occurrence],
     newer: &[Occurrence],
 ) -> Result<(), AllocError>
-    ensures moved { AreRising elder.now → AreRising newer.now
-        → OnOk result ((db : ℤ) (behind before after : Content) → LeadsTo db pending.old behind before → IsRising before
+    ensures moved { IsRising elder.now → IsRising newer.now
+        → OnOk result ((db : ℤ) (behind before after : Content) → LeadsTo db pending.old behind before → HasRisingLists before
         → ArePostingsOf sysno elder.now (before db) → IsReposted db sysno newer.now before after
         → LeadsTo db pending.new behind after) }
-    ensures idle { AreRising elder.now → AreRising newer.now → AreTheSame elder.now newer.now
+    ensures idle { IsRising elder.now → IsRising newer.now → AreTheSame elder.now newer.now
         → OnOk result (pending.new ≡ pending.old) }
-    ensures cost { AreRising elder.now → AreRising newer.now
+    ensures cost { IsRising elder.now → IsRising newer.now
         → OnOk result ((n : ℕ) × IsRecordCost (Contains elder.now) (Contains newer.now) n
         × (noted_count pending.new ≡ noted_count pending.old + n)) }
-    ensures room { (bound n : ℕ) → AreRising elder.now → AreRising newer.now → 1 ≤ sysno → sysno < 2 ^ 63
+    ensures room { (bound n : ℕ) → IsRising elder.now → IsRising newer.now → 1 ≤ sysno → sysno < 2 ^ 63
         → ((o : Occurrence) → Contains newer.now o → IsStorableOccurrence o)
         → ((o : Occurrence) → Contains elder.now o ⊎ Contains newer.now o → FitInRow bound o.key)
         → PutAmong bound pending.old.notes.entries n

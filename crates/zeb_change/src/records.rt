@@ -15,10 +15,11 @@ ghost use Rattle.zeb_change.specs.Base.{Base, Kept, kept_as};
 ghost use Rattle.zeb_change.specs.Elders.{KeepsWhole};
 ghost use Rattle.zeb_change.specs.Reading.{NoReadFault};
 ghost use Rattle.zeb_change.specs.Occurs.{AreOccurrencesOf};
-ghost use Rattle.zeb_change.specs.PrivateRecords.{GoesBy, IsElderAs, IsIdle, IsWholeElder, KeepsNewer, NotesAs, NotesNewer, Takes, elder_bytes};
+ghost use Rattle.zeb_change.specs.PrivateRecords.{GoesBy, IsElderAs, IsIdle, IsWholeElder, KeepsNewer, NotesAs, NotesNewer, Takes};
+ghost use Rattle.zeb_change.specs.PrivateRecords.{elder_bytes};
 ghost use Rattle.zeb_change.specs.Costs.{IsCostIn, newer_of};
 ghost use Rattle.zeb_change.specs.PrivateAsked.{KeepsInRoom, TakesRoom};
-ghost use Rattle.zeb_change.specs.Inside.{WorksInside};
+ghost use Rattle.zeb_change.specs.PrivateInside.{WorksInside};
 ghost use Rattle.zeb_change.specs.Stored.{IsKept};
 ghost use Rattle.zeb_change.specs.UnderWay.{conditions_of};
 

@@ -2,7 +2,7 @@
 
 ghost use Rattle.std.specs.Prelude.{◌≡◌, ◌+◌, ◌*◌, ◌++◌, ◌∷◌, ℕ, List, IfOk, OnOk};
 ghost use Rattle.zeb_change.specs.NoteWords.{number_words, place_words};
-ghost use Rattle.zeb_change.specs.PrivateNotes.{TakesNumber, TakesPlaces};
+ghost use Rattle.zeb_change.specs.PrivateNoteWords.{TakesNumber, TakesPlaces};
 
 use std::alloc::AllocError;
 use zeb_register::Place;

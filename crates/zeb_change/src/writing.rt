@@ -13,7 +13,7 @@ ghost use Rattle.zeb_change.specs.Asked.{PutsPlaces, WritesInRoom};
 ghost use Rattle.zeb_change.specs.Costs.{IsWorkFor};
 ghost use Rattle.zeb_change.specs.NoteWords.{KeyChange};
 ghost use Rattle.zeb_change.specs.Noted.{IsNothingNoted, Settles};
-ghost use Rattle.zeb_change.specs.PrivateNotes.{IsCutOff, counts_in, places_in};
+ghost use Rattle.zeb_change.specs.PrivateNoteWords.{IsCutOff, counts_in, places_in};
 ghost use Rattle.zeb_change.specs.PrivatePending.{AreGivenInOrder, ArePutAt};
 
 use crate::counts::counts_are_numbers;

@@ -12,7 +12,7 @@ use Rattle.zeb_engine.specs.Analysed.{IsAnalysed}
 use Rattle.zeb_engine.specs.Answers.{refused}
 use Rattle.zeb_change.specs.Refused.{why_of}
 use Rattle.zeb_change.specs.Outcomes.{analysis_refusal}
-use Rattle.zeb_engine.proofs.Analyses.{refusal_of_texts}
+use Rattle.zeb_engine.proofs.AnalysisAnswers.{refusal_of_texts}
 use Rattle.zeb_engine.proofs.OwnAnswers.{IsOwn, analysis_own}
 
 own_unread : (fault : AnalysisFault) → IsRefusal fault → (file : ℕ) → ◌≡◌ {A = Result Reply Refusal} (Err (analysis_refusal fault)) (Err (refusal.ReadFault file)) → ⊥

@@ -18,8 +18,8 @@ use Rattle.zeb_register.specs.Occurring.{AreTermsBefore, AreTermsFrom, is_before
 use Rattle.zeb_register.specs.Store.{IsStore}
 use Rattle.zeb_register.specs.Tallies.{Works}
 use Rattle.zeb_register.proofs.Calls.{store_same}
-use Rattle.zeb_search.specs.Counted.{Counts}
-use Rattle.zeb_search.proofs.CountedLemmas.{counts_then, counts_within, terms_count}
+use Rattle.zeb_search.specs.SearchCounts.{CountsAtMost}
+use Rattle.zeb_search.proofs.SearchCountLemmas.{counts_then, counts_within, terms_count}
 use Rattle.zeb_change.specs.declared.refusals.Refusal.{Refusal}
 use Rattle.zeb_image.specs.declared.names.DbName.{DbName}
 use Rattle.zeb_image.specs.NameOf.{name_bytes}
@@ -39,7 +39,7 @@ last_few n xs = omega (arith, length-drop (length xs - n) xs)
 -- the terms below the start, and those from it on
 pub around_reads : (O : ℕ → Occurrence → Type 0) (index : ℕ) (register : Register) (start : List ℕ) (row_work number position below from : ℕ) (first rest : List TermCount) (a b c : Work)
     → below ≡ position - 1 → from ≡ number + 1 - position → 1 ≤ position → position ≤ number → AreTermsBefore O index register start below first → AreTermsFrom O index register start from rest
-    → Works (row_work * length first) 0 0 0 a b → Works (row_work * length rest) 0 0 0 b c → Counts (row_work * (number + 1)) 0 a c
+    → Works (row_work * length first) 0 0 0 a b → Works (row_work * length rest) 0 0 0 b c → CountsAtMost (row_work * (number + 1)) 0 a c
 around_reads O index register start row_work number position below from first rest a b c of_below of_from least most are_first are_rest reads_first reads_rest =
     let before : length first ≤ below = subst (λ (l : List TermCount). length l ≤ below) (sym are_first.is) (last_few below (filter (is_before start) are_first.all)) in
     let behind : length rest ≤ from = subst (λ (l : List TermCount). length l ≤ from) (sym are_rest.is) (first_few from (filter (is_from start) are_rest.all)) in

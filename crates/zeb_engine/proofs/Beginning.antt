@@ -16,7 +16,8 @@ use Rattle.zeb_register.specs.Store.{IsEmptyStore, Changes, LacksRegisters, meta
 use Rattle.zeb_profile.specs.Laws.{IsProfile}
 use Rattle.zeb_register.proofs.FormatLemmas.{registers_empty}
 use Rattle.zeb_engine.proofs.ReadyImages.{ready_image}
-use Rattle.zeb_change.specs.Conditions.{Conditions, AreSessions}
+use Rattle.zeb_change.specs.Conditions.{Conditions}
+use Rattle.zeb_change.specs.PrivateConditions.{AreSessions}
 use Rattle.zeb_image.specs.Image.{HasTexts, AreBases, IsImage, IsImageOf}
 use Rattle.zeb_engine.specs.Steps.{holding}
 use Rattle.zeb_engine.specs.PrivateWriting.{AreOf, PutsTexts}
@@ -32,10 +33,10 @@ texts_still old new version text pattern same texts = record {
   );
 }
 
-text_inside : (a b : List ℕ) → Text a ≡ Text b → a ≡ b
+pub text_inside : (a b : List ℕ) → Text a ≡ Text b → a ≡ b
 text_inside a b same = cc
 
-entry_inside : (a b v w : List ℕ) → entry a v ≡ entry b w → (a ≡ b) × (v ≡ w)
+pub entry_inside : (a b v w : List ℕ) → entry a v ≡ entry b w → (a ≡ b) × (v ≡ w)
 entry_inside a b v w same = (cc, cc)
 
 module _ (a b c d : State) (v t p : List ℕ) (readable : IsUtf8 v × IsUtf8 t × IsUtf8 p) (none : a.now.trees meta_tree ≡ [])

@@ -13,15 +13,15 @@ use Rattle.zeb_change.specs.declared.settings.Setting.{Setting}
 use Rattle.zeb_change.specs.declared.refusals.Refusal.{Refusal}
 use Rattle.zeb_change.specs.Refused.{Why, why_of, Meets}
 use Rattle.zeb_engine.specs.Answers.{refused, IsFailure}
-use Rattle.zeb_engine.specs.PrivateChanging.{BeginsWith, MayBegin}
+use Rattle.zeb_engine.specs.PrivateChanging.{MayBeginUnder, MayBegin}
 use Rattle.zeb_change.specs.Conditions.{Conditions}
 use Rattle.zeb_image.specs.Holdings.{Holdings, base_named}
 use Rattle.zeb_change.specs.Base.{Base}
 use Rattle.zeb_image.specs.Image.{IsImage, Keeps}
 use Rattle.zeb_engine.specs.Steps.{changed_by_files, ready, start_of, turned}
 use Rattle.zeb_engine.proofs.ListedDatabases.{none_named, row_named}
-use Rattle.zeb_engine.proofs.Serving.{keeps_still}
-use Rattle.zeb_engine.proofs.Turns.{step_unbegun}
+use Rattle.zeb_engine.proofs.ServesLemmas.{keeps_still}
+use Rattle.zeb_engine.proofs.TurnedOutcomes.{step_unbegun}
 use Rattle.zeb_engine.proofs.ReadyImages.{image_some}
 use Rattle.zeb_register.specs.Formats.{Format}
 
@@ -56,7 +56,7 @@ start_refused Good c before name bases is kind files refusal met = by (start_of 
 
 module _ (format : Format) (c : Conditions) (old : State) (before : Holdings) (bases : List Base) (is : ready c before ≡ Ok bases) (image : IsImage old.now.trees before) (name : List ℕ) (Opened : Type 0) (opened : Opened) where
   abbrev pub Begins : Kind → Base → Option Database → Type 0
-  Begins kind base found = BeginsWith kind name found c old.now.trees before × Opened
+  Begins kind base found = MayBeginUnder kind name found c old.now.trees before × Opened
 
   pub update_begins : (found : Option Database) → IsDatabaseOf old.now.trees name found → Meets (Begins Update) (start_of Update name (base_named name bases)) (Ok found)
   update_begins None absent =

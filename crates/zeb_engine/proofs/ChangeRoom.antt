@@ -24,13 +24,13 @@ use Rattle.zeb_image.specs.Holdings.{Holdings}
 use Rattle.zeb_image.specs.Image.{IsImage}
 use Rattle.zeb_image.proofs.Bases.{named_found}
 use Rattle.zeb_engine.specs.Causes.{HasRoomToChange}
-use Rattle.zeb_engine.specs.PrivateChanging.{BeginsWith, last_of}
+use Rattle.zeb_engine.specs.PrivateChanging.{MayBeginUnder, last_of}
 use Rattle.zeb_engine.proofs.ChangeSteps.{kept_records, kept_registers}
 use Rattle.zeb_engine.proofs.ReadyImages.{image_some}
 use Rattle.zeb_engine.proofs.WriteCauses.{name_fits}
 
 -- the last number that a change begins with is one that a column stores
-pub begin_below : (kind : Kind) (name : List ℕ) (found : Option Database) (c : Conditions) (trees : Trees) (before : Holdings) → BeginsWith kind name found c trees before → IsImage trees before → last_of found ≤ 999999999
+pub begin_below : (kind : Kind) (name : List ℕ) (found : Option Database) (c : Conditions) (trees : Trees) (before : Holdings) → MayBeginUnder kind name found c trees before → IsImage trees before → last_of found ≤ 999999999
 begin_below kind name None c trees before known image = omega arith
 begin_below kind name (Some found) c trees before (bases, base, is, named, row, same) image =
     let all = image_some c trees before bases is image in

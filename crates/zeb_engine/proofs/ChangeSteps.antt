@@ -18,8 +18,9 @@ use Rattle.zeb_change.specs.declared.refusals.Refusal.{Refusal}
 use Rattle.zeb_engine.specs.declared.replies.Reply.TheVariants as reply
 use Rattle.zeb_change.specs.Refused.{Why, why_of, Meets}
 use Rattle.zeb_engine.specs.Answers.{changed, refused, reply_answer, IsFailure}
-use Rattle.zeb_engine.specs.PrivateChanging.{BeginsWith, last_of}
-use Rattle.zeb_change.specs.Conditions.{Conditions, AreSessions}
+use Rattle.zeb_engine.specs.PrivateChanging.{MayBeginUnder, last_of}
+use Rattle.zeb_change.specs.Conditions.{Conditions}
+use Rattle.zeb_change.specs.PrivateConditions.{AreSessions}
 use Rattle.zeb_image.specs.Names.{IsDatabaseName}
 use Rattle.zeb_change.specs.Folding.{Progress, at_first, files_folded}
 use Rattle.zeb_image.specs.Holdings.{Holdings, new_base, base_named, with_base}
@@ -27,14 +28,14 @@ use Rattle.zeb_change.specs.Base.{Base}
 use Rattle.zeb_image.specs.Image.{AreBases, HasTexts, IsImage, IsImageOf}
 use Rattle.zeb_engine.specs.Steps.{changed_by_files, ready, start_of, turned}
 use Rattle.zeb_change.specs.UnderWay.{IsFolded, IsUnderWay}
-use Rattle.zeb_engine.proofs.Held.{image_numbered}
+use Rattle.zeb_engine.proofs.DatabasesOfImages.{image_numbered}
 use Rattle.zeb_image.proofs.Bases.{named_found}
 use Rattle.zeb_engine.proofs.Beginning.{texts_still}
 use Rattle.zeb_engine.proofs.Creating.{with_new_base, created_image, new_base_in}
 use Rattle.zeb_engine.proofs.FoldNames.{files_named}
 use Rattle.zeb_engine.proofs.ReadyImages.{image_ready, ready_image}
 use Rattle.zeb_engine.proofs.DatabaseInPlace.{base_twice, bases_with, image_with, next_in, stored_at_first}
-use Rattle.zeb_engine.proofs.Turns.{step_changed, step_unchanged}
+use Rattle.zeb_engine.proofs.TurnedOutcomes.{step_changed, step_unchanged}
 use Rattle.zeb_engine.proofs.WriteSteps.{Leads}
 use Rattle.zeb_register.specs.Formats.{Format, holds_in}
 
@@ -73,7 +74,7 @@ pub record IsBegun (format : Format) (c : Conditions) (kind : Kind) (name : List
 module _ (format : Format) (stays : (a b : Trees) (content : Content) → KeepsRegisters a b → holds_in format a content → holds_in format b content) (c : Conditions) (session : AreSessions format c) (kind : Kind) (name : List ℕ) (is_name : IsDatabaseName name)
     (before : Holdings) where
   module _ (old mid : State) (image : IsImage old.now.trees before) (id : ℤ) where
-    begun_new : BeginsWith kind name None c old.now.trees before → Changes databases_tree (PutsDatabase id name (pos 0)) old mid → IsBegun format c kind name before id 0 mid
+    begun_new : MayBeginUnder kind name None c old.now.trees before → Changes databases_tree (PutsDatabase id name (pos 0)) old mid → IsBegun format c kind name before id 0 mid
     begun_new fits put =
         let at = image_ready format c session old.now.trees before fits.0 fits.1 image in
         let registers = kept_registers id name (pos 0) old mid put in
@@ -96,7 +97,7 @@ module _ (format : Format) (stays : (a b : Trees) (content : Content) → KeepsR
           its_id = row_id format c.profile mid.now.trees (with_base (new_base name) fits.0) made id name (pos 0) ((put.rows.each id name (pos 0)).1 (inr (refl, refl, refl)));
         }
 
-    begun_there : (found : Database) → BeginsWith kind name (Some found) c old.now.trees before → Changes databases_tree (PutsDatabase id name (pos found.last)) old mid → IsBegun format c kind name before id found.last mid
+    begun_there : (found : Database) → MayBeginUnder kind name (Some found) c old.now.trees before → Changes databases_tree (PutsDatabase id name (pos found.last)) old mid → IsBegun format c kind name before id found.last mid
     begun_there found fits put =
         let bases = fits.0 in
         let base = fits.1 in
@@ -127,7 +128,7 @@ module _ (format : Format) (stays : (a b : Trees) (content : Content) → KeepsR
           its_id = row_id format c.profile mid.now.trees (with_base base bases) made id base.name (pos base.last) ((rows.each id base.name (pos base.last)).1 (inr (refl, refl, refl)));
         }
 
-    pub begun : (found : Option Database) → BeginsWith kind name found c old.now.trees before → Changes databases_tree (PutsDatabase id name (pos (last_of found))) old mid → IsBegun format c kind name before id (last_of found) mid
+    pub begun : (found : Option Database) → MayBeginUnder kind name found c old.now.trees before → Changes databases_tree (PutsDatabase id name (pos (last_of found))) old mid → IsBegun format c kind name before id (last_of found) mid
     begun None fits put = begun_new fits put
     begun (Some found) fits put = begun_there found fits put
 

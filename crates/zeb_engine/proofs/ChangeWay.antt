@@ -8,7 +8,8 @@ use Rattle.zeb_register.specs.Store.{Changes, databases_tree}
 use Rattle.zeb_register.proofs.FormatLemmas.{registers_stay}
 use Rattle.zeb_change.specs.declared.files.Fold.{Fold}
 use Rattle.zeb_change.specs.declared.refusals.Refusal.{Refusal}
-use Rattle.zeb_change.specs.Conditions.{Conditions, AreSessions}
+use Rattle.zeb_change.specs.Conditions.{Conditions}
+use Rattle.zeb_change.specs.PrivateConditions.{AreSessions}
 use Rattle.zeb_change.specs.Folding.{Progress, at_first, files_folded, splits_of}
 use Rattle.zeb_change.specs.Refused.{Meets, why_of}
 use Rattle.zeb_change.specs.UnderWay.{IsFolded, IsUnderWay, conditions_of}

@@ -9,7 +9,7 @@ use Rattle.sqlite_rules.specs.Lists.{Has}
 use Rattle.sqlite_rules.proofs.ListLemmas.{has_contained, contains_had}
 use Rattle.zeb_keys.specs.declared.keys.Key.{Key}
 use Rattle.zeb_profile.specs.declared.directives.Directive.{Directive}
-use Rattle.zeb_register.specs.Content.{Content, IsRising, IsWithout, posting_cmp, Posting}
+use Rattle.zeb_register.specs.Content.{Content, HasRisingLists, IsWithout, posting_cmp, Posting}
 use Rattle.zeb_register.specs.Sql.{Loses}
 use Rattle.zeb_register.specs.Store.{HasDatabase, IsRecordIn, TakesDatabase, record_row}
 use Rattle.zeb_change.specs.Base.{Base, Kept}
@@ -44,7 +44,7 @@ module _ (id : ℤ) (content : Content) where
   unfolding IsStrictlySortedBy
   no_posting = tt
 
-  without_rises : IsRising content → IsRising (content_without id content)
+  without_rises : HasRisingLists content → HasRisingLists (content_without id content)
   without_rises up d key = elim (ids_told d id) [
     | inl same ↦ subst (IsStrictlySortedBy posting_cmp) (sym (lists_here d key same)) no_posting
     | inr other ↦ subst (IsStrictlySortedBy posting_cmp) (sym (lists_else d key other)) (up d key)
@@ -59,7 +59,7 @@ module _ (id : ℤ) (content : Content) where
     λ kept. subst (λ l. Has l p) (sym (lists_else d key kept.1)) kept.0,
   )
 
-  is_without : IsRising content → IsWithout id content (content_without id content)
+  is_without : HasRisingLists content → IsWithout id content (content_without id content)
   is_without up = record { rising = without_rises up; left = without_has }
 
 module _ (format : Format) (profile : List Directive) (old new : Trees) (name : List ℕ) (bases : List Base) (base : Base) (image : IsImageOf format profile old bases) (are : AreBases profile bases)

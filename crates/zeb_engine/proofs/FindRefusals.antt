@@ -18,7 +18,7 @@ use Rattle.zeb_register.specs.Store.{HasDatabase}
 use Rattle.zeb_search.specs.Holds.{TermHolds, TreeHolds}
 use Rattle.zeb_search.specs.Lists.{AreNumbers}
 use Rattle.zeb_search.specs.Registers.{has_ident_in, is_kept_in, HoldsIn, NamesReadable}
-use Rattle.zeb_search.proofs.Known.{holder_known}
+use Rattle.zeb_search.proofs.KnownHolders.{holder_known}
 use Rattle.zeb_change.specs.declared.refusals.Refusal.{Refusal}
 use Rattle.zeb_change.specs.declared.refusals.Refusal.TheVariants as refusal
 use Rattle.zeb_change.specs.Outcomes.{query_refusal, register_refusal}
@@ -27,7 +27,7 @@ use Rattle.zeb_engine.specs.Alone.{FindSays, HidesHit, HidesOne, IsSaidOrMissed,
 use Rattle.zeb_engine.specs.Answers.{refused, IsFailure}
 use Rattle.zeb_engine.specs.Finding.{asked_of, IsPlanned, IsShown}
 use Rattle.zeb_engine.specs.PrivateLooking.{MissesDatabase}
-use Rattle.zeb_engine.proofs.Finds.{asked_has}
+use Rattle.zeb_engine.proofs.FindAnswers.{asked_has}
 use Rattle.zeb_engine.proofs.ListedDatabases.{fault_or_damage}
 
 -- ---- the numbers of hits

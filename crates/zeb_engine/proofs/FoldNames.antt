@@ -10,7 +10,7 @@ use Rattle.zeb_change.specs.declared.tally.Fate.{Fate}
 use Rattle.zeb_change.specs.declared.tally.Fate.TheVariants.{Inserted, Updated, Deleted, PassedOver}
 use Rattle.zeb_change.specs.Refused.{Why, database_full, too_many_records, unknown}
 use Rattle.zeb_change.specs.Conditions.{Conditions}
-use Rattle.zeb_change.specs.Folding.{Changed, Progress, updated, deleted, changed_by, with_ident, ident_in, with_record, changed_record, counted, ◌then◌, folded, at_end, slices_folded, file_folded, files_folded}
+use Rattle.zeb_change.specs.Folding.{Changed, Progress, updated, deleted, changed_by, with_ident, ident_in, with_record, changed_record, counted, ◌then◌, record_folded, at_end, slices_folded, file_folded, files_folded}
 use Rattle.zeb_change.specs.Base.{Base, Kept, kept_as, with_new}
 
 abbrev pub KeepsName : Base → Result Changed Why → Type 0
@@ -61,8 +61,8 @@ counted_in base p Deleted = refl
 counted_in base p PassedOver = refl
 
 module _ (c : Conditions) (kind : Kind) where
-  folded_leaves : (file nth : ℕ) (bytes : List ℕ) (p : Progress) → LeavesName p.base (folded c kind file nth bytes p)
-  unfolding folded
+  folded_leaves : (file nth : ℕ) (bytes : List ℕ) (p : Progress) → LeavesName p.base (record_folded c kind file nth bytes p)
+  unfolding record_folded
   folded_leaves file nth bytes p = from (nat_le c.limits.records p.taken)
     where
       from : (full : Bool) → LeavesName p.base (if full then Err too_many_records else changed_record c kind file nth bytes p.base then λ changed. Ok (counted changed.0 p changed.1))
@@ -82,7 +82,7 @@ module _ (c : Conditions) (kind : Kind) where
   slices_leave : (file nth : ℕ) (slices : List (List ℕ)) (last : Option MarcFault) (p : Progress) → LeavesName p.base (slices_folded c kind file nth slices last p)
   slices_leave file nth [] last p = end_leaves file nth last p
   slices_leave file nth (slice ∷ slices) last p =
-      then_if (λ (q : Progress). q.base.name ≡ p.base.name) (λ (q : Progress). q.base.name ≡ p.base.name) (folded c kind file nth slice p) (slices_folded c kind file (nth + 1) slices last)
+      then_if (λ (q : Progress). q.base.name ≡ p.base.name) (λ (q : Progress). q.base.name ≡ p.base.name) (record_folded c kind file nth slice p) (slices_folded c kind file (nth + 1) slices last)
       (folded_leaves file nth slice p) (λ q is. further p.base q (slices_folded c kind file (nth + 1) slices last q) is (slices_leave file (nth + 1) slices last q))
 
   file_leaves : (file : ℕ) (split : Split) (p : Progress) → LeavesName p.base (file_folded c kind file split p)

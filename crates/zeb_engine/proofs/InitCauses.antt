@@ -11,7 +11,7 @@ use Rattle.zeb_register.specs.Formats.{Format, packed_blocks, plain_rows, versio
 use Rattle.zeb_register.specs.Hindrances.{IsTooLarge}
 use Rattle.zeb_register.specs.Store.{entry}
 use Rattle.zeb_change.specs.declared.refusals.Refusal.{Refusal}
-use Rattle.zeb_engine.specs.Causes.{HasCauseOver}
+use Rattle.zeb_engine.specs.PrivateCauses.{HasCauseOver}
 use Rattle.zeb_engine.specs.PrivateWriting.{HasLargeText}
 
 -- the row of a version is never too large

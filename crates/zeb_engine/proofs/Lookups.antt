@@ -11,15 +11,17 @@ use Rattle.zeb_register.specs.declared.catalog.Database.{Database}
 use Rattle.zeb_search.specs.Lists.{AreNumbers}
 use Rattle.zeb_search.specs.Registers.{HoldsIn}
 use Rattle.zeb_change.specs.Base.{Base}
-use Rattle.zeb_change.specs.Conditions.{AreSessions, Conditions}
+use Rattle.zeb_change.specs.Conditions.{Conditions}
+use Rattle.zeb_change.specs.PrivateConditions.{AreSessions}
 use Rattle.zeb_change.specs.Refused.{Meets}
 use Rattle.zeb_image.specs.Holdings.{Holdings, base_named}
 use Rattle.zeb_image.specs.Image.{IsImage}
 use Rattle.zeb_engine.specs.Finding.{asked_of}
-use Rattle.zeb_engine.specs.Steps.{existing, ready}
-use Rattle.zeb_engine.specs.Works.{ShowsStore}
-use Rattle.zeb_engine.proofs.Finds.{met_view}
-use Rattle.zeb_engine.proofs.Held.{IsHeld, looked_up}
+use Rattle.zeb_engine.specs.Steps.{ready}
+use Rattle.zeb_engine.specs.PrivateSteps.{existing}
+use Rattle.zeb_engine.specs.PrivateWorks.{ShowsStore}
+use Rattle.zeb_engine.proofs.FindAnswers.{met_view}
+use Rattle.zeb_engine.proofs.DatabasesOfImages.{IsHeld, looked_up}
 use Rattle.zeb_engine.proofs.Showing.{still_shows}
 
 -- the tables of a store still hold the content that they held

@@ -12,11 +12,11 @@ use Rattle.zeb_change.specs.Refused.{Meets}
 use Rattle.zeb_image.specs.Holdings.{Holdings}
 use Rattle.zeb_image.specs.Image.{IsImage}
 use Rattle.zeb_engine.specs.PrivateWriting.{IsFree, IsKnown}
-use Rattle.zeb_engine.specs.Steps.{existing}
-use Rattle.zeb_engine.specs.Works.{IsReady}
+use Rattle.zeb_engine.specs.PrivateSteps.{existing}
+use Rattle.zeb_engine.specs.PrivateWorks.{IsReady}
 use Rattle.zeb_engine.proofs.ListedDatabases.{none_named}
 use Rattle.zeb_engine.proofs.ReadyImages.{image_some}
-use Rattle.zeb_engine.proofs.Turns.{existing_known}
+use Rattle.zeb_engine.proofs.TurnedOutcomes.{existing_known}
 
 -- it found none
 pub free_there : (c : Conditions) (s : State) (before : Holdings) (name text : List ℕ) (o : Option Database) → text ≡ name → o ≡ None → IsReady c s.now.trees before

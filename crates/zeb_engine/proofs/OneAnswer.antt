@@ -27,7 +27,7 @@ use Rattle.zeb_image.specs.Holdings.{Holdings, base_named}
 use Rattle.zeb_image.specs.NameOf.{name_bytes}
 use Rattle.zeb_engine.specs.Scanning.{IsScanned, IsScanPlanned, around}
 use Rattle.zeb_engine.specs.Steps.{AskedAmong, AskedFrom, AskedIn, FindAnswers, Outcome, ScanAnswers, ready, Step}
-use Rattle.zeb_engine.proofs.StepLemmas.{Answers, IsTold, step_told}
+use Rattle.zeb_engine.proofs.StepLemmas.{MayAnswer, IsTold, step_told}
 use Rattle.zeb_engine.proofs.OneCount.{counted_once}
 
 -- ---- finds
@@ -115,7 +115,7 @@ module _ (one other : Answer) where
   told_once None x y = absurd x
   told_once (Some told) x y = x ∙ sym y
 
-pub answers_once : (c : Conditions) (command : Command) (before : Holdings) (one other : Answer) → Answers c command before one → Answers c command before other → one ≡ other
+pub answers_once : (c : Conditions) (command : Command) (before : Holdings) (one other : Answer) → MayAnswer c command before one → MayAnswer c command before other → one ≡ other
 answers_once c Init before one other x y = x ∙ sym y
 answers_once c (Create name) before one other x y = x ∙ sym y
 answers_once c (Drop name) before one other x y = x ∙ sym y

@@ -31,15 +31,15 @@ use Rattle.zeb_change.specs.Conditions.{Conditions}
 use Rattle.zeb_engine.specs.Finding.{IsPlanned, IsShown, asked_of, has_name}
 use Rattle.zeb_change.specs.Occurs.{occurs}
 use Rattle.zeb_engine.specs.Scanning.{IsScanPlanned}
-use Rattle.zeb_change.specs.Folding.{Changed, Progress, at_end, at_first, changed_by, changed_record, counted, deleted, file_folded, files_folded, folded, ident_in, slices_folded, updated, with_ident, with_record, ◌then◌, splits_of}
+use Rattle.zeb_change.specs.Folding.{Changed, Progress, at_end, at_first, changed_by, changed_record, counted, deleted, file_folded, files_folded, record_folded, ident_in, slices_folded, updated, with_ident, with_record, ◌then◌, splits_of}
 use Rattle.zeb_change.specs.Base.{Base, Kept, kept_as, with_new}
 use Rattle.zeb_image.specs.Holdings.{Holdings, nothing_yet, under, base_named}
 use Rattle.zeb_engine.specs.Analysed.{IsAnalysed, analysis_answer}
 use Rattle.zeb_engine.specs.Rules.{same_rule}
 use Rattle.zeb_change.specs.Outcomes.{analysis_refusal, marc_refusal}
 use Rattle.zeb_engine.specs.Steps.{AskedAmong, AskedFrom, AskedIn, CountedFrom, CountedIn, FindAnswers, ScanAnswers, Turn, change_ends, change_from, changed_by_files, created, created_in, dropped, dropped_in, dumped_from, dumped_in, ends, initialised, ready, start_of, turned, turned_from, checked_from, reindexed, ruled, upgradable, upgraded, all_stay}
-use Rattle.zeb_engine.proofs.StepLemmas.{Answers}
-use Rattle.zeb_engine.proofs.Analyses.{fault_of_text, refusal_of_texts}
+use Rattle.zeb_engine.proofs.StepLemmas.{MayAnswer}
+use Rattle.zeb_engine.proofs.AnalysisAnswers.{fault_of_text, refusal_of_texts}
 use Rattle.zeb_engine.proofs.FaultAnswers.{IsOfText, IsOfRecord, first_of_text, split_of_text, identifier_of_record}
 
 -- a refusal that tells of the command and of what is held
@@ -111,8 +111,8 @@ then_own (Ok a) f is later = later a
 then_own (Err why) f is later = is
 
 module _ (c : Conditions) (kind : Kind) where
-  folded_own : (file nth : ℕ) (bytes : List ℕ) (p : Progress) → AreOwn (folded c kind file nth bytes p)
-  unfolding folded
+  folded_own : (file nth : ℕ) (bytes : List ℕ) (p : Progress) → AreOwn (record_folded c kind file nth bytes p)
+  unfolding record_folded
   folded_own file nth bytes p = elim (nat_le c.limits.records p.taken)
       as (λ b. AreOwn {A = Progress} (cond b (Err too_many_records) (changed_record c kind file nth bytes p.base then λ changed. Ok (counted changed.0 p changed.1)))) [
         | true ↦ tt
@@ -126,7 +126,7 @@ module _ (c : Conditions) (kind : Kind) where
   slices_own : (file nth : ℕ) (slices : List (List ℕ)) (last : Option MarcFault) (p : Progress) → IsOfText last → AreOwn (slices_folded c kind file nth slices last p)
   slices_own file nth [] last p is = end_own file nth last p is
   slices_own file nth (slice ∷ slices) last p is =
-      then_own (folded c kind file nth slice p) (slices_folded c kind file (nth + 1) slices last) (folded_own file nth slice p) (λ q. slices_own file (nth + 1) slices last q is)
+      then_own (record_folded c kind file nth slice p) (slices_folded c kind file (nth + 1) slices last) (folded_own file nth slice p) (λ q. slices_own file (nth + 1) slices last q is)
 
   file_own : (file : ℕ) (text : List ℕ) (p : Progress) → AreOwn (file_folded c kind file (split_of text) p)
   unfolding file_folded
@@ -306,7 +306,7 @@ analysed_own c texts answer is = subst IsOwnAnswer (sym is.2) (go is.0 is.1)
 
 -- ---- any command
 
-pub answers_own : (c : Conditions) (command : Command) (before : Holdings) (answer : Answer) → Answers c command before answer → IsOwnAnswer answer
+pub answers_own : (c : Conditions) (command : Command) (before : Holdings) (answer : Answer) → MayAnswer c command before answer → IsOwnAnswer answer
 unfolding initialised
 answers_own c Init before answer is = subst IsOwnAnswer (sym is) tt
 answers_own c (Create name) before answer is = subst IsOwnAnswer (sym is) (turned_own c (created (name_bytes name)) before (created_own (name_bytes name)))

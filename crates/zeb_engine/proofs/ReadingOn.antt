@@ -14,7 +14,7 @@ use Rattle.zeb_register.proofs.CountLemmas.{less_is}
 use Rattle.zeb_change.specs.Base.{Kept}
 use Rattle.zeb_change.proofs.KeptLemmas.{AreRisingKept, push_rises}
 use Rattle.zeb_engine.specs.AnyTables.{JoinsRecords}
-use Rattle.zeb_engine.proofs.Dumps.{bytes_in}
+use Rattle.zeb_engine.proofs.DumpAnswers.{bytes_in}
 
 module _ (trees : Trees) (db : ℤ) where
   -- the bytes are those of the records below a number

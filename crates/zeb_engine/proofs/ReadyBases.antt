@@ -8,13 +8,15 @@ use Rattle.zeb_register.specs.declared.catalog.Database.{Database}
 use Rattle.zeb_register.proofs.Calls.{nothing_then}
 use Rattle.zeb_search.proofs.ReadLemmas.{clean_before}
 use Rattle.zeb_change.specs.Base.{Base}
-use Rattle.zeb_change.specs.Conditions.{AreSessions, Conditions}
+use Rattle.zeb_change.specs.Conditions.{Conditions}
+use Rattle.zeb_change.specs.PrivateConditions.{AreSessions}
 use Rattle.zeb_change.specs.Refused.{Meets}
 use Rattle.zeb_image.specs.Holdings.{Holdings, base_named}
 use Rattle.zeb_image.specs.Image.{Keeps}
-use Rattle.zeb_engine.specs.Steps.{existing, ready}
-use Rattle.zeb_engine.proofs.Commanding.{ready_kept}
-use Rattle.zeb_engine.proofs.Held.{existing_met}
+use Rattle.zeb_engine.specs.Steps.{ready}
+use Rattle.zeb_engine.specs.PrivateSteps.{existing}
+use Rattle.zeb_engine.proofs.ReadyCommands.{ready_kept}
+use Rattle.zeb_engine.proofs.DatabasesOfImages.{existing_met}
 use Rattle.zeb_engine.proofs.Lookups.{IsFoundBase, base_found}
 
 -- a look at the texts found the register ready, and a later call changed nothing

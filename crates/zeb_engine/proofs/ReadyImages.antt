@@ -7,7 +7,8 @@ use Rattle.zeb_profile.specs.Canonical.{canonical_text, pattern_text}
 use Rattle.zeb_profile.specs.Indexes.{identifier_pattern}
 use Rattle.zeb_register.specs.Formats.{Format}
 use Rattle.zeb_register.proofs.FormatLemmas.{one_format}
-use Rattle.zeb_change.specs.Conditions.{Conditions, AreSessions}
+use Rattle.zeb_change.specs.Conditions.{Conditions}
+use Rattle.zeb_change.specs.PrivateConditions.{AreSessions}
 use Rattle.zeb_image.specs.Holdings.{Holdings}
 use Rattle.zeb_change.specs.Base.{Base}
 use Rattle.zeb_image.specs.Image.{AreBases, HasTexts, IsImage, IsImageOf, IsImageUnder}

@@ -13,7 +13,7 @@ use Rattle.zeb_change.specs.Base.{Base}
 use Rattle.zeb_image.specs.Holdings.{Holdings, base_named}
 use Rattle.zeb_image.specs.NameOf.{name_bytes}
 use Rattle.zeb_engine.specs.Steps.{Turn, all_stay, change_ends, change_from, changed_by_files, created, created_in, dropped, dropped_in, ends, initialised, ready, reindexed, ruled, start_of, turned, turned_from, upgradable, upgraded}
-use Rattle.zeb_engine.proofs.StepLemmas.{Answers, after}
+use Rattle.zeb_engine.proofs.StepLemmas.{MayAnswer, after}
 
 -- what a turn answers that is taken is no refusal
 abbrev IsFine : Result (Answer × List Base) Why → Type 0
@@ -75,7 +75,7 @@ init_accepts : (c : Conditions) (before : Holdings) (why : Why) → (initialised
 unfolding initialised
 init_accepts c before why is = absurd cc
 
-pub refused_still : (c : Conditions) (command : Command) (before : Holdings) (answer : Answer) → Answers c command before answer → IsRefused answer → after c command before ≡ before
+pub refused_still : (c : Conditions) (command : Command) (before : Holdings) (answer : Answer) → MayAnswer c command before answer → IsRefused answer → after c command before ≡ before
 refused_still c Init before answer told refuses = absurd (init_accepts c before refuses.0 (sym told ∙ refuses.1))
 refused_still c Check before answer told refuses = refl
 refused_still c Reindex before answer told refuses = reindexed_still c before refuses.0 (sym told ∙ refuses.1)

@@ -25,12 +25,13 @@ use Rattle.zeb_engine.specs.Checking.{TellsImage}
 use Rattle.zeb_engine.specs.PrivateLooking.{FindsStanding, IsLook}
 use Rattle.zeb_engine.specs.Readiness.{IsReadyFor, IsReadyToReindex, RefusesReindex, RefusesUpgrade}
 use Rattle.zeb_engine.specs.Steps.{Outcome, reindexed, ruled, upgradable, upgraded}
-use Rattle.zeb_engine.specs.Works.{Always, Serves}
-use Rattle.zeb_engine.proofs.Checks.{IsImageFor}
-use Rattle.zeb_engine.proofs.Looking.{kept_readable}
+use Rattle.zeb_engine.specs.Works.{Always}
+use Rattle.zeb_engine.specs.PrivateWorks.{Serves}
+use Rattle.zeb_engine.proofs.CheckAnswers.{IsImageFor}
+use Rattle.zeb_engine.proofs.TextLooks.{kept_readable}
 use Rattle.zeb_engine.proofs.RenewalSteps.{reindex_refused, upgradable_good, upgrade_done, upgrade_refused}
 use Rattle.zeb_engine.proofs.RenewalTexts.{layout_found, layout_refused, rule_found, rule_refused}
-use Rattle.zeb_engine.proofs.Serving.{early_serves, keeps_still}
+use Rattle.zeb_engine.proofs.ServesLemmas.{early_serves, keeps_still}
 
 -- ---- a reindex
 

@@ -15,7 +15,7 @@ use Rattle.zeb_image.specs.Image.{Keeps}
 use Rattle.zeb_engine.specs.Steps.{Run}
 use Rattle.zeb_engine.specs.Transactions.{EnduresRefusal}
 use Rattle.zeb_engine.specs.Works.{Runs, ServesCommand}
-use Rattle.zeb_engine.proofs.Crashing.{no_failure}
+use Rattle.zeb_engine.proofs.CommitCrashes.{no_failure}
 use Rattle.zeb_engine.proofs.OneAnswer.{steps_once}
 use Rattle.zeb_engine.proofs.RunCrashes.{is_commit}
 

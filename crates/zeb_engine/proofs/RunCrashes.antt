@@ -12,13 +12,13 @@ use Rattle.zeb_change.specs.Conditions.{Conditions}
 use Rattle.zeb_engine.specs.Crashes.{AreRefused, CommitsCommand, Endures, EnduresRun, IsRefused, RunLeft, Stands}
 use Rattle.zeb_image.specs.Holdings.{Holdings}
 use Rattle.zeb_image.specs.Image.{Keeps}
-use Rattle.zeb_engine.specs.Steps.{Answered, Run, Step}
+use Rattle.zeb_engine.specs.Steps.{TellsOrFails, Run, Step}
 use Rattle.zeb_engine.specs.Transactions.{AsksStore, Commanded, IsDurable}
 use Rattle.zeb_engine.specs.Works.{Runs, ServesCommand}
-use Rattle.zeb_engine.proofs.Crashing.{endures, endures_still, keeps_stand}
+use Rattle.zeb_engine.proofs.CommitCrashes.{endures, endures_still, keeps_stand}
 use Rattle.zeb_engine.proofs.RefusedSteps.{refused_still}
 use Rattle.zeb_engine.proofs.StepLemmas.{step_told}
-use Rattle.zeb_engine.proofs.Unasked.{Did, unasked_still}
+use Rattle.zeb_engine.proofs.CommandedConnections.{AsksOrStays, unasked_still}
 
 refused_more : (commands : List Command) (answers : List Answer) (command : Command) (answer : Answer) → AreRefused commands answers → (AsksStore command → IsRefused answer)
     → AreRefused (commands ++ command ∷ []) (answers ++ answer ∷ [])
@@ -34,7 +34,7 @@ run_left c [] (told ∷ answers) before last run = absurd run
 run_left c (first ∷ commands) [] before last run = absurd run
 
 -- a command leaves what was held that is refused, or asks nothing of the store
-still : (c : Conditions) (command : Command) (before later : Holdings) (answer : Answer) → Answered (Step c command) before answer later → IsRefused answer ⊎ (¬ AsksStore command) → later ≡ before
+still : (c : Conditions) (command : Command) (before later : Holdings) (answer : Answer) → TellsOrFails (Step c command) before answer later → IsRefused answer ⊎ (¬ AsksStore command) → later ≡ before
 still c command before later answer (inl step) (inl refuses) = let told = step_told c command before answer later step in told.1 ∙ refused_still c command before answer told.0 refuses
 still c command before later answer (inl step) (inr not) = unasked_still c command before later answer not step
 still c command before later answer (inr failed) why = failed.1
@@ -46,8 +46,8 @@ refused_so command answer (inr not) asks = absurd (not asks)
 
 -- by a command that is refused, or asks nothing of the store
 left_more : (c : Conditions) (commands : List Command) (answers : List Answer) (before last later : Holdings) (command : Command) (answer : Answer) → RunLeft c before commands answers last → IsRefused answer ⊎ (¬ AsksStore command)
-    → Answered (Step c command) last answer later → RunLeft c before (commands ++ command ∷ []) (answers ++ answer ∷ []) later
-left_more c [] [] before last later command answer left refuses told = inl (later, subst (λ held. Answered (Step c command) held answer later) left told, refl)
+    → TellsOrFails (Step c command) last answer later → RunLeft c before (commands ++ command ∷ []) (answers ++ answer ∷ []) later
+left_more c [] [] before last later command answer left refuses told = inl (later, subst (λ held. TellsOrFails (Step c command) held answer later) left told, refl)
 left_more c (first ∷ commands) (one ∷ answers) before last later command answer (inl left) refuses told = inl (left.0, left.1, left_more c commands answers left.0 last later command answer left.2 refuses told)
 left_more c (first ∷ commands) (one ∷ answers) before last later command answer (inr left) refuses told =
     inr (left.0, refused_more commands answers command answer left.1 (refused_so command answer refuses), (left.2.0, subst (Step c first before left.2.0) (sym (still c command last later answer told refuses)) left.2.1))
@@ -80,7 +80,7 @@ is_commit refusal.Commit = inl refl
 is_commit refusal.Memory = inr (λ is. cc)
 
 -- after one command
-pub did_endures : (c : Conditions) (command : Command) (old new : State) (result : Result Reply Refusal) → HasCleanDisk new → IsDurable new → Did command old new result → Survives old new (CommitsCommand c command old)
+pub did_endures : (c : Conditions) (command : Command) (old new : State) (result : Result Reply Refusal) → HasCleanDisk new → IsDurable new → AsksOrStays command old new result → Survives old new (CommitsCommand c command old)
     → ServesCommand c command old new result → Endures (Step c command) old new result
 did_endures c command old new result clean durable (inl asked) survives serves = endures (Step c command) old new result clean durable (asked.1.accepted clean) (asked.1.endures clean) survives serves
 did_endures c command old new result clean durable (inr same) survives serves =
@@ -124,13 +124,13 @@ module _ (c : Conditions) (old now next : State) (commands : List Command) (answ
   ]
 
   shut_more : (result : Result Reply Refusal) → (IsTrue next.is_open → ⊥) → Runs c commands answers old now → ServesCommand c command now next result → HasCleanDisk next
-      → Did command now next result → Survives now next (CommitsCommand c command now) → (before : Holdings) → Keeps old before
+      → AsksOrStays command now next result → Survives now next (CommitsCommand c command now) → (before : Holdings) → Keeps old before
       → (db : Trees) → (now.may_leave db → IsLeft commands answers now before db) → next.may_leave db → IsLeft (commands ++ command ∷ []) (answers ++ answer_of result ∷ []) next before db
   shut_more result shut runs serves clean (inl asked) survives before keeps db so_far left = asked_more result shut runs serves clean asked.1 survives before keeps db so_far left
   shut_more result shut runs serves clean (inr same) survives before keeps db so_far left = as_before result shut serves (inr same.0) before db (so_far (same.1.no_more db left))
 
   pub crash_more : (result : Result Reply Refusal) → Runs c commands answers old now → Runs c (commands ++ command ∷ []) (answers ++ answer_of result ∷ []) old next → ServesCommand c command now next result
-      → HasCleanDisk next → IsDurable next → Did command now next result → Survives now next (CommitsCommand c command now)
+      → HasCleanDisk next → IsDurable next → AsksOrStays command now next result → Survives now next (CommitsCommand c command now)
       → EnduresRun c commands answers old now → EnduresRun c (commands ++ command ∷ []) (answers ++ answer_of result ∷ []) old next
   crash_more result runs more serves clean durable did survives so_far before keeps leaves db left = by_open next.is_open refl
     where

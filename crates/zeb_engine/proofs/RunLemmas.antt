@@ -15,8 +15,8 @@ use Rattle.zeb_image.specs.Holdings.{Holdings}
 use Rattle.zeb_engine.specs.Steps.{Run}
 use Rattle.zeb_engine.specs.Transactions.{AsksStore, NoneAsks}
 use Rattle.zeb_engine.specs.Works.{FindOpen, Runs, ServesCommand}
-use Rattle.zeb_engine.proofs.Serving.{on_ok}
-use Rattle.zeb_engine.proofs.Unasked.{Did}
+use Rattle.zeb_engine.proofs.ServesLemmas.{on_ok}
+use Rattle.zeb_engine.proofs.CommandedConnections.{AsksOrStays}
 
 pub run_more : (c : Conditions) (commands : List Command) (answers : List Answer) (before mid last : Holdings) (command : Command) (answer : Answer) → Run c before commands answers mid → Run c mid (command ∷ []) (answer ∷ []) last
     → Run c before (commands ++ command ∷ []) (answers ++ answer ∷ []) last
@@ -56,20 +56,20 @@ open_then old now next (Ok reply) was stays nothing is_open = was stays.0
 open_then old now next (Err refusal) was stays nothing is_open = was (nothing is_open).0
 
 module _ (old now next : State) (command : Command) (result : Result Reply Refusal) (clean : HasCleanDisk next) (was : IsTrue now.is_open → IsTrue old.is_open) where
-  pub open_before : Did command now next result → IsTrue next.is_open → IsTrue old.is_open
+  pub open_before : AsksOrStays command now next result → IsTrue next.is_open → IsTrue old.is_open
   open_before (inl asked) is_open = open_then old now next result was (asked.1.accepted clean) (asked.1.refused clean) is_open
   open_before (inr same) is_open = was (subst IsTrue same.1.is_open is_open)
 
   -- a command that asks nothing of the store leaves the connection open
-  still_open : Did command now next result → ¬ AsksStore command → IsTrue now.is_open → IsTrue next.is_open
+  still_open : AsksOrStays command now next result → ¬ AsksStore command → IsTrue now.is_open → IsTrue next.is_open
   still_open (inl asked) not is_open = absurd (not asked.0)
   still_open (inr same) not is_open = subst IsTrue (sym same.1.is_open) is_open
 
-  latest_open : Did command now next result → AsksStore command → OnOk result (IsTrue old.is_open × (NoneAsks [] → IsTrue next.is_open))
+  latest_open : AsksOrStays command now next result → AsksStore command → OnOk result (IsTrue old.is_open × (NoneAsks [] → IsTrue next.is_open))
   latest_open (inl asked) asks = on_ok result (StaysOpen now next) (IsTrue old.is_open × (NoneAsks [] → IsTrue next.is_open)) (λ both. (was both.0, λ none. both.1)) (asked.1.accepted clean)
   latest_open (inr same) asks = absurd (same.0 asks)
 
-  pub open_more : Did command now next result → (commands : List Command) (results : List (Result Reply Refusal)) → FindOpen commands results old now
+  pub open_more : AsksOrStays command now next result → (commands : List Command) (results : List (Result Reply Refusal)) → FindOpen commands results old now
       → FindOpen (commands ++ command ∷ []) (results ++ result ∷ []) old next
   open_more it [] [] so_far = (latest_open it, tt)
   open_more it [] (one ∷ results) so_far = absurd so_far

@@ -19,7 +19,7 @@ use Rattle.zeb_change.specs.Refused.{why_of}
 use Rattle.zeb_engine.specs.Alone.{CanBeShown, HidesOne}
 use Rattle.zeb_engine.specs.Answers.{IsFailure, refused}
 use Rattle.zeb_engine.specs.Finding.{AreShown}
-use Rattle.zeb_engine.specs.Works.{ShowsStore}
+use Rattle.zeb_engine.specs.PrivateWorks.{ShowsStore}
 
 -- a record of each of the numbers is kept, its identifier is UTF-8, and a column stores the number
 abbrev pub KeepsEach : Trees → ℤ → List ℕ → Type 0

@@ -39,15 +39,15 @@ IsTold None answer = ⊥
 IsTold (Some told) answer = answer ≡ told.0
 
 -- what a command answers: a find, a scan and a stat by the kept records, an analysis by its files, each other by its outcome
-abbrev pub Answers : Conditions → Command → Holdings → Answer → Type 0
-Answers c (Find name query first count) before answer = FoundFrom c (name_bytes name) (string_bytes query) first count (ready c before) answer
-Answers c (Scan name query number position) before answer = ScannedFrom c (name_bytes name) (string_bytes query) number position (ready c before) answer
-Answers c (Stat name) before answer = CountedFrom c (name_bytes name) (ready c before) answer
-Answers c (Analyse files) before answer = IsAnalysed c.profile c.limits.records (map (λ file. file.items) files.items) answer
-Answers c command before answer = IsTold (outcome c command before) answer
+abbrev pub MayAnswer : Conditions → Command → Holdings → Answer → Type 0
+MayAnswer c (Find name query first count) before answer = FoundFrom c (name_bytes name) (string_bytes query) first count (ready c before) answer
+MayAnswer c (Scan name query number position) before answer = ScannedFrom c (name_bytes name) (string_bytes query) number position (ready c before) answer
+MayAnswer c (Stat name) before answer = CountedFrom c (name_bytes name) (ready c before) answer
+MayAnswer c (Analyse files) before answer = IsAnalysed c.profile c.limits.records (map (λ file. file.items) files.items) answer
+MayAnswer c command before answer = IsTold (outcome c command before) answer
 
 pub step_told : (c : Conditions) (command : Command) (before : Holdings) (answer : Answer) (later : Holdings) → Step c command before answer later
-    → Answers c command before answer × (later ≡ after c command before)
+    → MayAnswer c command before answer × (later ≡ after c command before)
 step_told c Init before answer later step = step
 step_told c (Create name) before answer later step = step
 step_told c (Drop name) before answer later step = step

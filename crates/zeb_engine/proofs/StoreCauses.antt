@@ -20,7 +20,7 @@ use Rattle.zeb_change.specs.Refused.{out_of_memory, store_failed, why_of}
 use Rattle.zeb_engine.specs.Adopting.{StaysOpen}
 use Rattle.zeb_engine.specs.Analysed.{IsAnalysed}
 use Rattle.zeb_engine.specs.Answers.{answer_of, refused}
-use Rattle.zeb_engine.specs.Causes.{HasStoreCause}
+use Rattle.zeb_engine.specs.PrivateCauses.{HasStoreCause}
 use Rattle.zeb_engine.specs.declared.replies.Reply.{Reply}
 use Rattle.zeb_engine.proofs.OwnAnswers.{IsOwn, analysed_own}
 

@@ -18,7 +18,7 @@ use Rattle.zeb_change.specs.declared.refusals.Refusal.TheVariants.{Store}
 use Rattle.zeb_change.specs.Outcomes.{register_refusal}
 use Rattle.zeb_change.specs.Refused.{store_failed, why_of}
 use Rattle.zeb_change.proofs.RecordRoom.{only_store}
-use Rattle.zeb_engine.specs.Causes.{HasCauseOver, HasStoreCause}
+use Rattle.zeb_engine.specs.PrivateCauses.{HasCauseOver, HasStoreCause}
 use Rattle.zeb_engine.specs.PrivateWriting.{HasRoomToWrite, HindersWrite}
 use Rattle.zeb_engine.specs.declared.writes.Write.{Write}
 use Rattle.zeb_engine.proofs.StoreCauses.{LeavesAll, fault_caused}

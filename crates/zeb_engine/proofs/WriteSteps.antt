@@ -18,14 +18,14 @@ use Rattle.zeb_image.specs.Holdings.{Holdings, new_base, with_base, without_base
 use Rattle.zeb_image.specs.Names.{IsDatabaseName}
 use Rattle.zeb_image.specs.Image.{IsImage}
 use Rattle.zeb_engine.specs.Steps.{Outcome, holding, initialised, turned, created, dropped}
-use Rattle.zeb_change.specs.Inside.{Stays}
-use Rattle.zeb_engine.specs.Works.{Works}
-use Rattle.zeb_engine.specs.PrivateWriting.{AreOf, IsFree, IsKnown, answered}
+use Rattle.zeb_change.specs.Inside.{StaysInside}
+use Rattle.zeb_engine.specs.PrivateWorks.{ReachesOutcome}
+use Rattle.zeb_engine.specs.PrivateWriting.{AreOf, IsFree, IsKnown, reply_of_work}
 use Rattle.zeb_engine.proofs.Beginning.{texts_still}
 use Rattle.zeb_engine.proofs.Creating.{with_new_base, created_image}
 use Rattle.zeb_engine.proofs.Dropping.{without_bases, dropped_image}
 use Rattle.zeb_engine.proofs.ReadyImages.{image_some, image_with_bases}
-use Rattle.zeb_engine.proofs.Turns.{step_init, step_created, step_dropped}
+use Rattle.zeb_engine.proofs.TurnedOutcomes.{step_init, step_created, step_dropped}
 use Rattle.zeb_register.specs.Formats.{Format, holds_in, version_of}
 
 -- what is left after an outcome
@@ -61,8 +61,8 @@ module _ (c : Conditions) (old new : State) (name : List ℕ) (before : Holdings
 -- ---- `init`, whose tables are the image of no database whatever they held
 
 pub init_works : (format : Format) (c : Conditions) (version : List ℕ) (profile : List Directive) (pattern : List ℕ) (old new : State) (result : Result (Unit {0}) RegFault)
-    → Stays old new result → OnOk result (GoesOn old new) → (IsStore old → OnOk result (IsStore new × ((k : Conditions) → AreOf version profile pattern k → IsImage new.now.trees (holding k []))))
-    → IfErr (answered result) (λ refusal. IsFailure (refused (why_of refusal))) → Works (λ trees before. AreOf version profile pattern c) (initialised c) old new (answered result)
+    → StaysInside old new result → OnOk result (GoesOn old new) → (IsStore old → OnOk result (IsStore new × ((k : Conditions) → AreOf version profile pattern k → IsImage new.now.trees (holding k []))))
+    → IfErr (reply_of_work result) (λ refusal. IsFailure (refused (why_of refusal))) → ReachesOutcome (λ trees before. AreOf version profile pattern c) (initialised c) old new (reply_of_work result)
 init_works format c version profile pattern old new (Ok x) stays on begun failed = (on, λ before of store image. let left = begun store in subst (Leads new Done) (sym (step_init c before)) (refl, left.0, left.1 c of))
 init_works format c version profile pattern old new (Err fault) stays on begun failed = (stays, λ before of sees. inl failed)
 

@@ -1,17 +1,8 @@
 -- What a store is once it is taken over.
-use Rattle.std.specs.Prelude.{◌≡◌, ◌≢◌, ◌⊎◌, IsTrue}
+use Rattle.std.specs.Prelude.{◌≡◌, ◌≢◌, IsTrue}
 use Rattle.sqlite.specs.Effect.{IsDatabase}
-use Rattle.sqlite.specs.State.{State, IsLive}
-use Rattle.zeb_register.specs.Store.{IsStore, LacksLists, LacksRegisters}
+use Rattle.sqlite.specs.State.{State}
 use Rattle.zeb_register.specs.Tables.{no_schema, store_schema}
-
--- the tables are there, committed, and hold no row
-pub record HoldsNothing (s : State) : Type 0 where
-  pub is_open : IsTrue s.is_open
-  pub store : IsStore s
-  pub lists : LacksLists s.now.trees
-  pub registers : LacksRegisters s.now.trees
-  pub settled : s.committed ≡ s.now
 
 -- the connection was open and is
 abbrev pub StaysOpen : State → State → Type 0
@@ -25,8 +16,3 @@ HasOtherTables s = (s.now.schema ≢ no_schema) × (s.now.schema ≢ store_schem
 pub record HasOwnTables (s : State) : Type 0 where
   pub is : s.now.schema ≡ store_schema
   pub sound : IsDatabase s.now
-
--- no table yet or this store's six, as a store that is taken over has; the step of a private function
-pub record MayBeTaken (s : State) : Type 0 where
-  pub tables : (s.now.schema ≡ no_schema) ⊎ (s.now.schema ≡ store_schema)
-  pub live : IsLive s

@@ -11,17 +11,26 @@ use Rattle.zeb_engine.specs.declared.commands.Command.{Command}
 use Rattle.zeb_engine.specs.declared.commands.Command.TheVariants.{Check, Reindex, Upgrade}
 use Rattle.zeb_engine.specs.declared.replies.Reply.{Reply}
 use Rattle.zeb_engine.specs.Alone.{AnswersAlone}
-use Rattle.zeb_engine.specs.AnyTables.{AnswersTables}
+use Rattle.zeb_engine.specs.AnyTables.{AnswersTables, ChangesOver}
 use Rattle.zeb_engine.specs.Checking.{ChecksTables, ReindexesTables, UpgradesTables}
 use Rattle.zeb_engine.specs.Readiness.{GoesByTexts, LooksFirst}
 
--- The texts of the store tell whether the register was ready; a check, a reindex and an upgrade go by all tables; a find, a scan, a stat and
--- a dump by those that they read; and damage is told only of the image of nothing.
 pub record IsAnswerOver (format : Format) (profile : List Directive) (command : Command) (s : State) (result : Result Reply Refusal) : Type 0 where
+  -- the texts of the store tell whether the register was ready
   pub ready : LooksFirst command → GoesByTexts (version_of format) profile s result
+  -- a check tells of all tables whether they are an image
   pub checked : command ≡ Check → ChecksTables (version_of format) profile s result
+  -- a reindex goes by the texts and by the kept records
   pub reindexes : command ≡ Reindex → ReindexesTables (version_of format) profile s result
+  -- an upgrade tells of all tables of the first version whether they are an image, before it changes them
   pub upgrades : command ≡ Upgrade → UpgradesTables (version_of format) profile s result
+  -- A find, a scan and a stat are answered by the registers, where the tables hold a content. A find of a ready register is refused by the
+  -- definition, read so, or for damage in a row that it has to read, as where a hit has no record to show.
   pub alone : AnswersAlone format profile command s result
+  -- Also where they hold no content, a find, a scan, a stat and a dump of a ready register are refused by the definition, as damage or by a
+  -- failure. Answered, a find shows each hit that is asked for as a record that is kept under it.
   pub tables : AnswersTables (version_of format) profile command s result
+  -- a change finds what is kept under its first record's identifier whole, or is refused as damage or by a failure
+  pub changes : ChangesOver (version_of format) profile command s result
+  -- damage is told only of the image of nothing that can be held
   pub honest : result ≡ Err Damaged → (before : Holdings) → ¬ Keeps s before

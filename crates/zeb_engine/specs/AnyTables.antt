@@ -1,7 +1,8 @@
 -- What a find, a scan, a stat and a dump answer over a register that is ready, whatever its other tables hold, also where these hold no
--- content. What the rows of databases and of records tell is said, and each refusal but damage; what the registers tell isn't: which numbers
--- are hits, which terms there are, and how many. Of tables that hold a content that is said by Alone.
-use Rattle.std.specs.Prelude.{◌≡◌, ◌⊎◌, ◌<◌, ◌^◌, ℕ, ℤ, pos, List, Result, Err, string_bytes}
+-- content. What the rows of databases and of records tell is said, and each refusal but damage; what the registers tell isn't: which
+-- numbers are hits, which terms there are, and how many. Of tables that hold a content that is said by Alone. Of a change it is said what it
+-- finds kept under the identifier of its first record.
+use Rattle.std.specs.Prelude.{◌≡◌, ◌⊎◌, ◌<◌, ◌^◌, ℕ, ℤ, pos, List, map, Result, Err, string_bytes}
 use Rattle.std.specs.List.{flat_map}
 use Rattle.std.specs.List.Sorted.{IsStrictlySortedBy}
 use Rattle.std.specs.Ordering.{nat_cmp}
@@ -12,14 +13,16 @@ use Rattle.zeb_profile.specs.declared.directives.Directive.{Directive}
 use Rattle.zeb_query.specs.Plans.{PlanValue, ScanValue}
 use Rattle.zeb_register.specs.declared.registers.TermCount.{TermCount}
 use Rattle.zeb_register.specs.Kept.{IsNumberOf, IsRecordCount}
-use Rattle.zeb_register.specs.Store.{HasRecord, IsStore}
+use Rattle.zeb_register.specs.Store.{HasDatabase, HasRecord, IsStore}
 use Rattle.zeb_search.specs.Registers.{has_ident_in}
 use Rattle.zeb_change.specs.Base.{Kept}
+use Rattle.zeb_change.specs.Elders.{FirstFindsWhole}
+use Rattle.zeb_change.specs.Folding.{splits_of}
 use Rattle.zeb_change.specs.declared.refusals.Refusal.{Refusal}
 use Rattle.zeb_change.specs.declared.refusals.Refusal.TheVariants.{Damaged}
 use Rattle.zeb_image.specs.NameOf.{name_bytes}
 use Rattle.zeb_engine.specs.declared.commands.Command.{Command}
-use Rattle.zeb_engine.specs.declared.commands.Command.TheVariants.{Dump, Find, Scan, Stat}
+use Rattle.zeb_engine.specs.declared.commands.Command.TheVariants.{Change, Dump, Find, Scan, Stat}
 use Rattle.zeb_engine.specs.declared.replies.Reply.{Reply}
 use Rattle.zeb_engine.specs.Alone.{IsAsked, IsSaidOrMissed, OfDatabase}
 use Rattle.zeb_engine.specs.Answers.{Answer, answer_of, dumped, IsFailure}
@@ -98,3 +101,22 @@ AnswersTables version profile (Scan name query number position) s result =
 AnswersTables version profile (Stat name) s result = OverReady version profile (StatOver profile (name_bytes name)) s result
 AnswersTables version profile (Dump name) s result = OverReady version profile (DumpOver (name_bytes name)) s result
 AnswersTables version profile other s result = Unit {0}
+
+-- ---- a change
+
+-- Of the database that has the name: what it keeps under the identifier of the first record of the first of these files is whole, or the change
+-- is refused as damage, or because the store or the memory failed.
+abbrev pub ElderOver : {T : Type 0} → List Directive → (name : List ℕ) → (texts : List (List ℕ)) → Trees → Result T Refusal → Type 0
+ElderOver profile name texts trees result =
+    (id last : ℤ) → HasDatabase trees id name last → FirstFindsWhole profile trees id (splits_of texts) result
+
+-- the same on the tables of a store that keep the session's version and profile
+abbrev pub ChangesReady : {T : Type 0} → (version : List ℕ) → List Directive → (name : List ℕ) → (texts : List (List ℕ)) → State → Result T Refusal → Type 0
+ChangesReady version profile name texts s result =
+    IsStore s → IsReadyFor version profile s.now.trees → ElderOver profile name texts s.now.trees result
+
+-- of a command that is a change
+abbrev pub ChangesOver : (version : List ℕ) → List Directive → Command → State → Result Reply Refusal → Type 0
+ChangesOver version profile (Change kind name files) s result =
+    ChangesReady version profile (name_bytes name) (map (λ file. file.items) files.items) s result
+ChangesOver version profile other s result = Unit {0}

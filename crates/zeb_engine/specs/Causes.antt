@@ -23,14 +23,10 @@ use Rattle.zeb_engine.specs.declared.commands.Command.{Command}
 use Rattle.zeb_engine.specs.Works.{Always}
 use Rattle.zeb_engine.specs.declared.commands.Command.TheVariants.{Init, Create, Drop, Change, Reindex, Upgrade}
 
--- On the tables of a store it has a cause: the connection was shut, the disk failed during the call, or a limit on steps is set. A failed
--- commit is asked for one too.
-abbrev pub HasStoreCause : {T : Type 0} → State → State → Result T Refusal → Type 0
-HasStoreCause old new result = IsStore old → IfErr result (λ refusal. why_of refusal ≡ store_failed → MayRefuse old new)
-
--- What may hinder a command of a session under this profile, beside such a cause. An init empties the tables first, so it is hindered only
--- where the profile's text is too large for a row; a new database needs a rowid above the last. A drop and the commands that only ask are
--- hindered by nothing. Of the others, which put records or rows of the registers, this says nothing: `CommandInRoom` does, where there is room.
+-- What may hinder a command of a session under this profile, beside a connection that was shut, a disk that failed during the call and a
+-- limit on steps. An init empties the tables first, so it is hindered only where the profile's text is too large for a row; a new database
+-- needs a rowid above the last. A drop and the commands that only ask are hindered by nothing. Of the others, which put records or rows of
+-- the registers, this says nothing: `CommandInRoom` does, where there is room.
 abbrev pub MayHinder : List Directive → Command → Trees → Type 0
 MayHinder profile Init trees = IsTooLarge (entry (codes "profile") (canonical_text profile))
 MayHinder profile (Create name) trees = LacksRowids 1 databases_tree trees
@@ -38,12 +34,6 @@ MayHinder profile (Change kind name files) trees = Unit {0}
 MayHinder profile Reindex trees = Unit {0}
 MayHinder profile Upgrade trees = Unit {0}
 MayHinder profile command trees = ⊥
-
--- The store failed for such a cause, or this of the tables or the profile hinders the call. A failed commit isn't spoken of: it may come of want of memory, which has
--- no cause.
-abbrev pub HasCauseOver : {T : Type 0} → (Trees → Type 0) → State → State → Result T Refusal → Type 0
-HasCauseOver Hinders old new result =
-    IsStore old → IfErr result (λ refusal. refusal ≡ Store → MayRefuse old new ⊎ Hinders old.now.trees)
 
 -- Which refusals of a command tell that the store failed, but for a commit of what it writes: one that only asks has nothing to commit.
 abbrev pub TellsFailure : Command → Refusal → Type 0
@@ -62,8 +52,8 @@ HasCommandCause profile command old new result =
 
 -- ---- a change that has room
 
--- The tables have room for a change by these files: in the registers for the places that their records ask for, each of whose keys has a row for
--- them all, rowids for the records, and two for the row of the database, which is written before the records and after them.
+-- The tables have room for a change by these files: in the registers for the places that their records ask for, each of whose keys has a
+-- row for them all, rowids for the records, and two for the row of the database, which is written before the records and after them.
 pub record HasRoomToChange (format : Format) (profile : List Directive) (kind : Kind) (texts : List (List ℕ)) (trees : Trees) : Type 0 where
   pub places : ℕ
   pub rowids : ℕ
@@ -81,8 +71,9 @@ ChangesInRoom format profile kind texts Fits old new result =
 
 -- ---- a renewal that has room
 
--- The tables have room for registers that are made anew from the kept records. The lists are those of databases, a row of each key of their records
--- holds all the places that these have under the profile, and a rowid is left for a text. Of the registers that were there nothing is asked.
+-- The tables have room for registers that are made anew from the kept records. The lists are those of databases, a row of each key of their
+-- records holds all the places that these have under the profile, and a rowid is left for a text. Of the registers that were there nothing
+-- is asked.
 pub record HasRoomToRenew (profile : List Directive) (trees : Trees) : Type 0 where
   pub bases : List Base
   pub lists : AreListsOf trees bases

@@ -1,5 +1,5 @@
 -- What a crash leaves on the disk, as an open finds it.
-use Rattle.std.specs.Prelude.{◌≡◌, ◌≢◌, ◌⊎◌, List, [], ◌∷◌, Result, Ok, Err, IsTrue}
+use Rattle.std.specs.Prelude.{◌≡◌, ◌≢◌, ◌⊎◌, List, [], ◌∷◌, Result, Ok, Err}
 use Rattle.std.specs.List.{AllByRecursion}
 use Rattle.sqlite.specs.Tree.{Trees}
 use Rattle.sqlite.specs.Effect.{IsDatabase}
@@ -8,7 +8,7 @@ use Rattle.zeb_profile.specs.declared.directives.Directive.{Directive}
 use Rattle.zeb_profile.specs.Canonical.{canonical_text}
 use Rattle.zeb_register.specs.Formats.{Format, version_of}
 use Rattle.zeb_register.specs.Sql.{IsKeyed}
-use Rattle.zeb_register.specs.Store.{IsStore, LacksLists, LacksRegisters}
+use Rattle.zeb_register.specs.Store.{IsStore}
 use Rattle.zeb_register.specs.Tables.{no_schema, store_schema}
 use Rattle.zeb_engine.specs.declared.commands.Command.{Command}
 use Rattle.zeb_engine.specs.declared.replies.Reply.{Reply}
@@ -21,7 +21,7 @@ use Rattle.zeb_change.specs.Conditions.{Conditions}
 use Rattle.zeb_image.specs.Holdings.{Holdings, nothing_yet, under}
 use Rattle.zeb_image.specs.Image.{IsImage, Keeps}
 use Rattle.zeb_engine.specs.Checking.{CanBeRemade, IsRemade}
-use Rattle.zeb_engine.specs.Steps.{Answered, Outcome, Step}
+use Rattle.zeb_engine.specs.Steps.{TellsOrFails, Step}
 use Rattle.zeb_engine.specs.Transactions.{AsksStore}
 
 -- ---- what a disk stands for
@@ -57,12 +57,6 @@ KeepsDisk old new = (before : Holdings) → Bears old before → Leaves old befo
 abbrev pub Accepts : Answer → Type 0
 Accepts answer = (why : Why) → answer ≢ refused why
 
--- what an accepted outcome leaves, where the holdings are those that fit
-abbrev pub Commits : (Fits : Trees → Holdings → Type 0) → (Holdings → Outcome) → State → Trees → Type 0
-Commits Fits outcome old db =
-    (before : Holdings) → (IsTrue old.is_open → Fits old.now.trees before) → Keeps old before
-    → Accepts (outcome before).0 × Stands db (outcome before).1
-
 -- what is held after an accepted answer of a command
 abbrev pub CommitsBy : (Told : Holdings → Answer → Holdings → Type 0) → State → Trees → Type 0
 CommitsBy Told old db = (before : Holdings) → Keeps old before → (answer : Answer) × (later : Holdings) × Told before answer later × Accepts answer × Stands db later
@@ -87,18 +81,10 @@ LeavesOne c before [] answers db = ⊥
 LeavesOne c before (command ∷ commands) [] db = ⊥
 LeavesOne c before (command ∷ commands) (answer ∷ answers) db =
     IsCarriedOut c command before answer db
-    ⊎ ((later : Holdings) × Answered (Step c command) before answer later × LeavesOne c later commands answers db)
+    ⊎ ((later : Holdings) × TellsOrFails (Step c command) before answer later × LeavesOne c later commands answers db)
 
 abbrev pub CommitsOne : Conditions → List Command → List Answer → State → Trees → Type 0
 CommitsOne c commands answers old db = (before : Holdings) → Keeps old before → LeavesOne c before commands answers db
-
--- the tables of the store, without a row
-abbrev pub IsEmptyDisk : Trees → Type 0
-IsEmptyDisk db = IsStoreDisk db × LacksLists db × LacksRegisters db
-
--- the tables that are absent: the rows that are there already, where the tables are those of the store, and none where there was no table
-abbrev pub CommitsTables : State → Trees → Type 0
-CommitsTables old db = IsTrue old.is_open × (IsStore old → db ≡ old.now.trees) × (old.now.schema ≡ no_schema → IsEmptyDisk db)
 
 -- a store that is taken over: the holdings that are there already
 abbrev pub CommitsAdopted : State → Trees → Type 0
@@ -133,7 +119,7 @@ AreRefused (command ∷ commands) [] = ⊥
 abbrev pub RunLeft : Conditions → Holdings → List Command → List Answer → Holdings → Type 0
 RunLeft c before [] [] last = last ≡ before
 RunLeft c before (command ∷ commands) (answer ∷ answers) last =
-    ((later : Holdings) × Answered (Step c command) before answer later × RunLeft c later commands answers last)
+    ((later : Holdings) × TellsOrFails (Step c command) before answer later × RunLeft c later commands answers last)
     ⊎ ((answer ≡ refused store_failed) × AreRefused commands answers × ((told : Answer) × Step c command before told last))
 RunLeft c before [] (answer ∷ answers) last = ⊥
 RunLeft c before (command ∷ commands) [] last = ⊥

@@ -1,5 +1,5 @@
 -- What only the contracts of private functions speak of; no public clause reaches it.
--- A change of one database by the records of files: what was found out before it began.
+-- A change of one database by the records of files: what was found out before it began, and what it comes to.
 use Rattle.std.specs.Prelude.{◌≡◌, ℕ, pos, List, Option, Some, None, Ok}
 use Rattle.sqlite.specs.Tree.{Trees}
 use Rattle.zeb_register.specs.declared.catalog.Database.{Database}
@@ -15,14 +15,14 @@ use Rattle.zeb_change.specs.Base.{Base}
 use Rattle.zeb_engine.specs.Steps.{Outcome, changed_by_files, ready, turned}
 
 -- the register is ready, and this is what the tables know of the name: a database, or none, with which only an update begins
-abbrev pub BeginsWith : Kind → List ℕ → Option Database → Conditions → Trees → Holdings → Type 0
-BeginsWith kind name None c trees before = (bases : List Base) × (ready c before ≡ Ok bases) × (base_named name bases ≡ None) × (kind ≡ Update)
-BeginsWith kind name (Some found) c trees before =
+abbrev pub MayBeginUnder : Kind → List ℕ → Option Database → Conditions → Trees → Holdings → Type 0
+MayBeginUnder kind name None c trees before = (bases : List Base) × (ready c before ≡ Ok bases) × (base_named name bases ≡ None) × (kind ≡ Update)
+MayBeginUnder kind name (Some found) c trees before =
     (bases : List Base) × (base : Base) × (ready c before ≡ Ok bases) × (base_named name bases ≡ Some base) × HasDatabase trees found.id.0 base.name (pos base.last) × (found.last ≡ base.last)
 
 -- the same under what a change works under
 abbrev pub MayBegin : List ℕ → Setting → List ℕ → Option Database → Trees → Holdings → Type 0
-MayBegin version setting name found = BeginsWith setting.kind name found (conditions_of version setting)
+MayBegin version setting name found = MayBeginUnder setting.kind name found (conditions_of version setting)
 
 -- what a change by these files comes to
 abbrev pub comes_to : List ℕ → Setting → List ℕ → List (List ℕ) → Holdings → Outcome

@@ -12,10 +12,11 @@ use Rattle.zeb_change.specs.Conditions.{Conditions, conditions}
 use Rattle.zeb_image.specs.Holdings.{Holdings}
 use Rattle.zeb_engine.specs.Adopting.{StaysOpen}
 use Rattle.zeb_engine.specs.declared.replies.Reply.{Reply}
-use Rattle.zeb_engine.specs.Causes.{HasStoreCause}
-use Rattle.zeb_engine.specs.Crashes.{Commits}
+use Rattle.zeb_engine.specs.PrivateCauses.{HasStoreCause}
+use Rattle.zeb_engine.specs.PrivateCrashes.{Commits}
 use Rattle.zeb_engine.specs.Steps.{Outcome}
-use Rattle.zeb_engine.specs.Works.{Always, Serves}
+use Rattle.zeb_engine.specs.Works.{Always}
+use Rattle.zeb_engine.specs.PrivateWorks.{Serves}
 
 -- nothing changes
 abbrev pub LeavesAsIs : {S : Type 0} → Ghosts S → Held S → Held S → Type 0

@@ -1,4 +1,5 @@
--- Steps of private functions, which no public clause speaks of: the records of one database, read one after the other.
+-- What only the contracts of private functions speak of; no public clause reaches it.
+-- The kept records of one database, as they are read one after the other.
 use Rattle.std.specs.Prelude.{◌≡◌, ◌↔◌, ◌≤◌, ℕ, ℤ, pos, List, IsUtf8}
 use Rattle.std.specs.List.{Contains}
 use Rattle.std.specs.List.Sorted.{IsStrictlySortedBy}

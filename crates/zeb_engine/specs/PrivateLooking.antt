@@ -1,5 +1,5 @@
 -- What only the contracts of private functions speak of; no public clause reaches it.
--- A look at texts of a store, before a command makes the registers anew.
+-- Looks at the texts of a store, and for one of its databases: what each finds, and over which tables it is refused.
 use Rattle.std.specs.Prelude.{◌≡◌, ◌≢◌, ◌⊎◌, ◌↔◌, ℕ, Bool, List, MatchResult, Option, Some, None, Result, OnOk, IfErr, IsTrue, codes}
 use Rattle.sqlite.specs.Tree.{Trees}
 use Rattle.sqlite.specs.State.{State}

@@ -60,9 +60,9 @@ abbrev pub IsUpgradable : List ℕ → List Directive → Conditions → Holding
 IsUpgradable version profile c before = AreUnder version profile c × ((bases : List Base) × (upgradable c before ≡ Ok bases))
 
 -- what a write answers whose work inside its transaction came to this
-abbrev pub answered : Result (Unit {0}) RegFault → Result Reply Refusal
-answered (Ok x) = Ok Done
-answered (Err fault) = Err (register_refusal fault)
+abbrev pub reply_of_work : Result (Unit {0}) RegFault → Result Reply Refusal
+reply_of_work (Ok x) = Ok Done
+reply_of_work (Err fault) = Err (register_refusal fault)
 
 abbrev pub written : Conditions → Write → Holdings → Outcome
 written c (write.Init profile pattern) = initialised c

@@ -9,7 +9,7 @@ use Rattle.zeb_register.specs.declared.registers.Work.{Work}
 use Rattle.zeb_register.specs.Content.{Content, Posting}
 use Rattle.zeb_register.specs.Formats.{Format, holds_in}
 use Rattle.zeb_register.specs.Store.{HasDatabase, IsStore}
-use Rattle.zeb_search.specs.Counted.{Counts}
+use Rattle.zeb_search.specs.SearchCounts.{CountsAtMost}
 use Rattle.zeb_search.specs.DictRows.{PlanDict}
 use Rattle.zeb_search.specs.ListRows.{PlanRows}
 use Rattle.zeb_image.specs.NameOf.{name_bytes}
@@ -24,20 +24,20 @@ use Rattle.zeb_engine.specs.Costs.{no_work}
 abbrev pub ScanReads : Format → ℕ → ℕ → ℕ → State → Work → Work → Type 0
 ScanReads format row_work number position s before after =
     IsStore s → (content : Content) → holds_in format s.now.trees content → 1 ≤ position → position ≤ number
-    → Counts (row_work * (number + 1)) 0 before after
+    → CountsAtMost (row_work * (number + 1)) 0 before after
 
 -- the text spells a query that has this plan
 abbrev pub IsPlanOf : List Directive → List ℕ → PlanValue → Type 0
 IsPlanOf profile text plan = (query : QueryValue) × SpellsQuery text query × (plan_of profile query ≡ Ok plan)
 
--- Over the plan of a query no row is written. Read are, of `dict`, no more rows than the searched registers have distinct terms, once for each
--- pattern with a star and for each term of the query that asks for entries which it doesn't name; and of `blocks` no more than the lists have
--- of the entries that it asks for. This is said of the database of the name.
+-- Over the plan of a query no row is written. Read are, of `dict`, no more rows than the searched registers have distinct terms, once for
+-- each pattern with a star and for each term of the query that asks for entries which it doesn't name; and of `blocks` no more than the
+-- lists have of the entries that it asks for. This is said of the database of the name.
 abbrev pub PlanReads : (row_work : ℕ) → (block_rows : List Posting → ℕ) → PlanValue → List ℕ → Trees → Content → Work → Work → Type 0
 PlanReads row_work block_rows plan name trees content before after =
     (id : ℤ) × (last : ℤ) × HasDatabase trees id name last
     × (most_terms : ℕ) × (most_blocks : ℕ) × PlanDict row_work content id plan most_terms × PlanRows block_rows content id plan most_blocks
-    × Counts most_terms most_blocks before after
+    × CountsAtMost most_terms most_blocks before after
 
 -- so the query is answered, on the tables of a store that hold a content
 abbrev pub FindReads : Format → (row_work : ℕ) → (block_rows : List Posting → ℕ) → List Directive → (name text : List ℕ) → State → Work → Work → Type 0

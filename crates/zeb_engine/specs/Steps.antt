@@ -39,14 +39,6 @@ ready c (under version text bases) =
 abbrev pub no_database : List ℕ → Why
 no_database name = diagnostic 235 0 name
 
--- the database of this name
-abbrev pub found_or : List ℕ → Option Base → Result Base Why
-found_or name (Some base) = Ok base
-found_or name None = Err (no_database name)
-
-abbrev pub existing : List ℕ → List Base → Result Base Why
-existing name bases = found_or name (base_named name bases)
-
 -- what is held under these conditions, with these databases
 abbrev pub holding : Conditions → List Base → Holdings
 holding c bases = under c.version (canonical_text c.profile) bases
@@ -240,13 +232,14 @@ OnlyAsks (Analyse files) = Unit {0}
 
 -- ---- a list of commands
 
--- `Told` is what a command may answer on what is held, and what is held then: it is that, or the store or the memory failed and nothing changes
-abbrev pub Answered : (Told : Holdings → Answer → Holdings → Type 0) → Holdings → Answer → Holdings → Type 0
-Answered Told before answer later = Told before answer later ⊎ (IsFailure answer × (later ≡ before))
+-- `Told` is what a command may answer on what is held, and what is held then: it is that, or the store or the memory failed and nothing
+-- changes
+abbrev pub TellsOrFails : (Told : Holdings → Answer → Holdings → Type 0) → Holdings → Answer → Holdings → Type 0
+TellsOrFails Told before answer later = Told before answer later ⊎ (IsFailure answer × (later ≡ before))
 
 -- one answer for each command, on what the one before it left
 abbrev pub Run : Conditions → Holdings → List Command → List Answer → Holdings → Type 0
 Run c before [] [] last = last ≡ before
-Run c before (command ∷ commands) (answer ∷ answers) last = (later : Holdings) × Answered (Step c command) before answer later × Run c later commands answers last
+Run c before (command ∷ commands) (answer ∷ answers) last = (later : Holdings) × TellsOrFails (Step c command) before answer later × Run c later commands answers last
 Run c before [] (answer ∷ answers) last = ⊥
 Run c before (command ∷ commands) [] last = ⊥

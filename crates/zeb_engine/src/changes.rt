@@ -1,28 +1,32 @@
 //! Updates and deletes: the records of files are folded into a database in one transaction.
 
-ghost use Rattle.std.specs.Prelude.{◌≡◌, ◌≢◌, ℕ, List, map, Some, Ok, Err, OnOk, false, IsTrue};
+ghost use Rattle.std.specs.Prelude.{◌≡◌, ◌≢◌, ◌⊎◌, ℕ, List, map, Some, Ok, Err, OnOk, IfErr, false, IsTrue};
 ghost use Rattle.sqlite.specs.Held.{state};
 ghost use Rattle.sqlite.specs.State.{HasCleanDisk, Survives};
 ghost use Rattle.zeb_register.specs.Formats.{version_of};
 ghost use Rattle.zeb_register.specs.Calls.{MayRefuse};
+ghost use Rattle.zeb_register.specs.Clauses.{InStore, OnStore};
 ghost use Rattle.zeb_register.specs.Store.{IsStore};
-ghost use Rattle.zeb_engine.specs.PrivateChanging.{BeginsWith, MayBegin, comes_to, last_of};
+ghost use Rattle.zeb_engine.specs.PrivateChanging.{MayBeginUnder, MayBegin, comes_to, last_of};
 ghost use Rattle.zeb_change.specs.Conditions.{Conditions};
+ghost use Rattle.zeb_engine.specs.Answers.{IsFailure, refused};
+ghost use Rattle.zeb_engine.specs.AnyTables.{ElderOver};
 ghost use Rattle.zeb_engine.specs.Causes.{ChangesInRoom, HasRoomToChange};
-ghost use Rattle.zeb_engine.specs.Crashes.{Commits};
+ghost use Rattle.zeb_engine.specs.PrivateCrashes.{Commits};
 ghost use Rattle.zeb_change.specs.Base.{Base};
 ghost use Rattle.zeb_image.specs.Holdings.{Holdings, base_named};
 ghost use Rattle.zeb_engine.specs.Costs.{Costs};
 ghost use Rattle.zeb_image.specs.Image.{IsImage, Keeps};
 ghost use Rattle.zeb_image.specs.NameOf.{name_bytes};
-ghost use Rattle.zeb_change.specs.Refused.{NeverUnready, Meets};
+ghost use Rattle.zeb_change.specs.Refused.{NeverUnready, Meets, why_of};
 ghost use Rattle.zeb_change.specs.Reading.{HasFailedAt, NoneFailed, NoReadFault};
 ghost use Rattle.zeb_engine.specs.Steps.{ready, start_of};
 ghost use Rattle.zeb_engine.specs.Transactions.{Commanded};
-ghost use Rattle.zeb_change.specs.Inside.{Stays};
+ghost use Rattle.zeb_change.specs.Inside.{StaysInside};
 ghost use Rattle.zeb_change.specs.UnderWay.{conditions_of};
-ghost use Rattle.zeb_engine.specs.Works.{IsReady, Serves, Works};
-ghost use Rattle.zeb_engine.specs.PrivateConnections.{CommitsNothing, FailsForCause, LeavesAsIs};
+ghost use Rattle.zeb_engine.specs.PrivateWorks.{IsReady, Serves, ReachesOutcome};
+ghost use Rattle.zeb_engine.specs.PrivateConnections.{CommitsNothing, FailsForCause, FindsOpen, LeavesAsIs};
+ghost use Rattle.zeb_engine.specs.PrivateLooking.{MissesDatabase};
 
 use crate::readiness::existing_database;
 use crate::replies::Reply;
@@ -70,11 +74,11 @@ fn apply<S: Alter, L: Layout, R: Source>(
 ) -> Result<Reply, Refusal>
     ensures same { tx.new.conn.ghost_name ≡ tx.old.conn.ghost_name }
     ensures stays { HasCleanDisk (state S.Store tx.new.conn.now) → IsTrue (state S.Store tx.old.conn.now).in_transaction
-        → Stays (state S.Store tx.old.conn.now) (state S.Store tx.new.conn.now) result }
+        → StaysInside (state S.Store tx.old.conn.now) (state S.Store tx.new.conn.now) result }
     ensures works { HasCleanDisk (state S.Store tx.new.conn.now) → IsTrue (state S.Store tx.old.conn.now).in_transaction
         → IsTrue (state S.Store tx.old.conn.now).is_open
         → (texts : List (List ℕ)) → map R.remaining readers.old ≡ map Some texts → NoneFailed R.has_failed readers.new
-        → Works (MayBegin (version_of L.format) change.now.setting (name_bytes change.now.name.now) change.now.found)
+        → ReachesOutcome (MayBegin (version_of L.format) change.now.setting (name_bytes change.now.name.now) change.now.found)
         (comes_to (version_of L.format) change.now.setting (name_bytes change.now.name.now) texts)
         (state S.Store tx.old.conn.now) (state S.Store tx.new.conn.now) result }
     ensures honest { HasCleanDisk (state S.Store tx.new.conn.now) → IsTrue (state S.Store tx.old.conn.now).in_transaction
@@ -90,7 +94,8 @@ fn apply<S: Alter, L: Layout, R: Source>(
     ensures work { HasCleanDisk (state S.Store tx.new.conn.now) → IsTrue (state S.Store tx.old.conn.now).in_transaction
         → (texts : List (List ℕ)) → map R.remaining readers.old ≡ map Some texts
         → OnOk result ((before : Holdings)
-        → MayBegin (version_of L.format) change.now.setting (name_bytes change.now.name.now) change.now.found (state S.Store tx.old.conn.now).now.trees before
+        → MayBegin (version_of L.format) change.now.setting (name_bytes change.now.name.now) change.now.found
+        (state S.Store tx.old.conn.now).now.trees before
         → IsStore (state S.Store tx.old.conn.now) → IsImage (state S.Store tx.old.conn.now).now.trees before
         → Costs L.row_work (conditions_of (version_of L.format) change.now.setting) change.now.setting.kind
         (name_bytes change.now.name.now) texts work.old work.new before) }
@@ -102,6 +107,9 @@ fn apply<S: Alter, L: Layout, R: Source>(
         → IsStore (state S.Store tx.old.conn.now) → IsImage (state S.Store tx.old.conn.now).now.trees before
         → HasRoomToChange L.format change.now.setting.profile.now change.now.setting.kind texts (state S.Store tx.old.conn.now).now.trees
         → result ≡ Err Refusal.Store → MayRefuse (state S.Store tx.old.conn.now) (state S.Store tx.new.conn.now) }
+    ensures elder { InStore (state S.Store tx.old.conn.now) (state S.Store tx.new.conn.now) (λ trees. (texts : List (List ℕ))
+        → map R.remaining readers.old ≡ map Some texts → NoneFailed R.has_failed readers.new
+        → ElderOver change.now.setting.profile.now (name_bytes change.now.name.now) texts trees result) }
 {
     // Its profile is some text's.
     change.setting.profile.is_of_some_text();
@@ -155,7 +163,8 @@ fn transact<S: Alter, L: Layout, R: Source>(
     ensures work { HasCleanDisk (state S.Store connection.new) → IsTrue (state S.Store connection.old).is_open
         → (texts : List (List ℕ)) → map R.remaining readers.old ≡ map Some texts
         → OnOk result ((before : Holdings)
-        → MayBegin (version_of L.format) change.now.setting (name_bytes change.now.name.now) change.now.found (state S.Store connection.old).now.trees before
+        → MayBegin (version_of L.format) change.now.setting (name_bytes change.now.name.now) change.now.found
+        (state S.Store connection.old).now.trees before
         → Keeps (state S.Store connection.old) before
         → Costs L.row_work (conditions_of (version_of L.format) change.now.setting) change.now.setting.kind
         (name_bytes change.now.name.now) texts work.old work.new before) }
@@ -165,6 +174,9 @@ fn transact<S: Alter, L: Layout, R: Source>(
         → ChangesInRoom L.format change.now.setting.profile.now change.now.setting.kind texts
         (MayBegin (version_of L.format) change.now.setting (name_bytes change.now.name.now) change.now.found)
         (state S.Store connection.old) (state S.Store connection.new) result }
+    ensures elder { OnStore (state S.Store connection.old) (state S.Store connection.new) (λ trees. (texts : List (List ℕ))
+        → map R.remaining readers.old ≡ map Some texts → NoneFailed R.has_failed readers.new
+        → ElderOver change.now.setting.profile.now (name_bytes change.now.name.now) texts trees result) }
 {
     let _settled = connection.is_autocommit();
     let mut tx = connection.transaction();
@@ -184,13 +196,16 @@ fn found_for<S: Alter, L: Layout>(
     ensures same { LeavesAsIs S.Store connection.old connection.new }
     ensures begins { HasCleanDisk (state S.Store connection.new) → IsTrue (state S.Store connection.old).is_open
         → (c : Conditions) (before : Holdings) (bases : List Base) → ready c before ≡ Ok bases → Keeps (state S.Store connection.old) before
-        → Meets (λ base found. BeginsWith setting.now.kind (name_bytes name.now) found c (state S.Store connection.old).now.trees before
+        → Meets (λ base found. MayBeginUnder setting.now.kind (name_bytes name.now) found c (state S.Store connection.old).now.trees before
         × IsTrue (state S.Store connection.new).is_open)
         (start_of setting.now.kind (name_bytes name.now) (base_named (name_bytes name.now) bases)) result }
     ensures unread { NoReadFault result }
     ensures ready { NeverUnready result }
     ensures crash { CommitsNothing S.Store connection.old connection.new }
     ensures caused { FailsForCause S.Store connection.old connection.new result }
+    ensures found { FindsOpen S.Store connection.old connection.new result }
+    ensures misses { OnStore (state S.Store connection.old) (state S.Store connection.new) (λ trees.
+        IfErr result (λ refusal. IsFailure (refused (why_of refusal)) ⊎ MissesDatabase trees (name_bytes name.now) refusal)) }
 {
     match setting.kind {
         Kind::Update => Ok(database_of(connection, name.as_str())?),
@@ -244,6 +259,9 @@ pub(crate) fn change_database<S: Alter, L: Layout, R: Source>(
         → ChangesInRoom L.format setting.entry.profile.now setting.entry.kind texts
         (IsReady (conditions_of (version_of L.format) setting.entry))
         (state S.Store connection.old) (state S.Store connection.new) result }
+    ensures elder { OnStore (state S.Store connection.old) (state S.Store connection.new) (λ trees. (texts : List (List ℕ))
+        → map R.remaining readers.old ≡ map Some texts → NoneFailed R.has_failed readers.new
+        → ElderOver setting.entry.profile.now (name_bytes name.now) texts trees result) }
 {
     let found = found_for::<S, L>(connection, &setting, name)?;
     let mut buffer = RecordBuf::new(setting.alloc)?;

@@ -22,7 +22,7 @@ ghost use Rattle.zeb_image.specs.Image.{Keeps};
 ghost use Rattle.zeb_image.specs.NameOf.{name_bytes};
 ghost use Rattle.zeb_change.specs.Reading.{NoReadFault};
 ghost use Rattle.zeb_engine.specs.Steps.{ready, AskedAmong, FindAnswers};
-ghost use Rattle.zeb_engine.specs.Works.{ShowsStore};
+ghost use Rattle.zeb_engine.specs.PrivateWorks.{ShowsStore};
 ghost use Rattle.zeb_engine.specs.PrivateConnections.{CommitsNothing, FailsForCause, FindsOpen, LeavesAsIs, LeavesOpen};
 
 use crate::readiness::existing_database;

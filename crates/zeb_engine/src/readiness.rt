@@ -16,7 +16,8 @@ ghost use Rattle.zeb_image.specs.NameOf.{name_bytes};
 ghost use Rattle.zeb_engine.specs.PrivateLooking.{IsUnready, MissesDatabase};
 ghost use Rattle.zeb_engine.specs.Readiness.{IsReadyFor, TellsReady};
 ghost use Rattle.zeb_change.specs.Reading.{NoReadFault};
-ghost use Rattle.zeb_engine.specs.Steps.{ready, existing};
+ghost use Rattle.zeb_engine.specs.Steps.{ready};
+ghost use Rattle.zeb_engine.specs.PrivateSteps.{existing};
 ghost use Rattle.zeb_engine.specs.PrivateConnections.{CommitsNothing, FailsForCause, FindsOpen, LeavesAsIs};
 
 use sqlite::{Alter, Connection};

@@ -9,7 +9,7 @@ ghost use Rattle.zeb_engine.specs.Costs.{CommandCosts, no_work};
 ghost use Rattle.zeb_engine.specs.Reads.{CommandReads};
 ghost use Rattle.zeb_engine.specs.Alone.{AnswersAlone};
 ghost use Rattle.zeb_engine.specs.AnyAnswers.{IsAnswerOver};
-ghost use Rattle.zeb_engine.specs.AnyTables.{AnswersTables};
+ghost use Rattle.zeb_engine.specs.AnyTables.{AnswersTables, ChangesOver};
 ghost use Rattle.zeb_engine.specs.Analysed.{AnswersAnalysis};
 ghost use Rattle.zeb_engine.specs.Answers.{IsFailure, answer_of, refused};
 ghost use Rattle.zeb_change.specs.Refused.{why_of};
@@ -195,13 +195,7 @@ impl<S: Alter, L: Layout> Session<S, L> {
             → Keeps (state S.Store self.new.connection) (holding (conditions (version_of L.format) self.old.profile self.old.limits) [])) }
         // Only a failure refuses an `init`, whatever the tables hold.
         ensures failed { command.now ≡ Command.Init → IfErr result (λ refusal. IsFailure (refused (why_of refusal))) }
-        // Of another command the texts of the store tell whether its register was ready, on any tables.
-        ensures ready { HasCleanDisk (state S.Store self.new.connection) → LooksFirst command.now
-            → GoesByTexts (version_of L.format) self.old.profile (state S.Store self.old.connection) result }
-        // A reindex goes by the texts and by the kept records, whatever the other tables hold.
-        ensures reindexes { HasCleanDisk (state S.Store self.new.connection) → command.now ≡ Command.Reindex
-            → ReindexesTables (version_of L.format) self.old.profile (state S.Store self.old.connection) result }
-        // Accepted, it leaves the lists and each text but the profile's, and registers of these lists, whatever the registers held.
+        // An accepted reindex leaves the lists and each text but the profile's, and registers of these lists, whatever the registers held.
         ensures remade { HasCleanDisk (state S.Store self.new.connection) → command.now ≡ Command.Reindex
             → OnOk result (ReindexLeaves L.format self.old.profile (state S.Store self.old.connection)
             (state S.Store self.new.connection)) }
@@ -209,32 +203,15 @@ impl<S: Alter, L: Layout> Session<S, L> {
         ensures survives_remade { command.now ≡ Command.Reindex
             → Survives (state S.Store self.old.connection) (state S.Store self.new.connection)
             (CommitsReindex L.format self.old.profile (state S.Store self.old.connection)) }
-        // A check tells of all tables whether they are an image, whatever they hold.
-        ensures checked { HasCleanDisk (state S.Store self.new.connection) → command.now ≡ Command.Check
-            → ChecksTables (version_of L.format) self.old.profile (state S.Store self.old.connection) result }
-        // So does an upgrade of those of the first version, before it changes them.
-        ensures upgrades { HasCleanDisk (state S.Store self.new.connection) → command.now ≡ Command.Upgrade
-            → UpgradesTables (version_of L.format) self.old.profile (state S.Store self.old.connection) result }
         // A register of the session's version has nothing to upgrade, whatever its other tables hold.
         ensures stays { HasCleanDisk (state S.Store self.new.connection) → command.now ≡ Command.Upgrade
             → StaysUpgraded (version_of L.format) self.old.profile (state S.Store self.old.connection)
             (state S.Store self.new.connection) result }
-        // A find, a scan and a stat are answered by the registers, on any tables that hold a content. A find of a ready register is refused
-        // by the definition, read so, or for damage in a row that it has to read, as where a hit has no record to show.
-        ensures alone { HasCleanDisk (state S.Store self.new.connection)
-            → AnswersAlone L.format self.old.profile command.now (state S.Store self.old.connection) result }
-        // On any tables, also where they hold no content, a find, a scan, a stat and a dump of a ready register are refused by the definition,
-        // as damage or by a failure. Answered, a find shows each hit that is asked for as a record that is kept under it.
-        ensures tables { HasCleanDisk (state S.Store self.new.connection)
-            → AnswersTables (version_of L.format) self.old.profile command.now (state S.Store self.old.connection) result }
         // All that is said of an answer on any tables, as the program passes it on.
         ensures over { HasCleanDisk (state S.Store self.new.connection)
             → IsAnswerOver L.format self.old.profile command.now (state S.Store self.old.connection) result }
         // An analysis is answered by its files, whatever the tables hold, and also where the connection is shut.
         ensures analysed { AnswersAnalysis self.old.profile self.old.limits.records command.now result }
-        // Damage is answered only where the tables are the image of nothing that can be held.
-        ensures honest { HasCleanDisk (state S.Store self.new.connection) → result ≡ Err Refusal.Damaged
-            → (before : Holdings) → ¬ Keeps (state S.Store self.old.connection) before }
         // A command that only asks changes nothing, whatever it answers and whatever the tables hold.
         ensures reads { HasCleanDisk (state S.Store self.new.connection) → OnlyAsks command.now
             → ChangesNothing (state S.Store self.old.connection) (state S.Store self.new.connection) }
@@ -243,8 +220,8 @@ impl<S: Alter, L: Layout> Session<S, L> {
             → CommandCosts L.row_work (conditions (version_of L.format) self.old.profile self.old.limits) command.now
             (state S.Store self.old.connection) result self.new.work }
         // An answered scan has read the terms that it was asked for, one more at most, and nothing else. An answered find has written
-        // nothing, and read no more lists than those that its query asks for. Of terms it has read no more than the searched registers have,
-        // once for each pattern with a star and for each term of the query that asks for entries which it doesn't name.
+        // nothing, and read no more lists than those that its query asks for. Of terms it has read no more than the searched registers
+        // have, once for each pattern with a star and for each term of the query that asks for entries which it doesn't name.
         ensures read_work { HasCleanDisk (state S.Store self.new.connection)
             → CommandReads L.format L.row_work L.block_rows self.old.profile command.now
             (state S.Store self.old.connection) result self.new.work }
@@ -299,7 +276,8 @@ impl<S: Alter, L: Layout> Session<S, L> {
         ensures failed { command.now ≡ Command.Init → IfErr result (λ refusal. IsFailure (refused (why_of refusal))) }
         ensures asked { HasCleanDisk (state S.Store self.new.connection)
             → AnswersAlone L.format self.old.profile command.now (state S.Store self.old.connection) result
-            × AnswersTables (version_of L.format) self.old.profile command.now (state S.Store self.old.connection) result }
+            × AnswersTables (version_of L.format) self.old.profile command.now (state S.Store self.old.connection) result
+            × ChangesOver (version_of L.format) self.old.profile command.now (state S.Store self.old.connection) result }
         ensures analysed { AnswersAnalysis self.old.profile self.old.limits.records command.now result }
         ensures reads { HasCleanDisk (state S.Store self.new.connection) → OnlyAsks command.now
             → ChangesNothing (state S.Store self.old.connection) (state S.Store self.new.connection) }

@@ -16,7 +16,7 @@ ghost use Rattle.zeb_change.specs.declared.settings.Limits.{Limits};
 ghost use Rattle.zeb_image.specs.NameOf.{name_bytes};
 ghost use Rattle.zeb_change.specs.Reading.{NoReadFault};
 ghost use Rattle.zeb_engine.specs.Steps.{CountedFrom, ready};
-ghost use Rattle.zeb_engine.specs.Works.{Asks, ShowsStore};
+ghost use Rattle.zeb_engine.specs.PrivateWorks.{Asks, ShowsStore};
 ghost use Rattle.zeb_engine.specs.PrivateConnections.{CommitsNothing, FailsForCause, FindsOpen, LeavesAsIs, LeavesOpen};
 ghost use Rattle.zeb_engine.specs.Readiness.{TellsReady};
 

@@ -3,8 +3,9 @@
 ghost use Rattle.std.specs.Prelude.{◌≡◌, ◌⊎◌, Err, false, OnOk, OnErr, IfErr, IsTrue};
 ghost use Rattle.sqlite.specs.Held.{state};
 ghost use Rattle.sqlite.specs.State.{HasCleanDisk, Survives};
-ghost use Rattle.zeb_engine.specs.Adopting.{HasOtherTables, HoldsNothing, MayBeTaken, StaysOpen};
-ghost use Rattle.zeb_engine.specs.Crashes.{CommitsTables};
+ghost use Rattle.zeb_engine.specs.Adopting.{HasOtherTables, StaysOpen};
+ghost use Rattle.zeb_engine.specs.PrivateAdopting.{HoldsNothing, MayBeTaken};
+ghost use Rattle.zeb_engine.specs.PrivateCrashes.{CommitsTables};
 ghost use Rattle.zeb_engine.specs.Transactions.{EnduresRefusal};
 ghost use Rattle.zeb_register.specs.Calls.{ChangesNothing};
 ghost use Rattle.zeb_register.specs.Sql.{KeepsTables};

@@ -13,18 +13,20 @@ ghost use Rattle.zeb_change.specs.declared.settings.Limits.{Limits};
 ghost use Rattle.zeb_engine.specs.Answers.{IsFailure, refused};
 ghost use Rattle.zeb_change.specs.Refused.{why_of, NeverUnready};
 ghost use Rattle.zeb_change.specs.Conditions.{Conditions, conditions};
-ghost use Rattle.zeb_engine.specs.Causes.{HasCauseOver, HasRoomToRenew};
+ghost use Rattle.zeb_engine.specs.Causes.{HasRoomToRenew};
+ghost use Rattle.zeb_engine.specs.PrivateCauses.{HasCauseOver};
 ghost use Rattle.zeb_engine.specs.Checking.{IsRemade, TellsSound};
-ghost use Rattle.zeb_engine.specs.Crashes.{Commits};
+ghost use Rattle.zeb_engine.specs.PrivateCrashes.{Commits};
 ghost use Rattle.zeb_image.specs.Image.{IsImage};
 ghost use Rattle.zeb_image.specs.NameOf.{name_bytes};
 ghost use Rattle.zeb_change.specs.Reading.{NoReadFault};
 ghost use Rattle.zeb_engine.specs.Steps.{holding, initialised, turned, created, dropped, reindexed, upgraded};
 ghost use Rattle.zeb_engine.specs.Transactions.{Commanded};
-ghost use Rattle.zeb_change.specs.Inside.{Stays};
-ghost use Rattle.zeb_engine.specs.Works.{IsReady, Serves, Works};
-ghost use Rattle.zeb_engine.specs.PrivateWriting.{AreOf, Begins, CommitsRemade, IsFree, IsKnown, FailsAlone, Fits, HasLargeText, HasRoomToWrite, HindersWrite};
-ghost use Rattle.zeb_engine.specs.PrivateWriting.{IsReached, IsRuled, IsUpgradable, PutsTexts, ReadsSound, Remakes, answered, written};
+ghost use Rattle.zeb_change.specs.Inside.{StaysInside};
+ghost use Rattle.zeb_engine.specs.PrivateWorks.{IsReady, Serves, ReachesOutcome};
+ghost use Rattle.zeb_engine.specs.PrivateWriting.{AreOf, Begins, CommitsRemade, IsFree, IsKnown, FailsAlone, Fits, HasLargeText};
+ghost use Rattle.zeb_engine.specs.PrivateWriting.{HasRoomToWrite, HindersWrite, IsReached, IsRuled, IsUpgradable, PutsTexts, ReadsSound};
+ghost use Rattle.zeb_engine.specs.PrivateWriting.{Remakes, reply_of_work, written};
 ghost use Rattle.zeb_engine.specs.PrivateConnections.{CommitsNothing, CommitsUnder, ServesUnder};
 
 use crate::readiness::{IDENTIFIER, PROFILE, VERSION, existing_database};
@@ -75,7 +77,7 @@ fn put_texts<S: Alter>(
     ensures put { HasCleanDisk (state S.Store tx.new.conn.now) → IsTrue (state S.Store tx.old.conn.now).in_transaction
         → IsStore (state S.Store tx.old.conn.now) → (state S.Store tx.old.conn.now).now.trees meta_tree ≡ []
         → OnOk result (PutsTexts version.now text.now pattern.now (state S.Store tx.old.conn.now) (state S.Store tx.new.conn.now)) }
-    ensures failed { IfErr (answered result) (λ refusal. IsFailure (refused (why_of refusal))) }
+    ensures failed { IfErr (reply_of_work result) (λ refusal. IsFailure (refused (why_of refusal))) }
     ensures refused { (state S.Store tx.old.conn.now).now.trees meta_tree ≡ []
         → IsHinderedInside (state S.Store tx.old.conn.now) (state S.Store tx.new.conn.now) result
         (λ _. IsTooLarge (entry (codes "version") version.now) ⊎ HasLargeText text.now pattern.now) }
@@ -95,7 +97,7 @@ fn init<S: Alter, L: Layout>(
 ) -> Result<(), RegFault>
     ensures same { tx.new.conn.ghost_name ≡ tx.old.conn.ghost_name }
     ensures stays { HasCleanDisk (state S.Store tx.new.conn.now) → IsTrue (state S.Store tx.old.conn.now).in_transaction
-        → Stays (state S.Store tx.old.conn.now) (state S.Store tx.new.conn.now) result }
+        → StaysInside (state S.Store tx.old.conn.now) (state S.Store tx.new.conn.now) result }
     ensures ok { HasCleanDisk (state S.Store tx.new.conn.now) → IsTrue (state S.Store tx.old.conn.now).in_transaction
         → OnOk result (GoesOn (state S.Store tx.old.conn.now) (state S.Store tx.new.conn.now)) }
     ensures begun { HasCleanDisk (state S.Store tx.new.conn.now) → IsTrue (state S.Store tx.old.conn.now).in_transaction
@@ -103,7 +105,7 @@ fn init<S: Alter, L: Layout>(
         → OnOk result (IsStore (state S.Store tx.new.conn.now)
         × ((c : Conditions) → AreOf (version_of L.format) profile.now pattern.now c
         → IsImage (state S.Store tx.new.conn.now).now.trees (holding c []))) }
-    ensures failed { IfErr (answered result) (λ refusal. IsFailure (refused (why_of refusal))) }
+    ensures failed { IfErr (reply_of_work result) (λ refusal. IsFailure (refused (why_of refusal))) }
     ensures refused { IsHinderedInside (state S.Store tx.old.conn.now) (state S.Store tx.new.conn.now) result
         (λ _. HasLargeText (canonical_text profile.now) pattern.now) }
     ensures crash { CommitsNothing S.Store tx.old.conn.now tx.new.conn.now }
@@ -117,11 +119,11 @@ fn init<S: Alter, L: Layout>(
 fn create<S: Alter, L: Layout>(tx: &mut Transaction<'_, S>, name: &DbName) -> Result<(), RegFault>
     ensures same { tx.new.conn.ghost_name ≡ tx.old.conn.ghost_name }
     ensures stays { HasCleanDisk (state S.Store tx.new.conn.now) → IsTrue (state S.Store tx.old.conn.now).in_transaction
-        → Stays (state S.Store tx.old.conn.now) (state S.Store tx.new.conn.now) result }
+        → StaysInside (state S.Store tx.old.conn.now) (state S.Store tx.new.conn.now) result }
     ensures works { HasCleanDisk (state S.Store tx.new.conn.now) → IsTrue (state S.Store tx.old.conn.now).in_transaction
         → IsTrue (state S.Store tx.old.conn.now).is_open → (c : Conditions)
-        → Works (IsFree (name_bytes name.now) c) (turned c (created (name_bytes name.now))) (state S.Store tx.old.conn.now)
-        (state S.Store tx.new.conn.now) (answered result) }
+        → ReachesOutcome (IsFree (name_bytes name.now) c) (turned c (created (name_bytes name.now))) (state S.Store tx.old.conn.now)
+        (state S.Store tx.new.conn.now) (reply_of_work result) }
     ensures refused { IsHinderedInside (state S.Store tx.old.conn.now) (state S.Store tx.new.conn.now) result
         (LacksRowids 1 databases_tree) }
     ensures crash { CommitsNothing S.Store tx.old.conn.now tx.new.conn.now }
@@ -138,11 +140,11 @@ fn take<S: Alter, L: Layout>(
 ) -> Result<(), RegFault>
     ensures same { tx.new.conn.ghost_name ≡ tx.old.conn.ghost_name }
     ensures stays { HasCleanDisk (state S.Store tx.new.conn.now) → IsTrue (state S.Store tx.old.conn.now).in_transaction
-        → Stays (state S.Store tx.old.conn.now) (state S.Store tx.new.conn.now) result }
+        → StaysInside (state S.Store tx.old.conn.now) (state S.Store tx.new.conn.now) result }
     ensures works { HasCleanDisk (state S.Store tx.new.conn.now) → IsTrue (state S.Store tx.old.conn.now).in_transaction → (c : Conditions)
-        → Works (λ trees before. (c.version ≡ version_of L.format)
+        → ReachesOutcome (λ trees before. (c.version ≡ version_of L.format)
         × IsKnown (name_bytes name.now) id.0 c trees before) (turned c (dropped (name_bytes name.now))) (state S.Store tx.old.conn.now)
-        (state S.Store tx.new.conn.now) (answered result) }
+        (state S.Store tx.new.conn.now) (reply_of_work result) }
     ensures refused { IsReasonedInside (state S.Store tx.old.conn.now) (state S.Store tx.new.conn.now) result }
     ensures crash { CommitsNothing S.Store tx.old.conn.now tx.new.conn.now }
 {
@@ -162,14 +164,14 @@ fn reindex<S: Alter, L: Layout>(
         × IsRemade L.format profile.now (state S.Store tx.old.conn.now).now.trees (state S.Store tx.new.conn.now).now.trees) }
     ensures sound { HasCleanDisk (state S.Store tx.new.conn.now) → IsTrue (state S.Store tx.old.conn.now).in_transaction
         → IsStore (state S.Store tx.old.conn.now) → TellsSound profile.now (state S.Store tx.old.conn.now).now.trees
-        (answered result) }
+        (reply_of_work result) }
     ensures works { HasCleanDisk (state S.Store tx.new.conn.now) → IsTrue (state S.Store tx.old.conn.now).in_transaction
         → IsTrue (state S.Store tx.old.conn.now).is_open → (c : Conditions)
-        → Works (λ _ before. IsRuled (version_of L.format) profile.now c before) (reindexed c) (state S.Store tx.old.conn.now)
-        (state S.Store tx.new.conn.now) (answered result) }
+        → ReachesOutcome (λ _ before. IsRuled (version_of L.format) profile.now c before) (reindexed c) (state S.Store tx.old.conn.now)
+        (state S.Store tx.new.conn.now) (reply_of_work result) }
     ensures same { tx.new.conn.ghost_name ≡ tx.old.conn.ghost_name }
     ensures stays { HasCleanDisk (state S.Store tx.new.conn.now) → IsTrue (state S.Store tx.old.conn.now).in_transaction
-        → Stays (state S.Store tx.old.conn.now) (state S.Store tx.new.conn.now) result }
+        → StaysInside (state S.Store tx.old.conn.now) (state S.Store tx.new.conn.now) result }
     ensures crash { CommitsNothing S.Store tx.old.conn.now tx.new.conn.now }
     ensures room { ¬ IsTooLarge (entry (codes "profile") (canonical_text profile.now))
         → InStore (state S.Store tx.old.conn.now) (state S.Store tx.new.conn.now) (λ trees. HasRoomToRenew profile.now trees
@@ -188,12 +190,12 @@ fn upgrade<S: Alter, L: Layout>(
 ) -> Result<(), RegFault>
     ensures works { HasCleanDisk (state S.Store tx.new.conn.now) → IsTrue (state S.Store tx.old.conn.now).in_transaction
         → IsTrue (state S.Store tx.old.conn.now).is_open → (c : Conditions)
-        → Works (λ _ before. IsUpgradable (version_of L.format) profile.now c before) (upgraded c) (state S.Store tx.old.conn.now)
-        (state S.Store tx.new.conn.now) (answered result) }
+        → ReachesOutcome (λ _ before. IsUpgradable (version_of L.format) profile.now c before) (upgraded c) (state S.Store tx.old.conn.now)
+        (state S.Store tx.new.conn.now) (reply_of_work result) }
     ensures crash { CommitsNothing S.Store tx.old.conn.now tx.new.conn.now }
     ensures same { tx.new.conn.ghost_name ≡ tx.old.conn.ghost_name }
     ensures stays { HasCleanDisk (state S.Store tx.new.conn.now) → IsTrue (state S.Store tx.old.conn.now).in_transaction
-        → Stays (state S.Store tx.old.conn.now) (state S.Store tx.new.conn.now) result }
+        → StaysInside (state S.Store tx.old.conn.now) (state S.Store tx.new.conn.now) result }
     ensures room { InStore (state S.Store tx.old.conn.now) (state S.Store tx.new.conn.now) (λ trees. HasRoomToRenew profile.now trees
         → result ≡ Err RegFault.Store → MayRefuse (state S.Store tx.old.conn.now) (state S.Store tx.new.conn.now)) }
 {
@@ -208,18 +210,18 @@ fn apply<S: Alter, L: Layout>(
 ) -> Result<(), RegFault>
     ensures same { tx.new.conn.ghost_name ≡ tx.old.conn.ghost_name }
     ensures stays { HasCleanDisk (state S.Store tx.new.conn.now) → IsTrue (state S.Store tx.old.conn.now).in_transaction
-        → Stays (state S.Store tx.old.conn.now) (state S.Store tx.new.conn.now) result }
+        → StaysInside (state S.Store tx.old.conn.now) (state S.Store tx.new.conn.now) result }
     ensures works { HasCleanDisk (state S.Store tx.new.conn.now) → IsTrue (state S.Store tx.old.conn.now).in_transaction
         → (c : Conditions) → IsReached write.now (state S.Store tx.old.conn.now)
-        → Works (Fits (version_of L.format) c write.now) (written c write.now) (state S.Store tx.old.conn.now)
-        (state S.Store tx.new.conn.now) (answered result) }
+        → ReachesOutcome (Fits (version_of L.format) c write.now) (written c write.now) (state S.Store tx.old.conn.now)
+        (state S.Store tx.new.conn.now) (reply_of_work result) }
     ensures begun { HasCleanDisk (state S.Store tx.new.conn.now) → IsTrue (state S.Store tx.old.conn.now).in_transaction
         → OnOk result (Begins (version_of L.format) write.now (state S.Store tx.old.conn.now) (state S.Store tx.new.conn.now)) }
-    ensures failed { FailsAlone write.now (answered result) }
+    ensures failed { FailsAlone write.now (reply_of_work result) }
     ensures refused { IsHinderedInside (state S.Store tx.old.conn.now) (state S.Store tx.new.conn.now) result (HindersWrite write.now) }
     ensures crash { CommitsNothing S.Store tx.old.conn.now tx.new.conn.now }
     ensures sound { HasCleanDisk (state S.Store tx.new.conn.now) → IsTrue (state S.Store tx.old.conn.now).in_transaction
-        → ReadsSound write.now (state S.Store tx.old.conn.now) (answered result) }
+        → ReadsSound write.now (state S.Store tx.old.conn.now) (reply_of_work result) }
     ensures remade { HasCleanDisk (state S.Store tx.new.conn.now) → IsTrue (state S.Store tx.old.conn.now).in_transaction
         → OnOk result (Remakes L.format write.now (state S.Store tx.old.conn.now) (state S.Store tx.new.conn.now)) }
     ensures room { InStore (state S.Store tx.old.conn.now) (state S.Store tx.new.conn.now) (λ trees. HasRoomToWrite write.now trees

@@ -18,7 +18,7 @@ use Rattle.zeb_text.specs.Numbers.{numerals_of, number_key}
 use Rattle.zeb_keys.specs.declared.keys.Occurrence.{Occurrence}
 use Rattle.zeb_extract.specs.Occurrences.{IsOccurrence}
 use Rattle.zeb_extract.specs.Identifier.{identifier_of}
-use Rattle.zeb_extract.specs.Listing.{listing}
+use Rattle.zeb_extract.specs.PrivateListing.{listing}
 use Rattle.zeb_keys.specs.Order.{IsRising}
 use Rattle.zeb_extract.specs.Sample.{moby_dick, moby_dick_analysis, title_profile, date_at}
 use Rattle.zeb_extract.proofs.Listed.{occurrences_are_listed}

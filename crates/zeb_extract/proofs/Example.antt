@@ -10,7 +10,7 @@ use Rattle.zeb_text.specs.Words.{runs_of}
 use Rattle.zeb_text.specs.Numbers.{numerals_of, number_key}
 use Rattle.zeb_keys.specs.declared.keys.Occurrence.{Occurrence}
 use Rattle.zeb_extract.specs.Occurrences.{IsOccurrence}
-use Rattle.zeb_extract.specs.Listing.{listing}
+use Rattle.zeb_extract.specs.PrivateListing.{listing}
 use Rattle.zeb_extract.proofs.Listed.{occurrences_are_listed}
 use Rattle.zeb_keys.proofs.Members.{first_member, only_member}
 use Rattle.zeb_extract.specs.Sample.{moby_dick, date_profile, date_at}

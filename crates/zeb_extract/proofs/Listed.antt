@@ -8,7 +8,7 @@ use Rattle.zeb_marc.specs.Contents.{UnitText}
 use Rattle.zeb_keys.specs.declared.registers.Register.{Register}
 use Rattle.zeb_keys.specs.declared.keys.Occurrence.{Occurrence}
 use Rattle.zeb_extract.specs.Occurrences.{Targets, joined, terms_of, text_of, IsOccurrence}
-use Rattle.zeb_extract.specs.Listing.{occurrence_at, listed, listed_in, unit_listing, listing}
+use Rattle.zeb_extract.specs.PrivateListing.{occurrence_at, numbered_terms, listed_in, unit_listing, listing}
 use Rattle.zeb_extract.proofs.Members.{Contains-map, from_map, Contains-flat_map, from_flat_map}
 
 module _ (targets : Targets) (units : List UnitText) where
@@ -16,8 +16,8 @@ module _ (targets : Targets) (units : List UnitText) where
   listed_occurrence o is =
       let target : ℕ × Register = (o.key.index, o.key.register) in
       let terms = terms_of o.key.register (text_of is.unit.text) in
-      let here : Contains (listed target is.unit.seq terms) o =
-      subst (λ n. Contains (listed target n terms) o) is.same_seq
+      let here : Contains (numbered_terms target is.unit.seq terms) o =
+      subst (λ n. Contains (numbered_terms target n terms) o) is.same_seq
       (Contains-map (occurrence_at target o.seq) (enumerate_from 1 terms) (o.pos, o.key.term) is.in_unit) in
       let in_targets : Contains (unit_listing targets is.unit) o =
       Contains-flat_map (listed_in is.unit) (targets is.unit.tag is.unit.code) target o is.in_target here in
@@ -43,12 +43,12 @@ enumerate_push n (t ∷ ts) term =
     ap (λ l. (n, t) ∷ l) (enumerate_push (n + 1) ts term ∙ ap (λ k. enumerate_from (n + 1) ts ++ (k, term) ∷ []) e)
 
 pub listed_push : (target : ℕ × Register) (seq pos : ℕ) (terms : List (List ℕ)) (term : List ℕ) → pos ≡ length terms
-    → listed target seq (terms ++ term ∷ []) ≡ listed target seq terms ++ occurrence_at target seq (pos + 1, term) ∷ []
+    → numbered_terms target seq (terms ++ term ∷ []) ≡ numbered_terms target seq terms ++ occurrence_at target seq (pos + 1, term) ∷ []
 listed_push target seq pos terms term count =
     let e : 1 + length terms ≡ pos + 1 = omega arith in
     ap (map (occurrence_at target seq)) (enumerate_push 1 terms term)
     ∙ map-append (occurrence_at target seq) (enumerate_from 1 terms) ((1 + length terms, term) ∷ [])
-    ∙ ap (λ k. listed target seq terms ++ occurrence_at target seq (k, term) ∷ []) e
+    ∙ ap (λ k. numbered_terms target seq terms ++ occurrence_at target seq (k, term) ∷ []) e
 
 -- a list that has grown by `more`, and then by one element
 pub grown_by_one : {X : Type 0} (old found new more all : List X) (x : X) → found ≡ old ++ more → new ≡ found ++ x ∷ [] → all ≡ more ++ x ∷ [] → new ≡ old ++ all

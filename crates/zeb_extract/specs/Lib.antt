@@ -2,5 +2,5 @@ pub mod Identifier
 pub mod Stripped
 pub mod Names
 pub mod Occurrences
-pub mod Listing
+pub mod PrivateListing
 pub mod Sample

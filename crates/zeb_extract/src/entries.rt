@@ -7,7 +7,7 @@ ghost use Rattle.zeb_marc.specs.Units.{unit_text};
 ghost use Rattle.zeb_profile.specs.Indexes.{unit_targets};
 ghost use Rattle.zeb_text.specs.Numbers.{numbers_of, number_key};
 ghost use Rattle.zeb_keys.specs.declared.keys.Occurrence.{Occurrence};
-ghost use Rattle.zeb_extract.specs.Listing.{listed, unit_listing};
+ghost use Rattle.zeb_extract.specs.PrivateListing.{numbered_terms, unit_listing};
 ghost use Rattle.zeb_extract.specs.Occurrences.{IsOccurrence, joined, terms_of, word_terms};
 ghost use Rattle.zeb_keys.specs.Order.{IsRising, TellsApart};
 
@@ -133,7 +133,7 @@ fn add_terms(
     seq: u64,
     terms: Vec<Term>,
 ) -> Result<(), AllocError>
-    ensures { OnOk result (found.new.items ≡ found.old.items ++ listed (index, register) seq terms.items) }
+    ensures { OnOk result (found.new.items ≡ found.old.items ++ numbered_terms (index, register) seq terms.items) }
 {
     let mut pos = 0;
     for term in terms {

@@ -1,10 +1,10 @@
 -- Postings under their keys, put in order: by key, system number, unit and place.
-use Rattle.std.proofs.Common.{◌≡◌, ◌↔◌, ◌∙◌, ◌&&◌, Bool, true, false, List, [], refl, sym, ap, subst, Ordering, Less, Equal, Greater, nat_eq}
+use Rattle.std.proofs.Common.{◌≡◌, ◌↔◌, ◌∙◌, ◌&&◌, Bool, true, false, List, [], refl, sym, ap, subst, Equal, nat_eq}
 use Rattle.std.specs.Bool.{Decides}
 use Rattle.std.specs.Cmp.{IsTotalOrder, Equal-is, on_total, then_total}
 use Rattle.std.specs.List.Retain.{IsFiltered, DiffersFromLast}
 use Rattle.std.specs.List.Sorted.{IsPermutation, IsSorted, IsStrictlySortedBy}
-use Rattle.std.specs.Ordering.{eq_by_cmp, is_eq, ordering_then}
+use Rattle.std.specs.Ordering.{eq_by_cmp, is_eq}
 use Rattle.std.specs.Str.{bytes_eq}
 use Rattle.std.proofs.lemmas.Bool.{and_from, and_parts, eq-eqb, eqb-true}
 use Rattle.std.proofs.lemmas.Cmp.{tied_itself}
@@ -17,8 +17,8 @@ use Rattle.zeb_keys.specs.declared.registers.Register.TheVariants.{Word, Phrase,
 use Rattle.zeb_keys.specs.contracts.registers.Register.{the_type}
 use Rattle.zeb_keys.specs.declared.keys.Key.{Key}
 use Rattle.zeb_keys.specs.Order.{TellsApart, key_order}
-use Rattle.zeb_keys.proofs.Ordered.{members_from_dedup, rising_from_dedup}
-use Rattle.zeb_keys.proofs.Rising.{key_total, keys_apart}
+use Rattle.zeb_keys.proofs.SortedLists.{members_from_dedup, rising_from_dedup}
+use Rattle.zeb_keys.proofs.Rising.{key_total, keys_apart, both_equal}
 use Rattle.zeb_register.specs.declared.expected.KeyPosting.{KeyPosting}
 use Rattle.zeb_register.specs.Content.{Posting, posting_cmp}
 use Rattle.zeb_register.specs.Expected.{key_posting_order}
@@ -27,11 +27,6 @@ use Rattle.zeb_change.proofs.KeyEquality.{same_key}
 
 pub order_total : IsTotalOrder key_posting_order
 order_total = then_total (on_total (λ (it : KeyPosting). it.key) key_total) (on_total (λ (it : KeyPosting). it.posting) posting_total)
-
-both_equal : (r s : Ordering) → ordering_then r s ≡ Equal → (r ≡ Equal) × (s ≡ Equal)
-both_equal Less s e = absurd (cc)
-both_equal Equal s e = (refl, e)
-both_equal Greater s e = absurd (cc)
 
 same_pair : (a b : KeyPosting) → a.key ≡ b.key → a.posting ≡ b.posting → a ≡ b
 same_pair a b key posting = λ i. record { key = key i; posting = posting i }

@@ -9,18 +9,18 @@ use Rattle.zeb_marc.specs.Records.{fields_of}
 use Rattle.zeb_profile.specs.declared.directives.Directive.{Directive}
 use Rattle.zeb_profile.specs.Indexes.{unit_targets}
 use Rattle.zeb_keys.specs.declared.keys.Occurrence.{Occurrence}
+use Rattle.zeb_keys.proofs.Rising.{numbers_apart}
 use Rattle.zeb_register.specs.declared.kept.Record.{Record}
 use Rattle.zeb_register.specs.declared.registers.Place.{Place}
-use Rattle.zeb_register.specs.Content.{Content, IsRising, IsStorable, IsStorablePosting, posting_at}
+use Rattle.zeb_register.specs.Content.{Content, HasRisingLists, IsStorable, IsStorablePosting, posting_at}
 use Rattle.zeb_register.specs.Formats.{Format}
-use Rattle.zeb_register.proofs.ContentChanges.{numbers_apart}
 use Rattle.zeb_register.proofs.RisingLists.{told_by}
 use Rattle.zeb_change.specs.declared.pending.Pending.{Pending}
 use Rattle.zeb_change.specs.Noted.{LeadsTo, WillHold}
 use Rattle.zeb_change.specs.Occurs.{AreOccurrencesOf, OccursIn}
 use Rattle.zeb_change.specs.PrivateChangedKeys.{place_in}
 use Rattle.zeb_change.specs.Reposted.{ArePostingsOf, IsReposted, occurrence_at}
-use Rattle.zeb_change.proofs.Leading.{will_rise}
+use Rattle.zeb_change.proofs.LeadsToContent.{will_rise}
 use Rattle.zeb_change.proofs.Reposted.{reposted, reposted_is}
 use Rattle.zeb_change.proofs.TermTexts.{occurrence_storable}
 use Rattle.zeb_image.specs.PrivateChecking.{kept_of}
@@ -66,7 +66,7 @@ module _ (id : ℤ) (sysno : ℕ) where
 -- the postings of a record's bytes are noted for registers that will have none of it
 module _ (profile : List Directive) (kept : Record) (found : List Occurrence) (are : AreOccurrencesOf profile kept.bytes.items found) (number : (1 ≤ kept.sysno) × (kept.sysno ≤ 999999999))
     (id : ℤ) (old new : Pending)
-    (moved : (behind before after : Content) → LeadsTo id old behind before → IsRising before → ArePostingsOf kept.sysno [] (before id) → IsReposted id kept.sysno found before after → LeadsTo id new behind after) where
+    (moved : (behind before after : Content) → LeadsTo id old behind before → HasRisingLists before → ArePostingsOf kept.sysno [] (before id) → IsReposted id kept.sysno found before after → LeadsTo id new behind after) where
   pub will_post : (format : Format) (trees : Trees) (before : Content) → WillHold format trees id old before → IsStorable before → LacksRecord id kept.sysno before
       → WillHoldSuch format trees id new (IsRecordPosted id kept.sysno (OccursIn profile (kept_of kept)) before)
   will_post format trees before will storable lacks =

@@ -77,10 +77,7 @@ abbrev pub IsImage : Trees → Holdings → Type 0
 IsImage trees nothing_yet = LacksLists trees × LacksRegisters trees
 IsImage trees (under version text bases) = (profile : List Directive) × IsImageUnder profile trees version text bases
 
--- a shut connection shows nothing
-abbrev pub Sees : State → Holdings → Type 0
-Sees s held = IsTrue s.is_open → IsStore s × IsImage s.now.trees held
-
--- the same outside a transaction, where it is also what was committed
+-- An open connection shows the image of this, and that is also what was committed: so it is outside a transaction. A shut one shows
+-- nothing.
 abbrev pub Keeps : State → Holdings → Type 0
 Keeps s held = IsTrue s.is_open → (IsStore s × IsImage s.now.trees held) × (s.committed ≡ s.now)

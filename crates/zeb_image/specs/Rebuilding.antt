@@ -30,8 +30,8 @@ pub record AreReadableLists (trees : Trees) : Type 0 where
 
 -- ---- what kept records ask for
 
--- kept records ask for so many places in all, one for each of their occurrences under the profile, each of whose keys has a row for as many as
--- this bound says
+-- kept records ask for so many places in all, one for each of their occurrences under the profile, each of whose keys has a row for as many
+-- as this bound says
 abbrev pub AskKept : List Directive → (bound : ℕ) → List Kept → (places rowids : ℕ) → Type 0
 AskKept profile bound = AskInAll (λ kept. AsksRecord profile bound (Some kept.bytes))
 

@@ -1,3 +1,3 @@
 pub mod Members
 pub mod Rising
-pub mod Ordered
+pub mod SortedLists

@@ -71,15 +71,15 @@ occurrence_total =
     then_total (on_total (λ (x : Occurrence). x.key) key_total)
     (then_total (on_total (λ (x : Occurrence). x.seq) nat_cmp_total) (on_total (λ (x : Occurrence). x.pos) nat_cmp_total))
 
-both_equal : (r s : Ordering) → ordering_then r s ≡ Equal → (r ≡ Equal) × (s ≡ Equal)
+pub both_equal : (r s : Ordering) → ordering_then r s ≡ Equal → (r ≡ Equal) × (s ≡ Equal)
 both_equal Less s e = absurd (cc)
 both_equal Equal s e = (refl, e)
 both_equal Greater s e = absurd (cc)
 
-numbers_apart : TellsApart nat_cmp
+pub numbers_apart : TellsApart nat_cmp
 numbers_apart x y e = ranked x y Equal (sym e)
 
-texts_apart : TellsApart (slice_cmp nat_cmp)
+pub texts_apart : TellsApart (slice_cmp nat_cmp)
 texts_apart x y e = same_text x y (sym (texts_ties x y ∙ ap is_eq e))
 
 registers_apart : (r s : Register) → register_code r ≡ register_code s → r ≡ s

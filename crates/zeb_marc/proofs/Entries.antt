@@ -5,7 +5,8 @@ use Rattle.std.proofs.lemmas.Bool.{ltb-true, leb-true, eqb-true}
 use Rattle.zeb_marc.specs.declared.faults.MarcFault.{MarcFault}
 use Rattle.zeb_marc.specs.declared.faults.MarcFault.TheVariants.{EntryDigits, EntryTag, EntryRange, FieldEnd}
 use Rattle.zeb_marc.specs.Leader.{Check, check, first_failing, number_of}
-use Rattle.zeb_marc.specs.Directory.{Entry, entries_of, entry_of, end_of, has_digits, has_tag_bytes, is_in_area, entry_checks, directory_checks, field_of, fields_in}
+use Rattle.zeb_marc.specs.Directory.{Entry, entries_of, end_of, has_digits, has_tag_bytes, is_in_area, entry_checks, directory_checks, field_of, fields_in}
+use Rattle.zeb_marc.specs.PrivateDirectory.{entry_of}
 
 -- a directory of twelve bytes or more begins with an entry
 pub entries_of-more : (directory : List ℕ) → 12 ≤ length directory → entries_of directory ≡ entry_of (take 12 directory) ∷ entries_of (drop 12 directory)
@@ -73,7 +74,7 @@ pub record IsSoundEntry (area : List ℕ) (entry : Entry) : Type 0 where
   pub within : end_of entry ≤ length area
   pub ended : slice_index area (end_of entry - 1) ≡ 30
 
-both_true : (a b : Bool) → (a && b) ≡ true → (a ≡ true) × (b ≡ true)
+pub both_true : (a b : Bool) → (a && b) ≡ true → (a ≡ true) × (b ≡ true)
 both_true true b e = (refl, e)
 both_true false b e = absurd cc
 

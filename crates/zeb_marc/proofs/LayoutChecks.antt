@@ -7,7 +7,8 @@ use Rattle.std.proofs.lemmas.List.{take_at, drop_at, append-nil, get_or-drop, ge
 use Rattle.std.proofs.lemmas.Bool.{le-leb, lt-ltb, eq-eqb}
 use Rattle.zeb_marc.specs.declared.faults.MarcFault.TheVariants.{LengthDigits, LengthRange, Truncated, NoTerminator, LeaderCounts, BaseAddress, DirectoryLength, EntryDigits, EntryTag, EntryRange, FieldEnd}
 use Rattle.zeb_marc.specs.Leader.{Check, check, first_failing, are_digits, number_of, last_byte, record_length, base_digits, base_address, has_counts, ends_directory, has_base_address, announced_checks, slice_checks, layout_checks, leader_checks}
-use Rattle.zeb_marc.specs.Directory.{Entry, FieldText, entries_of, entry_of, end_of, field_of, fields_in, has_digits, has_tag_bytes, is_in_area, directory_checks, entry_checks}
+use Rattle.zeb_marc.specs.Directory.{Entry, FieldText, entries_of, end_of, field_of, fields_in, has_digits, has_tag_bytes, is_in_area, directory_checks, entry_checks}
+use Rattle.zeb_marc.specs.PrivateDirectory.{entry_of}
 use Rattle.zeb_marc.specs.Records.{directory_of, data_area, first_fault, fields_of, IsRecord}
 use Rattle.zeb_marc.specs.Layout.{entry_bytes, IsEntryOf, IsLaidOut}
 use Rattle.zeb_marc.proofs.Entries.{entries_of-more, first_failing-append_pass}

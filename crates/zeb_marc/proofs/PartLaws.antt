@@ -1,5 +1,5 @@
 -- The texts of a record's fields and units are parts of it, and 64 bits number its units.
-use Rattle.std.proofs.Common.{◌≡◌, ℕ, suc, ◌-◌, ◌<◌, ◌≤◌, ◌^◌, Bool, true, false, cond, leb, ◌&&◌, None, List, [], ◌∷◌, ◌++◌, length, map, take, drop, refl, sym, ap, subst, ◌∙◌, append_assoc, length-take, length-drop, arith}
+use Rattle.std.proofs.Common.{◌≡◌, ℕ, suc, ◌-◌, ◌<◌, ◌≤◌, ◌^◌, Bool, true, false, cond, leb, None, List, [], ◌∷◌, ◌++◌, length, map, take, drop, refl, sym, ap, subst, ◌∙◌, append_assoc, length-take, length-drop, arith}
 use Rattle.std.specs.Prelude.{◌==◌}
 use Rattle.std.specs.List.{AllByRecursion, flat_map, slice_split, onto_first, list_all}
 use Rattle.std.specs.Char.{is_ascii_digit, digit_value}
@@ -14,7 +14,7 @@ use Rattle.zeb_marc.specs.Directory.{Entry, FieldText, entries_of, end_of, field
 use Rattle.zeb_marc.specs.Records.{directory_of, data_area, first_fault, fields_of, IsRecord}
 use Rattle.zeb_marc.specs.Contents.{Content, UnitText, is_control, subfield_of, subfields_of, contents_of, numbered_from, units_of}
 use Rattle.zeb_marc.specs.Parts.{IsPart}
-use Rattle.zeb_marc.proofs.Entries.{first_failing-append_none, first_failing-cons}
+use Rattle.zeb_marc.proofs.Entries.{first_failing-append_none, first_failing-cons, both_true}
 use Rattle.zeb_marc.proofs.Pieces.{units_fit}
 
 -- ---- parts
@@ -124,10 +124,6 @@ unit_parts text fields is = numbered_are_parts text 1 (flat_map contents_of fiel
 
 digit_below : (c : ℕ) → is_ascii_digit c ≡ true → digit_value c < 10
 digit_below c e = grind (arith, nat_tests)
-
-both_true : (a b : Bool) → (a && b) ≡ true → (a ≡ true) × (b ≡ true)
-both_true true b e = (refl, e)
-both_true false b e = absurd cc
 
 all_digits : (digits : List ℕ) → list_all is_ascii_digit digits ≡ true → AllDigits 10 digits
 all_digits [] e = tt

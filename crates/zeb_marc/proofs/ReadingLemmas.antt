@@ -9,7 +9,7 @@ use Rattle.zeb_marc.specs.declared.faults.MarcFault.{MarcFault}
 use Rattle.zeb_marc.specs.declared.faults.MarcFault.TheVariants.{LengthDigits, LengthRange, Truncated, TooManySeparators, ReadFault}
 use Rattle.zeb_marc.specs.Leader.{Check, check, first_failing, are_digits, number_of, record_length, announced_checks, slice_checks}
 use Rattle.zeb_marc.specs.Splits.{is_separator, next_of, next_if, next_behind, Next, at_end, a_fault, Gives, IsSlice}
-use Rattle.zeb_marc.specs.Reading.{FailsIf, ByteGives, SkipGives, FillGives, SliceGives}
+use Rattle.zeb_marc.specs.PrivateReading.{FailsIf, ByteGives, SkipGives, FillGives, SliceGives}
 use Rattle.zeb_marc.proofs.Entries.{first_failing-append_none, first_failing-cons}
 use Rattle.zeb_marc.proofs.RecordChecks.{slice_cut, slice_fails, slice_passes, one_fails}
 use Rattle.zeb_marc.proofs.Runs.{suc_add}

@@ -10,14 +10,10 @@ use Rattle.zeb_marc.specs.declared.faults.MarcFault.{MarcFault}
 use Rattle.zeb_marc.specs.declared.faults.MarcFault.TheVariants.{LengthDigits, LengthRange, Truncated, TooManySeparators}
 use Rattle.zeb_marc.specs.Leader.{check, first_failing, are_digits, record_length, announced_checks, slice_checks}
 use Rattle.zeb_marc.specs.Splits.{is_separator, are_separators, IsRun, IsSlice, IsTooLong, IsNoSlice, EndsAs, IsSplit, Next, at_end, a_slice, a_fault, next_if, next_of, Split, split_next, split_within, split_of}
-use Rattle.zeb_marc.proofs.Entries.{first_failing-append_none, first_failing-cons}
+use Rattle.zeb_marc.proofs.Entries.{first_failing-append_none, first_failing-cons, both_true}
 use Rattle.zeb_marc.proofs.RecordChecks.{slice_passes}
 use Rattle.zeb_marc.proofs.Runs.{run_more}
 use Rattle.zeb_marc.proofs.ReadingLemmas.{announced_checks-five, record_length-five, IsSlice-from_five, slice_whole, next_of-many, next_of-end, next_of-record}
-
-both_true : (a b : Bool) → (a && b) ≡ true → (a ≡ true) × (b ≡ true)
-both_true true b e = (refl, e)
-both_true false b e = absurd cc
 
 -- ---- runs
 

@@ -6,7 +6,7 @@ use Rattle.std.proofs.lemmas.List.Sums.{prefix_len-le-length}
 use Rattle.zeb_marc.specs.declared.faults.MarcFault.{MarcFault}
 use Rattle.zeb_marc.specs.declared.faults.MarcFault.TheVariants.{Truncated, TooManySeparators, ReadFault}
 use Rattle.zeb_marc.specs.Splits.{is_separator, IsRun, IsSlice}
-use Rattle.zeb_marc.specs.Reading.{SkipGives, SliceGives}
+use Rattle.zeb_marc.specs.PrivateReading.{SkipGives, SliceGives}
 use Rattle.zeb_marc.specs.Unread.{LeavesUnread}
 use Rattle.zeb_marc.proofs.ReadingLemmas.{five_fault, slice_whole}
 use Rattle.zeb_marc.proofs.SplitLaws.{list_all-take, stops_there, IsSlice-front, ended}

@@ -3,7 +3,7 @@
 -- field terminator, and where it starts, of five digits, from the base address of data on.
 -- This project's own rules: that entries may come in any order, overlap and leave gaps; that a tag may mix capitals and small
 -- letters; which fault a check has, and the order of the checks.
-use Rattle.std.specs.Prelude.{ℕ, ◌+◌, ◌-◌, Bool, ◌&&◌, List, [], ◌∷◌, length, take, map, nat_lt, nat_le, ◌==◌, slice_range, slice_index}
+use Rattle.std.specs.Prelude.{ℕ, ◌+◌, ◌-◌, Bool, ◌&&◌, List, [], ◌∷◌, length, map, nat_lt, nat_le, ◌==◌, slice_range, slice_index}
 use Rattle.std.specs.List.{list_all, flat_map}
 use Rattle.std.specs.Char.{is_ascii_alphanumeric}
 use Rattle.zeb_marc.specs.declared.faults.MarcFault.TheVariants.{EntryDigits, EntryTag, EntryRange, FieldEnd}
@@ -21,10 +21,6 @@ entries_of (a ∷ b ∷ c ∷ d ∷ e ∷ f ∷ g ∷ h ∷ i ∷ j ∷ k ∷ l 
     record { tag = a ∷ b ∷ c ∷ []; size = d ∷ e ∷ f ∷ g ∷ []; start = h ∷ i ∷ j ∷ k ∷ l ∷ [] }
     ∷ entries_of rest
 entries_of _ = []
-
--- the entry that twelve bytes are
-abbrev pub entry_of : List ℕ → Entry
-entry_of bytes = record { tag = take 3 bytes; size = slice_range bytes 3 7; start = slice_range bytes 7 12 }
 
 -- where the entry's field ends in the data area
 abbrev pub end_of : Entry → ℕ

@@ -5,7 +5,7 @@
 -- A check is a fact that a record has to meet, with the fault of bytes that don't; the first that fails counts.
 -- This project's own rules: that other bytes than digits are taken there, that the other positions are not looked at, which
 -- fault a check has, and the order of the checks.
-use Rattle.std.specs.Prelude.{◌≡◌, ℕ, ◌-◌, ◌%◌, Bool, not, ◌&&◌, ◌||◌, List, [], ◌∷◌, ◌++◌, length, take, Option, Some, None, Result, Ok, Err, nat_lt, nat_le, ◌==◌, if◌then◌else◌, slice_index, slice_range}
+use Rattle.std.specs.Prelude.{ℕ, ◌-◌, ◌%◌, Bool, not, ◌&&◌, ◌||◌, List, [], ◌∷◌, ◌++◌, length, take, Option, Some, None, nat_lt, nat_le, ◌==◌, if◌then◌else◌, slice_index, slice_range}
 use Rattle.std.specs.List.{list_all}
 use Rattle.std.specs.Char.{is_ascii_digit}
 use Rattle.std.specs.Str.Parse.{digits_value}
@@ -85,8 +85,3 @@ layout_checks text = check (last_byte text == 29) NoTerminator
 
 abbrev pub leader_checks : List ℕ → List Check
 leader_checks text = slice_checks text ++ check (nat_le (length text) (record_length text)) LengthRange ∷ layout_checks text
-
--- what is answered where these checks are made: the fault of the first that fails, if one does
-abbrev pub Answers : {T : Type 0} → List Check → Result T MarcFault → Type 0
-Answers checks (Ok x) = first_failing checks ≡ None
-Answers checks (Err fault) = first_failing checks ≡ Some fault

@@ -1,13 +1,17 @@
 pub mod Names
 pub mod Leader
+pub mod PrivateLeader
 pub mod Directory
+pub mod PrivateDirectory
 pub mod Fields
 pub mod Records
 pub mod Layout
 pub mod Contents
 pub mod Splits
 pub mod Reading
+pub mod PrivateReading
 pub mod Units
+pub mod PrivateUnits
 pub mod Worked
 pub mod Parts
 pub mod Unread

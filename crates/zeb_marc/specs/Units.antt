@@ -1,20 +1,13 @@
 -- Units as contracts see them: without where their bytes lie.
-use Rattle.std.specs.Prelude.{ℕ, List, ◌++◌, Some}
+use Rattle.std.specs.Prelude.{List, ◌++◌}
 use Rattle.std.specs.List.{flat_map}
 use Rattle.zeb_marc.specs.declared.units.Unit.{Unit as MarcUnit}
 use Rattle.zeb_marc.specs.declared.units.Begun.{Begun}
-use Rattle.zeb_marc.specs.declared.units.Content.{Content as MarcContent}
 use Rattle.zeb_marc.specs.Directory.{FieldText}
 use Rattle.zeb_marc.specs.Contents.{Content, UnitText, contents_of, subfields_of}
 
 abbrev pub unit_text : MarcUnit → UnitText
 unit_text u = record { seq = u.seq; tag = u.tag; code = u.code; text = u.bytes.now }
-
-abbrev pub content_of : MarcContent → Content
-content_of c = record { tag = c.tag; code = c.code; text = c.bytes.now }
-
-abbrev pub subfield_content : List ℕ → ℕ → List ℕ → Content
-subfield_content tag code text = record { tag = tag; code = Some code; text = text }
 
 -- what is left of a field that was begun, and the fields behind it
 abbrev pub left_of : Begun → List FieldText → List Content

@@ -1,7 +1,9 @@
 //! The directory of a record, and the fields that it names: ISO 2709, "Directory".
 ghost use Rattle.std.specs.Prelude.{◌≡◌, true, false, length, None, MatchOption};
-ghost use Rattle.zeb_marc.specs.Leader.{first_failing, number_of, Answers};
-ghost use Rattle.zeb_marc.specs.Directory.{directory_checks, end_of, entry_checks, entry_of, field_of, fields_in, has_digits, has_tag_bytes};
+ghost use Rattle.zeb_marc.specs.Leader.{first_failing, number_of};
+ghost use Rattle.zeb_marc.specs.PrivateLeader.{Answers};
+ghost use Rattle.zeb_marc.specs.Directory.{directory_checks, end_of, entry_checks, field_of, fields_in, has_digits, has_tag_bytes};
+ghost use Rattle.zeb_marc.specs.PrivateDirectory.{entry_of};
 ghost use Rattle.zeb_marc.specs.Fields.{field_text};
 ghost use Rattle.std.specs.Iterator.{YieldsFirstBy, item_count};
 

@@ -1,7 +1,8 @@
 //! The leader of a record: ISO 2709, "Record label".
 ghost use Rattle.std.specs.Prelude.{◌≡◌, ◌≤◌, ◌<◌, true, false, length, IfOk, MatchOption};
 ghost use Rattle.std.specs.Bool.{OnTrue};
-ghost use Rattle.zeb_marc.specs.Leader.{base_address, counts, announced_checks, ends_directory, has_base_address, has_counts, layout_checks, record_length, Answers};
+ghost use Rattle.zeb_marc.specs.Leader.{base_address, counts, announced_checks, ends_directory, has_base_address, has_counts, layout_checks, record_length};
+ghost use Rattle.zeb_marc.specs.PrivateLeader.{Answers};
 
 use crate::digits::read_number;
 use crate::faults::MarcFault;

@@ -1,7 +1,8 @@
 //! A stream of records: ISO 2709, where each record begins with its length.
 ghost use Rattle.std.specs.Prelude.{◌≡◌, ◌≤◌, ◌+◌, ◌∷◌, ◌↔◌, [], ℕ, List, length, take, vec_len, Some, false, true, IfOk, IfErr, IsErrOf, MatchResult};
 ghost use Rattle.zeb_marc.specs.Splits.{is_separator, next_of, Gives, IsSlice};
-ghost use Rattle.zeb_marc.specs.Reading.{ByteGives, FailsIf, FillGives, IsFillFault, IsSkipFault, IsStreamFault, Keeps, SkipGives, SliceGives, most_reads, slice_reads};
+ghost use Rattle.zeb_marc.specs.Reading.{IsStreamFault, Keeps, most_reads, slice_reads};
+ghost use Rattle.zeb_marc.specs.PrivateReading.{ByteGives, FailsIf, FillGives, IsFillFault, IsSkipFault, SkipGives, SliceGives};
 ghost use Rattle.zeb_marc.specs.Unread.{LeavesUnread};
 
 use crate::faults::MarcFault;

@@ -3,7 +3,8 @@ ghost use Rattle.std.specs.Prelude.{◌≡◌, ◌==◌, ◌<◌, ◌^◌, ◌�
 ghost use Rattle.std.specs.Iterator.{YieldsFirstBy, item_count};
 ghost use Rattle.std.specs.List.{flat_map, position_or_len};
 ghost use Rattle.zeb_marc.specs.Contents.{contents_of, is_control, subfields_of, units_of};
-ghost use Rattle.zeb_marc.specs.Units.{content_of, left_of, subfield_content, unit_text};
+ghost use Rattle.zeb_marc.specs.Units.{left_of, unit_text};
+ghost use Rattle.zeb_marc.specs.PrivateUnits.{content_of, subfield_content};
 
 use crate::directory::Fields;
 use std::marker::Model;

@@ -18,13 +18,13 @@ use Rattle.sqlite_rules.specs.Lists.{Has}
 use Rattle.sqlite_rules.proofs.ListLemmas.{all_has, has_got}
 use Rattle.std.proofs.lemmas.List.{length-map}
 use Rattle.zeb_register.specs.Sql.{HasLayout}
-use Rattle.zeb_packed.specs.PackedRows.{IsFallingListOf}
+use Rattle.zeb_packed.specs.PrivatePackedRows.{IsFallingListOf}
 use Rattle.zeb_register.proofs.StatementForms.{Condition, keyed_from, passes, reading_by, alone, shows, descending, ordering}
 use Rattle.zeb_register.proofs.ValueKinds.{IsPlainTable, HasKeys, are_fit, are_comparable, code, codes_of, covers}
 use Rattle.zeb_register.proofs.RowLemmas.{covered_some, ordering_tied, shares_alone}
 use Rattle.zeb_register.proofs.Scans.{reads, shows_each, shows_sorted, all_shown}
 use Rattle.zeb_register.proofs.Selects.{IsSelected, shown_places}
-use Rattle.zeb_register.proofs.Prefix.{IsAfter, after_key, alone_first}
+use Rattle.zeb_register.proofs.PrefixSelects.{IsAfter, after_key, alone_first}
 use Rattle.zeb_register.proofs.Writes.{keyed_there, codes_there, meets_there}
 
 abbrev pub falling : ℕ → List (Term × Key)

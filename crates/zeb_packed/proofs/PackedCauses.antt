@@ -10,15 +10,15 @@ use Rattle.sqlite_rules.proofs.ListLemmas.{all_from, all_has, has_left, has_righ
 use Rattle.sqlite_rules.proofs.ProbeLemmas.{has_mapped, mapped_has}
 use Rattle.zeb_blocks.specs.declared.postings.Posting.{Posting}
 use Rattle.zeb_keys.specs.declared.keys.Key.{Key}
+use Rattle.zeb_keys.proofs.Rising.{numbers_apart}
 use Rattle.zeb_register.specs.declared.registers.Place.{Place}
 use Rattle.zeb_register.specs.declared.registers.RecordChange.{RecordChange}
 use Rattle.zeb_register.specs.Content.{IsListChanged}
 use Rattle.zeb_register.specs.Hindrances.{HindersPlaces, IsSpelledAt, LacksRowids, TakesRowids, placed, rows_of}
-use Rattle.zeb_packed.specs.PackedChanges.{CountsOn, IsTold}
-use Rattle.zeb_register.specs.KeyColumns.{IsDictIn}
-use Rattle.zeb_packed.specs.PackedHindrances.{HindersBlock, HindersChanges, HindersCount, IsPut, SpellsMore, new_rows}
+use Rattle.zeb_packed.specs.PrivatePackedChanges.{CountsOn, IsTold}
+use Rattle.zeb_register.specs.PrivateKeyColumns.{IsDictIn}
+use Rattle.zeb_packed.specs.PrivatePackedHindrances.{HindersBlock, HindersChanges, HindersCount, IsPut, SpellsMore, new_rows}
 use Rattle.zeb_register.specs.Store.{blocks_tree, dict_tree}
-use Rattle.zeb_register.proofs.ContentChanges.{numbers_apart}
 use Rattle.zeb_register.proofs.ListChanges.{no_change, run, run_all, run_more, place_of, posting_is}
 use Rattle.zeb_packed.proofs.PackedHindrances.{list_one, new_few}
 use Rattle.zeb_packed.proofs.PackedWrites.{none_of}

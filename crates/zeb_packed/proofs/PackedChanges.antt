@@ -12,19 +12,20 @@ use Rattle.zeb_blocks.specs.declared.postings.Posting.{Posting}
 use Rattle.zeb_blocks.specs.Blocks.{BlockSpells, IsNumbered, LiesIn}
 use Rattle.zeb_keys.specs.declared.keys.Key.{Key}
 use Rattle.zeb_keys.specs.Registers.{register_code}
+use Rattle.zeb_keys.proofs.Rising.{numbers_apart}
 use Rattle.zeb_register.specs.declared.registers.Place.{Place}
 use Rattle.zeb_register.specs.declared.registers.RecordChange.{RecordChange}
 use Rattle.zeb_packed.specs.declared.packed_parts.Held.{Held}
 use Rattle.zeb_register.specs.Content.{AreChangedAt, ArePlacesOf, Content, IsListChanged, place_cmp, posted, posting_at, posting_cmp}
 use Rattle.zeb_register.specs.Occurring.{HasKey, IsCount}
 use Rattle.zeb_register.specs.PackedBlocks.{HoldsBlocks, IsBlockRow, IsDictRow, block_row, dict_row, part_in}
-use Rattle.zeb_packed.specs.PackedChanges.{CountsOn, IsBlockIn, IsHeld, PutsBlock, PutsCount}
-use Rattle.zeb_register.specs.KeyColumns.{IsDictIn}
-use Rattle.zeb_register.specs.PackedRows.{HoldsBlockRows, IsInBlock}
-use Rattle.zeb_register.specs.RowTerms.{IsInRecord}
+use Rattle.zeb_packed.specs.PrivatePackedChanges.{CountsOn, IsBlockIn, IsHeld, PutsBlock, PutsCount}
+use Rattle.zeb_register.specs.PrivateKeyColumns.{IsDictIn}
+use Rattle.zeb_register.specs.PrivatePackedRows.{HoldsBlockRows, IsInBlock}
+use Rattle.zeb_register.specs.PrivateRowTerms.{IsInRecord}
 use Rattle.zeb_register.specs.Sql.{HasRow}
 use Rattle.zeb_register.specs.Store.{blocks_tree, dict_tree, postings_tree}
-use Rattle.zeb_register.proofs.ContentChanges.{at_sysno, numbers_apart, posting_total, told_spot}
+use Rattle.zeb_register.proofs.ContentChanges.{at_sysno, posting_total, told_spot}
 use Rattle.zeb_register.proofs.ContentLemmas.{same_key}
 use Rattle.zeb_register.proofs.CountLemmas.{count_none, count_so, counted_none, one_count}
 use Rattle.zeb_register.proofs.ListChanges.{content_rises, list_changed, other_parts, this_part, place_of, posting_is}

@@ -13,13 +13,14 @@ use Rattle.zeb_keys.specs.declared.keys.Key.{Key}
 use Rattle.zeb_keys.specs.Registers.{register_code}
 use Rattle.zeb_register.specs.declared.statements.keys.KeyOf.{KeyOf}
 use Rattle.zeb_register.specs.Calls.{MayRefuse}
-use Rattle.zeb_register.specs.Hindrances.{Hinders, HindersNew, IsSpelledAt, IsTooLarge, LacksRowids}
-use Rattle.zeb_register.specs.KeyColumns.{IsOfNumbered, numbered_columns, IsBlockOf, IsDictIn, IsRowOf}
+use Rattle.zeb_register.specs.Hindrances.{Hinders, IsSpelledAt, IsTooLarge, LacksRowids}
+use Rattle.zeb_register.specs.PrivateHindrances.{HindersNew}
+use Rattle.zeb_register.specs.PrivateKeyColumns.{IsOfNumbered, numbered_columns, IsBlockOf, IsDictIn, IsRowOf}
 use Rattle.zeb_register.specs.PackedBlocks.{block_row, dict_row}
-use Rattle.zeb_packed.specs.PackedChanges.{IsBlockIn, IsTold, PutsBlock, SpellsIn, block_key}
-use Rattle.zeb_packed.specs.PackedHindrances.{HindersBlock, HindersCount, IsMistold, SpellsMore, new_rows}
+use Rattle.zeb_packed.specs.PrivatePackedChanges.{IsBlockIn, IsTold, PutsBlock, SpellsIn, block_key}
+use Rattle.zeb_packed.specs.PrivatePackedHindrances.{HindersBlock, HindersCount, IsMistold, SpellsMore, new_rows}
 use Rattle.zeb_register.specs.PlainRows.{key_row}
-use Rattle.zeb_register.specs.RowStatements.{Gains}
+use Rattle.zeb_register.specs.PrivateRowStatements.{Gains}
 use Rattle.zeb_register.specs.Sql.{HasRow, IsListOf}
 use Rattle.zeb_register.specs.Store.{IsRest, IsStore, blocks_tree, dict_tree, key_of}
 use Rattle.zeb_register.specs.Tables.{store_schema}

@@ -2,26 +2,24 @@
 use Rattle.std.proofs.Common.{◌≡◌, ◌⊎◌, ◌∙◌, ◌+◌, ◌<◌, ◌≤◌, ◌/◌, ◌^◌, ◌==◌, ℕ, suc, nat_lt, true, List, [], ◌∷◌, ◌++◌, drop, drop-cons, get_or, length, map, filter, refl, sym, ap, ap₂, subst, inl, inr, Ordering, Less, Equal, Greater, nat_cmp, arith}
 use Rattle.std.proofs.lemmas.Bool.{eqb-true, eq-eqb}
 use Rattle.std.proofs.lemmas.Bool.Decides.{nat_tests}
-use Rattle.std.specs.Cmp.{IsTotalOrder, then_total, on_total, nat_cmp_total}
+use Rattle.std.specs.Cmp.{nat_cmp_total}
 use Rattle.std.specs.Ordering.{ordering_then}
 use Rattle.std.specs.List.Sorted.{IsStrictlySortedBy}
 use Rattle.sqlite_rules.specs.Lists.{Has}
 use Rattle.sqlite_rules.proofs.ListLemmas.{all_from, all_has, has_either, has_filtered, has_kept, has_left, has_right}
 use Rattle.sqlite_rules.proofs.ProbeLemmas.{has_mapped, mapped_has}
+use Rattle.zeb_keys.proofs.Rising.{numbers_apart}
 use Rattle.zeb_blocks.specs.declared.postings.Posting.{Posting}
 use Rattle.zeb_blocks.specs.Blocks.{IsNumbered, LiesIn}
 use Rattle.zeb_register.specs.declared.registers.Place.{Place}
 use Rattle.zeb_register.specs.Content.{ArePlacesOf, AreStorablePlaces, IsListChanged, IsStorablePlace, place_cmp, posting_at, posting_cmp}
-use Rattle.zeb_register.proofs.ContentChanges.{numbers_apart, posting_total}
+use Rattle.zeb_register.proofs.ContentChanges.{posting_total, place_total}
 use Rattle.zeb_register.proofs.CountLemmas.{has_end, less_is}
 use Rattle.zeb_register.proofs.RisingLists.{joined_rises, kept_rises, pushed_rises, same_list}
 use Rattle.zeb_register.proofs.Scans.{strictly_mapped}
 use Rattle.zeb_register.proofs.ListChanges.{place_is, place_of, posting_is}
 
 -- ---- places that rise
-
-pub place_total : IsTotalOrder place_cmp
-place_total = then_total (on_total (λ (p : Place). p.seq) nat_cmp_total) (on_total (λ (p : Place). p.pos) nat_cmp_total)
 
 -- stored places, of which none is above the last that was looked at
 pub record AreUpTo (places : List Place) (last : Place) : Type 0 where

@@ -13,9 +13,9 @@ use Rattle.zeb_register.specs.Content.{Content, IsStorable, posted}
 use Rattle.zeb_register.specs.Occurring.{HasKey, IsCount}
 use Rattle.zeb_register.specs.PackedBlocks.{HoldsBlocks, part_in, IsRecordNumber}
 use Rattle.zeb_register.specs.declared.statements.keys.KeyOf.{KeyOf}
-use Rattle.zeb_register.specs.KeyColumns.{IsOfNumbered, numbered_columns}
-use Rattle.zeb_packed.specs.PackedChanges.{IsTold, SpellsIn, block_key}
-use Rattle.zeb_register.specs.PackedRows.{HoldsBlockRows}
+use Rattle.zeb_register.specs.PrivateKeyColumns.{IsOfNumbered, numbered_columns}
+use Rattle.zeb_packed.specs.PrivatePackedChanges.{IsTold, SpellsIn, block_key}
+use Rattle.zeb_register.specs.PrivatePackedRows.{HoldsBlockRows}
 use Rattle.zeb_register.specs.PlainRows.{key_row}
 use Rattle.zeb_register.specs.Sql.{IsListOf}
 use Rattle.zeb_register.specs.Store.{IsRest, blocks_tree, dict_tree}

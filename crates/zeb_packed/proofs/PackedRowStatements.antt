@@ -10,16 +10,17 @@ use Rattle.sqlite.specs.Term.{Term, lit, col}
 use Rattle.sqlite.specs.Listing.{understood, reads_listing}
 use Rattle.sqlite.proofs.Callers.{IsPlain, command_of}
 use Rattle.sqlite_tied.specs.Compute.{everything}
-use Rattle.zeb_register.specs.Hindrances.{Hinders, HindersNew, IsTooLarge}
-use Rattle.zeb_packed.specs.PackedChanges.{block_columns, block_key, dict_columns}
-use Rattle.zeb_register.specs.KeyColumns.{IsBlockOf, IsRowOf}
-use Rattle.zeb_register.specs.RowStatements.{Gains, Renews}
+use Rattle.zeb_register.specs.Hindrances.{Hinders, IsTooLarge}
+use Rattle.zeb_register.specs.PrivateHindrances.{HindersNew}
+use Rattle.zeb_packed.specs.PrivatePackedChanges.{block_columns, block_key, dict_columns}
+use Rattle.zeb_register.specs.PrivateKeyColumns.{IsBlockOf, IsRowOf}
+use Rattle.zeb_register.specs.PrivateRowStatements.{Gains, Renews}
 use Rattle.zeb_register.specs.Sql.{IsListOf, Loses}
 use Rattle.zeb_register.specs.Store.{Changes, IsRest, IsStore, blocks_tree, dict_tree, key_of}
 use Rattle.zeb_register.specs.Tables.{store_schema}
 use Rattle.zeb_register.proofs.Calls.{IsSilent}
 use Rattle.zeb_register.proofs.PostingStatements.{blocks_keys, dict_keys, blocks, blocks_static, dict, dict_static}
-use Rattle.zeb_register.proofs.Prefix.{IsAfter, lists_after}
+use Rattle.zeb_register.proofs.PrefixSelects.{IsAfter, lists_after}
 use Rattle.zeb_register.proofs.Refusals.{IsFit, IsReasonedQuery, IsWhole, why_refused}
 use Rattle.zeb_register.proofs.InsertRefusals.{why_insert_hindered, why_insert_unbroken}
 use Rattle.zeb_register.proofs.NewRows.{IsRowFor}

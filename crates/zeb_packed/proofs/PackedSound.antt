@@ -17,21 +17,21 @@ use Rattle.sqlite_value.proofs.OrderLemmas.{value_cmp-Text}
 use Rattle.zeb_blocks.specs.declared.postings.Posting.{Posting}
 use Rattle.zeb_blocks.specs.Blocks.{BlockSpells}
 use Rattle.zeb_keys.specs.declared.keys.Key.{Key}
+use Rattle.zeb_keys.proofs.Rising.{numbers_apart}
 use Rattle.zeb_register.specs.declared.registers.RecordChange.{RecordChange}
 use Rattle.zeb_register.specs.declared.registers.RegisterOf.{RegisterOf}
 use Rattle.zeb_register.specs.Between.{IsBetween}
-use Rattle.zeb_register.specs.BetweenRows.{IsRestBetween, two_behind}
-use Rattle.zeb_register.specs.KeyColumns.{register_columns}
+use Rattle.zeb_register.specs.PrivateBetweenRows.{IsRestBetween, two_behind}
+use Rattle.zeb_register.specs.PrivateKeyColumns.{register_columns}
 use Rattle.zeb_register.specs.PackedBlocks.{IsRecordNumber, SpellsPart, block_row}
-use Rattle.zeb_packed.specs.PackedChanges.{IsBlockIn, IsTold, PutsBlock, SpellsIn}
-use Rattle.zeb_packed.specs.PackedHindrances.{AreRunsSpelled, WereSpelled}
-use Rattle.zeb_register.specs.PackedRows.{AreSpelled, IsInBlock}
+use Rattle.zeb_packed.specs.PrivatePackedChanges.{IsBlockIn, IsTold, PutsBlock, SpellsIn}
+use Rattle.zeb_packed.specs.PrivatePackedHindrances.{AreRunsSpelled, WereSpelled}
+use Rattle.zeb_register.specs.PrivatePackedRows.{AreSpelled, IsInBlock}
 use Rattle.zeb_packed.specs.PackedSound.{AreBetweenSpelled, IsBlockSpelled, IsKeyCounted}
 use Rattle.zeb_register.specs.PlainRows.{key_row}
-use Rattle.zeb_register.specs.RowStatements.{Gains}
+use Rattle.zeb_register.specs.PrivateRowStatements.{Gains}
 use Rattle.zeb_register.specs.Sql.{IsListOf}
 use Rattle.zeb_register.specs.Store.{IsRest, IsStore, blocks_tree, dict_tree}
-use Rattle.zeb_register.proofs.ContentChanges.{numbers_apart}
 use Rattle.zeb_register.proofs.ListChanges.{run}
 use Rattle.zeb_register.proofs.PackedLists.{all_spelled, each_spelled}
 use Rattle.zeb_packed.proofs.PackedReads.{block_front}

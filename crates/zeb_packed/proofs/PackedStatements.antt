@@ -11,13 +11,13 @@ use Rattle.sqlite.specs.Listing.{understood, reads_listing}
 use Rattle.sqlite.proofs.Callers.{IsPlain, command_of}
 use Rattle.sqlite_tied.specs.Compute.{everything}
 use Rattle.zeb_register.specs.PackedBlocks.{IsRestBefore, IsRestFrom}
-use Rattle.zeb_packed.specs.PackedRows.{IsFallingListOf}
+use Rattle.zeb_packed.specs.PrivatePackedRows.{IsFallingListOf}
 use Rattle.zeb_register.specs.Sql.{IsListOf}
 use Rattle.zeb_register.specs.Store.{IsStore, IsRest, blocks_tree, dict_tree, key_of}
 use Rattle.zeb_register.specs.Tables.{store_schema}
 use Rattle.zeb_register.proofs.Calls.{IsSilent}
 use Rattle.zeb_packed.proofs.Falling.{falling, falls_after}
-use Rattle.zeb_register.proofs.Prefix.{alone_first, IsAfter, lists_after}
+use Rattle.zeb_register.proofs.PrefixSelects.{alone_first, IsAfter, lists_after}
 use Rattle.zeb_register.proofs.PostingStatements.{blocks, blocks_static, dict, dict_static, blocks_keys, dict_keys, register_of}
 use Rattle.zeb_register.proofs.Refusals.{IsFit, IsReasonedQuery, IsWhole, why_refused}
 use Rattle.zeb_register.proofs.Selects.{list_so}

@@ -20,7 +20,7 @@ use Rattle.zeb_register.specs.declared.registers.TermCount.{TermCount}
 use Rattle.zeb_register.specs.Content.{Content, IsStorable, posted}
 use Rattle.zeb_register.specs.Occurring.{AreTermsBefore, AreTermsFrom, AreTermsOf, HasKey, IsCount, TermIn, is_before, is_from, key_in, last, term_cmp}
 use Rattle.zeb_register.specs.PackedBlocks.{HoldsBlocks, IsRestBefore, IsRestFrom, CountsTerm, count_row, first_two}
-use Rattle.zeb_packed.specs.PackedRows.{IsFallingListOf}
+use Rattle.zeb_packed.specs.PrivatePackedRows.{IsFallingListOf}
 use Rattle.zeb_register.specs.PlainRows.{register_front}
 use Rattle.zeb_register.specs.Sql.{IsListOf}
 use Rattle.zeb_register.specs.Store.{IsRest, dict_tree}
@@ -103,12 +103,6 @@ last_reversed n xs =
       | inl is ↦ inl (length-reverse front ∙ is)
       | inr is ↦ inr (ap reverse is.0, omega (arith, length-reverse front, is.1))
     ])
-
-pub has_taken : {X : Type 0} (n : ℕ) (xs : List X) (x : X) → Has (take n xs) x → Has xs x
-has_taken zero xs x h = absurd h
-has_taken (suc n) [] x h = absurd h
-has_taken (suc n) (y ∷ xs) x (inl same) = inl same
-has_taken (suc n) (y ∷ xs) x (inr later) = inr (has_taken n xs x later)
 
 -- the rows that are looked at are the first n, where the limit of the query stands for n
 pub first_taken : (n : ℕ) (limit : ℤ) (rows seen all : List Row) → FitsSigned w64 limit → ((some every : List Row) → some ≡ limited (as_count (Int limit)) every → length some < 2 ^ 63 → some ≡ take n every)

@@ -13,21 +13,22 @@ use Rattle.zeb_blocks.specs.declared.postings.Posting.{Posting}
 use Rattle.zeb_blocks.specs.Blocks.{BlockSpells, IsNumbered, LiesIn, spelled_from, start_of}
 use Rattle.zeb_keys.specs.declared.keys.Key.{Key}
 use Rattle.zeb_keys.specs.Registers.{register_code}
+use Rattle.zeb_keys.proofs.Rising.{numbers_apart}
 use Rattle.zeb_register.specs.declared.registers.RecordChange.{RecordChange}
 use Rattle.zeb_register.specs.Calls.{Alters, OnlyReads}
 use Rattle.zeb_packed.specs.declared.packed_changes.Known.{Known}
 use Rattle.zeb_register.specs.Content.{AreChangedAt, AreListChanges, Content}
 use Rattle.zeb_register.specs.Occurring.{IsCount}
 use Rattle.zeb_register.specs.PackedBlocks.{HoldsBlocks, block_row, dict_row, part_in}
-use Rattle.zeb_packed.specs.PackedChanges.{IfTold, IsBlockIn, IsClear, IsCounted, IsKnown, IsTold, PutsBlock, PutsChanges, PutsCount}
-use Rattle.zeb_register.specs.KeyColumns.{IsBlockOf, IsDictIn}
-use Rattle.zeb_register.specs.PackedRows.{HoldsBlockRows, IsInBlock}
-use Rattle.zeb_register.specs.RowStatements.{Gains, Renews}
-use Rattle.zeb_register.specs.RowTerms.{IsInRecord}
+use Rattle.zeb_packed.specs.PrivatePackedChanges.{IfTold, IsBlockIn, IsClear, HasSoManyRecords, IsKnown, IsTold, PutsBlock, PutsChanges, PutsCount}
+use Rattle.zeb_register.specs.PrivateKeyColumns.{IsBlockOf, IsDictIn}
+use Rattle.zeb_register.specs.PrivatePackedRows.{HoldsBlockRows, IsInBlock}
+use Rattle.zeb_register.specs.PrivateRowStatements.{Gains, Renews}
+use Rattle.zeb_register.specs.PrivateRowTerms.{IsInRecord}
 use Rattle.zeb_register.specs.Sql.{HasRow, Loses, Replaces}
 use Rattle.zeb_register.specs.Store.{Changes, KeepsLists, blocks_tree, dict_tree}
 use Rattle.zeb_register.proofs.Calls.{alters_so, changes_after, changes_none, reads_goes, store_same}
-use Rattle.zeb_register.proofs.ContentChanges.{numbers_apart, with_list, with_list_here}
+use Rattle.zeb_register.proofs.ContentChanges.{with_list, with_list_here}
 use Rattle.zeb_register.proofs.CountLemmas.{count_none, counted_none, one_count}
 use Rattle.zeb_register.proofs.ListChanges.{content_changed, content_then, other_parts}
 use Rattle.zeb_register.proofs.OccurringLemmas.{key_posted}
@@ -157,14 +158,14 @@ has_as tree one two same row = (
 -- ---- what is known of a key
 
 -- a key that no record has has no posting
-pub known_none : (known : Known) (list : List Posting) → IsCounted 0 list → known.records ≡ 0 → IsKnown known list
+pub known_none : (known : Known) (list : List Posting) → HasSoManyRecords 0 list → known.records ≡ 0 → IsKnown known list
 known_none known list count none = record {
-  count = subst (λ n. IsCounted n list) (sym none) count;
+  count = subst (λ n. HasSoManyRecords n list) (sym none) count;
   below = λ p h. absurd (counted_none (IsInRecord list) 0 p.sysno count refl (p, h, refl));
 }
 
 -- no posting lies behind the greatest block
-pub known_some : (known : Known) (list : List Posting) → ((p : Posting) → Has list p → IsNumbered p) → IsCounted known.records list → 2 ^ 56 ≤ known.clear_from → IsKnown known list
+pub known_some : (known : Known) (list : List Posting) → ((p : Posting) → Has list p → IsNumbered p) → HasSoManyRecords known.records list → 2 ^ 56 ≤ known.clear_from → IsKnown known list
 known_some known list numbered count high = record { count = count; below = λ p h. omega (arith, (numbered p h).sysno.1, high) }
 
 pub known_clear : (block : ℕ) (known : Known) (list : List Posting) → known.clear_from ≤ block → IsKnown known list → IsClear block known.records list
@@ -210,7 +211,7 @@ module _ (db : ℤ) (key : Key) where
 
   -- what is known behind a run
   pub puts_behind : (block : ℕ) (run : List RecordChange) (known next : Known) (a b : Trees) → AllByRecursion (IsInBlock block) run → known.clear_from ≤ next.clear_from → block < next.clear_from
-      → PutsChanges db key run (IsKnown known) (IsCounted next.records) blocks_tree a b → PutsChanges db key run (IsKnown known) (IsKnown next) blocks_tree a b
+      → PutsChanges db key run (IsKnown known) (HasSoManyRecords next.records) blocks_tree a b → PutsChanges db key run (IsKnown known) (IsKnown next) blocks_tree a b
   puts_behind block run known next a b inside keeps behind puts now holds before =
       let it = puts now holds before in
       (it.0, it.1, it.2, record { count = it.3; below = below it.0 it.1 })
@@ -226,7 +227,7 @@ module _ (db : ℤ) (key : Key) where
       ]
 
   -- the blocks, and then the row of `dict`
-  module _ (changes : List RecordChange) (known : Known) (after : ℕ) (a b c : State) (one : Changes blocks_tree (PutsChanges db key changes (IsKnown known) (IsCounted after)) a b) (is_there : Bool)
+  module _ (changes : List RecordChange) (known : Known) (after : ℕ) (a b c : State) (one : Changes blocks_tree (PutsChanges db key changes (IsKnown known) (HasSoManyRecords after)) a b) (is_there : Bool)
       (two : Changes dict_tree (IfTold is_there (IsDictIn db key) (PutsCount db key after)) b c) where
     pub all_lists : KeepsLists a.now.trees c.now.trees
     all_lists = (

@@ -1,4 +1,4 @@
-pub mod PackedRows
-pub mod PackedChanges
-pub mod PackedHindrances
+pub mod PrivatePackedRows
+pub mod PrivatePackedChanges
+pub mod PrivatePackedHindrances
 pub mod PackedSound

@@ -7,7 +7,7 @@ ghost use Rattle.sqlite.specs.declared.types.Value.TheVariants.{Int};
 ghost use Rattle.sqlite_rules.specs.Lists.{Has};
 ghost use Rattle.sqlite_sql.specs.Query.{as_count, limited};
 ghost use Rattle.zeb_register.specs.PackedBlocks.{AreShown, CountsTerm, IsRecordNumber, SpellsPart, count_row, first_two};
-ghost use Rattle.zeb_register.specs.PackedRows.{AreSpelled};
+ghost use Rattle.zeb_register.specs.PrivatePackedRows.{AreSpelled};
 ghost use Rattle.zeb_blocks.specs.Blocks.{BlockSpells};
 ghost use Rattle.zeb_register.specs.Tallies.{Rises};
 

@@ -5,11 +5,11 @@ ghost use Rattle.sqlite.specs.Held.{state};
 ghost use Rattle.sqlite.specs.State.{IsUnchanged};
 ghost use Rattle.sqlite_rules.specs.Lists.{Has};
 ghost use Rattle.zeb_register.specs.Between.{AreKeysBetween, IsPostingBetween};
-ghost use Rattle.zeb_register.specs.BetweenRows.{two_behind};
+ghost use Rattle.zeb_register.specs.PrivateBetweenRows.{two_behind};
 ghost use Rattle.zeb_register.specs.Calls.{Reading};
 ghost use Rattle.zeb_register.specs.Clauses.{IsHonest, IsHonestOfHeld, IsReasoned, OnStore, TellsHeld};
 ghost use Rattle.zeb_register.specs.PackedBlocks.{HoldsBlocks, SpellsPart, blocks_of};
-ghost use Rattle.zeb_register.specs.PackedRows.{AreSpelled};
+ghost use Rattle.zeb_register.specs.PrivatePackedRows.{AreSpelled};
 ghost use Rattle.zeb_packed.specs.PackedSound.{AreBetweenSpelled};
 ghost use Rattle.zeb_register.specs.Tallies.{Works};
 

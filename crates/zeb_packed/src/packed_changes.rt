@@ -15,13 +15,11 @@ ghost use Rattle.zeb_register.specs.Clauses.{InStore, IsHinderedInside, IsReason
 ghost use Rattle.zeb_register.specs.Clauses.{Writes};
 ghost use Rattle.zeb_register.specs.Content.{Content, IsStorable};
 ghost use Rattle.zeb_register.specs.Hindrances.{IsSpelledAt};
-ghost use Rattle.zeb_register.specs.KeyColumns.{IsOfNumbered};
+ghost use Rattle.zeb_register.specs.PrivateKeyColumns.{IsOfNumbered, IsDictIn};
 ghost use Rattle.zeb_register.specs.PackedBlocks.{HoldsBlocks, IsRecordNumber, part_in};
-ghost use Rattle.zeb_packed.specs.PackedChanges.{IfTold, IsBlockIn, IsKnown, IsTold};
-ghost use Rattle.zeb_register.specs.KeyColumns.{IsDictIn};
-ghost use Rattle.zeb_register.specs.PackedRows.{HoldsBlockRows};
-ghost use Rattle.zeb_packed.specs.PackedChanges.{PutsBlock, PutsCount, SpellsIn};
-ghost use Rattle.zeb_packed.specs.PackedHindrances.{FindsSpelled, HindersBlock, HindersCount, IsMistold, SpellsMore, new_rows};
+ghost use Rattle.zeb_packed.specs.PrivatePackedChanges.{IfTold, IsBlockIn, IsKnown, IsTold, PutsBlock, PutsCount, SpellsIn};
+ghost use Rattle.zeb_register.specs.PrivatePackedRows.{HoldsBlockRows};
+ghost use Rattle.zeb_packed.specs.PrivatePackedHindrances.{FindsSpelled, HindersBlock, HindersCount, IsMistold, SpellsMore, new_rows};
 ghost use Rattle.zeb_packed.specs.PackedSound.{IsBlockSpelled, IsKeyCounted};
 ghost use Rattle.zeb_register.specs.Store.{blocks_tree, dict_tree};
 

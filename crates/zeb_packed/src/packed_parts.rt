@@ -10,10 +10,10 @@ ghost use Rattle.zeb_blocks.specs.Blocks.{LiesIn};
 ghost use Rattle.zeb_blocks.specs.declared.postings.Posting.{Posting};
 ghost use Rattle.zeb_register.specs.Content.{AreListChanges, ArePlacesOf, AreStorablePlaces, IsListChanged, IsStorablePlace};
 ghost use Rattle.zeb_register.specs.Content.{OldsRise, place_cmp, posting_at, posting_cmp};
-ghost use Rattle.zeb_register.specs.Hindrances.{IsStorablePlaced, placed, rows_of};
-ghost use Rattle.zeb_packed.specs.PackedChanges.{CountsOn, IsHeld, IsParted, IsStorableChange};
-ghost use Rattle.zeb_register.specs.PackedRows.{IsInBlock};
-ghost use Rattle.zeb_packed.specs.PackedHindrances.{IsPut};
+ghost use Rattle.zeb_register.specs.Hindrances.{FitsEachLayout, placed, rows_of};
+ghost use Rattle.zeb_packed.specs.PrivatePackedChanges.{CountsOn, IsHeld, IsParted, IsStorableChange};
+ghost use Rattle.zeb_register.specs.PrivatePackedRows.{IsInBlock};
+ghost use Rattle.zeb_packed.specs.PrivatePackedHindrances.{IsPut};
 
 use std::alloc::Global;
 use zeb_blocks::Posting;
@@ -195,7 +195,7 @@ fn records_after(records: u64, old: &[Place], new: &[Place]) -> Option<u64>
 pub(crate) fn check_changes(changes: &[RecordChange<'_>]) -> Result<(), RegFault>
     ensures stored { OnOk result (AllByRecursion IsStorableChange changes.now) }
     ensures honest { result ≢ Err RegFault.Damaged }
-    ensures refused { result ≡ Err RegFault.Store → ¬ AllByRecursion IsStorablePlaced (map placed changes.now) }
+    ensures refused { result ≡ Err RegFault.Store → ¬ AllByRecursion FitsEachLayout (map placed changes.now) }
 {
     for change in changes {
         check_numbers(change.sysno, change.new)?;
@@ -208,7 +208,7 @@ fn check_numbers(sysno: u64, places: &[Place]) -> Result<(), RegFault>
     ensures number { OnOk result ((1 ≤ sysno) × (sysno < 2 ^ 63)) }
     ensures stored { OnOk result (AreStorablePlaces places.now) }
     ensures honest { result ≢ Err RegFault.Damaged }
-    ensures refused { result ≡ Err RegFault.Store → ¬ IsStorablePlaced (sysno, places.now) }
+    ensures refused { result ≡ Err RegFault.Store → ¬ FitsEachLayout (sysno, places.now) }
 {
     stored(sysno)?;
     if sysno == 0 {

@@ -10,10 +10,10 @@ ghost use Rattle.zeb_register.specs.Clauses.{ChangesTable, DamagedHeld, InStore,
 ghost use Rattle.zeb_register.specs.Content.{AreChangedAt, AreListChanges, Content, OldsRise};
 ghost use Rattle.zeb_register.specs.Hindrances.{HindersPlaces, placed, rows_of};
 ghost use Rattle.zeb_register.specs.PackedBlocks.{HoldsBlocks};
-ghost use Rattle.zeb_packed.specs.PackedChanges.{IsClear, IsCounted, IsHonestRun, IsKnown, IsStorableChange};
-ghost use Rattle.zeb_register.specs.PackedRows.{IsInBlock};
-ghost use Rattle.zeb_packed.specs.PackedChanges.{PutsChanges, PutsRun};
-ghost use Rattle.zeb_packed.specs.PackedHindrances.{AreRunsSpelled, FindsSpelled, HindersChanges, IsHinderedRun, SpellsRun};
+ghost use Rattle.zeb_packed.specs.PrivatePackedChanges.{IsClear, HasSoManyRecords, IsHonestRun, IsKnown, IsStorableChange, PutsChanges};
+ghost use Rattle.zeb_packed.specs.PrivatePackedChanges.{PutsRun};
+ghost use Rattle.zeb_register.specs.PrivatePackedRows.{IsInBlock};
+ghost use Rattle.zeb_packed.specs.PrivatePackedHindrances.{AreRunsSpelled, FindsSpelled, HindersChanges, IsHinderedRun, SpellsRun};
 ghost use Rattle.zeb_packed.specs.PackedSound.{AreKeyRowsSound};
 ghost use Rattle.zeb_register.specs.Store.{IsStore, KeepsLists, blocks_tree};
 ghost use Rattle.zeb_register.specs.Tallies.{Works};
@@ -80,7 +80,7 @@ fn runs_put<S: Alter>(
     ensures same { tx.new.conn.ghost_name ≡ tx.old.conn.ghost_name }
     ensures call { Inside (state S.Store tx.old.conn.now) (state S.Store tx.new.conn.now) result (λ _ a b. IsTrue a.is_open → GoesOn a b) }
     ensures put { ChangesTable blocks_tree (state S.Store tx.old.conn.now) (state S.Store tx.new.conn.now) result
-        (λ after. PutsChanges db.0 key.now changes.now (IsKnown known) (IsCounted after)) }
+        (λ after. PutsChanges db.0 key.now changes.now (IsKnown known) (HasSoManyRecords after)) }
     ensures damaged { IsHonestRun db.0 key.now changes.now (IsKnown known)
         (state S.Store tx.old.conn.now) (state S.Store tx.new.conn.now) result }
     ensures grows { IfOk result (λ after. after ≤ known.records + rows_of (map placed changes.now)) }
@@ -162,9 +162,9 @@ fn row_renew<S: Alter>(
     requires inside { AllByRecursion (IsInBlock block) run.now }
     requires small { block < 2 ^ 63 }
     ensures same { tx.new.conn.ghost_name ≡ tx.old.conn.ghost_name }
-    ensures call { PutsRun db.0 key.now run.now (IsCounted records)
+    ensures call { PutsRun db.0 key.now run.now (HasSoManyRecords records)
         (state S.Store tx.old.conn.now) (state S.Store tx.new.conn.now) result }
-    ensures damaged { IsHonestRun db.0 key.now run.now (IsCounted records)
+    ensures damaged { IsHonestRun db.0 key.now run.now (HasSoManyRecords records)
         (state S.Store tx.old.conn.now) (state S.Store tx.new.conn.now) result }
     ensures grows { IfOk result (λ after. after ≤ records + rows_of (map placed run.now)) }
     ensures refused { IsHinderedRun db.0 key.now run.now records

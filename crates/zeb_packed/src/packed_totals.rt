@@ -9,7 +9,7 @@ ghost use Rattle.zeb_register.specs.Clauses.{IsHonest, IsHonestOfHeld, IsReasone
 ghost use Rattle.zeb_register.specs.Content.{Content};
 ghost use Rattle.zeb_register.specs.Occurring.{capped, key_in};
 ghost use Rattle.zeb_register.specs.PackedBlocks.{AreAllSpelled, HoldsBlocks, IsBlockUnder, SpellsPart, blocks_of};
-ghost use Rattle.zeb_register.specs.PackedRows.{AreSpelled};
+ghost use Rattle.zeb_register.specs.PrivatePackedRows.{AreSpelled};
 ghost use Rattle.zeb_register.specs.PlainRows.{key_row};
 ghost use Rattle.zeb_register.specs.Sql.{IsListOf};
 ghost use Rattle.zeb_register.specs.Tallies.{Rises};

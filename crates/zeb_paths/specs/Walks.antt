@@ -1,8 +1,6 @@
 -- What a walk has left, and what it gives (this project's own).
 use Rattle.std.specs.Prelude.{◌≡◌, ℕ, List, Option, Some, Result, Ok, String, map, reverse, string_bytes}
 use Rattle.std.specs.declared.alloc.Global.{Global}
-use Rattle.zeb_paths.specs.declared.walk.Seen.{Seen}
-use Rattle.zeb_paths.specs.declared.walk.Seen.TheVariants.{File}
 use Rattle.zeb_paths.specs.declared.walk.Step.{Step}
 use Rattle.zeb_paths.specs.declared.walk.WalkFault.{WalkFault}
 
@@ -17,8 +15,3 @@ paths_left steps = reverse (map step_path steps)
 abbrev pub GivesFile : List ℕ → Result (Option (String Global)) WalkFault → Type 0
 GivesFile path (Ok (Some given)) = string_bytes given ≡ path
 GivesFile path other = ⊥
-
--- the file of this path is seen
-abbrev pub SeesFile : List ℕ → Result Seen WalkFault → Type 0
-SeesFile path (Ok (File given)) = string_bytes given ≡ path
-SeesFile path other = ⊥

@@ -1,7 +1,8 @@
 //! The files at and below the paths that a user names.
 
 ghost use Rattle.std.specs.Prelude.{◌≡◌, ◌≤◌, ◌∷◌, [], ℕ, List, Some, None, Ok, IfOk, map, string_bytes};
-ghost use Rattle.zeb_paths.specs.Walks.{GivesFile, SeesFile, paths_left};
+ghost use Rattle.zeb_paths.specs.Walks.{GivesFile, paths_left};
+ghost use Rattle.zeb_paths.specs.PrivateWalks.{SeesFile};
 
 use crate::paths::{NamesFault, PathKind, Paths};
 use std::alloc::{AllocError, AllocFailed, Global};

@@ -8,7 +8,8 @@ use Rattle.std.proofs.lemmas.List.Folds.{list_any-append}
 use Rattle.std.proofs.lemmas.List.{map-append, append-nil, drop_all}
 use Rattle.zeb_profile.specs.declared.directives.Placed.{Placed}
 use Rattle.zeb_profile.specs.declared.directives.Directive.{Directive}
-use Rattle.zeb_profile.specs.Indexes.{first_spelling, index_names, names_in, numbered}
+use Rattle.zeb_profile.specs.Indexes.{first_spelling, index_names, names_in}
+use Rattle.zeb_profile.specs.PrivateIndexes.{numbered}
 use Rattle.zeb_profile.specs.Profiles.{all_targets, directives_in, targets_in}
 use Rattle.zeb_profile.specs.Words.{distinct_names, same_name}
 

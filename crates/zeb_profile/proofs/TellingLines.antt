@@ -7,7 +7,8 @@ use Rattle.zeb_profile.specs.declared.directives.Placed.{Placed}
 use Rattle.zeb_profile.specs.declared.faults.ProfileFault.{ProfileFault}
 use Rattle.zeb_profile.specs.declared.faults.ProfileFaultKind.{ProfileFaultKind}
 use Rattle.zeb_profile.specs.declared.faults.ProfileFaultKind.TheVariants.{Memory}
-use Rattle.zeb_profile.specs.Outcomes.{Fails, FailsPlaced}
+use Rattle.zeb_profile.specs.Outcomes.{FailsPlaced}
+use Rattle.zeb_profile.specs.PrivateOutcomes.{Fails}
 use Rattle.zeb_profile.specs.Profiles.{placed_after, placed_lines, directive_after, directives_in}
 use Rattle.zeb_profile.specs.Lines.{trimmed, says_something}
 

@@ -22,10 +22,6 @@ names_in directive = map (λ target. target.name) (targets_in directive)
 abbrev pub first_spelling : List Directive → List ℕ → List ℕ
 first_spelling directives name = unwrap_or (find (same_name name) (flat_map names_in directives)) name
 
--- the names with one more, unless it is among them
-abbrev pub numbered : (List ℕ → List ℕ) → List (List ℕ) → List ℕ → List (List ℕ)
-numbered spell names name = if list_any (same_name name) names then names else (names ++ spell name ∷ [])
-
 -- the indexes are the names of targets, numbered from 0 in the order in which they first come
 abbrev pub index_names : List Directive → List (List ℕ)
 index_names directives = map (first_spelling directives) (target_names (all_targets directives))

@@ -3,10 +3,12 @@ pub mod Directives
 pub mod Examples
 pub mod Faults
 pub mod Indexes
+pub mod PrivateIndexes
 pub mod PrivateKeys
 pub mod Laws
 pub mod Lines
 pub mod Outcomes
+pub mod PrivateOutcomes
 pub mod Profiles
 pub mod PrivateRepeats
 pub mod TargetsLeft

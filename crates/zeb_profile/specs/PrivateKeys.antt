@@ -1,6 +1,6 @@
+-- What only the contracts of private functions speak of; no public clause reaches it.
 -- The keys by which names and targets are looked up while a profile is read: a name in lower case, and a target as its
--- register's letter with the key of its name behind it. No public clause reaches this file: it stands in specs/ since the contracts of
--- private functions can cite nothing else.
+-- register's letter with the key of its name behind it.
 use Rattle.std.specs.Prelude.{◌≡◌, ℕ, Bool, false, not, ◌||◌, List, ◌++◌, Option, option_map, unwrap_or, String}
 use Rattle.std.specs.Borrow.{Bor}
 use Rattle.std.specs.BTreeMap.{BTreeMap, get_by_text}

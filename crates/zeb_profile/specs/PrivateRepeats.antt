@@ -1,6 +1,6 @@
+-- What only the contracts of private functions speak of; no public clause reaches it.
 -- What is noted of the lines read so far: of each kind of directive that may not stand twice, whether one was read, and
--- the numbers of the use attributes. No public clause reaches this file: it stands in specs/ since the contracts of private functions can
--- cite nothing else.
+-- the numbers of the use attributes.
 use Rattle.std.specs.Prelude.{◌≡◌, ℕ, List, Option, Some, None, Result, if◌then◌else◌}
 use Rattle.std.specs.BTreeSet.{contains}
 use Rattle.std.specs.Ordering.{nat_cmp}

@@ -4,7 +4,7 @@ ghost use Rattle.std.specs.Prelude.{◌≡◌, ◌∷◌, [], List, ℕ, map, Ok
 ghost use Rattle.std.specs.List.{list_all, slice_split};
 ghost use Rattle.std.specs.Char.{is_ascii_digit};
 ghost use Rattle.zeb_profile.specs.PrivateKeys.{target_key};
-ghost use Rattle.zeb_profile.specs.Outcomes.{Gives};
+ghost use Rattle.zeb_profile.specs.PrivateOutcomes.{Gives};
 ghost use Rattle.zeb_profile.specs.Lines.{words_of, trimmed};
 ghost use Rattle.zeb_profile.specs.Words.{target_of, targets_of as targets_in_word, number_of, is_comma};
 ghost use Rattle.zeb_profile.specs.Directives.{one_word, two_words, store_of, identifier_of, att_of, melm_of, all_of, directive_of};

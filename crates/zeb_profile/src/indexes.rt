@@ -2,7 +2,8 @@
 
 ghost use Rattle.std.specs.Prelude.{◌≡◌, ◌<◌, ◌^◌, ◌∷◌, [], List, ℕ, length, map, IfOk, OnOk, true, unwrap_or};
 ghost use Rattle.std.specs.List.{position};
-ghost use Rattle.zeb_profile.specs.Indexes.{index_names as index_names_of, first_spelling as first_spelling_of, names_in, numbered, pair_of};
+ghost use Rattle.zeb_profile.specs.Indexes.{index_names as index_names_of, first_spelling as first_spelling_of, names_in, pair_of};
+ghost use Rattle.zeb_profile.specs.PrivateIndexes.{numbered};
 ghost use Rattle.zeb_profile.specs.PrivateKeys.{HoldsKeys, NotesSpellings, name_key, spelled, spelled_at};
 ghost use Rattle.zeb_profile.specs.Profiles.{directives_in};
 ghost use Rattle.zeb_profile.specs.Words.{same_name};

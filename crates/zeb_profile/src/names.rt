@@ -3,7 +3,7 @@
 ghost use Rattle.std.specs.Prelude.{◌≡◌, List, ℕ, IfOk, string_bytes};
 ghost use Rattle.std.specs.List.{list_all};
 ghost use Rattle.zeb_profile.specs.PrivateKeys.{name_key};
-ghost use Rattle.zeb_profile.specs.Outcomes.{Gives};
+ghost use Rattle.zeb_profile.specs.PrivateOutcomes.{Gives};
 ghost use Rattle.zeb_profile.specs.Words.{is_name as name_test, is_name_byte as name_byte_test, name_of, same_name as names_agree};
 
 use crate::ProfileFaultKind;

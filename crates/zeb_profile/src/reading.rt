@@ -7,7 +7,8 @@ ghost use Rattle.zeb_profile.specs.declared.directives.Directive.{Directive as T
 ghost use Rattle.zeb_profile.specs.Indexes.{index_names};
 ghost use Rattle.zeb_profile.specs.PrivateKeys.{AddsKeys, ties_beside};
 ghost use Rattle.zeb_profile.specs.Lines.{says_something as tells};
-ghost use Rattle.zeb_profile.specs.Outcomes.{Gives, GivesPlaced};
+ghost use Rattle.zeb_profile.specs.Outcomes.{GivesPlaced};
+ghost use Rattle.zeb_profile.specs.PrivateOutcomes.{Gives};
 ghost use Rattle.zeb_profile.specs.Profiles.{directives_in, placed_lines, ties_unknown as ties_unknown_index, is_identifier, is_store, lack_of as lack};
 ghost use Rattle.zeb_profile.specs.PrivateRepeats.{NotesAlso, directive_beside};
 

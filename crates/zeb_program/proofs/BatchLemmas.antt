@@ -8,7 +8,8 @@ use Rattle.zeb_engine.specs.declared.commands.Command.{Command}
 use Rattle.zeb_engine.specs.declared.commands.Command.TheVariants.{Init, Check, Reindex, Upgrade, Create, Drop, Stat, Dump, Change, Find, Scan, Analyse}
 use Rattle.zeb_change.specs.declared.settings.Kind.{Kind}
 use Rattle.zeb_change.specs.declared.settings.Kind.TheVariants.{Update, Delete, Adelete}
-use Rattle.zeb_program.specs.Batches.{Names, HasChange, IsChange, HasScan, IsScan, kind_word}
+use Rattle.zeb_program.specs.Batches.{Names, HasChange, HasScan, kind_word}
+use Rattle.zeb_program.specs.PrivateBatches.{IsChange, IsScan}
 use Rattle.zeb_program.specs.Words.{first_word, after_first_word}
 
 -- two texts that begin otherwise differ

@@ -17,4 +17,4 @@ pub mod WarningLemmas
 pub mod WholeLineLemmas
 pub mod WordAnswerLemmas
 pub mod WordLemmas
-pub mod Unwrapped
+pub mod ResultValues

@@ -7,7 +7,8 @@ use Rattle.std.proofs.KnownBytes.{Consumes-trans}
 use Rattle.std.proofs.lemmas.List.{length-append, append-nil, take_all}
 use Rattle.std.proofs.lemmas.List.Folds.{prefix_len-append}
 use Rattle.std.proofs.Math.Seq.{take-append_seam}
-use Rattle.zeb_program.specs.Lines.{is_lf, whole_first_line}
+use Rattle.zeb_program.specs.Lines.{is_lf}
+use Rattle.zeb_program.specs.PrivateLines.{whole_first_line}
 
 -- bytes without an LF
 abbrev pub HasNoLf : List ℕ → Type 0

@@ -15,7 +15,7 @@ use Rattle.zeb_engine.specs.declared.replies.Reply.{Reply}
 use Rattle.zeb_program.specs.declared.lines.Line.TheVariants.{Command as Order, Path}
 use Rattle.zeb_program.specs.declared.path_changes.PathChange.{PathChange}
 use Rattle.zeb_program.specs.Answers.{Writes}
-use Rattle.zeb_program.specs.OverTables.{LineOver, WritesOver}
+use Rattle.zeb_program.specs.PrivateOverTables.{LineOver, WritesOver}
 use Rattle.zeb_program.specs.Says.{Says}
 
 module _ (format : Format) (profile : List Directive) (command : Command) (s : State) (wrote writes : Option (List ℕ)) (failed : Bool) (Clean : Type 0) where

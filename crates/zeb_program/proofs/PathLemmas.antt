@@ -19,7 +19,7 @@ use Rattle.zeb_engine.specs.Replies.{reply_text}
 use Rattle.zeb_engine.specs.Steps.{TakesFiles}
 use Rattle.zeb_engine.specs.Works.{ServesBy}
 use Rattle.zeb_engine.specs.declared.replies.Reply.{Reply}
-use Rattle.zeb_engine.proofs.Serving.{keeps_still}
+use Rattle.zeb_engine.proofs.ServesLemmas.{keeps_still}
 use Rattle.zeb_program.specs.declared.faults.Fault.{Fault}
 use Rattle.zeb_program.specs.declared.faults.Fault.TheVariants as fault
 use Rattle.zeb_program.specs.declared.lines.Line.TheVariants.{Path}
@@ -29,7 +29,7 @@ use Rattle.zeb_program.specs.Lines.{first_line, after_first_line}
 use Rattle.zeb_program.specs.PathChanges.{AreFilesTold, IsLineTold, HasPath, NamesPath}
 use Rattle.zeb_program.specs.Says.{SaysText}
 use Rattle.zeb_program.specs.Scripts.{after_lines}
-use Rattle.zeb_program.specs.Serving.{AnswersFrom, Leads}
+use Rattle.zeb_program.specs.PrivateServing.{AnswersFrom, Leads}
 use Rattle.zeb_program.specs.Words.{without_blanks}
 
 -- ---- the lines of a text

@@ -5,7 +5,7 @@ use Rattle.zeb_change.specs.Conditions.{Conditions}
 use Rattle.zeb_change.specs.declared.refusals.Refusal.{Refusal}
 use Rattle.zeb_change.specs.declared.refusals.Refusal.TheVariants.{ReadFault}
 use Rattle.zeb_engine.specs.Answers.{Answer, answer_of}
-use Rattle.zeb_engine.specs.Steps.{Answered, Run, Step, TakesFiles}
+use Rattle.zeb_engine.specs.Steps.{TellsOrFails, Run, Step, TakesFiles}
 use Rattle.zeb_engine.specs.declared.commands.Command.{Command}
 use Rattle.zeb_engine.specs.declared.commands.Command.TheVariants.{Change}
 use Rattle.zeb_engine.specs.declared.replies.Reply.{Reply}
@@ -33,12 +33,12 @@ change_by change file small =
 
 -- that command answers what the change does
 takes_change : (c : Conditions) (change : PathChange) (file : List ℕ) (command : Command) → MakesChange change file command
-    → (before : Holdings) (answer : Answer) (later : Holdings) → Answered (Step c command) before answer later
-    → Answered (TakesFiles c change.kind (name_bytes change.database) (file ∷ [])) before answer later
+    → (before : Holdings) (answer : Answer) (later : Holdings) → TellsOrFails (Step c command) before answer later
+    → TellsOrFails (TakesFiles c change.kind (name_bytes change.database) (file ∷ [])) before answer later
 takes_change c change file (Change kind database files) makes before answer later h =
-    let named = subst (λ k. Answered (TakesFiles c k (name_bytes database) (map (λ given. given.items) files.items)) before answer later) makes.0 h in
-    let based = subst (λ n. Answered (TakesFiles c change.kind n (map (λ given. given.items) files.items)) before answer later) makes.1 named in
-    subst (λ t. Answered (TakesFiles c change.kind (name_bytes change.database) t) before answer later) makes.2 based
+    let named = subst (λ k. TellsOrFails (TakesFiles c k (name_bytes database) (map (λ given. given.items) files.items)) before answer later) makes.0 h in
+    let based = subst (λ n. TellsOrFails (TakesFiles c change.kind n (map (λ given. given.items) files.items)) before answer later) makes.1 named in
+    subst (λ t. TellsOrFails (TakesFiles c change.kind (name_bytes change.database) t) before answer later) makes.2 based
 takes_change c change file _ makes before answer later h = absurd makes
 
 -- ---- from the answers of lines to a run
@@ -47,7 +47,7 @@ module _ (told : List ℕ → Option (List ℕ)) (c : Conditions) (short : AreFi
   -- a line is answered by a command of the run
   run_command : (n : ℕ) (text : List ℕ) (order : Command) (answer : Result Reply Refusal) (before next last : Holdings) (here there : List ℕ) (status greatest : ℕ)
       → 0 < length text → NamesCommand told (first_line text) order → here ≡ answer_text answer → status ≡ answer_status answer
-      → Answered (Step c order) before (answer_of answer) next → IsOneRun told c (n + 1) (after_first_line text) next there greatest last
+      → TellsOrFails (Step c order) before (answer_of answer) next → IsOneRun told c (n + 1) (after_first_line text) next there greatest last
       → IsOneRun told c n text before (here ++ there) (max status greatest) last
   run_command n text order answer before next last here there status greatest some names is has step rest =
       let written : TellsLines told n text (order ∷ rest.0) (answer ∷ rest.1) (answer_text answer ++ there) (max (answer_status answer) greatest) =
@@ -83,7 +83,7 @@ module _ (told : List ℕ → Option (List ℕ)) (c : Conditions) (short : AreFi
       run_passed n text before next last (here ++ there) there (max status greatest) greatest
       (λ commands answers w. subst (λ s. TellsLines told n text commands answers (here ++ there) s) same (rw answer.0 (remark some says w))) answer.2 rest
   run_line n text (Order order) before next last here there status greatest some says answer rest =
-      let step = subst (λ held. Answered (Step c order) before (answer_of answer.0) held) (sym answer.3.2) answer.3.1 in
+      let step = subst (λ held. TellsOrFails (Step c order) before (answer_of answer.0) held) (sym answer.3.2) answer.3.1 in
       run_command n text order answer.0 before next last here there status greatest some (inl says) answer.1 answer.2 step rest
   run_line n text (Path change) before next last here there status greatest some says answer rest =
       run_file n text change answer.0 answer.2.0 before next last here there status greatest some (says, answer.1) answer.2.1 answer.2.2 answer.2.3 rest
@@ -101,7 +101,7 @@ module _ (told : List ℕ → Option (List ℕ)) (c : Conditions) (short : AreFi
 
 module _ (told : List ℕ → Option (List ℕ)) (c : Conditions) where
   answers_command : (number : ℕ) (line : List ℕ) (order : Command) (answer : Result Reply Refusal) (before next : Holdings) → NamesCommand told line order
-      → Answered (Step c order) before (answer_of answer) next → AnswersLine told c number line before (answer_text answer) (answer_status answer) next
+      → TellsOrFails (Step c order) before (answer_of answer) next → AnswersLine told c number line before (answer_text answer) (answer_status answer) next
   answers_command number line order answer before next (inl says) step = (Order order, says, (answer, refl, refl, (next, step, refl)))
   answers_command number line order answer before next (inr (change, file, names, makes)) step =
       (Path change, names.0, (file, names.1, (answer, refl, refl, inl (takes_change c change file order makes before (answer_of answer) next step))))

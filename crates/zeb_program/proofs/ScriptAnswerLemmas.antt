@@ -18,12 +18,12 @@ use Rattle.zeb_profile.specs.declared.faults.ProfileFault.{ProfileFault}
 use Rattle.zeb_profile.specs.Outcomes.{FailsPlaced}
 use Rattle.zeb_profile.specs.Profiles.{profile_of}
 use Rattle.zeb_program.specs.declared.script.Batch.{Batch}
-use Rattle.zeb_program.specs.Faults.{IsOpeningFailure}
+use Rattle.zeb_program.specs.PrivateFaults.{IsOpeningFailure}
 use Rattle.zeb_program.specs.Inputs.{IsInput}
 use Rattle.zeb_program.specs.PathChanges.{AreFilesTold}
 use Rattle.zeb_program.specs.Scripts.{DividesAt, HasNoDivider}
 use Rattle.zeb_program.specs.Answers.{Writes, AnswersBatch, AnswersPart}
-use Rattle.zeb_program.specs.Serving.{Leads, Stops}
+use Rattle.zeb_program.specs.PrivateServing.{Leads, Stops}
 use Rattle.zeb_program.specs.ScriptAnswers.{AnswersScript, EndsEarly, EndsScript, unreadable, faulty, alone, ran, stopped, silent, AreScriptConditions, AnswersOpened, AnswersStopped, IsUnopened, IsProfileOf, unreadable_line, refusal_line, fault_line, fault_status}
 use Rattle.zeb_program.proofs.AnswerLemmas.{Appends-nil}
 

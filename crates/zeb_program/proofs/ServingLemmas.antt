@@ -17,7 +17,7 @@ use Rattle.zeb_program.specs.declared.lines.Line.TheVariants.{Remark, Command as
 use Rattle.zeb_program.specs.Says.{Says}
 use Rattle.zeb_program.specs.Lines.{first_line, after_first_line}
 use Rattle.zeb_program.specs.Answers.{Writes, bad_line, IsAnswer, AnswersLine, AnswersLines, AnswersBatch, AnswersPart}
-use Rattle.zeb_program.specs.Serving.{Leads, Stops}
+use Rattle.zeb_program.specs.PrivateServing.{Leads, Stops}
 use Rattle.zeb_program.proofs.AnswerLemmas.{Appends-nil, IsAnswered, answered_start, answered_line, answered_lines}
 
 -- a refusal that is written is the command's answer

@@ -7,12 +7,14 @@ use Rattle.std.specs.Str.{IsUtf8}
 use Rattle.std.proofs.KnownBytes.{Appends-kept, Keeps-refl}
 use Rattle.sqlite.specs.State.{State}
 use Rattle.zeb_change.specs.Conditions.{Conditions}
-use Rattle.zeb_program.specs.Answers.{AnswersBatch, AnswersFirst, AnswersLine, bad_line}
+use Rattle.zeb_program.specs.Answers.{AnswersBatch, AnswersLine, bad_line}
+use Rattle.zeb_program.specs.PrivateAnswers.{AnswersFirst}
 use Rattle.zeb_program.specs.Inputs.{TakesAtMost}
-use Rattle.zeb_program.specs.Lines.{first_line, after_first_line, whole_first_line}
+use Rattle.zeb_program.specs.Lines.{first_line, after_first_line}
+use Rattle.zeb_program.specs.PrivateLines.{whole_first_line}
 use Rattle.zeb_program.specs.PathChanges.{AreFilesTold, IsLineTold}
 use Rattle.zeb_program.specs.ScriptAnswers.{unreadable_line}
-use Rattle.zeb_program.specs.Serving.{Leads, ServesLines, Stops}
+use Rattle.zeb_program.specs.PrivateServing.{Leads, ServesLines, Stops}
 use Rattle.zeb_program.proofs.AnswerLemmas.{answered_lines}
 use Rattle.zeb_program.proofs.PathLemmas.{told_first, told_rest}
 use Rattle.zeb_program.proofs.ScriptLemmas.{not_empty}

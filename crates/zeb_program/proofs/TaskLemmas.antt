@@ -8,7 +8,7 @@ use Rattle.zeb_change.specs.declared.refusals.Refusal.{Refusal}
 use Rattle.zeb_change.specs.declared.settings.Kind.{Kind}
 use Rattle.zeb_engine.specs.Analysed.{IsAnalysed}
 use Rattle.zeb_engine.specs.Answers.{answer_of}
-use Rattle.zeb_engine.specs.Steps.{Answered, OnlyAnswers}
+use Rattle.zeb_engine.specs.Steps.{TellsOrFails, OnlyAnswers}
 use Rattle.zeb_engine.specs.Works.{ServesCommand}
 use Rattle.zeb_engine.specs.declared.commands.Command.{Command}
 use Rattle.zeb_engine.specs.declared.commands.Command.TheVariants as command
@@ -17,9 +17,9 @@ use Rattle.zeb_image.specs.Holdings.{Holdings}
 use Rattle.zeb_image.specs.NameOf.{name_bytes}
 use Rattle.zeb_image.specs.declared.names.DbName.{DbName}
 use Rattle.zeb_program.specs.Answers.{ChangesBy}
-use Rattle.zeb_program.specs.Faults.{IsUnread, IsUnreadable}
-use Rattle.zeb_program.specs.Serving.{AnswersFrom, ServesTask}
-use Rattle.zeb_program.specs.TaskAnswers.{AnalysesFiles, AnswersCommand, AreTold}
+use Rattle.zeb_program.specs.PrivateFaults.{IsUnread, IsUnreadable}
+use Rattle.zeb_program.specs.PrivateServing.{AnswersFrom, ServesTask}
+use Rattle.zeb_program.specs.PrivateTaskAnswers.{AnalysesFiles, AnswersCommand, AreTold}
 use Rattle.zeb_program.specs.declared.faults.Fault.{Fault}
 use Rattle.zeb_program.specs.declared.faults.Fault.TheVariants as fault
 use Rattle.zeb_program.specs.declared.tasks.Task.{Task}
@@ -40,8 +40,8 @@ refused_command c order old new refusal serves before keeps = let served = serve
 analysed : (c : Conditions) (given : Vec (Vec ℕ Global) Global) (files : List (List ℕ)) (before later : Holdings) (answer : Result Reply Refusal)
     → map (λ file. file.items) given.items ≡ files → AnswersCommand c (command.Analyse given) before answer later → AnalysesFiles c files before answer later
 analysed c given files before later answer same h =
-    let there = subst (λ held. Answered (OnlyAnswers (IsAnalysed c.profile c.limits.records (map (λ file. file.items) given.items))) before (answer_of answer) held) (sym h.2) h.1 in
-    subst (λ texts. Answered (OnlyAnswers (IsAnalysed c.profile c.limits.records texts)) before (answer_of answer) later) same there
+    let there = subst (λ held. TellsOrFails (OnlyAnswers (IsAnalysed c.profile c.limits.records (map (λ file. file.items) given.items))) before (answer_of answer) held) (sym h.2) h.1 in
+    subst (λ texts. TellsOrFails (OnlyAnswers (IsAnalysed c.profile c.limits.records texts)) before (answer_of answer) later) same there
 
 pub analysed_files : (c : Conditions) (given : Vec (Vec ℕ Global) Global) (files : List (List ℕ)) (old new : State) (r : Result Reply Fault) → map (λ file. file.items) given.items ≡ files
     → AnswersFrom old new r (AnswersCommand c (command.Analyse given)) → AnswersFrom old new r (AnalysesFiles c files)

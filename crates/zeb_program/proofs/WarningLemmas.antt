@@ -8,7 +8,7 @@ use Rattle.zeb_marc.proofs.SplitLaws.{NextIs, SoundSlice-from_checks, next_view,
 use Rattle.zeb_engine.specs.declared.replies.Reply.{Reply}
 use Rattle.zeb_engine.specs.declared.replies.Reply.TheVariants.{Done, Changed, Found, Scanned, Counted, Dumped, Analysed}
 use Rattle.zeb_program.specs.TaskAnswers.{ReadsWhole}
-use Rattle.zeb_program.specs.Warnings.{MayWarn, unmarked_from, unmarked_of, warning_of}
+use Rattle.zeb_program.specs.PrivateWarnings.{MayWarn, unmarked_from, unmarked_of, warning_of}
 use Rattle.zeb_program.specs.declared.tasks.Task.{Task}
 use Rattle.zeb_program.specs.declared.tasks.Task.TheVariants.{Ask, Change, Analyse}
 use Rattle.zeb_program.specs.declared.warnings.Place.{Place}

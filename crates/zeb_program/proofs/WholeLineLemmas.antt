@@ -8,7 +8,8 @@ use Rattle.std.specs.Str.Lines.{strip_carriage_return}
 use Rattle.std.proofs.lemmas.List.{length-append, take_all, drop_all, append_cancel_left}
 use Rattle.std.proofs.lemmas.Str.{IsUtf8-append, IsUtf8-encode, encode_ascii}
 use Rattle.std.proofs.Math.Seq.{take-append_seam, take-append-add, drop-append-add}
-use Rattle.zeb_program.specs.Lines.{is_lf, first_line, whole_first_line, after_first_line}
+use Rattle.zeb_program.specs.Lines.{is_lf, first_line, after_first_line}
+use Rattle.zeb_program.specs.PrivateLines.{whole_first_line}
 use Rattle.zeb_program.proofs.LineLemmas.{ends_in}
 use Rattle.zeb_program.proofs.LineInputLemmas.{HasNoLf, position_past}
 

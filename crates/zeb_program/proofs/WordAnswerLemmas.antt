@@ -12,7 +12,7 @@ use Rattle.zeb_engine.specs.Refusals.{status_of}
 use Rattle.zeb_words.specs.declared.words.Usage.{Usage}
 use Rattle.zeb_words.specs.declared.words.Usage.TheVariants as usage
 use Rattle.zeb_program.specs.declared.tasks.Task.{Task}
-use Rattle.zeb_program.specs.Warnings.{MayWarn}
+use Rattle.zeb_program.specs.PrivateWarnings.{MayWarn}
 use Rattle.zeb_program.specs.WordAnswers.{AnswersWords, misused, batched, served, named, IsFaultStatus, NamesBatch, NamesShell, NamesTask, TellsApart, TellsUsage, WarnsAtMost}
 
 -- a refusal's status is that of a fault

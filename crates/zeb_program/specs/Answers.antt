@@ -1,5 +1,7 @@
--- What a batch writes, and its status (this program's own): the answers of its lines, one after the other, and the greatest status among them.
--- Line after line the commands are a run from what the register held before it. `told` gives the bytes of the file at a path, where they are known.
+-- What a batch writes, and its status (this program's own): the answers of its lines, one after the other, and the greatest status among
+-- them.
+-- Line after line the commands are a run from what the register held before it. `told` gives the bytes of the file at a path, where they
+-- are known.
 use Rattle.std.specs.Prelude.{◌≡◌, ◌⊎◌, ◌<◌, ◌≤◌, ◌+◌, ℕ, max, Option, Some, Result, Ok, Err, List, [], ◌∷◌, ◌++◌, length, codes, string_bytes}
 use Rattle.std.specs.Fmt.{decimal}
 use Rattle.std.specs.Io.KnownBytes.{Appends}
@@ -14,11 +16,10 @@ use Rattle.zeb_image.specs.Holdings.{Holdings}
 use Rattle.zeb_image.specs.NameOf.{name_bytes}
 use Rattle.zeb_engine.specs.Replies.{reply_text}
 use Rattle.zeb_engine.specs.Refusals.{refusal_text, status_of}
-use Rattle.zeb_engine.specs.Steps.{Answered, Run, TakesFiles}
+use Rattle.zeb_engine.specs.Steps.{TellsOrFails, Run, TakesFiles}
 use Rattle.zeb_program.specs.declared.lines.Line.{Line}
 use Rattle.zeb_program.specs.declared.lines.Line.TheVariants.{Remark, Command as Order, Path, Bad}
 use Rattle.zeb_program.specs.declared.path_changes.PathChange.{PathChange}
-use Rattle.zeb_program.specs.Inputs.{TakesAtMost}
 use Rattle.zeb_program.specs.Lines.{first_line, after_first_line}
 use Rattle.zeb_program.specs.Says.{Says}
 
@@ -40,11 +41,11 @@ abbrev pub IsAnswer : Conditions → Command → Holdings → List ℕ → ℕ �
 IsAnswer c command before bytes status later =
     (answer : Result Reply Refusal) × (bytes ≡ answer_text answer) × (status ≡ answer_status answer) × Run c before (command ∷ []) (answer_of answer ∷ []) later
 
--- an answer to a change by files of these bytes, and what the register holds then: it is that of the change, or one of the files, which are counted
--- from 1, couldn't be read to its end and nothing changes
+-- an answer to a change by files of these bytes, and what the register holds then: it is that of the change, or one of the files, which are
+-- counted from 1, couldn't be read to its end and nothing changes
 abbrev pub ChangesBy : Conditions → Kind → List ℕ → List (List ℕ) → Holdings → Result Reply Refusal → Holdings → Type 0
 ChangesBy c kind name files before answer later =
-    Answered (TakesFiles c kind name files) before (answer_of answer) later
+    TellsOrFails (TakesFiles c kind name files) before (answer_of answer) later
     ⊎ ((file : ℕ) × (1 ≤ file) × (file ≤ length files) × (answer ≡ Err (ReadFault file)) × (later ≡ before))
 
 -- what is written for a change by the path of a file of these bytes, its status, and what the register holds then
@@ -82,8 +83,3 @@ AnswersBatch told c n text before bytes status last = AnswersLines told c n text
 -- the lines before one of the text are answered, and that line and those after it are not
 abbrev pub AnswersPart : (List ℕ → Option (List ℕ)) → Conditions → ℕ → List ℕ → Holdings → List ℕ → Type 0
 AnswersPart told c n text before bytes = (status : ℕ) × (rest : List ℕ) × (last : Holdings) × (0 < length rest) × AnswersLines told c n text before bytes status rest last
-
--- The first lines of the text are answered, maybe all, and this is left of it: of the lines behind them no more is gone than one line may take.
-abbrev pub AnswersFirst : (List ℕ → Option (List ℕ)) → Conditions → ℕ → List ℕ → Option (List ℕ) → Holdings → List ℕ → Type 0
-AnswersFirst told c n text left before bytes =
-    (status : ℕ) × (rest : List ℕ) × (last : Holdings) × AnswersLines told c n text before bytes status rest last × TakesAtMost 16777217 (Some rest) left

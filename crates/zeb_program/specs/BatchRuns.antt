@@ -31,8 +31,8 @@ abbrev pub NamesCommand : (List ℕ → Option (List ℕ)) → List ℕ → Comm
 NamesCommand told line command =
     Says line (Order command) ⊎ ((change : PathChange) × (file : List ℕ) × NamesFile told line change file × MakesChange change file command)
 
--- The lines of a text, which n lines of the input stand before: the commands that they name, an answer to each, what is written for the lines,
--- and the greatest status.
+-- The lines of a text, which n lines of the input stand before: the commands that they name, an answer to each, what is written for the
+-- lines, and the greatest status.
 pub data TellsLines : (List ℕ → Option (List ℕ)) → ℕ → List ℕ → List Command → List (Result Reply Refusal) → List ℕ → ℕ → Type 0 where
   none : {told : List ℕ → Option (List ℕ)} {n : ℕ} → TellsLines told n [] [] [] [] 0
   remark : {told : List ℕ → Option (List ℕ)} {n : ℕ} {text : List ℕ} {commands : List Command} {answers : List (Result Reply Refusal)} {bytes : List ℕ} {status : ℕ}

@@ -76,20 +76,10 @@ pub record HasChange (text : List ℕ) : Type 0 where
   pub mark : take 4 (after_first_word text) ≡ codes "hex:"
   pub bytes : IsOk (decode_of (drop 4 (after_first_word text)))
 
--- the command is a change of that kind, and the text names its database and its file
-abbrev pub IsChange : Kind → List ℕ → Command → Type 0
-IsChange kind text (Change its_kind database files) = (its_kind ≡ kind) × NamesChange text database (map (λ file. file.items) files.items)
-IsChange kind text _ = ⊥
-
 -- a find is named
 pub record HasFind (text : List ℕ) : Type 0 where
   pub name : IsDatabaseName (first_word text)
   pub some : after_first_word text ≢ []
-
--- the command is a find of the first 20 records, and the text names its database and its query
-abbrev pub IsFind : List ℕ → Command → Type 0
-IsFind text (Find database query first count) = NamesFind text database (string_bytes query) × (first ≡ 1) × (count ≡ 20)
-IsFind text _ = ⊥
 
 -- a scan is named
 pub record HasScan (text : List ℕ) : Type 0 where
@@ -100,8 +90,3 @@ pub record HasScan (text : List ℕ) : Type 0 where
   pub place : number_of (position_word text) ≡ Some position
   pub within : IsRange number position
   pub some : scan_query text ≢ []
-
--- the command is a scan, and the text names its database, its range and its query
-abbrev pub IsScan : List ℕ → Command → Type 0
-IsScan text (Scan database query number position) = NamesScan text database (string_bytes query) number position
-IsScan text _ = ⊥

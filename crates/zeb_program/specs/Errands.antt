@@ -1,13 +1,11 @@
--- What an act on a database asks for (the commands are those of the Zebra manual, zebraidx, and this program's own): a task of a register, or
--- that the lines of the input be run. There is one case for each command that words name.
+-- What an act on a database asks for (the commands are those of the Zebra manual, zebraidx, and this program's own): a task of a register,
+-- or that the lines of the input be run. There is one case for each command that words name.
 use Rattle.std.specs.Prelude.{◌≡◌, true, false}
 use Rattle.zeb_image.specs.declared.names.DbName.{DbName}
 use Rattle.zeb_engine.specs.declared.commands.Command.TheVariants as command
 use Rattle.zeb_change.specs.declared.settings.Kind.TheVariants as kind
 use Rattle.zeb_words.specs.declared.words.Act.{Act}
 use Rattle.zeb_words.specs.declared.words.Act.TheVariants.{Init, Create, Drop, Update, Delete, Adelete, Stat, Dump, Check, Reindex, Upgrade, Find, Scan, Batch, Shell}
-use Rattle.zeb_program.specs.declared.tasks.Errand.{Errand}
-use Rattle.zeb_program.specs.declared.tasks.Errand.TheVariants as errand
 use Rattle.zeb_program.specs.declared.tasks.Task.{Task}
 use Rattle.zeb_program.specs.declared.tasks.Task.TheVariants.{Ask, Change, Analyse}
 
@@ -29,9 +27,3 @@ IsTaskOf database (Find query first count) task = task ≡ Ask (command.Find dat
 IsTaskOf database (Scan query number position) task = task ≡ Ask (command.Scan database query number position)
 IsTaskOf database Batch task = ⊥
 IsTaskOf database Shell task = ⊥
-
--- what an act on a database asks for; only a batch and a shell have the lines of the input run
-abbrev pub IsErrandOf : DbName → Act → Errand → Type 0
-IsErrandOf database act (errand.Task task) = IsTaskOf database act task
-IsErrandOf database act errand.Batch = act ≡ Batch
-IsErrandOf database act errand.Shell = act ≡ Shell

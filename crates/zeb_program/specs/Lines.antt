@@ -1,6 +1,7 @@
--- Lines of a text (the Zebra manual's configuration files, which are read line by line): a line ends at LF, and one CR right before the LF is dropped with it.
+-- Lines of a text (the Zebra manual's configuration files, which are read line by line): a line ends at LF, and one CR right before the LF
+-- is dropped with it.
 -- A last line may lack its LF, and then keeps a CR.
-use Rattle.std.specs.Prelude.{ℕ, Bool, ◌==◌, ◌+◌, List, length, take, if◌then◌else◌, nat_lt}
+use Rattle.std.specs.Prelude.{ℕ, Bool, ◌==◌, List, length, if◌then◌else◌, nat_lt}
 use Rattle.std.specs.List.{position_or_len, before_first, after_first}
 use Rattle.std.specs.Str.Lines.{strip_carriage_return}
 
@@ -10,10 +11,6 @@ is_lf byte = byte == 10
 -- the first line of a text
 abbrev pub first_line : List ℕ → List ℕ
 first_line text = if nat_lt (position_or_len is_lf text) (length text) then strip_carriage_return (before_first is_lf text) else text
-
--- the first line with its LF, where it has one
-abbrev pub whole_first_line : List ℕ → List ℕ
-whole_first_line text = take (position_or_len is_lf text + 1) text
 
 -- what stands after the first line
 abbrev pub after_first_line : List ℕ → List ℕ

@@ -1,4 +1,5 @@
--- The lines of a batch that name a change by the path of its file (Zebra manual, zebraidx, whose commands they are; the line is this program's own).
+-- The lines of a batch that name a change by the path of its file (Zebra manual, zebraidx, whose commands they are; the line is this
+-- program's own).
 use Rattle.std.specs.Prelude.{◌≡◌, ◌≢◌, ℕ, List, [], Option, Some, IsOk, take, drop, codes, string_bytes}
 use Rattle.std.specs.Str.{IsUtf8}
 use Rattle.hex.specs.Hex.{decode_of}
@@ -18,8 +19,8 @@ pub record IsDigits (file : List ℕ) : Type 0 where
 abbrev pub file_of : List ℕ → List ℕ
 file_of text = after_first_word (after_first_word text)
 
--- the text, which begins and ends with no blank, names a change by a path: the word of its kind, a database's name, and a rest that isn't empty
--- and isn't `hex:` with the digits of bytes
+-- the text, which begins and ends with no blank, names a change by a path: the word of its kind, a database's name, and a rest that isn't
+-- empty and isn't `hex:` with the digits of bytes
 pub record HasPath (text : List ℕ) : Type 0 where
   pub kind : Kind
   pub word : first_word text ≡ kind_word kind

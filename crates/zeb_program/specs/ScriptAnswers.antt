@@ -39,14 +39,16 @@ abbrev pub fault_status : ProfileFaultKind → ℕ
 fault_status Memory = 3
 fault_status _ = 1
 
--- what a register works under that the program opens, by the directives of its profile: the version is that of the layout with packed blocks, and the limits are the greatest that there are
+-- what a register works under that the program opens, by the directives of its profile: the version is that of the layout with packed
+-- blocks, and the limits are the greatest that there are
 pub record AreScriptConditions (directives : List Directive) (c : Conditions) : Type 0 where
   pub version : c.version ≡ codes "2"
   pub profile : c.profile ≡ directives
   pub records : c.limits.records ≡ 1000000
   pub numbers : c.limits.numbers ≡ 999999999
 
--- what the lines of a batch add to a writer's known bytes, from a register that holds nothing yet: their answers, or the failure of the store or the memory by which no register was opened
+-- what the lines of a batch add to a writer's known bytes, from a register that holds nothing yet: their answers, or the failure of the
+-- store or the memory by which no register was opened
 abbrev pub AnswersOpened : (List ℕ → Option (List ℕ)) → List Directive → ℕ → List ℕ → Option (List ℕ) → Option (List ℕ) → ℕ → Type 0
 AnswersOpened told directives n batch old new status =
     Writes old new (λ bytes. (c : Conditions) × AreScriptConditions directives c × (last : Holdings) × AnswersBatch told c n batch nothing_yet bytes status last)
@@ -61,7 +63,8 @@ AnswersStopped told directives n batch old new =
 abbrev pub IsProfileOf : List ℕ → List ℕ → Type 0
 IsProfileOf text profile = (HasNoDivider text × (profile ≡ text)) ⊎ ((n : ℕ) × (batch : List ℕ) × DividesAt n text profile batch)
 
--- what a script of this text adds to a writer's known bytes, and its status, where `told` gives the bytes of files at paths: only an input that isn't too long and is text is looked at any further
+-- what a script of this text adds to a writer's known bytes, and its status, where `told` gives the bytes of files at paths: only an input
+-- that isn't too long and is text is looked at any further
 pub data AnswersScript : (List ℕ → Option (List ℕ)) → List ℕ → Option (List ℕ) → Option (List ℕ) → ℕ → Type 0 where
   -- an input that is too long or no text
   unreadable : {told : List ℕ → Option (List ℕ)} {text : List ℕ} {old new : Option (List ℕ)} → ¬ IsInput text → Writes old new (λ bytes. bytes ≡ unreadable_line) → AnswersScript told text old new 3

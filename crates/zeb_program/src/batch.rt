@@ -9,9 +9,9 @@ ghost use Rattle.zeb_engine.specs.Refusals.{refusal_text, status_of};
 ghost use Rattle.zeb_program.specs.ScriptAnswers.{AnswersOpened, AnswersStopped};
 ghost use Rattle.std.specs.Io.KnownBytes.{Appends};
 ghost use Rattle.zeb_program.specs.Answers.{Writes, bad_line, IsAnswer, AnswersLine, AnswersBatch, AnswersPart};
-ghost use Rattle.zeb_program.specs.OverTables.{LineOver, WritesOver};
+ghost use Rattle.zeb_program.specs.PrivateOverTables.{LineOver, WritesOver};
 ghost use Rattle.zeb_program.specs.PathChanges.{AreFilesTold, IsLineTold};
-ghost use Rattle.zeb_program.specs.Serving.{Leads, Stops};
+ghost use Rattle.zeb_program.specs.PrivateServing.{Leads, Stops};
 ghost use Rattle.zeb_program.specs.WordAnswers.{IsFaultStatus};
 
 use crate::lines::Line;

@@ -2,7 +2,7 @@
 
 ghost use Rattle.std.specs.Prelude.{◌≡◌, ◌⊎◌, ◌≤◌, ◌<◌, ◌+◌, ◌++◌, false, true, map, string_bytes, IfOk, IfSome, OnErr, IsErrAnd};
 ghost use Rattle.std.specs.Io.KnownBytes.{Appends, IsAtEnd, Keeps};
-ghost use Rattle.zeb_program.specs.Faults.{IsUnread};
+ghost use Rattle.zeb_program.specs.PrivateFaults.{IsUnread};
 ghost use Rattle.zeb_program.specs.Inputs.{TakesAtMost};
 ghost use Rattle.zeb_program.specs.ScriptAnswers.{usage_line};
 ghost use Rattle.zeb_program.specs.WordAnswers.{AnswersWords, NamesLines, NamesShell, TellsApart, TellsUsage};

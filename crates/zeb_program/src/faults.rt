@@ -4,7 +4,7 @@ ghost use Rattle.std.specs.Prelude.{◌≡◌, ◌∷◌, ◌++◌, [], false, I
 ghost use Rattle.zeb_change.specs.declared.refusals.Refusal.{Refusal};
 ghost use Rattle.zeb_engine.specs.Refusals.{refusal_text, status_of};
 ghost use Rattle.zeb_program.specs.Answers.{Writes};
-ghost use Rattle.zeb_program.specs.Faults.{IsUnread};
+ghost use Rattle.zeb_program.specs.PrivateFaults.{IsUnread};
 ghost use Rattle.zeb_program.specs.declared.faults.Fault.TheVariants.{Memory, Refused};
 ghost use Rattle.zeb_program.specs.WordAnswers.{IsFaultStatus};
 

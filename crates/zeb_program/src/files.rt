@@ -1,8 +1,8 @@
 //! The files at the paths that words or a line name.
 
 ghost use Rattle.std.specs.Prelude.{◌≡◌, ℕ, List, Some, map, string_bytes, IfErr, IfOk};
-ghost use Rattle.zeb_program.specs.Faults.{IsUnread};
-ghost use Rattle.zeb_program.specs.TaskAnswers.{AreTold};
+ghost use Rattle.zeb_program.specs.PrivateFaults.{IsUnread};
+ghost use Rattle.zeb_program.specs.PrivateTaskAnswers.{AreTold};
 ghost use Rattle.zeb_program.specs.declared.faults.Fault.TheVariants.{Memory};
 
 use crate::faults::Fault;

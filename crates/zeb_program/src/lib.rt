@@ -23,6 +23,7 @@ mod tasks;
 mod warnings;
 mod words;
 
+pub use laws::a_batch_is_one_run;
 pub use outputs::Output;
 pub use program::{FAILED, run};
 pub use sinks::Sink;

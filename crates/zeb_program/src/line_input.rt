@@ -4,7 +4,8 @@ ghost use Rattle.std.specs.Prelude.{◌≡◌, ◌≤◌, ◌<◌, ◌+◌, true
 ghost use Rattle.std.specs.Io.KnownBytes.{Consumes, IsAtEnd};
 ghost use Rattle.std.specs.List.{position_or_len};
 ghost use Rattle.zeb_program.specs.Inputs.{TakesAtMost};
-ghost use Rattle.zeb_program.specs.Lines.{is_lf, whole_first_line};
+ghost use Rattle.zeb_program.specs.Lines.{is_lf};
+ghost use Rattle.zeb_program.specs.PrivateLines.{whole_first_line};
 ghost use Rattle.zeb_program.specs.declared.input.InputFault.TheVariants.{Unreadable};
 
 use crate::input::{GREATEST_INPUT, InputFault};

@@ -2,7 +2,8 @@
 
 ghost use Rattle.std.specs.Prelude.{◌≡◌, IfOk, MatchOption};
 ghost use Rattle.zeb_engine.specs.declared.commands.Command.{Command};
-ghost use Rattle.zeb_program.specs.Batches.{Names, HasChange, IsChange, HasFind, IsFind, HasScan, IsScan};
+ghost use Rattle.zeb_program.specs.Batches.{Names, HasChange, HasFind, HasScan};
+ghost use Rattle.zeb_program.specs.PrivateBatches.{IsChange, IsFind, IsScan};
 
 use crate::digits::bytes_of_digits;
 use crate::numbers::number_of;

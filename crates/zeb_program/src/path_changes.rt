@@ -10,7 +10,7 @@ ghost use Rattle.zeb_register.specs.Formats.{version_of};
 ghost use Rattle.zeb_program.specs.Answers.{IsFileAnswer};
 ghost use Rattle.zeb_program.specs.Batches.{kind_word};
 ghost use Rattle.zeb_program.specs.PathChanges.{HasPath, IsDigits, NamesPath};
-ghost use Rattle.zeb_program.specs.Serving.{Leads};
+ghost use Rattle.zeb_program.specs.PrivateServing.{Leads};
 
 use crate::digits::bytes_of_digits;
 use crate::faults::tell;

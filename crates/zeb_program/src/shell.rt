@@ -6,11 +6,13 @@ ghost use Rattle.sqlite.specs.Held.{state};
 ghost use Rattle.sqlite.specs.State.{HasCleanDisk};
 ghost use Rattle.zeb_change.specs.Conditions.{conditions};
 ghost use Rattle.zeb_register.specs.Formats.{version_of};
-ghost use Rattle.zeb_program.specs.Answers.{AnswersBatch, AnswersFirst, AnswersLine};
+ghost use Rattle.zeb_program.specs.Answers.{AnswersBatch, AnswersLine};
+ghost use Rattle.zeb_program.specs.PrivateAnswers.{AnswersFirst};
 ghost use Rattle.zeb_program.specs.Inputs.{TakesAtMost};
-ghost use Rattle.zeb_program.specs.Lines.{first_line, after_first_line, whole_first_line};
+ghost use Rattle.zeb_program.specs.Lines.{first_line, after_first_line};
+ghost use Rattle.zeb_program.specs.PrivateLines.{whole_first_line};
 ghost use Rattle.zeb_program.specs.PathChanges.{AreFilesTold, IsLineTold};
-ghost use Rattle.zeb_program.specs.Serving.{Leads, ServesLines, Stops};
+ghost use Rattle.zeb_program.specs.PrivateServing.{Leads, ServesLines, Stops};
 ghost use Rattle.zeb_program.specs.declared.input.InputFault.TheVariants.{Unreadable};
 
 use crate::batch::{refuse_line, run_line};

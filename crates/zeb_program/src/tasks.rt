@@ -9,12 +9,13 @@ ghost use Rattle.zeb_image.specs.NameOf.{name_bytes};
 ghost use Rattle.zeb_register.specs.Formats.{packed_blocks, version_of};
 ghost use Rattle.zeb_program.specs.Answers.{ChangesBy};
 ghost use Rattle.zeb_engine.specs.AnyAnswers.{IsAnswerOver};
-ghost use Rattle.zeb_program.specs.Faults.{GivesAnswer, IsOpeningFault, IsUnread, IsUnreadable};
+ghost use Rattle.zeb_program.specs.PrivateFaults.{GivesAnswer, IsOpeningFault, IsUnread, IsUnreadable};
 ghost use Rattle.zeb_program.specs.ScriptAnswers.{AreScriptConditions};
-ghost use Rattle.zeb_program.specs.OverTables.{TaskOver};
-ghost use Rattle.zeb_program.specs.Serving.{AnswersFrom, ServesTask, replied};
-ghost use Rattle.zeb_program.specs.TaskAnswers.{AnalysesFiles, AnswersCommand, AreTold, ReadsWhole, paths_of};
-ghost use Rattle.zeb_program.specs.Warnings as spec;
+ghost use Rattle.zeb_program.specs.PrivateOverTables.{TaskOver};
+ghost use Rattle.zeb_program.specs.PrivateServing.{AnswersFrom, ServesTask, replied};
+ghost use Rattle.zeb_program.specs.TaskAnswers.{ReadsWhole};
+ghost use Rattle.zeb_program.specs.PrivateTaskAnswers.{AnalysesFiles, AnswersCommand, AreTold, paths_of};
+ghost use Rattle.zeb_program.specs.PrivateWarnings as spec;
 
 use crate::faults::Fault;
 use crate::files::{contents_of, read_profile, readers_of};
@@ -56,7 +57,7 @@ pub enum Errand {
 }
 
 impl Errand {
-    ghost use Rattle.zeb_program.specs.Errands.{IsErrandOf};
+    ghost use Rattle.zeb_program.specs.PrivateErrands.{IsErrandOf};
 
     /// What an act on this database asks for.
     pub fn of(database: DbName, act: Act) -> Errand

@@ -3,7 +3,8 @@
 ghost use Rattle.std.specs.Prelude.{◌≡◌, ◌<◌, ◌∷◌, ◌++◌, [], false, true, length, map, string_bytes, IfOk, OnOk};
 ghost use Rattle.std.specs.Option.{option_map};
 ghost use Rattle.zeb_marc.specs.Splits.{split_of};
-ghost use Rattle.zeb_program.specs.Warnings as spec;
+ghost use Rattle.zeb_program.specs.PrivateWarnings as spec;
+ghost use Rattle.zeb_program.specs.Warnings as lines;
 
 use std::alloc::{AllocError, Global};
 use zeb_engine::Reply;
@@ -76,7 +77,7 @@ fn warning_line(
     records: usize,
     first: Place,
 ) -> Result<String, AllocError>
-    ensures { IfOk result (λ line. string_bytes line ≡ spec.warning_line unmarked records first) }
+    ensures { IfOk result (λ line. string_bytes line ≡ lines.warning_line unmarked records first) }
 {
     let Place { file, nth } = first;
     format!(in alloc;

@@ -6,7 +6,7 @@ use Rattle.zeb_query.specs.declared.queries.Connective.{Connective}
 use Rattle.zeb_query.specs.declared.keywords.Keyword.{Keyword}
 use Rattle.zeb_query.specs.declared.keywords.Keyword.TheVariants.{AttributeSet, Attribute, TermType, ResultSet, Operator}
 use Rattle.zeb_query.specs.Words.{Word}
-use Rattle.zeb_query.specs.Grammar.{keyword_of, IsStructure, is_term, is_named, is_attribute, is_attribute_of_set, is_typed, is_pair, IsQuery, is_structure, is_structure_of_set, is_good, has_equals, is_equals, kind_and_value, parameter_count, under, with_attribute, with_type, HeadValue, TreeValue, TermValue, NamedValue, PairValue, QueryValue}
+use Rattle.zeb_query.specs.Grammar.{keyword_of, IsStructure, is_term, is_named, is_attribute, is_attribute_of_set, is_typed, is_pair, IsQuery, is_structure, is_structure_of_set, is_good, has_equals, is_equals_sign, kind_and_value, parameter_count, under, with_attribute, with_type, HeadValue, TreeValue, TermValue, NamedValue, PairValue, QueryValue}
 use Rattle.zeb_query.specs.PrivateWalk.{Due, Start, Structures, SetOrSpec, Spec, MoreWords, words_then, fault, Allowed, step, structure_step, start_step}
 use Rattle.zeb_query.specs.Places.{operators}
 use Rattle.zeb_query.specs.PrivateReading.{first_keyword}
@@ -18,10 +18,10 @@ or_parts : (a b : Bool) → (a || b) ≡ false → (a ≡ false) × (b ≡ false
 or_parts true b e = absurd (true≢false e)
 or_parts false b e = (refl, e)
 
-position-any : (text : List ℕ) → list_any is_equals text ≡ false → position_or_len is_equals text ≡ length text
+position-any : (text : List ℕ) → list_any is_equals_sign text ≡ false → position_or_len is_equals_sign text ≡ length text
 position-any [] e = refl
 position-any (b ∷ bs) e =
-    let p : (is_equals b ≡ false) × (list_any is_equals bs ≡ false) = or_parts (is_equals b) (list_any is_equals bs) e in
+    let p : (is_equals_sign b ≡ false) × (list_any is_equals_sign bs ≡ false) = or_parts (is_equals_sign b) (list_any is_equals_sign bs) e in
     rw (p.0, one-add) (ap suc (position-any bs p.1))
 
 pub has_equals_from_read : (text : List ℕ) (read : ℕ × List ℕ) → kind_and_value text ≡ Some read → has_equals text ≡ true

@@ -12,23 +12,22 @@ use Rattle.zeb_query.specs.declared.words.Spelling.TheVariants.{Plain, Quoted, B
 use Rattle.zeb_query.specs.declared.queries.Connective.{Connective}
 use Rattle.zeb_query.specs.declared.keywords.Keyword.{Keyword}
 use Rattle.zeb_query.specs.declared.keywords.Keyword.TheVariants.{AttributeSet, Attribute, TermType, ResultSet, Operator}
-use Rattle.zeb_query.specs.Grammar.{number_of, keyword_of, keyword_by, kind_and_value, if_any, is_equals, has_equals, is_good, is_good_spelling, IsStructure, is_attribute, is_attribute_of_set, is_typed, under, heads, no_head, inner_type, with_type, text_of, is_term, is_named, is_pair, parameter_count, IsQuery, is_structure, is_structure_of_set, AttributeValue, HeadValue, TreeValue, TermValue, NamedValue, PairValue}
+use Rattle.zeb_query.specs.Grammar.{number_of, keyword_of, keyword_by, kind_and_value, if_any, is_equals_sign, has_equals, is_good, is_good_spelling, IsStructure, is_attribute, is_attribute_of_set, is_typed, under, heads, no_head, inner_type, with_type, text_of, is_term, is_named, is_pair, parameter_count, IsQuery, is_structure, is_structure_of_set, AttributeValue, HeadValue, TreeValue, TermValue, NamedValue, PairValue}
 use Rattle.zeb_query.specs.Words.{Word}
-use Rattle.zeb_query.specs.PrivateReading.{word_of, left, fault_of, first_keyword, IsAfterFirst, ReadsFirst, ReadsWord, SpellsSpec, SpellsAttribute, SpellsHead, SpellsParameters, SpellsOperator, SpellsSet, Spells, first_place}
+use Rattle.zeb_query.specs.PrivateReading.{word_of, left, fault_of, first_keyword, IsAfterFirst, ReadsFirst, ReadsWord, SpellsSpec, SpellsAttribute, SpellsHead, SpellsParameters, SpellsOperator, SpellsSet, Spells, first_place, IsFault}
 use Rattle.zeb_query.specs.PrivateWalk.{Due, Start, Structures, SetOrSpec, Spec, MoreWords, words_then, fault, Step, Allowed, Refused, step, structure_step, operator_step, start_step}
-use Rattle.zeb_query.specs.PrivateReading.{IsFault}
 
 -- the type and value of a word without `=`, and of one with it
-pub kind_and_value-none : (text : List ℕ) → position_or_len is_equals text ≡ length text → kind_and_value text ≡ None
+pub kind_and_value-none : (text : List ℕ) → position_or_len is_equals_sign text ≡ length text → kind_and_value text ≡ None
 unfolding kind_and_value
 kind_and_value-none text e =
-    let f : nat_lt (position_or_len is_equals text) (length text) ≡ false = grind (arith, nat_tests) in
+    let f : nat_lt (position_or_len is_equals_sign text) (length text) ≡ false = grind (arith, nat_tests) in
     rw f refl
 
-pub kind_and_value-some : (text front rest : List ℕ) (n : Option ℕ) → (position_or_len is_equals text < length text) × (front ≡ before_first is_equals text) × (rest ≡ after_first is_equals text) → n ≡ number_of 9 front → kind_and_value text ≡ option_and_then (λ kind. if_any kind rest) n
+pub kind_and_value-some : (text front rest : List ℕ) (n : Option ℕ) → (position_or_len is_equals_sign text < length text) × (front ≡ before_first is_equals_sign text) × (rest ≡ after_first is_equals_sign text) → n ≡ number_of 9 front → kind_and_value text ≡ option_and_then (λ kind. if_any kind rest) n
 unfolding kind_and_value
 kind_and_value-some text front rest n h e =
-    let t : nat_lt (position_or_len is_equals text) (length text) ≡ true = grind (arith, nat_tests) in
+    let t : nat_lt (position_or_len is_equals_sign text) (length text) ≡ true = grind (arith, nat_tests) in
     rw (e, h.1, h.2, t) refl
 
 zero_from_test : (n : ℕ) → true ≡ eqb n 0 → n ≡ 0

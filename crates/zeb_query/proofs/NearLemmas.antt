@@ -24,7 +24,7 @@ use Rattle.zeb_query.specs.Grammar.{HeadValue, is_number, number_of}
 use Rattle.zeb_query.specs.Attributes.{HoldingValue, holding_of, index_held, patterns_held}
 use Rattle.zeb_query.specs.Checks.{Check, check, first_that_applies, one_of, clash_checks, near_clash_checks, register_checks, number_checks, near_checks, Operand, kept_text, orderings, distance_relations, parameter_checks, separation_of, operand_checks, operands_checks, Refusal, Fails, refused, answered, checked_by}
 use Rattle.zeb_query.specs.Plans.{operand_pattern, NearOf, near_asked}
-use Rattle.zeb_query.specs.PrivateValues.{is_equal, is_phrase, is_local, register_of, values_held, patterns_if}
+use Rattle.zeb_query.specs.PrivateValues.{asks_equal, is_phrase, is_local, register_of, values_held, patterns_if}
 use Rattle.zeb_query.specs.PrivatePlanning.{kept_or, term_read, word_near, near_plan}
 use Rattle.zeb_query.proofs.NearSteps.{parameter_kept, separation_read, found_near, term_near, operands_plan}
 use Rattle.zeb_query.proofs.CheckLemmas.{◌>>=◌, then_checks, kept_by}
@@ -101,7 +101,7 @@ near_clash_stage place false false false false false false false false rest cs x
 -- the one pattern, and an index with the searched register
 found_stage_near : (profile : Profile) (place index : ℕ) (text : List ℕ) (v : Values) (a : Asked) (s : Structure) (found : Bool)
     → (is_local s ≡ false → has_pair profile (index, register_of (values_with v a s index)) ≡ found)
-    → not (is_equal a) ≡ false → not (is_phrase s) ≡ false
+    → not (asks_equal a) ≡ false → not (is_phrase s) ≡ false
     → found_near profile place (values_with v a s index) (values_with v a s index).index (one_of (patterns_if (values_with v a s index) text))
     ≡ checked_by (check place 123 [] (is_none (one_of (values_say (values_with v a s index) text found).patterns)) ∷ last_checks place text (values_say (values_with v a s index) text found))
     (index, unwrap_or (one_of (values_say (values_with v a s index) text found).patterns) [])

@@ -21,7 +21,7 @@ use Rattle.zeb_query.specs.declared.terms.Values.{Values}
 use Rattle.zeb_query.specs.Grammar.{HeadValue, is_number}
 use Rattle.zeb_query.specs.Attributes.{HoldingValue, holding_of, relation_is, structure_is, position_is, truncation_is, completeness_is, index_used, register_searched, patterns_held, index_held, relation_held, order_held, order_of, joined_words, joined_words_if_any, joined_if_any}
 use Rattle.zeb_query.specs.Checks.{Check, check, first_that_applies, has_target, clash_checks, scan_clash_checks, register_checks, number_checks, find_checks, scan_checks, Refusal, refused, answered, checked_by}
-use Rattle.zeb_query.specs.PrivateValues.{is_always, is_equal, is_ordered, is_first, is_truncated, is_complete, is_local, is_numeric, is_list, is_phrase, register_of, spread_of, values_held, patterns_if}
+use Rattle.zeb_query.specs.PrivateValues.{is_always, asks_equal, is_ordered, is_first, is_truncated, is_complete, is_local, is_numeric, is_list, is_phrase, register_of, spread_of, values_held, patterns_if}
 use Rattle.zeb_query.specs.PrivatePlanning.{kept_or, term_read, number_in, ordered_plan, compared_plan, scan_start, leaf_plan, leaf_scan}
 use Rattle.zeb_query.proofs.TermSteps.{number_parts, compared_parts, start_parts}
 use Rattle.zeb_query.proofs.PlanSteps.{related_plan, indexed_plan, term_plan, indexed_scan, term_scan}
@@ -86,7 +86,7 @@ values_say v text found = record {
   free_form = is_free_form v.structure;
   phrase = is_phrase v.structure;
   listed = is_list v.structure || is_local v.structure;
-  equal = is_equal v.relation;
+  equal = asks_equal v.relation;
   ordered = is_ordered v.relation;
   always = is_always v.relation;
   relation = compared_by v.relation;
@@ -303,7 +303,7 @@ scan_clash_stage place false false false false false false true u rest cs x e = 
 scan_clash_stage place false false false false false false false true rest cs x e = refl
 scan_clash_stage place false false false false false false false false rest cs x e = e refl refl
 
-start_stage : (place index : ℕ) (text : List ℕ) (v : Values) (a : Asked) (s : Structure) → not (is_equal a) ≡ false → is_local s ≡ false
+start_stage : (place index : ℕ) (text : List ℕ) (v : Values) (a : Asked) (s : Structure) → not (asks_equal a) ≡ false → is_local s ≡ false
     → (scan_start place text (values_with v a s index) >>= λ start. Ok (scan_with index (values_with v a s index) start))
     ≡ checked_by (number_checks_by place text (values_say (values_with v a s index) text true)) (scan_by index text (values_say (values_with v a s index) text true))
 unfolding scan_start
@@ -317,7 +317,7 @@ start_stage place index text v (Compared r) Numeric e l =
 
 indexed_scan_stage : (profile : Profile) (place index : ℕ) (text : List ℕ) (v : Values) (a : Asked) (s : Structure) (found : Bool)
     → (is_local s ≡ false → has_pair profile (index, register_of (values_with v a s index)) ≡ found)
-    → not (is_equal a) ≡ false → (is_list s || is_local s) ≡ false
+    → not (asks_equal a) ≡ false → (is_list s || is_local s) ≡ false
     → indexed_scan profile place text (values_with v a s index) (values_with v a s index).index
     ≡ checked_by (last_checks place text (values_say (values_with v a s index) text found)) (scan_by index text (values_say (values_with v a s index) text found))
 indexed_scan_stage profile place index text v a LocalNumber found e equal listed = absurd cc

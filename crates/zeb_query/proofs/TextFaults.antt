@@ -8,8 +8,7 @@ use Rattle.zeb_query.specs.PrivateWalk.{words_at, Start, fault}
 use Rattle.zeb_query.specs.Grammar.{IsQuery, QueryValue, SpellsQuery}
 use Rattle.zeb_query.specs.declared.faults.QueryFault.{QueryFault}
 use Rattle.zeb_query.specs.declared.faults.QueryFault.TheVariants.{Diagnostic, Memory}
-use Rattle.zeb_query.specs.PrivateReading.{IsFault}
-use Rattle.zeb_query.specs.PrivateReading.{IsDiagnostic}
+use Rattle.zeb_query.specs.PrivateReading.{IsFault, IsDiagnostic}
 use Rattle.zeb_query.specs.Places.{IsFaultOf, IsUnspelled, IsReadable, IsFaulty, is_long, is_unspelled, is_crowded}
 use Rattle.zeb_query.proofs.WordStretches.{words_read_are, words_are_read}
 use Rattle.zeb_query.proofs.GrammarOnce.{same_query}

@@ -15,7 +15,7 @@ use Rattle.zeb_query.specs.declared.attributes.Position.TheVariants.{Any}
 use Rattle.zeb_query.specs.declared.attributes.Structure.{Structure}
 use Rattle.zeb_query.specs.declared.attributes.Structure.TheVariants.{Phrase, WordList, FreeForm, LocalNumber, Numeric}
 use Rattle.zeb_query.specs.declared.attributes.Completeness.TheVariants.{Incomplete}
-use Rattle.zeb_query.specs.PrivateValues.{relations, positions, structures, completenesses, is_first, is_complete, is_truncated, is_ordered, is_equal, is_always, is_local, is_numeric, is_list, is_phrase, spread_of, kept_in, is_local_if}
+use Rattle.zeb_query.specs.PrivateValues.{relations, positions, structures, completenesses, is_first, is_complete, is_truncated, is_ordered, asks_equal, is_always, is_local, is_numeric, is_list, is_phrase, spread_of, kept_in, is_local_if}
 use Rattle.zeb_query.specs.Attributes.{order_of, truncations, kept, is_among, comparisons}
 use Rattle.zeb_query.proofs.CheckLemmas.{unkept, by_value}
 
@@ -28,7 +28,7 @@ abbrev pub ordered_by : Asked → Order
 ordered_by asked = unwrap_or (order_of (compared_by asked)) in_order.Less
 
 pub record RelationIs (m : Option ℕ) (asked : Asked) : Type 0 where
-  pub equal : is_among (3 ∷ []) m ≡ is_equal asked
+  pub equal : is_among (3 ∷ []) m ≡ asks_equal asked
   pub ordered : is_among (1 ∷ 2 ∷ 4 ∷ 5 ∷ []) m ≡ is_ordered asked
   pub always : is_among (103 ∷ []) m ≡ is_always asked
   pub compared : kept_in comparisons Equal m ≡ compared_by asked

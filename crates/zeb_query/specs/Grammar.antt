@@ -121,11 +121,11 @@ abbrev pub is_good : Word → Bool
 is_good word = is_good_spelling word.spelling
 
 -- 61 is `=`
-abbrev pub is_equals : ℕ → Bool
-is_equals b = b == 61
+abbrev pub is_equals_sign : ℕ → Bool
+is_equals_sign b = b == 61
 
 abbrev pub has_equals : List ℕ → Bool
-has_equals text = list_any is_equals text
+has_equals text = list_any is_equals_sign text
 
 -- the type and the value of a SPEC
 abbrev pub if_any : ℕ → List ℕ → Option (ℕ × List ℕ)
@@ -134,8 +134,8 @@ if_any kind (b ∷ bs) = Some (kind, b ∷ bs)
 
 unfoldable pub kind_and_value : List ℕ → Option (ℕ × List ℕ)
 kind_and_value text =
-    if nat_lt (position_or_len is_equals text) (length text)
-    then option_and_then (λ kind. if_any kind (after_first is_equals text)) (number_of 9 (before_first is_equals text))
+    if nat_lt (position_or_len is_equals_sign text) (length text)
+    then option_and_then (λ kind. if_any kind (after_first is_equals_sign text)) (number_of 9 (before_first is_equals_sign text))
     else None
 
 abbrev pub no_head : HeadValue

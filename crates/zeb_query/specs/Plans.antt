@@ -168,8 +168,8 @@ AllLookInto profile (h ∷ held) [] = ⊥
 
 -- ---- scans
 
--- Where a scan begins over a profile (ANSI/NISO Z39.50-2003, the Scan service, and attribute set Bib-1): at a term. That a scan takes a term alone, which attributes it takes, and that it begins at a number's key or at the term's words,
--- are this project's own rules.
+-- Where a scan begins over a profile (ANSI/NISO Z39.50-2003, the Scan service, and attribute set Bib-1): at a term. That a scan takes a
+-- term alone, which attributes it takes, and that it begins at a number's key or at the term's words, are this project's own rules.
 
 pub record ScanValue : Type 0 where
   pub index : ℕ

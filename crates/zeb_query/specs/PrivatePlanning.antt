@@ -1,5 +1,5 @@
--- What the private functions below `plan` and `plan_scan` give: each part of a plan, by the public checks that refuse it. No public clause
--- reaches this file: it stands in specs/ since the contracts of private functions can cite nothing else.
+-- What only the contracts of private functions speak of; no public clause reaches it.
+-- What the functions below `plan` and `plan_scan` give: each part of a plan, by the public checks that refuse it.
 use Rattle.std.specs.Prelude.{ℕ, List, [], ◌∷◌, Option, Some, None, if◌then◌else◌, ◌&&◌, not, Result, Ok, length, nat_lt, ◌++◌}
 use Rattle.std.specs.Option.{unwrap_or}
 use Rattle.std.specs.Str.Parse.{digits_value}

@@ -1,5 +1,5 @@
--- What the private functions that read a text give, in the words of the grammar. No public clause reaches this file: it stands in
--- specs/ since the contracts of private functions can cite nothing else.
+-- What only the contracts of private functions speak of; no public clause reaches it.
+-- What the functions that read a text give, in the words of the grammar.
 use Rattle.std.specs.Prelude.{ℕ, List, ◌++◌, map, string_bytes, ◌≡◌, [], ◌∷◌, true, Option, Some, None, length, ◌==◌, if◌then◌else◌}
 use Rattle.std.specs.List.{list_all}
 use Rattle.std.specs.Borrow.{Bor}

@@ -1,5 +1,5 @@
--- The values of a term's attributes as enums, and what is asked of them by the private functions below `plan` and `plan_scan`. No public
--- clause reaches this file: it stands in specs/ since the contracts of private functions can cite nothing else.
+-- What only the contracts of private functions speak of; no public clause reaches it.
+-- The values of a term's attributes as enums, and what the functions below `plan` and `plan_scan` ask of them.
 use Rattle.std.specs.Prelude.{ℕ, List, [], Option, Some, None, if◌then◌else◌, ◌||◌, ◌&&◌, Bool, true, false, not, chars, map, ◌++◌, option_and_then}
 use Rattle.std.specs.Option.{unwrap_or}
 use Rattle.zeb_keys.specs.declared.Register.{Register}
@@ -70,9 +70,9 @@ is_ordered (Compared Equal) = false
 is_ordered (Compared _) = true
 is_ordered Always = false
 
-abbrev pub is_equal : Asked → Bool
-is_equal (Compared Equal) = true
-is_equal _ = false
+abbrev pub asks_equal : Asked → Bool
+asks_equal (Compared Equal) = true
+asks_equal _ = false
 
 abbrev pub is_always : Asked → Bool
 is_always (Compared relation) = false
@@ -101,14 +101,14 @@ is_limited v = is_first v.position || (is_truncated v.truncation || is_complete 
 abbrev pub clashes : Values → Bool
 clashes v =
     ((is_local v.structure || is_numeric v.structure) && is_limited v)
-    || ((is_local v.structure && not (is_equal v.relation))
+    || ((is_local v.structure && not (asks_equal v.relation))
     || ((is_list v.structure && (is_first v.position || (is_complete v.completeness || is_ordered v.relation)))
     || (is_ordered v.relation && (is_first v.position || is_truncated v.truncation))))
 
 -- values that a scan doesn't take together
 abbrev pub clashes_in_scan : Values → Bool
 clashes_in_scan v =
-    clashes v || (not (is_equal v.relation) || (is_first v.position || (is_truncated v.truncation
+    clashes v || (not (asks_equal v.relation) || (is_first v.position || (is_truncated v.truncation
     || (is_list v.structure || is_local v.structure))))
 
 -- structure 1 or 2
@@ -118,7 +118,7 @@ is_phrase _ = false
 
 -- values that a word near another doesn't take
 abbrev pub clashes_near : Values → Bool
-clashes_near v = clashes v || (not (is_equal v.relation) || (is_first v.position || (not (is_phrase v.structure) || is_complete v.completeness)))
+clashes_near v = clashes v || (not (asks_equal v.relation) || (is_first v.position || (not (is_phrase v.structure) || is_complete v.completeness)))
 
 -- the register that is searched
 abbrev pub register_of : Values → Register

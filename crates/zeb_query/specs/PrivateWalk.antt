@@ -1,6 +1,6 @@
--- The words of a text and its fault as the private functions that read it find them, from the left one after another. No public clause
--- reaches this file: it stands in specs/ since the contracts of private functions can cite nothing else. What is found is proved to be
--- just what `AreWords` and `IsFaulty` say.
+-- What only the contracts of private functions speak of; no public clause reaches it.
+-- The words of a text and its fault as the functions that read it find them, from the left one after another. What is found
+-- is proved to be just what `AreWords` and `IsFaulty` say.
 use Rattle.std.specs.Char.{len_utf8}
 use Rattle.std.specs.Option.{is_some}
 use Rattle.std.specs.Prelude.{Bool, List, None, Option, Some, [], encode_utf8, false, if◌then◌else◌, suc, true, zero, ℕ, ◌++◌, ◌+◌, ◌==◌, ◌∷◌}

@@ -2,7 +2,8 @@
 ghost use Rattle.std.specs.Prelude.{◌≡◌, ◌≢◌, ◌+◌, ◌<◌, ◌≤◌, ℕ, suc, ◌∷◌, Some, None, length, map, IfOk, OnOk, IfErr, IfSome, true, string_bytes, []};
 ghost use Rattle.zeb_query.specs.declared.keywords.Keyword.TheVariants.{Attribute as AttributeKeyword, TermType as TermTypeKeyword, Operator};
 ghost use Rattle.std.specs.Option.{option_map};
-ghost use Rattle.zeb_query.specs.PrivateReading.{IsFault, word_of, left, first_keyword, fault_of, pair_value, SpellsSpec, SpellsAttribute, SpellsHead, SpellsParameters, SpellsOperator, SpellsSet, Spells};
+ghost use Rattle.zeb_query.specs.PrivateReading.{IsFault, word_of, left, first_keyword, fault_of, pair_value, SpellsSpec, SpellsAttribute};
+ghost use Rattle.zeb_query.specs.PrivateReading.{SpellsHead, SpellsParameters, SpellsOperator, SpellsSet, Spells};
 ghost use Rattle.zeb_query.specs.Grammar.{attribute_value, head_value, tree_value, query_value, PairValue, IsQuery, kind_and_value, has_equals, heads, parameter_count};
 ghost use Rattle.zeb_query.specs.PrivateWalk.{Start, Structures, SetOrSpec, Spec, fault, words_then};
 

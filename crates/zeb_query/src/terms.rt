@@ -60,7 +60,7 @@ impl Values {
     }
 
     fn is_equal(&self) -> bool
-        ensures { result ≡ terms.is_equal self.now.relation }
+        ensures { result ≡ terms.asks_equal self.now.relation }
     {
         match self.relation {
             Asked::Compared(relation) => relation == Relation::Equal,

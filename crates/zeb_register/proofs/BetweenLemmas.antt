@@ -23,14 +23,14 @@ use Rattle.zeb_keys.specs.declared.keys.Key.{Key}
 use Rattle.zeb_keys.specs.Registers.{register_code}
 use Rattle.zeb_register.specs.declared.registers.RegisterOf.{RegisterOf}
 use Rattle.zeb_register.specs.Between.{AreKeysBetween, IsBetween, IsPostingBetween, term_list}
-use Rattle.zeb_register.specs.BetweenRows.{IsRestBetween, three_behind, two_behind}
+use Rattle.zeb_register.specs.PrivateBetweenRows.{IsRestBetween, three_behind, two_behind}
 use Rattle.zeb_register.specs.Content.{Content}
-use Rattle.zeb_register.specs.KeyColumns.{register_columns}
+use Rattle.zeb_register.specs.PrivateKeyColumns.{register_columns}
 use Rattle.zeb_register.specs.Occurring.{key_in}
 use Rattle.zeb_register.specs.PackedBlocks.{HoldsBlocks, SpellsPart, blocks_of, part_in}
-use Rattle.zeb_register.specs.PackedRows.{AreSpelled}
+use Rattle.zeb_register.specs.PrivatePackedRows.{AreSpelled}
 use Rattle.zeb_register.specs.PlainRows.{HoldsRows, key_row, posting_row}
-use Rattle.zeb_register.specs.RowPlaces.{IsThreeNumbers}
+use Rattle.zeb_register.specs.PrivateRowPlaces.{IsThreeNumbers}
 use Rattle.zeb_register.specs.Sql.{IsListOf}
 use Rattle.zeb_register.specs.Store.{IsRest, blocks_tree, postings_tree}
 use Rattle.zeb_register.proofs.ContentLemmas.{same_key, same_posting, some_posting}

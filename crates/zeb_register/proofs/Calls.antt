@@ -24,8 +24,8 @@ use Rattle.zeb_register.specs.Tables.{store_schema}
 use Rattle.zeb_register.specs.Sql.{IsKeyed, KeepsOthers, IsListOf}
 use Rattle.zeb_register.specs.Store.{IsStore, Changes}
 use Rattle.zeb_register.specs.Calls.{GoesOn, OnlyReads, ChangesNothing, Alters, Inside, Reading}
-use Rattle.zeb_register.specs.RowStatements.{Lists, ListsInside}
-use Rattle.zeb_register.specs.RowTerms.{Reads, ReadsInside}
+use Rattle.zeb_register.specs.PrivateRowStatements.{Lists, ListsInside}
+use Rattle.zeb_register.specs.PrivateRowTerms.{ReadsRows, ReadsInside}
 
 -- any number of writes inside a transaction, none too
 pub record Stays (old new : State) : Type 0 where
@@ -103,7 +103,7 @@ lists rows P sql params old new (Err e) silent shown means = tt
 
 -- the same for what is said of all rows at once
 pub read_so : {A : Type 0} (rows : A → List Row) (P : Trees → List Row → Type 0) (sql : List ℕ) (params : Row) (old new : State) (r : Result A Error) → IsSilent sql → IfOk r (λ x. Shown sql params old new (rows x))
-    → ((all : List Row) → IsStore old → Shown sql params old new all → P old.now.trees all) → IfOk r (λ x. Reads P old new (rows x))
+    → ((all : List Row) → IsStore old → Shown sql params old new all → P old.now.trees all) → IfOk r (λ x. ReadsRows P old new (rows x))
 read_so rows P sql params old new (Ok x) silent shown means = (shown_alone sql params old new (rows x) silent shown, λ store. means (rows x) store shown)
 read_so rows P sql params old new (Err e) silent shown means = tt
 

@@ -16,7 +16,7 @@ use Rattle.sqlite.proofs.StateLemmas.{survives_then}
 use Rattle.sqlite.proofs.Callers.{unchanged_then}
 use Rattle.zeb_register.specs.Tables.{store_schema}
 use Rattle.zeb_register.specs.Calls.{OnlyReads}
-use Rattle.zeb_register.specs.RowStatements.{IsMade}
+use Rattle.zeb_register.specs.PrivateRowStatements.{IsMade}
 use Rattle.zeb_register.specs.Store.{IsEmptyStore}
 use Rattle.zeb_register.proofs.CreateTable.{made_layout}
 

@@ -7,7 +7,7 @@ use Rattle.sqlite.specs.Order.{Row}
 use Rattle.sqlite.specs.Tree.{Trees}
 use Rattle.zeb_keys.specs.declared.keys.Key.{Key}
 use Rattle.zeb_register.specs.PlainRows.{key_row}
-use Rattle.zeb_register.specs.RowStatements.{IsRestAtLeast}
+use Rattle.zeb_register.specs.PrivateRowStatements.{IsRestAtLeast}
 use Rattle.zeb_register.specs.Sql.{IsListOf}
 use Rattle.zeb_register.specs.Store.{IsRest}
 

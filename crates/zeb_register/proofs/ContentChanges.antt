@@ -1,9 +1,8 @@
 -- Contents that differ in one place: a content that is changed at one key, or from which a database is taken, is there, and there is one; and a content is told by its postings.
-use Rattle.std.proofs.Common.{◌≡◌, ◌≢◌, ◌↔◌, ◌⊎◌, ℕ, ℤ, Bool, true, not, List, [], map, filter, refl, sym, ap, subst, inl, inr, Ordering, Less, Equal, Greater, nat_eq, nat_cmp, int_cmp, arith}
-use Rattle.std.specs.Ordering.{ordering_then}
+use Rattle.std.proofs.Common.{◌≡◌, ◌≢◌, ◌↔◌, ◌⊎◌, ℕ, ℤ, Bool, true, not, List, [], map, filter, refl, sym, ap, subst, inl, inr, Equal, nat_eq, int_cmp, arith}
 use Rattle.std.specs.Cmp.{IsTotalOrder, then_total, on_total, nat_cmp_total, int_cmp_total}
 use Rattle.std.specs.List.Sorted.{IsStrictlySortedBy}
-use Rattle.std.proofs.lemmas.Cmp.{ranked, int_ranked}
+use Rattle.std.proofs.lemmas.Cmp.{int_ranked}
 use Rattle.std.proofs.lemmas.Bool.Decides.{nat_tests}
 use Rattle.sqlite_rules.specs.Lists.{Has}
 use Rattle.sqlite_rules.proofs.ListLemmas.{has_filtered, has_kept}
@@ -11,8 +10,8 @@ use Rattle.sqlite_rules.proofs.ProbeLemmas.{has_mapped, mapped_has}
 use Rattle.zeb_keys.specs.declared.keys.Key.{Key}
 use Rattle.zeb_register.specs.declared.registers.Place.{Place}
 use Rattle.zeb_blocks.specs.declared.postings.Posting.{Posting}
-use Rattle.zeb_keys.proofs.Rising.{key_total, keys_apart}
-use Rattle.zeb_register.specs.Content.{Content, posting_cmp, IsRising, posting_at, ArePlacesOf, IsChangedAt, IsWithout}
+use Rattle.zeb_keys.proofs.Rising.{key_total, keys_apart, both_equal, numbers_apart}
+use Rattle.zeb_register.specs.Content.{Content, posting_cmp, HasRisingLists, posting_at, ArePlacesOf, IsChangedAt, IsWithout, place_cmp}
 use Rattle.zeb_register.proofs.RisingLists.{same_list, kept_rises, told_by, with_all, all_there, all_rise}
 
 -- ---- orders that tell apart
@@ -22,15 +21,10 @@ posting_total =
     then_total (on_total (λ (p : Posting). p.sysno) nat_cmp_total)
     (then_total (on_total (λ (p : Posting). p.seq) nat_cmp_total) (on_total (λ (p : Posting). p.pos) nat_cmp_total))
 
-both_equal : (r s : Ordering) → ordering_then r s ≡ Equal → (r ≡ Equal) × (s ≡ Equal)
-both_equal Less s e = absurd (cc)
-both_equal Equal s e = (refl, e)
-both_equal Greater s e = absurd (cc)
+pub place_total : IsTotalOrder place_cmp
+place_total = then_total (on_total (λ (p : Place). p.seq) nat_cmp_total) (on_total (λ (p : Place). p.pos) nat_cmp_total)
 
-pub numbers_apart : (m n : ℕ) → nat_cmp m n ≡ Equal → m ≡ n
-numbers_apart m n e = ranked m n Equal (sym e)
-
-integers_apart : (m n : ℤ) → int_cmp m n ≡ Equal → m ≡ n
+pub integers_apart : (m n : ℤ) → int_cmp m n ≡ Equal → m ≡ n
 integers_apart m n e = int_ranked m n Equal (sym e)
 
 pub postings_apart : (p q : Posting) → posting_cmp p q ≡ Equal → p ≡ q
@@ -52,7 +46,7 @@ told_spot d db k key = elim (told_by int_cmp_total integers_apart d db) [
 -- ---- contents
 
 -- a content is told by its postings
-pub same_content : (a b : Content) → IsRising a → IsRising b → ((d : ℤ) (k : Key) (p : Posting) → Has (a d k) p ↔ Has (b d k) p) → a ≡ b
+pub same_content : (a b : Content) → HasRisingLists a → HasRisingLists b → ((d : ℤ) (k : Key) (p : Posting) → Has (a d k) p ↔ Has (b d k) p) → a ≡ b
 same_content a b up down same = λ i d k. same_list posting_total (a d k) (b d k) (up d k) (down d k) (λ p. (same d k p).0) (λ p. (same d k p).1) i
 
 -- ---- one key changed
@@ -72,7 +66,8 @@ other_is sysno p differs = grind (arith, nat_tests)
 pub at_sysno : ℕ → List Place → List Posting → List Posting
 at_sysno sysno places list = with_all posting_total postings_apart (map (posting_at sysno) places) (filter (other_record sysno) list)
 
-choose : {A B : Type 0} → A ⊎ B → List Posting → List Posting → List Posting
+-- one list or the other, as it was told
+unfoldable pub choose : {A B : Type 0} → A ⊎ B → List Posting → List Posting → List Posting
 choose (inl here) new old = new
 choose (inr other) new old = old
 
@@ -108,7 +103,7 @@ at_sysno_others sysno places list p differs =
       λ h. there.1 (inl (has_kept (other_record sysno) list p h (other_is sysno p differs))),
     )
 
-pub change_is : (db : ℤ) (key : Key) (sysno : ℕ) (places : List Place) (content : Content) → IsRising content → IsChangedAt db key sysno places content (changed_at db key sysno places content)
+pub change_is : (db : ℤ) (key : Key) (sysno : ℕ) (places : List Place) (content : Content) → HasRisingLists content → IsChangedAt db key sysno places content (changed_at db key sysno places content)
 unfolding changed_at choose
 change_is db key sysno places content up = record {
   rising = λ d k. rises d k (told_spot d db k key);
@@ -187,7 +182,7 @@ with_list_there db key list old d k differs = at (told_spot d db k key)
 pub without : ℤ → Content → Content
 without db old d k = choose (told_by int_cmp_total integers_apart d db) [] (old d k)
 
-pub without_is : (db : ℤ) (content : Content) → IsRising content → IsWithout db content (without db content)
+pub without_is : (db : ℤ) (content : Content) → HasRisingLists content → IsWithout db content (without db content)
 unfolding without choose IsStrictlySortedBy
 without_is db content up = record { rising = λ d k. rises d k (told_by int_cmp_total integers_apart d db); left = λ d k p. there d k p (told_by int_cmp_total integers_apart d db) }
   where

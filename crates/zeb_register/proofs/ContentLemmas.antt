@@ -19,7 +19,7 @@ use Rattle.zeb_register.specs.Sql.{IsListOf}
 use Rattle.zeb_register.specs.Store.{postings_tree, IsRest}
 use Rattle.zeb_register.specs.Content.{Content, posting_cmp}
 use Rattle.zeb_register.specs.PlainRows.{key_row, posting_row, HoldsRows}
-use Rattle.zeb_register.specs.RowPlaces.{first_three, IsThreeNumbers}
+use Rattle.zeb_register.specs.PrivateRowPlaces.{first_three, IsThreeNumbers}
 use Rattle.zeb_register.proofs.RisingLists.{same_list}
 
 pub lower_then : (x y z : Ordering) → ordering_then x (ordering_then y z) ≡ Less → ordering_then x (ordering_then y (ordering_then z Equal)) ≡ Less

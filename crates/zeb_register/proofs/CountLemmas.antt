@@ -11,7 +11,7 @@ use Rattle.sqlite_rules.specs.Lists.{Has}
 use Rattle.sqlite_rules.proofs.ListLemmas.{all_has, has_left, has_right, has_either}
 use Rattle.zeb_register.specs.declared.registers.TermCount.{TermCount}
 use Rattle.zeb_register.specs.Occurring.{IsCount, AreCounts, term_cmp}
-use Rattle.zeb_register.specs.RowTerms.{IsCountedIn, term_with}
+use Rattle.zeb_register.specs.PrivateRowTerms.{IsCountedIn, term_with}
 use Rattle.zeb_register.specs.Tallies.{Rises}
 use Rattle.zeb_register.proofs.RisingLists.{same_list, pushed_rises, before_last, front_rises, snoc_of, same_last}
 

@@ -13,7 +13,7 @@ use Rattle.sqlite.specs.State.{State, Writes, Executes, IsUnchanged}
 use Rattle.sqlite.proofs.Callers.{IsPlain, command_of, statement_of, runs_as}
 use Rattle.sqlite_rules.proofs.ListLemmas.{all_has, all_from}
 use Rattle.zeb_register.specs.Sql.{HasLayout, IsKeyed}
-use Rattle.zeb_register.specs.RowStatements.{IsMade}
+use Rattle.zeb_register.specs.PrivateRowStatements.{IsMade}
 use Rattle.zeb_register.proofs.WrittenRows.{went, same_value}
 
 all_append : {X : Type 0} (P : X → Type 0) (xs : List X) (x : X) → AllByRecursion P xs → P x → AllByRecursion P (xs ++ x ∷ [])

@@ -15,15 +15,16 @@ use Rattle.sqlite_rules.proofs.ProbeLemmas.{has_mapped, mapped_has}
 use Rattle.sqlite_tied.specs.Compute.{everything}
 use Rattle.sqlite_value.proofs.OrderLemmas.{row_cmp_total, value_cmp-Text}
 use Rattle.zeb_register.specs.declared.catalog.ListedDatabase.{ListedDatabase}
-use Rattle.zeb_register.specs.Catalog.{AreDatabases, AreReadableDatabases, listed_order, listed_row}
-use Rattle.zeb_register.specs.RowPlaces.{first_three}
-use Rattle.zeb_register.specs.RowStatements.{IsDatabaseShown, IsListedRow}
+use Rattle.zeb_register.specs.Catalog.{AreDatabases, AreReadableDatabases, listed_order}
+use Rattle.zeb_register.specs.PrivateCatalog.{listed_row}
+use Rattle.zeb_register.specs.PrivateRowPlaces.{first_three}
+use Rattle.zeb_register.specs.PrivateRowStatements.{IsDatabaseShown, IsListedRow}
 use Rattle.zeb_register.specs.Sql.{IsListOf}
 use Rattle.zeb_register.specs.Store.{HasDatabase, IsStore}
 use Rattle.zeb_register.specs.Tables.{store_schema}
 use Rattle.zeb_register.proofs.Calls.{IsSilent}
 use Rattle.zeb_register.proofs.DatabaseStatements.{database_row, databases, databases_keys, databases_static, one_name}
-use Rattle.zeb_register.proofs.Prefix.{alone_first}
+use Rattle.zeb_register.proofs.PrefixSelects.{first_lower}
 use Rattle.zeb_register.proofs.Refusals.{IsWhole, IsFit, IsReasonedQuery, why_refused}
 use Rattle.zeb_register.proofs.RisingLists.{never_itself}
 use Rattle.zeb_register.proofs.RowLemmas.{same_bytes}
@@ -66,9 +67,6 @@ list_fit trees mistyped = absurd (let t : true ≡ false = mistyped in cc)
 pub list_refused : IsReasonedQuery list_text []
 list_refused old new e store told failed =
     why_refused list_text [] 2 [] (shows list_shows) (rising (2 ∷ [])) no_limit list_names list_is list_plain.0 list_plain.1 list_whole list_fit old new store e told failed
-
-first_lower : (o p : Ordering) → ordering_then o Equal ≡ Less → ordering_then o p ≡ Less
-first_lower o p lower = ap (λ q. ordering_then q p) (alone_first o lower)
 
 pub lists_databases : (old new : State) (rows : List Row) → IsStore old → Shown list_text [] old new rows → IsListOf (IsListedRow old.now.trees) rows
 lists_databases old new rows store shown =

@@ -8,7 +8,8 @@ use Rattle.sqlite.specs.Order.{column}
 use Rattle.sqlite.specs.State.{State}
 use Rattle.sqlite.specs.Tree.{Trees}
 use Rattle.sqlite_rules.specs.Lists.{Has}
-use Rattle.zeb_register.specs.Hindrances.{Hinders, HindersLast, HindersNew, IsTooLarge, LacksRowids}
+use Rattle.zeb_register.specs.Hindrances.{Hinders, IsTooLarge, LacksRowids}
+use Rattle.zeb_register.specs.PrivateHindrances.{HindersLast, HindersNew}
 use Rattle.zeb_register.specs.Store.{HasDatabase, IsStore, database_columns, databases_tree}
 use Rattle.zeb_register.specs.Tables.{store_schema}
 use Rattle.zeb_register.proofs.DatabaseStatements.{database_row, databases, databases_static, one_id}

@@ -15,13 +15,14 @@ use Rattle.zeb_register.specs.Sql.{IsListOf}
 use Rattle.zeb_register.proofs.ValueKinds.{codes_of, IsPlainTable, HasKeys, code}
 use Rattle.sqlite.specs.Table.{Table}
 use Rattle.zeb_register.specs.Store.{IsStore, Changes, database_columns, databases_tree, HasDatabase, TakesDatabase}
-use Rattle.zeb_register.specs.RowStatements.{AddsDatabase, SetsLast, IsDatabaseRow}
+use Rattle.zeb_register.specs.PrivateRowStatements.{AddsDatabase, SetsLast, IsDatabaseRow}
 use Rattle.zeb_register.proofs.Writes.{next_free, GainsRow, LosesRows, RemakesRows, updates, changed_so, deletes, inserts, codes_there}
 use Rattle.zeb_register.proofs.RowLemmas.{null_of, spread, code_at, int_of, text_of}
 use Rattle.zeb_register.proofs.Selects.{IsSelected, selects, list_so}
 use Rattle.zeb_register.proofs.Calls.{IsSilent}
 use Rattle.zeb_register.proofs.Refusals.{IsWhole, IsFit, IsReasonedQuery, why_refused}
-use Rattle.zeb_register.specs.Hindrances.{HindersLast, HindersNew, IsTooLarge}
+use Rattle.zeb_register.specs.Hindrances.{IsTooLarge}
+use Rattle.zeb_register.specs.PrivateHindrances.{HindersLast, HindersNew}
 use Rattle.zeb_register.proofs.InsertRefusals.{why_insert_hindered}
 use Rattle.zeb_register.proofs.NewRows.{IsRowFor}
 use Rattle.zeb_register.proofs.UpdateRefusals.{why_update_hindered}

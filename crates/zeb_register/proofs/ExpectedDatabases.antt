@@ -14,10 +14,10 @@ use Rattle.zeb_register.specs.declared.catalog.ListedDatabase.{ListedDatabase}
 use Rattle.zeb_register.specs.declared.expected.ExpectedDatabase.{ExpectedDatabase}
 use Rattle.zeb_register.specs.Catalog.{AreDatabases, AreReadableDatabases, listed_order}
 use Rattle.zeb_register.specs.Expected.{name_order}
-use Rattle.zeb_register.specs.RowExpected.{AsExpected, BelongsThere, BelongsTo, EachAsExpected, EachThere, HasNames, HoldsExpected, HoldsThere, IsPair, IsThere, expected_name, listed_name, tree_of}
+use Rattle.zeb_register.specs.PrivateRowExpected.{AsExpected, BelongsThere, BelongsTo, EachAsExpected, EachThere, HasNames, HoldsExpected, HoldsThere, IsPair, IsThere, expected_name, listed_name, tree_of}
 use Rattle.zeb_register.specs.declared.agreeing.Table.{Table}
 use Rattle.zeb_register.specs.Store.{HasDatabase, IsStore}
-use Rattle.zeb_register.proofs.Alike.{got_alike, got_had}
+use Rattle.zeb_register.proofs.ListsInStep.{got_alike, got_had}
 use Rattle.zeb_register.proofs.DatabaseStatements.{one_name}
 use Rattle.zeb_register.proofs.RisingLists.{same_list}
 use Rattle.zeb_register.proofs.Scans.{strictly_mapped}

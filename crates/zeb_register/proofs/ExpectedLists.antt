@@ -15,7 +15,7 @@ use Rattle.zeb_register.specs.declared.expected.KeyPosting.{KeyPosting}
 use Rattle.zeb_register.specs.declared.kept.Record.{Record}
 use Rattle.zeb_register.specs.Expected.{IsTextOf, key_posting_order, number_order}
 use Rattle.zeb_register.specs.Kept.{record_shown}
-use Rattle.zeb_register.specs.RowExpected.{HasTexts, HoldsUnder, posting_shown, text_rows}
+use Rattle.zeb_register.specs.PrivateRowExpected.{KeepsExpectedTexts, HoldsUnder, posting_shown, text_rows}
 use Rattle.zeb_register.specs.Sql.{HasRow, IsListOf}
 use Rattle.zeb_register.specs.Store.{IsRest, IsStore, entry, meta_tree}
 use Rattle.zeb_register.specs.Tables.{store_schema, meta_table}
@@ -119,7 +119,7 @@ module _ (s : State) (expected : Expected) (store : IsStore s) (rows : List Row)
   text_has name value (inr (inl is)) = inr (inl (ap₂ entry is.0 is.1))
   text_has name value (inr (inr is)) = inl (ap₂ entry is.0 is.1)
 
-  pub texts_there : rows ≡ text_rows expected → HasTexts s.now.trees expected
+  pub texts_there : rows ≡ text_rows expected → KeepsExpectedTexts s.now.trees expected
   texts_there same name value = (
     λ h. text_there name value (subst (λ l. Has l (entry name value)) same ((are.each (entry name value)).1 h)),
     λ is. (are.each (entry name value)).0 (subst (λ l. Has l (entry name value)) (sym same) (text_has name value is)),
@@ -135,7 +135,7 @@ module _ (s : State) (expected : Expected) (store : IsStore s) (rows : List Row)
     ((names_lower (codes "profile") (codes "version") _ _ refl, tt), (tt, tt)),
   )
 
-  pub texts_rows : HasTexts s.now.trees expected → rows ≡ text_rows expected
+  pub texts_rows : KeepsExpectedTexts s.now.trees expected → rows ≡ text_rows expected
   texts_rows has = same_list row_cmp_total rows (text_rows expected) are.rising texts_rise
       (λ r h.
       let there = (are.each r).0 h in

@@ -1,5 +1,5 @@
 -- The statements that list whole tables, or all rows of a database, each with what it is compiled to.
-use Rattle.std.proofs.Common.{◌≡◌, ◌∙◌, ℕ, ℤ, false, List, [], ◌∷◌, map, codes, refl, sym, ap, ap₂, subst, true, arith, Ordering, Less, Equal, Greater}
+use Rattle.std.proofs.Common.{◌≡◌, ◌∙◌, ℕ, ℤ, false, List, [], ◌∷◌, map, codes, refl, sym, ap₂, subst, true, arith, Ordering, Less, Equal, Greater}
 use Rattle.std.specs.Ordering.{ordering_then}
 use Rattle.sqlite.specs.declared.error.Error.{Error}
 use Rattle.sqlite.specs.declared.types.Value.TheVariants.{Int}
@@ -15,12 +15,12 @@ use Rattle.zeb_register.specs.declared.agreeing.Table.TheVariants.{Postings, Blo
 use Rattle.zeb_register.specs.declared.faults.RegFault.TheVariants.{Store}
 use Rattle.zeb_register.specs.Calls.{MayRefuse}
 use Rattle.zeb_register.specs.Faults.{fault_of}
-use Rattle.zeb_register.specs.RowReads.{rests_text}
+use Rattle.zeb_register.specs.PrivateRowReads.{rests_text}
 use Rattle.zeb_register.specs.Sql.{HasRow, IsListOf}
 use Rattle.zeb_register.specs.Store.{IsStore, IsRest, blocks_tree, dict_tree, meta_tree, postings_tree}
 use Rattle.zeb_register.specs.Tables.{store_schema, meta_table}
 use Rattle.zeb_register.proofs.Calls.{IsSilent}
-use Rattle.zeb_register.proofs.Prefix.{alone_first, IsAfter, lists_after}
+use Rattle.zeb_register.proofs.PrefixSelects.{IsAfter, lists_after, first_lower}
 use Rattle.zeb_register.proofs.PostingStatements.{blocks, blocks_static, dict, dict_static, postings, postings_keys, postings_static, blocks_keys, dict_keys}
 use Rattle.zeb_register.proofs.Refusals.{IsFit, IsWhole, why_refused}
 use Rattle.zeb_register.proofs.RowLemmas.{int_of}
@@ -29,9 +29,6 @@ use Rattle.zeb_register.proofs.StatementForms.{alone, keyed_from, no_limit, read
 use Rattle.zeb_register.proofs.TextStatements.{meta_keys, meta_static}
 use Rattle.zeb_register.proofs.ValueKinds.{IsPlainTable, code, codes_of}
 use Rattle.zeb_register.proofs.Writes.{codes_there}
-
-first_lower : (o p : Ordering) → ordering_then o Equal ≡ Less → ordering_then o p ≡ Less
-first_lower o p lower = ap (λ q. ordering_then q p) (alone_first o lower)
 
 -- ---- all texts
 

@@ -7,11 +7,11 @@ use Rattle.sqlite_rules.specs.Lists.{Has}
 use Rattle.sqlite.specs.State.{State}
 use Rattle.zeb_keys.specs.declared.Register.{Register}
 use Rattle.zeb_register.specs.declared.registers.TermCount.{TermCount}
-use Rattle.zeb_register.specs.Content.{Content, IsRising, IsWithout, posted}
+use Rattle.zeb_register.specs.Content.{Content, HasRisingLists, IsWithout, posted}
 use Rattle.zeb_register.specs.Formats.{Format, plain_rows, packed_blocks, version_of, holds_in}
 use Rattle.zeb_register.specs.Occurring.{AreTermsOf}
 use Rattle.zeb_register.specs.PlainRows.{HoldsRows}
-use Rattle.zeb_register.specs.RowPlaces.{DropsRegisters}
+use Rattle.zeb_register.specs.PrivateRowPlaces.{DropsRegisters}
 use Rattle.zeb_register.specs.Sql.{Loses}
 use Rattle.zeb_register.specs.Store.{Changes, IsRecordIn, KeepsRegisters, LacksRegisters, TakesDatabase, databases_tree, records_tree}
 use Rattle.zeb_register.proofs.ContentLemmas.{one_content}
@@ -55,7 +55,7 @@ registers_hold_one plain_rows trees one two left right = λ i db key. one_conten
 registers_hold_one packed_blocks trees one two left right = λ i db key. blocks_hold_one trees one two db key left right i
 
 -- each of its lists rises
-pub registers_rise : (format : Format) (trees : Trees) (content : Content) → holds_in format trees content → IsRising content
+pub registers_rise : (format : Format) (trees : Trees) (content : Content) → holds_in format trees content → HasRisingLists content
 registers_rise plain_rows trees content holds = holds.rising
 registers_rise packed_blocks trees content holds = holds.rising
 

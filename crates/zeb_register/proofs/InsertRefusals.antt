@@ -35,8 +35,9 @@ use Rattle.zeb_register.specs.declared.faults.RegFault.TheVariants.{Store}
 use Rattle.zeb_register.specs.Calls.{MayRefuse}
 use Rattle.zeb_register.specs.Faults.{fault_of}
 use Rattle.zeb_register.specs.Store.{IsStore}
-use Rattle.zeb_register.specs.Hindrances.{Hinders, HindersNew, IsTooLarge, LacksRowids}
-use Rattle.zeb_register.proofs.Clashes.{clash_found}
+use Rattle.zeb_register.specs.Hindrances.{Hinders, IsTooLarge, LacksRowids}
+use Rattle.zeb_register.specs.PrivateHindrances.{HindersNew}
+use Rattle.zeb_register.proofs.UniqueKeyClashes.{clash_found}
 use Rattle.zeb_register.proofs.NewRows.{IsRowFor, large_for, no_rowid_left, parts_of}
 use Rattle.zeb_register.proofs.Refusals.{IsWhole}
 use Rattle.zeb_register.specs.Tables.{store_schema}

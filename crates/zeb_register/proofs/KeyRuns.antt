@@ -16,19 +16,18 @@ use Rattle.zeb_blocks.specs.declared.postings.Posting.{Posting}
 use Rattle.zeb_keys.specs.declared.keys.Key.{Key}
 use Rattle.zeb_keys.specs.Registers.{register_code}
 use Rattle.zeb_keys.specs.Order.{key_order}
-use Rattle.zeb_keys.proofs.Rising.{key_total, keys_apart}
+use Rattle.zeb_keys.proofs.Rising.{key_total, keys_apart, numbers_apart}
 use Rattle.zeb_register.specs.declared.expected.KeyPosting.{KeyPosting}
 use Rattle.zeb_register.specs.Content.{posting_cmp}
 use Rattle.zeb_register.specs.Expected.{key_posting_order}
 use Rattle.zeb_register.specs.Occurring.{IsCount}
-use Rattle.zeb_register.specs.RowExpected.{IsDictRest, TakeAll, key_shown, list_under, with_key}
-use Rattle.zeb_register.specs.RowKeys.{BeginsOther, IsFrontOf, IsRunBefore, IsRunFrom, dict_rest}
-use Rattle.zeb_register.specs.RowPlaces.{first_three}
-use Rattle.zeb_register.specs.RowTerms.{IsInRecord}
-use Rattle.zeb_register.proofs.ContentChanges.{numbers_apart}
+use Rattle.zeb_register.specs.PrivateRowExpected.{IsDictRest, TakeAll, key_shown, list_under, with_key}
+use Rattle.zeb_register.specs.PrivateRowKeys.{BeginsOther, IsFrontOf, IsRunBefore, IsRunFrom, dict_rest}
+use Rattle.zeb_register.specs.PrivateRowPlaces.{first_three}
+use Rattle.zeb_register.specs.PrivateRowTerms.{IsInRecord}
 use Rattle.zeb_register.proofs.ContentLemmas.{ints_order, same_key}
 use Rattle.zeb_register.proofs.CountLemmas.{IsNewest, above_newest, count_more, count_none, count_so, has_end, less_is, is_less, newest_is, newest_stays, one_count}
-use Rattle.zeb_register.proofs.Expecting.{key_posting_total, under_has, under_rises}
+use Rattle.zeb_register.proofs.AgreeingTables.{key_posting_total, under_has, under_rises}
 use Rattle.zeb_register.proofs.PackedBeside.{drop_got, drop_over}
 use Rattle.zeb_register.proofs.PackedLemmas.{not_empty}
 use Rattle.zeb_register.proofs.RisingLists.{same_list}

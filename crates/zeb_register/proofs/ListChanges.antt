@@ -9,12 +9,13 @@ use Rattle.sqlite_rules.specs.Lists.{Has}
 use Rattle.zeb_blocks.specs.declared.postings.Posting.{Posting}
 use Rattle.zeb_blocks.specs.Blocks.{LiesIn}
 use Rattle.zeb_keys.specs.declared.keys.Key.{Key}
+use Rattle.zeb_keys.proofs.Rising.{numbers_apart}
 use Rattle.zeb_register.specs.declared.registers.Place.{Place}
 use Rattle.zeb_register.specs.declared.registers.RecordChange.{RecordChange}
-use Rattle.zeb_register.specs.Content.{AreChangedAt, AreListChanges, ArePlacesOf, Content, IsChangedAt, IsListChanged, IsRising, posting_cmp, posting_at}
+use Rattle.zeb_register.specs.Content.{AreChangedAt, AreListChanges, ArePlacesOf, Content, IsChangedAt, IsListChanged, HasRisingLists, posting_cmp, posting_at}
 use Rattle.zeb_register.specs.PackedBlocks.{part_in}
-use Rattle.zeb_register.specs.PackedRows.{IsInBlock}
-use Rattle.zeb_register.proofs.ContentChanges.{at_sysno, at_sysno_others, at_sysno_part, at_sysno_rises, changed_at, change_is, numbers_apart, posting_total, told_spot, with_list, with_list_here, with_list_there}
+use Rattle.zeb_register.specs.PrivatePackedRows.{IsInBlock}
+use Rattle.zeb_register.proofs.ContentChanges.{at_sysno, at_sysno_others, at_sysno_part, at_sysno_rises, changed_at, change_is, posting_total, told_spot, with_list, with_list_here, with_list_there}
 use Rattle.zeb_register.proofs.PackedLemmas.{in_part, part_in_block, part_in_list}
 use Rattle.zeb_register.proofs.RisingLists.{kept_rises, same_list, told_by}
 
@@ -207,7 +208,7 @@ module _ (db : ℤ) (key : Key) where
   pub content_none : (a : Content) → AreChangedAt db key [] a a
   content_none a = record { list = refl; others = λ d k other. refl }
 
-  pub content_rises : (changes : List RecordChange) (a b : Content) → IsRising a → AreChangedAt db key changes a b → IsRising b
+  pub content_rises : (changes : List RecordChange) (a b : Content) → HasRisingLists a → AreChangedAt db key changes a b → HasRisingLists b
   content_rises changes a b up change d k = elim (told_spot d db k key) [
     | inl same ↦ subst (IsStrictlySortedBy posting_cmp) (sym (ap₂ b same.0 same.1)) (changes_rise changes (a db key) (b db key) (up db key) change.list)
     | inr other ↦ subst (IsStrictlySortedBy posting_cmp) (sym (change.others d k other)) (up d k)
@@ -221,7 +222,7 @@ module _ (db : ℤ) (key : Key) where
       at d k (inr other) = left.others d k other ∙ sym (right.others d k other)
 
   -- one change of a list is one of the content
-  module _ (change : RecordChange) (a b : Content) (up : IsRising a) (is : IsChangedAt db key change.sysno change.new.now a b) (found : ArePlacesOf change.sysno change.old.now (a db key)) where
+  module _ (change : RecordChange) (a b : Content) (up : HasRisingLists a) (is : IsChangedAt db key change.sysno change.new.now a b) (found : ArePlacesOf change.sysno change.old.now (a db key)) where
     pub changed_alone : AreChangedAt db key (change ∷ []) a b
     changed_alone = record {
       list = (b db key, found, record { rising = is.rising db key; part = is.part; others = λ p differs. is.others db key p (λ same. differs same.2) }, refl);
@@ -230,7 +231,7 @@ module _ (db : ℤ) (key : Key) where
     }
 
   -- and the content can be changed so
-  pub change_alone : (change : RecordChange) (a : Content) → IsRising a → ArePlacesOf change.sysno change.old.now (a db key) → (b : Content) × AreChangedAt db key (change ∷ []) a b
+  pub change_alone : (change : RecordChange) (a : Content) → HasRisingLists a → ArePlacesOf change.sysno change.old.now (a db key) → (b : Content) × AreChangedAt db key (change ∷ []) a b
   change_alone change a up found =
       let b = changed_at db key change.sysno change.new.now a in
       (b, changed_alone change a b up (change_is db key change.sysno change.new.now a up) found)

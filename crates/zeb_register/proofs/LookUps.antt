@@ -7,7 +7,7 @@ use Rattle.sqlite_rules.specs.Lists.{Has}
 use Rattle.sqlite_rules.proofs.ListLemmas.{has_got}
 use Rattle.zeb_register.specs.Sql.{IsListOf}
 use Rattle.zeb_register.specs.Store.{AreReadableTexts, HasDatabase, HasRecord}
-use Rattle.zeb_register.specs.RowStatements.{IsValueRow, IsDatabaseRow, IsElderRow, IsIdentRow}
+use Rattle.zeb_register.specs.PrivateRowStatements.{IsValueRow, IsDatabaseRow, IsElderRow, IsIdentRow}
 use Rattle.zeb_register.specs.Catalog.{AreCountedDatabases}
 use Rattle.zeb_register.specs.Kept.{AreNumbered, AreReadableIdents}
 

@@ -10,7 +10,7 @@ use Rattle.zeb_register.specs.declared.registers.TermCount.{TermCount}
 use Rattle.zeb_register.specs.declared.registers.Totals.{Totals}
 use Rattle.zeb_register.specs.Content.{Content, posted}
 use Rattle.zeb_register.specs.Occurring.{HasKey, Spot, spot_cmp, capped, TermIn, AreTermsOf, AreSpotsOf, AreTotals}
-use Rattle.zeb_register.specs.RowTerms.{IsInRecord}
+use Rattle.zeb_register.specs.PrivateRowTerms.{IsInRecord}
 use Rattle.zeb_register.proofs.ContentChanges.{posting_total}
 use Rattle.zeb_register.proofs.CountLemmas.{counts_so}
 use Rattle.zeb_register.proofs.RisingLists.{same_list}

@@ -21,8 +21,8 @@ use Rattle.zeb_register.specs.declared.agreeing.Table.TheVariants.{Records, Post
 use Rattle.zeb_register.specs.declared.faults.RegFault.TheVariants.{Store}
 use Rattle.zeb_register.specs.Calls.{MayRefuse}
 use Rattle.zeb_register.specs.Faults.{fault_of}
-use Rattle.zeb_register.specs.RowExpected.{Owns, tree_of}
-use Rattle.zeb_register.specs.RowReads.{ShowsFirst, greatest_text, least_text, next_text}
+use Rattle.zeb_register.specs.PrivateRowExpected.{Owns, tree_of}
+use Rattle.zeb_register.specs.PrivateRowReads.{ShowsFirst, greatest_text, least_text, next_text}
 use Rattle.zeb_register.specs.Store.{IsStore}
 use Rattle.zeb_register.specs.Tables.{store_schema}
 use Rattle.zeb_register.proofs.Calls.{IsSilent}

@@ -10,8 +10,8 @@ use Rattle.sqlite.specs.State.{State, IsUnchanged}
 use Rattle.sqlite.specs.Tree.{Trees}
 use Rattle.zeb_register.specs.declared.catalog.ListedDatabase.{ListedDatabase}
 use Rattle.zeb_register.specs.declared.belonging.Ends.{Ends}
-use Rattle.zeb_register.specs.RowExpected.{BelongsTo, IsListedId, Owns}
-use Rattle.zeb_register.specs.RowReads.{AreEnds, ShowsFirst}
+use Rattle.zeb_register.specs.PrivateRowExpected.{BelongsTo, IsListedId, Owns}
+use Rattle.zeb_register.specs.PrivateRowReads.{AreEnds, ShowsFirst}
 use Rattle.zeb_register.specs.Store.{IsStore}
 use Rattle.zeb_register.proofs.Calls.{store_same}
 use Rattle.zeb_register.proofs.OwnerStatements.{cmp_below}

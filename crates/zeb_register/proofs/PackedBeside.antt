@@ -17,19 +17,19 @@ use Rattle.zeb_blocks.specs.Blocks.{BlockSpells, IsNumbered, spelled_from, start
 use Rattle.zeb_keys.specs.declared.keys.Key.{Key}
 use Rattle.zeb_keys.specs.Registers.{register_code}
 use Rattle.zeb_keys.specs.Order.{key_order}
-use Rattle.zeb_keys.proofs.Rising.{key_total, keys_apart}
+use Rattle.zeb_keys.proofs.Rising.{key_total, keys_apart, numbers_apart}
 use Rattle.zeb_register.specs.declared.expected.KeyPosting.{KeyPosting}
 use Rattle.zeb_register.specs.Content.{posting_cmp}
 use Rattle.zeb_register.specs.Expected.{key_posting_order}
 use Rattle.zeb_register.specs.PackedBlocks.{part_in}
-use Rattle.zeb_register.specs.RowExpected.{AreBlocks, IsBlockBefore, IsBlockRest, key_shown, list_under, with_key}
-use Rattle.zeb_register.specs.RowPlaces.{first_three}
+use Rattle.zeb_register.specs.PrivateRowExpected.{AreBlocks, IsBlockBefore, IsBlockRest, key_shown, list_under, with_key}
+use Rattle.zeb_register.specs.PrivateRowPlaces.{first_three}
 use Rattle.zeb_register.specs.Sql.{IsListOf}
 use Rattle.zeb_register.specs.Store.{IsRest, IsStore, blocks_tree}
-use Rattle.zeb_register.proofs.ContentChanges.{numbers_apart, posting_total}
+use Rattle.zeb_register.proofs.ContentChanges.{posting_total}
 use Rattle.zeb_register.proofs.ContentLemmas.{ints_order, same_key}
 use Rattle.zeb_register.proofs.CountLemmas.{is_less}
-use Rattle.zeb_register.proofs.Expecting.{key_posting_total, under_has, under_rises}
+use Rattle.zeb_register.proofs.AgreeingTables.{key_posting_total, under_has, under_rises}
 use Rattle.zeb_register.proofs.ExpectedLists.{then_joined}
 use Rattle.zeb_register.proofs.PackedLemmas.{in_part, not_empty, one_spelled, part_in_block, part_in_list, part_lies}
 use Rattle.zeb_register.proofs.PostingStatements.{blocks, blocks_static, blocks_keys}

@@ -16,13 +16,13 @@ use Rattle.zeb_blocks.proofs.Taking.{spells_start}
 use Rattle.zeb_keys.specs.declared.keys.Key.{Key}
 use Rattle.zeb_keys.specs.declared.Register.{Register}
 use Rattle.zeb_register.specs.declared.registers.TermCount.{TermCount}
-use Rattle.zeb_register.specs.Content.{Content, IsRising, IsWithout, posted, posting_cmp}
+use Rattle.zeb_register.specs.Content.{Content, HasRisingLists, IsWithout, posted, posting_cmp}
 use Rattle.zeb_register.specs.Occurring.{AreTermsOf, HasKey, key_in}
 use Rattle.zeb_register.specs.PackedBlocks.{HoldsBlocks, IsBlockRow, IsDictRow, block_row, dict_row, part_in}
-use Rattle.zeb_register.specs.PackedRows.{HoldsBlockRows}
+use Rattle.zeb_register.specs.PrivatePackedRows.{HoldsBlockRows}
 use Rattle.zeb_register.specs.PlainRows.{key_row}
-use Rattle.zeb_register.specs.RowPlaces.{DropsRegisters}
-use Rattle.zeb_register.specs.RowTerms.{IsInRecord}
+use Rattle.zeb_register.specs.PrivateRowPlaces.{DropsRegisters}
+use Rattle.zeb_register.specs.PrivateRowTerms.{IsInRecord}
 use Rattle.zeb_register.specs.Sql.{HasRow, Loses}
 use Rattle.zeb_register.specs.Store.{Changes, IsPostingIn, IsRecordIn, KeepsRegisters, LacksRegisters, TakesDatabase, blocks_tree, databases_tree, dict_tree, postings_tree, records_tree}
 use Rattle.zeb_register.proofs.ContentChanges.{posting_total}
@@ -190,7 +190,7 @@ keys_as one two db key same n = (
   λ h. (key_posted one db key n).1 (subst (λ (l : List Posting). IsInRecord l n) (sym same) ((key_posted two db key n).0 h)),
 )
 
-module _ (db : ℤ) (before after : Content) (up : IsRising before) (without : IsWithout db before after) where
+module _ (db : ℤ) (before after : Content) (up : HasRisingLists before) (without : IsWithout db before after) where
   -- the list of a key in another database stays
   list_stays : (d : ℤ) (key : Key) → d ≢ db → after d key ≡ before d key
   list_stays d key other = same_list posting_total (after d key) (before d key) (without.rising d key) (up d key) (λ p h. ((without.left d key p).0 h).0) (λ p h. (without.left d key p).1 (h, other))

@@ -15,9 +15,10 @@ use Rattle.sqlite_value.proofs.OrderLemmas.{row_cmp_total, value_cmp-Int}
 use Rattle.zeb_blocks.specs.declared.postings.Posting.{Posting}
 use Rattle.zeb_blocks.specs.Blocks.{BlockSpells, spelled_from, start_of}
 use Rattle.zeb_keys.specs.declared.keys.Key.{Key}
+use Rattle.zeb_keys.proofs.Rising.{numbers_apart}
 use Rattle.zeb_register.specs.Content.{Content, posting_cmp}
 use Rattle.zeb_register.specs.PackedBlocks.{HoldsBlocks, SpellsPart, blocks_of, part_in}
-use Rattle.zeb_register.specs.PackedRows.{AreSpelled}
+use Rattle.zeb_register.specs.PrivatePackedRows.{AreSpelled}
 use Rattle.zeb_register.specs.Occurring.{key_in}
 use Rattle.zeb_register.specs.PlainRows.{key_row}
 use Rattle.zeb_register.specs.Sql.{IsListOf}
@@ -139,7 +140,7 @@ module _ (list : List Posting) where
       from Less is = let low : one.0 < two.0 = is_less one.0 two.0 is in omega (arith, low, block_is list x one, block_is list y two)
       from Greater is = absurd (let e : Less ≡ Greater = sym less ∙ whole ∙ ap (λ o. ordering_then o (row_cmp (Blob one.1 ∷ []) (Blob two.1 ∷ []))) is in cc)
       from Equal is =
-          let number : one.0 ≡ two.0 = Rattle.zeb_register.proofs.ContentChanges.numbers_apart one.0 two.0 is in
+          let number : one.0 ≡ two.0 = numbers_apart one.0 two.0 is in
           let bytes : one.1 ≡ two.1 = one.3.spelled ∙ ap (λ (k : ℕ). spelled_from (start_of k) (part_in k list)) number ∙ sym two.3.spelled in
           let same : y ≡ x = two.2 ∙ ap₂ (λ (k : ℕ) (d : List ℕ). Int (pos k) ∷ Blob d ∷ []) (sym number) (sym bytes) ∙ sym one.2 in
           absurd (never_itself row_cmp_total x (subst (λ (r : Row). row_cmp x r ≡ Less) same less))

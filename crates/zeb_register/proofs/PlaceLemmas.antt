@@ -18,12 +18,12 @@ use Rattle.zeb_keys.specs.Registers.{register_code}
 use Rattle.zeb_register.specs.declared.registers.Place.{Place}
 use Rattle.zeb_blocks.specs.declared.postings.Posting.{Posting}
 use Rattle.zeb_register.specs.Sql.{HasRow, KeepsOthers, IsKeyed, Loses, IsListOf}
-use Rattle.zeb_register.specs.RowStatements.{Gains, place_key}
+use Rattle.zeb_register.specs.PrivateRowStatements.{Gains, place_key}
 use Rattle.zeb_register.specs.Store.{postings_tree, IsRest, Changes, blocks_tree, dict_tree, databases_tree, records_tree, TakesDatabase, IsRecordIn, IsPostingIn}
 use Rattle.zeb_register.specs.Content.{Content, ArePlacesOf, posting_at, place_cmp, IsWithout, TakesWhole, IsChangedAt}
 use Rattle.zeb_register.specs.PlainRows.{HoldsRows, posting_row, key_row}
 use Rattle.zeb_register.specs.PackedBlocks.{first_two}
-use Rattle.zeb_register.specs.RowPlaces.{IsTwoNumbers, place_row, DropsRegisters, KeepsBesidePostings, GainsPlaces, Puts, posting_columns, IsPlaceIn}
+use Rattle.zeb_register.specs.PrivateRowPlaces.{IsTwoNumbers, place_row, DropsRegisters, KeepsBesidePostings, GainsPlaces, Puts, posting_columns, IsPlaceIn}
 use Rattle.sqlite.specs.declared.types.Value.{Value}
 use Rattle.sqlite.specs.Order.{value_cmp}
 use Rattle.sqlite.specs.State.{State}

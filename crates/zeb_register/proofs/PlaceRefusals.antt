@@ -14,10 +14,11 @@ use Rattle.zeb_keys.specs.Registers.{register_code}
 use Rattle.zeb_register.specs.declared.registers.Place.{Place}
 use Rattle.zeb_register.specs.declared.registers.RecordChange.{RecordChange}
 use Rattle.zeb_register.specs.Content.{IsStorablePlace, place_cmp}
-use Rattle.zeb_register.specs.Hindrances.{HindersNew, HindersPlaces, IsStorablePlaced, Placed, TakesRegisterRowids, TakesRowids, placed, rows_of}
+use Rattle.zeb_register.specs.Hindrances.{HindersPlaces, FitsEachLayout, Placed, TakesRegisterRowids, TakesRowids, placed, rows_of}
+use Rattle.zeb_register.specs.PrivateHindrances.{HindersNew}
 use Rattle.zeb_register.specs.PlainRows.{key_row}
-use Rattle.zeb_register.specs.RowPlaces.{GainsPlaces, HasPlaceIn, HindersPlace, HindersRows, IsPlaceIn, KeepsBesidePostings}
-use Rattle.zeb_register.specs.RowStatements.{IsPlaceOf}
+use Rattle.zeb_register.specs.PrivateRowPlaces.{GainsPlaces, HasPlaceIn, HindersPut, HindersRows, IsPlaceIn, KeepsBesidePostings}
+use Rattle.zeb_register.specs.PrivateRowStatements.{IsPlaceOf}
 use Rattle.zeb_register.specs.Sql.{Loses}
 use Rattle.zeb_register.specs.Store.{blocks_tree, dict_tree, postings_tree}
 use Rattle.zeb_register.proofs.RowCounts.{rows_front}
@@ -28,7 +29,7 @@ use Rattle.zeb_register.proofs.TakenRowids.{lacked, takes_more, takes_none, take
 -- numbers as their columns store them
 pub put_hinders : (db : ℤ) (key : Key) (sysno : ℕ) (place : Place) (trees : Trees) (n s p : ℤ) → n ≡ pos sysno → s ≡ pos place.seq → p ≡ pos place.pos
     → HindersNew (λ was. IsPlaceOf db (pos key.index) (pos (register_code key.register)) key.term n was × (column was 5 ≡ Int s) × (column was 6 ≡ Int p)) postings_tree (key_row db key ++ Int n ∷ Int s ∷ Int p ∷ []) trees
-    → HindersPlace db key sysno place trees
+    → HindersPut db key sysno place trees
 put_hinders db key sysno place trees n s p one two three hinders =
     let at = λ (n s p : ℤ). HindersNew (λ was. IsPlaceOf db (pos key.index) (pos (register_code key.register)) key.term n was × (column was 5 ≡ Int s) × (column was 6 ≡ Int p)) postings_tree (key_row db key ++ Int n ∷ Int s ∷ Int p ∷ []) trees in
     inr (subst (at (pos sysno) (pos place.seq)) three (subst (λ m. at (pos sysno) m p) two (subst (λ m. at m s p) one hinders)))
@@ -54,7 +55,7 @@ module _ (db : ℤ) (key : Key) (sysno : ℕ) (places : List Place) (i : ℕ) (d
   place = get_or places i d
 
   -- behind those in front of it a place is hindered for what hinders them all
-  pub place_hinders : GainsPlaces db key sysno (take i places) old mid → TakesRowids i postings_tree old mid → HindersPlace db key sysno place mid
+  pub place_hinders : GainsPlaces db key sysno (take i places) old mid → TakesRowids i postings_tree old mid → HindersPut db key sysno place mid
       → HasPlaceIn db key sysno old ⊎ HindersRows key ((sysno, places) ∷ []) old
   place_hinders gains takes (inl (inl number)) = inr (inl (λ all. absurd (omega (arith, number, all.0.0.1))))
   place_hinders gains takes (inl (inr (inl seq))) = inr (inl (λ all. absurd (omega (arith, seq, (all-get_or IsStorablePlace places i d all.0.1.1 below).seq.1))))
@@ -97,7 +98,7 @@ rows_within [] i d below = absurd (omega (arith, below))
 rows_within (x ∷ xs) zero d below = omega (arith, rows_front (placed x) (map placed xs), rows_front (placed x) [])
 rows_within (x ∷ xs) (suc i) d below = omega (arith, rows_front (placed x) (map placed xs), rows_front (placed x) (map placed (take i xs)), rows_within xs i d (omega (arith, below)))
 
-all_stored : (xs : List RecordChange) (i : ℕ) (d : RecordChange) → i < length xs → AllByRecursion IsStorablePlaced (map placed xs) → IsStorablePlaced (placed (get_or xs i d))
+all_stored : (xs : List RecordChange) (i : ℕ) (d : RecordChange) → i < length xs → AllByRecursion FitsEachLayout (map placed xs) → FitsEachLayout (placed (get_or xs i d))
 all_stored [] i d below all = absurd (omega (arith, below))
 all_stored (x ∷ xs) zero d below all = all.0
 all_stored (x ∷ xs) (suc i) d below all = all_stored xs i d (omega (arith, below)) all.1

@@ -10,15 +10,15 @@ use Rattle.sqlite.proofs.Callers.{IsPlain, command_of}
 use Rattle.sqlite_tied.specs.Compute.{everything}
 use Rattle.zeb_register.specs.Tables.{store_schema, postings_table, blocks_table, dict_table}
 use Rattle.zeb_register.specs.Sql.{Loses, IsListOf}
-use Rattle.zeb_register.specs.RowStatements.{Gains, posting, place_key, IsPlaceOf}
+use Rattle.zeb_register.specs.PrivateRowStatements.{Gains, whole_posting_row, place_key, IsPlaceOf}
 use Rattle.zeb_register.specs.Store.{IsStore, Changes, postings_tree, blocks_tree, dict_tree, key_of, IsPostingIn, IsRest}
-use Rattle.zeb_register.specs.Hindrances.{HindersNew}
+use Rattle.zeb_register.specs.PrivateHindrances.{HindersNew}
 use Rattle.zeb_register.proofs.StatementForms.{Condition, equals, reading, alone, keyed_from, rising, shows, no_limit}
 use Rattle.zeb_register.proofs.ValueKinds.{IsPlainTable, HasKeys}
 use Rattle.sqlite.specs.Table.{Table}
 use Rattle.zeb_register.proofs.Writes.{deletes, inserts, loses, gains}
 use Rattle.zeb_register.proofs.Selects.{list_so}
-use Rattle.zeb_register.proofs.Prefix.{IsAfter, lists_after}
+use Rattle.zeb_register.proofs.PrefixSelects.{IsAfter, lists_after}
 use Rattle.zeb_register.proofs.Calls.{IsSilent}
 use Rattle.zeb_register.proofs.Refusals.{IsFit, IsReasonedQuery, IsWhole, why_refused}
 use Rattle.zeb_register.proofs.InsertRefusals.{why_insert_hindered}
@@ -144,10 +144,10 @@ put_plain : IsPlain (understood store_schema put_text)
 unfolding understood everything
 put_plain = (refl, refl)
 
-pub puts : (db idx reg : ℤ) (term : List ℕ) (sysno seq place : ℤ) (old new : State) (count : ℕ) → IsStore old → Executes put_text (posting db idx reg term sysno seq place) old new (Ok count)
-    → Changes postings_tree (Gains (posting db idx reg term sysno seq place)) old new
+pub puts : (db idx reg : ℤ) (term : List ℕ) (sysno seq place : ℤ) (old new : State) (count : ℕ) → IsStore old → Executes put_text (whole_posting_row db idx reg term sysno seq place) old new (Ok count)
+    → Changes postings_tree (Gains (whole_posting_row db idx reg term sysno seq place)) old new
 puts db idx reg term sysno seq place old new count store ran =
-    let row = posting db idx reg term sysno seq place in
+    let row = whole_posting_row db idx reg term sysno seq place in
     gains store_schema 7 old new row (inserts store_schema 3 postings postings_static put_text row put_terms 8 row put_is put_plain refl refl old new count store ran).0
 
 pub postings_keys : HasKeys store_schema postings ((1 ∷ 2 ∷ 3 ∷ 4 ∷ 5 ∷ 6 ∷ 7 ∷ []) ∷ [])
@@ -157,7 +157,7 @@ put_whole : IsWhole put_text 7 (understood store_schema put_text)
 unfolding understood everything
 put_whole = (omega arith, refl)
 
-posting_fits : (db idx reg : ℤ) (term : List ℕ) (sysno seq place : ℤ) → IsRowFor postings (posting db idx reg term sysno seq place)
+posting_fits : (db idx reg : ℤ) (term : List ℕ) (sysno seq place : ℤ) → IsRowFor postings (whole_posting_row db idx reg term sysno seq place)
 posting_fits db idx reg term sysno seq place = record {
   passed = λ trees id. (refl, refl, refl);
   coded = λ id. refl;
@@ -165,17 +165,17 @@ posting_fits db idx reg term sysno seq place = record {
   few = (omega arith, omega arith);
 }
 
-pub put_refused : (db idx reg : ℤ) (term : List ℕ) (sysno seq place : ℤ) → IsHinderedWrite put_text (posting db idx reg term sysno seq place)
-    (HindersNew (λ was. IsPlaceOf db idx reg term sysno was × (column was 5 ≡ Int seq) × (column was 6 ≡ Int place)) postings_tree (posting db idx reg term sysno seq place))
+pub put_refused : (db idx reg : ℤ) (term : List ℕ) (sysno seq place : ℤ) → IsHinderedWrite put_text (whole_posting_row db idx reg term sysno seq place)
+    (HindersNew (λ was. IsPlaceOf db idx reg term sysno was × (column was 5 ≡ Int seq) × (column was 6 ≡ Int place)) postings_tree (whole_posting_row db idx reg term sysno seq place))
 put_refused db idx reg term sysno seq place =
-    let row = posting db idx reg term sysno seq place in
+    let row = whole_posting_row db idx reg term sysno seq place in
     why_insert_hindered 3 postings postings_static _ postings_keys row (λ was. IsPlaceOf db idx reg term sysno was × (column was 5 ≡ Int seq) × (column was 6 ≡ Int place)) (posting_fits db idx reg term sysno seq place)
     (λ id other was shares. elim shares [ inl m ↦ ((m.0, m.1.0, m.1.1.0, m.1.1.1.0, m.1.1.1.1.0), m.1.1.1.1.1.0, m.1.1.1.1.1.1.0) | inr none ↦ absurd none ])
     row put_terms 8 refl refl (λ trees. (refl, refl)) put_text put_is put_plain put_whole
 
-pub put_takes : (db idx reg : ℤ) (term : List ℕ) (sysno seq place : ℤ) → IsTakingWrite 1 postings_tree put_text (posting db idx reg term sysno seq place)
+pub put_takes : (db idx reg : ℤ) (term : List ℕ) (sysno seq place : ℤ) → IsTakingWrite 1 postings_tree put_text (whole_posting_row db idx reg term sysno seq place)
 put_takes db idx reg term sysno seq place =
-    let row = posting db idx reg term sysno seq place in insert_takes 3 postings postings_static row put_terms 8 row refl refl put_text put_is put_plain
+    let row = whole_posting_row db idx reg term sysno seq place in insert_takes 3 postings postings_static row put_terms 8 row refl refl put_text put_is put_plain
 
 -- ---- SELECT
 

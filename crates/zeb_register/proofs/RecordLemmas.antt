@@ -11,9 +11,9 @@ use Rattle.sqlite_rules.proofs.ListLemmas.{all_has}
 use Rattle.zeb_register.specs.declared.kept.Record.{Record}
 use Rattle.zeb_register.specs.Sql.{HasRow, IsListOf}
 use Rattle.zeb_register.specs.Store.{IsStore, records_tree, IsRest}
-use Rattle.zeb_register.specs.RowPlaces.{first_three}
+use Rattle.zeb_register.specs.PrivateRowPlaces.{first_three}
 use Rattle.zeb_register.specs.Kept.{AreReadable, IsFirstFrom, IsNumberOf, record_shown}
-use Rattle.zeb_register.specs.RowStatements.{IsRecordShown, IsRestAtLeast}
+use Rattle.zeb_register.specs.PrivateRowStatements.{IsRecordShown, IsRestAtLeast}
 use Rattle.zeb_register.proofs.RecordStatements.{record_rest}
 use Rattle.zeb_register.proofs.TermRows.{int_at, up_to}
 

@@ -1,8 +1,8 @@
 -- The statements that count the records of a database and that read one after the other.
-use Rattle.std.proofs.Common.{◌≡◌, ◌↔◌, ◌∙◌, ℕ, ℤ, pos, true, false, List, [], ◌∷◌, ◌++◌, length, map, min, take, codes, refl, sym, ap, subst, inl, inr, None, Some, Less, Equal, Greater, Ordering, arith}
+use Rattle.std.proofs.Common.{◌≡◌, ◌↔◌, ◌∙◌, ℕ, ℤ, pos, true, false, List, [], ◌∷◌, ◌++◌, length, map, min, take, codes, refl, sym, ap, subst, inl, inr, None, Some, Less, Equal, arith}
 use Rattle.std.specs.Prelude.{filter, IsPermutation}
 use Rattle.std.specs.List.{AllZip, Any, IsDistinct, list_all}
-use Rattle.std.specs.Ordering.{eq_by_cmp, int_cmp, ordering_then}
+use Rattle.std.specs.Ordering.{eq_by_cmp, int_cmp}
 use Rattle.std.proofs.lemmas.Cmp.{int_ranked}
 use Rattle.std.proofs.lemmas.Bool.{cases_Bool}
 use Rattle.std.proofs.lemmas.List.{length-map}
@@ -30,12 +30,12 @@ use Rattle.sqlite_sql.specs.Group.{Aggregate, Grouping, IsSummary, value_over}
 use Rattle.sqlite_tied.specs.Compute.{everything}
 use Rattle.sqlite_tied.specs.Listing.{counting}
 use Rattle.zeb_register.specs.Kept.{IsNumberOf}
-use Rattle.zeb_register.specs.RowStatements.{IsRestAtLeast, ShowsCount}
+use Rattle.zeb_register.specs.PrivateRowStatements.{IsRestAtLeast, ShowsCount}
 use Rattle.zeb_register.specs.Sql.{IsListOf}
 use Rattle.zeb_register.specs.Store.{HasRecord, IsStore, record_row, records_tree}
 use Rattle.zeb_register.specs.Tables.{store_schema}
 use Rattle.zeb_register.proofs.Calls.{IsSilent}
-use Rattle.zeb_register.proofs.Prefix.{IsAfter, lists_after}
+use Rattle.zeb_register.proofs.PrefixSelects.{IsAfter, lists_after, first_lower}
 use Rattle.zeb_register.proofs.RecordStatements.{records, records_keys, records_static, row_of}
 use Rattle.zeb_register.proofs.Refusals.{IsFit, IsReasonedQuery, IsSure, IsWhole, why_query_refused, why_refused}
 use Rattle.zeb_register.proofs.RowLemmas.{shares_alone}
@@ -220,11 +220,6 @@ from_plain = ((refl, refl), refl)
 pub from_silent : IsSilent from_text
 unfolding everything
 from_silent = λ schema base. refl
-
-first_lower : (o p : Ordering) → ordering_then o Equal ≡ Less → ordering_then o p ≡ Less
-first_lower Less p h = refl
-first_lower Equal p h = absurd cc
-first_lower Greater p h = absurd cc
 
 pub lists_from : (db start : ℤ) (old new : State) (rows : List Row) → IsStore old → Shown from_text (Int db ∷ Int start ∷ []) old new rows
     → (all : List Row) × IsListOf (IsRestAtLeast records_tree (Int db ∷ []) start old.now.trees) all × (rows ≡ take 1 all)

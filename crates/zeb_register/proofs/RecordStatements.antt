@@ -1,6 +1,5 @@
 -- The statements on records, each with what it is compiled to.
-use Rattle.std.proofs.Common.{◌≡◌, ◌∙◌, arith, sym, ap, ap₂, subst, map, drop, ℕ, List, [], ◌∷◌, codes, refl, true, false, ℤ, Ok, inl, inr, Ordering, Less, Equal, Greater}
-use Rattle.std.specs.Ordering.{ordering_then}
+use Rattle.std.proofs.Common.{◌≡◌, ◌∙◌, arith, sym, ap, ap₂, subst, map, drop, ℕ, List, [], ◌∷◌, codes, refl, true, false, ℤ, Ok, inl, inr}
 use Rattle.sqlite.specs.declared.types.Value.TheVariants.{Null, Int, Text, Blob}
 use Rattle.sqlite.specs.State.{State, Executes, Shown}
 use Rattle.sqlite.specs.Command.TheVariants.{Select, Delete, InsertOr}
@@ -16,11 +15,11 @@ use Rattle.zeb_register.proofs.StatementForms.{Condition, equals, reading, alone
 use Rattle.zeb_register.proofs.ValueKinds.{codes_of, IsPlainTable, HasKeys, code}
 use Rattle.sqlite.specs.Table.{Table}
 use Rattle.zeb_register.specs.Store.{IsStore, Changes, records_tree, record_row, HasNumber, SharesRecord, IsRecordIn, IsRest}
-use Rattle.zeb_register.specs.RowStatements.{IsElderRow, IsIdentRow}
+use Rattle.zeb_register.specs.PrivateRowStatements.{IsElderRow, IsIdentRow}
 use Rattle.zeb_register.proofs.Writes.{deletes, replaces, loses, takes_place, codes_there}
 use Rattle.zeb_register.proofs.RowLemmas.{spread, code_at, int_of, text_of, blob_of}
 use Rattle.zeb_register.proofs.Selects.{IsSelected, selects, list_so}
-use Rattle.zeb_register.proofs.Prefix.{IsAfter, lists_after}
+use Rattle.zeb_register.proofs.PrefixSelects.{IsAfter, lists_after, first_lower}
 use Rattle.zeb_register.proofs.Calls.{IsSilent}
 use Rattle.zeb_register.proofs.Refusals.{IsWhole, IsFit, IsReasonedQuery, why_refused}
 use Rattle.zeb_register.specs.Hindrances.{Hinders}
@@ -275,11 +274,6 @@ all_fit db trees mistyped = absurd (let t : true ≡ false = mistyped in cc)
 
 pub all_refused : (db : ℤ) → IsReasonedQuery all_text (Int db ∷ [])
 all_refused db old new e store told failed = why_refused all_text (Int db ∷ []) 4 (keyed_from 1 0 1) (shows (2 ∷ 3 ∷ 4 ∷ [])) (rising (2 ∷ [])) no_limit (codes "sysno" ∷ codes "ident" ∷ codes "bytes" ∷ []) all_is all_plain.0 all_plain.1 all_whole (all_fit db) old new store e told failed
-
-first_lower : (o p : Ordering) → ordering_then o Equal ≡ Less → ordering_then o p ≡ Less
-first_lower Less p h = refl
-first_lower Equal p h = absurd cc
-first_lower Greater p h = absurd cc
 
 pub lists_all : (db : ℤ) (old new : State) (rows : List Row) → IsStore old → Shown all_text (Int db ∷ []) old new rows → IsListOf (IsRest records_tree (Int db ∷ []) old.now.trees) rows
 lists_all db old new rows store shown =

@@ -34,8 +34,8 @@ use Rattle.sqlite_schema.specs.Rules.{Keeps}
 use Rattle.zeb_register.specs.Hindrances.{Hinders}
 use Rattle.zeb_register.specs.Store.{IsStore}
 use Rattle.zeb_register.specs.Tables.{store_schema}
-use Rattle.zeb_register.proofs.Clashes.{clash_found}
-use Rattle.zeb_register.proofs.Edits.{picked}
+use Rattle.zeb_register.proofs.UniqueKeyClashes.{clash_found}
+use Rattle.zeb_register.proofs.EditedRows.{picked}
 use Rattle.zeb_register.proofs.NewRows.{IsRowFor, large_for, no_rowid_left}
 use Rattle.zeb_register.proofs.Refusals.{IsWhole}
 use Rattle.zeb_register.proofs.ValueKinds.{HasKeys, IsPlainTable, is_stored}

@@ -13,15 +13,16 @@ use Rattle.sqlite_rules.proofs.ProbeLemmas.{mapped_has}
 use Rattle.zeb_blocks.specs.declared.postings.Posting.{Posting}
 use Rattle.zeb_blocks.proofs.Sizes.{length-block}
 use Rattle.zeb_keys.specs.declared.keys.Key.{Key}
+use Rattle.zeb_keys.proofs.Rising.{numbers_apart}
 use Rattle.zeb_register.specs.declared.registers.Place.{Place}
 use Rattle.zeb_register.specs.declared.registers.RecordChange.{RecordChange}
 use Rattle.zeb_register.specs.Content.{AreChangedAt, AreListChanges, Content, posting_at, posting_cmp}
 use Rattle.zeb_register.specs.Formats.{Format, holds_in, packed_blocks, plain_rows}
-use Rattle.zeb_register.specs.Hindrances.{HasRowids, HindersPlaces, IsPlacedAt, IsSpelledAt, IsStorablePlaced, LacksRowids, Placed, TakesRegisterRowids, placed, rows_of}
+use Rattle.zeb_register.specs.Hindrances.{HasRowids, HindersPlaces, IsPlacedAt, IsSpelledAt, FitsEachLayout, LacksRowids, Placed, TakesRegisterRowids, placed, rows_of}
 use Rattle.zeb_register.specs.PackedBlocks.{block_row, part_in}
 use Rattle.zeb_register.specs.Room.{FitInRow, HasRoomBy}
 use Rattle.zeb_register.specs.Store.{KeepsRegisters, LacksRegisters, blocks_tree, dict_tree, postings_tree}
-use Rattle.zeb_register.proofs.ContentChanges.{numbers_apart, posting_total, told_spot}
+use Rattle.zeb_register.proofs.ContentChanges.{posting_total, told_spot}
 use Rattle.zeb_register.proofs.FormatLemmas.{registers_empty, registers_hold_one, registers_rise, registers_stay}
 use Rattle.zeb_register.proofs.PackedLemmas.{block_rows, block_spells, in_part, one_spelled, part_in_block, part_in_list}
 use Rattle.zeb_register.proofs.RisingLists.{kept_rises, never_itself, told_by}
@@ -129,7 +130,7 @@ spelled_held packed_blocks db key trees content holds p it =
 
 -- nothing hinders places that are so many, where each layout stores their numbers
 pub room_serves : (format : Format) (count : ℕ) (asked : Key → ℕ) (db : ℤ) (key : Key) (given : List Placed) (trees : Trees) (content : Content) → holds_in format trees content → HasRoomBy format count asked trees
-    → FitInRow (asked key) key → AllByRecursion IsStorablePlaced given → rows_of given ≤ count → rows_of given ≤ asked key → HindersPlaces db key given trees → ⊥
+    → FitInRow (asked key) key → AllByRecursion FitsEachLayout given → rows_of given ≤ count → rows_of given ≤ asked key → HindersPlaces db key given trees → ⊥
 room_serves format count asked db key given trees content holds room fits storable few own = from
   where
     lacks_none : (tree : ℕ) → HasRowids count tree trees → LacksRowids (rows_of given) tree trees → ⊥

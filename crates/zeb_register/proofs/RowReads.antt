@@ -23,9 +23,9 @@ use Rattle.zeb_register.specs.declared.faults.RegFault.TheVariants.{Store}
 use Rattle.zeb_register.specs.Calls.{ChangesNothing, MayRefuse}
 use Rattle.zeb_register.specs.Faults.{fault_of}
 use Rattle.zeb_register.specs.Kept.{record_shown}
-use Rattle.zeb_register.specs.RowExpected.{AsExpected, IsBlockBefore, IsInOrder, posting_shown, tree_of, TakeAll}
-use Rattle.zeb_register.specs.RowKeys.{IsRunBefore}
-use Rattle.zeb_register.specs.RowReads.{Fits, rests_text, size_of}
+use Rattle.zeb_register.specs.PrivateRowExpected.{AsExpected, IsBlockBefore, IsInOrder, posting_shown, tree_of, TakeAll}
+use Rattle.zeb_register.specs.PrivateRowKeys.{IsRunBefore}
+use Rattle.zeb_register.specs.PrivateRowReads.{Fits, rests_text, size_of}
 use Rattle.zeb_register.specs.Sql.{IsListOf}
 use Rattle.zeb_register.specs.Store.{IsRest, IsStore, postings_tree, records_tree}
 use Rattle.zeb_register.specs.Tables.{store_schema}
@@ -36,7 +36,7 @@ use Rattle.zeb_register.proofs.KeyRuns.{one_run, runs_all, runs_rest}
 use Rattle.zeb_register.proofs.PackedBeside.{all_numbered, blocks_all, blocks_rest, drop_none, drop_over, map_none, one_before}
 use Rattle.zeb_register.proofs.RecordStatements.{all_is, all_refused, all_silent, lists_all}
 use Rattle.zeb_register.proofs.StatementForms.{alone}
-use Rattle.zeb_register.proofs.Told.{told_so}
+use Rattle.zeb_register.proofs.YesNoAnswers.{told_so}
 
 -- ---- a query that is read row by row
 

@@ -11,7 +11,7 @@ use Rattle.sqlite.specs.Listing.{understood}
 use Rattle.sqlite.specs.State.{State, Executes, IsUnchanged}
 use Rattle.sqlite.proofs.Callers.{IsPlain, command_of, statement_of}
 use Rattle.zeb_register.specs.Tables.{no_schema, with_meta, with_databases, with_records, with_postings, with_blocks, store_schema, meta_table, databases_table, records_table, postings_table, blocks_table, dict_table}
-use Rattle.zeb_register.specs.RowStatements.{IsMade}
+use Rattle.zeb_register.specs.PrivateRowStatements.{IsMade}
 use Rattle.zeb_register.proofs.CreateTable.{creates, spares}
 use Rattle.zeb_register.proofs.CreateKeepsTables.{IsCreate}
 

@@ -12,7 +12,7 @@ use Rattle.sqlite_rules.specs.Lists.{Has}
 use Rattle.sqlite_rules.proofs.ListLemmas.{all_from, has_filtered, has_kept, has_left, has_right, has_either}
 use Rattle.zeb_register.specs.declared.registers.TermCount.{TermCount}
 use Rattle.zeb_register.specs.Occurring.{IsCount, AreCounts, term_cmp, is_before, is_from, last}
-use Rattle.zeb_register.specs.RowTerms.{IsTerm, IsLeastTerm, IsGreatestTerm}
+use Rattle.zeb_register.specs.PrivateRowTerms.{IsTerm, IsLeastTerm, IsGreatestTerm}
 use Rattle.zeb_register.proofs.RowLemmas.{same_bytes}
 use Rattle.zeb_register.proofs.RisingLists.{same_list, kept_rises, pushed_rises, never_back}
 use Rattle.zeb_register.proofs.CountLemmas.{is_less, term_total, one_count}
@@ -87,6 +87,12 @@ not_true_is true h = absurd (cc)
 not_true_is false h = refl
 
 -- ---- parts of lists
+
+pub has_taken : {X : Type 0} (n : ℕ) (xs : List X) (x : X) → Has (take n xs) x → Has xs x
+has_taken zero xs x h = absurd h
+has_taken (suc n) [] x h = absurd h
+has_taken (suc n) (y ∷ xs) x (inl same) = inl same
+has_taken (suc n) (y ∷ xs) x (inr later) = inr (has_taken n xs x later)
 
 pub taken : {X : Type 0} (n : ℕ) (xs ys : List X) → (length xs ≡ n) ⊎ ((ys ≡ []) × (length xs ≤ n)) → take n (xs ++ ys) ≡ xs
 taken zero [] ys h = refl

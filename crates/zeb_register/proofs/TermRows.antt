@@ -18,17 +18,17 @@ use Rattle.sqlite_value.proofs.OrderLemmas.{row_cmp_total, value_cmp-Int, value_
 use Rattle.zeb_keys.specs.declared.Register.{Register}
 use Rattle.zeb_blocks.specs.declared.postings.Posting.{Posting}
 use Rattle.zeb_keys.specs.Registers.{register_code}
+use Rattle.zeb_keys.proofs.Rising.{numbers_apart}
 use Rattle.zeb_register.specs.declared.registers.TermCount.{TermCount}
 use Rattle.zeb_register.specs.Sql.{HasRow, IsListOf}
 use Rattle.zeb_register.specs.Store.{postings_tree, key_of, IsRest}
 use Rattle.zeb_register.specs.Content.{Content, IsStorable, posted, posting_cmp}
 use Rattle.zeb_register.specs.PlainRows.{HoldsRows, posting_row, register_front}
 use Rattle.zeb_register.specs.Occurring.{IsCount, AreCounts, AreSpotsOf, AreTermsOf, HasSpot, Spot, TermIn, key_in, spot_cmp}
-use Rattle.zeb_register.specs.RowTerms.{IsInRecord, IsTerm, HasTerm, ShowsOccurrence, IsOccurrenceRow, IsShown, ShowsTerm, IsTermRow, ShowsLeast, ShowsGreatest, IsLeastTerm, IsGreatestTerm}
+use Rattle.zeb_register.specs.PrivateRowTerms.{IsInRecord, IsTerm, HasTerm, ShowsOccurrence, IsOccurrenceRow, IsShown, ShowsTerm, IsTermRow, ShowsLeast, ShowsGreatest, IsLeastTerm, IsGreatestTerm}
 use Rattle.zeb_register.proofs.RisingLists.{front_rises, before_last}
 use Rattle.zeb_register.proofs.RowLemmas.{same_bytes}
 use Rattle.zeb_register.proofs.Scans.{strictly_mapped}
-use Rattle.zeb_register.proofs.ContentChanges.{numbers_apart}
 use Rattle.zeb_register.proofs.ContentLemmas.{ints_order, same_key}
 use Rattle.zeb_register.proofs.CountLemmas.{IsNewest, is_less, counts_so, count_so, count_more, counted_none, newest_is, above_newest, newest_stays}
 use Rattle.zeb_register.proofs.OccurringLemmas.{key_posted}

@@ -19,7 +19,7 @@ use Rattle.zeb_register.specs.Tables.{store_schema}
 use Rattle.zeb_register.proofs.StatementForms.{Condition, equals, at_least, less_than, MeetsAll, passes, reading, reading_by, alone, shows, ascending, descending, one_row}
 use Rattle.zeb_register.proofs.ValueKinds.{code, codes_of}
 use Rattle.zeb_register.specs.Store.{IsStore}
-use Rattle.zeb_register.specs.RowTerms.{HasTerm, ShowsLeast, ShowsGreatest}
+use Rattle.zeb_register.specs.PrivateRowTerms.{HasTerm, ShowsLeast, ShowsGreatest}
 use Rattle.zeb_register.proofs.RowLemmas.{spread, code_at, int_of, text_of}
 use Rattle.zeb_register.proofs.Scans.{reads}
 use Rattle.zeb_register.proofs.FirstRows.{first_shown}

@@ -7,15 +7,15 @@ use Rattle.sqlite_rules.specs.Lists.{Has}
 use Rattle.sqlite_rules.proofs.ListLemmas.{has_filtered, has_kept}
 use Rattle.sqlite_rules.proofs.ProbeLemmas.{has_mapped, mapped_has}
 use Rattle.zeb_keys.specs.declared.Register.{Register}
+use Rattle.zeb_keys.proofs.Rising.{numbers_apart}
 use Rattle.zeb_blocks.specs.declared.postings.Posting.{Posting}
 use Rattle.zeb_register.specs.declared.registers.TermCount.{TermCount}
 use Rattle.zeb_register.specs.Content.{Content, posted}
 use Rattle.zeb_register.specs.Occurring.{IsCount, AreTermsOf, TermIn, key_in, term_cmp}
-use Rattle.zeb_register.specs.RowTerms.{IsInRecord, term_with}
+use Rattle.zeb_register.specs.PrivateRowTerms.{IsInRecord, term_with}
 use Rattle.zeb_register.proofs.RisingLists.{kept_rises, with_all, all_there, all_rise}
 use Rattle.zeb_register.proofs.RowLemmas.{same_bytes}
 use Rattle.zeb_register.proofs.Scans.{strictly_mapped}
-use Rattle.zeb_register.proofs.ContentChanges.{numbers_apart}
 use Rattle.zeb_register.proofs.CountLemmas.{count_so}
 use Rattle.zeb_register.proofs.OccurringLemmas.{key_posted}
 

@@ -14,11 +14,11 @@ use Rattle.zeb_register.specs.Sql.{Replaces, HasRow, IsListOf}
 use Rattle.zeb_register.proofs.StatementForms.{equals, reading, alone, shows, no_limit}
 use Rattle.zeb_register.proofs.ValueKinds.{IsPlainTable, HasKeys, code}
 use Rattle.zeb_register.specs.Store.{IsStore, Changes, meta_tree, entry, IsEntryOf}
-use Rattle.zeb_register.specs.RowStatements.{IsValueRow}
+use Rattle.zeb_register.specs.PrivateRowStatements.{IsValueRow}
 use Rattle.zeb_register.proofs.Writes.{replaces, takes_place, codes_there}
 use Rattle.zeb_register.proofs.RowLemmas.{spread, code_at, text_of}
 use Rattle.zeb_register.proofs.Selects.{list_so}
-use Rattle.zeb_register.proofs.Prefix.{IsAfter, lists_after}
+use Rattle.zeb_register.proofs.PrefixSelects.{IsAfter, lists_after}
 use Rattle.zeb_register.proofs.Calls.{IsSilent}
 use Rattle.sqlite.specs.State.{FailsToQuery}
 use Rattle.sqlite.specs.declared.error.Error.{Error}

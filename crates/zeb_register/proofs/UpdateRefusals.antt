@@ -37,8 +37,8 @@ use Rattle.zeb_register.specs.Calls.{MayRefuse}
 use Rattle.zeb_register.specs.Hindrances.{IsTooLarge, LacksRowids}
 use Rattle.zeb_register.specs.Store.{IsStore}
 use Rattle.zeb_register.specs.Tables.{store_schema}
-use Rattle.zeb_register.proofs.Clashes.{clash_found}
-use Rattle.zeb_register.proofs.Edits.{left_has}
+use Rattle.zeb_register.proofs.UniqueKeyClashes.{clash_found}
+use Rattle.zeb_register.proofs.EditedRows.{left_has}
 use Rattle.zeb_register.proofs.NewRows.{IsRowFor, large_for, parts_of}
 use Rattle.zeb_register.proofs.Refusals.{IsFit, IsWhole}
 use Rattle.zeb_register.proofs.RowLemmas.{int_kept, stores}

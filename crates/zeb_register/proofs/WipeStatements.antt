@@ -10,7 +10,7 @@ use Rattle.zeb_register.proofs.StatementForms.{reading, alone, shows, no_limit}
 use Rattle.zeb_register.proofs.ValueKinds.{IsPlainTable}
 use Rattle.sqlite.specs.Table.{Table}
 use Rattle.zeb_register.specs.Store.{IsStore, Changes}
-use Rattle.zeb_register.specs.RowStatements.{Empties}
+use Rattle.zeb_register.specs.PrivateRowStatements.{Empties}
 use Rattle.zeb_register.proofs.Writes.{LosesRows, changed_so, deletes}
 use Rattle.zeb_register.proofs.Refusals.{IsFit, IsWhole}
 use Rattle.zeb_register.proofs.WriteRefusals.{IsReasonedWrite, why_delete_refused}

@@ -40,7 +40,7 @@ use Rattle.zeb_register.specs.Calls.{MayRefuse}
 use Rattle.zeb_register.specs.Faults.{fault_of}
 use Rattle.zeb_register.specs.Store.{IsStore}
 use Rattle.zeb_register.specs.Tables.{store_schema}
-use Rattle.zeb_register.proofs.Edits.{left_has}
+use Rattle.zeb_register.proofs.EditedRows.{left_has}
 use Rattle.zeb_register.proofs.Refusals.{IsFit, IsWhole, by_cause, without_size}
 use Rattle.zeb_register.proofs.StatementForms.{Condition, alone, reading, shows, no_limit}
 use Rattle.zeb_register.proofs.ValueKinds.{IsPlainTable}

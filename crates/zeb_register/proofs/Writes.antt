@@ -30,13 +30,13 @@ use Rattle.sqlite_rules.specs.Calls.{ids_of}
 use Rattle.sqlite_rules.specs.Keys.{conflicts}
 use Rattle.sqlite_rules.proofs.ListLemmas.{all_has, all_from, has_got, some_from}
 use Rattle.sqlite_rules.proofs.PlaceLemmas.{next_is_free}
-use Rattle.zeb_register.specs.Sql.{Loses, Replaces, KeepsOthers, IsKeyed, HasLayout, Changed}
+use Rattle.zeb_register.specs.Sql.{Loses, Replaces, KeepsOthers, IsKeyed, HasLayout, ChangesOneTable}
 use Rattle.zeb_register.proofs.StatementForms.{Condition, MeetsAll, passes, reading, alone, shows, no_limit}
-use Rattle.zeb_register.specs.RowStatements.{Gains}
+use Rattle.zeb_register.specs.PrivateRowStatements.{Gains}
 use Rattle.zeb_register.proofs.ValueKinds.{is_plain_term, term_code, store_all, IsPlainTable, HasKeys, SharesKey, are_fit, is_stored, keeps_all, codes_of, code}
 use Rattle.zeb_register.proofs.RowLemmas.{int_kept, term_is, stores, tied_rowid, row_codes, meets, shares_means}
 use Rattle.zeb_register.proofs.Scans.{reads, shows_each}
-use Rattle.zeb_register.proofs.Edits.{Lacks, edited_has, edited_keyed, keyed_after, picked}
+use Rattle.zeb_register.proofs.EditedRows.{Lacks, edited_has, edited_keyed, keyed_after, picked}
 use Rattle.zeb_register.proofs.WrittenRows.{updated, cast_row_same, deleted, inserted, replaced, IsCleared}
 
 -- what a write says of the table's rows, with their rowids
@@ -56,7 +56,7 @@ abbrev pub ReplacesRow : List (List ℕ) → Row → ℕ → Trees → Trees →
 ReplacesRow keys columns tree old new =
     let new_row = Int (next_rowid (old tree)) ∷ columns in (r : Row) → Has (new tree) r ↔ ((Has (old tree) r × ¬ SharesKey keys r new_row) ⊎ (r ≡ new_row))
 
-pub changed_so : (schema : Schema) (tree : ℕ) (P Q : ℕ → Trees → Trees → Type 0) (old new : State) → (P tree old.now.trees new.now.trees → Q tree old.now.trees new.now.trees) → Changed schema tree P old new → Changed schema tree Q old new
+pub changed_so : (schema : Schema) (tree : ℕ) (P Q : ℕ → Trees → Trees → Type 0) (old new : State) → (P tree old.now.trees new.now.trees → Q tree old.now.trees new.now.trees) → ChangesOneTable schema tree P old new → ChangesOneTable schema tree Q old new
 changed_so schema tree P Q old new so h = record { layout = h.layout; mode = h.mode; rows = so h.rows; others = h.others }
 
 module _ (schema : Schema) (at : ℕ) (table : Table) (static : IsPlainTable schema at table) where
@@ -78,7 +78,7 @@ module _ (schema : Schema) (at : ℕ) (table : Table) (static : IsPlainTable sch
 
   module _ (old new : State) (layout : HasLayout schema old) (text : List ℕ) (params : Row) (count : ℕ) (command : Command) (w : Writes old new None command text params count) (is : new.now.schema ≡ schema) where
     changed : (Rows : ℕ → Trees → Trees → Type 0) → Rows table.tree old.now.trees new.now.trees → KeepsOthers schema table.tree old.now.trees new.now.trees → IsKeyed (new.now.trees table.tree)
-        → Changed schema table.tree Rows old new
+        → ChangesOneTable schema table.tree Rows old new
     changed Rows rows others keyed = record {
       layout = record { is = is; sound = w.sound; keyed = keyed_after schema.tables old.now.trees new.now.trees table.tree layout.keyed others keyed };
       mode = w.shown.mode;
@@ -87,7 +87,7 @@ module _ (schema : Schema) (at : ℕ) (table : Table) (static : IsPlainTable sch
     }
 
   pub deletes : (sql : List ℕ) (params : Row) (wheres : List Condition) → command_of (understood schema sql) ≡ Delete at (alone (reading table.tree wheres (shows (0 ∷ [])) [] no_limit)) → IsPlain (understood schema sql)
-      → are_fit table params wheres ≡ true → (old new : State) (count : ℕ) → HasLayout schema old → Executes sql params old new (Ok count) → Changed schema table.tree (LosesRows wheres params) old new
+      → are_fit table params wheres ≡ true → (old new : State) (count : ℕ) → HasLayout schema old → Executes sql params old new (Ok count) → ChangesOneTable schema table.tree (LosesRows wheres params) old new
   deletes sql params wheres is bare fit old new count layout ran =
       let q = alone (reading table.tree wheres (shows (0 ∷ [])) [] no_limit) in
       let w = runs_as sql params old new schema layout.is (Delete at q) is bare count ran in
@@ -117,7 +117,7 @@ module _ (schema : Schema) (at : ℕ) (table : Table) (static : IsPlainTable sch
   pub updates : (sql : List ℕ) (params : Row) (wheres : List Condition) (id : Term) (set : List Term)
       → command_of (understood schema sql) ≡ Update at (alone (reading table.tree wheres (col 1 0 ∷ id ∷ set) [] no_limit)) → IsPlain (understood schema sql) → are_fit table params wheres ≡ true
       → (is_plain_term id && eqb (term_code (codes_of table) params id) 1) ≡ true → store_all (codes_of table) params table.columns set ≡ true
-      → (old new : State) (count : ℕ) → HasLayout schema old → Executes sql params old new (Ok count) → Changed schema table.tree (RemakesRows wheres (id ∷ set) params) old new
+      → (old new : State) (count : ℕ) → HasLayout schema old → Executes sql params old new (Ok count) → ChangesOneTable schema table.tree (RemakesRows wheres (id ∷ set) params) old new
   updates sql params wheres id set is bare fit whole stored old new count layout ran =
       let project = col 1 0 ∷ id ∷ set in
       let q = alone (reading table.tree wheres project [] no_limit) in
@@ -159,7 +159,7 @@ module _ (schema : Schema) (at : ℕ) (table : Table) (static : IsPlainTable sch
   -- the rowid of the new row is one above the last, and the connection tells it
   pub inserts : (sql : List ℕ) (params : Row) (terms : List Term) (width : ℕ) (columns : Row) → command_of (understood schema sql) ≡ Insert at (Values terms width) → IsPlain (understood schema sql)
       → value_rows params width (length terms / width) terms ≡ (Null ∷ columns) ∷ [] → keeps_all table.columns columns ≡ true → (old new : State) (count : ℕ) → HasLayout schema old → Executes sql params old new (Ok count)
-      → Changed schema table.tree (GainsRow columns) old new × (new.last_rowid ≡ next_rowid (old.now.trees table.tree))
+      → ChangesOneTable schema table.tree (GainsRow columns) old new × (new.last_rowid ≡ next_rowid (old.now.trees table.tree))
   inserts sql params terms width columns is bare source kept old new count layout ran =
       let command = Insert at (Values terms width) in
       let w = runs_as sql params old new schema layout.is command is bare count ran in
@@ -204,7 +204,7 @@ module _ (schema : Schema) (at : ℕ) (table : Table) (static : IsPlainTable sch
   pub replaces : (sql : List ℕ) (params : Row) (terms : List Term) (width : ℕ) (columns : Row) (keys : List (List ℕ)) → command_of (understood schema sql) ≡ InsertOr at Replace (Values terms width) []
       → IsPlain (understood schema sql) → value_rows params width (length terms / width) terms ≡ (Null ∷ columns) ∷ [] → is_stored table columns ≡ true → ((id : ℤ) → map code (Int id ∷ columns) ≡ codes_of table)
       → HasKeys schema table keys → (old new : State) (count : ℕ) → HasLayout schema old → Executes sql params old new (Ok count)
-      → Changed schema table.tree (ReplacesRow keys columns) old new × (new.last_rowid ≡ next_rowid (old.now.trees table.tree))
+      → ChangesOneTable schema table.tree (ReplacesRow keys columns) old new × (new.last_rowid ≡ next_rowid (old.now.trees table.tree))
   replaces sql params terms width columns keys is bare source stored typed unique old new count layout ran =
       let command = InsertOr at Replace (Values terms width) [] in
       let w = runs_as sql params old new schema layout.is command is bare count ran in
@@ -237,20 +237,20 @@ module _ (schema : Schema) (at : ℕ) (table : Table) (static : IsPlainTable sch
 -- ---- the same of a table as a set of rows without their rowids
 
 pub loses : (schema : Schema) (tree : ℕ) (old new : State) (params : Row) (wheres : List Condition) (P : Row → Type 0) → ((id : ℤ) (columns : Row) → MeetsAll params (Int id ∷ columns) wheres ↔ P columns)
-    → Changed schema tree (LosesRows wheres params) old new → Changed schema tree (Loses P) old new
+    → ChangesOneTable schema tree (LosesRows wheres params) old new → ChangesOneTable schema tree (Loses P) old new
 loses schema tree old new params wheres P means = changed_so schema tree (LosesRows wheres params) (Loses P) old new (λ each columns. (
   λ h. let was = (each (Int h.0 ∷ columns)).0 h.1 in ((h.0, was.0), λ p. was.1 ((means h.0 columns).1 p)),
   λ h. (h.0.0, (each (Int h.0.0 ∷ columns)).1 (h.0.1, λ m. h.1 ((means h.0.0 columns).0 m))),
 ))
 
-pub gains : (schema : Schema) (tree : ℕ) (old new : State) (row : Row) → Changed schema tree (GainsRow row) old new → Changed schema tree (Gains row) old new
+pub gains : (schema : Schema) (tree : ℕ) (old new : State) (row : Row) → ChangesOneTable schema tree (GainsRow row) old new → ChangesOneTable schema tree (Gains row) old new
 gains schema tree old new row = changed_so schema tree (GainsRow row) (Gains row) old new (λ each columns. (
   λ h. elim ((each (Int h.0 ∷ columns)).0 h.1) [ inl was ↦ inl (h.0, was) | inr same ↦ inr (let e : columns ≡ row = cc in e) ],
   λ h. elim h [ inl was ↦ (was.0, (each (Int was.0 ∷ columns)).1 (inl was.1)) | inr same ↦ (_, (each (Int (next_rowid (old.now.trees tree)) ∷ columns)).1 (inr (ap (λ c. Int (next_rowid (old.now.trees tree)) ∷ c) same))) ],
 ))
 
 pub takes_place : (schema : Schema) (tree : ℕ) (old new : State) (keys : List (List ℕ)) (P : Row → Type 0) (row : Row) → ((id other : ℤ) (columns : Row) → SharesKey keys (Int id ∷ columns) (Int other ∷ row) ↔ P columns)
-    → Changed schema tree (ReplacesRow keys row) old new → Changed schema tree (Replaces P row) old new
+    → ChangesOneTable schema tree (ReplacesRow keys row) old new → ChangesOneTable schema tree (Replaces P row) old new
 takes_place schema tree old new keys P row means = changed_so schema tree (ReplacesRow keys row) (Replaces P row) old new (λ each columns. (
   λ h. elim ((each (Int h.0 ∷ columns)).0 h.1) [ inl was ↦ inl ((h.0, was.0), λ p. was.1 ((means h.0 _ columns).1 p)) | inr same ↦ inr (let e : columns ≡ row = cc in e) ],
   λ h. elim h [

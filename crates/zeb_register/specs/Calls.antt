@@ -28,7 +28,8 @@ MayRefuse old new = (old.is_open ≡ false) ⊎ (MoreFaults old.faults new.fault
 
 -- ---- what is said of every call. What a call returns is known where the disk has given back what was written to it.
 
--- a call inside a transaction: where it is accepted this is done, where it is refused nothing was committed, and a crash leaves what it left before
+-- a call inside a transaction: where it is accepted this is done, where it is refused nothing was committed, and a crash leaves what it
+-- left before
 pub record Inside {A E : Type 0} (old new : State) (result : Result A E) (Done : A → State → State → Type 0) : Type 0 where
   pub ok : HasCleanDisk new → IsTrue old.in_transaction → IfOk result (λ a. Done a old new)
   pub err : HasCleanDisk new → IsTrue old.in_transaction → OnErr result (KeepsCommit old new)

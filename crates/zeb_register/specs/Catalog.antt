@@ -1,11 +1,9 @@
 -- The databases that the tables stand for.
-use Rattle.std.specs.Prelude.{◌≡◌, ◌≢◌, ◌↔◌, ◌⊎◌, ℕ, ℤ, pos, List, [], ◌∷◌, Option, Some, None, string_bytes, IsUtf8}
+use Rattle.std.specs.Prelude.{◌≡◌, ◌≢◌, ◌↔◌, ◌⊎◌, ℕ, ℤ, pos, List, Option, Some, None, string_bytes, IsUtf8}
 use Rattle.std.specs.declared.cmp.Ordering.{Ordering}
 use Rattle.std.specs.Ordering.{nat_cmp}
 use Rattle.std.specs.Cmp.Lexicographic.{slice_cmp}
 use Rattle.std.specs.List.Sorted.{IsStrictlySortedBy}
-use Rattle.sqlite.specs.declared.types.Value.TheVariants.{Int, Text}
-use Rattle.sqlite.specs.Order.{Row}
 use Rattle.sqlite.specs.Tree.{Trees}
 use Rattle.sqlite_rules.specs.Lists.{Has}
 use Rattle.zeb_register.specs.declared.catalog.Database.{Database}
@@ -21,7 +19,8 @@ IsDatabaseOf trees name (Some found) = HasDatabase trees found.id.0 name (pos fo
 abbrev pub AreCountedDatabases : Trees → List ℕ → Type 0
 AreCountedDatabases trees name = (id last : ℤ) → HasDatabase trees id name last → (n : ℕ) × (last ≡ pos n)
 
--- The database of this name has this last number and this id, which it keeps where it was there, and which was no other's. Each other is as it was.
+-- The database of this name has this last number and this id, which it keeps where it was there, and which was no other's. Each other is as
+-- it was.
 pub record PutsDatabase (id : ℤ) (name : List ℕ) (last : ℤ) (tree : ℕ) (old new : Trees) : Type 0 where
   pub each : (i : ℤ) (n : List ℕ) (l : ℤ) → HasDatabase new i n l ↔ ((HasDatabase old i n l × (n ≢ name)) ⊎ ((i ≡ id) × (n ≡ name) × (l ≡ last)))
   pub kept : (i l : ℤ) → HasDatabase old i name l → i ≡ id
@@ -33,10 +32,6 @@ pub record PutsDatabase (id : ℤ) (name : List ℕ) (last : ℤ) (tree : ℕ) (
 abbrev pub IsListed : List ListedDatabase → ℤ → List ℕ → ℤ → Type 0
 IsListed list id name last =
     (database : ListedDatabase) × Has list database × (id ≡ database.id.0) × (name ≡ string_bytes database.name) × (last ≡ pos database.last)
-
--- the columns of a database beside its NULL
-abbrev pub listed_row : ListedDatabase → Row
-listed_row database = Text (string_bytes database.name) ∷ Int database.id.0 ∷ Int (pos database.last) ∷ []
 
 abbrev pub listed_order : ListedDatabase → ListedDatabase → Ordering
 listed_order a b = slice_cmp nat_cmp (string_bytes a.name) (string_bytes b.name)

@@ -69,10 +69,7 @@ IsReasoned old new result = HasCleanDisk new → IsStore old → result ≡ Err 
 abbrev pub IsReasonedInside : {A : Type 0} → State → State → Result A RegFault → Type 0
 IsReasonedInside old new result = InStore old new (λ _. result ≡ Err Store → MayRefuse old new)
 
--- the same, of a statement whose error is told as that refusal
-abbrev pub IsReasonedError : {A : Type 0} → State → State → Result A Error → Type 0
-IsReasonedError old new result = OnStore old new (λ _. IfErr result (λ e. fault_of e ≡ Store → MayRefuse old new))
-
+-- the same of a statement, whose error is told as that refusal
 abbrev pub IsReasonedErrorInside : {A : Type 0} → State → State → Result A Error → Type 0
 IsReasonedErrorInside old new result = InStore old new (λ _. IfErr result (λ e. fault_of e ≡ Store → MayRefuse old new))
 
@@ -81,10 +78,6 @@ IsReasonedErrorInside old new result = InStore old new (λ _. IfErr result (λ e
 -- on the tables of a store a failure of it has a reason, or this of the tables hinders the row
 abbrev pub IsHinderedInside : {A : Type 0} → State → State → Result A RegFault → (Trees → Type 0) → Type 0
 IsHinderedInside old new result Hindering = InStore old new (λ trees. result ≡ Err Store → MayRefuse old new ⊎ Hindering trees)
-
--- the same, of a statement whose error is told as that refusal
-abbrev pub IsHinderedErrorInside : {A : Type 0} → State → State → Result A Error → (Trees → Type 0) → Type 0
-IsHinderedErrorInside old new result Hindering = InStore old new (λ trees. IfErr result (λ e. fault_of e ≡ Store → MayRefuse old new ⊎ Hindering trees))
 
 -- where it is accepted, it takes at most so many of the rowids above the last of this table
 abbrev pub TakesInside : {A E : Type 0} → State → State → Result A E → ℕ → ℕ → Type 0

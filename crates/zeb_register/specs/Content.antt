@@ -23,8 +23,8 @@ abbrev pub place_cmp : Place → Place → Ordering
 place_cmp p q = ordering_then (nat_cmp p.seq q.seq) (nat_cmp p.pos q.pos)
 
 -- each list rises
-abbrev pub IsRising : Content → Type 0
-IsRising content = (db : ℤ) (key : Key) → IsStrictlySortedBy posting_cmp (content db key)
+abbrev pub HasRisingLists : Content → Type 0
+HasRisingLists content = (db : ℤ) (key : Key) → IsStrictlySortedBy posting_cmp (content db key)
 
 -- the postings of a database as a set of occurrences: the record of this number has the key at this place
 abbrev pub posted : Content → ℤ → ℕ → Occurrence → Type 0
@@ -58,7 +58,7 @@ AreStorablePlaces places = IsStrictlySortedBy place_cmp places × AllByRecursion
 
 -- one record's part of one list is changed to these places, and nothing else is changed
 pub record IsChangedAt (db : ℤ) (key : Key) (sysno : ℕ) (places : List Place) (old new : Content) : Type 0 where
-  pub rising : IsRising new
+  pub rising : HasRisingLists new
   pub part : ArePlacesOf sysno places (new db key)
   pub others : (d : ℤ) (k : Key) (p : Posting) → ¬ ((d ≡ db) × (k ≡ key) × (p.sysno ≡ sysno)) → Has (new d k) p ↔ Has (old d k) p
 
@@ -86,7 +86,7 @@ pub record AreChangedAt (db : ℤ) (key : Key) (changes : List RecordChange) (ol
 
 -- the lists of one database are taken, and nothing else is changed
 pub record IsWithout (db : ℤ) (old new : Content) : Type 0 where
-  pub rising : IsRising new
+  pub rising : HasRisingLists new
   pub left : (d : ℤ) (k : Key) (p : Posting) → Has (new d k) p ↔ (Has (old d k) p × (d ≢ db))
 
 -- a database is taken with its records and its rows in the tables of the registers, and no other database, record, row or text is changed

@@ -14,7 +14,7 @@ use Rattle.zeb_register.specs.declared.registers.RecordChange.{RecordChange}
 use Rattle.zeb_register.specs.Content.{AreStorablePlaces, posting_at}
 use Rattle.zeb_register.specs.PackedBlocks.{block_row}
 use Rattle.zeb_register.specs.Sql.{HasRow}
-use Rattle.zeb_register.specs.Store.{HasDatabase, blocks_tree, database_columns, databases_tree, dict_tree, postings_tree}
+use Rattle.zeb_register.specs.Store.{blocks_tree, dict_tree, postings_tree}
 
 -- Some row's rowid is no 64-bit number, or fewer than so many of them lie above it. A new row gets the rowid above the last, so that one
 -- has to lie there. That no rowid is wider isn't said by the model of `sqlite`, though a file has none.
@@ -29,15 +29,6 @@ IsTooLarge columns = 10 ^ 9 < 18 + sum_by (λ v. 18 + length (bytes v)) columns
 -- a table with so many new rows may not take this one
 abbrev pub Hinders : ℕ → ℕ → Row → Trees → Type 0
 Hinders count tree columns trees = LacksRowids count tree trees ⊎ IsTooLarge columns
-
--- the same of one new row, where none that is P may be there
-abbrev pub HindersNew : (Row → Type 0) → ℕ → Row → Trees → Type 0
-HindersNew P tree columns trees = ((was : Row) × HasRow trees tree was × P was) ⊎ Hinders 1 tree columns trees
-
--- the table of databases may not give the database of this id this last number
-abbrev pub HindersLast : ℤ → ℤ → Trees → Type 0
-HindersLast id last trees =
-    LacksRowids 0 databases_tree trees ⊎ ((name : List ℕ) × (before : ℤ) × HasDatabase trees id name before × IsTooLarge (database_columns name last))
 
 -- ---- how many rows a table may still take
 
@@ -69,8 +60,8 @@ abbrev pub placed : RecordChange → Placed
 placed change = (change.sysno, change.new.now)
 
 -- numbers and orders that each layout stores
-abbrev pub IsStorablePlaced : Placed → Type 0
-IsStorablePlaced it = ((1 ≤ it.0) × (it.0 < 2 ^ 63)) × AreStorablePlaces it.1
+abbrev pub FitsEachLayout : Placed → Type 0
+FitsEachLayout it = ((1 ≤ it.0) × (it.0 < 2 ^ 63)) × AreStorablePlaces it.1
 
 -- How many rows these take at most, in any table of the registers: one for each place. A record that gets none takes none.
 abbrev pub rows_of : List Placed → ℕ
@@ -85,8 +76,8 @@ abbrev pub IsSpelledAt : ℤ → Key → Trees → Posting → Type 0
 IsSpelledAt db key trees p =
     (block : ℕ) × (bytes : List ℕ) × (list : List Posting) × HasRow trees blocks_tree (block_row db key block bytes) × BlockSpells block list bytes × Has list p
 
--- A row of the key may be larger than a store takes: its text, with the bytes that spell postings of one block which stand there or are new,
--- and 300 for its other columns, which take less. A row without such bytes has but its text.
+-- A row of the key may be larger than a store takes: its text, with the bytes that spell postings of one block which stand there or are
+-- new, and 300 for its other columns, which take less. A row without such bytes has but its text.
 abbrev pub HasLargeRow : ℤ → Key → List Placed → Trees → Type 0
 HasLargeRow db key given trees =
     (10 ^ 9 < 300 + length key.term)
@@ -96,4 +87,4 @@ HasLargeRow db key given trees =
 -- The tables of the registers may not take these places of a key: a number or an order is none that each layout stores, too few rowids are
 -- left, or a row is too large.
 abbrev pub HindersPlaces : ℤ → Key → List Placed → Trees → Type 0
-HindersPlaces db key given trees = (¬ AllByRecursion IsStorablePlaced given) ⊎ (LacksRegisterRowids (rows_of given) trees ⊎ HasLargeRow db key given trees)
+HindersPlaces db key given trees = (¬ AllByRecursion FitsEachLayout given) ⊎ (LacksRegisterRowids (rows_of given) trees ⊎ HasLargeRow db key given trees)

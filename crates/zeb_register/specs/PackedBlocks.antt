@@ -14,7 +14,7 @@ use Rattle.zeb_register.specs.declared.registers.TermCount.{TermCount}
 use Rattle.zeb_register.specs.declared.registers.Work.{Work}
 use Rattle.zeb_register.specs.Sql.{HasRow, IsListOf}
 use Rattle.zeb_register.specs.Store.{IsRest, postings_tree, blocks_tree, dict_tree}
-use Rattle.zeb_register.specs.Content.{Content, IsRising, posted}
+use Rattle.zeb_register.specs.Content.{Content, HasRisingLists, posted}
 use Rattle.zeb_register.specs.Occurring.{IsCount, HasKey, key_in, last}
 use Rattle.zeb_register.specs.PlainRows.{key_row, register_front}
 use Rattle.zeb_register.specs.Tallies.{Works}
@@ -46,7 +46,7 @@ IsDictRow content row =
 -- The tables of the registers hold the content: a row of `blocks` for each key and each block in which it has a posting, a row of `dict`
 -- for each key that has one, and no other, and no row of `postings`. No number of a posting is 0 or needs more than 64 bits.
 pub record HoldsBlocks (trees : Trees) (content : Content) : Type 0 where
-  pub rising : IsRising content
+  pub rising : HasRisingLists content
   pub numbered : (db : ℤ) (key : Key) (p : Posting) → Has (content db key) p → IsNumbered p
   pub blocks : (row : Row) → HasRow trees blocks_tree row ↔ IsBlockRow content row
   pub dict : (row : Row) → HasRow trees dict_tree row ↔ IsDictRow content row

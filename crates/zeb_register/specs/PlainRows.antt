@@ -10,7 +10,7 @@ use Rattle.zeb_keys.specs.Registers.{register_code}
 use Rattle.zeb_blocks.specs.declared.postings.Posting.{Posting}
 use Rattle.zeb_register.specs.Sql.{HasRow}
 use Rattle.zeb_register.specs.Store.{postings_tree, key_of}
-use Rattle.zeb_register.specs.Content.{Content, IsRising}
+use Rattle.zeb_register.specs.Content.{Content, HasRisingLists}
 
 abbrev pub key_row : ℤ → Key → Row
 key_row db key = key_of db (pos key.index) (pos (register_code key.register)) key.term
@@ -28,7 +28,7 @@ IsPostingRow content row = (db : ℤ) × (key : Key) × (p : Posting) × Has (co
 
 -- the tables of the registers hold the content: a row of `postings` for each posting and no other, and no row of `blocks` or `dict`
 pub record HoldsRows (trees : Trees) (content : Content) : Type 0 where
-  pub rising : IsRising content
+  pub rising : HasRisingLists content
   pub each : (row : Row) → HasRow trees postings_tree row ↔ IsPostingRow content row
   pub alone : (trees 9 ≡ []) × (trees 11 ≡ [])
 

@@ -8,7 +8,7 @@ use Rattle.sqlite.specs.Tree.{Trees}
 use Rattle.sqlite.specs.State.{State}
 use Rattle.sqlite_rules.specs.Lists.{Has}
 use Rattle.zeb_register.specs.Tables.{store_schema}
-use Rattle.zeb_register.specs.Sql.{HasRow, HasLayout, Changed}
+use Rattle.zeb_register.specs.Sql.{HasRow, HasLayout, ChangesOneTable}
 
 abbrev pub IsStore : State → Type 0
 IsStore = HasLayout store_schema
@@ -19,7 +19,7 @@ IsEmptyStore s = IsStore s × IsTrue s.in_transaction × AllByRecursion (λ t. s
 
 -- one table of the store is written
 abbrev pub Changes : ℕ → (ℕ → Trees → Trees → Type 0) → State → State → Type 0
-Changes = Changed store_schema
+Changes = ChangesOneTable store_schema
 
 abbrev pub meta_tree : ℕ
 meta_tree = 0

@@ -7,9 +7,9 @@ ghost use Rattle.std.specs.List.Sorted.{IsStrictlySortedBy};
 ghost use Rattle.zeb_register.specs.Calls.{Reading};
 ghost use Rattle.zeb_register.specs.Clauses.{IsReasoned, OnStore, Tells, TellsWhether};
 ghost use Rattle.zeb_register.specs.Expected.{IsOrdered, name_order};
-ghost use Rattle.zeb_register.specs.RowExpected.{AreBeside, AreInOrder, AsExpected, BelongsTo, EachAsExpected, HasNames, HasTexts};
-ghost use Rattle.zeb_register.specs.RowExpected.{HoldsExpected, HoldsThere, IsInOrder, LacksPacked, ListsAgree};
-ghost use Rattle.zeb_register.specs.RowExpected.{tree_of};
+ghost use Rattle.zeb_register.specs.PrivateRowExpected.{AreBeside, AreInOrder, AsExpected, BelongsTo, EachAsExpected, HasNames};
+ghost use Rattle.zeb_register.specs.PrivateRowExpected.{KeepsExpectedTexts, HoldsExpected, HoldsThere, IsInOrder, LacksPacked, ListsAgree};
+ghost use Rattle.zeb_register.specs.PrivateRowExpected.{tree_of};
 
 use crate::belonging::belongs;
 use crate::catalog::databases_in;
@@ -109,7 +109,7 @@ fn lacks_packed<S: Alter>(conn: &mut Connection<S>) -> Result<bool, RegFault>
 fn texts_agree<S: Alter>(conn: &mut Connection<S>, expected: &Expected) -> Result<bool, RegFault>
     ensures call { Reading (state S.Store conn.old) (state S.Store conn.new) result (λ _. IsUnchanged) }
     ensures value { Tells (state S.Store conn.old) (state S.Store conn.new) result
-        (λ trees agree. IsTrue agree ↔ HasTexts trees expected.now) }
+        (λ trees agree. IsTrue agree ↔ KeepsExpectedTexts trees expected.now) }
     ensures honest { result ≢ Err RegFault.Damaged }
     ensures refused { IsReasoned (state S.Store conn.old) (state S.Store conn.new) result }
 {

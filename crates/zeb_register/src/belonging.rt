@@ -8,8 +8,8 @@ ghost use Rattle.sqlite.specs.State.{IsUnchanged};
 ghost use Rattle.sqlite.specs.declared.types.Value.TheVariants.{Int};
 ghost use Rattle.zeb_register.specs.Calls.{Reading};
 ghost use Rattle.zeb_register.specs.Clauses.{IsReasoned, Tells};
-ghost use Rattle.zeb_register.specs.RowExpected.{BelongsTo, IsListedId, tree_of};
-ghost use Rattle.zeb_register.specs.RowReads.{AreEnds};
+ghost use Rattle.zeb_register.specs.PrivateRowExpected.{BelongsTo, IsListedId, tree_of};
+ghost use Rattle.zeb_register.specs.PrivateRowReads.{AreEnds};
 
 use crate::agreeing::Table;
 use crate::statements::owners::{greatest_rows, least_rows, next_rows};

@@ -6,7 +6,7 @@ ghost use Rattle.zeb_register.specs.Calls.{GoesOn, Inside};
 ghost use Rattle.zeb_register.specs.Clauses.{InStore, IsReasonedInside};
 ghost use Rattle.zeb_register.specs.Content.{Content, IsWithout, TakesWhole};
 ghost use Rattle.zeb_register.specs.Formats.{Format, holds_in};
-ghost use Rattle.zeb_register.specs.RowPlaces.{DropsRegisters};
+ghost use Rattle.zeb_register.specs.PrivateRowPlaces.{DropsRegisters};
 ghost use Rattle.zeb_register.specs.Store.{IsStore};
 
 use crate::catalog::database_drop;

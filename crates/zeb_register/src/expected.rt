@@ -3,8 +3,8 @@
 ghost use Rattle.std.specs.Prelude.{◌≡◌, ◌≢◌, true, false, map};
 ghost use Rattle.zeb_register.specs.Kept.{record_shown};
 ghost use Rattle.zeb_register.specs.PlainRows.{posting_row};
-ghost use Rattle.zeb_register.specs.RowExpected.{expected_name, key_shown, listed_name, next_three, posting_shown, text_rows};
-ghost use Rattle.zeb_register.specs.RowPlaces.{first_three};
+ghost use Rattle.zeb_register.specs.PrivateRowExpected.{expected_name, key_shown, listed_name, next_three, posting_shown, text_rows};
+ghost use Rattle.zeb_register.specs.PrivateRowPlaces.{first_three};
 ghost use Rattle.zeb_register.specs.Store.{entry};
 
 use crate::values::{is_blob, is_number, is_text};

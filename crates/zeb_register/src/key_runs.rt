@@ -3,7 +3,7 @@
 ghost use Rattle.std.specs.Prelude.{◌≡◌, ◌≢◌, ◌<◌, ◌≤◌, List, true, false, length, drop, IfSome, MatchOption};
 ghost use Rattle.std.specs.List.Sorted.{IsStrictlySortedBy};
 ghost use Rattle.zeb_register.specs.Expected.{key_posting_order};
-ghost use Rattle.zeb_register.specs.RowKeys.{IsRunBefore, IsRunFrom};
+ghost use Rattle.zeb_register.specs.PrivateRowKeys.{IsRunBefore, IsRunFrom};
 
 use crate::KeyPosting;
 use crate::expected::is_key;

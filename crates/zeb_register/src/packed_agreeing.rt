@@ -11,7 +11,7 @@ ghost use Rattle.zeb_register.specs.Calls.{Reading};
 ghost use Rattle.zeb_register.specs.Clauses.{IsReasoned, TellsWhether};
 ghost use Rattle.zeb_register.specs.Expected.{AreExpected, IsOrdered};
 ghost use Rattle.zeb_register.specs.Formats.{packed_blocks};
-ghost use Rattle.zeb_register.specs.RowExpected.{AreInOrder, HoldsExpected, HoldsKeysAlone, IsBlockBefore, with_key};
+ghost use Rattle.zeb_register.specs.PrivateRowExpected.{AreInOrder, HoldsExpected, HoldsKeysAlone, IsBlockBefore, with_key};
 
 use crate::agreeing::{Table, lists_beside, table_agrees};
 use crate::belonging::belongs;

@@ -8,7 +8,7 @@ ghost use Rattle.zeb_register.specs.Calls.{Reading};
 ghost use Rattle.zeb_register.specs.Clauses.{IsHonestOfHeld, IsReasoned, TellsHeld};
 ghost use Rattle.zeb_register.specs.Occurring.{key_in};
 ghost use Rattle.zeb_register.specs.PlainRows.{HoldsRows, posting_row};
-ghost use Rattle.zeb_register.specs.RowPlaces.{first_three, IsThreeNumbers};
+ghost use Rattle.zeb_register.specs.PrivateRowPlaces.{first_three, IsThreeNumbers};
 
 use crate::agreeing::{lists_beside, rows_agree};
 use crate::dropping::database_drop_whole;

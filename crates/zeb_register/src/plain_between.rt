@@ -5,11 +5,11 @@ ghost use Rattle.sqlite.specs.Held.{state};
 ghost use Rattle.sqlite.specs.State.{IsUnchanged};
 ghost use Rattle.sqlite_rules.specs.Lists.{Has};
 ghost use Rattle.zeb_register.specs.Between.{IsPostingBetween};
-ghost use Rattle.zeb_register.specs.BetweenRows.{three_behind};
+ghost use Rattle.zeb_register.specs.PrivateBetweenRows.{three_behind};
 ghost use Rattle.zeb_register.specs.Calls.{Reading};
 ghost use Rattle.zeb_register.specs.Clauses.{IsHonestOfHeld, IsReasoned, TellsHeld};
 ghost use Rattle.zeb_register.specs.PlainRows.{HoldsRows, posting_row};
-ghost use Rattle.zeb_register.specs.RowPlaces.{IsThreeNumbers};
+ghost use Rattle.zeb_register.specs.PrivateRowPlaces.{IsThreeNumbers};
 
 use crate::RegFault;
 use crate::registers::RegisterOf;

@@ -12,9 +12,9 @@ ghost use Rattle.zeb_register.specs.Content.{ArePlacesOf, Content, IsChangedAt, 
 ghost use Rattle.zeb_register.specs.Hindrances.{rows_of};
 ghost use Rattle.zeb_register.specs.PlainRows.{HoldsRows};
 ghost use Rattle.zeb_register.specs.PackedBlocks.{first_two};
-ghost use Rattle.zeb_register.specs.RowPlaces.{place_row, IsTwoNumbers, IsPlaceIn, posting_columns, Puts};
-ghost use Rattle.zeb_register.specs.RowPlaces.{HasPlaceIn, HindersPlace, HindersRows};
-ghost use Rattle.zeb_register.specs.RowStatements.{Gains};
+ghost use Rattle.zeb_register.specs.PrivateRowPlaces.{place_row, IsTwoNumbers, IsPlaceIn, posting_columns, Puts, HasPlaceIn, HindersPut};
+ghost use Rattle.zeb_register.specs.PrivateRowPlaces.{HindersRows};
+ghost use Rattle.zeb_register.specs.PrivateRowStatements.{Gains};
 ghost use Rattle.zeb_register.specs.Sql.{Loses};
 ghost use Rattle.zeb_register.specs.Store.{postings_tree};
 
@@ -168,7 +168,7 @@ fn place_put<S: Alter>(
         (state S.Store tx.old.conn.now) (state S.Store tx.new.conn.now) result }
     ensures honest { result ≢ Err RegFault.Damaged }
     ensures refused { IsHinderedInside (state S.Store tx.old.conn.now) (state S.Store tx.new.conn.now) result
-        (HindersPlace db.0 key.now sysno place) }
+        (HindersPut db.0 key.now sysno place) }
     ensures rowids { TakesInside (state S.Store tx.old.conn.now) (state S.Store tx.new.conn.now) result 1 postings_tree }
 {
     let number = stored(sysno)?;

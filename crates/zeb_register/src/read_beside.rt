@@ -6,8 +6,8 @@ ghost use Rattle.sqlite.specs.Order.{Row};
 ghost use Rattle.zeb_register.specs.Calls.{Reading};
 ghost use Rattle.zeb_register.specs.Clauses.{IsReasoned};
 ghost use Rattle.zeb_register.specs.Kept.{record_shown};
-ghost use Rattle.zeb_register.specs.RowExpected.{IsInOrder, posting_shown};
-ghost use Rattle.zeb_register.specs.RowReads.{Fits, ReadsRests, rests_text, size_of};
+ghost use Rattle.zeb_register.specs.PrivateRowExpected.{IsInOrder, posting_shown};
+ghost use Rattle.zeb_register.specs.PrivateRowReads.{Fits, ReadsRests, rests_text, size_of};
 
 use crate::agreeing::Table;
 use crate::expected::{is_posting, is_record};
@@ -92,7 +92,8 @@ fn row_end(table: Table, row: &Row, database: &ExpectedDatabase, at: usize) -> O
 fn record_end(row: &Row, records: &[Record], at: usize) -> Option<usize>
     ensures further { IfSome result (λ end. (at < end) × (end ≤ length records.now)) }
     ensures fits { MatchOption result ((more : List Row) → row.now ∷ more ≢ map record_shown (drop at records.now))
-        (λ end. (more : List Row) → (row.now ∷ more ≡ map record_shown (drop at records.now)) ↔ (more ≡ map record_shown (drop end records.now))) }
+        (λ end. (more : List Row)
+        → (row.now ∷ more ≡ map record_shown (drop at records.now)) ↔ (more ≡ map record_shown (drop end records.now))) }
 {
     let kept = records.get(at)?;
     if is_record(row, kept) {
@@ -106,7 +107,8 @@ fn record_end(row: &Row, records: &[Record], at: usize) -> Option<usize>
 fn posting_end(row: &Row, postings: &[KeyPosting], at: usize) -> Option<usize>
     ensures further { IfSome result (λ end. (at < end) × (end ≤ length postings.now)) }
     ensures fits { MatchOption result ((more : List Row) → row.now ∷ more ≢ map posting_shown (drop at postings.now))
-        (λ end. (more : List Row) → (row.now ∷ more ≡ map posting_shown (drop at postings.now)) ↔ (more ≡ map posting_shown (drop end postings.now))) }
+        (λ end. (more : List Row)
+        → (row.now ∷ more ≡ map posting_shown (drop at postings.now)) ↔ (more ≡ map posting_shown (drop end postings.now))) }
 {
     let posting = postings.get(at)?;
     if is_posting(row, posting) {

@@ -9,7 +9,7 @@ ghost use Rattle.zeb_register.specs.Clauses.{ChangesHeld, DamagedHeld, FindsHeld
 ghost use Rattle.zeb_register.specs.Clauses.{IsHinderedInside, IsReasoned, IsReasonedInside, TakesRegistersInside, TellsHeld};
 ghost use Rattle.zeb_register.specs.Clauses.{TellsWhether};
 ghost use Rattle.sqlite.specs.Tree.{Trees};
-ghost use Rattle.zeb_register.specs.Content.{Content, IsRising, IsChangedAt, IsWithout};
+ghost use Rattle.zeb_register.specs.Content.{Content, HasRisingLists, IsChangedAt, IsWithout};
 ghost use Rattle.zeb_register.specs.Formats.{Format, holds_in, version_of};
 ghost use Rattle.zeb_register.specs.Store.{KeepsRegisters, LacksRegisters};
 
@@ -294,12 +294,12 @@ pub trait Layout {
 
 /// A content is told by its postings. It can be changed at one key of one record, and a database can be taken from it, each in one way.
 pub fn contents_change()
-    ensures told { (one two : Content) → IsRising one → IsRising two
+    ensures told { (one two : Content) → HasRisingLists one → HasRisingLists two
         → ((db : ℤ) (key : _) (p : _) → Has (one db key) p ↔ Has (two db key) p) → one ≡ two }
-    ensures changed { (db : ℤ) (key : _) (sysno : ℕ) (places : List _) (old : Content) → IsRising old
+    ensures changed { (db : ℤ) (key : _) (sysno : ℕ) (places : List _) (old : Content) → HasRisingLists old
         → ((new : Content) × IsChangedAt db key sysno places old new)
         × ((one two : Content) → IsChangedAt db key sysno places old one → IsChangedAt db key sysno places old two → one ≡ two) }
-    ensures without { (db : ℤ) (old : Content) → IsRising old
+    ensures without { (db : ℤ) (old : Content) → HasRisingLists old
         → ((new : Content) × IsWithout db old new) × ((one two : Content) → IsWithout db old one → IsWithout db old two → one ≡ two) }
 {}
 
@@ -308,7 +308,7 @@ pub fn contents_change()
 pub fn registers_hold_one_content()
     ensures one { (format : Format) (trees : Trees) (one two : Content) → holds_in format trees one → holds_in format trees two
         → one ≡ two }
-    ensures rising { (format : Format) (trees : Trees) (content : Content) → holds_in format trees content → IsRising content }
+    ensures rising { (format : Format) (trees : Trees) (content : Content) → holds_in format trees content → HasRisingLists content }
     ensures stays { (format : Format) (old new : Trees) (content : Content) → KeepsRegisters old new → holds_in format old content
         → holds_in format new content }
     ensures empty { (format : Format) (trees : Trees) → LacksRegisters trees → holds_in format trees (λ _ _. []) }

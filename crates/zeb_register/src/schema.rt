@@ -3,7 +3,7 @@
 ghost use Rattle.std.specs.Prelude.{◌≡◌, ◌↔◌, [], map, IsTrue};
 ghost use Rattle.std.specs.Bool.{Decides};
 ghost use Rattle.zeb_register.specs.Tables.{no_schema, store_schema};
-ghost use Rattle.zeb_register.specs.TableForms.{HasNoMore, column_of, column_with, columns_of, index_of, places_of, table_of};
+ghost use Rattle.zeb_register.specs.PrivateTableForms.{HasNoMore, column_of, column_with, columns_of, index_of, places_of, table_of};
 ghost use Rattle.sqlite_value.specs.Keys.{plain};
 
 use sqlite_items::Items;

@@ -4,7 +4,7 @@ ghost use Rattle.std.specs.Prelude.{◌≡◌, ◌≢◌};
 ghost use Rattle.sqlite.specs.Held.{state};
 ghost use Rattle.sqlite.specs.State.{IsUnchanged};
 ghost use Rattle.zeb_register.specs.Tables.{no_schema, with_meta, with_databases, with_records, with_postings, with_blocks, store_schema};
-ghost use Rattle.zeb_register.specs.RowStatements.{IsMade};
+ghost use Rattle.zeb_register.specs.PrivateRowStatements.{IsMade};
 ghost use Rattle.zeb_register.specs.Store.{IsEmptyStore};
 ghost use Rattle.zeb_register.specs.Calls.{GoesOn, Inside};
 ghost use Rattle.zeb_register.specs.Clauses.{DoneUnder, KeepsAllTables};

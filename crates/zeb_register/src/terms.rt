@@ -11,8 +11,8 @@ ghost use Rattle.zeb_register.specs.Clauses.{IsHonestOfHeld, IsHonestStorable, I
 ghost use Rattle.zeb_register.specs.Content.{posting_cmp, posted};
 ghost use Rattle.zeb_register.specs.PlainRows.{HoldsRows};
 ghost use Rattle.zeb_register.specs.Occurring.{IsCount, AreCounts, TermIn};
-ghost use Rattle.zeb_register.specs.RowTerms.{IsInRecord, IsShown, ShowsOccurrence, IsOccurrenceRow, ShowsTerm, IsTermRow, IsCountedIn};
-ghost use Rattle.zeb_register.specs.RowTerms.{IsLeastTerm, IsGreatestTerm};
+ghost use Rattle.zeb_register.specs.PrivateRowTerms.{IsInRecord, IsShown, ShowsOccurrence, IsOccurrenceRow, ShowsTerm, IsTermRow};
+ghost use Rattle.zeb_register.specs.PrivateRowTerms.{IsCountedIn, IsLeastTerm, IsGreatestTerm};
 
 use crate::RegFault;
 use crate::plain::postings_under;

@@ -22,10 +22,11 @@ use Rattle.zeb_register.specs.Occurring.{AreTermsOf, TermIn}
 use Rattle.zeb_register.specs.Store.{IsStore}
 use Rattle.zeb_register.specs.Tallies.{Works}
 use Rattle.zeb_register.proofs.RisingLists.{never_itself}
-use Rattle.zeb_search.specs.Counted.{Counted, HasNoStar, HaveNoStar, IsOneKey, NamesEntries, NoRows, TermNamesEntries}
+use Rattle.zeb_search.specs.SearchCounts.{CountsByContent, HasNoStar, AreWithoutStars, IsOneKey, NamesEntries, TermNamesEntries}
+use Rattle.zeb_search.specs.PrivateSearchCounts.{NoRows}
 use Rattle.zeb_search.specs.DictRows.{EntryDict, PlanDict, RegisterDict, TermDict, WordDict}
 use Rattle.zeb_search.specs.PrivateTerms.{TermsRise}
-use Rattle.zeb_search.proofs.CountedLemmas.{counted_then, no_rows_then, terms_count}
+use Rattle.zeb_search.proofs.SearchCountLemmas.{counted_then, no_rows_then, terms_count}
 use Rattle.zeb_search.proofs.ReadLemmas.{IsRead}
 use Rattle.zeb_search.proofs.RisingTexts.{terms_rise}
 
@@ -76,9 +77,9 @@ no_more_terms O index register terms all up of are =
 
 -- the first pages, and one page more
 pub pages_counted : (format : Format) (row_work : ℕ) (terms page all : List TermCount) → all ≡ terms ++ page → (s0 s1 s2 : State) (a b c : Work) → IsRead s0 s1 → Survives s1 s2 (λ _. ⊥)
-    → Counted format (λ content n. n ≡ row_work * length terms) NoRows s0 s1 a b
+    → CountsByContent format (λ content n. n ≡ row_work * length terms) NoRows s0 s1 a b
     → (HasCleanDisk s2 → IsStore s1 → (content : Content) → holds_in format s1.now.trees content → Works (row_work * length page) 0 0 0 b c)
-    → Counted format (λ content n. n ≡ row_work * length all) NoRows s0 s2 a c
+    → CountsByContent format (λ content n. n ≡ row_work * length all) NoRows s0 s2 a c
 pages_counted format row_work terms page all joined s0 s1 s2 a b c read crash before works =
     counted_then format (λ content n. n ≡ row_work * length terms) (λ content n. n ≡ row_work * length page) (λ content n. n ≡ row_work * length all) NoRows NoRows NoRows s0 s1 s2 a b c
     (λ content m n first second.
@@ -120,7 +121,7 @@ module _ (row_work : ℕ) (content : Content) (db : ℤ) where
   named_entry IsNamed index register n (inl none) named = none.1
   named_entry IsNamed index register n (inr all) named = absurd (all.0 named)
 
-  named_words : (index : ℕ) (patterns : List (List Symbol)) (n : ℕ) → WordDict row_work content db index patterns n → HaveNoStar patterns → n ≡ 0
+  named_words : (index : ℕ) (patterns : List (List Symbol)) (n : ℕ) → WordDict row_work content db index patterns n → AreWithoutStars patterns → n ≡ 0
   named_words index [] n none named = none
   named_words index (pattern ∷ patterns) n words named =
       let first = named_entry (HasNoStar pattern) index register.Word words.0 words.2 (named pattern (inl refl)) in

@@ -11,7 +11,7 @@ use Rattle.zeb_register.specs.Content.{posting_cmp, Posting}
 use Rattle.zeb_register.proofs.ContentChanges.{posting_total}
 use Rattle.zeb_register.proofs.RisingLists.{pushed_rises}
 use Rattle.zeb_register.proofs.TermRows.{taken_below, taken_more}
-use Rattle.zeb_search.specs.Lists.{ArePostings}
+use Rattle.zeb_search.specs.PrivateLists.{ArePostings}
 use Rattle.zeb_search.specs.declared.lists.Words.{Words}
 use Rattle.zeb_search.specs.PrivateWalks.{HasWithin, IsBefore, IsBehind, IsUpTo, IsWithin}
 use Rattle.zeb_search.proofs.Comparisons.{ranked_numbers}

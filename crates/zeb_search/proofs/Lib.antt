@@ -1,12 +1,12 @@
 pub mod Comparisons
-pub mod CountedLemmas
+pub mod SearchCountLemmas
 pub mod DictCounts
 pub mod FollowingPostings
-pub mod Gathering
+pub mod GatheredLists
 pub mod HoldsAlike
 pub mod JoinedLists
 pub mod JustLemmas
-pub mod Known
+pub mod KnownHolders
 pub mod NeighbourLemmas
 pub mod OneKey
 pub mod OrderedLists
@@ -17,7 +17,7 @@ pub mod PostingLemmas
 pub mod RangeLemmas
 pub mod ReadLemmas
 pub mod ReadableNames
-pub mod Reasons
+pub mod ReasonedFaults
 pub mod RisingTexts
 pub mod RowCounts
 pub mod RunLemmas

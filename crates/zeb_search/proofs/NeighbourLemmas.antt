@@ -22,14 +22,15 @@ use Rattle.zeb_register.specs.Store.{IsStore}
 use Rattle.zeb_register.specs.Tallies.{Works}
 use Rattle.zeb_register.specs.declared.RegFault.{RegFault}
 use Rattle.zeb_search.specs.Comparing.{Precedes}
-use Rattle.zeb_search.specs.Counted.{Counted, Counts, NoRows}
+use Rattle.zeb_search.specs.SearchCounts.{CountsByContent, CountsAtMost}
+use Rattle.zeb_search.specs.PrivateSearchCounts.{NoRows}
 use Rattle.zeb_search.specs.declared.keys.FoundKeys.{FoundKeys}
 use Rattle.zeb_search.specs.declared.terms.Wanted.{Wanted}
 use Rattle.zeb_search.specs.ListRows.{AreKeysOf, EntryRows, rows_under}
 use Rattle.zeb_search.specs.Lists.{Rise}
 use Rattle.zeb_search.specs.PrivateTerms.{AreFound, AreNeighbours, AreRun, AreTaken, HasWanted, IsPostingOf, IsWanted, StandTogether, StandsWithin, TermsRise}
 use Rattle.zeb_search.proofs.Comparisons.{never_after, never_before_itself}
-use Rattle.zeb_search.proofs.CountedLemmas.{counts_then, list_counts}
+use Rattle.zeb_search.proofs.SearchCountLemmas.{counts_then, list_counts}
 use Rattle.zeb_search.proofs.ReadLemmas.{IsRead, clean_before, still_store, still_trees}
 use Rattle.zeb_register.proofs.TermRows.{last_view}
 use Rattle.zeb_search.proofs.RisingTexts.{before_last_text, front_rise}
@@ -200,7 +201,7 @@ module _ (format : Format) (of : RegisterOf) (keys : List Key) (many : 2 ≤ len
 
   pub between_counted : (rows : List Posting → ℕ) (a b : Work) (result : Result (Vec Posting Global) RegFault)
       → TellsHeld (holds_in format) old new result (λ content _. (keys : List Key) → AreKeysBetween content of low high keys → Works 0 0 (rows_under rows content of.db.0 keys) 0 a b)
-      → OnOk result (OnStore old new (λ trees. (content : Content) → holds_in format trees content → AreRun content of keys → Counts 0 (rows_under rows content of.db.0 keys) a b))
+      → OnOk result (OnStore old new (λ trees. (content : Content) → holds_in format trees content → AreRun content of keys → CountsAtMost 0 (rows_under rows content of.db.0 keys) a b))
   between_counted rows a b (Err why) told = tt
   between_counted rows a b (Ok list) told = λ clean store content has are.
       let between = subst₂ (λ x y. AreKeysBetween content of x y keys) (sym is_low) (sym is_high) (keys_between content of keys are many first last at) in
@@ -208,23 +209,23 @@ module _ (format : Format) (of : RegisterOf) (keys : List Key) (many : 2 ≤ len
 
 -- ---- counts
 
-counts_so : (k l m n : ℕ) (a b : Work) → k ≡ l → m ≡ n → Counts k m a b → Counts l n a b
-counts_so k l m n a b one two = subst₂ (λ x y. Counts x y a b) one two
+counts_so : (k l m n : ℕ) (a b : Work) → k ≡ l → m ≡ n → CountsAtMost k m a b → CountsAtMost l n a b
+counts_so k l m n a b one two = subst₂ (λ x y. CountsAtMost x y a b) one two
 
 -- the lists of keys that are read one by one, whatever else is given
 pub each_counted : (format : Format) (rows : List Posting → ℕ) (db : ℤ) (Given : Content → Type 0) (keys : List Key) (s0 s1 : State) (a b : Work)
-    → Counted format NoRows (λ content n. n ≡ rows_under rows content db keys) s0 s1 a b
-    → OnStore s0 s1 (λ trees. (content : Content) → holds_in format trees content → Given content → Counts 0 (rows_under rows content db keys) a b)
+    → CountsByContent format NoRows (λ content n. n ≡ rows_under rows content db keys) s0 s1 a b
+    → OnStore s0 s1 (λ trees. (content : Content) → holds_in format trees content → Given content → CountsAtMost 0 (rows_under rows content db keys) a b)
 each_counted format rows db Given keys s0 s1 a b counted clean store content has given =
     let x = counted clean store content has in
     counts_so x.0 0 x.1 (rows_under rows content db keys) a b x.2 x.3 x.4
 
 -- keys, and then their lists
 pub found_counted : (format : Format) (D : Content → ℕ → Type 0) (rows : List Posting → ℕ) (of : RegisterOf) (P : List ℕ → Type 0) (found : FoundKeys) (s0 s1 s2 : State) (a b c : Work) → IsRead s0 s1 → Survives s1 s2 (λ _. ⊥)
-    → Counted format D NoRows s0 s1 a b
+    → CountsByContent format D NoRows s0 s1 a b
     → (HasCleanDisk s1 → IsStore s0 → (content : Content) → holds_in format s0.now.trees content → AreKeysOf (posted content of.db.0) of.index of.register P found.keys.items × AreFound content of found)
-    → OnStore s1 s2 (λ trees. (content : Content) → holds_in format trees content → AreFound content of found → Counts 0 (rows_under rows content of.db.0 found.keys.items) b c)
-    → Counted format D (λ content. EntryRows rows content of.db.0 of.index of.register P) s0 s2 a c
+    → OnStore s1 s2 (λ trees. (content : Content) → holds_in format trees content → AreFound content of found → CountsAtMost 0 (rows_under rows content of.db.0 found.keys.items) b c)
+    → CountsByContent format D (λ content. EntryRows rows content of.db.0 of.index of.register P) s0 s2 a c
 found_counted format D rows of P found s0 s1 s2 a b c read crash none are lists clean store content has =
     let before = clean_before s1 s2 crash clean in
     let x = none before store content has in

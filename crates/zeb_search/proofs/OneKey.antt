@@ -11,11 +11,12 @@ use Rattle.zeb_register.specs.Tallies.{Works}
 use Rattle.zeb_register.specs.declared.RegFault.{RegFault}
 use Rattle.zeb_register.specs.declared.registers.Work.{Work}
 use Rattle.zeb_register.proofs.FormatLemmas.{registers_rise}
-use Rattle.zeb_search.specs.Counted.{Counted, NoRows}
+use Rattle.zeb_search.specs.SearchCounts.{CountsByContent}
+use Rattle.zeb_search.specs.PrivateSearchCounts.{NoRows}
 use Rattle.zeb_search.specs.ListRows.{rows_under}
-use Rattle.zeb_search.specs.Lists.{ArePostings}
+use Rattle.zeb_search.specs.PrivateLists.{ArePostings}
 use Rattle.zeb_search.specs.PrivateTerms.{IsPostingOf}
-use Rattle.zeb_search.proofs.CountedLemmas.{list_counts}
+use Rattle.zeb_search.proofs.SearchCountLemmas.{list_counts}
 
 pub one_alone : {X : Type 0} (keys : List X) (key : X) → length keys ≡ 1 → key ≡ get_or keys 0 key → keys ≡ key ∷ []
 one_alone [] key one is = absurd (omega arith)
@@ -47,7 +48,7 @@ module _ (format : Format) (db : ℤ) (keys : List Key) (key : Key) (one : lengt
 
     pub one_counted : (old new : State) (result : Result (Vec Posting Global) RegFault) (before after : Work) → TellsHeld (holds_in format) old new result (λ content list. list.items ≡ content db key)
         → TellsHeld (holds_in format) old new result (λ _ list. Works 0 0 (rows list.items) 0 before after)
-        → OnOk result (Counted format NoRows (λ content n. n ≡ rows_under rows content db keys) old new before after)
+        → OnOk result (CountsByContent format NoRows (λ content n. n ≡ rows_under rows content db keys) old new before after)
     one_counted old new (Err why) before after told works = tt
     one_counted old new (Ok list) before after told works = λ clean store content has.
         (0, rows list.items, refl, ap rows (told clean store content has) ∙ rows_of_one content, list_counts (rows list.items) before after (works clean store content has))

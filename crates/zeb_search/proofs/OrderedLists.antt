@@ -10,10 +10,12 @@ use Rattle.sqlite_rules.specs.Lists.{Has}
 use Rattle.sqlite_rules.proofs.ListLemmas.{has_contained, contains_had}
 use Rattle.sqlite_rules.proofs.ProbeLemmas.{has_mapped, mapped_has}
 use Rattle.zeb_keys.specs.Order.{TellsApart}
-use Rattle.zeb_keys.proofs.Ordered.{rising_from_dedup, members_from_dedup}
+use Rattle.zeb_keys.proofs.SortedLists.{rising_from_dedup, members_from_dedup}
+use Rattle.zeb_keys.proofs.Rising.{numbers_apart}
 use Rattle.zeb_register.specs.Content.{posting_cmp, Posting}
-use Rattle.zeb_register.proofs.ContentChanges.{posting_total, postings_apart, numbers_apart}
-use Rattle.zeb_search.specs.Lists.{AreJust, AreNumbers, ArePostings}
+use Rattle.zeb_register.proofs.ContentChanges.{posting_total, postings_apart}
+use Rattle.zeb_search.specs.Lists.{AreJust, AreNumbers}
+use Rattle.zeb_search.specs.PrivateLists.{ArePostings}
 use Rattle.zeb_search.specs.PrivateTerms.{HasPosting}
 
 -- ---- after a sort

@@ -21,7 +21,8 @@ use Rattle.zeb_register.specs.Kept.{IsIdentOf}
 use Rattle.zeb_register.specs.Occurring.{key_in}
 use Rattle.zeb_register.specs.Store.{HasRecord}
 use Rattle.zeb_search.specs.Holds.{HasMatch, HasNear, HasPhrase, HasWord, HasWords}
-use Rattle.zeb_search.specs.Lists.{AreJust, AreNumbers, ArePostings}
+use Rattle.zeb_search.specs.Lists.{AreJust, AreNumbers}
+use Rattle.zeb_search.specs.PrivateLists.{ArePostings}
 use Rattle.zeb_search.specs.PrivateTerms.{HasBehind, HasPosting, IsNear}
 use Rattle.zeb_search.specs.Registers.{HoldsIn, is_kept_in}
 use Rattle.zeb_search.proofs.JustLemmas.{just_none, just_same, some_more, each_more}

@@ -9,7 +9,8 @@ use Rattle.zeb_text.specs.Symbols.{Symbol}
 use Rattle.zeb_register.specs.Content.{Content, posted, posting_cmp, Posting}
 use Rattle.zeb_register.specs.Occurring.{key_in}
 use Rattle.zeb_search.specs.Holds.{Fits, HasEntry, HasWord}
-use Rattle.zeb_search.specs.Lists.{AreNumbers, ArePostings}
+use Rattle.zeb_search.specs.Lists.{AreNumbers}
+use Rattle.zeb_search.specs.PrivateLists.{ArePostings}
 use Rattle.zeb_search.specs.ListRows.{AreKeysOf}
 use Rattle.zeb_search.specs.PrivateTerms.{HasPosting, IsPostingOf}
 

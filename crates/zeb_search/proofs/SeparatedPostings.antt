@@ -6,7 +6,8 @@ use Rattle.zeb_query.specs.declared.plans.Separation.{Separation}
 use Rattle.zeb_register.specs.Content.{Posting}
 use Rattle.zeb_search.specs.declared.lists.Words.{Words}
 use Rattle.zeb_search.specs.Comparing.{AreApart, IsDistant}
-use Rattle.zeb_search.specs.Lists.{AreNumbers, ArePostings}
+use Rattle.zeb_search.specs.Lists.{AreNumbers}
+use Rattle.zeb_search.specs.PrivateLists.{ArePostings}
 use Rattle.zeb_search.specs.PrivateTerms.{HasPosting, IsNear}
 use Rattle.zeb_search.specs.PrivateWalks.{HasWithin, IsFollowed, IsNearBy, IsWithin, IsWithinSome}
 

@@ -12,17 +12,17 @@ use Rattle.zeb_text.proofs.KeyLemmas.{keys_order}
 use Rattle.zeb_keys.specs.declared.Register.{Register}
 use Rattle.zeb_keys.specs.declared.keys.Key.{Key}
 use Rattle.zeb_keys.specs.declared.keys.Occurrence.{Occurrence}
+use Rattle.zeb_keys.proofs.Rising.{numbers_apart}
 use Rattle.zeb_register.specs.declared.registers.TermCount.{TermCount}
 use Rattle.zeb_register.specs.Occurring.{AreTermsOf, key_in}
-use Rattle.zeb_register.proofs.ContentChanges.{numbers_apart}
 use Rattle.zeb_search.specs.Comparing.{Precedes, Stands}
-use Rattle.zeb_search.specs.Counted.{HasNoStar}
+use Rattle.zeb_search.specs.SearchCounts.{HasNoStar}
 use Rattle.zeb_search.specs.Holds.{Fits, IsNumberAt}
 use Rattle.zeb_search.specs.declared.terms.Wanted.{Wanted}
 use Rattle.zeb_search.specs.ListRows.{AreKeysOf}
 use Rattle.zeb_search.specs.PrivateTerms.{AreTaken, HasWanted, IsWanted}
 use Rattle.zeb_search.proofs.Comparisons.{tied_back}
-use Rattle.zeb_search.proofs.Gathering.{gathers_more, gathers_none, gathers_past}
+use Rattle.zeb_search.proofs.GatheredLists.{gathers_more, gathers_none, gathers_past}
 use Rattle.zeb_search.proofs.RisingTexts.{before_last_text, front_rise, joined_rise, none_rises, one_rises, terms_rise}
 
 pub same_number : (m n : ℕ) → m < 10 ^ 18 → n < 10 ^ 18 → number_key m ≡ number_key n → m ≡ n

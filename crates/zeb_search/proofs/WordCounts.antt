@@ -6,12 +6,12 @@ use Rattle.zeb_keys.specs.declared.Register.TheVariants as register
 use Rattle.zeb_register.specs.declared.registers.Work.{Work}
 use Rattle.zeb_register.specs.Content.{Content, Posting}
 use Rattle.zeb_register.specs.Formats.{Format}
-use Rattle.zeb_search.specs.Counted.{HasNoStar}
+use Rattle.zeb_search.specs.SearchCounts.{HasNoStar}
 use Rattle.zeb_search.specs.DictRows.{EntryDict, WordDict}
 use Rattle.zeb_search.specs.Holds.{Fits}
 use Rattle.zeb_search.specs.ListRows.{EntryRows, WordRows}
-use Rattle.zeb_search.specs.PrivateCounts.{CountedMatches, CountedWords}
-use Rattle.zeb_search.proofs.CountedLemmas.{counted_for, counted_still, counted_then}
+use Rattle.zeb_search.specs.PrivateWordCounts.{CountedMatches, CountedWords}
+use Rattle.zeb_search.proofs.SearchCountLemmas.{counted_for, counted_still, counted_then}
 use Rattle.zeb_search.proofs.DictCounts.{dict_before, dict_behind, one_dict}
 use Rattle.zeb_search.proofs.ReadLemmas.{IsRead}
 use Rattle.zeb_search.proofs.RowCounts.{one_pattern, pattern_before, pattern_behind}

@@ -8,7 +8,7 @@ use Rattle.zeb_query.specs.Plans.{PlanValue, TermOf, PairOf, NearOf, TermPlanVal
 use Rattle.zeb_register.specs.declared.registers.TermCount.{TermCount}
 use Rattle.zeb_register.specs.Content.{Content, posted}
 use Rattle.zeb_register.specs.Occurring.{AreTermsOf}
-use Rattle.zeb_search.specs.Counted.{HasNoStar, IsOneKey}
+use Rattle.zeb_search.specs.SearchCounts.{HasNoStar, IsOneKey}
 
 -- `row_work` says what a row adds to its count
 module _ (row_work : ℕ) (content : Content) (db : ℤ) where

@@ -1,10 +1,12 @@
 pub mod Comparing
-pub mod Counted
+pub mod SearchCounts
+pub mod PrivateSearchCounts
 pub mod DictRows
 pub mod Holds
 pub mod ListRows
 pub mod Lists
-pub mod PrivateCounts
+pub mod PrivateLists
+pub mod PrivateWordCounts
 pub mod PrivateTerms
 pub mod PrivateWalks
 pub mod Registers

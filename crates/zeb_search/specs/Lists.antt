@@ -5,7 +5,6 @@ use Rattle.std.specs.List.Sorted.{IsStrictlySortedBy}
 use Rattle.std.specs.Ordering.{nat_cmp}
 use Rattle.std.specs.Cmp.Lexicographic.{slice_cmp}
 use Rattle.sqlite_rules.specs.Lists.{Has}
-use Rattle.zeb_register.specs.Content.{posting_cmp, Posting}
 
 -- the texts of the elements rise, in the order of their bytes; so each element stands there once
 abbrev pub Rise : {X : Type 0} → (X → List ℕ) → List X → Type 0
@@ -19,7 +18,3 @@ pub record AreJust {X : Type 0} (cmp : X → X → Ordering) (P : X → Type 0) 
 -- just the numbers that are P, rising
 abbrev pub AreNumbers : (P : ℕ → Type 0) → List ℕ → Type 0
 AreNumbers P = AreJust nat_cmp P
-
--- just the postings that are P, rising
-abbrev pub ArePostings : (P : Posting → Type 0) → List Posting → Type 0
-ArePostings P = AreJust posting_cmp P

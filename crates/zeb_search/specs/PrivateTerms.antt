@@ -1,3 +1,4 @@
+-- What only the contracts of private functions speak of; no public clause reaches it.
 -- The terms that one step of a search asks for.
 use Rattle.std.specs.Prelude.{◌≡◌, ◌↔◌, ◌⊎◌, ◌+◌, ◌++◌, ◌≤◌, ℕ, ℤ, IsTrue, List, [], ◌∷◌, Option, Some, None, String, length, string_bytes}
 use Rattle.std.specs.declared.alloc.Global.{Global}
@@ -15,7 +16,7 @@ use Rattle.zeb_search.specs.declared.terms.Wanted.{Wanted}
 use Rattle.zeb_search.specs.declared.terms.Wanted.TheVariants as wanted
 use Rattle.zeb_query.specs.declared.plans.Separation.{Separation}
 use Rattle.zeb_search.specs.Comparing.{AreSeparated, Precedes, StandsInOrder}
-use Rattle.zeb_search.specs.Counted.{HasNoStar, IsOneKey}
+use Rattle.zeb_search.specs.SearchCounts.{HasNoStar, IsOneKey}
 use Rattle.zeb_search.specs.Holds.{Fits, IsNumberAt}
 use Rattle.zeb_search.specs.Lists.{Rise}
 
@@ -89,8 +90,8 @@ BeginsAt wanted start = (term : List ℕ) → IsWanted wanted term → ¬ Preced
 abbrev pub EndsAt : Wanted → List ℕ → Type 0
 EndsAt wanted end = (term : List ℕ) → IsWanted wanted term → ¬ Precedes end term
 
--- The next page begins right behind the last term of this one. There is no next one where the page is empty, or where no entry that is asked
--- for comes behind one of its terms.
+-- The next page begins right behind the last term of this one. There is no next one where the page is empty, or where no entry that is
+-- asked for comes behind one of its terms.
 abbrev pub LeadsTo : Wanted → List TermCount → Option (String Global) → Type 0
 LeadsTo wanted page None = (page ≡ []) ⊎ ((t : TermCount) × Has page t × EndsAt wanted t.term)
 LeadsTo wanted page (Some next) = (front : List TermCount) × (t : TermCount) × (page ≡ front ++ t ∷ []) × (string_bytes next ≡ t.term ++ 0 ∷ [])

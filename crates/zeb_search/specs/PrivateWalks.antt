@@ -1,3 +1,4 @@
+-- What only the contracts of private functions speak of; no public clause reaches it.
 -- How postings stand to each other, as a walk over two lists of them meets them.
 use Rattle.std.specs.Prelude.{◌≡◌, ◌⊎◌, ◌+◌, ◌-◌, ◌<◌, ◌≤◌, ℕ, Bool, false, List, Option, Some, None}
 use Rattle.sqlite_rules.specs.Lists.{Has}

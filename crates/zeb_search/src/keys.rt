@@ -6,11 +6,11 @@ ghost use Rattle.zeb_register.specs.Calls.{Reading};
 ghost use Rattle.zeb_register.specs.Clauses.{IsHonestStorable, IsReasoned, TellsHeld};
 ghost use Rattle.zeb_register.specs.Content.{posted};
 ghost use Rattle.zeb_register.specs.Formats.{holds_in};
-ghost use Rattle.zeb_search.specs.Counted.{Counted, NoRows};
+ghost use Rattle.zeb_search.specs.SearchCounts.{CountsByContent};
+ghost use Rattle.zeb_search.specs.PrivateSearchCounts.{NoRows};
 ghost use Rattle.zeb_search.specs.DictRows.{EntryDict, RegisterDict};
 ghost use Rattle.zeb_search.specs.ListRows.{AreKeysOf};
-ghost use Rattle.zeb_search.specs.PrivateTerms.{AreFound, AreTaken, HasWanted, IsWanted, LeadsTo, NamesEntry};
-ghost use Rattle.zeb_search.specs.PrivateTerms.{StandTogether, TermsRise};
+ghost use Rattle.zeb_search.specs.PrivateTerms.{AreFound, AreTaken, HasWanted, IsWanted, LeadsTo, NamesEntry, StandTogether, TermsRise};
 ghost use Rattle.zeb_search.specs.Untouched.{IsUntouched};
 
 use crate::ranges::text_above;
@@ -109,7 +109,7 @@ fn terms_wanted<S: Alter, L: Layout>(
         (λ content terms. HasWanted (posted content of.db.0) of.index of.register wanted.entry terms.items) }
     ensures honest { IsHonestStorable (holds_in L.format) (state S.Store connection.old) (state S.Store connection.new) result }
     ensures refused { IsReasoned (state S.Store connection.old) (state S.Store connection.new) result }
-    ensures work { OnOk result (Counted L.format (λ content. RegisterDict L.row_work content of.db.0 of.index of.register) NoRows
+    ensures work { OnOk result (CountsByContent L.format (λ content. RegisterDict L.row_work content of.db.0 of.index of.register) NoRows
         (state S.Store connection.old) (state S.Store connection.new) work.old work.new) }
     ensures no_work { L.row_work ≡ 0 → work.new ≡ work.old }
 {
@@ -148,7 +148,7 @@ pub(crate) fn keys_wanted<S: Alter, L: Layout>(
         × AreFound content of found) }
     ensures honest { IsHonestStorable (holds_in L.format) (state S.Store connection.old) (state S.Store connection.new) result }
     ensures refused { IsReasoned (state S.Store connection.old) (state S.Store connection.new) result }
-    ensures work { OnOk result (Counted L.format
+    ensures work { OnOk result (CountsByContent L.format
         (λ content. EntryDict L.row_work content of.db.0 (NamesEntry wanted.entry) of.index of.register) NoRows
         (state S.Store connection.old) (state S.Store connection.new) work.old work.new) }
     ensures no_work { L.row_work ≡ 0 → work.new ≡ work.old }

@@ -8,11 +8,11 @@ ghost use Rattle.zeb_register.specs.Clauses.{IsHonest, IsHonestStorable, IsReaso
 ghost use Rattle.zeb_register.specs.Content.{Content, IsStorable};
 ghost use Rattle.zeb_register.specs.Formats.{holds_in};
 ghost use Rattle.zeb_register.specs.Kept.{AreReadableIdents};
-ghost use Rattle.zeb_search.specs.Counted.{Counted, NamesEntries};
+ghost use Rattle.zeb_search.specs.SearchCounts.{CountsByContent, NamesEntries};
 ghost use Rattle.zeb_search.specs.DictRows.{PlanDict, TermDict};
 ghost use Rattle.zeb_search.specs.ListRows.{PlanRows, TermRows};
 ghost use Rattle.zeb_search.specs.Lists.{AreNumbers};
-ghost use Rattle.zeb_search.specs.PrivateCounts.{CountedWords};
+ghost use Rattle.zeb_search.specs.PrivateWordCounts.{CountedWords};
 ghost use Rattle.zeb_search.specs.Registers.{HoldsIn, NamesReadable, TermNamesReadable, is_kept_in};
 ghost use Rattle.zeb_search.specs.Untouched.{IsUntouched};
 
@@ -49,7 +49,7 @@ pub fn hits<S: Alter, L: Layout>(
         → NamesReadable trees database.0 (plan_value plan.now)
         → (content : Content) → IsStorable content → ¬ holds_in L.format trees content) }
     ensures refused { IsReasoned (state S.Store connection.old) (state S.Store connection.new) result }
-    ensures work { OnOk result (Counted L.format (λ content. PlanDict L.row_work content database.0 (plan_value plan.now))
+    ensures work { OnOk result (CountsByContent L.format (λ content. PlanDict L.row_work content database.0 (plan_value plan.now))
         (λ content. PlanRows L.block_rows content database.0 (plan_value plan.now))
         (state S.Store connection.old) (state S.Store connection.new) work.old work.new) }
     ensures no_work { L.row_work ≡ 0 → work.new ≡ work.old }
@@ -82,7 +82,7 @@ fn term_hits<S: Alter, L: Layout>(
         → TermNamesReadable trees database.0 (term_plan_value term.now)
         → (content : Content) → IsStorable content → ¬ holds_in L.format trees content) }
     ensures refused { IsReasoned (state S.Store connection.old) (state S.Store connection.new) result }
-    ensures work { OnOk result (Counted L.format (λ content. TermDict L.row_work content database.0 (term_plan_value term.now))
+    ensures work { OnOk result (CountsByContent L.format (λ content. TermDict L.row_work content database.0 (term_plan_value term.now))
         (λ content. TermRows L.block_rows content database.0 (term_plan_value term.now))
         (state S.Store connection.old) (state S.Store connection.new) work.old work.new) }
     ensures no_work { L.row_work ≡ 0 → work.new ≡ work.old }

@@ -7,12 +7,13 @@ ghost use Rattle.zeb_register.specs.Calls.{Reading};
 ghost use Rattle.zeb_register.specs.Clauses.{IsHonestStorable, IsReasoned, OnStore, TellsHeld};
 ghost use Rattle.zeb_register.specs.Content.{Content, posted};
 ghost use Rattle.zeb_register.specs.Formats.{holds_in};
-ghost use Rattle.zeb_search.specs.Counted.{Counted, Counts};
+ghost use Rattle.zeb_search.specs.SearchCounts.{CountsByContent, CountsAtMost};
 ghost use Rattle.zeb_search.specs.DictRows.{EntryDict};
 ghost use Rattle.zeb_search.specs.Holds.{HasEntry, HasWord};
 ghost use Rattle.zeb_search.specs.ListRows.{EntryRows, rows_under};
-ghost use Rattle.zeb_search.specs.Lists.{AreNumbers, ArePostings};
-ghost use Rattle.zeb_search.specs.PrivateCounts.{CountedMatches};
+ghost use Rattle.zeb_search.specs.Lists.{AreNumbers};
+ghost use Rattle.zeb_search.specs.PrivateLists.{ArePostings};
+ghost use Rattle.zeb_search.specs.PrivateWordCounts.{CountedMatches};
 ghost use Rattle.zeb_search.specs.PrivateTerms.{AreFound, AreRun, IsPostingOf, IsWanted, NamesEntry};
 ghost use Rattle.zeb_search.specs.Untouched.{IsUntouched};
 
@@ -67,7 +68,7 @@ fn list_of_run<S: Alter, L: Layout>(
     ensures refused { IsReasoned (state S.Store connection.old) (state S.Store connection.new) result }
     ensures work { OnOk result (OnStore (state S.Store connection.old) (state S.Store connection.new) (λ trees.
         (content : Content) → holds_in L.format trees content → AreRun content of run.now
-        → Counts 0 (rows_under L.block_rows content of.db.0 run.now) work.old work.new)) }
+        → CountsAtMost 0 (rows_under L.block_rows content of.db.0 run.now) work.old work.new)) }
     ensures no_work { L.row_work ≡ 0 → work.new ≡ work.old }
 {
     if run.len() == 1 {
@@ -101,7 +102,7 @@ fn list_found<S: Alter, L: Layout>(
     ensures refused { IsReasoned (state S.Store connection.old) (state S.Store connection.new) result }
     ensures work { OnOk result (OnStore (state S.Store connection.old) (state S.Store connection.new) (λ trees.
         (content : Content) → holds_in L.format trees content → AreFound content of found.now
-        → Counts 0 (rows_under L.block_rows content of.db.0 found.now.keys.items) work.old work.new)) }
+        → CountsAtMost 0 (rows_under L.block_rows content of.db.0 found.now.keys.items) work.old work.new)) }
     ensures no_work { L.row_work ≡ 0 → work.new ≡ work.old }
 {
     let most = run_of(found);
@@ -129,7 +130,7 @@ pub(crate) fn numbers_wanted<S: Alter, L: Layout>(
         (λ content hits. AreNumbers (HasEntry (posted content of.db.0) of.index of.register (IsWanted wanted.entry)) hits.items) }
     ensures honest { IsHonestStorable (holds_in L.format) (state S.Store connection.old) (state S.Store connection.new) result }
     ensures refused { IsReasoned (state S.Store connection.old) (state S.Store connection.new) result }
-    ensures work { OnOk result (Counted L.format
+    ensures work { OnOk result (CountsByContent L.format
         (λ content. EntryDict L.row_work content of.db.0 (NamesEntry wanted.entry) of.index of.register)
         (λ content. EntryRows L.block_rows content of.db.0 of.index of.register (IsWanted wanted.entry))
         (state S.Store connection.old) (state S.Store connection.new) work.old work.new) }

@@ -2,7 +2,7 @@
 
 ghost use Rattle.std.specs.Prelude.{◌≡◌, ◌↔◌, ℕ, List, IfOk, IfNone, IfSome, IsTrue};
 ghost use Rattle.zeb_search.specs.Comparing.{Stands, StandsInOrder};
-ghost use Rattle.zeb_search.specs.Counted.{IsOneKey};
+ghost use Rattle.zeb_search.specs.SearchCounts.{IsOneKey};
 ghost use Rattle.zeb_search.specs.Holds.{IsNumberAt};
 ghost use Rattle.zeb_search.specs.PrivateTerms.{IsWanted, NamesEntry};
 

@@ -8,8 +8,9 @@ ghost use Rattle.zeb_register.specs.Clauses.{IsHonestStorable, IsReasoned, Tells
 ghost use Rattle.zeb_register.specs.Content.{posted};
 ghost use Rattle.zeb_register.specs.Formats.{holds_in};
 ghost use Rattle.zeb_search.specs.Holds.{HasMatch, HasWords};
-ghost use Rattle.zeb_search.specs.Lists.{AreNumbers, ArePostings};
-ghost use Rattle.zeb_search.specs.PrivateCounts.{CountedMatches, CountedWords};
+ghost use Rattle.zeb_search.specs.Lists.{AreNumbers};
+ghost use Rattle.zeb_search.specs.PrivateLists.{ArePostings};
+ghost use Rattle.zeb_search.specs.PrivateWordCounts.{CountedMatches, CountedWords};
 ghost use Rattle.zeb_search.specs.Registers.{HoldsIn};
 ghost use Rattle.zeb_search.specs.Untouched.{IsUntouched};
 

@@ -7,7 +7,7 @@ use Rattle.zeb_text.specs.declared.truncation.Cut.{Cut}
 use Rattle.zeb_text.specs.declared.truncation.Cut.TheVariants.{None, Right, Left, Both, Hash}
 use Rattle.zeb_text.specs.declared.truncation.Spread.{Spread}
 use Rattle.zeb_text.specs.declared.truncation.Spread.TheVariants.{Ends, Each}
-use Rattle.zeb_text.specs.Stars.{cuts_left, cuts_right, cuts_each, star_if}
+use Rattle.zeb_text.specs.PrivateStars.{cuts_left, cuts_right, cuts_each, star_if}
 use Rattle.zeb_text.specs.Symbols.{Symbol, Star, texts_of}
 use Rattle.zeb_text.specs.Truncation.{star_before_first, star_after_last, truncated}
 

@@ -5,4 +5,4 @@ pub mod NumbersLeft
 pub mod Symbols
 pub mod Patterns
 pub mod Truncation
-pub mod Stars
+pub mod PrivateStars

@@ -1,6 +1,6 @@
 //! Patterns of a search term: its words, with stars where it is truncated.
 ghost use Rattle.std.specs.Prelude.{◌≡◌, ◌++◌, ◌&&◌, ◌||◌, IfOk, OnOk, chars, if◌then◌else◌, map};
-ghost use Rattle.zeb_text.specs.Stars.{cuts_each, cuts_left, cuts_right, star_if};
+ghost use Rattle.zeb_text.specs.PrivateStars.{cuts_each, cuts_left, cuts_right, star_if};
 ghost use Rattle.zeb_text.specs.Symbols.{Char, Star};
 ghost use Rattle.zeb_text.specs.Truncation.{patterns_of, symbol_of};
 

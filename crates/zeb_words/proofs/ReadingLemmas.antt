@@ -13,7 +13,8 @@ use Rattle.clap.specs.declared.error.Error.{Error}
 use Rattle.clap.specs.declared.error.kind.ErrorKind.TheVariants.{DisplayHelp, DisplayVersion, OutOfMemory}
 use Rattle.zeb_words.specs.declared.words.Usage.{Usage}
 use Rattle.zeb_words.specs.declared.words.Usage.TheVariants.{BadUsage, Refused, Help, Memory}
-use Rattle.zeb_words.specs.Parses.{AreBad, IsActRead, IsBadAct, IsFlagRead, IsFlagText, IsNumberRead, IsOwn, IsRefusedAs, IsUsageOf, program_app}
+use Rattle.zeb_words.specs.Parses.{AreBad, IsActRead, IsFlagRead, IsFlagText, IsNumberRead, IsRefusedAs, program_app}
+use Rattle.zeb_words.specs.PrivateParses.{IsBadAct, IsOwn, IsUsageOf}
 
 pub text_read : (r : Option (Bor (List ℕ))) (other : Bor (List ℕ)) (t : Option (List ℕ)) → option_map (λ s. s.now) r ≡ t
     → (unwrap_or r other).now ≡ unwrap_or t other.now

@@ -1,3 +1,4 @@
 pub mod Parses
+pub mod PrivateParses
 pub mod Grammar
 pub mod Names

@@ -1,16 +1,14 @@
 -- The command that words name, by the definition of a parse that stands with the parser, `clap`: which options, arguments and
 -- commands the parser is told of, that it finds no fault in the words, and what its matches come to.
-use Rattle.std.specs.Prelude.{ℕ, ◌≡◌, ◌≤◌, ◌<◌, ◌^◌, pos, Bool, true, false, List, [], map, Option, Some, None, codes, String, string_bytes, unwrap_or, ◌≢◌, ◌⊎◌, ⊤}
+use Rattle.std.specs.Prelude.{ℕ, ◌≡◌, ◌≤◌, ◌<◌, ◌^◌, pos, Bool, true, false, List, [], map, Option, Some, None, codes, String, string_bytes, unwrap_or, ◌⊎◌, ⊤}
 use Rattle.std.specs.Str.Parse.{IsNumeral, digits_value, without_leading_plus}
 use Rattle.zeb_image.specs.NameOf.{name_bytes}
 use Rattle.clap.specs.Walk.{Row, Rule, Text, first_of, one_of, all_of}
 use Rattle.clap.specs.Simple.{App, matches_of, new_app, new_rule, subcommand_of, with_rule, with_subcommand}
 use Rattle.clap.specs.Faults.{fault_of}
 use Rattle.clap.specs.Kinds.{IsAmong, Kinds}
-use Rattle.clap.specs.Values.{kind_of}
-use Rattle.clap.specs.declared.error.Error.{Error}
 use Rattle.clap.specs.declared.error.kind.ErrorKind.{ErrorKind}
-use Rattle.clap.specs.declared.error.kind.ErrorKind.TheVariants.{DisplayHelp, DisplayVersion, OutOfMemory}
+use Rattle.clap.specs.declared.error.kind.ErrorKind.TheVariants.{DisplayHelp, DisplayVersion}
 use Rattle.clap.specs.declared.builder.action.ArgAction.TheVariants.{Append, SetTrue, Version}
 use Rattle.clap.specs.declared.builder.value_parser.ValueParser.TheVariants as parser
 use Rattle.zeb_words.specs.declared.words.Words.{Words}
@@ -159,13 +157,6 @@ pub record IsParsedAs (words : List Text) (named : Words) : Type 0 where
   pub sound : fault_of program_app words ≡ []
   pub read : IsReadFrom (matches_of program_app words) (subcommand_of program_app words) named
 
--- the refusal is the program's own, for this cause, and not the parser's
-abbrev pub IsOwn : Type 0 → Usage → Type 0
-IsOwn cause BadUsage = cause
-IsOwn cause (Refused text) = ⊥
-IsOwn cause (Help text) = ⊥
-IsOwn cause Memory = ⊤
-
 -- the matches of `scan` say a position past the number of terms
 pub record IsPast (rows : List Row) : Type 0 where
   pub number : ℕ
@@ -173,10 +164,6 @@ pub record IsPast (rows : List Row) : Type 0 where
   pub number_read : IsNumberRead (one_of (codes "number") rows) 20 number
   pub position_read : IsNumberRead (one_of (codes "position") rows) 1 position
   pub past : number < position
-
--- no act is what the command of this name comes to, or its position is past its number
-abbrev pub IsBadAct : Text → Bool → List Row → Type 0
-IsBadAct name shows rows = ((act : Act) → IsActRead name shows rows act → ⊥) ⊎ ((name ≡ codes "scan") × IsPast rows)
 
 -- a flag is set or not
 abbrev pub IsFlagText : Option Text → Type 0
@@ -204,10 +191,3 @@ IsRefusedAs words BadUsage = (fault_of program_app words ≡ []) × AreBad (matc
 IsRefusedAs words (Refused text) = HasMistake (fault_of program_app words)
 IsRefusedAs words (Help text) = HasRequest (fault_of program_app words)
 IsRefusedAs words Memory = ⊤
-
--- the refusal says what the parser's error is
-abbrev pub IsUsageOf : Error → Usage → Type 0
-IsUsageOf error BadUsage = ⊥
-IsUsageOf error (Refused text) = (kind_of error ≢ OutOfMemory) × (IsRequest (kind_of error) → ⊥)
-IsUsageOf error (Help text) = IsRequest (kind_of error)
-IsUsageOf error Memory = ⊤

@@ -6,7 +6,8 @@ ghost use Rattle.clap.specs.Simple.{subcommand_rows_of};
 ghost use Rattle.clap.specs.Matches.{found_of};
 ghost use Rattle.zeb_image.specs.NameOf.{name_bytes};
 ghost use Rattle.zeb_image.specs.Names.{IsDatabaseName};
-ghost use Rattle.zeb_words.specs.Parses.{AreBad, IsBadAct, IsPast, IsActRead, IsNumberRead, IsOwn, IsReadFrom, path_texts, text_or};
+ghost use Rattle.zeb_words.specs.Parses.{AreBad, IsPast, IsActRead, IsNumberRead, IsReadFrom, path_texts, text_or};
+ghost use Rattle.zeb_words.specs.PrivateParses.{IsBadAct, IsOwn};
 
 use crate::words::{Act, Usage, Words};
 use clap::ArgMatches;

@@ -2,7 +2,8 @@
 
 ghost use Rattle.std.specs.Prelude.{◌≡◌, IfErr, IfOk, map, string_bytes, false, true};
 ghost use Rattle.zeb_words.specs.Names.{NamesNone, NamesWords};
-ghost use Rattle.zeb_words.specs.Parses.{IsParsedAs, IsRefusedAs, IsRequest, IsUsageOf};
+ghost use Rattle.zeb_words.specs.Parses.{IsParsedAs, IsRefusedAs, IsRequest};
+ghost use Rattle.zeb_words.specs.PrivateParses.{IsUsageOf};
 
 use crate::program::program;
 use crate::reading::words_of;

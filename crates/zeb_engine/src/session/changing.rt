@@ -9,6 +9,7 @@ ghost use Rattle.zeb_change.specs.Reading.{HasFailedAt, NamesFailed, NoneFailed,
 ghost use Rattle.zeb_image.specs.Holdings.{Holdings};
 ghost use Rattle.zeb_image.specs.Image.{Keeps};
 ghost use Rattle.zeb_image.specs.NameOf.{name_bytes};
+ghost use Rattle.zeb_engine.specs.AnyTables.{ChangesReady};
 ghost use Rattle.zeb_engine.specs.Causes.{ChangesInRoom};
 ghost use Rattle.zeb_engine.specs.Costs.{CostsAlone, no_work};
 ghost use Rattle.zeb_engine.specs.Crashes.{CommitsBy, Endures};
@@ -52,6 +53,9 @@ impl<S: Alter, L: Layout> Session<S, L> {
         ensures room { HasCleanDisk (state S.Store self.new.connection)
             → ChangesInRoom L.format self.old.profile kind (map (λ file. file.items) files.now) Always
             (state S.Store self.old.connection) (state S.Store self.new.connection) result }
+        ensures elder { HasCleanDisk (state S.Store self.new.connection)
+            → ChangesReady (version_of L.format) self.old.profile (name_bytes database.now) (map (λ file. file.items) files.now)
+            (state S.Store self.old.connection) result }
     {
         let mut readers = Vec::with_capacity(self.alloc, files.len())?;
         for file in files {
@@ -104,6 +108,12 @@ impl<S: Alter, L: Layout> Session<S, L> {
             → map R.remaining readers.old ≡ map Some texts → NoneFailed R.has_failed readers.new
             → ChangesInRoom L.format self.old.profile kind texts Always
             (state S.Store self.old.connection) (state S.Store self.new.connection) result }
+        // Whatever rows the tables of a ready register have: what is kept under the first record's identifier is whole, or the change is
+        // refused as damage or by a failure.
+        ensures elder { HasCleanDisk (state S.Store self.new.connection) → (texts : List (List ℕ))
+            → map R.remaining readers.old ≡ map Some texts → NoneFailed R.has_failed readers.new
+            → ChangesReady (version_of L.format) self.old.profile (name_bytes database.now) texts
+            (state S.Store self.old.connection) result }
     {
         let answer = self.change_from(database, kind, readers);
         // What is shown is what was committed.
@@ -141,6 +151,10 @@ impl<S: Alter, L: Layout> Session<S, L> {
             → map R.remaining readers.old ≡ map Some texts → NoneFailed R.has_failed readers.new
             → ChangesInRoom L.format self.old.profile kind texts Always
             (state S.Store self.old.connection) (state S.Store self.new.connection) result }
+        ensures elder { HasCleanDisk (state S.Store self.new.connection) → (texts : List (List ℕ))
+            → map R.remaining readers.old ≡ map Some texts → NoneFailed R.has_failed readers.new
+            → ChangesReady (version_of L.format) self.old.profile (name_bytes database.now) texts
+            (state S.Store self.old.connection) result }
     {
         self.work = Work::default();
         check_readers(readers)?;

@@ -9,11 +9,12 @@ ghost use Rattle.zeb_register.specs.Store.{databases_tree};
 ghost use Rattle.zeb_change.specs.Conditions.{conditions};
 ghost use Rattle.zeb_change.specs.Reading.{NoReadFault};
 ghost use Rattle.zeb_image.specs.NameOf.{name_bytes};
-ghost use Rattle.zeb_engine.specs.Causes.{HasCauseOver};
-ghost use Rattle.zeb_engine.specs.Crashes.{Commits};
+ghost use Rattle.zeb_engine.specs.PrivateCauses.{HasCauseOver};
+ghost use Rattle.zeb_engine.specs.PrivateCrashes.{Commits};
 ghost use Rattle.zeb_engine.specs.Steps.{created, dropped, turned};
 ghost use Rattle.zeb_engine.specs.Transactions.{Commanded};
-ghost use Rattle.zeb_engine.specs.Works.{Always, Serves};
+ghost use Rattle.zeb_engine.specs.Works.{Always};
+ghost use Rattle.zeb_engine.specs.PrivateWorks.{Serves};
 ghost use Rattle.zeb_engine.specs.Readiness.{TellsReady};
 
 use crate::readiness::check_ready;

@@ -4,10 +4,12 @@ ghost use Rattle.std.specs.Prelude.{IsUtf8, ◌≡◌, ◌++◌, [], ◌∷◌};
 ghost use Rattle.sqlite.specs.declared.types.Value.TheVariants.{Blob, Int};
 ghost use Rattle.sqlite.specs.Held.{state};
 ghost use Rattle.zeb_register.specs.Calls.{Inside};
-ghost use Rattle.zeb_register.specs.Clauses.{IsHinderedErrorInside, IsReasonedErrorInside, TakesInside, Writes};
-ghost use Rattle.zeb_register.specs.Hindrances.{Hinders, HindersNew};
-ghost use Rattle.zeb_register.specs.KeyColumns.{IsOfKey, IsOfNumbered, key_columns, numbered_columns};
-ghost use Rattle.zeb_register.specs.RowStatements.{Gains, IsHinderedUnbroken, IsUnchangedByViolation, ListsInside, Renews};
+ghost use Rattle.zeb_register.specs.Clauses.{IsReasonedErrorInside, TakesInside, Writes};
+ghost use Rattle.zeb_register.specs.PrivateClauses.{IsHinderedErrorInside};
+ghost use Rattle.zeb_register.specs.Hindrances.{Hinders};
+ghost use Rattle.zeb_register.specs.PrivateHindrances.{HindersNew};
+ghost use Rattle.zeb_register.specs.PrivateKeyColumns.{IsOfKey, IsOfNumbered, key_columns, numbered_columns};
+ghost use Rattle.zeb_register.specs.PrivateRowStatements.{Gains, IsHinderedUnbroken, IsUnchangedByViolation, ListsInside, Renews};
 ghost use Rattle.zeb_register.specs.Sql.{Loses};
 ghost use Rattle.zeb_register.specs.Store.{IsRest, blocks_tree, dict_tree};
 

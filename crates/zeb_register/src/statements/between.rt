@@ -1,11 +1,11 @@
 //! Statements that read the rows of a register's terms from one text to another.
 
 ghost use Rattle.sqlite.specs.Held.{state};
-ghost use Rattle.zeb_register.specs.BetweenRows.{IsRestBetween};
+ghost use Rattle.zeb_register.specs.PrivateBetweenRows.{IsRestBetween};
 ghost use Rattle.zeb_register.specs.Calls.{Reading};
-ghost use Rattle.zeb_register.specs.Clauses.{IsReasonedError};
-ghost use Rattle.zeb_register.specs.KeyColumns.{register_columns};
-ghost use Rattle.zeb_register.specs.RowStatements.{Lists};
+ghost use Rattle.zeb_register.specs.PrivateClauses.{IsReasonedError};
+ghost use Rattle.zeb_register.specs.PrivateKeyColumns.{register_columns};
+ghost use Rattle.zeb_register.specs.PrivateRowStatements.{Lists};
 ghost use Rattle.zeb_register.specs.Store.{postings_tree};
 
 use crate::{RegFault, RegisterOf};

@@ -5,11 +5,12 @@ ghost use Rattle.sqlite.specs.Held.{state};
 ghost use Rattle.sqlite.specs.Order.{column};
 ghost use Rattle.sqlite.specs.declared.types.Value.TheVariants.{Text};
 ghost use Rattle.zeb_register.specs.Store.{database_columns, databases_tree, TakesDatabase};
-ghost use Rattle.zeb_register.specs.RowStatements.{AddsDatabase, SetsLast, IsDatabaseRow, IsListedRow, Lists, ListsInside};
+ghost use Rattle.zeb_register.specs.PrivateRowStatements.{AddsDatabase, SetsLast, IsDatabaseRow, IsListedRow, Lists, ListsInside};
 ghost use Rattle.zeb_register.specs.Calls.{Alters, Inside, Reading};
 ghost use Rattle.zeb_register.specs.Clauses.{Writes};
-ghost use Rattle.zeb_register.specs.Clauses.{IsHinderedErrorInside, IsReasonedError, IsReasonedErrorInside, TakesInside};
-ghost use Rattle.zeb_register.specs.Hindrances.{HindersLast, HindersNew};
+ghost use Rattle.zeb_register.specs.Clauses.{IsReasonedErrorInside, TakesInside};
+ghost use Rattle.zeb_register.specs.PrivateClauses.{IsHinderedErrorInside, IsReasonedError};
+ghost use Rattle.zeb_register.specs.PrivateHindrances.{HindersLast, HindersNew};
 
 use crate::RegFault;
 use sqlite::{Alter, Connection, Error, Row, Transaction, params};

@@ -5,8 +5,8 @@ ghost use Rattle.sqlite.specs.Held.{state};
 ghost use Rattle.sqlite.specs.declared.types.Value.TheVariants.{Int};
 ghost use Rattle.zeb_register.specs.Calls.{Inside, OnlyReads};
 ghost use Rattle.zeb_register.specs.Clauses.{IsReasonedErrorInside};
-ghost use Rattle.zeb_register.specs.RowStatements.{IsRestAtLeast};
-ghost use Rattle.zeb_register.specs.RowTerms.{ReadsInside};
+ghost use Rattle.zeb_register.specs.PrivateRowStatements.{IsRestAtLeast};
+ghost use Rattle.zeb_register.specs.PrivateRowTerms.{ReadsInside};
 ghost use Rattle.zeb_register.specs.Sql.{IsListOf};
 ghost use Rattle.zeb_register.specs.Store.{records_tree};
 

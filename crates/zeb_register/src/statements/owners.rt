@@ -3,10 +3,10 @@
 ghost use Rattle.std.specs.Prelude.{◌≡◌, ◌≤ℤ◌};
 ghost use Rattle.sqlite.specs.Held.{state};
 ghost use Rattle.zeb_register.specs.Calls.{Reading};
-ghost use Rattle.zeb_register.specs.Clauses.{IsReasonedError};
-ghost use Rattle.zeb_register.specs.RowExpected.{Owns, tree_of};
-ghost use Rattle.zeb_register.specs.RowReads.{ShowsFirst, greatest_text, least_text, next_text};
-ghost use Rattle.zeb_register.specs.RowTerms.{Reads};
+ghost use Rattle.zeb_register.specs.PrivateClauses.{IsReasonedError};
+ghost use Rattle.zeb_register.specs.PrivateRowExpected.{Owns, tree_of};
+ghost use Rattle.zeb_register.specs.PrivateRowReads.{ShowsFirst, greatest_text, least_text, next_text};
+ghost use Rattle.zeb_register.specs.PrivateRowTerms.{ReadsRows};
 
 use crate::agreeing::Table;
 use sqlite::{Alter, Connection, Error, Row, params};
@@ -17,7 +17,7 @@ pub(crate) fn least_rows<S: Alter>(
     table: Table,
 ) -> Result<Vec<Row>, Error>
     ensures call { Reading (state S.Store conn.old) (state S.Store conn.new) result
-        (λ rows a b. Reads (λ trees. ShowsFirst (λ id other. id ≤ℤ other) (Owns (tree_of table) trees)) a b rows.items) }
+        (λ rows a b. ReadsRows (λ trees. ShowsFirst (λ id other. id ≤ℤ other) (Owns (tree_of table) trees)) a b rows.items) }
     ensures err { IsReasonedError (state S.Store conn.old) (state S.Store conn.new) result }
 {
     // What is seen outside a transaction is what was committed.
@@ -31,7 +31,7 @@ pub(crate) fn greatest_rows<S: Alter>(
     table: Table,
 ) -> Result<Vec<Row>, Error>
     ensures call { Reading (state S.Store conn.old) (state S.Store conn.new) result
-        (λ rows a b. Reads (λ trees. ShowsFirst (λ id other. other ≤ℤ id) (Owns (tree_of table) trees)) a b rows.items) }
+        (λ rows a b. ReadsRows (λ trees. ShowsFirst (λ id other. other ≤ℤ id) (Owns (tree_of table) trees)) a b rows.items) }
     ensures err { IsReasonedError (state S.Store conn.old) (state S.Store conn.new) result }
 {
     // What is seen outside a transaction is what was committed.
@@ -46,7 +46,8 @@ pub(crate) fn next_rows<S: Alter>(
     start: i64,
 ) -> Result<Vec<Row>, Error>
     ensures call { Reading (state S.Store conn.old) (state S.Store conn.new) result
-        (λ rows a b. Reads (λ trees. ShowsFirst (λ id other. id ≤ℤ other) (λ id. Owns (tree_of table) trees id × (start ≤ℤ id))) a b rows.items) }
+        (λ rows a b. ReadsRows (λ trees. ShowsFirst (λ id other. id ≤ℤ other)
+        (λ id. Owns (tree_of table) trees id × (start ≤ℤ id))) a b rows.items) }
     ensures err { IsReasonedError (state S.Store conn.old) (state S.Store conn.new) result }
 {
     // What is seen outside a transaction is what was committed.

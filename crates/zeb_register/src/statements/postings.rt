@@ -8,14 +8,14 @@ ghost use Rattle.sqlite.specs.Order.{column};
 ghost use Rattle.sqlite.specs.State.{IsUnchanged};
 ghost use Rattle.sqlite.specs.declared.types.Value.TheVariants.{Int, Text};
 ghost use Rattle.zeb_register.specs.Sql.{Loses};
-ghost use Rattle.zeb_register.specs.RowStatements.{Gains, Lists, ListsInside};
+ghost use Rattle.zeb_register.specs.PrivateRowStatements.{Gains, Lists, ListsInside};
 ghost use Rattle.zeb_register.specs.Store.{postings_tree, IsPostingIn, IsRest};
 ghost use Rattle.zeb_register.specs.Calls.{Inside, Reading};
-ghost use Rattle.zeb_register.specs.Clauses.{IsHinderedErrorInside, IsReasonedErrorInside, TakesInside, Writes};
-ghost use Rattle.zeb_register.specs.Hindrances.{HindersNew};
-ghost use Rattle.zeb_register.specs.Clauses.{IsReasonedError};
-ghost use Rattle.zeb_register.specs.KeyColumns.{HasTermOf, IsOfNumbered, numbered_columns, register_columns};
-ghost use Rattle.zeb_register.specs.RowTerms.{ShowsLeast, ShowsGreatest, Reads};
+ghost use Rattle.zeb_register.specs.Clauses.{IsReasonedErrorInside, TakesInside, Writes};
+ghost use Rattle.zeb_register.specs.PrivateClauses.{IsHinderedErrorInside, IsReasonedError};
+ghost use Rattle.zeb_register.specs.PrivateHindrances.{HindersNew};
+ghost use Rattle.zeb_register.specs.PrivateKeyColumns.{HasTermOf, IsOfNumbered, numbered_columns, register_columns};
+ghost use Rattle.zeb_register.specs.PrivateRowTerms.{ShowsLeast, ShowsGreatest, ReadsRows};
 
 use crate::statements::keys::KeyOf;
 use crate::{RegFault, RegisterOf};
@@ -148,7 +148,7 @@ pub(crate) fn rows_from<S: Alter>(
     start: &str,
 ) -> Result<Vec<Row>, Error>
     ensures call { Reading (state S.Store conn.old) (state S.Store conn.new) result
-        (λ rows a b. Reads (λ trees. ShowsLeast (λ term. HasTermOf at trees term
+        (λ rows a b. ReadsRows (λ trees. ShowsLeast (λ term. HasTermOf at trees term
         × (is_lt (slice_cmp nat_cmp term start.now) ≡ false))) a b rows.items) }
     ensures err { IsReasonedError (state S.Store conn.old) (state S.Store conn.new) result }
 {
@@ -169,7 +169,7 @@ pub(crate) fn rows_before<S: Alter>(
     start: &str,
 ) -> Result<Vec<Row>, Error>
     ensures call { Reading (state S.Store conn.old) (state S.Store conn.new) result
-        (λ rows a b. Reads (λ trees. ShowsGreatest (λ term. HasTermOf at trees term
+        (λ rows a b. ReadsRows (λ trees. ShowsGreatest (λ term. HasTermOf at trees term
         × (is_lt (slice_cmp nat_cmp term start.now) ≡ true))) a b rows.items) }
     ensures err { IsReasonedError (state S.Store conn.old) (state S.Store conn.new) result }
 {

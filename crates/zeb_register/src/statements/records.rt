@@ -5,11 +5,12 @@ ghost use Rattle.sqlite.specs.Held.{state};
 ghost use Rattle.sqlite.specs.declared.types.Value.TheVariants.{Int};
 ghost use Rattle.zeb_register.specs.Sql.{IsListOf, Loses, Replaces};
 ghost use Rattle.zeb_register.specs.Store.{records_tree, record_row, HasNumber, SharesRecord, IsRecordIn, IsRest};
-ghost use Rattle.zeb_register.specs.RowStatements.{IsElderRow, IsIdentRow, IsRestAtLeast, Lists, ListsInside, ShowsCount};
-ghost use Rattle.zeb_register.specs.RowTerms.{Reads};
+ghost use Rattle.zeb_register.specs.PrivateRowStatements.{IsElderRow, IsIdentRow, IsRestAtLeast, Lists, ListsInside, ShowsCount};
+ghost use Rattle.zeb_register.specs.PrivateRowTerms.{ReadsRows};
 ghost use Rattle.zeb_register.specs.Calls.{Inside, Reading};
 ghost use Rattle.zeb_register.specs.Clauses.{Writes};
-ghost use Rattle.zeb_register.specs.Clauses.{IsHinderedErrorInside, IsReasonedError, IsReasonedErrorInside, TakesInside};
+ghost use Rattle.zeb_register.specs.Clauses.{IsReasonedErrorInside, TakesInside};
+ghost use Rattle.zeb_register.specs.PrivateClauses.{IsHinderedErrorInside, IsReasonedError};
 ghost use Rattle.zeb_register.specs.Hindrances.{Hinders};
 
 use crate::RegFault;
@@ -108,7 +109,7 @@ pub(crate) fn record_rows<S: Alter>(conn: &mut Connection<S>, db: i64) -> Result
 /// How many records a database has: one row, with one number.
 pub(crate) fn count_rows<S: Alter>(conn: &mut Connection<S>, db: i64) -> Result<Vec<Row>, Error>
     ensures call { Reading (state S.Store conn.old) (state S.Store conn.new) result
-        (λ rows a b. Reads (ShowsCount db) a b rows.items) }
+        (λ rows a b. ReadsRows (ShowsCount db) a b rows.items) }
     ensures err { IsReasonedError (state S.Store conn.old) (state S.Store conn.new) result }
 {
     // What is seen outside a transaction is what was committed.
@@ -123,7 +124,7 @@ pub(crate) fn rows_from<S: Alter>(
     start: i64,
 ) -> Result<Vec<Row>, Error>
     ensures call { Reading (state S.Store conn.old) (state S.Store conn.new) result
-        (λ rows a b. Reads (λ trees rows. (all : List _) × IsListOf (IsRestAtLeast records_tree (Int db ∷ []) start trees) all
+        (λ rows a b. ReadsRows (λ trees rows. (all : List _) × IsListOf (IsRestAtLeast records_tree (Int db ∷ []) start trees) all
         × (rows ≡ take 1 all)) a b rows.items) }
     ensures err { IsReasonedError (state S.Store conn.old) (state S.Store conn.new) result }
 {

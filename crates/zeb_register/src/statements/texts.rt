@@ -4,10 +4,11 @@ ghost use Rattle.std.specs.Prelude.{◌≡◌};
 ghost use Rattle.sqlite.specs.Held.{state};
 ghost use Rattle.zeb_register.specs.Sql.{HasRow, Replaces};
 ghost use Rattle.zeb_register.specs.Store.{meta_tree, entry, IsEntryOf};
-ghost use Rattle.zeb_register.specs.RowStatements.{IsValueRow, Lists};
+ghost use Rattle.zeb_register.specs.PrivateRowStatements.{IsValueRow, Lists};
 ghost use Rattle.zeb_register.specs.Calls.{Reading};
 ghost use Rattle.zeb_register.specs.Clauses.{Writes};
-ghost use Rattle.zeb_register.specs.Clauses.{IsHinderedErrorInside, IsReasonedError, TakesInside};
+ghost use Rattle.zeb_register.specs.Clauses.{TakesInside};
+ghost use Rattle.zeb_register.specs.PrivateClauses.{IsHinderedErrorInside, IsReasonedError};
 ghost use Rattle.zeb_register.specs.Hindrances.{Hinders};
 
 use crate::RegFault;

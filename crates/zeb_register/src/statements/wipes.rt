@@ -2,7 +2,7 @@
 
 ghost use Rattle.std.specs.Prelude.{◌≡◌};
 ghost use Rattle.sqlite.specs.Held.{state};
-ghost use Rattle.zeb_register.specs.RowStatements.{Empties};
+ghost use Rattle.zeb_register.specs.PrivateRowStatements.{Empties};
 ghost use Rattle.zeb_register.specs.Clauses.{IsReasonedErrorInside, Writes};
 
 use crate::RegFault;

@@ -4,7 +4,7 @@ use Rattle.sqlite_rules.specs.Lists.{Has}
 use Rattle.zeb_keys.specs.declared.keys.Occurrence.{Occurrence}
 use Rattle.zeb_keys.specs.Order.{IsRising}
 use Rattle.zeb_change.specs.PrivateKeyRuns.{AreOfKey, Stops}
-use Rattle.zeb_change.specs.PrivateChangedKeys.{IsNoted, place_in}
+use Rattle.zeb_change.specs.PrivateChangedKeys.{IsAddedIfChanged, place_in}
 use Rattle.zeb_change.proofs.changed_keys.changed_keys.Goals as goal
 
 pub loop-key-init : goal.loop-key-init
@@ -35,7 +35,7 @@ loop-key-preserved c =
     ] in
     let elder_run = λ (up : IsRising elder). cut_run key elder run_elder rest_elder cut_elder up low.0 of_elder stops_elder in
     let newer_run = λ (up : IsRising newer). cut_run key newer run_newer rest_newer cut_newer up low.1 of_newer stops_newer in
-    let noted : IsNoted key (map place_in run_elder) (map place_in run_newer) c.loop-key.changed.items c.note.new.changed.items = rw (← c.in_ok-old.ensures, ← c.in_ok-new.ensures) c.in_ok-note.ensures in
+    let noted : IsAddedIfChanged key (map place_in run_elder) (map place_in run_newer) c.loop-key.changed.items c.note.new.changed.items = rw (← c.in_ok-old.ensures, ← c.in_ok-new.ensures) c.in_ok-note.ensures in
     record {
       rising = λ one other. let up = c.loop-key.invariant.rising one other in ((elder_run up.0).rest_up, (newer_run up.1).rest_up);
       so_far = λ one other.

@@ -3,12 +3,12 @@ use Rattle.sqlite.specs.Held.{state}
 use Rattle.sqlite.specs.State.{HasCleanDisk}
 use Rattle.zeb_marc.specs.Splits.{next_of, split_of}
 use Rattle.zeb_change.specs.Refused.{why_of, Meets}
-use Rattle.zeb_change.specs.Folding.{Progress, folded, file_folded}
-use Rattle.zeb_change.specs.Reading.{ReadsNext}
+use Rattle.zeb_change.specs.Folding.{Progress, record_folded, file_folded}
+use Rattle.zeb_change.specs.PrivateReading.{ReadsNext}
 use Rattle.zeb_change.specs.PrivateStanding.{WillBeFolded, WillHoldSome, standing}
 use Rattle.zeb_change.specs.UnderWay.{conditions_of}
 use Rattle.zeb_change.proofs.FoldsOn.{folds_on, same_id, still_some, still_way}
-use Rattle.zeb_change.proofs.FoldFiles.{Good, at_first, ended, faulty, record_refused, record_taken, sound, told_end}
+use Rattle.zeb_change.proofs.FoldFiles.{Good, before_first, ended, faulty, record_refused, record_taken, sound, told_end}
 use Rattle.zeb_change.specs.Costs.{IsCostIn, IsSlicesCost, newer_of}
 use Rattle.zeb_change.proofs.FoldCosts.{none_spent, spent_more, all_spent, end_cost, slice_cost}
 use Rattle.zeb_register.specs.Calls.{MayRefuse}
@@ -29,7 +29,7 @@ use Rattle.zeb_change.proofs.files.fold_file.Goals.{After-take_record}
 use Rattle.zeb_change.proofs.files.fold_file.Goals as goal
 
 pub loop-nth-init : goal.loop-nth-init
-unfolding at_first
+unfolding before_first
 loop-nth-init g c = record {
   same = refl;
   on = record { crash = search rules; stays = search rules; database = refl; honest = λ clean mode records_of some. some };
@@ -38,7 +38,7 @@ loop-nth-init g c = record {
   room = λ clean mode text told records_of some most places rowids asks spare more has. record { left = text; remains = told; places = places; rowids = rowids; asks = asks; room = has };
   elder = λ clean mode store below text told. inl (store, refl, refl, told);
   under = λ clean mode text told version records_of p stands under_way. (
-    at_first g.L.Layout.format (conditions_of version c.args.setting.now) c.args.setting.now.kind c.args.file c.args.fold.now.progress.database.0 records_of text
+    before_first g.L.Layout.format (conditions_of version c.args.setting.now) c.args.setting.now.kind c.args.file c.args.fold.now.progress.database.0 records_of text
         (g.R.Source.remaining c.args.reader.now) (standing (state g.S.Store c.args.tx.now.conn.now) c.args.pending.now) c.args.fold.now p told stands under_way,
     none_spent g.L.Layout.row_work (IsSlicesCost (conditions_of version c.args.setting.now) c.args.setting.now.kind c.args.file 1 (split_of text).slices p) c.args.fold.now.progress.work c.args.pending.now,
   );
@@ -87,7 +87,7 @@ returns-in_err-take_record-clause-folded g c = λ clean mode text told sound ver
       | inl failed ↦ inl failed
       | inr why ↦ inr (record_refused g.L.Layout.format conditions setting.kind c.args.file c.loop-nth.nth id records_of said (g.R.Source.remaining c.loop-nth.reader) old now c.loop-nth.fold under
           c.read_record.new.buffer (g.R.Source.remaining c.read_record.new.reader) read _
-          (subst (λ bytes. folded conditions setting.kind c.args.file c.loop-nth.nth bytes under.progress ≡ Err (why_of c.in_err-take_record.field-0.0)) c.bytes.ensures why))
+          (subst (λ bytes. record_folded conditions setting.kind c.args.file c.loop-nth.nth bytes under.progress ≡ Err (why_of c.in_err-take_record.field-0.0)) c.bytes.ensures why))
     ])
 
 -- ---- where there is room
@@ -207,7 +207,7 @@ loop-nth-preserved g c =
           let said = file_folded conditions setting.kind c.args.file (split_of text) p in
           let further = record_taken g.L.Layout.format conditions setting.kind c.args.file c.loop-nth.nth id records_of said (g.R.Source.remaining c.loop-nth.reader) old now c.loop-nth.fold under
           c.read_record.new.buffer (g.R.Source.remaining c.read_record.new.reader) read next c.take_record.new.fold
-          (subst₂ (λ i bytes. Meets {A = Progress} {X = Unit {0}} (λ q _. WillBeFolded g.L.Layout.format setting.profile.now i records_of now next c.take_record.new.fold q) (folded conditions setting.kind c.args.file c.loop-nth.nth bytes under.progress) (Ok (tt {0})))
+          (subst₂ (λ i bytes. Meets {A = Progress} {X = Unit {0}} (λ q _. WillBeFolded g.L.Layout.format setting.profile.now i records_of now next c.take_record.new.fold q) (record_folded conditions setting.kind c.args.file c.loop-nth.nth bytes under.progress) (Ok (tt {0})))
           (same_id c.loop-nth.invariant.on) c.bytes.ensures took) in
           let worked = c.in_ok-take_record.ensures.work clean (c.loop-nth.invariant.on.stays was mode).mode version records_of under.progress under.is_folded.stands way in
           let cost = subst (λ (bytes : List ℕ). IsCostIn setting.profile.now setting.kind bytes under.progress.base worked.0) c.bytes.ensures worked.1 in (

@@ -19,7 +19,7 @@ use Rattle.zeb_change.specs.Refused.{Meets}
 use Rattle.zeb_change.specs.UnderWay.{IsFolded, conditions_of}
 use Rattle.zeb_change.proofs.CostLemmas.{due_end}
 use Rattle.zeb_change.proofs.NotedChanges.{nothing_count}
-use Rattle.zeb_change.proofs.Settling.{WritesNoted, at_id, begun, ended, ended_fold, refused_fold, settled_due, settled_fold, settled_holds, worked, write_honest, write_refused}
+use Rattle.zeb_change.proofs.SettledChanges.{WritesNoted, at_id, begun, ended, ended_fold, refused_fold, settled_due, settled_fold, settled_holds, worked, write_honest, write_refused}
 use Rattle.zeb_change.proofs.FoldRoom.{room_begun, write_caused}
 use Rattle.zeb_change.proofs.RecordRoom.{not_refused, one_refusal, only_store}
 use Rattle.zeb_change.specs.Elders.{FirstFindsWhole}

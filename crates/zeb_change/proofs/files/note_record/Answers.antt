@@ -1,7 +1,7 @@
 use Rattle.std.proofs.Common.{rules, arith, ◌≡◌, true, false, inl, inr, sym, nat_le, [], Err, ap, subst}
 use Rattle.std.proofs.lemmas.Bool.Decides.{nat_tests}
 use Rattle.sqlite.specs.Held.{state}
-use Rattle.zeb_change.specs.Folding.{Progress, changed_record, folded}
+use Rattle.zeb_change.specs.Folding.{Progress, changed_record, record_folded}
 use Rattle.zeb_change.specs.declared.files.Fold.{Fold}
 use Rattle.zeb_change.specs.declared.tally.Fate.{Fate}
 use Rattle.zeb_change.specs.PrivateStanding.{WillBeFolded, WillBeTaken, standing}
@@ -23,7 +23,7 @@ returns-in_err-fate-clause-folded g c = λ clean mode format version records_of 
     let room : nat_le c.args.setting.now.limits.records p.taken ≡ false = grind (arith, nat_tests, c.if-fold-setting.false, stands.taken) in
     let told : c.from_residual.result ≡ Err c.in_err-fate.field-0.0 = search rules in
     let new : Fold = record { progress = c.change_record.new.progress; tally = c.args.fold.now.tally } in
-    let said = folded (conditions_of version c.args.setting.now) c.args.setting.now.kind c.args.incoming.file c.args.incoming.nth c.args.incoming.bytes.now p in
+    let said = record_folded (conditions_of version c.args.setting.now) c.args.setting.now.kind c.args.incoming.file c.args.incoming.nth c.args.incoming.bytes.now p in
     subst (λ r. Meets {A = Progress} {X = Unit {0}} (λ after _. WillBeFolded format c.args.setting.now.profile.now c.args.fold.now.progress.database.0 records_of (standing (state g.S.Store c.args.tx.now.conn.now) c.args.pending.now) (standing (state g.S.Store c.change_record.new.tx.conn.now) c.change_record.new.pending) new after) said r)
     (sym told)
     (elim (c.in_err-fate.ensures.taken clean mode version format records_of p.base stands.last under_way) [

@@ -6,7 +6,7 @@ use Rattle.zeb_register.proofs.Causes.{may_after}
 use Rattle.zeb_change.specs.Asked.{WritesInRoom}
 use Rattle.zeb_change.specs.declared.refusals.Refusal.TheVariants.{Damaged, Store}
 use Rattle.zeb_change.specs.Base.{Kept}
-use Rattle.zeb_change.specs.Folding.{Progress, folded}
+use Rattle.zeb_change.specs.Folding.{Progress, record_folded}
 use Rattle.zeb_change.specs.Noted.{IsDueFor}
 use Rattle.zeb_change.specs.Outcomes.{register_refusal}
 use Rattle.zeb_change.specs.PrivateStanding.{WillBeFolded, WillHoldSome, standing}
@@ -15,7 +15,7 @@ use Rattle.zeb_change.specs.UnderWay.{conditions_of}
 use Rattle.zeb_change.proofs.CostLemmas.{due_more}
 use Rattle.zeb_change.proofs.FoldRoom.{write_caused, write_left}
 use Rattle.zeb_change.proofs.RecordRoom.{not_refused, only_store, refused_for}
-use Rattle.zeb_change.proofs.Settling.{WritesNoted, at_id, settled_due, settled_fold, settled_holds, worked, write_honest, write_refused}
+use Rattle.zeb_change.proofs.SettledChanges.{WritesNoted, at_id, settled_due, settled_fold, settled_holds, worked, write_honest, write_refused}
 use Rattle.zeb_change.proofs.TransactionLemmas.{continues_then}
 use Rattle.zeb_change.specs.declared.refusals.Refusal.{Refusal}
 use Rattle.zeb_change.specs.Elders.{FindsWhole}
@@ -60,7 +60,7 @@ returns-in_err-note_record-clause-folded g c clean mode version records_of p sta
     let setting = c.args.setting.now in
     let old = standing (state g.S.Store c.args.tx.now.conn.now) c.args.pending.now in
     let new = standing (state g.S.Store c.note_record.new.tx.conn.now) c.note_record.new.pending in
-    let said = folded (conditions_of version setting) setting.kind c.args.incoming.file c.args.incoming.nth c.args.incoming.bytes.now p in
+    let said = record_folded (conditions_of version setting) setting.kind c.args.incoming.file c.args.incoming.nth c.args.incoming.bytes.now p in
     let result : c.from_residual.result ≡ Err c.in_err-note_record.field-0.0 = search rules in
     subst (λ r. Meets {A = Progress} {X = Unit {0}} (λ after _. WillBeFolded g.L.Layout.format setting.profile.now c.args.fold.now.progress.database.0 records_of old new c.note_record.new.fold after) said r)
     (sym result) (c.in_err-note_record.ensures.folded clean mode g.L.Layout.format version records_of p stands under)
@@ -79,7 +79,7 @@ returns-in_err-write_where_full-clause-folded g c clean mode version records_of 
     let old = standing (state g.S.Store c.args.tx.now.conn.now) c.args.pending.now in
     let new = standing (state g.S.Store c.write_where_full.new.tx.conn.now) c.write_where_full.new.pending in
     let after = worked c.note_record.new.fold c.write_where_full.new.work in
-    let said = folded (conditions_of version setting) setting.kind c.args.incoming.file c.args.incoming.nth c.args.incoming.bytes.now p in
+    let said = record_folded (conditions_of version setting) setting.kind c.args.incoming.file c.args.incoming.nth c.args.incoming.bytes.now p in
     let fault = c.in_err-write_where_full.field-0.0 in
     let result : c.from_residual-in_err-write_where_full.result ≡ Err (register_refusal fault) = search rules in
     write_refused (written g (goal.at.returns-in_err-write_where_full-clause-folded g c).After-write_where_full clean mode records_of (p.base, stands.last, under)) fault c.in_err-write_where_full.was
@@ -99,7 +99,7 @@ returns-clause-folded g c clean mode version records_of p stands under =
     let setting = c.args.setting.now in
     let write = written g (goal.at.returns-clause-folded g c).After-write_where_full clean mode records_of (p.base, stands.last, under) in
     settled_fold write c.in_ok-write_where_full.was (standing (state g.S.Store c.args.tx.now.conn.now) c.args.pending.now)
-    (folded (conditions_of version setting) setting.kind c.args.incoming.file c.args.incoming.nth c.args.incoming.bytes.now p)
+    (record_folded (conditions_of version setting) setting.kind c.args.incoming.file c.args.incoming.nth c.args.incoming.bytes.now p)
     (c.in_ok-note_record.ensures.folded write.was mode g.L.Layout.format version records_of p stands under)
 
 pub returns-clause-honest : goal.returns-clause-honest

@@ -16,8 +16,8 @@ use Rattle.zeb_register.specs.Hindrances.{rows_of}
 use Rattle.zeb_change.specs.Asked.{PutAmong}
 use Rattle.zeb_change.proofs.CostLemmas.{keys_cost}
 use Rattle.zeb_change.proofs.PutKeys.{few_put, fits_put, places_put, storable_put}
-use Rattle.zeb_change.proofs.Idle.{none_changed}
-use Rattle.zeb_change.proofs.Leading.{leads_more}
+use Rattle.zeb_change.proofs.EqualReplacements.{none_changed}
+use Rattle.zeb_change.proofs.LeadsToContent.{leads_more}
 use Rattle.zeb_change.proofs.noting.note_keys.Goals as goal
 
 map_same : {A : Type 0} (xs : List A) → map (λ y. y) xs ≡ xs

@@ -28,7 +28,7 @@ use Rattle.zeb_change.specs.Noted.{noted_count}
 use Rattle.zeb_change.proofs.CostLemmas.{cost_in, same_cost, ok_so}
 use Rattle.zeb_change.proofs.BaseLemmas.{one_ident}
 use Rattle.zeb_change.proofs.FoldLemmas.{named_record}
-use Rattle.zeb_change.proofs.Idle.{elder_alike, updated_alike}
+use Rattle.zeb_change.proofs.EqualReplacements.{elder_alike, updated_alike}
 use Rattle.zeb_change.specs.Asked.{AsksRecord}
 use Rattle.zeb_change.specs.PrivateAsked.{HasRoomAt, KeepsRoom, TakesRoom}
 use Rattle.zeb_change.proofs.RecordRoom.{only_store, refused_for, room_after_reading, room_enough, room_seen}

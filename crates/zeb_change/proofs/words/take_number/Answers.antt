@@ -1,5 +1,5 @@
 use Rattle.std.proofs.Common.{◌≡◌, ◌∙◌, ◌∷◌, ℕ, ap, sym, subst, arith}
-use Rattle.zeb_change.specs.PrivateNotes.{TakesNumber}
+use Rattle.zeb_change.specs.PrivateNoteWords.{TakesNumber}
 use Rattle.zeb_change.proofs.NoteWords.{takes_narrow, takes_nothing, takes_wide}
 use Rattle.zeb_change.proofs.words.take_number.Goals as goal
 

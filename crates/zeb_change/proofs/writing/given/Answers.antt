@@ -5,7 +5,7 @@ use Rattle.std.proofs.lemmas.List.Sorted.{IsNonDecreasingBy-from_sort_by_key, an
 use Rattle.zeb_register.specs.declared.registers.RecordChange.{RecordChange}
 use Rattle.zeb_change.specs.declared.key_notes.PlaceCounts.{PlaceCounts}
 use Rattle.zeb_change.specs.PrivatePending.{number_in}
-use Rattle.zeb_change.proofs.Leading.{all_given, one_given}
+use Rattle.zeb_change.proofs.LeadsToContent.{all_given, one_given}
 use Rattle.zeb_change.proofs.writing.given.Goals as goal
 
 pub loop-count-preserved : goal.loop-count-preserved

@@ -1,5 +1,5 @@
 use Rattle.std.proofs.Common.{◌≡◌, length}
-use Rattle.zeb_change.proofs.Leading.{AreGivenSoFar}
+use Rattle.zeb_change.proofs.LeadsToContent.{AreGivenSoFar}
 use Rattle.zeb_change.proofs.writing.given.Given as goal
 
 abbrev pub invariant-loop-count : goal.invariant-loop-count

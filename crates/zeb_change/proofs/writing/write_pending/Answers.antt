@@ -7,8 +7,8 @@ use Rattle.zeb_register.proofs.Causes.{may_after}
 use Rattle.zeb_change.proofs.Asked.{first_known, none_known}
 use Rattle.zeb_change.proofs.ChangeKeysContent.{keeps_then}
 use Rattle.zeb_change.proofs.CostLemmas.{due_nothing, due_written}
-use Rattle.zeb_change.proofs.Leading.{held_then, nothing_more, put_one}
-use Rattle.zeb_change.proofs.Settling.{still_settled}
+use Rattle.zeb_change.proofs.LeadsToContent.{held_then, nothing_more, put_one}
+use Rattle.zeb_change.proofs.SettledChanges.{still_settled}
 use Rattle.zeb_change.proofs.TransactionLemmas.{kept_then}
 use Rattle.zeb_change.proofs.writing.write_pending.Goals as goal
 

@@ -1,6 +1,6 @@
 use Rattle.std.proofs.Common.{rules}
 use Rattle.sqlite.specs.Held.{state}
-use Rattle.zeb_change.proofs.Settling.{still_settled}
+use Rattle.zeb_change.proofs.SettledChanges.{still_settled}
 use Rattle.zeb_change.proofs.writing.write_where_full.Goals as goal
 
 pub returns-clause-room : goal.returns-clause-room

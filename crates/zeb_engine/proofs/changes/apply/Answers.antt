@@ -1,4 +1,4 @@
-use Rattle.std.proofs.Common.{rules, arith, ◌≡◌, ◌∙◌, ◌≤◌, length, inr, pos, Result, Ok, Err, inl, refl, sym, ap, subst}
+use Rattle.std.proofs.Common.{rules, arith, ◌≡◌, ◌∙◌, ◌≤◌, ◌<◌, length, inr, pos, Result, Ok, Err, inl, refl, sym, ap, subst}
 use Rattle.sqlite.specs.Held.{state}
 use Rattle.sqlite.specs.State.{HasCleanDisk, KeepsCommit}
 use Rattle.zeb_register.specs.Catalog.{PutsDatabase}
@@ -11,17 +11,20 @@ use Rattle.zeb_change.specs.UnderWay.{IsFolded}
 use Rattle.zeb_change.proofs.TransactionLemmas.{kept_then, goes_on}
 use Rattle.zeb_change.proofs.UnderWay.{fault_fails}
 use Rattle.zeb_image.specs.NameOf.{name_bytes}
+use Rattle.zeb_engine.specs.declared.replies.Reply.{Reply}
 use Rattle.zeb_engine.specs.declared.replies.Reply.TheVariants as reply
 use Rattle.zeb_engine.specs.PrivateChanging.{MayBegin, comes_to}
-use Rattle.zeb_engine.specs.Works.{Works}
+use Rattle.zeb_engine.specs.PrivateWorks.{ReachesOutcome}
 use Rattle.zeb_engine.proofs.ChangeWay.{change_begun, change_done, change_led, change_refused, change_way, under_change}
-use Rattle.zeb_engine.proofs.Honest.{failure_honest}
+use Rattle.zeb_engine.proofs.NoDamageAnswered.{failure_honest}
 use Rattle.zeb_engine.proofs.WriteSteps.{Leads}
 use Rattle.zeb_register.proofs.Causes.{may_after}
 use Rattle.zeb_register.proofs.TakenRowids.{has_less}
 use Rattle.zeb_change.specs.UnderWay.{conditions_of}
 use Rattle.zeb_change.proofs.RecordRoom.{not_refused, one_refusal, only_store, rowids_same}
+use Rattle.zeb_engine.proofs.ChangeElders.{few_elder, put_elder}
 use Rattle.zeb_engine.proofs.ChangeRoom.{begin_below, room_behind, row_served}
+use Rattle.zeb_engine.proofs.OverTables.{fault_few}
 use Rattle.zeb_engine.proofs.changes.apply.Goals as goal
 use Rattle.zeb_register.specs.Formats.{version_of}
 
@@ -40,7 +43,7 @@ returns-in_err-fold_files-clause-works g c = λ clean inside opened texts told f
     let first : HasCleanDisk mid = omega (arith, c.fold_files.ensures.crash.clean) in
     let on = c.in_ok-database.ensures.call.ok first inside in
     let kept : KeepsCommit old new = kept_then old mid new (goes_on old mid on) (c.in_err-fold_files.ensures.stays clean on.mode) in
-    subst (Works (MayBegin (version_of format) change.setting name change.found) (comes_to (version_of format) change.setting name texts) old new) (sym result) (
+    subst (ReachesOutcome (MayBegin (version_of format) change.setting name change.found) (comes_to (version_of format) change.setting name texts) old new) (sym result) (
       kept,
       λ before known sees.
           let at = sees opened in
@@ -67,7 +70,7 @@ returns-in_err-database_put-clause-works g c = λ clean inside opened texts told
     let on = c.in_ok-database.ensures.call.ok first inside in
     let further = c.in_ok-fold_files.ensures.stays second on.mode in
     let kept : KeepsCommit old new = kept_then old mid new (goes_on old mid on) (kept_then mid now new further (c.in_err-database_put.ensures.call.err clean further.mode)) in
-    subst (Works (MayBegin (version_of format) change.setting name change.found) (comes_to (version_of format) change.setting name texts) old new) (sym result) (
+    subst (ReachesOutcome (MayBegin (version_of format) change.setting name change.found) (comes_to (version_of format) change.setting name texts) old new) (sym result) (
       kept,
       λ before known sees.
           let at = sees opened in
@@ -243,3 +246,50 @@ returns-in_err-database_put-clause-room g c clean inside texts told fine before 
 
 pub returns-clause-room : goal.returns-clause-room
 returns-clause-room g c clean inside texts told fine before known store image room refused = absurd (not_refused _ Store refused)
+
+-- ---- what is kept under the first record's identifier
+
+pub returns-in_err-database-clause-elder : goal.returns-in_err-database-clause-elder
+returns-in_err-database-clause-elder g c clean inside store texts told fine =
+    let change = c.args.change.now in
+    let fault = c.in_err-database.field-0.0 in
+    let result : c.from_residual.result ≡ Err (register_refusal fault) = search rules in
+    few_elder change.setting.profile.now (name_bytes change.name.now) texts (state g.S.Store c.args.tx.now.conn.now).now.trees (register_refusal fault) c.from_residual.result result (fault_few fault)
+
+pub returns-in_err-fold_files-clause-elder : goal.returns-in_err-fold_files-clause-elder
+returns-in_err-fold_files-clause-elder g c clean inside store texts told fine =
+    let old = state g.S.Store c.args.tx.now.conn.now in
+    let mid = state g.S.Store c.database_put.new.tx.conn.now in
+    let change = c.args.change.now in
+    let name = name_bytes change.name.now in
+    let id = c.in_ok-database.database.0 in
+    let refusal = c.in_err-fold_files.field-0.0 in
+    let result : c.from_residual-in_err-fold_files.result ≡ Err refusal = search rules in
+    let first : HasCleanDisk mid = omega (arith, c.fold_files.ensures.crash.clean) in
+    let on = c.in_ok-database.ensures.call.ok first inside in
+    let put = subst (λ n. Changes databases_tree (PutsDatabase id n (pos c.last-last.result)) old mid) c.as_str-name.ensures (c.in_ok-database.ensures.put first inside store) in
+    let some : 0 < change.setting.limits.records = omega (arith, change.setting.limits.some_record) in
+    let found = c.in_err-fold_files.ensures.elder clean on.mode put.layout (subst (λ n. n < change.setting.limits.records) (sym c.new.ensures.0) some) texts told fine in
+    rw result (put_elder change.setting.profile.now name texts {T = Reply} old mid id (pos c.last-last.result) (Err refusal) put found)
+
+pub returns-in_err-database_put-clause-elder : goal.returns-in_err-database_put-clause-elder
+returns-in_err-database_put-clause-elder g c clean inside store texts told fine =
+    let change = c.args.change.now in
+    let fault = c.in_err-database_put.field-0.0 in
+    let result : c.from_residual-in_err-database_put.result ≡ Err (register_refusal fault) = search rules in
+    few_elder change.setting.profile.now (name_bytes change.name.now) texts (state g.S.Store c.args.tx.now.conn.now).now.trees (register_refusal fault) c.from_residual-in_err-database_put.result result (fault_few fault)
+
+pub returns-clause-elder : goal.returns-clause-elder
+returns-clause-elder g c clean inside store texts told fine =
+    let old = state g.S.Store c.args.tx.now.conn.now in
+    let mid = state g.S.Store c.database_put.new.tx.conn.now in
+    let change = c.args.change.now in
+    let name = name_bytes change.name.now in
+    let id = c.in_ok-database.database.0 in
+    let second : HasCleanDisk (state g.S.Store c.fold_files.new.tx.conn.now) = omega (arith, c.database_put-2.ensures.call.crash.clean) in
+    let first : HasCleanDisk mid = omega (arith, c.fold_files.ensures.crash.clean) in
+    let on = c.in_ok-database.ensures.call.ok first inside in
+    let put = subst (λ n. Changes databases_tree (PutsDatabase id n (pos c.last-last.result)) old mid) c.as_str-name.ensures (c.in_ok-database.ensures.put first inside store) in
+    let some : 0 < change.setting.limits.records = omega (arith, change.setting.limits.some_record) in
+    let found = c.in_ok-fold_files.ensures.elder second on.mode put.layout (subst (λ n. n < change.setting.limits.records) (sym c.new.ensures.0) some) texts told fine in
+    put_elder change.setting.profile.now name texts {T = Reply} old mid id (pos c.last-last.result) (Ok c.changed.result) put found

@@ -3,21 +3,22 @@ use Rattle.sqlite.specs.Held.{state}
 use Rattle.sqlite.specs.State.{HasCleanDisk}
 use Rattle.zeb_register.specs.declared.catalog.Database.{Database}
 use Rattle.zeb_change.specs.declared.refusals.Refusal.TheVariants.{Memory, Store}
-use Rattle.zeb_engine.specs.PrivateChanging.{BeginsWith, comes_to}
+use Rattle.zeb_engine.specs.PrivateChanging.{MayBeginUnder, comes_to}
 use Rattle.zeb_change.specs.Base.{Base}
 use Rattle.zeb_image.specs.NameOf.{name_bytes}
 use Rattle.zeb_change.specs.Folding.{splits_of}
-use Rattle.zeb_engine.specs.Works.{IsReady, Serves}
+use Rattle.zeb_engine.specs.PrivateWorks.{IsReady, Serves}
 use Rattle.zeb_change.specs.UnderWay.{conditions_of}
 use Rattle.zeb_engine.proofs.ChangeBegins.{begins_still, start_refused}
-use Rattle.zeb_engine.proofs.Crashing.{survives_after}
-use Rattle.zeb_engine.proofs.Honest.{start_honest}
+use Rattle.zeb_engine.proofs.CommitCrashes.{survives_after}
+use Rattle.zeb_engine.proofs.NoDamageAnswered.{start_honest}
 use Rattle.zeb_engine.proofs.Readers.{no_file_failed}
-use Rattle.zeb_engine.proofs.Serving.{early_serves, opened_so}
+use Rattle.zeb_engine.proofs.ServesLemmas.{early_serves, opened_so}
 use Rattle.zeb_register.specs.Formats.{version_of}
 use Rattle.zeb_register.proofs.Causes.{may_after}
 use Rattle.zeb_change.specs.Refused.{why_of}
 use Rattle.zeb_change.proofs.RecordRoom.{one_refusal}
+use Rattle.zeb_engine.proofs.ChangeElders.{elder_after, few_elder, missed_elder}
 use Rattle.zeb_engine.proofs.ChangeRoom.{room_still, where_open}
 use Rattle.zeb_engine.proofs.changes.change_database.Goals as goal
 
@@ -34,7 +35,7 @@ returns-in_err-found-clause-serves g c = λ clean opened texts told fine.
     subst (Serves (IsReady k) outcome old new) (sym result)
     (early_serves outcome (IsReady k) old new refusal (c.found_for.ensures.same clean) (λ before fits keeps.
     let ready = fits opened in
-    start_refused {X = Option Database} (λ (base : Base) found. BeginsWith setting.kind name found k old.now.trees before × IsTrue new.is_open) k before name ready.0 ready.1 setting.kind (splits_of texts) refusal
+    start_refused {X = Option Database} (λ (base : Base) found. MayBeginUnder setting.kind name found k old.now.trees before × IsTrue new.is_open) k before name ready.0 ready.1 setting.kind (splits_of texts) refusal
     (c.in_err-found.ensures.begins clean opened k before ready.0 ready.1 keeps)))
 
 pub returns-in_err-buffer-clause-serves : goal.returns-in_err-buffer-clause-serves
@@ -83,7 +84,7 @@ returns-in_err-found-clause-honest g c clean opened before ready keeps =
     let refusal = c.in_err-found.field-0.0 in
     let result : c.from_residual.result ≡ Err refusal = search rules in
     let sound = start_honest refusal k before setting.kind name
-    (start_refused {X = Option Database} (λ (base : Base) found. BeginsWith setting.kind name found k old.now.trees before × IsTrue new.is_open) k before name ready.0 ready.1 setting.kind (splits_of []) refusal
+    (start_refused {X = Option Database} (λ (base : Base) found. MayBeginUnder setting.kind name found k old.now.trees before × IsTrue new.is_open) k before name ready.0 ready.1 setting.kind (splits_of []) refusal
     (c.in_err-found.ensures.begins clean opened k before ready.0 ready.1 keeps)) in
     rw result (λ is. sound cc)
 
@@ -134,3 +135,23 @@ returns-clause-room g c clean texts told fine before ready keeps room refused =
     let same = (c.found_for.ensures.same first known.0).1 in
     may_after old mid new c.found_for.ensures.crash (λ _. known.0) (λ _.
     c.transact.ensures.room clean texts told fine before known.1 known.2 (room_still g.L.Layout.format setting.profile.now setting.kind texts old mid same room) refused))
+
+-- ---- what is kept under the first record's identifier
+
+pub returns-in_err-found-clause-elder : goal.returns-in_err-found-clause-elder
+returns-in_err-found-clause-elder g c clean store texts told fine =
+    let refusal = c.in_err-found.field-0.0 in
+    let result : c.from_residual.result ≡ Err refusal = search rules in
+    missed_elder c.args.setting.profile.now (name_bytes c.args.name.now) texts (state g.S.Store c.args.connection.now).now.trees refusal c.from_residual.result result (c.in_err-found.ensures.misses clean store)
+
+pub returns-in_err-buffer-clause-elder : goal.returns-in_err-buffer-clause-elder
+returns-in_err-buffer-clause-elder g c clean store texts told fine =
+    let result : c.from_residual-in_err-buffer.result ≡ Err Memory = search rules in
+    few_elder c.args.setting.profile.now (name_bytes c.args.name.now) texts (state g.S.Store c.args.connection.now).now.trees Memory c.from_residual-in_err-buffer.result result (inr (inr refl))
+
+pub returns-clause-elder : goal.returns-clause-elder
+returns-clause-elder g c clean store texts told fine =
+    let mid = state g.S.Store c.found_for.new.connection in
+    let first : HasCleanDisk mid = omega (arith, c.transact.ensures.survives.clean) in
+    elder_after c.args.setting.profile.now (name_bytes c.args.name.now) texts (state g.S.Store c.args.connection.now) mid c.transact.result (c.found_for.ensures.same first) (c.in_ok-found.ensures.found first)
+    (λ there. c.transact.ensures.elder clean there texts told fine) store

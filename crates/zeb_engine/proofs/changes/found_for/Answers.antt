@@ -3,15 +3,15 @@ use Rattle.sqlite.specs.Held.{state}
 use Rattle.zeb_register.specs.declared.RegFault.{RegFault}
 use Rattle.zeb_register.specs.declared.RegFault.TheVariants as register
 use Rattle.zeb_register.specs.declared.catalog.Database.{Database}
-use Rattle.zeb_register.specs.Catalog.{IsDatabaseOf}
-use Rattle.zeb_engine.specs.PrivateChanging.{BeginsWith}
+use Rattle.zeb_register.specs.Catalog.{AreCountedDatabases, IsDatabaseOf}
+use Rattle.zeb_engine.specs.PrivateChanging.{MayBeginUnder}
 use Rattle.zeb_change.specs.Base.{Base}
 use Rattle.zeb_image.specs.Holdings.{base_named}
 use Rattle.zeb_image.specs.NameOf.{name_bytes}
 use Rattle.zeb_change.specs.Outcomes.{register_refusal}
 use Rattle.zeb_engine.specs.Steps.{start_of}
 use Rattle.zeb_engine.proofs.ChangeBegins.{update_begins}
-use Rattle.zeb_engine.proofs.ListedDatabases.{counted, fault_meets}
+use Rattle.zeb_engine.proofs.ListedDatabases.{counted, fault_meets, fault_misses}
 use Rattle.zeb_engine.proofs.ReadyImages.{image_some}
 use Rattle.zeb_engine.proofs.StoreCauses.{fault_caused, passed_cause}
 use Rattle.zeb_engine.proofs.changes.found_for.Goals as goal
@@ -25,7 +25,7 @@ returns-in_err-database_of-in-Update-clause-begins g c = λ clean opened under b
     let told : c.from_residual.result ≡ Err (register_refusal fault) = search rules in
     let at = keeps opened in
     let all = image_some under old.now.trees before bases is at.0.1 in
-    rw told (fault_meets {X = Option Database} (λ (base : Base) found. BeginsWith kind name found under old.now.trees before × IsTrue (state g.S.Store c.database_of.new.conn).is_open) (start_of kind name (base_named name bases)) fault (λ is_damaged.
+    rw told (fault_meets {X = Option Database} (λ (base : Base) found. MayBeginUnder kind name found under old.now.trees before × IsTrue (state g.S.Store c.database_of.new.conn).is_open) (start_of kind name (base_named name bases)) fault (λ is_damaged.
     let damaged : ◌≡◌ {A = Result (Option Database) RegFault} (Err fault) (Err register.Damaged) = ap Err is_damaged in
     c.in_err-database_of-in-Update.ensures.honest clean at.0.0 damaged (counted old.now.trees bases all.1.image.lists.id_of all.1.image.lists.listed c.as_str.result.now)))
 
@@ -45,3 +45,23 @@ returns-in_err-database_of-in-Update-clause-caused g c clean =
     let told : c.from_residual.result ≡ Err (register_refusal fault) = search rules in
     passed_cause (state g.S.Store c.args.connection.now) (state g.S.Store c.database_of.new.conn) (register_refusal fault) c.from_residual.result told
     (λ store. fault_caused fault (λ is. c.in_err-database_of-in-Update.ensures.refused clean store (ap Err is)))
+
+pub returns-in_err-database_of-in-Update-clause-misses : goal.returns-in_err-database_of-in-Update-clause-misses
+returns-in_err-database_of-in-Update-clause-misses g c clean store =
+    let trees = (state g.S.Store c.args.connection.now).now.trees in
+    let fault = c.in_err-database_of-in-Update.field-0.0 in
+    let told : c.from_residual.result ≡ Err (register_refusal fault) = search rules in
+    rw told (fault_misses trees (name_bytes c.args.name.now) fault (λ is.
+    let damaged : ◌≡◌ {A = Result (Option Database) RegFault} (Err fault) (Err register.Damaged) = ap Err is in
+    subst (λ n. ¬ AreCountedDatabases trees n) c.as_str.ensures (c.in_err-database_of-in-Update.ensures.honest clean store damaged)))
+
+pub returns-in_err-database-in-Delete-clause-misses : goal.returns-in_err-database-in-Delete-clause-misses
+returns-in_err-database-in-Delete-clause-misses g c clean store =
+    let told : c.from_residual-in_err-database-in-Delete.result ≡ Err c.in_err-database-in-Delete.field-0.0 = search rules in
+    rw told (c.in_err-database-in-Delete.ensures.misses clean store)
+
+pub returns-in_ok-database-in-Delete-clause-found : goal.returns-in_ok-database-in-Delete-clause-found
+returns-in_ok-database-in-Delete-clause-found g c clean = c.in_ok-database-in-Delete.ensures.found clean
+
+pub returns-in_ok-database-in-Delete-clause-misses : goal.returns-in_ok-database-in-Delete-clause-misses
+returns-in_ok-database-in-Delete-clause-misses g c clean store = tt

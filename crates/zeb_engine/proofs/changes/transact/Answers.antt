@@ -4,21 +4,23 @@ use Rattle.sqlite.specs.State.{HasCleanDisk}
 use Rattle.zeb_change.specs.declared.refusals.Refusal.{Refusal}
 use Rattle.zeb_change.specs.declared.refusals.Refusal.TheVariants.{Commit, Damaged, ReadFault, Store}
 use Rattle.zeb_engine.specs.declared.replies.Reply.{Reply}
-use Rattle.zeb_engine.specs.PrivateChanging.{BeginsWith, MayBegin, comes_to}
+use Rattle.zeb_engine.specs.PrivateChanging.{MayBeginUnder, MayBegin, comes_to}
 use Rattle.zeb_image.specs.Image.{IsImage}
 use Rattle.zeb_register.specs.Store.{IsStore}
 use Rattle.zeb_image.specs.NameOf.{name_bytes}
 use Rattle.zeb_change.specs.Reading.{NoneFailed}
-use Rattle.zeb_engine.specs.Works.{Serves}
+use Rattle.zeb_engine.specs.PrivateWorks.{Serves}
 use Rattle.zeb_change.specs.UnderWay.{conditions_of}
-use Rattle.zeb_engine.proofs.Crashing.{told_survives}
-use Rattle.zeb_engine.proofs.Serving.{refusal_serves, reply_serves}
+use Rattle.zeb_engine.proofs.CommitCrashes.{told_survives}
+use Rattle.zeb_engine.proofs.ServesLemmas.{refusal_serves, reply_serves}
 use Rattle.zeb_register.specs.Formats.{version_of}
 use Rattle.zeb_engine.specs.Costs.{Costs}
 use Rattle.zeb_image.specs.Holdings.{Holdings}
 use Rattle.zeb_register.specs.Calls.{MayRefuse}
 use Rattle.zeb_change.proofs.RecordRoom.{not_refused, one_refusal}
 use Rattle.zeb_engine.specs.Causes.{HasRoomToChange}
+use Rattle.zeb_engine.specs.AnyTables.{ElderOver}
+use Rattle.zeb_engine.proofs.ChangeElders.{found_elder}
 use Rattle.zeb_engine.proofs.ChangeRoom.{where_open}
 use Rattle.zeb_engine.proofs.WriteCauses.{may_later}
 use Rattle.zeb_engine.proofs.changes.transact.Goals as goal
@@ -89,7 +91,7 @@ returns-in_err-reply-clause-honest g c clean opened before known keeps =
     let begun = c.transaction-tx.ensures.begun in
     let change = c.args.change.now in
     let k = conditions_of (version_of g.L.Layout.format) change.setting in
-    let fits = BeginsWith change.setting.kind (name_bytes change.name.now) change.found k in
+    let fits = MayBeginUnder change.setting.kind (name_bytes change.name.now) change.found k in
     let end = c.drop-tx.new.self.0 in
     let late : HasCleanDisk (state g.S.Store end) = search rules in
     let refusal = c.in_err-reply.field-0.0 in
@@ -109,7 +111,7 @@ returns-clause-work g c = λ clean opened texts told before known keeps.
     let late : HasCleanDisk (state g.S.Store end) = search rules in
     let worked = c.in_ok-reply.ensures.work (omega (arith, c.commit.ensures.survives.clean)) (rw begun refl) texts told in
     let was = (keeps opened).0 in
-    let began = subst (λ (held : Held _). (before : Holdings) → BeginsWith change.setting.kind name change.found k (state g.S.Store held).now.trees before → IsStore (state g.S.Store held) → IsImage (state g.S.Store held).now.trees before
+    let began = subst (λ (held : Held _). (before : Holdings) → MayBeginUnder change.setting.kind name change.found k (state g.S.Store held).now.trees before → IsStore (state g.S.Store held) → IsImage (state g.S.Store held).now.trees before
     → Costs g.L.Layout.row_work k change.setting.kind name texts c.args.work.now c.apply.new.work before) begun worked in
     began before known (record { is = was.0.is; sound = was.0.sound; keyed = was.0.keyed }) was.1
 
@@ -145,3 +147,39 @@ returns-in_err-commit-clause-room g c clean texts told fine before known keeps r
 
 pub returns-clause-room : goal.returns-clause-room
 returns-clause-room g c clean texts told fine before known keeps room refused = absurd (not_refused _ Store refused)
+
+-- ---- what is kept under the first record's identifier
+
+pub returns-in_err-reply-clause-elder : goal.returns-in_err-reply-clause-elder
+returns-in_err-reply-clause-elder g c clean store texts told fine =
+    let begun = c.transaction-tx.ensures.begun in
+    let change = c.args.change.now in
+    let late : HasCleanDisk (state g.S.Store c.drop-tx.new.self.0) = search rules in
+    let refusal = c.in_err-reply.field-0.0 in
+    let result : c.from_residual.result ≡ Err refusal = search rules in
+    let there = subst (λ (held : Held _). IsStore (state g.S.Store held)) (sym begun) (record { is = store.is; sound = store.sound; keyed = store.keyed }) in
+    let said = c.in_err-reply.ensures.elder (omega (arith, c.drop-tx.ensures.survives.clean)) (rw begun refl) there texts told fine in
+    let was = subst (λ (held : Held _). ElderOver {T = Reply} change.setting.profile.now (name_bytes change.name.now) texts (state g.S.Store held).now.trees (Err refusal)) begun said in
+    rw result was
+
+pub returns-in_err-commit-clause-elder : goal.returns-in_err-commit-clause-elder
+returns-in_err-commit-clause-elder g c clean store texts told fine =
+    let begun = c.transaction-tx.ensures.begun in
+    let change = c.args.change.now in
+    let name = name_bytes change.name.now in
+    let late : HasCleanDisk (state g.S.Store c.commit.new.self.0) = search rules in
+    let reply = c.in_ok-reply.reply in
+    let there = subst (λ (held : Held _). IsStore (state g.S.Store held)) (sym begun) (record { is = store.is; sound = store.sound; keyed = store.keyed }) in
+    let said = c.in_ok-reply.ensures.elder (omega (arith, c.commit.ensures.survives.clean)) (rw begun refl) there texts told fine in
+    let was = subst (λ (held : Held _). ElderOver {T = Reply} change.setting.profile.now name texts (state g.S.Store held).now.trees (Ok reply)) begun said in
+    found_elder change.setting.profile.now name texts (state g.S.Store c.args.connection.now).now.trees reply c.from_residual-in_err-commit.result was
+
+pub returns-clause-elder : goal.returns-clause-elder
+returns-clause-elder g c clean store texts told fine =
+    let begun = c.transaction-tx.ensures.begun in
+    let change = c.args.change.now in
+    let late : HasCleanDisk (state g.S.Store c.commit.new.self.0) = search rules in
+    let reply = c.in_ok-reply.reply in
+    let there = subst (λ (held : Held _). IsStore (state g.S.Store held)) (sym begun) (record { is = store.is; sound = store.sound; keyed = store.keyed }) in
+    let said = c.in_ok-reply.ensures.elder (omega (arith, c.commit.ensures.survives.clean)) (rw begun refl) there texts told fine in
+    subst (λ (held : Held _). ElderOver {T = Reply} change.setting.profile.now (name_bytes change.name.now) texts (state g.S.Store held).now.trees (Ok reply)) begun said

@@ -5,8 +5,8 @@ use Rattle.sqlite.specs.Tree.{Trees}
 use Rattle.zeb_register.proofs.Calls.{nothing_still, nothing_then}
 use Rattle.zeb_register.specs.Kept.{AreReadable, IsFirstFrom}
 use Rattle.zeb_change.specs.Outcomes.{register_refusal}
-use Rattle.zeb_engine.proofs.Dumps.{all_readable, bytes_in, read_all, read_few, read_more}
-use Rattle.zeb_engine.proofs.Dumps.{below, none_below}
+use Rattle.zeb_engine.proofs.DumpAnswers.{all_readable, bytes_in, read_all, read_few, read_more}
+use Rattle.zeb_engine.proofs.DumpAnswers.{below, none_below}
 use Rattle.zeb_engine.proofs.ListedDatabases.{fault_fails}
 use Rattle.zeb_engine.proofs.OverTables.{fault_few}
 use Rattle.zeb_engine.proofs.ReadingOn.{ReadTo, none_left, read_next, read_none, read_stored, read_whole}

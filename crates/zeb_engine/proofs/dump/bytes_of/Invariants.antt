@@ -6,8 +6,8 @@ use Rattle.sqlite.specs.Tree.{Trees}
 use Rattle.zeb_register.specs.Calls.{ChangesNothing}
 use Rattle.zeb_change.specs.Base.{Kept}
 use Rattle.zeb_engine.specs.PrivateDumping.{KeepsBase}
-use Rattle.zeb_engine.specs.Works.{ShowsStore}
-use Rattle.zeb_engine.proofs.Dumps.{below}
+use Rattle.zeb_engine.specs.PrivateWorks.{ShowsStore}
+use Rattle.zeb_engine.proofs.DumpAnswers.{below}
 use Rattle.zeb_engine.proofs.ReadingOn.{ReadTo}
 use Rattle.zeb_engine.proofs.dump.bytes_of.Given as goal
 

@@ -11,8 +11,9 @@ use Rattle.zeb_engine.specs.AnyTables.{DumpOver, DumpTells}
 use Rattle.zeb_change.specs.Conditions.{conditions}
 use Rattle.zeb_image.specs.NameOf.{name_bytes}
 use Rattle.zeb_engine.specs.Steps.{dumped_by, dumped_in}
-use Rattle.zeb_engine.specs.Works.{Always, Serves}
-use Rattle.zeb_engine.proofs.Dumps.{Dumps, base_kept, dump_fails, dump_told, dump_unknown, unready_dumps}
+use Rattle.zeb_engine.specs.Works.{Always}
+use Rattle.zeb_engine.specs.PrivateWorks.{Serves}
+use Rattle.zeb_engine.proofs.DumpAnswers.{Dumps, base_kept, dump_fails, dump_told, dump_unknown, unready_dumps}
 use Rattle.zeb_engine.proofs.OverTables.{few_over, named_misses, over_after, unready_over}
 use Rattle.zeb_engine.proofs.Showing.{still_shows}
 use Rattle.zeb_engine.proofs.StoreCauses.{look_caused, passed_cause, refusal_after, two_leave}

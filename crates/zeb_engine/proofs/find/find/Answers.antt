@@ -23,8 +23,8 @@ use Rattle.zeb_image.specs.NameOf.{name_bytes}
 use Rattle.zeb_change.specs.Outcomes.{query_refusal, register_refusal}
 use Rattle.zeb_engine.specs.Steps.{FindAnswers}
 use Rattle.zeb_change.specs.Refused.{Meets}
-use Rattle.zeb_engine.proofs.Asked.{existing_ends, query_ends, refused_ends}
-use Rattle.zeb_engine.proofs.Finds.{asked_ends, asked_kept, found_ends, hits_answered, idents_readable, met_view, plan_ends}
+use Rattle.zeb_engine.proofs.ReadyQueries.{existing_ends, query_ends, refused_ends}
+use Rattle.zeb_engine.proofs.FindAnswers.{asked_ends, asked_kept, found_ends, hits_answered, idents_readable, met_view, plan_ends}
 use Rattle.zeb_engine.proofs.ListedDatabases.{fault_fails}
 use Rattle.zeb_engine.proofs.Lookups.{base_found, hits_asked, hits_found, still_holds}
 use Rattle.zeb_engine.proofs.FindRefusals.{asked_refused, asked_small, hits_refused, misses_refused, plan_refused, query_refused, show_refused}

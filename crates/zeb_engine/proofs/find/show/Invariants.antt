@@ -5,7 +5,7 @@ use Rattle.sqlite.specs.Tree.{Trees}
 use Rattle.zeb_register.specs.Calls.{ChangesNothing}
 use Rattle.zeb_search.specs.Registers.{has_ident_in}
 use Rattle.zeb_engine.specs.Finding.{AreShown}
-use Rattle.zeb_engine.specs.Works.{ShowsStore}
+use Rattle.zeb_engine.specs.PrivateWorks.{ShowsStore}
 use Rattle.zeb_engine.proofs.find.show.Given as goal
 
 abbrev pub invariant-loop-number : goal.invariant-loop-number

@@ -6,7 +6,7 @@ use Rattle.zeb_engine.specs.PrivateLooking.{FindsStanding, RefusesVersion, Tells
 use Rattle.zeb_engine.specs.declared.looks.Standing.{Standing}
 use Rattle.std.specs.Prelude.{Some}
 use Rattle.zeb_engine.specs.Readiness.{KeepsText, RefusesUpgrade}
-use Rattle.zeb_engine.proofs.Looking.{look_settles, one_readable, profile_as_layout, standing_changed, standing_none, text_ends, text_settles, upgradable_so}
+use Rattle.zeb_engine.proofs.TextLooks.{look_settles, one_readable, profile_as_layout, standing_changed, standing_none, text_ends, text_settles, upgradable_so}
 use Rattle.std.proofs.Common.{refl}
 use Rattle.zeb_engine.proofs.StoreCauses.{look_caused, passed_cause}
 use Rattle.zeb_engine.proofs.looks.check_layout.Goals as goal

@@ -8,7 +8,7 @@ use Rattle.zeb_register.specs.Formats.{version_of}
 use Rattle.zeb_change.specs.declared.refusals.Refusal.TheVariants.{IdentifierRuleChanged, OldFormat}
 use Rattle.zeb_engine.specs.PrivateLooking.{RefusesVersion, TellsText}
 use Rattle.zeb_engine.specs.Readiness.{IsReadyToReindex, KeepsText, RefusesReindex}
-use Rattle.zeb_engine.proofs.Looking.{look_settles, one_readable, pattern_as_rule, rule_differs, text_ends, text_settles}
+use Rattle.zeb_engine.proofs.TextLooks.{look_settles, one_readable, pattern_as_rule, rule_differs, text_ends, text_settles}
 use Rattle.zeb_engine.proofs.Ready.{texts_agree, texts_differ}
 use Rattle.zeb_engine.proofs.ReadyTexts.{other_text}
 use Rattle.zeb_engine.proofs.StoreCauses.{look_caused, passed_cause}

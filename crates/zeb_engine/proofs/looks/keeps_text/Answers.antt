@@ -6,7 +6,7 @@ use Rattle.zeb_register.specs.declared.RegFault.{RegFault}
 use Rattle.zeb_register.specs.declared.RegFault.TheVariants as register
 use Rattle.zeb_change.specs.Outcomes.{register_refusal}
 use Rattle.zeb_engine.specs.PrivateLooking.{RefusesText, TellsText}
-use Rattle.zeb_engine.proofs.Looking.{look_told, tells_found, tells_missing}
+use Rattle.zeb_engine.proofs.TextLooks.{look_told, tells_found, tells_missing}
 use Rattle.zeb_engine.proofs.StoreCauses.{fault_caused}
 use Rattle.zeb_engine.proofs.looks.keeps_text.Goals as goal
 

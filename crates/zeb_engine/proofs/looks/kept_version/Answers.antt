@@ -7,7 +7,7 @@ use Rattle.zeb_change.specs.Outcomes.{register_refusal}
 use Rattle.zeb_change.specs.declared.refusals.Refusal.TheVariants.{NotInitialised}
 use Rattle.zeb_engine.specs.PrivateLooking.{RefusesVersion}
 use Rattle.zeb_engine.specs.Readiness.{KeepsText}
-use Rattle.zeb_engine.proofs.Looking.{look_told}
+use Rattle.zeb_engine.proofs.TextLooks.{look_told}
 use Rattle.zeb_engine.proofs.ReadyTexts.{text_missing}
 use Rattle.zeb_engine.proofs.StoreCauses.{fault_caused}
 use Rattle.zeb_engine.proofs.looks.kept_version.Goals as goal

@@ -21,7 +21,7 @@ use Rattle.zeb_register.specs.Formats.{version_of}
 use Rattle.sqlite.specs.Effect.{Database}
 use Rattle.zeb_register.specs.Store.{AreReadableTexts, IsValueOf}
 use Rattle.zeb_register.proofs.Calls.{store_same}
-use Rattle.zeb_engine.proofs.Looking.{kept_readable, one_readable}
+use Rattle.zeb_engine.proofs.TextLooks.{kept_readable, one_readable}
 use Rattle.zeb_engine.proofs.ReadyTexts.{fault_texts, fault_whole, other_text, own_text, text_found, text_missing}
 
 pub returns-in_err-version-clause-ready : goal.returns-in_err-version-clause-ready

@@ -9,7 +9,7 @@ use Rattle.zeb_change.specs.Refused.{diagnostic, Meets}
 use Rattle.zeb_change.specs.Base.{Base}
 use Rattle.zeb_image.specs.NameOf.{name_bytes}
 use Rattle.zeb_change.specs.Outcomes.{register_refusal}
-use Rattle.zeb_engine.specs.Steps.{found_or, existing}
+use Rattle.zeb_engine.specs.PrivateSteps.{found_or, existing}
 use Rattle.zeb_engine.proofs.ListedDatabases.{fault_misses, fault_meets, fault_fails_or, counted, row_named, none_named}
 use Rattle.zeb_engine.proofs.ReadyImages.{image_some}
 use Rattle.zeb_engine.proofs.StoreCauses.{fault_caused}

@@ -10,10 +10,10 @@ use Rattle.zeb_register.proofs.Causes.{may_after}
 use Rattle.zeb_change.specs.Conditions.{conditions}
 use Rattle.zeb_engine.specs.Causes.{HasRoomToRenew}
 use Rattle.zeb_engine.specs.Checking.{TellsSound}
-use Rattle.zeb_engine.proofs.Crashing.{survives_after}
-use Rattle.zeb_engine.proofs.Remaking.{commits_after_look, remade_after}
+use Rattle.zeb_engine.proofs.CommitCrashes.{survives_after}
+use Rattle.zeb_engine.proofs.ReindexedTables.{commits_after_look, remade_after}
 use Rattle.zeb_engine.proofs.RenewalAnswers.{rule_met, rule_unserved}
-use Rattle.zeb_engine.proofs.Serving.{keeps_still}
+use Rattle.zeb_engine.proofs.ServesLemmas.{keeps_still}
 use Rattle.zeb_engine.proofs.StoreCauses.{passed_cause, store_told}
 use Rattle.zeb_engine.proofs.renewals.reindex.Goals as goal
 

@@ -13,10 +13,10 @@ use Rattle.zeb_engine.specs.Causes.{HasRoomToRenew}
 use Rattle.zeb_engine.specs.declared.looks.Standing.{Standing}
 use Rattle.zeb_engine.specs.PrivateLooking.{FindsStanding, IsLook}
 use Rattle.zeb_engine.specs.Readiness.{RefusesUpgrade}
-use Rattle.zeb_engine.proofs.Checks.{tells_none, told_image}
-use Rattle.zeb_engine.proofs.Crashing.{survives_after}
+use Rattle.zeb_engine.proofs.CheckAnswers.{tells_none, told_image}
+use Rattle.zeb_engine.proofs.CommitCrashes.{survives_after}
 use Rattle.zeb_engine.proofs.RenewalAnswers.{damage_unserved, first_met, first_tells, layout_unserved, own_not_first, own_serves, own_unrefused}
-use Rattle.zeb_engine.proofs.Serving.{keeps_still}
+use Rattle.zeb_engine.proofs.ServesLemmas.{keeps_still}
 use Rattle.zeb_engine.proofs.StoreCauses.{accepted_leaves, fault_after, passed_cause, store_told}
 use Rattle.zeb_engine.proofs.renewals.upgrade.Goals as goal
 

@@ -17,10 +17,10 @@ use Rattle.zeb_engine.specs.Alone.{OfDatabase}
 use Rattle.zeb_engine.specs.Answers.{Answer}
 use Rattle.zeb_engine.specs.AnyTables.{ScanOver, ScanTells}
 use Rattle.zeb_engine.specs.Steps.{ScanAnswers}
-use Rattle.zeb_engine.proofs.Asked.{existing_ends, query_ends, refused_ends}
+use Rattle.zeb_engine.proofs.ReadyQueries.{existing_ends, query_ends, refused_ends}
 use Rattle.zeb_engine.proofs.Lookups.{base_found, still_holds}
 use Rattle.zeb_engine.proofs.OverTables.{asked_over, few_over, named_misses, or_fails, plan_scanned, query_over, terms_scanned}
-use Rattle.zeb_engine.proofs.Scans.{plan_ends, scanned_ends, terms_answered}
+use Rattle.zeb_engine.proofs.ScanAnswers.{plan_ends, scanned_ends, terms_answered}
 use Rattle.zeb_engine.proofs.StoreCauses.{accepted_leaves, passed_cause, query_caused, refusal_after}
 use Rattle.zeb_engine.proofs.scan.scan.Goals as goal
 

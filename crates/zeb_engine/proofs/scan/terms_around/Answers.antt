@@ -8,7 +8,7 @@ use Rattle.zeb_engine.proofs.ListedDatabases.{fault_fails}
 use Rattle.zeb_engine.proofs.AskedReads.{around_reads}
 use Rattle.zeb_engine.proofs.Lookups.{still_holds}
 use Rattle.zeb_engine.proofs.OverTables.{fault_few}
-use Rattle.zeb_engine.proofs.Scans.{around_lists}
+use Rattle.zeb_engine.proofs.ScanAnswers.{around_lists}
 use Rattle.zeb_engine.proofs.StoreCauses.{LeavesAll, fault_after, fault_caused}
 use Rattle.zeb_engine.proofs.scan.terms_around.Goals as goal
 

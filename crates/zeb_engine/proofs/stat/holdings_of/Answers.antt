@@ -16,7 +16,7 @@ use Rattle.std.proofs.lemmas.List.{take_more}
 use Rattle.zeb_engine.proofs.ListedDatabases.{fault_fails}
 use Rattle.zeb_engine.proofs.OverTables.{fault_few}
 use Rattle.zeb_engine.proofs.Showing.{still_shows}
-use Rattle.zeb_engine.proofs.Stats.{paired_more}
+use Rattle.zeb_engine.proofs.StatAnswers.{paired_more}
 use Rattle.zeb_engine.proofs.StoreCauses.{LeavesAll, fault_after}
 use Rattle.zeb_engine.proofs.stat.holdings_of.Goals as goal
 use Rattle.zeb_register.specs.Formats.{holds_in}

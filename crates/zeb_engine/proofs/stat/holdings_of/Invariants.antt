@@ -6,7 +6,7 @@ use Rattle.zeb_register.specs.Calls.{ChangesNothing}
 use Rattle.zeb_register.specs.Content.{Content, posted}
 use Rattle.zeb_engine.specs.Answers.{extent_of}
 use Rattle.zeb_engine.specs.Counting.{IsExtent, IsUnder, Paired}
-use Rattle.zeb_engine.specs.Works.{ShowsStore}
+use Rattle.zeb_engine.specs.PrivateWorks.{ShowsStore}
 use Rattle.zeb_engine.proofs.stat.holdings_of.Given as goal
 use Rattle.zeb_register.specs.Formats.{holds_in}
 

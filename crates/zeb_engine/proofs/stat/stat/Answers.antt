@@ -16,11 +16,11 @@ use Rattle.zeb_engine.specs.Counting.{IsExtent, IsUnder, Paired, Target}
 use Rattle.zeb_change.specs.Occurs.{occurs}
 use Rattle.zeb_image.specs.NameOf.{name_bytes}
 use Rattle.zeb_change.specs.Outcomes.{register_refusal}
-use Rattle.zeb_engine.proofs.Dumps.{as_many}
+use Rattle.zeb_engine.proofs.DumpAnswers.{as_many}
 use Rattle.zeb_engine.proofs.ListedDatabases.{fault_fails}
 use Rattle.zeb_engine.proofs.OverTables.{fault_few, few_over, named_misses, over_after, unready_over}
 use Rattle.zeb_engine.proofs.Showing.{still_shows}
-use Rattle.zeb_engine.proofs.Stats.{Counts, count_fails, count_known, count_unknown, extents_as, last_named, unders_as, unready_counts}
+use Rattle.zeb_engine.proofs.StatAnswers.{Counts, count_fails, count_known, count_unknown, extents_as, last_named, unders_as, unready_counts}
 use Rattle.zeb_engine.proofs.StoreCauses.{LeavesAll, fault_after, leaves_then, look_caused, passed_cause, refusal_after, two_leave}
 use Rattle.zeb_engine.proofs.ReadyBases.{Tells, ready_base, ready_still}
 use Rattle.zeb_search.proofs.ReadLemmas.{clean_before}

@@ -1,6 +1,6 @@
 use Rattle.std.proofs.Common.{rules, refl}
 use Rattle.sqlite.specs.Held.{state}
-use Rattle.zeb_engine.proofs.Crashing.{tables_survive}
+use Rattle.zeb_engine.proofs.CommitCrashes.{tables_survive}
 use Rattle.zeb_engine.proofs.tables.make_absent_tables.Goals as goal
 
 pub returns-in_err-commit-clause-survives : goal.returns-in_err-commit-clause-survives

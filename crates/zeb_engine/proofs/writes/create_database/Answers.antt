@@ -9,12 +9,12 @@ use Rattle.zeb_image.specs.NameOf.{name_bytes}
 use Rattle.zeb_change.specs.Outcomes.{register_refusal}
 use Rattle.zeb_change.specs.Refused.{why_of}
 use Rattle.zeb_engine.specs.Steps.{turned, created}
-use Rattle.zeb_engine.specs.Works.{IsReady, Serves}
-use Rattle.zeb_engine.proofs.Crashing.{survives_after}
+use Rattle.zeb_engine.specs.PrivateWorks.{IsReady, Serves}
+use Rattle.zeb_engine.proofs.CommitCrashes.{survives_after}
 use Rattle.zeb_engine.proofs.ListedDatabases.{fault_fails, counted, row_named, row_found}
 use Rattle.zeb_engine.proofs.NamedDatabases.{free_there}
-use Rattle.zeb_engine.proofs.Serving.{keeps_still, early_serves}
-use Rattle.zeb_engine.proofs.Turns.{step_exists}
+use Rattle.zeb_engine.proofs.ServesLemmas.{keeps_still, early_serves}
+use Rattle.zeb_engine.proofs.TurnedOutcomes.{step_exists}
 use Rattle.zeb_engine.proofs.ReadyImages.{image_some}
 use Rattle.zeb_engine.proofs.writes.create_database.Goals as goal
 use Rattle.zeb_register.specs.Hindrances.{LacksRowids}

@@ -4,11 +4,11 @@ use Rattle.sqlite.specs.Held.{state}
 use Rattle.zeb_change.specs.Refused.{why_of}
 use Rattle.zeb_image.specs.NameOf.{name_bytes}
 use Rattle.zeb_engine.specs.Steps.{turned, dropped}
-use Rattle.zeb_engine.specs.Works.{IsReady, Serves}
-use Rattle.zeb_engine.proofs.Crashing.{survives_after}
-use Rattle.zeb_engine.proofs.Serving.{keeps_still, early_serves}
+use Rattle.zeb_engine.specs.PrivateWorks.{IsReady, Serves}
+use Rattle.zeb_engine.proofs.CommitCrashes.{survives_after}
+use Rattle.zeb_engine.proofs.ServesLemmas.{keeps_still, early_serves}
 use Rattle.zeb_engine.proofs.NamedDatabases.{known_there}
-use Rattle.zeb_engine.proofs.Turns.{step_missing}
+use Rattle.zeb_engine.proofs.TurnedOutcomes.{step_missing}
 use Rattle.zeb_engine.proofs.writes.drop_database.Goals as goal
 use Rattle.zeb_engine.proofs.StoreCauses.{accepted_leaves, passed_cause}
 use Rattle.zeb_engine.proofs.WriteCauses.{cause_over, over_after}

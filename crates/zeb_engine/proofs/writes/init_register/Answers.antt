@@ -10,9 +10,9 @@ use Rattle.zeb_change.specs.Conditions.{Conditions, conditions}
 use Rattle.zeb_image.specs.Image.{IsImage}
 use Rattle.zeb_engine.specs.Steps.{holding}
 use Rattle.zeb_engine.specs.PrivateWriting.{AreOf, HasLargeText}
-use Rattle.zeb_engine.proofs.Crashing.{survives_as}
+use Rattle.zeb_engine.proofs.CommitCrashes.{survives_as}
 use Rattle.zeb_engine.proofs.InitCauses.{over_so, text_large}
-use Rattle.zeb_engine.proofs.Serving.{on_ok}
+use Rattle.zeb_engine.proofs.ServesLemmas.{on_ok}
 use Rattle.zeb_engine.proofs.writes.init_register.Goals as goal
 use Rattle.zeb_register.specs.Formats.{version_of}
 

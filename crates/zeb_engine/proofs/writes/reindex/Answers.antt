@@ -10,7 +10,7 @@ use Rattle.zeb_register.proofs.TakenRowids.{not_both}
 use Rattle.zeb_change.proofs.RecordRoom.{rowids_same}
 use Rattle.zeb_engine.specs.PrivateWriting.{IsRuled}
 use Rattle.zeb_engine.specs.Steps.{reindexed}
-use Rattle.zeb_engine.proofs.Renewing.{found_ruled, put_fails, rebuild_fails, rebuild_tells, reindex_remakes, reindex_works, renews}
+use Rattle.zeb_engine.proofs.RenewalWork.{found_ruled, put_fails, rebuild_fails, rebuild_tells, reindex_remakes, reindex_works, renews}
 use Rattle.zeb_engine.proofs.writes.reindex.Goals as goal
 
 pub returns-in_err-rebuild-clause-works : goal.returns-in_err-rebuild-clause-works

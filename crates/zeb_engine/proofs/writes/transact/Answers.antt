@@ -6,15 +6,14 @@ use Rattle.zeb_change.specs.declared.refusals.Refusal.TheVariants.{Commit, Store
 use Rattle.zeb_change.specs.Outcomes.{register_refusal}
 use Rattle.zeb_engine.specs.declared.replies.Reply.{Reply}
 use Rattle.zeb_engine.specs.declared.replies.Reply.TheVariants.{Done}
-use Rattle.zeb_engine.specs.Works.{Serves}
-use Rattle.zeb_engine.specs.PrivateWriting.{Begins, Fits, Remakes, written}
-use Rattle.zeb_engine.proofs.Crashing.{write_survives}
-use Rattle.zeb_engine.proofs.Remaking.{remade_survives, remakes_over}
-use Rattle.zeb_engine.proofs.Serving.{begins_over, early_serves, refusal_serves, reply_serves, reached_inside, sound_failed, sound_over}
+use Rattle.zeb_engine.specs.PrivateWorks.{Serves}
+use Rattle.zeb_engine.specs.PrivateWriting.{Begins, Fits, Remakes, written, HindersWrite}
+use Rattle.zeb_engine.proofs.CommitCrashes.{write_survives}
+use Rattle.zeb_engine.proofs.ReindexedTables.{remade_survives, remakes_over}
+use Rattle.zeb_engine.proofs.ServesLemmas.{begins_over, early_serves, refusal_serves, reply_serves, reached_inside, sound_failed, sound_over}
 use Rattle.zeb_engine.proofs.writes.transact.Goals as goal
 use Rattle.zeb_register.specs.Formats.{version_of}
-use Rattle.zeb_engine.specs.Causes.{HasCauseOver}
-use Rattle.zeb_engine.specs.PrivateWriting.{HindersWrite}
+use Rattle.zeb_engine.specs.PrivateCauses.{HasCauseOver}
 use Rattle.zeb_change.proofs.RecordRoom.{one_refusal}
 use Rattle.zeb_engine.proofs.WriteCauses.{write_caused, write_room}
 

@@ -11,7 +11,7 @@ use Rattle.zeb_change.proofs.RecordRoom.{rowids_same}
 use Rattle.zeb_engine.specs.PrivateWriting.{IsUpgradable}
 use Rattle.zeb_engine.specs.Steps.{upgraded}
 use Rattle.zeb_engine.proofs.InitCauses.{version_fits}
-use Rattle.zeb_engine.proofs.Renewing.{found_upgradable, put_fails, rebuild_fails, renews, upgrade_works}
+use Rattle.zeb_engine.proofs.RenewalWork.{found_upgradable, put_fails, rebuild_fails, renews, upgrade_works}
 use Rattle.zeb_engine.proofs.writes.upgrade.Goals as goal
 
 pub returns-in_err-rebuild-clause-works : goal.returns-in_err-rebuild-clause-works

@@ -1,11 +1,11 @@
 use Rattle.std.proofs.Common.{◌≡◌, ◌++◌, length}
 use Rattle.std.specs.Vec.Iter.{into_iter_items}
-use Rattle.zeb_extract.specs.Listing.{listed}
+use Rattle.zeb_extract.specs.PrivateListing.{numbered_terms}
 use Rattle.zeb_extract.proofs.entries.add_terms.Given as goal
 
 abbrev pub invariant-loop-term : goal.invariant-loop-term
 invariant-loop-term l = record {
   count : l.pos ≡ length l.yielded;
   items : into_iter_items l.initial.term-iterator ≡ l.yielded ++ into_iter_items l.term-iterator;
-  added : l.found.items ≡ l.initial.found.items ++ listed (l.index, l.register) l.seq l.yielded;
+  added : l.found.items ≡ l.initial.found.items ++ numbered_terms (l.index, l.register) l.seq l.yielded;
 }

@@ -1,6 +1,6 @@
 use Rattle.std.proofs.Common.{◌≡◌, ◌++◌}
 use Rattle.zeb_profile.specs.Indexes.{unit_targets}
-use Rattle.zeb_extract.specs.Listing.{listing}
+use Rattle.zeb_extract.specs.PrivateListing.{listing}
 use Rattle.zeb_extract.proofs.entries.occurrences.Given as goal
 
 abbrev pub invariant-loop-unit : goal.invariant-loop-unit

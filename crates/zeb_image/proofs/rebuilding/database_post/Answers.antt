@@ -1,4 +1,4 @@
-use Rattle.std.proofs.Common.{◌≡◌, ◌+◌, ◌≤◌, ℕ, IsTrue, pos, List, Some, None, Result, Ok, Err, OnOk, refl, sym, subst, arith, rules, string_bytes}
+use Rattle.std.proofs.Common.{◌≡◌, ◌+◌, ◌≤◌, ℕ, ℤ, IsTrue, pos, List, Some, None, Result, Ok, Err, OnOk, refl, sym, subst, arith, rules, string_bytes}
 use Rattle.sqlite.specs.Effect.{Database}
 use Rattle.sqlite.specs.Held.{state}
 use Rattle.sqlite.specs.State.{HasCleanDisk, State, Survives}
@@ -11,21 +11,24 @@ use Rattle.zeb_register.specs.Room.{HasRoom}
 use Rattle.zeb_register.specs.Store.{IsStore, KeepsLists, KeepsRegisters}
 use Rattle.zeb_register.specs.declared.faults.RegFault.{RegFault}
 use Rattle.zeb_register.specs.declared.faults.RegFault.TheVariants.{Damaged, Store}
+use Rattle.zeb_register.specs.declared.kept.Record.{Record}
 use Rattle.zeb_register.proofs.Calls.{store_same}
 use Rattle.zeb_register.proofs.Causes.{may_after}
 use Rattle.zeb_register.proofs.RowsAreLists.{one_number}
 use Rattle.zeb_change.specs.Asked.{HasRoomFor}
 use Rattle.zeb_change.specs.Base.{Kept}
-use Rattle.zeb_change.specs.Inside.{Continues, Stays}
+use Rattle.zeb_change.specs.Inside.{Continues, StaysInside}
 use Rattle.zeb_change.specs.Noted.{WillHold}
+use Rattle.zeb_change.specs.Occurs.{OccursIn}
 use Rattle.zeb_change.proofs.ChangeKeysContent.{keeps_then}
 use Rattle.zeb_change.proofs.CostLemmas.{ok_so}
-use Rattle.zeb_change.proofs.Leading.{held_whole, will_begin}
+use Rattle.zeb_change.proofs.LeadsToContent.{held_whole, will_begin}
 use Rattle.zeb_change.proofs.RecordRoom.{room_noted}
 use Rattle.zeb_change.proofs.TransactionLemmas.{continues_then, kept_then}
-use Rattle.zeb_image.specs.PrivateRebuilding.{AreAmong, LacksDatabase}
+use Rattle.zeb_image.specs.PrivateChecking.{kept_of}
+use Rattle.zeb_image.specs.PrivateRebuilding.{AreAmong, IsRecordPosted, LacksDatabase, WillHoldSuch}
 use Rattle.zeb_image.specs.Rebuilding.{AskKept}
-use Rattle.zeb_image.proofs.RebuiltPostings.{all_posted, all_sound, first_lacks, first_still, next_posted, next_sound, none_posted, readable_still}
+use Rattle.zeb_image.proofs.RebuiltPostings.{IsPostedBelow, all_posted, all_sound, first_lacks, first_still, next_posted, next_sound, none_posted, readable_still}
 use Rattle.zeb_image.proofs.RebuiltRoom.{NextRecordRoom, failed_for, next_record, records_begun, records_ended}
 use Rattle.zeb_image.proofs.rebuilding.database_post.Given as given
 use Rattle.zeb_image.proofs.rebuilding.database_post.Goals.{After-write_where_full}
@@ -57,7 +60,7 @@ ok_both : {T E : Type 0} (result : Result T E) (One Two Three : Type 0) → (One
 ok_both (Ok value) One Two Three so one two = so one two
 ok_both (Err fault) One Two Three so one two = one
 
-stays_then : {T E : Type 0} (old mid new : State) (result : Result T E) → Continues old mid → Stays mid new result → Stays old new result
+stays_then : {T E : Type 0} (old mid new : State) (result : Result T E) → Continues old mid → StaysInside mid new result → StaysInside old new result
 stays_then old mid new (Ok value) one two = continues_then old mid new one two
 stays_then old mid new (Err fault) one two = kept_then old mid new one two
 
@@ -82,6 +85,59 @@ loop-turn-init g c = record {
       records_begun g.L.Layout.format c.args.profile.now _ c.args.db.0 c.new-pending.result records most places rowids spare c.new-pending.ensures asks few among has;
 }
 
+-- ---- the next record
+
+asked_next : (g : given.Over) (c : After-write_where_full g) → HasCleanDisk (state g.S.Store c.write_where_full.new.tx.conn.now) → IsTrue (state g.S.Store c.args.tx.now.conn.now).in_transaction
+    → Asked (state g.S.Store c.args.tx.now.conn.now) (state g.S.Store c.loop-turn.tx.conn.now) (state g.S.Store c.record_from_inside.new.tx.conn.now)
+asked_next g c clean mode =
+    let now = state g.S.Store c.loop-turn.tx.conn.now in
+    let mid = state g.S.Store c.record_from_inside.new.tx.conn.now in
+    let clean_mid : HasCleanDisk mid = omega (arith, c.write_where_full.ensures.call.crash.clean) in
+    asked (state g.S.Store c.args.tx.now.conn.now) now mid clean_mid c.record_from_inside.ensures.call.crash (λ clean_now. c.loop-turn.invariant.stays clean_now mode) c.in_ok-record.ensures.call.ok
+
+-- it is the first from a number on that the lists keep
+record IsNext (id : ℤ) (next : ℕ) (found : Record) (old now mid : State) : Type 0 where
+  at : Asked old now mid
+  kept : IsStore now × KeepsLists old.now.trees now.now.trees
+  store : IsStore mid
+  first : IsFirstFrom old.now.trees id next (Some found)
+
+next_read : (g : given.Over) (c : After-write_where_full g) → HasCleanDisk (state g.S.Store c.write_where_full.new.tx.conn.now) → IsTrue (state g.S.Store c.args.tx.now.conn.now).in_transaction
+    → IsStore (state g.S.Store c.args.tx.now.conn.now)
+    → IsNext c.args.db.0 c.loop-turn.next c.in-Some.record (state g.S.Store c.args.tx.now.conn.now) (state g.S.Store c.loop-turn.tx.conn.now) (state g.S.Store c.record_from_inside.new.tx.conn.now)
+next_read g c clean mode store =
+    let old = state g.S.Store c.args.tx.now.conn.now in
+    let now = state g.S.Store c.loop-turn.tx.conn.now in
+    let mid = state g.S.Store c.record_from_inside.new.tx.conn.now in
+    let id = c.args.db.0 in
+    let clean_mid : HasCleanDisk mid = omega (arith, c.write_where_full.ensures.call.crash.clean) in
+    let at = asked_next g c clean mode in
+    let kept = c.loop-turn.invariant.kept at.clean mode store in
+    let value = subst (IsFirstFrom now.now.trees id c.loop-turn.next) c.in-Some.is (c.in_ok-record.ensures.value clean_mid at.was.mode kept.0 (omega (arith, c.loop-turn.invariant.small))) in
+    record {
+      at = at;
+      kept = kept;
+      store = store_same now mid at.on.now_is kept.0;
+      first = first_still old.now.trees now.now.trees kept.1 id c.loop-turn.next (Some c.in-Some.record) value;
+    }
+
+-- what was noted before it, and what is noted with it
+then_noted : (g : given.Over) (c : After-write_where_full g) → HasCleanDisk (state g.S.Store c.write_where_full.new.tx.conn.now) → IsTrue (state g.S.Store c.args.tx.now.conn.now).in_transaction
+    → IsStore (state g.S.Store c.args.tx.now.conn.now)
+    → (before : Content) → holds_in g.L.Layout.format (state g.S.Store c.args.tx.now.conn.now).now.trees before → IsStorable before → LacksDatabase c.args.db.0 before
+    → (such : WillHoldSuch g.L.Layout.format (state g.S.Store c.loop-turn.tx.conn.now).now.trees c.args.db.0 c.loop-turn.pending
+    (IsPostedBelow c.args.profile.now (state g.S.Store c.args.tx.now.conn.now).now.trees c.args.db.0 c.loop-turn.next before))
+    × WillHoldSuch g.L.Layout.format (state g.S.Store c.record_from_inside.new.tx.conn.now).now.trees c.args.db.0 c.record_note.new.pending
+    (IsRecordPosted c.args.db.0 c.in-Some.record.sysno (OccursIn c.args.profile.now (kept_of c.in-Some.record)) such.content)
+then_noted g c clean mode store before had storable lacks =
+    let read = next_read g c clean mode store in
+    let format = g.L.Layout.format in
+    let id = c.args.db.0 in
+    let such = c.loop-turn.invariant.posted read.at.clean mode store before had storable lacks in
+    let held = subst (λ (db : Database). WillHold format db.trees id c.loop-turn.pending such.content) (sym read.at.on.now_is) such.held in
+    let none = first_lacks c.args.profile.now (state g.S.Store c.args.tx.now.conn.now).now.trees id c.loop-turn.next before such.content such.is c.in-Some.record read.first in
+    (such, c.in_ok-record_note.ensures.posted format (state g.S.Store c.record_from_inside.new.tx.conn.now).now.trees id such.content held such.storable none)
+
 -- ---- where there is room
 
 -- the record that was read is noted, and what is noted may be written
@@ -94,86 +150,64 @@ wrote : (g : given.Over) (c : After-write_where_full g) → HasCleanDisk (state 
     × (c.write_where_full.result ≡ Err Store → MayRefuse (state g.S.Store c.args.tx.now.conn.now) (state g.S.Store c.write_where_full.new.tx.conn.now))
     × OnOk c.write_where_full.result (HasRoomFor g.L.Layout.format most (state g.S.Store c.write_where_full.new.tx.conn.now).now.trees c.write_where_full.new.pending (next.others + spare))
 wrote g c clean mode store records most places rowids spare asks few among has before had storable lacks =
+    let read = next_read g c clean mode store in
+    let noted = (then_noted g c clean mode store before had storable lacks).1 in
     let old = state g.S.Store c.args.tx.now.conn.now in
     let now = state g.S.Store c.loop-turn.tx.conn.now in
     let mid = state g.S.Store c.record_from_inside.new.tx.conn.now in
-    let new = state g.S.Store c.write_where_full.new.tx.conn.now in
     let format = g.L.Layout.format in
-    let id = c.args.db.0 in
-    let profile = c.args.profile.now in
-    let found = c.in-Some.record in
-    let clean_mid : HasCleanDisk mid = omega (arith, c.write_where_full.ensures.call.crash.clean) in
-    let at = asked old now mid clean_mid c.record_from_inside.ensures.call.crash (λ clean_now. c.loop-turn.invariant.stays clean_now mode) c.in_ok-record.ensures.call.ok in
-    let kept = c.loop-turn.invariant.kept at.clean mode store in
-    let value = subst (IsFirstFrom now.now.trees id c.loop-turn.next) c.in-Some.is (c.in_ok-record.ensures.value clean_mid at.was.mode kept.0 (omega (arith, c.loop-turn.invariant.small))) in
-    let first = first_still old.now.trees now.now.trees kept.1 id c.loop-turn.next (Some found) value in
-    let such = c.loop-turn.invariant.posted at.clean mode store before had storable lacks in
-    let held = subst (λ (db : Database). WillHold format db.trees id c.loop-turn.pending such.content) (sym at.on.now_is) such.held in
-    let noted = c.in_ok-record_note.ensures.posted format mid.now.trees id such.content held such.storable
-    (first_lacks profile old.now.trees id c.loop-turn.next before such.content such.is found first) in
-    let rest = c.loop-turn.invariant.room at.clean mode store records most places rowids spare asks few among has before had storable lacks in
-    let next = next_record format profile old.now.trees id c.loop-turn.next now.now.trees c.loop-turn.pending most spare rest found first in
+    let rest = c.loop-turn.invariant.room read.at.clean mode store records most places rowids spare asks few among has before had storable lacks in
+    let next = next_record format c.args.profile.now old.now.trees c.args.db.0 c.loop-turn.next now.now.trees c.loop-turn.pending most spare rest c.in-Some.record read.first in
     let within = next.room.few in
     let more = c.in_ok-record_note.ensures.room most next.place next.rowid (next.room.noted + (next.place + (next.others + spare))) next.room.noted next.asks within next.room.among in
-    let room = room_noted format most now.now.trees mid.now.trees c.loop-turn.pending c.record_note.new.pending next.place (next.others + spare) more.0 next.room (registers_seen now mid at.on.now_is) more.1 more.2 in
-    let done = c.write_where_full.ensures.room noted.content most (next.others + spare) noted.storable clean at.on.mode (store_same now mid at.on.now_is kept.0) noted.held room in
+    let seen = registers_seen now mid read.at.on.now_is in
+    let room = room_noted format most now.now.trees mid.now.trees c.loop-turn.pending c.record_note.new.pending next.place (next.others + spare) more.0 next.room seen more.1 more.2 in
+    let done = c.write_where_full.ensures.room noted.content most (next.others + spare) noted.storable clean read.at.on.mode read.store noted.held room in
     let crash : Survives old mid (λ _. ⊥) = search rules in
-    (next, λ failed. may_after old mid new crash at.goes.stays_open (λ _. done.0 failed), done.1)
+    (next, λ failed. may_after old mid (state g.S.Store c.write_where_full.new.tx.conn.now) crash read.at.goes.stays_open (λ _. done.0 failed), done.1)
 
 pub loop-turn-preserved : goal.loop-turn-preserved
 loop-turn-preserved g c =
+    let full = (goal.at.loop-turn-preserved g c).After-write_where_full in
     let old = state g.S.Store c.args.tx.now.conn.now in
     let now = state g.S.Store c.loop-turn.tx.conn.now in
     let mid = state g.S.Store c.record_from_inside.new.tx.conn.now in
     let new = state g.S.Store c.write_where_full.new.tx.conn.now in
-    let format = g.L.Layout.format in
     let id = c.args.db.0 in
     let profile = c.args.profile.now in
     let found = c.in-Some.record in
-    let clean_mid = λ (clean : HasCleanDisk new). (let e : HasCleanDisk mid = omega (arith, c.write_where_full.ensures.call.crash.clean) in e) in
-    let here = λ (clean : HasCleanDisk new) (mode : IsTrue old.in_transaction). asked old now mid (clean_mid clean) c.record_from_inside.ensures.call.crash (λ clean_now. c.loop-turn.invariant.stays clean_now mode) c.in_ok-record.ensures.call.ok in
     record {
       same = search rules;
       crash = search rules;
       stays = λ clean mode.
-          let at = here clean mode in
+          let at = asked_next g full clean mode in
           continues_then old mid new at.goes (c.in_ok-write_where_full.ensures.call.stays clean at.goes.mode);
       small = omega (arith, c.in_ok-record_note.ensures.number);
       turns = λ clean mode store.
-          let at = here clean mode in
-          let kept = c.loop-turn.invariant.kept at.clean mode store in
-          let value = subst (IsFirstFrom now.now.trees id c.loop-turn.next) c.in-Some.is (c.in_ok-record.ensures.value (clean_mid clean) at.was.mode kept.0 (omega (arith, c.loop-turn.invariant.small))) in
-          let so_far = c.loop-turn.invariant.turns at.clean mode store in
-          omega (arith, so_far, value.1);
+          let read = next_read g full clean mode store in
+          let so_far = c.loop-turn.invariant.turns read.at.clean mode store in
+          let behind = read.first.1 in
+          omega (arith, so_far, behind);
       room = λ clean mode store records most places rowids spare asks few among has before had storable lacks.
-          let done = wrote g (goal.at.loop-turn-preserved g c).After-write_where_full clean mode store records most places rowids spare asks few among has before had storable lacks in
-          done.0.leaves new.now.trees c.write_where_full.new.pending (subst (λ (r : Result (Unit {0}) RegFault). OnOk r (HasRoomFor format most new.now.trees c.write_where_full.new.pending (done.0.others + spare))) c.in_ok-write_where_full.was done.2);
+          let done = wrote g full clean mode store records most places rowids spare asks few among has before had storable lacks in
+          done.0.leaves new.now.trees c.write_where_full.new.pending (subst (λ (r : Result (Unit {0}) RegFault). OnOk r (HasRoomFor g.L.Layout.format most new.now.trees c.write_where_full.new.pending (done.0.others + spare))) c.in_ok-write_where_full.was done.2);
       kept = λ clean mode store.
-          let at = here clean mode in
-          let kept = c.loop-turn.invariant.kept at.clean mode store in
-          let settled = c.in_ok-write_where_full.ensures.call.written clean at.on.mode (store_same now mid at.on.now_is kept.0) in
-          (settled.0, keeps_then old.now.trees mid.now.trees new.now.trees (same_lists old.now.trees now mid at.on.now_is kept.1) settled.1);
+          let read = next_read g full clean mode store in
+          let settled = c.in_ok-write_where_full.ensures.call.written clean read.at.on.mode read.store in
+          (settled.0, keeps_then old.now.trees mid.now.trees new.now.trees (same_lists old.now.trees now mid read.at.on.now_is read.kept.1) settled.1);
       checked = λ clean mode store.
-          let at = here clean mode in
-          let kept = c.loop-turn.invariant.kept at.clean mode store in
-          let value = subst (IsFirstFrom now.now.trees id c.loop-turn.next) c.in-Some.is (c.in_ok-record.ensures.value (clean_mid clean) at.was.mode kept.0 (omega (arith, c.loop-turn.invariant.small))) in
-          let first = first_still old.now.trees now.now.trees kept.1 id c.loop-turn.next (Some found) value in
-          next_sound profile old.now.trees id c.loop-turn.next (c.loop-turn.invariant.checked at.clean mode store) found first (one_number old store id (pos found.sysno)) c.in_ok-record_note.ensures.sound;
+          let read = next_read g full clean mode store in
+          next_sound profile old.now.trees id c.loop-turn.next (c.loop-turn.invariant.checked read.at.clean mode store) found read.first (one_number old store id (pos found.sysno)) c.in_ok-record_note.ensures.sound;
       posted = λ clean mode store before had storable lacks.
-          let at = here clean mode in
-          let kept = c.loop-turn.invariant.kept at.clean mode store in
-          let value = subst (IsFirstFrom now.now.trees id c.loop-turn.next) c.in-Some.is (c.in_ok-record.ensures.value (clean_mid clean) at.was.mode kept.0 (omega (arith, c.loop-turn.invariant.small))) in
-          let first = first_still old.now.trees now.now.trees kept.1 id c.loop-turn.next (Some found) value in
-          let such = c.loop-turn.invariant.posted at.clean mode store before had storable lacks in
-          let held = subst (λ (db : Database). WillHold format db.trees id c.loop-turn.pending such.content) (sym at.on.now_is) such.held in
-          let noted = c.in_ok-record_note.ensures.posted format mid.now.trees id such.content held such.storable
-          (first_lacks profile old.now.trees id c.loop-turn.next before such.content such.is found first) in
-          let settled = c.in_ok-write_where_full.ensures.call.written clean at.on.mode (store_same now mid at.on.now_is kept.0) in
+          let read = next_read g full clean mode store in
+          let both = then_noted g full clean mode store before had storable lacks in
+          let noted = both.1 in
+          let settled = c.in_ok-write_where_full.ensures.call.written clean read.at.on.mode read.store in
           record {
             content = noted.content;
             held = (settled.2 noted.content noted.storable noted.held).0;
             storable = noted.storable;
-            is = next_posted profile old.now.trees id c.loop-turn.next before such.content such.is found first (one_number old store id (pos found.sysno)) noted.content noted.is;
+            is = next_posted profile old.now.trees id c.loop-turn.next before both.0.content both.0.is found read.first (one_number old store id (pos found.sysno)) noted.content noted.is;
           };
     }
 
@@ -281,24 +315,11 @@ returns-in_err-record_note-clause-damaged g c = λ clean mode store told before 
 -- the registers hold what the noted changes say
 pub returns-in_err-write_where_full-clause-damaged : goal.returns-in_err-write_where_full-clause-damaged
 returns-in_err-write_where_full-clause-damaged g c = λ clean mode store told before had storable lacks readable sound.
-    let old = state g.S.Store c.args.tx.now.conn.now in
-    let now = state g.S.Store c.loop-turn.tx.conn.now in
-    let mid = state g.S.Store c.record_from_inside.new.tx.conn.now in
-    let format = g.L.Layout.format in
-    let id = c.args.db.0 in
-    let profile = c.args.profile.now in
-    let found = c.in-Some.record in
-    let clean_mid : HasCleanDisk mid = omega (arith, c.write_where_full.ensures.call.crash.clean) in
-    let at = asked old now mid clean_mid c.record_from_inside.ensures.call.crash (λ clean_now. c.loop-turn.invariant.stays clean_now mode) c.in_ok-record.ensures.call.ok in
-    let kept = c.loop-turn.invariant.kept at.clean mode store in
-    let value = subst (IsFirstFrom now.now.trees id c.loop-turn.next) c.in-Some.is (c.in_ok-record.ensures.value clean_mid at.was.mode kept.0 (omega (arith, c.loop-turn.invariant.small))) in
-    let first = first_still old.now.trees now.now.trees kept.1 id c.loop-turn.next (Some found) value in
-    let such = c.loop-turn.invariant.posted at.clean mode store before had storable lacks in
-    let held = subst (λ (db : Database). WillHold format db.trees id c.loop-turn.pending such.content) (sym at.on.now_is) such.held in
-    let noted = c.in_ok-record_note.ensures.posted format mid.now.trees id such.content held such.storable
-    (first_lacks profile old.now.trees id c.loop-turn.next before such.content such.is found first) in
+    let full = (goal.at.returns-in_err-write_where_full-clause-damaged g c).After-write_where_full in
+    let read = next_read g full clean mode store in
+    let noted = (then_noted g full clean mode store before had storable lacks).1 in
     let fault : c.write_where_full.result ≡ Err Damaged = search rules in
-    c.write_where_full.ensures.call.honest clean at.on.mode (store_same now mid at.on.now_is kept.0) fault noted.content noted.storable noted.held
+    c.write_where_full.ensures.call.honest clean read.at.on.mode read.store fault noted.content noted.storable noted.held
 
 -- ---- a failed store, where there is room
 

@@ -1,4 +1,4 @@
-use Rattle.std.proofs.Common.{◌≡◌, ◌∙◌, ◌+◌, ◌++◌, ◌∷◌, ℕ, [], pos, IsTrue, List, Result, Err, OnOk, map, take, drop, suc, inl, inr, refl, sym, ap, subst, arith, rules, string_bytes}
+use Rattle.std.proofs.Common.{◌≡◌, ◌∙◌, ◌+◌, ◌++◌, ◌∷◌, ℕ, ℤ, [], pos, IsTrue, List, Result, Err, OnOk, map, take, drop, suc, inl, inr, refl, sym, ap, subst, arith, rules, string_bytes}
 use Rattle.std.proofs.lemmas.List.{map-append, take_more, take_all}
 use Rattle.std.proofs.Math.Seq.{split_at}
 use Rattle.sqlite.specs.Effect.{Database}
@@ -6,14 +6,15 @@ use Rattle.sqlite.specs.Held.{state}
 use Rattle.sqlite.specs.State.{HasCleanDisk, State}
 use Rattle.sqlite_rules.specs.Lists.{Has}
 use Rattle.sqlite_rules.proofs.ListLemmas.{has_either, has_right}
+use Rattle.zeb_profile.specs.declared.directives.Directive.{Directive}
 use Rattle.zeb_register.specs.declared.catalog.ListedDatabase.{ListedDatabase}
 use Rattle.zeb_register.specs.declared.faults.RegFault.{RegFault}
 use Rattle.zeb_register.specs.declared.faults.RegFault.TheVariants.{Damaged, Store}
 use Rattle.zeb_register.specs.Calls.{GoesOn, MayRefuse, OnlyReads}
 use Rattle.zeb_register.specs.Catalog.{AreDatabases}
-use Rattle.zeb_register.specs.Formats.{holds_in}
+use Rattle.zeb_register.specs.Formats.{Format, holds_in}
 use Rattle.zeb_register.specs.Room.{HasRoom}
-use Rattle.zeb_register.specs.Store.{IsStore, KeepsLists, LacksRegisters}
+use Rattle.zeb_register.specs.Store.{HasDatabase, IsStore, KeepsLists, LacksRegisters}
 use Rattle.zeb_register.proofs.Calls.{store_same}
 use Rattle.zeb_register.proofs.Causes.{may_after}
 use Rattle.zeb_register.proofs.FormatLemmas.{registers_empty}
@@ -23,6 +24,7 @@ use Rattle.zeb_change.specs.Inside.{Continues}
 use Rattle.zeb_change.proofs.ChangeKeysContent.{keeps_then}
 use Rattle.zeb_change.proofs.TransactionLemmas.{goes_on, kept_then}
 use Rattle.zeb_image.specs.Image.{AreListsOf}
+use Rattle.zeb_image.specs.PrivateRebuilding.{HoldsSuch, LacksDatabase}
 use Rattle.zeb_image.specs.Rebuilding.{AreSoundIn, AskBases}
 use Rattle.zeb_image.proofs.RebuiltImages.{id_in, listed_id, listed_there, lists_readable, lists_sound, new_id, readable_databases, rebuilt, same_databases}
 use Rattle.zeb_image.proofs.RebuiltPostings.{ArePostedIn, more_posted, new_lacks, nothing_posted, posted_still, readable_still, sound_still, sound_then}
@@ -76,6 +78,40 @@ loop-database-init g c =
           (room_empty g.L.Layout.format most (λ _. most) new.now.trees (asked_few c.args.profile.now bases most rowids asks) none);
     }
 
+-- the next database is in the list, and nothing of it is posted
+record IsNextBase (format : Format) (profile : List Directive) (ids : List ℤ) (item : ListedDatabase) (old now : State) : Type 0 where
+  on : GoesOn old now
+  kept : IsStore now × KeepsLists old.now.trees now.now.trees
+  there : HasDatabase old.now.trees item.id.0 (string_bytes item.name) (pos item.last)
+  fresh : ¬ Has ids item.id.0
+  such : HoldsSuch format now.now.trees (ArePostedIn profile old.now.trees ids)
+  lacks : LacksDatabase item.id.0 such.content
+
+next_listed : (g : given.Over) (c : After-database_post g) → HasCleanDisk (state g.S.Store c.database_post.new.tx.conn.now) → IsTrue (state g.S.Store c.args.tx.now.conn.now).in_transaction
+    → IsStore (state g.S.Store c.args.tx.now.conn.now)
+    → IsNextBase g.L.Layout.format c.args.profile.now (map id_in (take c.loop-database.database-index c.deref-database-items.result.now)) c.database-item.result
+    (state g.S.Store c.args.tx.now.conn.now) (state g.S.Store c.loop-database.tx.conn.now)
+next_listed g c clean mode store =
+    let old = state g.S.Store c.args.tx.now.conn.now in
+    let items = c.deref-database-items.result.now in
+    let index = c.loop-database.database-index in
+    let item = c.database-item.result in
+    let done = take index items in
+    let clean_now : HasCleanDisk (state g.S.Store c.loop-database.tx.conn.now) = omega (arith, c.database_post.ensures.crash.clean) in
+    let are = c.loop-database.invariant.listed clean_now mode store in
+    let such = c.loop-database.invariant.posted clean_now mode store in
+    let split : items ≡ done ++ item ∷ drop (suc index) items = split_at items index item c.loop-database-test.true ∙ ap (λ x. done ++ x ∷ drop (suc index) items) (sym c.database-item.is) in
+    let here : Has items item = subst (λ l. Has l item) (sym split) (has_right done (item ∷ drop (suc index) items) item (inl refl)) in
+    let fresh = new_id old store items are done (drop (suc index) items) item split in
+    record {
+      on = c.loop-database.invariant.goes_on clean_now mode;
+      kept = c.loop-database.invariant.kept clean_now mode store;
+      there = listed_there old store items are item here;
+      fresh = fresh;
+      such = such;
+      lacks = new_lacks c.args.profile.now old.now.trees (map id_in done) such.content such.is item.id.0 fresh;
+    }
+
 -- ---- where there is room
 
 -- the records of the next database are posted
@@ -87,28 +123,17 @@ posted_room : (g : given.Over) (c : After-database_post g) → HasCleanDisk (sta
     × (c.database_post.result ≡ Err Store → MayRefuse (state g.S.Store c.args.tx.now.conn.now) (state g.S.Store c.database_post.new.tx.conn.now))
     × OnOk c.database_post.result (HasRoom g.L.Layout.format next.others (state g.S.Store c.database_post.new.tx.conn.now).now.trees)
 posted_room g c clean mode store bases most rowids asks these =
+    let base = next_listed g c clean mode store in
     let old = state g.S.Store c.args.tx.now.conn.now in
     let now = state g.S.Store c.loop-database.tx.conn.now in
-    let new = state g.S.Store c.database_post.new.tx.conn.now in
-    let profile = c.args.profile.now in
-    let items = c.deref-database-items.result.now in
-    let index = c.loop-database.database-index in
     let item = c.database-item.result in
-    let done = take index items in
     let clean_now : HasCleanDisk now = omega (arith, c.database_post.ensures.crash.clean) in
-    let on = c.loop-database.invariant.goes_on clean_now mode in
-    let kept = c.loop-database.invariant.kept clean_now mode store in
-    let are = c.loop-database.invariant.listed clean_now mode store in
-    let such = c.loop-database.invariant.posted clean_now mode store in
-    let split : items ≡ done ++ item ∷ drop (suc index) items = split_at items index item c.loop-database-test.true ∙ ap (λ x. done ++ x ∷ drop (suc index) items) (sym c.database-item.is) in
-    let here : Has items item = subst (λ l. Has l item) (sym split) (has_right done (item ∷ drop (suc index) items) item (inl refl)) in
-    let fresh = new_id old store items are done (drop (suc index) items) item split in
-    let lacks = new_lacks profile old.now.trees (map id_in done) such.content such.is item.id.0 fresh in
     let rest = c.loop-database.invariant.room clean_now mode store bases most rowids asks these in
-    let next = next_base g.L.Layout.format profile old.now.trees bases these (map id_in done) now.now.trees most rest item.id.0 (string_bytes item.name) (pos item.last) (listed_there old store items are item here) fresh in
-    let posted = c.database_post.ensures.room next.records most next.place next.rowid next.others next.asks next.few clean on.mode kept.0
-    (among_still old.now.trees now.now.trees kept.1 item.id.0 next.records next.among) next.room such.content such.held such.storable lacks in
-    (next, λ failed. may_after old now new c.loop-database.invariant.crash (λ _. on.is_open) (λ _. posted.0 failed), posted.1)
+    let ids = map id_in (take c.loop-database.database-index c.deref-database-items.result.now) in
+    let next = next_base g.L.Layout.format c.args.profile.now old.now.trees bases these ids now.now.trees most rest item.id.0 (string_bytes item.name) (pos item.last) base.there base.fresh in
+    let posted = c.database_post.ensures.room next.records most next.place next.rowid next.others next.asks next.few clean base.on.mode base.kept.0
+    (among_still old.now.trees now.now.trees base.kept.1 item.id.0 next.records next.among) next.room base.such.content base.such.held base.such.storable base.lacks in
+    (next, λ failed. may_after old now (state g.S.Store c.database_post.new.tx.conn.now) c.loop-database.invariant.crash (λ _. base.on.is_open) (λ _. posted.0 failed), posted.1)
 
 pub loop-database-preserved : goal.loop-database-preserved
 loop-database-preserved g c =
@@ -143,22 +168,17 @@ loop-database-preserved g c =
             | inr last ↦ elim last [ inl same ↦ subst (λ (x : ListedDatabase). AreSoundIn profile old.now.trees x.id.0) (sym same) here | inr none ↦ absurd none ]
           ];
       posted = λ clean mode store.
-          let on = c.loop-database.invariant.goes_on (clean_now clean) mode in
-          let kept = c.loop-database.invariant.kept (clean_now clean) mode store in
-          let are = c.loop-database.invariant.listed (clean_now clean) mode store in
-          let such = c.loop-database.invariant.posted (clean_now clean) mode store in
-          let split : items ≡ done ++ item ∷ drop (suc index) items = split_at items index item c.loop-database-test.true ∙ ap (λ x. done ++ x ∷ drop (suc index) items) (sym c.database-item.is) in
-          let fresh = new_id old store items are done (drop (suc index) items) item split in
-          let lacks = new_lacks profile old.now.trees (map id_in done) such.content such.is item.id.0 fresh in
-          let then_such = c.in_ok-database_post.ensures.posted clean on.mode kept.0 such.content such.held such.storable lacks in
+          let base = next_listed g (goal.at.loop-database-preserved g c).After-database_post clean mode store in
+          let such = base.such in
+          let then_such = c.in_ok-database_post.ensures.posted clean base.on.mode base.kept.0 such.content such.held such.storable base.lacks in
           let ids : map id_in (take (index + 1) items) ≡ map id_in done ++ item.id.0 ∷ [] = ap (map id_in) more ∙ map-append id_in done (item ∷ []) in
           record {
             content = then_such.content;
             held = then_such.held;
             storable = then_such.storable;
             is = subst (λ l. ArePostedIn profile old.now.trees l then_such.content) (sym ids)
-                (more_posted profile old.now.trees (map id_in done) such.content such.is item.id.0 fresh then_such.content
-                (posted_still old.now.trees now.now.trees kept.1 profile item.id.0 such.content then_such.content then_such.is));
+                (more_posted profile old.now.trees (map id_in done) such.content such.is item.id.0 base.fresh then_such.content
+                (posted_still old.now.trees now.now.trees base.kept.1 profile item.id.0 such.content then_such.content then_such.is));
           };
       room = λ clean mode store bases most rowids asks these.
           let after = posted_room g (goal.at.loop-database-preserved g c).After-database_post clean mode store bases most rowids asks these in
@@ -213,26 +233,14 @@ returns-in_err-databases-clause-honest g c = λ clean mode store told bases thes
 -- the database has no posting yet, and so one of its records isn't sound
 pub returns-in_err-database_post-clause-damaged : goal.returns-in_err-database_post-clause-damaged
 returns-in_err-database_post-clause-damaged g c = λ clean mode store told readable sound.
+    let base = next_listed g (goal.at.returns-in_err-database_post-clause-damaged g c).After-database_post clean mode store in
     let old = state g.S.Store c.args.tx.now.conn.now in
     let now = state g.S.Store c.loop-database.tx.conn.now in
-    let profile = c.args.profile.now in
-    let items = c.deref-database-items.result.now in
-    let index = c.loop-database.database-index in
     let item = c.database-item.result in
-    let done = take index items in
-    let clean_now : HasCleanDisk now = omega (arith, c.database_post.ensures.crash.clean) in
-    let on = c.loop-database.invariant.goes_on clean_now mode in
-    let kept = c.loop-database.invariant.kept clean_now mode store in
-    let are = c.loop-database.invariant.listed clean_now mode store in
-    let such = c.loop-database.invariant.posted clean_now mode store in
-    let split : items ≡ done ++ item ∷ drop (suc index) items = split_at items index item c.loop-database-test.true ∙ ap (λ x. done ++ x ∷ drop (suc index) items) (sym c.database-item.is) in
-    let here : Has items item = subst (λ l. Has l item) (sym split) (has_right done (item ∷ drop (suc index) items) item (inl refl)) in
-    let there = listed_there old store items are item here in
-    let lacks = new_lacks profile old.now.trees (map id_in done) such.content such.is item.id.0 (new_id old store items are done (drop (suc index) items) item split) in
     let fault : c.database_post.result ≡ Err Damaged = search rules in
-    c.database_post.ensures.damaged clean on.mode kept.0 fault such.content such.held such.storable lacks
-    (readable_still old.now.trees now.now.trees kept.1 item.id.0 (readable.records item.id.0 (string_bytes item.name) (pos item.last) there))
-    (sound_then old.now.trees now.now.trees kept.1 profile item.id.0 (sound item.id.0 (string_bytes item.name) (pos item.last) there))
+    c.database_post.ensures.damaged clean base.on.mode base.kept.0 fault base.such.content base.such.held base.such.storable base.lacks
+    (readable_still old.now.trees now.now.trees base.kept.1 item.id.0 (readable.records item.id.0 (string_bytes item.name) (pos item.last) base.there))
+    (sound_then old.now.trees now.now.trees base.kept.1 c.args.profile.now item.id.0 (sound item.id.0 (string_bytes item.name) (pos item.last) base.there))
 
 pub returns-in_err-database_post-clause-honest : goal.returns-in_err-database_post-clause-honest
 returns-in_err-database_post-clause-honest g c = λ clean mode store told bases these are.

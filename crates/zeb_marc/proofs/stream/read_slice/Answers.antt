@@ -5,7 +5,7 @@ use Rattle.std.proofs.lemmas.List.{take-take, drop-drop}
 use Rattle.std.proofs.lemmas.Slice.{take-put_mid, take-put_mid_below}
 use borrow.Rule.Slice.PartMut.{put_mid}
 use Rattle.zeb_marc.specs.Leader.{first_failing, announced_checks, record_length}
-use Rattle.zeb_marc.specs.Reading.{FillGives}
+use Rattle.zeb_marc.specs.PrivateReading.{FillGives}
 use Rattle.zeb_marc.proofs.RecordChecks.{slice_cut, slice_passes}
 use Rattle.zeb_marc.proofs.Runs.{take-add, length-put_mid}
 use Rattle.zeb_marc.proofs.ReadingLemmas.{announced_checks-five, record_length-five, five_are, fill_err, slice_short, slice_err, slice_cut_within, IsSlice-from_five}

@@ -2,10 +2,10 @@ use Rattle.std.proofs.Common.{◌≡◌, ◌∙◌, List, inl, arith, length, ma
 use Rattle.std.specs.List.{sum_by}
 use Rattle.sqlite.specs.Held.{state}
 use Rattle.sqlite.specs.Order.{Row}
-use Rattle.zeb_register.specs.BetweenRows.{IsRestBetween, two_behind}
-use Rattle.zeb_register.specs.KeyColumns.{register_columns}
+use Rattle.zeb_register.specs.PrivateBetweenRows.{IsRestBetween, two_behind}
+use Rattle.zeb_register.specs.PrivateKeyColumns.{register_columns}
 use Rattle.zeb_register.specs.PackedBlocks.{blocks_of}
-use Rattle.zeb_register.specs.PackedRows.{AreSpelled}
+use Rattle.zeb_register.specs.PrivatePackedRows.{AreSpelled}
 use Rattle.zeb_register.specs.Sql.{IsListOf}
 use Rattle.zeb_register.specs.Store.{blocks_tree}
 use Rattle.zeb_register.specs.Tallies.{Rises}

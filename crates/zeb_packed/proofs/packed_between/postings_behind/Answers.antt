@@ -1,6 +1,6 @@
 use Rattle.std.proofs.Common.{map, rules}
 use Rattle.sqlite_rules.proofs.ProbeLemmas.{mapped_has}
-use Rattle.zeb_register.specs.BetweenRows.{two_behind}
+use Rattle.zeb_register.specs.PrivateBetweenRows.{two_behind}
 use Rattle.zeb_register.proofs.BetweenLemmas.{spelled_row}
 use Rattle.zeb_register.proofs.ContentLemmas.{has_at}
 use Rattle.zeb_register.proofs.PackedLists.{each_spelled}

@@ -10,11 +10,12 @@ use Rattle.zeb_keys.specs.Registers.{register_code}
 use Rattle.zeb_register.specs.declared.faults.RegFault.TheVariants.{Store}
 use Rattle.zeb_register.specs.Calls.{Alters}
 use Rattle.zeb_register.specs.Faults.{fault_of}
-use Rattle.zeb_register.specs.Hindrances.{Hinders, HindersNew, TakesRowids}
-use Rattle.zeb_register.specs.KeyColumns.{IsBlockOf}
-use Rattle.zeb_packed.specs.PackedHindrances.{new_rows}
+use Rattle.zeb_register.specs.Hindrances.{Hinders, TakesRowids}
+use Rattle.zeb_register.specs.PrivateHindrances.{HindersNew}
+use Rattle.zeb_register.specs.PrivateKeyColumns.{IsBlockOf}
+use Rattle.zeb_packed.specs.PrivatePackedHindrances.{new_rows}
 use Rattle.zeb_register.specs.PlainRows.{key_row}
-use Rattle.zeb_register.specs.RowStatements.{Gains}
+use Rattle.zeb_register.specs.PrivateRowStatements.{Gains}
 use Rattle.zeb_register.specs.Store.{blocks_tree}
 use Rattle.zeb_packed.specs.PackedSound.{IsBlockSpelled}
 use Rattle.zeb_register.proofs.Calls.{goes_keeps, on_err, on_ok_both, reads_goes, store_same}

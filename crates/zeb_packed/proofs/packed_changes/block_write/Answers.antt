@@ -4,11 +4,12 @@ use Rattle.sqlite.specs.Held.{state}
 use Rattle.zeb_blocks.specs.Blocks.{BlockSpells}
 use Rattle.zeb_keys.specs.Registers.{register_code}
 use Rattle.zeb_register.specs.Calls.{Alters}
-use Rattle.zeb_register.specs.Hindrances.{Hinders, HindersNew, TakesRowids}
-use Rattle.zeb_register.specs.KeyColumns.{IsBlockOf}
-use Rattle.zeb_packed.specs.PackedHindrances.{new_rows}
+use Rattle.zeb_register.specs.Hindrances.{Hinders, TakesRowids}
+use Rattle.zeb_register.specs.PrivateHindrances.{HindersNew}
+use Rattle.zeb_register.specs.PrivateKeyColumns.{IsBlockOf}
+use Rattle.zeb_packed.specs.PrivatePackedHindrances.{new_rows}
 use Rattle.zeb_register.specs.PlainRows.{key_row}
-use Rattle.zeb_register.specs.RowStatements.{Gains, Renews}
+use Rattle.zeb_register.specs.PrivateRowStatements.{Gains, Renews}
 use Rattle.zeb_register.specs.Sql.{Loses}
 use Rattle.zeb_register.specs.Store.{blocks_tree}
 use Rattle.zeb_register.proofs.Columns.{column_is}

@@ -2,11 +2,12 @@ use Rattle.std.proofs.Common.{◌≢◌, ◌++◌, [], ◌∷◌, arith, inl, in
 use Rattle.sqlite.specs.declared.types.Value.TheVariants.{Int}
 use Rattle.sqlite.specs.Held.{state}
 use Rattle.zeb_register.specs.Calls.{Alters}
-use Rattle.zeb_register.specs.Hindrances.{Hinders, HindersNew, TakesRowids}
-use Rattle.zeb_register.specs.KeyColumns.{IsDictIn}
-use Rattle.zeb_packed.specs.PackedHindrances.{new_rows}
+use Rattle.zeb_register.specs.Hindrances.{Hinders, TakesRowids}
+use Rattle.zeb_register.specs.PrivateHindrances.{HindersNew}
+use Rattle.zeb_register.specs.PrivateKeyColumns.{IsDictIn}
+use Rattle.zeb_packed.specs.PrivatePackedHindrances.{new_rows}
 use Rattle.zeb_register.specs.PlainRows.{key_row}
-use Rattle.zeb_register.specs.RowStatements.{Gains, Renews}
+use Rattle.zeb_register.specs.PrivateRowStatements.{Gains, Renews}
 use Rattle.zeb_register.specs.Store.{dict_tree}
 use Rattle.zeb_register.proofs.Columns.{column_is}
 use Rattle.zeb_packed.proofs.PackedHindrances.{new_count_hinders, new_one, set_count_hinders}

@@ -1,5 +1,5 @@
 use Rattle.std.proofs.Common.{take}
-use Rattle.zeb_packed.specs.PackedChanges.{IsParted}
+use Rattle.zeb_packed.specs.PrivatePackedChanges.{IsParted}
 use Rattle.zeb_packed.proofs.packed_parts.parted_at.Given as goal
 
 abbrev pub invariant-loop-posting : goal.invariant-loop-posting

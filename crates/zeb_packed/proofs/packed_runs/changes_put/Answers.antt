@@ -1,16 +1,18 @@
-use Rattle.std.proofs.Common.{◌≡◌, ◌≤◌, ◌+◌, ◌==◌, ◌∙◌, IsTrue, arith, inl, inr, map, not, refl, rules, subst, sym}
+use Rattle.std.proofs.Common.{◌≡◌, ◌≤◌, ◌+◌, ◌==◌, ◌∙◌, ℕ, ℤ, IsTrue, List, arith, inl, inr, map, not, refl, rules, subst, sym}
 use Rattle.std.proofs.lemmas.Result.{IfOk-weaker}
 use Rattle.sqlite.specs.Effect.{Database}
 use Rattle.sqlite.specs.Held.{state}
-use Rattle.sqlite.specs.State.{HasCleanDisk}
+use Rattle.sqlite.specs.State.{HasCleanDisk, State}
+use Rattle.zeb_keys.specs.declared.keys.Key.{Key}
+use Rattle.zeb_packed.specs.declared.packed_changes.Known.{Known}
 use Rattle.zeb_packed.specs.PackedSound.{AreKeyRowsSound}
 use Rattle.zeb_register.specs.declared.registers.RecordChange.{RecordChange}
-use Rattle.zeb_register.specs.Calls.{GoesOn}
+use Rattle.zeb_register.specs.Calls.{GoesOn, OnlyReads}
 use Rattle.zeb_register.specs.PackedBlocks.{HoldsBlocks}
-use Rattle.zeb_packed.specs.PackedChanges.{IsCounted, IsKnown, PutsChanges}
+use Rattle.zeb_packed.specs.PrivatePackedChanges.{HasSoManyRecords, IsKnown, PutsChanges}
 use Rattle.zeb_register.specs.Hindrances.{TakesRowids, placed, rows_of}
-use Rattle.zeb_packed.specs.PackedHindrances.{AreRunsSpelled, HindersChanges, new_rows}
-use Rattle.zeb_register.specs.Store.{blocks_tree, dict_tree, postings_tree}
+use Rattle.zeb_packed.specs.PrivatePackedHindrances.{AreRunsSpelled, HindersChanges, new_rows}
+use Rattle.zeb_register.specs.Store.{Changes, IsStore, blocks_tree, dict_tree, postings_tree}
 use Rattle.zeb_register.proofs.Calls.{changes_after, goes_keeps, goes_then, on_err, on_err_so, on_ok_both, reads_goes, store_same}
 use Rattle.zeb_register.proofs.Causes.{hindered_after, may_after}
 use Rattle.zeb_register.proofs.CallsInTurn.{quiet_then}
@@ -19,21 +21,44 @@ use Rattle.zeb_register.proofs.PackedLemmas.{block_rows}
 use Rattle.zeb_packed.proofs.PackedSound.{numbers_sound}
 use Rattle.zeb_packed.proofs.PackedWrites.{all_lists, all_put, dict_told}
 use Rattle.zeb_register.proofs.TakenRowids.{takes_more, takes_none, takes_then}
+use Rattle.zeb_packed.proofs.packed_runs.changes_put.Given as given
+use Rattle.zeb_packed.proofs.packed_runs.changes_put.Goals.{In_ok-after}
 use Rattle.zeb_packed.proofs.packed_runs.changes_put.Goals as goal
+
+-- the row of `dict` was read, and then the blocks were written
+record AreDone (db : ℤ) (key : Key) (changes : List RecordChange) (known : Known) (after : ℕ) (old mid new : State) : Type 0 where
+  clean : HasCleanDisk mid
+  reads : OnlyReads old mid
+  goes : GoesOn old new
+  runs : IsStore old → Changes blocks_tree (PutsChanges db key changes (IsKnown known) (HasSoManyRecords after)) old new
+
+blocks_done : (g : given.Over) (c : In_ok-after g) → HasCleanDisk (state g.S.Store c.runs_put.new.tx.conn.now) → IsTrue (state g.S.Store c.args.tx.now.conn.now).in_transaction
+    → AreDone c.args.db.0 c.args.key.now c.args.changes.now c.in_ok-known.known c.in_ok-after.after (state g.S.Store c.args.tx.now.conn.now) (state g.S.Store c.key_known.new.tx.conn.now) (state g.S.Store c.runs_put.new.tx.conn.now)
+blocks_done g c clean inside =
+    let first = state g.S.Store c.args.tx.now.conn.now in
+    let second = state g.S.Store c.key_known.new.tx.conn.now in
+    let third = state g.S.Store c.runs_put.new.tx.conn.now in
+    let clean1 : HasCleanDisk second = omega (arith, c.runs_put.ensures.call.crash.clean) in
+    let reads = c.in_ok-known.ensures.call.ok clean1 inside in
+    let Puts = PutsChanges c.args.db.0 c.args.key.now c.args.changes.now (IsKnown c.in_ok-known.known) (HasSoManyRecords c.in_ok-after.after) in
+    record {
+      clean = clean1;
+      reads = reads;
+      goes = goes_then first second third (reads_goes first second reads) (c.in_ok-after.ensures.call.ok clean reads.mode reads.is_open);
+      runs = λ store. changes_after blocks_tree Puts first second third reads inside (c.in_ok-after.ensures.put clean reads.mode (store_same first second reads.now_is store));
+    }
 
 pub returns-clause-call : goal.returns-clause-call
 returns-clause-call g c =
     let first = state g.S.Store c.args.tx.now.conn.now in
     let third = state g.S.Store c.runs_put.new.tx.conn.now in
-    let done_before = λ (clean : HasCleanDisk (state g.S.Store c.dict_write.new.tx.conn.now)) (inside : IsTrue first.in_transaction). (
+    let so_far = λ (clean : HasCleanDisk (state g.S.Store c.dict_write.new.tx.conn.now)) (inside : IsTrue first.in_transaction). (
     let clean2 : HasCleanDisk third = omega (arith, c.dict_write.ensures.call.crash.clean) in
-    let clean1 : HasCleanDisk (state g.S.Store c.key_known.new.tx.conn.now) = omega (arith, c.dict_write.ensures.call.crash.clean, c.runs_put.ensures.call.crash.clean) in
-    let reads = c.in_ok-known.ensures.call.ok clean1 inside in
-    let goes : GoesOn first third = goes_then _ _ _ (reads_goes _ _ reads) (c.in_ok-after.ensures.call.ok clean2 reads.mode reads.is_open) in
+    let goes : GoesOn first third = (blocks_done g (goal.at.returns-clause-call g c).In_ok-after clean2 inside).goes in
     goes) in record {
-      ok = λ clean inside. let goes = done_before clean inside in
+      ok = λ clean inside. let goes = so_far clean inside in
           IfOk-weaker c.dict_write.result _ _ (λ _ done. goes_then _ _ _ goes done.on) (c.dict_write.ensures.call.ok clean goes.mode);
-      err = λ clean inside. let goes = done_before clean inside in
+      err = λ clean inside. let goes = so_far clean inside in
           on_err_so c.dict_write.result _ _ (λ kept. goes_keeps _ _ _ goes kept) (c.dict_write.ensures.call.err clean goes.mode);
       crash = search rules;
     }
@@ -41,28 +66,25 @@ returns-clause-call g c =
 pub returns-clause-change : goal.returns-clause-change
 returns-clause-change g c clean inside store =
     let first = state g.S.Store c.args.tx.now.conn.now in
-    let second = state g.S.Store c.key_known.new.tx.conn.now in
     let third = state g.S.Store c.runs_put.new.tx.conn.now in
     let fourth = state g.S.Store c.dict_write.new.tx.conn.now in
     let clean2 : HasCleanDisk third = omega (arith, c.dict_write.ensures.call.crash.clean) in
-    let clean1 : HasCleanDisk second = omega (arith, c.dict_write.ensures.call.crash.clean, c.runs_put.ensures.call.crash.clean) in
-    let reads = c.in_ok-known.ensures.call.ok clean1 inside in
-    let goes = goes_then first second third (reads_goes first second reads) (c.in_ok-after.ensures.call.ok clean2 reads.mode reads.is_open) in
+    let blocks = blocks_done g (goal.at.returns-clause-change g c).In_ok-after clean2 inside in
+    let runs = blocks.runs store in
     let db = c.args.db.0 in
     let key = c.args.key.now in
     let changes = c.args.changes.now in
     let known = c.in_ok-known.known in
     let after = c.in_ok-after.after in
     let there = not (known.records == 0) in
-    let runs = changes_after blocks_tree (PutsChanges db key changes (IsKnown known) (IsCounted after)) first second third reads inside (c.in_ok-after.ensures.put clean2 reads.mode (store_same first second reads.now_is store)) in
     IfOk-weaker c.dict_write.result _ _ (λ _ done.
     let dict = done.rows runs.layout in (
       dict.layout,
       all_lists db key changes known after first third fourth runs there dict,
       λ before holds.
-          let is = c.in_ok-known.ensures.value clean1 inside store before holds in
+          let is = c.in_ok-known.ensures.value blocks.clean inside store before holds in
           all_put db key changes known after first third fourth runs there dict before holds is (dict_told db key known.records (known.records == 0) first.now.trees before holds is.count refl),
-    )) (c.dict_write.ensures.call.ok clean goes.mode)
+    )) (c.dict_write.ensures.call.ok clean blocks.goes.mode)
 
 pub returns-in_err-known-clause-damaged : goal.returns-in_err-known-clause-damaged
 returns-in_err-known-clause-damaged g c clean inside store is rises content storable holds new all = c.in_err-known.ensures.honest clean inside store (search rules) content storable holds
@@ -97,52 +119,45 @@ returns-clause-refused g c clean inside store told =
     let first = state g.S.Store c.args.tx.now.conn.now in
     let second = state g.S.Store c.key_known.new.tx.conn.now in
     let third = state g.S.Store c.runs_put.new.tx.conn.now in
-    let fourth = state g.S.Store c.dict_write.new.tx.conn.now in
     let clean2 : HasCleanDisk third = omega (arith, c.dict_write.ensures.call.crash.clean) in
-    let clean1 : HasCleanDisk second = omega (arith, c.dict_write.ensures.call.crash.clean, c.runs_put.ensures.call.crash.clean) in
-    let reads = c.in_ok-known.ensures.call.ok clean1 inside in
-    let goes = goes_then first second third (reads_goes first second reads) (c.in_ok-after.ensures.call.ok clean2 reads.mode reads.is_open) in
-    let db = c.args.db.0 in
-    let key = c.args.key.now in
+    let blocks = blocks_done g (goal.at.returns-clause-refused g c).In_ok-after clean2 inside in
+    let runs = blocks.runs store in
     let xs = c.args.changes.now in
-    let known = c.in_ok-known.known in
+    let records = c.in_ok-known.known.records in
     let after = c.in_ok-after.after in
-    let runs = changes_after blocks_tree (PutsChanges db key xs (IsKnown known) (IsCounted after)) first second third reads inside (c.in_ok-after.ensures.put clean2 reads.mode (store_same first second reads.now_is store)) in
     let same : third.now.trees dict_tree ≡ first.now.trees dict_tree = runs.others.1.1.1.1.1.0 (λ e. absurd (omega (arith, e))) in
-    elim (c.dict_write.ensures.refused clean goes.mode runs.layout told) [
-      | inl cause ↦ inl (may_after first third fourth (quiet_then first second third c.key_known.ensures.call.crash c.runs_put.ensures.call.crash) (λ _. goes.is_open) (λ _. cause))
-      | inr hinders ↦ inr (count_hinders db key xs known.records c.in_ok-known.ensures.few (not (known.records == 0)) after first.now.trees third.now.trees c.in_ok-after.ensures.grows
-          (new_counts known.records after (rows_of (map placed xs)) c.in_ok-after.ensures.grows) same
-          (c.in_ok-known.ensures.told clean1 inside store) hinders)
+    elim (c.dict_write.ensures.refused clean blocks.goes.mode runs.layout told) [
+      | inl cause ↦
+          let quiet = quiet_then first second third c.key_known.ensures.call.crash c.runs_put.ensures.call.crash in
+          inl (may_after first third (state g.S.Store c.dict_write.new.tx.conn.now) quiet (λ _. blocks.goes.is_open) (λ _. cause))
+      | inr hinders ↦ inr (count_hinders c.args.db.0 c.args.key.now xs records c.in_ok-known.ensures.few (not (records == 0)) after first.now.trees third.now.trees c.in_ok-after.ensures.grows
+          (new_counts records after (rows_of (map placed xs)) c.in_ok-after.ensures.grows) same
+          (c.in_ok-known.ensures.told blocks.clean inside store) hinders)
     ]
 
 pub returns-clause-rowids : goal.returns-clause-rowids
 returns-clause-rowids g c clean inside store =
     let first = state g.S.Store c.args.tx.now.conn.now in
-    let second = state g.S.Store c.key_known.new.tx.conn.now in
     let third = state g.S.Store c.runs_put.new.tx.conn.now in
-    let fourth = state g.S.Store c.dict_write.new.tx.conn.now in
     let clean2 : HasCleanDisk third = omega (arith, c.dict_write.ensures.call.crash.clean) in
-    let clean1 : HasCleanDisk second = omega (arith, c.dict_write.ensures.call.crash.clean, c.runs_put.ensures.call.crash.clean) in
-    let reads = c.in_ok-known.ensures.call.ok clean1 inside in
-    let goes = goes_then first second third (reads_goes first second reads) (c.in_ok-after.ensures.call.ok clean2 reads.mode reads.is_open) in
-    let xs = c.args.changes.now in
-    let known = c.in_ok-known.known in
-    let after = c.in_ok-after.after in
-    let runs = changes_after blocks_tree (PutsChanges c.args.db.0 c.args.key.now xs (IsKnown known) (IsCounted after)) first second third reads inside (c.in_ok-after.ensures.put clean2 reads.mode (store_same first second reads.now_is store)) in
-    let taken = subst (λ (d : Database). TakesRowids (rows_of (map placed xs)) blocks_tree d.trees third.now.trees) reads.now_is (c.in_ok-after.ensures.rowids clean2 reads.mode (store_same first second reads.now_is store)) in
+    let blocks = blocks_done g (goal.at.returns-clause-rowids g c).In_ok-after clean2 inside in
+    let runs = blocks.runs store in
     let a = first.now.trees in
     let b = third.now.trees in
-    let d = fourth.now.trees in
-    let rows = rows_of (map placed xs) in
-    let new = new_rows (not (known.records == 0)) after in
-    let few : new ≤ rows = new_counts known.records after rows c.in_ok-after.ensures.grows in
+    let d = (state g.S.Store c.dict_write.new.tx.conn.now).now.trees in
+    let rows = rows_of (map placed c.args.changes.now) in
+    let taken = subst (λ (now : Database). TakesRowids rows blocks_tree now.trees b) blocks.reads.now_is
+    (c.in_ok-after.ensures.rowids clean2 blocks.reads.mode (store_same first (state g.S.Store c.key_known.new.tx.conn.now) blocks.reads.now_is store)) in
+    let records = c.in_ok-known.known.records in
+    let after = c.in_ok-after.after in
+    let new = new_rows (not (records == 0)) after in
+    let few : new ≤ rows = new_counts records after rows c.in_ok-after.ensures.grows in
     on_ok_both c.dict_write.result _ _ _ (λ done counted.
     let dict = done.rows runs.layout in (
       takes_more 0 rows postings_tree a d (omega arith) (takes_none postings_tree a d (dict.others.1.1.1.0 (λ e. absurd (omega (arith, e))) ∙ runs.others.1.1.1.0 (λ e. absurd (omega (arith, e))))),
       takes_more (rows + 0) rows blocks_tree a d (omega arith) (takes_then rows 0 blocks_tree a b d taken (takes_none blocks_tree b d (dict.others.1.1.1.1.0 (λ e. absurd (omega (arith, e)))))),
       takes_more (0 + new) rows dict_tree a d (omega (arith, few)) (takes_then 0 new dict_tree a b d (takes_none dict_tree a b (runs.others.1.1.1.1.1.0 (λ e. absurd (omega (arith, e))))) counted),
-    )) (c.dict_write.ensures.call.ok clean goes.mode) (c.dict_write.ensures.rowids clean goes.mode runs.layout)
+    )) (c.dict_write.ensures.call.ok clean blocks.goes.mode) (c.dict_write.ensures.rowids clean blocks.goes.mode runs.layout)
 
 pub returns-in_err-after-clause-call : goal.returns-in_err-after-clause-call
 returns-in_err-after-clause-call g c = record {
@@ -160,16 +175,13 @@ returns-in_err-after-clause-call g c = record {
 pub returns-clause-sound : goal.returns-clause-sound
 returns-clause-sound g c clean inside store =
     let first = state g.S.Store c.args.tx.now.conn.now in
-    let second = state g.S.Store c.key_known.new.tx.conn.now in
-    let third = state g.S.Store c.runs_put.new.tx.conn.now in
-    let clean2 : HasCleanDisk third = omega (arith, c.dict_write.ensures.call.crash.clean) in
-    let clean1 : HasCleanDisk second = omega (arith, c.dict_write.ensures.call.crash.clean, c.runs_put.ensures.call.crash.clean) in
-    let reads = c.in_ok-known.ensures.call.ok clean1 inside in
-    let goes = goes_then first second third (reads_goes first second reads) (c.in_ok-after.ensures.call.ok clean2 reads.mode reads.is_open) in
+    let clean2 : HasCleanDisk (state g.S.Store c.runs_put.new.tx.conn.now) = omega (arith, c.dict_write.ensures.call.crash.clean) in
+    let blocks = blocks_done g (goal.at.returns-clause-sound g c).In_ok-after clean2 inside in
+    let same = store_same first (state g.S.Store c.key_known.new.tx.conn.now) blocks.reads.now_is store in
     let db = c.args.db.0 in
     let key = c.args.key.now in
     let xs = c.args.changes.now in
-    let runs = subst (λ (d : Database). AreRunsSpelled db key xs d.trees) reads.now_is (c.in_ok-after.ensures.sound clean2 reads.mode (store_same first second reads.now_is store)) in
+    let runs = subst (λ (d : Database). AreRunsSpelled db key xs d.trees) blocks.reads.now_is (c.in_ok-after.ensures.sound clean2 blocks.reads.mode same) in
     let sound : AreKeyRowsSound first.now.trees db key (map (λ (x : RecordChange). x.sysno) xs) =
-    record { dict = c.in_ok-known.ensures.sound clean1 inside store; blocks = numbers_sound db key xs first.now.trees runs } in
-    IfOk-weaker c.dict_write.result _ _ (λ _ _. sound) (c.dict_write.ensures.call.ok clean goes.mode)
+    record { dict = c.in_ok-known.ensures.sound blocks.clean inside store; blocks = numbers_sound db key xs first.now.trees runs } in
+    IfOk-weaker c.dict_write.result _ _ (λ _ _. sound) (c.dict_write.ensures.call.ok clean blocks.goes.mode)

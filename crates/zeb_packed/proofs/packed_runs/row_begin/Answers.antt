@@ -5,8 +5,8 @@ use Rattle.zeb_blocks.specs.Blocks.{LiesIn}
 use Rattle.zeb_blocks.specs.declared.postings.Posting.{Posting}
 use Rattle.zeb_register.specs.Hindrances.{TakesRowids, placed, rows_of}
 use Rattle.zeb_register.specs.PackedBlocks.{part_in}
-use Rattle.zeb_packed.specs.PackedChanges.{IfTold, IsBlockIn, IsClear, IsCounted, PutsBlock, PutsChanges}
-use Rattle.zeb_packed.specs.PackedHindrances.{HindersBlock, IsPut, SpellsMore, new_rows}
+use Rattle.zeb_packed.specs.PrivatePackedChanges.{IfTold, IsBlockIn, IsClear, HasSoManyRecords, PutsBlock, PutsChanges}
+use Rattle.zeb_packed.specs.PrivatePackedHindrances.{HindersBlock, IsPut, SpellsMore, new_rows}
 use Rattle.zeb_register.specs.Store.{Changes, blocks_tree}
 use Rattle.zeb_register.proofs.Calls.{changes_so}
 use Rattle.zeb_packed.proofs.PackedCauses.{new_within, row_hinders}
@@ -34,7 +34,7 @@ returns-clause-call g c = record {
       let block = c.args.block in
       let list = c.in_ok-after.after.list.items in
       let Before = IsClear block c.args.records in
-      let After = IsCounted c.in_ok-after.after.records in
+      let After = HasSoManyRecords c.in_ok-after.after.records in
       let Writes = IfTold false (IsBlockIn db key block) (PutsBlock db key block list) in
       record {
         on = put.on;

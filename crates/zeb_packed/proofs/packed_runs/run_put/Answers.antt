@@ -1,7 +1,7 @@
 use Rattle.std.proofs.Common.{◌≤◌, arith}
 use Rattle.sqlite.specs.Held.{state}
 use Rattle.zeb_register.specs.Calls.{Alters}
-use Rattle.zeb_packed.specs.PackedChanges.{IsClear, IsCounted, IsKnown, PutsChanges}
+use Rattle.zeb_packed.specs.PrivatePackedChanges.{IsClear, HasSoManyRecords, IsKnown, PutsChanges}
 use Rattle.zeb_register.specs.Store.{blocks_tree}
 use Rattle.zeb_register.proofs.Calls.{alters_so, inside_so}
 use Rattle.zeb_packed.proofs.PackedWrites.{known_clear, puts_so}
@@ -17,9 +17,9 @@ returns-clause-call g c =
     let block = c.args.block in
     let known = c.args.known in
     let clear : known.clear_from ≤ block = omega arith in
-    inside_so first second c.row_begin.result (λ after. Alters blocks_tree (PutsChanges db key run (IsClear block known.records) (IsCounted after))) (λ after. Alters blocks_tree (PutsChanges db key run (IsKnown known) (IsCounted after)))
-    (λ after. alters_so blocks_tree (PutsChanges db key run (IsClear block known.records) (IsCounted after)) (PutsChanges db key run (IsKnown known) (IsCounted after)) first second
-    (puts_so db key run (IsKnown known) (IsClear block known.records) (IsCounted after) (IsCounted after) first.now.trees second.now.trees (λ list. known_clear block known list clear) (λ list count. count)))
+    inside_so first second c.row_begin.result (λ after. Alters blocks_tree (PutsChanges db key run (IsClear block known.records) (HasSoManyRecords after))) (λ after. Alters blocks_tree (PutsChanges db key run (IsKnown known) (HasSoManyRecords after)))
+    (λ after. alters_so blocks_tree (PutsChanges db key run (IsClear block known.records) (HasSoManyRecords after)) (PutsChanges db key run (IsKnown known) (HasSoManyRecords after)) first second
+    (puts_so db key run (IsKnown known) (IsClear block known.records) (HasSoManyRecords after) (HasSoManyRecords after) first.now.trees second.now.trees (λ list. known_clear block known list clear) (λ list count. count)))
     c.row_begin.ensures.call
 
 pub returns-clause-damaged : goal.returns-clause-damaged

@@ -3,7 +3,7 @@ use Rattle.std.proofs.lemmas.List.{take_all}
 use Rattle.sqlite.specs.Held.{state}
 use Rattle.sqlite.specs.State.{HasCleanDisk}
 use Rattle.zeb_register.specs.Hindrances.{TakesRowids, placed, rows_of}
-use Rattle.zeb_packed.specs.PackedChanges.{IsCounted, IsKnown, PutsChanges}
+use Rattle.zeb_packed.specs.PrivatePackedChanges.{HasSoManyRecords, IsKnown, PutsChanges}
 use Rattle.zeb_register.specs.Store.{Changes, blocks_tree}
 use Rattle.zeb_register.proofs.Calls.{changes_so, changes_then, stays_then}
 use Rattle.zeb_register.proofs.CallsInTurn.{quiet_then}
@@ -12,7 +12,7 @@ use Rattle.zeb_register.proofs.Causes.{may_after}
 use Rattle.zeb_packed.proofs.PackedCauses.{rows_run, run_hinders, spells_run}
 use Rattle.zeb_register.proofs.RowCounts.{rows_taken}
 use Rattle.zeb_register.proofs.TakenRowids.{takes_more, takes_then}
-use Rattle.zeb_packed.specs.PackedHindrances.{AreRunsSpelled}
+use Rattle.zeb_packed.specs.PrivatePackedHindrances.{AreRunsSpelled}
 use Rattle.zeb_packed.proofs.PackedSound.{run_sound}
 use Rattle.zeb_packed.proofs.PackedWrites.{puts_behind, puts_so, puts_then}
 use Rattle.zeb_packed.proofs.packed_runs.runs_put.Goals as goal
@@ -54,9 +54,9 @@ loop-done-preserved g c =
           let known = c.loop-done.known in
           let next = c.behind-known.result in
           let counts = (it.call.ok clean (so_far.stays was inside).inside).rows before.layout in
-          let more = changes_so blocks_tree (PutsChanges db key (run xs done n) (IsKnown known) (IsCounted c.in_ok-records.records)) (PutsChanges db key (run xs done n) (IsKnown known) (IsKnown next)) mid last (λ puts.
+          let more = changes_so blocks_tree (PutsChanges db key (run xs done n) (IsKnown known) (HasSoManyRecords c.in_ok-records.records)) (PutsChanges db key (run xs done n) (IsKnown known) (IsKnown next)) mid last (λ puts.
           puts_behind db key block (run xs done n) known next mid.now.trees last.now.trees c.run_length.ensures.inside c.behind-known.ensures.keeps c.behind-known.ensures.behind
-          (subst (λ records. PutsChanges db key (run xs done n) (IsKnown known) (IsCounted records) blocks_tree mid.now.trees last.now.trees) (sym c.behind-known.ensures.records) puts)) counts in
+          (subst (λ records. PutsChanges db key (run xs done n) (IsKnown known) (HasSoManyRecords records) blocks_tree mid.now.trees last.now.trees) (sym c.behind-known.ensures.records) puts)) counts in
           let both = changes_then blocks_tree (PutsChanges db key (take done xs) (IsKnown c.args.known) (IsKnown known)) (PutsChanges db key (run xs done n) (IsKnown known) (IsKnown next)) _ first mid last
           (puts_then db key (take done xs) (run xs done n) (IsKnown c.args.known) (IsKnown known) (IsKnown next) first.now.trees mid.now.trees last.now.trees) before more in
           subst (λ l. Changes blocks_tree (PutsChanges db key l (IsKnown c.args.known) (IsKnown next)) first last) (sym (run_more xs done n)) both;
@@ -102,9 +102,9 @@ returns-clause-put g c clean inside store =
     let done = c.loop-done.done in
     let known = c.loop-done.known in
     let all : take done xs ≡ xs = take_all done xs c.loop-done-test.false in
-    let puts = changes_so blocks_tree (PutsChanges db key (take done xs) (IsKnown c.args.known) (IsKnown known)) (PutsChanges db key (take done xs) (IsKnown c.args.known) (IsCounted known.records)) first mid
-    (puts_so db key (take done xs) (IsKnown c.args.known) (IsKnown c.args.known) (IsKnown known) (IsCounted known.records) first.now.trees mid.now.trees (λ list is. is) (λ list is. is.count)) (c.loop-done.invariant.put clean inside store) in
-    subst (λ l. Changes blocks_tree (PutsChanges db key l (IsKnown c.args.known) (IsCounted known.records)) first mid) all puts
+    let puts = changes_so blocks_tree (PutsChanges db key (take done xs) (IsKnown c.args.known) (IsKnown known)) (PutsChanges db key (take done xs) (IsKnown c.args.known) (HasSoManyRecords known.records)) first mid
+    (puts_so db key (take done xs) (IsKnown c.args.known) (IsKnown c.args.known) (IsKnown known) (HasSoManyRecords known.records) first.now.trees mid.now.trees (λ list is. is) (λ list is. is.count)) (c.loop-done.invariant.put clean inside store) in
+    subst (λ l. Changes blocks_tree (PutsChanges db key l (IsKnown c.args.known) (HasSoManyRecords known.records)) first mid) all puts
 
 pub returns-in_err-records-clause-refused : goal.returns-in_err-records-clause-refused
 returns-in_err-records-clause-refused g c clean inside store told =

@@ -2,8 +2,8 @@ use Rattle.std.proofs.Common.{◌≡◌, ◌≤◌, ◌+◌, ◌-◌, IsTrue, le
 use Rattle.sqlite.specs.Held.{state}
 use Rattle.sqlite.specs.State.{HasCleanDisk, Survives}
 use Rattle.zeb_register.specs.Hindrances.{TakesRowids, placed, rows_of}
-use Rattle.zeb_packed.specs.PackedChanges.{IsKnown, PutsChanges}
-use Rattle.zeb_packed.specs.PackedHindrances.{AreRunsSpelled, IsPut, SpellsMore, WereSpelled}
+use Rattle.zeb_packed.specs.PrivatePackedChanges.{IsKnown, PutsChanges}
+use Rattle.zeb_packed.specs.PrivatePackedHindrances.{AreRunsSpelled, IsPut, SpellsMore, WereSpelled}
 use Rattle.zeb_register.specs.Store.{Changes, IsStore, blocks_tree}
 use Rattle.zeb_register.proofs.Calls.{Stays}
 use Rattle.zeb_packed.proofs.packed_runs.runs_put.Given as goal

@@ -3,7 +3,7 @@ use Rattle.sqlite.specs.Held.{state}
 use Rattle.zeb_blocks.specs.declared.postings.Posting.{Posting}
 use Rattle.zeb_register.specs.Occurring.{capped, key_in}
 use Rattle.zeb_register.specs.PackedBlocks.{blocks_of}
-use Rattle.zeb_register.specs.PackedRows.{AreSpelled}
+use Rattle.zeb_register.specs.PrivatePackedRows.{AreSpelled}
 use Rattle.zeb_register.specs.Tallies.{Rises}
 use Rattle.zeb_register.proofs.ContentLemmas.{one_list}
 use Rattle.zeb_register.proofs.PackedLists.{all_spelled, each_spelled, key_blocks, key_read, key_spelled}

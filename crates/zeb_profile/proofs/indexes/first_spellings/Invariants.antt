@@ -1,7 +1,6 @@
 use Rattle.std.proofs.Common.{◌≡◌, List, ℕ}
-use Rattle.zeb_profile.specs.PrivateKeys.{spelled_with}
+use Rattle.zeb_profile.specs.PrivateKeys.{spelled_with, name_key}
 use Rattle.zeb_profile.proofs.IndexFacts.{names_from}
-use Rattle.zeb_profile.specs.PrivateKeys.{name_key}
 use Rattle.std.specs.List.{find}
 use Rattle.std.specs.Str.{bytes_eq}
 use Rattle.zeb_profile.proofs.indexes.first_spellings.Given as goal

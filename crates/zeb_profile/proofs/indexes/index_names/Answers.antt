@@ -1,7 +1,8 @@
 use Rattle.std.proofs.Common.{◌≡◌, ◌∙◌, [], List, ℕ, ap, sym, arith}
 use Rattle.std.proofs.Math.Path.{fun_ext}
 use Rattle.std.specs.List.{fold}
-use Rattle.zeb_profile.specs.Indexes.{first_spelling, numbered}
+use Rattle.zeb_profile.specs.Indexes.{first_spelling}
+use Rattle.zeb_profile.specs.PrivateIndexes.{numbered}
 use Rattle.zeb_profile.specs.PrivateKeys.{spelled}
 use Rattle.zeb_profile.specs.Profiles.{directives_in}
 use Rattle.zeb_profile.proofs.Numbering.{index_names-numbered, names_after, names_after-end, spelling-same}

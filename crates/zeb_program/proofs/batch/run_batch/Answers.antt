@@ -8,7 +8,7 @@ use Rattle.zeb_change.specs.Conditions.{conditions}
 use Rattle.zeb_change.specs.declared.refusals.Refusal.TheVariants.{Store}
 use Rattle.zeb_program.proofs.MemoryLemmas.{always_clean}
 use Rattle.zeb_program.proofs.ScriptAnswerLemmas.{refused_opening, opened_batch, stopped_batch, silent_refusal}
-use Rattle.zeb_program.proofs.Unwrapped.{ok_is_no_err, together}
+use Rattle.zeb_program.proofs.ResultValues.{ok_is_no_err, together}
 use Rattle.zeb_program.proofs.batch.run_batch.Goals as goal
 
 pub returns-in-Ok-clause-answer : goal.returns-in-Ok-clause-answer

@@ -4,7 +4,7 @@ use Rattle.sqlite.specs.Held.{state}
 use Rattle.sqlite.specs.State.{HasCleanDisk}
 use Rattle.zeb_change.specs.Conditions.{conditions}
 use Rattle.zeb_program.specs.Answers.{AnswersLine}
-use Rattle.zeb_program.specs.Serving.{Leads}
+use Rattle.zeb_program.specs.PrivateServing.{Leads}
 use Rattle.zeb_program.specs.PathChanges.{AreFilesTold, IsLineTold}
 use Rattle.zeb_program.proofs.PathLemmas.{told_first, told_rest}
 use Rattle.zeb_program.proofs.ServingLemmas.{reaches_start, reaches_line, reaches_end, reaches_failure}

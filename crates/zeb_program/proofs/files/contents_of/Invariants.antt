@@ -1,6 +1,6 @@
 use Rattle.std.proofs.Common.{◌≡◌, List, ℕ, Some, map, string_bytes}
 use Rattle.zeb_paths.specs.Walks.{paths_left}
-use Rattle.zeb_program.specs.TaskAnswers.{AreTold}
+use Rattle.zeb_program.specs.PrivateTaskAnswers.{AreTold}
 use Rattle.zeb_program.proofs.ReaderLemmas.{IsMet}
 use Rattle.zeb_program.proofs.files.contents_of.Given as goal
 

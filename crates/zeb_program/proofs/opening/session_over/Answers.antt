@@ -1,6 +1,6 @@
 -- What adopting the store says, of what is given on.
 use Rattle.zeb_change.specs.declared.refusals.Refusal.TheVariants.{Store}
-use Rattle.zeb_program.proofs.Unwrapped.{holds_of, narrowed_err, narrowed_ok}
+use Rattle.zeb_program.proofs.ResultValues.{holds_of, narrowed_err, narrowed_ok}
 use Rattle.zeb_program.proofs.opening.session_over.Goals as goal
 
 pub returns-in-Ok-clause-other : goal.returns-in-Ok-clause-other

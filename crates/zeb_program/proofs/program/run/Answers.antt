@@ -2,7 +2,7 @@ use Rattle.std.proofs.Common.{◌≡◌, false, map, string_bytes}
 use Rattle.std.specs.Prelude.{IfSome}
 use Rattle.zeb_program.specs.ScriptAnswers.{EndsScript}
 use Rattle.zeb_program.specs.WordAnswers.{AnswersWords}
-use Rattle.zeb_program.proofs.Unwrapped.{unwrapped}
+use Rattle.zeb_program.proofs.ResultValues.{unwrapped}
 use Rattle.zeb_program.proofs.ScriptAnswerLemmas.{early_script, ended_script, kept_script}
 use Rattle.zeb_program.proofs.WordAnswerLemmas.{kept_words}
 use Rattle.zeb_program.proofs.program.run.Goals as goal

@@ -2,9 +2,9 @@ use Rattle.std.proofs.Common.{◌≡◌, ◌⊎◌, Err, inl, rules, subst, sym}
 use Rattle.sqlite.specs.Held.{state}
 use Rattle.zeb_change.specs.Conditions.{conditions}
 use Rattle.zeb_register.specs.Formats.{version_of}
-use Rattle.zeb_program.specs.Faults.{IsUnreadable}
-use Rattle.zeb_program.specs.Serving.{AnswersFrom, replied}
-use Rattle.zeb_program.specs.TaskAnswers.{AnalysesFiles}
+use Rattle.zeb_program.specs.PrivateFaults.{IsUnreadable}
+use Rattle.zeb_program.specs.PrivateServing.{AnswersFrom, replied}
+use Rattle.zeb_program.specs.PrivateTaskAnswers.{AnalysesFiles}
 use Rattle.zeb_program.specs.declared.faults.Fault.TheVariants.{Memory}
 use Rattle.zeb_program.proofs.TaskLemmas.{analysed_files, unread_files}
 use Rattle.zeb_program.proofs.tasks.analyse_paths.Goals as goal

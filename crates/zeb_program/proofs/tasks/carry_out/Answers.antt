@@ -2,8 +2,8 @@ use Rattle.std.proofs.Common.{subst, sym}
 use Rattle.sqlite.specs.Held.{state}
 use Rattle.zeb_change.specs.Conditions.{conditions}
 use Rattle.zeb_register.specs.Formats.{version_of}
-use Rattle.zeb_program.specs.OverTables.{TaskOver}
-use Rattle.zeb_program.specs.Serving.{ServesTask, replied}
+use Rattle.zeb_program.specs.PrivateOverTables.{TaskOver}
+use Rattle.zeb_program.specs.PrivateServing.{ServesTask, replied}
 use Rattle.zeb_program.proofs.TaskLemmas.{analysed_task, asked_task, changed_task}
 use Rattle.zeb_program.proofs.tasks.carry_out.Goals as goal
 

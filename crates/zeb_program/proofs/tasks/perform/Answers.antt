@@ -1,5 +1,5 @@
 use Rattle.std.proofs.Common.{◌∙◌, subst, sym}
-use Rattle.zeb_program.specs.Warnings.{MayWarn}
+use Rattle.zeb_program.specs.PrivateWarnings.{MayWarn}
 use Rattle.zeb_program.proofs.WarningLemmas.{warned}
 use Rattle.zeb_program.proofs.tasks.perform.Goals as goal
 

@@ -1,5 +1,5 @@
 use Rattle.std.proofs.Common.{arith, ◌<◌, length, map}
-use Rattle.zeb_program.specs.Warnings.{unmarked_of}
+use Rattle.zeb_program.specs.PrivateWarnings.{unmarked_of}
 use Rattle.zeb_program.proofs.WarningLemmas.{file_done}
 use Rattle.zeb_program.proofs.warnings.unmarked_of.Goals as goal
 

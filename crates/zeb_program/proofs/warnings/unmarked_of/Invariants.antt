@@ -1,5 +1,5 @@
 use Rattle.std.proofs.Common.{◌≡◌, ◌+◌, ◌++◌, drop, map}
-use Rattle.zeb_program.specs.Warnings.{unmarked_of}
+use Rattle.zeb_program.specs.PrivateWarnings.{unmarked_of}
 use Rattle.zeb_program.proofs.warnings.unmarked_of.Given as goal
 
 abbrev pub invariant-loop-index : goal.invariant-loop-index

@@ -3,12 +3,12 @@ use Rattle.std.proofs.Math.Facts.{to_z-of_z}
 use Rattle.std.proofs.lemmas.Result.{IfOk-weaker}
 use Rattle.sqlite.specs.Held.{state}
 use Rattle.sqlite.specs.declared.types.Value.TheVariants.{Int}
-use Rattle.zeb_register.specs.RowExpected.{AsExpected, tree_of}
-use Rattle.zeb_register.specs.RowReads.{Fits}
+use Rattle.zeb_register.specs.PrivateRowExpected.{AsExpected, tree_of}
+use Rattle.zeb_register.specs.PrivateRowReads.{Fits}
 use Rattle.zeb_register.specs.Sql.{IsListOf}
 use Rattle.zeb_register.specs.Store.{IsRest}
 use Rattle.zeb_register.proofs.RowReads.{fits_expected}
-use Rattle.zeb_register.proofs.Told.{told_so}
+use Rattle.zeb_register.proofs.YesNoAnswers.{told_so}
 use Rattle.zeb_register.proofs.agreeing.database_agrees.Goals as goal
 
 pub returns-clause-value : goal.returns-clause-value

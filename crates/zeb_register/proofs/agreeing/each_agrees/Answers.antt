@@ -4,8 +4,8 @@ use Rattle.sqlite.specs.Held.{state}
 use Rattle.sqlite.specs.State.{HasCleanDisk}
 use Rattle.sqlite.proofs.Callers.{unchanged_then}
 use Rattle.zeb_register.specs.declared.catalog.ListedDatabase.{ListedDatabase}
-use Rattle.zeb_register.specs.RowExpected.{AsExpected}
-use Rattle.zeb_register.proofs.Alike.{at_or_below, got_in, got_is, got_same}
+use Rattle.zeb_register.specs.PrivateRowExpected.{AsExpected}
+use Rattle.zeb_register.proofs.ListsInStep.{at_or_below, got_in, got_is, got_same}
 use Rattle.zeb_register.proofs.Calls.{nothing_then, store_same}
 use Rattle.zeb_register.proofs.CallsInTurn.{quiet_then}
 use Rattle.zeb_register.proofs.ContentLemmas.{has_at}

@@ -4,7 +4,7 @@ use Rattle.sqlite.specs.State.{HasCleanDisk, IsUnchanged, Survives}
 use Rattle.zeb_register.specs.declared.catalog.ListedDatabase.{ListedDatabase}
 use Rattle.zeb_register.specs.declared.expected.ExpectedDatabase.{ExpectedDatabase}
 use Rattle.zeb_register.specs.Calls.{ChangesNothing}
-use Rattle.zeb_register.specs.RowExpected.{AreInOrder, AsExpected}
+use Rattle.zeb_register.specs.PrivateRowExpected.{AreInOrder, AsExpected}
 use Rattle.zeb_register.specs.Store.{IsStore}
 use Rattle.zeb_register.proofs.agreeing.each_agrees.Given as goal
 

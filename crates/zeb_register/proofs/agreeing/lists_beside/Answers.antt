@@ -8,7 +8,7 @@ use Rattle.sqlite.specs.State.{HasCleanDisk}
 use Rattle.zeb_register.specs.declared.agreeing.Table.TheVariants.{Records}
 use Rattle.zeb_register.specs.declared.expected.ExpectedDatabase.{ExpectedDatabase}
 use Rattle.zeb_register.specs.Expected.{name_order}
-use Rattle.zeb_register.specs.RowExpected.{AreBeside, AreInOrder, HasNames, HasTexts, HoldsThere, ListsAgree}
+use Rattle.zeb_register.specs.PrivateRowExpected.{AreBeside, AreInOrder, HasNames, KeepsExpectedTexts, HoldsThere, ListsAgree}
 use Rattle.zeb_register.proofs.Calls.{store_same}
 use Rattle.zeb_register.proofs.ExpectedDatabases.{names_there}
 use Rattle.zeb_register.proofs.agreeing.lists_beside.Goals as goal
@@ -24,7 +24,7 @@ returns-clause-value g c clean store ordered =
     let clean1 : HasCleanDisk s1 = omega (arith, c.records_beside.ensures.call.crash.clean) in
     let at = (c.in_ok-texts_agree.ensures.call.ok clean1).0.now_is in
     let databases = c.args.expected.now.databases.items in
-    let texts : HasTexts s0.now.trees c.args.expected.now = (c.in_ok-texts_agree.ensures.value clean1 store).0 c.if-not-branch.false in
+    let texts : KeepsExpectedTexts s0.now.trees c.args.expected.now = (c.in_ok-texts_agree.ensures.value clean1 store).0 c.if-not-branch.false in
     let given = subst (λ (l : List ExpectedDatabase). IsStrictlySortedBy name_order l → AreInOrder l
     → IfOk c.records_beside.result (λ found. MatchOption found (¬ (HasNames s1.now.trees l × HoldsThere Records l s1.now.trees)) (λ listed. AreBeside listed.items l s1.now.trees × HoldsThere Records l s1.now.trees)))
     c.deref.ensures.value (c.records_beside.ensures.value clean (store_same s0 s1 at store)) ordered.names (λ database here. (ordered.records database here, ordered.postings database here)) in

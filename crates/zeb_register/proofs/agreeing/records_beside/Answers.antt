@@ -5,7 +5,7 @@ use Rattle.sqlite.specs.State.{State, HasCleanDisk}
 use Rattle.zeb_register.specs.declared.agreeing.Table.TheVariants.{Records}
 use Rattle.zeb_register.specs.declared.catalog.ListedDatabase.{ListedDatabase}
 use Rattle.zeb_register.specs.declared.expected.ExpectedDatabase.{ExpectedDatabase}
-use Rattle.zeb_register.specs.RowExpected.{AreBeside, HoldsExpected, HoldsThere}
+use Rattle.zeb_register.specs.PrivateRowExpected.{AreBeside, HoldsExpected, HoldsThere}
 use Rattle.zeb_register.specs.Store.{IsStore}
 use Rattle.zeb_register.proofs.Calls.{store_same}
 use Rattle.zeb_register.proofs.ExpectedDatabases.{expected_there}

@@ -4,9 +4,9 @@ use Rattle.sqlite.specs.Effect.{Database}
 use Rattle.sqlite.specs.Held.{state}
 use Rattle.sqlite.specs.State.{HasCleanDisk}
 use Rattle.zeb_register.specs.declared.agreeing.Table.TheVariants.{Postings}
-use Rattle.zeb_register.specs.RowExpected.{HoldsExpected, LacksPacked}
+use Rattle.zeb_register.specs.PrivateRowExpected.{HoldsExpected, LacksPacked}
 use Rattle.zeb_register.proofs.Calls.{reading_then, store_same}
-use Rattle.zeb_register.proofs.Told.{both_told, first_told}
+use Rattle.zeb_register.proofs.YesNoAnswers.{both_told, first_told}
 use Rattle.zeb_register.proofs.agreeing.rows_agree.Goals as goal
 
 pub returns-then-not-branch-clause-value : goal.returns-then-not-branch-clause-value

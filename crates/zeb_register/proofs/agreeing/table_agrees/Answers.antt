@@ -4,9 +4,9 @@ use Rattle.sqlite.specs.Effect.{Database}
 use Rattle.sqlite.specs.Held.{state}
 use Rattle.sqlite.specs.State.{HasCleanDisk}
 use Rattle.std.proofs.Common.{◌≡◌, ◌↔◌, true, false, IsTrue, subst}
-use Rattle.zeb_register.specs.RowExpected.{BelongsTo, EachAsExpected, tree_of}
+use Rattle.zeb_register.specs.PrivateRowExpected.{BelongsTo, EachAsExpected, tree_of}
 use Rattle.zeb_register.proofs.Calls.{reading_then, store_same}
-use Rattle.zeb_register.proofs.Told.{both_told, first_told}
+use Rattle.zeb_register.proofs.YesNoAnswers.{both_told, first_told}
 use Rattle.zeb_register.proofs.agreeing.table_agrees.Goals as goal
 
 pub returns-then-not-branch-clause-value : goal.returns-then-not-branch-clause-value

@@ -6,7 +6,7 @@ use Rattle.sqlite.specs.Held.{state}
 use Rattle.sqlite.specs.State.{HasCleanDisk, IsUnchanged}
 use Rattle.zeb_register.specs.declared.faults.RegFault.{RegFault}
 use Rattle.zeb_register.specs.Calls.{Reading}
-use Rattle.zeb_register.specs.RowExpected.{tree_of}
+use Rattle.zeb_register.specs.PrivateRowExpected.{tree_of}
 use Rattle.zeb_register.proofs.Calls.{nothing_then, reading_behind}
 use Rattle.zeb_register.proofs.CallsInTurn.{quiet_then}
 use Rattle.zeb_register.proofs.OwnersListed.{IsReached, all_reached, below_few, first_reached, found_next, next_reached, none_missing, none_next}

@@ -2,7 +2,7 @@ use Rattle.std.proofs.Common.{◌≡◌, false}
 use Rattle.sqlite.specs.Held.{state}
 use Rattle.sqlite.specs.State.{HasCleanDisk, IsUnchanged, Survives}
 use Rattle.zeb_register.specs.Calls.{ChangesNothing}
-use Rattle.zeb_register.specs.RowExpected.{tree_of}
+use Rattle.zeb_register.specs.PrivateRowExpected.{tree_of}
 use Rattle.zeb_register.specs.Store.{IsStore}
 use Rattle.zeb_register.proofs.OwnersListed.{IsReached}
 use Rattle.zeb_register.proofs.belonging.belongs.Given as goal

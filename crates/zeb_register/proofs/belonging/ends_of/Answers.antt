@@ -3,7 +3,7 @@ use Rattle.std.proofs.Math.Facts.{to_z-of_z}
 use Rattle.sqlite.specs.Effect.{Database}
 use Rattle.sqlite.specs.Held.{state}
 use Rattle.sqlite.specs.State.{HasCleanDisk}
-use Rattle.zeb_register.specs.RowExpected.{Owns, tree_of}
+use Rattle.zeb_register.specs.PrivateRowExpected.{Owns, tree_of}
 use Rattle.zeb_register.proofs.Calls.{store_same}
 use Rattle.zeb_register.proofs.OwnersListed.{IsFirst, first_seen}
 use Rattle.zeb_register.proofs.belonging.ends_of.Goals as goal

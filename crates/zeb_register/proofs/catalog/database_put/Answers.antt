@@ -6,10 +6,11 @@ use Rattle.sqlite.specs.Effect.{Database}
 use Rattle.sqlite.specs.Held.{state}
 use Rattle.sqlite.specs.Order.{column}
 use Rattle.zeb_register.specs.Store.{Changes, database_columns, databases_tree}
-use Rattle.zeb_register.specs.RowStatements.{SetsLast, AddsDatabase}
+use Rattle.zeb_register.specs.PrivateRowStatements.{SetsLast, AddsDatabase}
 use Rattle.zeb_register.specs.Catalog.{PutsDatabase}
 use Rattle.zeb_register.proofs.DatabaseStatements.{puts_set, puts_added}
-use Rattle.zeb_register.specs.Hindrances.{HindersLast, HindersNew, TakesRowids}
+use Rattle.zeb_register.specs.Hindrances.{TakesRowids}
+use Rattle.zeb_register.specs.PrivateHindrances.{HindersLast, HindersNew}
 use Rattle.zeb_register.proofs.Calls.{changes_after, changes_so, goes_keeps, on_err, reads_goes, store_same}
 use Rattle.zeb_register.proofs.Causes.{hindered_after}
 use Rattle.zeb_register.proofs.DatabaseRefusals.{add_hinders, set_hinders}

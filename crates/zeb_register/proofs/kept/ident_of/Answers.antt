@@ -3,7 +3,7 @@ use Rattle.std.proofs.Math.Facts.{to_z-of_z}
 use Rattle.std.specs.Option.{option_copied}
 use Rattle.sqlite.specs.Held.{state}
 use Rattle.zeb_register.specs.Sql.{IsListOf}
-use Rattle.zeb_register.specs.RowStatements.{IsIdentRow}
+use Rattle.zeb_register.specs.PrivateRowStatements.{IsIdentRow}
 use Rattle.zeb_register.proofs.LookUps.{ident_found, no_ident, ident_readable}
 use Rattle.zeb_register.proofs.kept.ident_of.Goals as goal
 

@@ -6,7 +6,7 @@ use Rattle.sqlite.specs.declared.types.Value.TheVariants.{Int}
 use Rattle.sqlite_rules.specs.Lists.{Has}
 use Rattle.zeb_register.specs.Sql.{IsListOf}
 use Rattle.zeb_register.specs.Store.{IsRest, records_tree}
-use Rattle.zeb_register.specs.RowPlaces.{first_three}
+use Rattle.zeb_register.specs.PrivateRowPlaces.{first_three}
 use Rattle.zeb_register.proofs.RecordLemmas.{records_listed, records_shown}
 use Rattle.zeb_register.proofs.kept.records.Goals as goal
 

@@ -1,5 +1,5 @@
 use Rattle.std.proofs.Common.{◌≡◌, map, take}
-use Rattle.zeb_register.specs.RowPlaces.{first_three}
+use Rattle.zeb_register.specs.PrivateRowPlaces.{first_three}
 use Rattle.zeb_register.specs.Kept.{record_shown}
 use Rattle.zeb_register.proofs.kept.records_of.Given as goal
 

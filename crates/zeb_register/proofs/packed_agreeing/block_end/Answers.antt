@@ -2,9 +2,9 @@ use Rattle.std.proofs.Common.{◌≡◌, ◌∙◌, ◌+◌, ◌++◌, ℕ, List
 use Rattle.sqlite_value.specs.Value.{owned}
 use Rattle.zeb_blocks.specs.Blocks.{BlockSpells}
 use Rattle.zeb_keys.specs.declared.keys.Key.{Key}
-use Rattle.zeb_register.specs.RowExpected.{IsBlockBefore, with_key}
+use Rattle.zeb_register.specs.PrivateRowExpected.{IsBlockBefore, with_key}
 use Rattle.zeb_register.proofs.PackedBeside.{drop_got, drop_over, key_before, map_none, moved_on, none_before, rest_is, same_rest}
-use Rattle.zeb_register.proofs.Told.{match_so, some_so}
+use Rattle.zeb_register.proofs.YesNoAnswers.{match_so, some_so}
 use Rattle.zeb_register.proofs.packed_agreeing.block_end.Goals as goal
 use Rattle.zeb_register.proofs.packed_agreeing.block_end.Goals.{then-column_count-ne5-via-then-column_count-ne5, then-column_count-ne5-via-else-column_count-ne5+then-not-is_key}
 

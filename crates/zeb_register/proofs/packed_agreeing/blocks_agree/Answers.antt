@@ -7,11 +7,11 @@ use Rattle.zeb_register.specs.declared.agreeing.Table.TheVariants.{Blocks, Dict}
 use Rattle.zeb_register.specs.declared.catalog.ListedDatabase.{ListedDatabase}
 use Rattle.zeb_register.specs.declared.expected.ExpectedDatabase.{ExpectedDatabase}
 use Rattle.zeb_register.specs.Formats.{packed_blocks}
-use Rattle.zeb_register.specs.RowExpected.{AreBeside, AreInOrder, HoldsExpected, HoldsKeysAlone, ListsAgree}
+use Rattle.zeb_register.specs.PrivateRowExpected.{AreBeside, AreInOrder, HoldsExpected, HoldsKeysAlone, ListsAgree}
 use Rattle.zeb_register.proofs.Calls.{store_same}
 use Rattle.zeb_register.proofs.ExpectedDatabases.{expected_there}
-use Rattle.zeb_register.proofs.Expecting.{lists_agree}
-use Rattle.zeb_register.proofs.ExpectingBlocks.{blocks_agree, blocks_expected}
+use Rattle.zeb_register.proofs.AgreeingTables.{lists_agree}
+use Rattle.zeb_register.proofs.AgreeingBlocks.{blocks_agree, blocks_expected}
 use Rattle.zeb_register.proofs.packed_agreeing.blocks_agree.Goals as goal
 
 pub returns-in_default-clause-value : goal.returns-in_default-clause-value

@@ -1,8 +1,8 @@
 use Rattle.std.proofs.Common.{◌∙◌, ◌++◌, List, ap, map}
 use Rattle.zeb_blocks.specs.declared.postings.Posting.{Posting}
-use Rattle.zeb_register.specs.RowExpected.{with_key}
+use Rattle.zeb_register.specs.PrivateRowExpected.{with_key}
 use Rattle.zeb_register.proofs.PackedLemmas.{one_spelled}
-use Rattle.zeb_register.proofs.Told.{match_so}
+use Rattle.zeb_register.proofs.YesNoAnswers.{match_so}
 use Rattle.zeb_register.proofs.packed_agreeing.spelled_end.Goals as goal
 
 pub returns-in-Ok : goal.returns-in-Ok

@@ -5,7 +5,7 @@ use Rattle.sqlite_rules.specs.Lists.{Has}
 use Rattle.zeb_register.specs.Sql.{IsListOf}
 use Rattle.zeb_register.specs.Store.{IsRest, postings_tree}
 use Rattle.zeb_register.specs.PlainRows.{key_row}
-use Rattle.zeb_register.specs.RowPlaces.{first_three}
+use Rattle.zeb_register.specs.PrivateRowPlaces.{first_three}
 use Rattle.zeb_register.specs.Occurring.{key_in}
 use Rattle.zeb_register.proofs.ContentLemmas.{list_read, rows_numbered}
 use Rattle.zeb_register.proofs.plain.postings_under.Goals as goal

@@ -1,5 +1,5 @@
 use Rattle.std.proofs.Common.{◌≡◌, map, take}
-use Rattle.zeb_register.specs.BetweenRows.{three_behind}
+use Rattle.zeb_register.specs.PrivateBetweenRows.{three_behind}
 use Rattle.zeb_register.specs.PlainRows.{posting_row}
 use Rattle.zeb_register.proofs.plain_between.postings_behind.Given as goal
 

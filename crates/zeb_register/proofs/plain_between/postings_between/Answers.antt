@@ -2,8 +2,8 @@ use Rattle.std.proofs.Common.{◌∙◌, map, ap, subst}
 use Rattle.std.proofs.lemmas.Result.{IfOk-weaker}
 use Rattle.sqlite.specs.Held.{state}
 use Rattle.sqlite_rules.specs.Lists.{Has}
-use Rattle.zeb_register.specs.BetweenRows.{IsRestBetween, three_behind}
-use Rattle.zeb_register.specs.KeyColumns.{register_columns}
+use Rattle.zeb_register.specs.PrivateBetweenRows.{IsRestBetween, three_behind}
+use Rattle.zeb_register.specs.PrivateKeyColumns.{register_columns}
 use Rattle.zeb_register.specs.Sql.{IsListOf}
 use Rattle.zeb_register.specs.Store.{postings_tree}
 use Rattle.zeb_register.proofs.BetweenLemmas.{rows_numbered, rows_read}

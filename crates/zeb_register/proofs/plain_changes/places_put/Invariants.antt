@@ -3,7 +3,7 @@ use Rattle.sqlite.specs.Held.{state}
 use Rattle.sqlite.specs.State.{HasCleanDisk, Survives}
 use Rattle.zeb_register.specs.Hindrances.{TakesRowids}
 use Rattle.zeb_register.specs.Store.{IsStore, postings_tree}
-use Rattle.zeb_register.specs.RowPlaces.{Puts}
+use Rattle.zeb_register.specs.PrivateRowPlaces.{Puts}
 use Rattle.zeb_register.proofs.Calls.{Stays}
 use Rattle.zeb_register.proofs.plain_changes.places_put.Given as goal
 

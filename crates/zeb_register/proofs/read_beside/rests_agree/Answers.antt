@@ -9,13 +9,13 @@ use Rattle.sqlite.proofs.Callers.{unchanged_then}
 use Rattle.zeb_register.specs.declared.faults.RegFault.{RegFault}
 use Rattle.zeb_register.specs.Calls.{Reading}
 use Rattle.zeb_register.specs.Clauses.{IsReasoned}
-use Rattle.zeb_register.specs.RowExpected.{IsInOrder}
-use Rattle.zeb_register.specs.RowReads.{Fits, ReadsRests, rests_text, size_of}
+use Rattle.zeb_register.specs.PrivateRowExpected.{IsInOrder}
+use Rattle.zeb_register.specs.PrivateRowReads.{Fits, ReadsRests, rests_text, size_of}
 use Rattle.zeb_register.proofs.Calls.{IsSilent, nothing, quiet, store_same}
 use Rattle.zeb_register.proofs.Causes.{may_after}
 use Rattle.zeb_register.proofs.CallsInTurn.{quiet_then}
 use Rattle.zeb_register.proofs.RowReads.{begun_silent, failed_nothing, fits_none, rests_refused, rests_silent, same_nothing, tells_broken, tells_whole, one_further}
-use Rattle.zeb_register.proofs.Told.{told_so}
+use Rattle.zeb_register.proofs.YesNoAnswers.{told_so}
 use Rattle.std.proofs.lemmas.Bool.Decides.{Decides-eqb}
 use Rattle.std.proofs.lemmas.Result.{err_from_is_err_and}
 use Rattle.zeb_register.proofs.read_beside.rests_agree.Goals as goal

@@ -4,8 +4,8 @@ use Rattle.sqlite.specs.Held.{state}
 use Rattle.sqlite.specs.Order.{Row}
 use Rattle.sqlite.specs.State.{HasCleanDisk, IsUnchanged, Survives}
 use Rattle.sqlite.specs.declared.types.Value.TheVariants.{Int}
-use Rattle.zeb_register.specs.RowExpected.{IsInOrder}
-use Rattle.zeb_register.specs.RowReads.{Fits, rests_text, size_of}
+use Rattle.zeb_register.specs.PrivateRowExpected.{IsInOrder}
+use Rattle.zeb_register.specs.PrivateRowReads.{Fits, rests_text, size_of}
 use Rattle.zeb_register.proofs.read_beside.rests_agree.Given as goal
 
 abbrev pub invariant-rows : goal.invariant-rows

@@ -5,9 +5,9 @@ use Rattle.zeb_register.specs.declared.expected.KeyPosting.{KeyPosting}
 use Rattle.zeb_register.specs.declared.kept.Record.{Record}
 use Rattle.zeb_register.specs.Expected.{key_posting_order}
 use Rattle.zeb_register.specs.Kept.{record_shown}
-use Rattle.zeb_register.specs.RowExpected.{IsBlockBefore, posting_shown}
-use Rattle.zeb_register.specs.RowKeys.{IsRunBefore}
-use Rattle.zeb_register.specs.RowReads.{size_of}
+use Rattle.zeb_register.specs.PrivateRowExpected.{IsBlockBefore, posting_shown}
+use Rattle.zeb_register.specs.PrivateRowKeys.{IsRunBefore}
+use Rattle.zeb_register.specs.PrivateRowReads.{size_of}
 use Rattle.zeb_register.proofs.RowReads.{EndsAt, block_ends, run_ends}
 use Rattle.zeb_register.proofs.read_beside.row_end.Goals as goal
 

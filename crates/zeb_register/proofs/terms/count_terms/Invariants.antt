@@ -4,7 +4,7 @@ use Rattle.sqlite.specs.Order.{row_cmp}
 use Rattle.sqlite_rules.specs.Lists.{Has}
 use Rattle.zeb_register.specs.declared.registers.TermCount.{TermCount}
 use Rattle.zeb_register.specs.Occurring.{AreCounts}
-use Rattle.zeb_register.specs.RowTerms.{IsShown}
+use Rattle.zeb_register.specs.PrivateRowTerms.{IsShown}
 use Rattle.zeb_register.proofs.CountLemmas.{IsNewestOf}
 use Rattle.zeb_register.proofs.terms.count_terms.Given as goal
 

@@ -2,7 +2,7 @@ use Rattle.std.proofs.Common.{◌<◌, ◌≤◌, take}
 use Rattle.std.specs.List.Sorted.{IsStrictlySortedBy}
 use Rattle.zeb_register.specs.Content.{posting_cmp}
 use Rattle.zeb_register.specs.Occurring.{IsCount}
-use Rattle.zeb_register.specs.RowTerms.{IsInRecord}
+use Rattle.zeb_register.specs.PrivateRowTerms.{IsInRecord}
 use Rattle.zeb_register.proofs.CountLemmas.{IsNewest}
 use Rattle.zeb_register.proofs.terms.records_in.Given as goal
 

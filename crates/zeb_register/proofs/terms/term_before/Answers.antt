@@ -5,7 +5,7 @@ use Rattle.std.specs.Cmp.Lexicographic.{slice_cmp}
 use Rattle.sqlite.specs.Held.{state}
 use Rattle.sqlite_rules.specs.Lists.{Has}
 use Rattle.zeb_keys.specs.Registers.{register_code}
-use Rattle.zeb_register.specs.RowTerms.{HasTerm, ShowsGreatest, ShowsTerm}
+use Rattle.zeb_register.specs.PrivateRowTerms.{HasTerm, ShowsGreatest, ShowsTerm}
 use Rattle.zeb_register.proofs.TermRows.{greatest_shown, greatest_readable}
 use Rattle.zeb_register.proofs.terms.term_before.Goals as goal
 

@@ -5,7 +5,7 @@ use Rattle.std.specs.Cmp.Lexicographic.{slice_cmp}
 use Rattle.sqlite.specs.Held.{state}
 use Rattle.sqlite_rules.specs.Lists.{Has}
 use Rattle.zeb_keys.specs.Registers.{register_code}
-use Rattle.zeb_register.specs.RowTerms.{HasTerm, ShowsLeast, ShowsTerm}
+use Rattle.zeb_register.specs.PrivateRowTerms.{HasTerm, ShowsLeast, ShowsTerm}
 use Rattle.zeb_register.proofs.TermRows.{least_shown, least_readable}
 use Rattle.zeb_register.proofs.terms.term_from.Goals as goal
 

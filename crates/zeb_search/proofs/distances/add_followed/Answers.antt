@@ -1,5 +1,5 @@
 use Rattle.std.proofs.Common.{◌∙◌, ◌++◌, List, ℕ, sym, ap, subst}
-use Rattle.zeb_search.specs.Lists.{ArePostings}
+use Rattle.zeb_search.specs.PrivateLists.{ArePostings}
 use Rattle.sqlite_rules.specs.Lists.{Has}
 use Rattle.zeb_search.specs.PrivateWalks.{HasWithin}
 use Rattle.zeb_search.proofs.SeparatedPostings.{on_added, followed_added}

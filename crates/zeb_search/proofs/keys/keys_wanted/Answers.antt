@@ -3,11 +3,11 @@ use Rattle.sqlite.specs.Held.{state}
 use Rattle.zeb_keys.specs.declared.keys.Key.{Key}
 use Rattle.zeb_register.specs.Content.{posted}
 use Rattle.zeb_register.specs.Occurring.{key_in}
-use Rattle.zeb_search.specs.Counted.{NoRows}
+use Rattle.zeb_search.specs.PrivateSearchCounts.{NoRows}
 use Rattle.zeb_search.specs.DictRows.{EntryDict, RegisterDict}
 use Rattle.zeb_search.specs.ListRows.{AreKeysOf}
 use Rattle.zeb_search.specs.PrivateTerms.{IsWanted, NamesEntry, StandTogether, TermsRise}
-use Rattle.zeb_search.proofs.CountedLemmas.{counted_for, counted_still}
+use Rattle.zeb_search.proofs.SearchCountLemmas.{counted_for, counted_still}
 use Rattle.zeb_search.proofs.NeighbourLemmas.{found_keys, keys_neighbours}
 use Rattle.zeb_search.proofs.TermLemmas.{keys_are, named_key}
 use Rattle.zeb_search.proofs.keys.keys_wanted.Goals as goal

@@ -5,15 +5,15 @@ use Rattle.sqlite_rules.specs.Lists.{Has}
 use Rattle.zeb_register.specs.declared.registers.TermCount.{TermCount}
 use Rattle.zeb_register.specs.Content.{posted}
 use Rattle.zeb_register.specs.Occurring.{TermIn}
-use Rattle.zeb_search.specs.Counted.{NoRows}
+use Rattle.zeb_search.specs.PrivateSearchCounts.{NoRows}
 use Rattle.zeb_search.specs.DictRows.{RegisterDict}
 use Rattle.zeb_search.specs.PrivateTerms.{HasWanted, LeadsTo, TermsRise}
 use Rattle.zeb_search.proofs.PageLemmas.{HasUpTo, none_so_far, next_page, last_page, more_of, more_rises, pages_told}
 use Rattle.zeb_search.proofs.ReadLemmas.{one_read, read_still, read_then}
-use Rattle.zeb_search.proofs.CountedLemmas.{counted_still, counted_within, if_ok_counted}
+use Rattle.zeb_search.proofs.SearchCountLemmas.{counted_still, counted_within, if_ok_counted}
 use Rattle.zeb_search.proofs.TermLemmas.{all_has_wanted}
 use Rattle.zeb_search.proofs.DictCounts.{pages_counted, within_register}
-use Rattle.zeb_search.proofs.Reasons.{reasoned_error}
+use Rattle.zeb_search.proofs.ReasonedFaults.{reasoned_error}
 use Rattle.zeb_search.proofs.keys.terms_wanted.Goals as goal
 
 pub pages-init : goal.pages-init

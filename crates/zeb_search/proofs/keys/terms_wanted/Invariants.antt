@@ -6,7 +6,8 @@ use Rattle.zeb_register.specs.Formats.{holds_in}
 use Rattle.zeb_register.specs.Store.{IsStore}
 use Rattle.zeb_search.proofs.PageLemmas.{HasUpTo}
 use Rattle.zeb_search.proofs.ReadLemmas.{IsRead}
-use Rattle.zeb_search.specs.Counted.{Counted, NoRows}
+use Rattle.zeb_search.specs.SearchCounts.{CountsByContent}
+use Rattle.zeb_search.specs.PrivateSearchCounts.{NoRows}
 use Rattle.zeb_search.proofs.keys.terms_wanted.Given as goal
 
 abbrev pub invariant-pages : goal.invariant-pages
@@ -17,7 +18,7 @@ invariant-pages g l =
       read : IsRead old now;
       found : HasCleanDisk now → IsStore old → (content : Content) → holds_in g.L.Layout.format old.now.trees content
           → HasUpTo (posted content l.fn.of.db.0) l.of.index l.of.register l.wanted l.terms.items (string_bytes l.start);
-      counted : Counted g.L.Layout.format (λ content n. n ≡ g.L.Layout.row_work * length l.terms.items) NoRows old now l.fn.work l.work;
+      counted : CountsByContent g.L.Layout.format (λ content n. n ≡ g.L.Layout.row_work * length l.terms.items) NoRows old now l.fn.work l.work;
       no_work : g.L.Layout.row_work ≡ 0 → l.work ≡ l.fn.work;
       some : 1 ≤ l.page_terms;
     }

@@ -5,13 +5,13 @@ use Rattle.zeb_register.specs.declared.RegFault.{RegFault}
 use Rattle.zeb_register.specs.declared.RegFault.TheVariants as fault
 use Rattle.zeb_query.specs.declared.plans.PairPlan.{PairPlan}
 use Rattle.zeb_query.specs.Plans.{PairOf, plan_value}
-use Rattle.zeb_search.specs.Counted.{Counted}
+use Rattle.zeb_search.specs.SearchCounts.{CountsByContent}
 use Rattle.zeb_search.specs.DictRows.{PlanDict}
 use Rattle.zeb_search.specs.ListRows.{PlanRows}
 use Rattle.zeb_search.specs.Registers.{NamesReadable}
-use Rattle.zeb_search.proofs.CountedLemmas.{counted_then}
+use Rattle.zeb_search.proofs.SearchCountLemmas.{counted_then}
 use Rattle.zeb_search.proofs.ReadLemmas.{as_read, clean_before, still_store, still_trees}
-use Rattle.zeb_search.proofs.Reasons.{reasoned_error}
+use Rattle.zeb_search.proofs.ReasonedFaults.{reasoned_error}
 use Rattle.zeb_search.proofs.plans.+hits.Goals as goal
 
 pub returns-in_err-right-in-Pair-clause-honest : goal.returns-in_err-right-in-Pair-clause-honest
@@ -45,9 +45,9 @@ returns-in_ok-joined-in-Pair-clause-work g t c =
     let pair : PairPlan = c.in-Pair.pair.value in
     let left = plan_value pair.left in
     let right = plan_value pair.right in
-    let of_left = subst (λ (p : PairPlan). Counted g.L.Layout.format (λ content. PlanDict row_work content db (plan_value p.left)) (λ content. PlanRows rows content db (plan_value p.left)) old mid c.args.work.now c.hits.new.work)
+    let of_left = subst (λ (p : PairPlan). CountsByContent g.L.Layout.format (λ content. PlanDict row_work content db (plan_value p.left)) (λ content. PlanRows rows content db (plan_value p.left)) old mid c.args.work.now c.hits.new.work)
     c.deref.ensures c.in_ok-left-in-Pair.ensures.work in
-    let of_right = subst (λ (p : PairPlan). Counted g.L.Layout.format (λ content. PlanDict row_work content db (plan_value p.right)) (λ content. PlanRows rows content db (plan_value p.right)) mid new c.hits.new.work c.hits-in-Pair.new.work)
+    let of_right = subst (λ (p : PairPlan). CountsByContent g.L.Layout.format (λ content. PlanDict row_work content db (plan_value p.right)) (λ content. PlanRows rows content db (plan_value p.right)) mid new c.hits.new.work c.hits-in-Pair.new.work)
     c.deref-in-Pair.ensures c.in_ok-right-in-Pair.ensures.work in
     rw c.in-Pair.is (counted_then g.L.Layout.format (λ content. PlanDict row_work content db left) (λ content. PlanDict row_work content db right)
     (λ content. PlanDict row_work content db (PairOf pair.operator left right)) (λ content. PlanRows rows content db left) (λ content. PlanRows rows content db right)

@@ -1,10 +1,10 @@
 use Rattle.std.proofs.Common.{rules, ◌∷◌, [], sym, subst, ◌≡◌, Err}
 use Rattle.sqlite.specs.Held.{state}
 use Rattle.zeb_register.specs.Content.{posted}
-use Rattle.zeb_search.specs.Lists.{ArePostings}
+use Rattle.zeb_search.specs.PrivateLists.{ArePostings}
 use Rattle.zeb_search.proofs.PlanLemmas.{IsWordAt, near_hits}
 use Rattle.zeb_search.proofs.ReadLemmas.{as_read, clean_before, told_behind}
-use Rattle.zeb_search.proofs.Reasons.{reasoned_error}
+use Rattle.zeb_search.proofs.ReasonedFaults.{reasoned_error}
 use Rattle.zeb_search.proofs.WordCounts.{words_behind, one_word_counted}
 use Rattle.zeb_search.proofs.plans.near_hits.Goals as goal
 

@@ -5,7 +5,7 @@ use Rattle.zeb_register.specs.Content.{Content}
 use Rattle.zeb_search.specs.Comparing.{StandsInOrder}
 use Rattle.zeb_search.specs.DictRows.{EntryDict, RegisterDict}
 use Rattle.zeb_search.specs.ListRows.{EntryRows}
-use Rattle.zeb_search.proofs.CountedLemmas.{counted_for, idle_counted}
+use Rattle.zeb_search.proofs.SearchCountLemmas.{counted_for, idle_counted}
 use Rattle.zeb_search.proofs.DictCounts.{unnamed}
 use Rattle.zeb_search.proofs.PlanLemmas.{no_pattern, no_start}
 use Rattle.zeb_search.proofs.plans.term_hits.Goals as goal

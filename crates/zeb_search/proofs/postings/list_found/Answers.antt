@@ -6,12 +6,12 @@ use Rattle.sqlite_rules.specs.Lists.{Has}
 use Rattle.zeb_keys.specs.declared.keys.Key.{Key}
 use Rattle.zeb_register.specs.Content.{Posting}
 use Rattle.zeb_register.specs.Formats.{holds_in}
-use Rattle.zeb_search.specs.Counted.{Counts}
+use Rattle.zeb_search.specs.SearchCounts.{CountsAtMost}
 use Rattle.zeb_search.specs.ListRows.{rows_under}
 use Rattle.zeb_search.specs.PrivateTerms.{AreRun, IsPostingOf}
-use Rattle.zeb_search.proofs.CountedLemmas.{counts_still, counts_then}
+use Rattle.zeb_search.proofs.SearchCountLemmas.{counts_still, counts_then}
 use Rattle.zeb_search.proofs.ReadLemmas.{as_read, clean_before, read_still, read_then, still_store, still_trees, told_behind}
-use Rattle.zeb_search.proofs.Reasons.{reasoned_error}
+use Rattle.zeb_search.proofs.ReasonedFaults.{reasoned_error}
 use Rattle.zeb_search.proofs.RunLemmas.{listed_more, part_run}
 use Rattle.zeb_search.proofs.postings.list_found.Goals as goal
 
@@ -60,7 +60,7 @@ loop-left-preserved g c =
             let first = clean_before now new crash clean in
             let there = subst (λ t. holds_in format t content) (sym (still_trees old now read first)) has in
             let here = c.in_ok-list.ensures.work clean (still_store old now read first store) content there (part_run content of found done run behind whole joined are) in
-            subst (λ n. Counts 0 n c.args.work.now c.list_of_run.new.work) (sym (sum_by-append (λ (key : Key). rows (content of.db.0 key)) done run))
+            subst (λ n. CountsAtMost 0 n c.args.work.now c.list_of_run.new.work) (sym (sum_by-append (λ (key : Key). rows (content of.db.0 key)) done run))
             (counts_then 0 0 (rows_under rows content of.db.0 done) (rows_under rows content of.db.0 run) c.args.work.now c.loop-left.work c.list_of_run.new.work (c.loop-left.invariant.done.3 first store content has are) here),
       );
       no_work = λ none. c.list_of_run.ensures.no_work none ∙ c.loop-left.invariant.no_work none;
@@ -78,7 +78,7 @@ returns-clause-work g c clean store content has are =
     let done = c.loop-left.invariant.done.0 in
     let none = nil_from_length c.loop-left.left.now (search rules) in
     let whole : c.args.found.now.keys.items ≡ done = c.loop-left.invariant.done.1 ∙ ap (λ (l : List Key). done ++ l) none ∙ append-nil done in
-    subst (λ (l : List Key). Counts 0 (rows_under g.L.Layout.block_rows content c.args.of.db.0 l) c.args.work.now c.loop-left.work) (sym whole) (c.loop-left.invariant.done.3 clean store content has are)
+    subst (λ (l : List Key). CountsAtMost 0 (rows_under g.L.Layout.block_rows content c.args.of.db.0 l) c.args.work.now c.loop-left.work) (sym whole) (c.loop-left.invariant.done.3 clean store content has are)
 
 pub returns-in_err-list-clause-refused : goal.returns-in_err-list-clause-refused
 returns-in_err-list-clause-refused g c =

@@ -7,7 +7,7 @@ use Rattle.zeb_register.specs.Clauses.{OnStore}
 use Rattle.zeb_register.specs.Content.{Content, Posting}
 use Rattle.zeb_register.specs.Formats.{holds_in}
 use Rattle.zeb_register.specs.Store.{IsStore}
-use Rattle.zeb_search.specs.Counted.{Counts}
+use Rattle.zeb_search.specs.SearchCounts.{CountsAtMost}
 use Rattle.zeb_search.specs.ListRows.{rows_under}
 use Rattle.zeb_search.specs.PrivateTerms.{AreFound, IsPostingOf}
 use Rattle.zeb_search.proofs.ReadLemmas.{IsRead}
@@ -23,7 +23,7 @@ invariant-loop-left g l =
           × (HasCleanDisk now → IsStore old → (content : Content) → holds_in g.L.Layout.format old.now.trees content → AreFound content l.of l.found
           → (p : Posting) → Has l.postings.items p ↔ IsPostingOf content l.of.db.0 done p)
           × OnStore old now (λ trees. (content : Content) → holds_in g.L.Layout.format trees content → AreFound content l.of l.found
-          → Counts 0 (rows_under g.L.Layout.block_rows content l.of.db.0 done) l.fn.work l.work);
+          → CountsAtMost 0 (rows_under g.L.Layout.block_rows content l.of.db.0 done) l.fn.work l.work);
       no_work : g.L.Layout.row_work ≡ 0 → l.work ≡ l.fn.work;
     }
 

@@ -8,7 +8,7 @@ use Rattle.zeb_search.specs.PrivateTerms.{AreFound, HasPosting, IsPostingOf, IsW
 use Rattle.zeb_search.proofs.NeighbourLemmas.{found_counted}
 use Rattle.zeb_search.proofs.PostingLemmas.{entry_numbers}
 use Rattle.zeb_search.proofs.ReadLemmas.{as_read, clean_before, told_behind}
-use Rattle.zeb_search.proofs.Reasons.{reasoned_error}
+use Rattle.zeb_search.proofs.ReasonedFaults.{reasoned_error}
 use Rattle.zeb_search.proofs.postings.numbers_wanted.Goals as goal
 
 pub returns-clause-value : goal.returns-clause-value

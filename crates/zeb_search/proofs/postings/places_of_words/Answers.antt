@@ -9,12 +9,12 @@ use Rattle.zeb_search.proofs.JustLemmas.{just_same}
 use Rattle.zeb_search.proofs.OneKey.{one_counted, one_told}
 use Rattle.zeb_search.proofs.PostingLemmas.{word_places}
 use Rattle.zeb_search.proofs.ReadLemmas.{as_read, clean_before, still_store, still_trees}
-use Rattle.zeb_search.specs.Counted.{HasNoStar}
+use Rattle.zeb_search.specs.SearchCounts.{HasNoStar}
 use Rattle.zeb_search.specs.DictRows.{EntryDict}
 use Rattle.zeb_search.specs.Holds.{Fits}
 use Rattle.zeb_search.specs.PrivateTerms.{AreFound, IsPostingOf}
 use Rattle.zeb_search.proofs.NeighbourLemmas.{each_counted, found_counted}
-use Rattle.zeb_search.proofs.Reasons.{reasoned_behind, reasoned_error}
+use Rattle.zeb_search.proofs.ReasonedFaults.{reasoned_behind, reasoned_error}
 use Rattle.zeb_search.proofs.postings.places_of_words.Goals as goal
 
 pub returns-then-len-eq1-clause-value : goal.returns-then-len-eq1-clause-value

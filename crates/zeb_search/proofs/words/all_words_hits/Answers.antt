@@ -10,9 +10,9 @@ use Rattle.zeb_search.specs.Lists.{AreNumbers}
 use Rattle.zeb_search.proofs.JustLemmas.{joined_numbers}
 use Rattle.zeb_search.proofs.PlanLemmas.{EachMatches, each_matches_more, each_matches_none, each_matches_whole, none_found}
 use Rattle.zeb_search.proofs.ReadLemmas.{as_read, clean_before, read_then, told_behind}
-use Rattle.zeb_search.proofs.Reasons.{reasoned_error}
+use Rattle.zeb_search.proofs.ReasonedFaults.{reasoned_error}
 use Rattle.zeb_search.proofs.WordCounts.{words_behind, one_word_counted}
-use Rattle.zeb_search.specs.PrivateCounts.{CountedWords}
+use Rattle.zeb_search.specs.PrivateWordCounts.{CountedWords}
 use Rattle.zeb_search.proofs.words.all_words_hits.Goals as goal
 
 pub returns-in_default-clause-value : goal.returns-in_default-clause-value

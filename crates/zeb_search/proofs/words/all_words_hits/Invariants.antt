@@ -9,7 +9,7 @@ use Rattle.zeb_search.specs.Holds.{HasMatch}
 use Rattle.zeb_search.specs.Lists.{AreNumbers}
 use Rattle.zeb_search.proofs.PlanLemmas.{EachMatches}
 use Rattle.zeb_search.proofs.ReadLemmas.{IsRead}
-use Rattle.zeb_search.specs.PrivateCounts.{CountedWords}
+use Rattle.zeb_search.specs.PrivateWordCounts.{CountedWords}
 use Rattle.zeb_search.proofs.words.all_words_hits.Given as goal
 
 abbrev pub invariant-loop-other : goal.invariant-loop-other

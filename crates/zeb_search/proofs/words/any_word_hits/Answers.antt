@@ -10,9 +10,9 @@ use Rattle.zeb_search.specs.Lists.{AreNumbers}
 use Rattle.zeb_search.proofs.JustLemmas.{joined_numbers, just_none}
 use Rattle.zeb_search.proofs.PlanLemmas.{SomeMatch, some_match_more}
 use Rattle.zeb_search.proofs.ReadLemmas.{as_read, clean_before, read_still, read_then, told_behind}
-use Rattle.zeb_search.proofs.Reasons.{reasoned_error}
+use Rattle.zeb_search.proofs.ReasonedFaults.{reasoned_error}
 use Rattle.zeb_search.proofs.WordCounts.{words_behind, no_words_counted}
-use Rattle.zeb_search.specs.PrivateCounts.{CountedWords}
+use Rattle.zeb_search.specs.PrivateWordCounts.{CountedWords}
 use Rattle.zeb_search.proofs.words.any_word_hits.Goals as goal
 
 pub loop-pattern-init : goal.loop-pattern-init

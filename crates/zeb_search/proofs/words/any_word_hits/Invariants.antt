@@ -9,7 +9,7 @@ use Rattle.zeb_text.specs.Symbols.{Symbol}
 use Rattle.zeb_search.specs.Holds.{HasMatch}
 use Rattle.zeb_search.specs.Lists.{AreNumbers}
 use Rattle.zeb_search.proofs.ReadLemmas.{IsRead}
-use Rattle.zeb_search.specs.PrivateCounts.{CountedWords}
+use Rattle.zeb_search.specs.PrivateWordCounts.{CountedWords}
 use Rattle.zeb_search.proofs.words.any_word_hits.Given as goal
 
 abbrev pub invariant-loop-pattern : goal.invariant-loop-pattern

@@ -11,7 +11,7 @@ use Rattle.zeb_search.proofs.PlanLemmas.{IsStart, first_phrase_hits, firsts_rise
 use Rattle.zeb_search.proofs.OneKey.{one_alone}
 use Rattle.zeb_search.proofs.PostingLemmas.{numbers_told}
 use Rattle.zeb_search.proofs.WordCounts.{one_word_counted}
-use Rattle.zeb_search.specs.PrivateCounts.{CountedWords}
+use Rattle.zeb_search.specs.PrivateWordCounts.{CountedWords}
 use Rattle.zeb_search.proofs.words.phrase_hits.Goals as goal
 
 pub returns-then-first-clause-value : goal.returns-then-first-clause-value

@@ -5,10 +5,10 @@ use Rattle.zeb_register.specs.Content.{Content, posted}
 use Rattle.zeb_register.specs.Formats.{holds_in}
 use Rattle.zeb_register.specs.Store.{IsStore}
 use Rattle.zeb_text.specs.Symbols.{Symbol}
-use Rattle.zeb_search.specs.Lists.{ArePostings}
+use Rattle.zeb_search.specs.PrivateLists.{ArePostings}
 use Rattle.zeb_search.proofs.PlanLemmas.{AreWordsAt}
 use Rattle.zeb_search.proofs.ReadLemmas.{IsRead}
-use Rattle.zeb_search.specs.PrivateCounts.{CountedWords}
+use Rattle.zeb_search.specs.PrivateWordCounts.{CountedWords}
 use Rattle.zeb_search.proofs.words.places_of_phrase.Given as goal
 
 abbrev pub invariant-loop-pattern : goal.invariant-loop-pattern

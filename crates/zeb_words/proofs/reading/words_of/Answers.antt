@@ -5,7 +5,8 @@ use Rattle.clap.specs.Matches.{found_of}
 use Rattle.clap.specs.Walk.{one_of, rows_of}
 use Rattle.clap.specs.declared.parser.matches.ArgMatches.TheViews.{out-ArgMatches, out-SubCommand}
 use Rattle.clap.proofs.WalkLemmas.{one_text-rows}
-use Rattle.zeb_words.specs.Parses.{AreBad, IsBadAct, IsFlagRead}
+use Rattle.zeb_words.specs.Parses.{AreBad, IsFlagRead}
+use Rattle.zeb_words.specs.PrivateParses.{IsBadAct}
 use Rattle.zeb_words.proofs.ReadingLemmas.{bad_words, own_cause, pair_read}
 use Rattle.zeb_words.proofs.reading.words_of.Goals as goal
 

@@ -6,19 +6,21 @@ use Rattle.zeb_change.specs.declared.settings.Limits.{Limits}
 use Rattle.zeb_engine.specs.Alone.{Alone, StatSays}
 use Rattle.zeb_engine.specs.AnyTables.{DumpOver, OverReady, StatOver}
 use Rattle.zeb_change.specs.Conditions.{conditions}
-use Rattle.zeb_engine.specs.Crashes.{Commits, CommitsBy}
+use Rattle.zeb_engine.specs.Crashes.{CommitsBy}
 use Rattle.zeb_image.specs.Image.{IsImage}
 use Rattle.zeb_image.specs.NameOf.{name_bytes}
 use Rattle.zeb_engine.specs.Steps.{OnlyAsks, turned, TakesFiles, created, dropped, dumped_by, holding, checked, Step, initialised, reindexed, upgraded, ready, CountedFrom}
+use Rattle.zeb_engine.specs.PrivateCrashes.{Commits}
 use Rattle.zeb_engine.specs.Readiness.{LooksFirst}
-use Rattle.zeb_engine.specs.Works.{Always, Asks, Serves, ServesBy}
-use Rattle.zeb_engine.proofs.Commanding.{analysis_answers, analysis_serves, asks_serve, each_so, ends_serve, find_alone, find_serves, find_tables, scan_alone, scan_serves, scan_tables}
-use Rattle.zeb_engine.proofs.Crashing.{ends_commit, none_commits, survives_as}
+use Rattle.zeb_engine.specs.Works.{Always, ServesBy}
+use Rattle.zeb_engine.specs.PrivateWorks.{Asks, Serves}
+use Rattle.zeb_engine.proofs.ReadyCommands.{analysis_answers, analysis_serves, asks_serve, change_over, each_so, ends_serve, find_alone, find_serves, find_tables, scan_alone, scan_serves, scan_tables}
+use Rattle.zeb_engine.proofs.CommitCrashes.{ends_commit, none_commits, survives_as}
 use Rattle.zeb_engine.proofs.AskedReads.{find_command_reads, scan_command_reads}
-use Rattle.zeb_engine.proofs.Serving.{on_ok}
+use Rattle.zeb_engine.proofs.ServesLemmas.{on_ok}
 use Rattle.zeb_engine.proofs.StoreCauses.{analysis_caused}
 use Rattle.zeb_engine.proofs.WriteCauses.{asked_cause, unsaid}
-use Rattle.zeb_engine.proofs.Unasked.{reads_command}
+use Rattle.zeb_engine.proofs.CommandedConnections.{reads_command}
 use Rattle.zeb_engine.specs.Causes.{ChangesInRoom}
 use Rattle.zeb_engine.specs.Costs.{CostsAlone, no_work}
 use Rattle.zeb_engine.proofs.session.Session.carry_out.Goals as goal
@@ -69,8 +71,7 @@ returns-in-Find-clause-serves g c clean =
 
 pub returns-in-Check-clause-serves : goal.returns-in-Check-clause-serves
 returns-in-Check-clause-serves g c clean =
-    let k = conditions (version_of g.L.Layout.format) c.args.self.now.profile c.args.self.now.limits in
-    rw c.in-Check.is (ends_serve (checked k) (state g.S.Store c.args.self.now.connection) (state g.S.Store c.check.new.self.connection) c.check.result (c.check.ensures.serves clean))
+    rw c.in-Check.is (ends_serve (checked (conditions (version_of g.L.Layout.format) c.args.self.now.profile c.args.self.now.limits)) (state g.S.Store c.args.self.now.connection) (state g.S.Store c.check.new.self.connection) c.check.result (c.check.ensures.serves clean))
 
 pub returns-in-Upgrade-clause-serves : goal.returns-in-Upgrade-clause-serves
 returns-in-Upgrade-clause-serves g c clean =
@@ -119,13 +120,12 @@ returns-in-Scan-clause-asked g c clean =
     let at = c.in-Scan.position-1-own.given.0.1.1.1.0 in
     let same_name : of ≡ c.in-Scan.database = search rules in
     let same_query : c.in-Scan.query-in-Scan-1-own.given.0.1.0 ≡ c.in-Scan.query = search rules in
-    let name = ap name_bytes same_name in
-    let query = c.as_str-in-Scan.ensures.value ∙ ap string_bytes same_query in
     rw c.in-Scan.is (
       scan_alone g.L.Layout.format c.args.self.now.profile old c.scan.result c.in-Scan.database c.in-Scan.query c.in-Scan.number c.in-Scan.position (name_bytes of) c.as_str-in-Scan.result.now many at
-          name query (search rules) (search rules) (c.scan.ensures.alone clean),
+          (ap name_bytes same_name) (c.as_str-in-Scan.ensures.value ∙ ap string_bytes same_query) (search rules) (search rules) (c.scan.ensures.alone clean),
       scan_tables (version_of g.L.Layout.format) c.args.self.now.profile old c.scan.result c.in-Scan.database c.in-Scan.query c.in-Scan.number c.in-Scan.position (name_bytes of) c.as_str-in-Scan.result.now many at
-          name query (search rules) (search rules) (c.scan.ensures.tables clean),
+          (ap name_bytes same_name) (c.as_str-in-Scan.ensures.value ∙ ap string_bytes same_query) (search rules) (search rules) (c.scan.ensures.tables clean),
+      tt,
     )
 
 pub returns-in-Init-clause-begun : goal.returns-in-Init-clause-begun
@@ -145,50 +145,50 @@ returns-in-Find-clause-asked g c clean =
     let many = c.in-Find.count-1-own.given.0.1.1.1.0 in
     let same_name : of ≡ c.in-Find.database = search rules in
     let same_query : c.in-Find.query-1-own.given.0.1.0 ≡ c.in-Find.query = search rules in
-    let name = ap name_bytes same_name in
-    let query = c.as_str.ensures.value ∙ ap string_bytes same_query in
     rw c.in-Find.is (
       find_alone g.L.Layout.format c.args.self.now.profile old c.find.result c.in-Find.database c.in-Find.query c.in-Find.first c.in-Find.count (name_bytes of) c.as_str.result.now from many
-          name query (search rules) (search rules) (c.find.ensures.alone clean) (c.find.ensures.refused clean),
+          (ap name_bytes same_name) (c.as_str.ensures.value ∙ ap string_bytes same_query) (search rules) (search rules) (c.find.ensures.alone clean) (c.find.ensures.refused clean),
       find_tables (version_of g.L.Layout.format) c.args.self.now.profile old c.find.result c.in-Find.database c.in-Find.query c.in-Find.first c.in-Find.count (name_bytes of) c.as_str.result.now from many
-          name query (search rules) (search rules) (c.find.ensures.tables clean),
+          (ap name_bytes same_name) (c.as_str.ensures.value ∙ ap string_bytes same_query) (search rules) (search rules) (c.find.ensures.tables clean),
+      tt,
     )
 
 pub returns-in-Init-clause-asked : goal.returns-in-Init-clause-asked
-returns-in-Init-clause-asked g c clean = rw c.in-Init.is (tt, tt)
+returns-in-Init-clause-asked g c clean = rw c.in-Init.is (tt, tt, tt)
 
 pub returns-in-Create-clause-asked : goal.returns-in-Create-clause-asked
-returns-in-Create-clause-asked g c clean = rw c.in-Create.is (tt, tt)
+returns-in-Create-clause-asked g c clean = rw c.in-Create.is (tt, tt, tt)
 
 pub returns-in-Drop-clause-asked : goal.returns-in-Drop-clause-asked
-returns-in-Drop-clause-asked g c clean = rw c.in-Drop.is (tt, tt)
+returns-in-Drop-clause-asked g c clean = rw c.in-Drop.is (tt, tt, tt)
 
 pub returns-in-Change-clause-asked : goal.returns-in-Change-clause-asked
-returns-in-Change-clause-asked g c clean = rw c.in-Change.is (tt, tt)
+returns-in-Change-clause-asked g c clean =
+    rw c.in-Change.is (tt, tt, change_over (version_of g.L.Layout.format) c.args.self.now.profile (state g.S.Store c.args.self.now.connection) c.change.result c.in-Change.kind c.in-Change.database c.in-Change.files c.in-Change.database-1-own.given.0.1.0 c.deref.result.now (search rules) (search rules) (c.change.ensures.elder clean))
 
 pub returns-in-Check-clause-asked : goal.returns-in-Check-clause-asked
-returns-in-Check-clause-asked g c clean = rw c.in-Check.is (tt, tt)
+returns-in-Check-clause-asked g c clean = rw c.in-Check.is (tt, tt, tt)
 
 pub returns-in-Upgrade-clause-asked : goal.returns-in-Upgrade-clause-asked
-returns-in-Upgrade-clause-asked g c clean = rw c.in-Upgrade.is (tt, tt)
+returns-in-Upgrade-clause-asked g c clean = rw c.in-Upgrade.is (tt, tt, tt)
 
 pub returns-in-Reindex-clause-asked : goal.returns-in-Reindex-clause-asked
-returns-in-Reindex-clause-asked g c clean = rw c.in-Reindex.is (tt, tt)
+returns-in-Reindex-clause-asked g c clean = rw c.in-Reindex.is (tt, tt, tt)
 
 pub returns-in-Stat-clause-asked : goal.returns-in-Stat-clause-asked
 returns-in-Stat-clause-asked g c clean =
     let old = state g.S.Store c.args.self.now.connection in
     let alone : Alone g.L.Layout.format (StatSays c.args.self.now.profile) (name_bytes c.in-Stat.name) old c.stat.result = c.stat.ensures.alone clean in
     let told : OverReady (version_of g.L.Layout.format) c.args.self.now.profile (StatOver c.args.self.now.profile (name_bytes c.in-Stat.name)) old c.stat.result = c.stat.ensures.tables clean in
-    rw c.in-Stat.is (alone, told)
+    rw c.in-Stat.is (alone, told, tt)
 
 pub returns-in-Dump-clause-asked : goal.returns-in-Dump-clause-asked
 returns-in-Dump-clause-asked g c clean =
     let told : OverReady (version_of g.L.Layout.format) c.args.self.now.profile (DumpOver (name_bytes c.in-Dump.name)) (state g.S.Store c.args.self.now.connection) c.dump.result = c.dump.ensures.tables clean in
-    rw c.in-Dump.is (tt, told)
+    rw c.in-Dump.is (tt, told, tt)
 
 pub returns-in-Analyse-clause-asked : goal.returns-in-Analyse-clause-asked
-returns-in-Analyse-clause-asked g c clean = rw c.in-Analyse.is (tt, tt)
+returns-in-Analyse-clause-asked g c clean = rw c.in-Analyse.is (tt, tt, tt)
 
 pub returns-in-Init-clause-survives : goal.returns-in-Init-clause-survives
 returns-in-Init-clause-survives g c =

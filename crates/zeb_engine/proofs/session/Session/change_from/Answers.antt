@@ -8,22 +8,23 @@ use Rattle.zeb_change.specs.Reading.{NamesFailed}
 use Rattle.zeb_engine.specs.Steps.{TakesFiles, changed_by_files, turned}
 use Rattle.zeb_change.specs.Folding.{splits_of}
 use Rattle.zeb_engine.specs.Works.{ServesBy}
-use Rattle.zeb_engine.proofs.Commanding.{ends_serve, ready_kept, unready_serves}
-use Rattle.zeb_engine.proofs.Crashing.{survives_after}
-use Rattle.zeb_engine.proofs.Honest.{start_honest}
-use Rattle.zeb_engine.proofs.Turns.{turn_refused}
+use Rattle.zeb_engine.proofs.ReadyCommands.{ends_serve, ready_kept, unready_serves}
+use Rattle.zeb_engine.proofs.CommitCrashes.{survives_after}
+use Rattle.zeb_engine.proofs.NoDamageAnswered.{start_honest}
+use Rattle.zeb_engine.proofs.TurnedOutcomes.{turn_refused}
 use Rattle.zeb_change.specs.Refused.{why_of}
 use Rattle.zeb_engine.proofs.Readers.{no_file_failed, named_or_none}
-use Rattle.zeb_engine.proofs.Serving.{on_ok}
+use Rattle.zeb_engine.proofs.ServesLemmas.{on_ok}
 use Rattle.zeb_register.specs.declared.registers.Work.{Work}
 use Rattle.zeb_engine.specs.Costs.{Costs, no_work}
 use Rattle.zeb_register.proofs.Causes.{may_after}
 use Rattle.zeb_change.specs.declared.refusals.Refusal.TheVariants.{Store}
 use Rattle.zeb_change.proofs.RecordRoom.{one_refusal}
+use Rattle.zeb_engine.proofs.ChangeElders.{elder_after, few_elder}
 use Rattle.zeb_engine.proofs.ChangeRoom.{room_still, where_open}
 use Rattle.zeb_engine.proofs.session.Session.change_from.Goals as goal
 use Rattle.zeb_register.specs.Formats.{version_of}
-use Rattle.zeb_engine.proofs.ReadyTexts.{ready_then}
+use Rattle.zeb_engine.proofs.ReadyTexts.{ready_then, unready_fails}
 
 pub returns-in_err-check_ready-clause-serves : goal.returns-in_err-check_ready-clause-serves
 returns-in_err-check_ready-clause-serves g c = λ clean texts told fine.
@@ -159,3 +160,26 @@ returns-clause-room g c clean texts told fine before fits keeps room refused =
     let same = (c.check_ready.ensures.same first met.2.1).1 in
     may_after old mid new c.check_ready.ensures.crash (λ _. met.2.1) (λ _.
     c.change_database.ensures.room clean texts told fine before (met.0, met.1) met.3 (room_still g.L.Layout.format profile c.args.kind texts old mid same room) refused)
+
+-- ---- what is kept under the first record's identifier
+
+pub returns-in_err-check_readers-clause-elder : goal.returns-in_err-check_readers-clause-elder
+returns-in_err-check_readers-clause-elder g c clean texts told fine store is =
+    let named = c.in_err-check_readers.ensures.named in
+    absurd (no_file_failed g.R.Source.has_failed c.args.readers.now fine named.0 named.1)
+
+pub returns-in_err-check_ready-clause-elder : goal.returns-in_err-check_ready-clause-elder
+returns-in_err-check_ready-clause-elder g c clean texts told fine store is =
+    let profile = c.args.self.now.profile in
+    let trees = (state g.S.Store c.args.self.now.connection).now.trees in
+    let refusal = c.in_err-check_ready.field-0.0 in
+    let result : c.from_residual-in_err-check_ready.result ≡ Err refusal = search rules in
+    let failed = unready_fails (version_of g.L.Layout.format) profile trees is refusal c.in_err-check_ready.ensures.few (c.in_err-check_ready.ensures.texts clean store) (c.in_err-check_ready.ensures.whole clean store is) in
+    few_elder profile (name_bytes c.args.database.now) texts trees refusal c.from_residual-in_err-check_ready.result result (inr failed)
+
+pub returns-clause-elder : goal.returns-clause-elder
+returns-clause-elder g c clean texts told fine store is =
+    let mid = state g.S.Store c.check_ready.new.connection in
+    let first : HasCleanDisk mid = omega (arith, c.change_database.ensures.survives.clean) in
+    elder_after c.args.self.now.profile (name_bytes c.args.database.now) texts (state g.S.Store c.args.self.now.connection) mid c.change_database.result (c.check_ready.ensures.same first) (c.in_ok-check_ready.ensures.«open» first)
+    (λ there. c.change_database.ensures.elder clean there texts told fine) store

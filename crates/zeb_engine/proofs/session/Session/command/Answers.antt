@@ -5,11 +5,11 @@ use Rattle.zeb_register.specs.Store.{IsStore}
 use Rattle.zeb_change.specs.Conditions.{conditions}
 use Rattle.zeb_image.specs.Image.{IsImage, Keeps}
 use Rattle.zeb_engine.specs.Steps.{holding}
-use Rattle.zeb_engine.proofs.Remaking.{leaves_settled}
+use Rattle.zeb_engine.proofs.ReindexedTables.{leaves_settled}
 use Rattle.zeb_engine.proofs.RunCrashes.{did_endures}
-use Rattle.zeb_engine.proofs.Unasked.{did}
-use Rattle.zeb_engine.proofs.Honest.{command_honest}
-use Rattle.zeb_engine.proofs.Serving.{on_ok}
+use Rattle.zeb_engine.proofs.CommandedConnections.{did}
+use Rattle.zeb_engine.proofs.NoDamageAnswered.{command_honest}
+use Rattle.zeb_engine.proofs.ServesLemmas.{on_ok}
 use Rattle.zeb_engine.proofs.session.Session.command.Goals as goal
 use Rattle.zeb_register.specs.Formats.{version_of}
 
@@ -33,25 +33,12 @@ returns-clause-crash g c clean =
     (λ is_open db left. g.met.S.Store.settled end.store db is_open left ∙ ap (λ (d : Database). d.trees) (sym (c.is_autocommit-settled.ensures.settled idle is_open)))
     (did g.S.Store c.args.command.now c.args.self.now.connection end c.carry_out-answer.result done.call) done.survives (done.serves clean)
 
-pub returns-clause-honest : goal.returns-clause-honest
-returns-clause-honest g c clean is before keeps =
-    let k = conditions (version_of g.L.Layout.format) c.args.self.now.profile c.args.self.now.limits in
-    let old = state g.S.Store c.args.self.now.connection in
-    let new = state g.S.Store c.carry_out-answer.new.self.connection in
-    command_honest k old new c.carry_out-answer.result is before keeps c.args.command.now (c.carry_out-answer.ensures.serves clean)
-
 pub returns-clause-remade : goal.returns-clause-remade
 returns-clause-remade g c clean is =
     let old = state g.S.Store c.args.self.now.connection in
     let new = state g.S.Store c.carry_out-answer.new.self.connection in
     let idle : IsTrue c.is_autocommit-settled.result = search rules in
     leaves_settled g.L.Layout.format c.args.self.now.profile c.carry_out-answer.result old new (λ is_open. sym (c.is_autocommit-settled.ensures.settled idle is_open)) (c.carry_out-answer.ensures.remade clean is)
-
-pub returns-clause-alone : goal.returns-clause-alone
-returns-clause-alone g c clean = (c.carry_out-answer.ensures.asked clean).0
-
-pub returns-clause-tables : goal.returns-clause-tables
-returns-clause-tables g c clean = (c.carry_out-answer.ensures.asked clean).1
 
 pub returns-clause-over : goal.returns-clause-over
 returns-clause-over g c clean =
@@ -66,5 +53,6 @@ returns-clause-over g c clean =
       upgrades = done.upgrades clean;
       alone = (done.asked clean).0;
       tables = (done.asked clean).1;
+      changes = (done.asked clean).2;
       honest = λ is before keeps. command_honest k old new c.carry_out-answer.result is before keeps c.args.command.now (done.serves clean);
     }

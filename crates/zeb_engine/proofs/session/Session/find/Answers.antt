@@ -8,17 +8,17 @@ use Rattle.zeb_change.specs.Base.{Base}
 use Rattle.zeb_image.specs.Image.{Keeps}
 use Rattle.zeb_image.specs.NameOf.{name_bytes}
 use Rattle.zeb_engine.specs.Steps.{ready}
-use Rattle.zeb_engine.specs.Works.{Finds}
+use Rattle.zeb_engine.specs.PrivateWorks.{Finds}
 use Rattle.zeb_engine.specs.Alone.{FindSays, RefusesFind}
 use Rattle.zeb_engine.specs.AnyTables.{FindOver}
 use Rattle.zeb_engine.specs.Steps.{FindAnswers}
 use Rattle.zeb_query.specs.Plans.{PlanValue}
 use Rattle.zeb_engine.specs.Reads.{IsPlanOf, PlanReads}
-use Rattle.zeb_engine.proofs.Asked.{alone_after, ready_asked, refused_after, unready_asked}
+use Rattle.zeb_engine.proofs.ReadyQueries.{alone_after, ready_asked, refused_after, unready_asked}
 use Rattle.zeb_engine.proofs.AskedReads.{told_after}
-use Rattle.zeb_engine.proofs.Commanding.{ready_met}
+use Rattle.zeb_engine.proofs.ReadyCommands.{ready_met}
 use Rattle.zeb_engine.proofs.OverTables.{over_after, unready_over}
-use Rattle.zeb_engine.proofs.Serving.{keeps_still}
+use Rattle.zeb_engine.proofs.ServesLemmas.{keeps_still}
 use Rattle.zeb_engine.proofs.StoreCauses.{accepted_leaves, cause_after, passed_cause}
 use Rattle.zeb_engine.proofs.session.Session.find.Goals as goal
 use Rattle.zeb_register.specs.Formats.{version_of}

@@ -13,7 +13,7 @@ use Rattle.zeb_engine.specs.Works.{FindOpen, Runs, ServesCommand}
 use Rattle.zeb_engine.proofs.RunCommits.{carries, commits_earlier, commits_latest}
 use Rattle.zeb_engine.proofs.RunCrashes.{crash_more}
 use Rattle.zeb_engine.proofs.RunLemmas.{open_before, open_more, refused_more, runs_more}
-use Rattle.zeb_engine.proofs.Unasked.{did, did_endure, did_refuse}
+use Rattle.zeb_engine.proofs.CommandedConnections.{did, did_endure, did_refuse}
 use Rattle.zeb_engine.proofs.session.Session.run_all.Goals as goal
 use Rattle.zeb_register.specs.Formats.{version_of}
 

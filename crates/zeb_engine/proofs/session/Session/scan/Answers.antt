@@ -11,16 +11,16 @@ use Rattle.zeb_engine.specs.Alone.{ScanSays}
 use Rattle.zeb_engine.specs.AnyTables.{ScanOver}
 use Rattle.zeb_engine.specs.Steps.{ScanAnswers}
 use Rattle.zeb_engine.specs.Steps.{ready}
-use Rattle.zeb_engine.specs.Works.{ScansFrom}
-use Rattle.zeb_engine.proofs.Commanding.{ready_met}
-use Rattle.zeb_engine.proofs.Asked.{alone_after, ready_asked, unready_asked}
+use Rattle.zeb_engine.specs.PrivateWorks.{ScansFrom}
+use Rattle.zeb_engine.proofs.ReadyCommands.{ready_met}
+use Rattle.zeb_engine.proofs.ReadyQueries.{alone_after, ready_asked, unready_asked}
 use Rattle.zeb_engine.proofs.AskedReads.{told_after}
 use Rattle.zeb_engine.proofs.OverTables.{over_after, unready_over}
-use Rattle.zeb_engine.proofs.Serving.{keeps_still}
+use Rattle.zeb_engine.proofs.ServesLemmas.{keeps_still}
 use Rattle.zeb_engine.proofs.StoreCauses.{accepted_leaves, cause_after, passed_cause}
 use Rattle.zeb_engine.proofs.session.Session.scan.Goals as goal
 use Rattle.zeb_register.specs.Formats.{version_of}
-use Rattle.zeb_search.specs.Counted.{Counts}
+use Rattle.zeb_search.specs.SearchCounts.{CountsAtMost}
 use Rattle.zeb_engine.proofs.ReadyTexts.{passed_texts, ready_then}
 
 pub returns-in_err-check_ready-clause-serves : goal.returns-in_err-check_ready-clause-serves
@@ -86,7 +86,7 @@ returns-clause-work g c clean =
     let number = c.args.around.number in
     let position = c.args.around.position in
     told_after g.L.Layout.format
-    (λ trees content. 1 ≤ position → position ≤ number → Counts (g.L.Layout.row_work * (number + 1)) 0 c.args.self.now.work c.scan.new.work) old mid new c.scan.result
+    (λ trees content. 1 ≤ position → position ≤ number → CountsAtMost (g.L.Layout.row_work * (number + 1)) 0 c.args.self.now.work c.scan.new.work) old mid new c.scan.result
     (c.check_ready.ensures.same clean1) (c.scan.ensures.«open» clean) (c.scan.ensures.work clean)
 
 pub returns-in_err-check_ready-clause-caused : goal.returns-in_err-check_ready-clause-caused

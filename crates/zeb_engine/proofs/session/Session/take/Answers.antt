@@ -4,8 +4,8 @@ use Rattle.sqlite.specs.State.{HasCleanDisk}
 use Rattle.zeb_change.specs.Conditions.{conditions}
 use Rattle.zeb_image.specs.NameOf.{name_bytes}
 use Rattle.zeb_engine.specs.Steps.{dropped}
-use Rattle.zeb_engine.proofs.Commanding.{ready_kept, unready_serves}
-use Rattle.zeb_engine.proofs.Crashing.{survives_after}
+use Rattle.zeb_engine.proofs.ReadyCommands.{ready_kept, unready_serves}
+use Rattle.zeb_engine.proofs.CommitCrashes.{survives_after}
 use Rattle.zeb_engine.proofs.session.Session.take.Goals as goal
 use Rattle.zeb_register.specs.Formats.{version_of}
 use Rattle.zeb_engine.proofs.ReadyTexts.{passed_texts, ready_then}

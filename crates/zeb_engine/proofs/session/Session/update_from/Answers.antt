@@ -4,7 +4,7 @@ use Rattle.sqlite.specs.Held.{state}
 use Rattle.zeb_change.specs.Conditions.{conditions}
 use Rattle.zeb_image.specs.NameOf.{name_bytes}
 use Rattle.zeb_engine.specs.Steps.{TakesFiles}
-use Rattle.zeb_engine.proofs.Crashing.{endures, survives_as}
+use Rattle.zeb_engine.proofs.CommitCrashes.{endures, survives_as}
 use Rattle.zeb_engine.proofs.session.Session.update_from.Goals as goal
 use Rattle.zeb_register.specs.Formats.{version_of}
 

@@ -1,7 +1,7 @@
 use Rattle.std.proofs.Common.{◌≡◌, ◌∙◌, length, inl, arith, rules, subst, sym}
 use Rattle.sqlite.specs.Held.{state}
 use Rattle.zeb_register.specs.PackedBlocks.{blocks_of}
-use Rattle.zeb_register.specs.PackedRows.{AreSpelled}
+use Rattle.zeb_register.specs.PrivatePackedRows.{AreSpelled}
 use Rattle.zeb_register.specs.Tallies.{Rises}
 use Rattle.zeb_register.proofs.PackedLists.{all_spelled, each_spelled, key_blocks, key_listed, key_read, key_spelled}
 use Rattle.zeb_packed.proofs.blocks.BlocksLayout.key_list.Goals as goal

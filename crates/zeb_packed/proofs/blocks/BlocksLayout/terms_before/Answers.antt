@@ -3,7 +3,8 @@ use Rattle.sqlite.specs.Held.{state}
 use Rattle.sqlite_rules.specs.Lists.{Has}
 use Rattle.zeb_register.specs.Content.{posted}
 use Rattle.zeb_register.specs.Occurring.{AreTermsBefore}
-use Rattle.zeb_packed.proofs.PackedTerms.{before_read, first_taken, has_last, has_taken, reversed_list, rows_counted}
+use Rattle.zeb_register.proofs.TermLists.{has_taken}
+use Rattle.zeb_packed.proofs.PackedTerms.{before_read, first_taken, has_last, reversed_list, rows_counted}
 use Rattle.zeb_packed.proofs.blocks.BlocksLayout.terms_before.Goals as goal
 
 pub returns-clause-value : goal.returns-clause-value

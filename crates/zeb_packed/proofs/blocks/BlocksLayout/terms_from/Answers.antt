@@ -2,7 +2,8 @@ use Rattle.std.proofs.Common.{rules, ◌∙◌, ap, take, subst, sym}
 use Rattle.sqlite.specs.Held.{state}
 use Rattle.sqlite_rules.specs.Lists.{Has}
 use Rattle.zeb_register.proofs.ContentLemmas.{one_list}
-use Rattle.zeb_packed.proofs.PackedTerms.{first_taken, from_read, has_taken, rows_counted}
+use Rattle.zeb_register.proofs.TermLists.{has_taken}
+use Rattle.zeb_packed.proofs.PackedTerms.{first_taken, from_read, rows_counted}
 use Rattle.zeb_packed.proofs.blocks.BlocksLayout.terms_from.Goals as goal
 
 pub returns-clause-value : goal.returns-clause-value

@@ -3,7 +3,7 @@ use Rattle.sqlite_trees.proofs.ListLemmas.{all-get_or}
 use Rattle.sqlite_rules.specs.Lists.{Has}
 use Rattle.zeb_blocks.specs.Blocks.{LiesIn}
 use Rattle.zeb_register.specs.Hindrances.{placed}
-use Rattle.zeb_register.specs.PackedRows.{IsInBlock}
+use Rattle.zeb_register.specs.PrivatePackedRows.{IsInBlock}
 use Rattle.zeb_register.proofs.ContentChanges.{at_sysno}
 use Rattle.zeb_register.proofs.ListChanges.{changes_more, changes_rise, list_changed, next_places, no_change}
 use Rattle.zeb_packed.proofs.PackedCauses.{counts_grow, made_more}

@@ -5,8 +5,8 @@ use Rattle.zeb_blocks.specs.Blocks.{LiesIn}
 use Rattle.zeb_blocks.specs.declared.postings.Posting.{Posting}
 use Rattle.zeb_register.specs.Content.{AreListChanges, posting_cmp}
 use Rattle.zeb_register.specs.Hindrances.{placed, rows_of}
-use Rattle.zeb_packed.specs.PackedChanges.{IsHeld}
-use Rattle.zeb_packed.specs.PackedHindrances.{IsPut}
+use Rattle.zeb_packed.specs.PrivatePackedChanges.{IsHeld}
+use Rattle.zeb_packed.specs.PrivatePackedHindrances.{IsPut}
 use Rattle.zeb_packed.proofs.packed_parts.Held.changed_by.Given as goal
 
 abbrev pub invariant-loop-change : goal.invariant-loop-change

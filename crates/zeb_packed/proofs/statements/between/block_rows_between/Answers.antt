@@ -1,7 +1,7 @@
 use Rattle.std.proofs.Common.{rules, pos}
 use Rattle.std.proofs.lemmas.Result.{IfErr-weaker}
 use Rattle.zeb_keys.specs.Registers.{register_code}
-use Rattle.zeb_register.specs.BetweenRows.{IsRestBetween}
+use Rattle.zeb_register.specs.PrivateBetweenRows.{IsRestBetween}
 use Rattle.zeb_register.specs.Store.{blocks_tree}
 use Rattle.zeb_packed.proofs.BetweenStatements.{lists_blocks, blocks_refused, blocks_silent}
 use Rattle.zeb_register.proofs.Calls.{lists, nothing, quiet}

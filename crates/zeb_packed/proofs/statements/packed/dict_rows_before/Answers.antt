@@ -6,7 +6,7 @@ use Rattle.sqlite.specs.Order.{Row}
 use Rattle.sqlite_sql.specs.Query.{as_count, limited}
 use Rattle.zeb_keys.specs.Registers.{register_code}
 use Rattle.zeb_register.specs.PackedBlocks.{IsRestBefore}
-use Rattle.zeb_packed.specs.PackedRows.{IsFallingListOf}
+use Rattle.zeb_packed.specs.PrivatePackedRows.{IsFallingListOf}
 use Rattle.zeb_register.specs.Store.{dict_tree}
 use Rattle.zeb_register.proofs.Calls.{read_so, nothing, quiet}
 use Rattle.zeb_packed.proofs.PackedStatements.{before_refused, lists_before, before_silent}

@@ -3,7 +3,7 @@ use Rattle.zeb_register.proofs.Refusals.{not_late}
 use Rattle.std.proofs.Common.{rules, pos}
 use Rattle.std.proofs.Math.Facts.{to_z-of_z}
 use Rattle.zeb_keys.specs.Registers.{register_code}
-use Rattle.zeb_packed.specs.PackedChanges.{block_key}
+use Rattle.zeb_packed.specs.PrivatePackedChanges.{block_key}
 use Rattle.zeb_register.specs.Store.{IsRest, blocks_tree}
 use Rattle.zeb_register.proofs.Calls.{lists_inside, query_keeps}
 use Rattle.zeb_packed.proofs.PackedRowStatements.{block_refused, block_silent, lists_block}

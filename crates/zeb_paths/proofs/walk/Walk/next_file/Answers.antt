@@ -1,6 +1,7 @@
 use Rattle.std.proofs.Common.{arith, ap, subst, ◌∙◌, Ok}
 use Rattle.zeb_paths.specs.declared.walk.Seen.{Seen}
-use Rattle.zeb_paths.specs.Walks.{SeesFile, paths_left}
+use Rattle.zeb_paths.specs.Walks.{paths_left}
+use Rattle.zeb_paths.specs.PrivateWalks.{SeesFile}
 use Rattle.zeb_paths.proofs.walk.Walk.next_file.Goals as goal
 
 pub returns-in_err-path-clause-told : goal.returns-in_err-path-clause-told

@@ -7,11 +7,11 @@ use Rattle.zeb_register.specs.declared.agreeing.Table.TheVariants.{Postings}
 use Rattle.zeb_register.specs.declared.catalog.ListedDatabase.{ListedDatabase}
 use Rattle.zeb_register.specs.declared.expected.ExpectedDatabase.{ExpectedDatabase}
 use Rattle.zeb_register.specs.Formats.{plain_rows}
-use Rattle.zeb_register.specs.RowExpected.{AreBeside, AreInOrder, HoldsExpected, LacksPacked, ListsAgree}
+use Rattle.zeb_register.specs.PrivateRowExpected.{AreBeside, AreInOrder, HoldsExpected, LacksPacked, ListsAgree}
 use Rattle.zeb_register.proofs.Calls.{store_same}
 use Rattle.zeb_register.proofs.ExpectedDatabases.{expected_there}
-use Rattle.zeb_register.proofs.Expecting.{lists_agree}
-use Rattle.zeb_register.proofs.ExpectingRows.{rows_agree, rows_expected}
+use Rattle.zeb_register.proofs.AgreeingTables.{lists_agree}
+use Rattle.zeb_register.proofs.AgreeingRows.{rows_agree, rows_expected}
 use Rattle.zeb_register.proofs.plain.RowsLayout.agrees.Goals as goal
 
 pub returns-in_default-clause-value : goal.returns-in_default-clause-value

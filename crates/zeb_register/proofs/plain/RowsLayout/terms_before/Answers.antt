@@ -6,7 +6,7 @@ use Rattle.sqlite.specs.Effect.{Database}
 use Rattle.zeb_register.specs.Content.{posted}
 use Rattle.zeb_register.specs.PlainRows.{HoldsRows}
 use Rattle.zeb_register.specs.Occurring.{is_before, TermIn}
-use Rattle.zeb_register.specs.RowTerms.{IsGreatestTerm}
+use Rattle.zeb_register.specs.PrivateRowTerms.{IsGreatestTerm}
 use Rattle.sqlite.proofs.Callers.{unchanged_then}
 use Rattle.zeb_register.proofs.Calls.{reading_behind, reading_then, store_same}
 use Rattle.zeb_register.proofs.CallsInTurn.{quiet_then}

@@ -7,7 +7,7 @@ use Rattle.sqlite_rules.specs.Lists.{Has}
 use Rattle.zeb_register.specs.Sql.{IsListOf}
 use Rattle.zeb_register.specs.Store.{IsRest, postings_tree}
 use Rattle.zeb_register.specs.Occurring.{AreCounts}
-use Rattle.zeb_register.specs.RowTerms.{IsShown}
+use Rattle.zeb_register.specs.PrivateRowTerms.{IsShown}
 use Rattle.zeb_register.specs.PlainRows.{register_front}
 use Rattle.zeb_register.proofs.CountLemmas.{none_in_sum}
 use Rattle.zeb_register.proofs.TermRows.{counts_are, rows_readable, spot_at, spots_are}

@@ -2,7 +2,7 @@ use Rattle.std.proofs.Common.{rules}
 use Rattle.std.proofs.lemmas.Result.{IfErr-weaker}
 use Rattle.zeb_register.proofs.Calls.{lists, nothing, quiet}
 use Rattle.zeb_register.proofs.DatabaseStatements.{lists_named, named_refused, named_silent}
-use Rattle.zeb_register.specs.RowStatements.{IsDatabaseRow}
+use Rattle.zeb_register.specs.PrivateRowStatements.{IsDatabaseRow}
 use Rattle.zeb_register.proofs.statements.databases.database_rows.Goals as goal
 
 pub returns-clause-call : goal.returns-clause-call

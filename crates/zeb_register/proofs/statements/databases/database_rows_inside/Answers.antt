@@ -3,7 +3,7 @@ use Rattle.zeb_register.proofs.Calls.{lists_inside, query_keeps}
 use Rattle.zeb_register.proofs.DatabaseStatements.{lists_named, named_refused, named_silent}
 use Rattle.std.proofs.lemmas.Result.{IfErr-weaker}
 use Rattle.zeb_register.proofs.Refusals.{not_late}
-use Rattle.zeb_register.specs.RowStatements.{IsDatabaseRow}
+use Rattle.zeb_register.specs.PrivateRowStatements.{IsDatabaseRow}
 use Rattle.zeb_register.proofs.statements.databases.database_rows_inside.Goals as goal
 
 pub returns-clause-call : goal.returns-clause-call

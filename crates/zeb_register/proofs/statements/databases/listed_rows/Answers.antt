@@ -2,7 +2,7 @@ use Rattle.std.proofs.Common.{rules}
 use Rattle.std.proofs.lemmas.Result.{IfErr-weaker}
 use Rattle.zeb_register.proofs.Calls.{lists, nothing, quiet}
 use Rattle.zeb_register.proofs.DatabaseLists.{lists_databases, list_refused, list_silent}
-use Rattle.zeb_register.specs.RowStatements.{IsListedRow}
+use Rattle.zeb_register.specs.PrivateRowStatements.{IsListedRow}
 use Rattle.zeb_register.proofs.statements.databases.listed_rows.Goals as goal
 
 pub returns-clause-call : goal.returns-clause-call

@@ -3,7 +3,7 @@ use Rattle.zeb_register.proofs.Refusals.{not_late}
 use Rattle.std.proofs.Common.{rules}
 use Rattle.zeb_register.proofs.Calls.{lists_inside, query_keeps}
 use Rattle.zeb_register.proofs.DatabaseLists.{list_refused, lists_databases, list_silent}
-use Rattle.zeb_register.specs.RowStatements.{IsListedRow}
+use Rattle.zeb_register.specs.PrivateRowStatements.{IsListedRow}
 use Rattle.zeb_register.proofs.statements.databases.listed_rows_inside.Goals as goal
 
 pub returns-clause-call : goal.returns-clause-call

@@ -4,7 +4,7 @@ use Rattle.std.proofs.Common.{rules, ◌≡◌, List, [], ◌∷◌, take}
 use Rattle.std.proofs.Math.Facts.{to_z-of_z}
 use Rattle.sqlite.specs.Order.{Row}
 use Rattle.sqlite.specs.declared.types.Value.TheVariants.{Int}
-use Rattle.zeb_register.specs.RowStatements.{IsRestAtLeast}
+use Rattle.zeb_register.specs.PrivateRowStatements.{IsRestAtLeast}
 use Rattle.zeb_register.specs.Sql.{IsListOf}
 use Rattle.zeb_register.specs.Store.{records_tree}
 use Rattle.zeb_register.proofs.Calls.{read_inside, query_keeps}

@@ -1,7 +1,7 @@
 use Rattle.std.proofs.Common.{rules, ◌≤ℤ◌, sym, subst}
 use Rattle.std.proofs.lemmas.Result.{IfErr-weaker}
-use Rattle.zeb_register.specs.RowExpected.{Owns, tree_of}
-use Rattle.zeb_register.specs.RowReads.{ShowsFirst}
+use Rattle.zeb_register.specs.PrivateRowExpected.{Owns, tree_of}
+use Rattle.zeb_register.specs.PrivateRowReads.{ShowsFirst}
 use Rattle.zeb_register.proofs.Calls.{IsSilent, read_so, nothing, quiet}
 use Rattle.zeb_register.proofs.OwnerStatements.{greatest_refused, greatest_silent, shows_greatest}
 use Rattle.zeb_register.proofs.statements.owners.greatest_rows.Goals as goal

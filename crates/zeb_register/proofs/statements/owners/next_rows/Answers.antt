@@ -1,8 +1,8 @@
 use Rattle.std.proofs.Common.{rules, ◌≤ℤ◌, sym, subst}
 use Rattle.std.proofs.lemmas.Result.{IfErr-weaker}
 use Rattle.std.proofs.Math.Facts.{to_z-of_z}
-use Rattle.zeb_register.specs.RowExpected.{Owns, tree_of}
-use Rattle.zeb_register.specs.RowReads.{ShowsFirst}
+use Rattle.zeb_register.specs.PrivateRowExpected.{Owns, tree_of}
+use Rattle.zeb_register.specs.PrivateRowReads.{ShowsFirst}
 use Rattle.zeb_register.proofs.Calls.{IsSilent, read_so, nothing, quiet}
 use Rattle.zeb_register.proofs.OwnerStatements.{next_refused, next_silent, shows_next}
 use Rattle.zeb_register.proofs.statements.owners.next_rows.Goals as goal

@@ -6,7 +6,7 @@ use Rattle.zeb_register.proofs.Calls.{lists_inside, query_keeps}
 use Rattle.zeb_register.proofs.PostingStatements.{lists_spots, spot_silent, spots_refused}
 use Rattle.std.proofs.Common.{IsUtf8, rules, pos, subst}
 use Rattle.zeb_register.specs.Store.{IsRest, postings_tree}
-use Rattle.zeb_register.specs.RowStatements.{place_key}
+use Rattle.zeb_register.specs.PrivateRowStatements.{place_key}
 use Rattle.zeb_register.proofs.Columns.{column_is}
 use Rattle.zeb_register.proofs.statements.postings.place_rows.Goals as goal
 

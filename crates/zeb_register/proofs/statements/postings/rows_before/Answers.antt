@@ -3,7 +3,7 @@ use Rattle.std.proofs.Common.{rules, ◌≡◌, pos, true}
 use Rattle.std.specs.Ordering.{is_lt, nat_cmp}
 use Rattle.std.specs.Cmp.Lexicographic.{slice_cmp}
 use Rattle.zeb_keys.specs.Registers.{register_code}
-use Rattle.zeb_register.specs.RowTerms.{HasTerm, ShowsGreatest}
+use Rattle.zeb_register.specs.PrivateRowTerms.{HasTerm, ShowsGreatest}
 use Rattle.zeb_register.proofs.Calls.{read_so, nothing, quiet}
 use Rattle.zeb_register.proofs.TermStatements.{before_refused, before_silent, shows_greatest}
 use Rattle.zeb_register.proofs.Columns.{column_is}

@@ -3,7 +3,7 @@ use Rattle.std.proofs.Common.{rules, ◌≡◌, pos, false}
 use Rattle.std.specs.Ordering.{is_lt, nat_cmp}
 use Rattle.std.specs.Cmp.Lexicographic.{slice_cmp}
 use Rattle.zeb_keys.specs.Registers.{register_code}
-use Rattle.zeb_register.specs.RowTerms.{HasTerm, ShowsLeast}
+use Rattle.zeb_register.specs.PrivateRowTerms.{HasTerm, ShowsLeast}
 use Rattle.zeb_register.proofs.Calls.{read_so, nothing, quiet}
 use Rattle.zeb_register.proofs.TermStatements.{from_refused, from_silent, shows_least}
 use Rattle.zeb_register.proofs.Columns.{column_is}

@@ -1,7 +1,7 @@
 use Rattle.std.proofs.lemmas.Result.{IfErr-weaker}
 use Rattle.std.proofs.Common.{rules}
 use Rattle.std.proofs.Math.Facts.{to_z-of_z}
-use Rattle.zeb_register.specs.RowStatements.{ShowsCount}
+use Rattle.zeb_register.specs.PrivateRowStatements.{ShowsCount}
 use Rattle.zeb_register.proofs.Calls.{read_so, nothing, quiet}
 use Rattle.zeb_register.proofs.RecordReadings.{count_refused, count_silent, shows_count}
 use Rattle.zeb_register.proofs.statements.records.count_rows.Goals as goal

@@ -4,7 +4,7 @@ use Rattle.std.proofs.Common.{rules}
 use Rattle.std.proofs.Math.Facts.{to_z-of_z}
 use Rattle.zeb_register.proofs.Calls.{lists_inside, query_keeps}
 use Rattle.zeb_register.proofs.RecordStatements.{elder_refused, lists_elder, elder_silent}
-use Rattle.zeb_register.specs.RowStatements.{IsElderRow}
+use Rattle.zeb_register.specs.PrivateRowStatements.{IsElderRow}
 use Rattle.zeb_register.proofs.statements.records.elder_rows.Goals as goal
 
 pub returns-clause-call : goal.returns-clause-call

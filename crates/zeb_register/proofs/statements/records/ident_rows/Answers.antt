@@ -3,7 +3,7 @@ use Rattle.std.proofs.lemmas.Result.{IfErr-weaker}
 use Rattle.std.proofs.Math.Facts.{to_z-of_z}
 use Rattle.zeb_register.proofs.Calls.{lists, nothing, quiet}
 use Rattle.zeb_register.proofs.RecordStatements.{lists_ident, ident_refused, ident_silent}
-use Rattle.zeb_register.specs.RowStatements.{IsIdentRow}
+use Rattle.zeb_register.specs.PrivateRowStatements.{IsIdentRow}
 use Rattle.zeb_register.proofs.statements.records.ident_rows.Goals as goal
 
 pub returns-clause-call : goal.returns-clause-call

@@ -2,7 +2,7 @@ use Rattle.std.proofs.Common.{rules}
 use Rattle.std.proofs.lemmas.Result.{IfErr-weaker}
 use Rattle.zeb_register.proofs.Calls.{lists, nothing, quiet}
 use Rattle.zeb_register.proofs.TextStatements.{lists_value, value_refused, value_silent}
-use Rattle.zeb_register.specs.RowStatements.{IsValueRow}
+use Rattle.zeb_register.specs.PrivateRowStatements.{IsValueRow}
 use Rattle.zeb_register.proofs.statements.texts.text_rows.Goals as goal
 
 pub returns-clause-call : goal.returns-clause-call

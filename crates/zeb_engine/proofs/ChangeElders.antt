@@ -1,0 +1,63 @@
+-- What a change finds kept under the identifier of its first record, step by step.
+use Rattle.std.proofs.Common.{◌≡◌, ◌⊎◌, ℕ, ℤ, List, [], ◌∷◌, Result, Ok, Err, inl, inr, sym, subst}
+use Rattle.sqlite.specs.Effect.{Database}
+use Rattle.sqlite.specs.Order.{Row}
+use Rattle.sqlite.specs.State.{State}
+use Rattle.sqlite.specs.Tree.{Trees}
+use Rattle.zeb_marc.specs.Splits.{Split}
+use Rattle.zeb_profile.specs.declared.directives.Directive.{Directive}
+use Rattle.zeb_register.specs.Calls.{ChangesNothing}
+use Rattle.zeb_register.specs.Catalog.{PutsDatabase}
+use Rattle.zeb_register.specs.Store.{Changes, IsStore, databases_tree}
+use Rattle.zeb_register.proofs.Calls.{store_same}
+use Rattle.zeb_change.specs.declared.refusals.Refusal.{Refusal}
+use Rattle.zeb_change.specs.Elders.{FirstFindsWhole, KeepsWhole, OfFirst}
+use Rattle.zeb_change.specs.Folding.{splits_of}
+use Rattle.zeb_change.specs.Refused.{why_of}
+use Rattle.zeb_change.proofs.Elders.{passed_error}
+use Rattle.zeb_change.proofs.ElderSteps.{files_find}
+use Rattle.zeb_engine.specs.Adopting.{StaysOpen}
+use Rattle.zeb_engine.specs.Answers.{IsFailure, refused}
+use Rattle.zeb_engine.specs.AnyTables.{ElderOver}
+use Rattle.zeb_engine.specs.PrivateLooking.{MissesDatabase}
+use Rattle.zeb_engine.proofs.ChangeSteps.{kept_records}
+use Rattle.zeb_engine.proofs.OverTables.{IsFew}
+
+of_first : {A : Type 0} (P : A → Type 0) (xs : List A) → ((x : A) → P x) → OfFirst P xs
+of_first P [] each = tt
+of_first P (x ∷ xs) each = each x
+
+module _ (profile : List Directive) where
+  -- what is found goes by the rows of records alone
+  same_records : {T : Type 0} (old mid : Trees) (id : ℤ) (splits : List Split) (result : Result T Refusal) → mid 4 ≡ old 4 → FirstFindsWhole profile mid id splits result → FirstFindsWhole profile old id splits result
+  same_records old mid id splits result same = subst (λ (rows : List Row). FirstFindsWhole profile (λ tree. rows) id splits result) same
+
+  module _ (name : List ℕ) (texts : List (List ℕ)) where
+    -- a refusal as damage or by a failure
+    pub few_elder : {T : Type 0} (trees : Trees) (why : Refusal) (result : Result T Refusal) → result ≡ Err why → IsFew why → ElderOver profile name texts trees result
+    few_elder trees why result told few id last there =
+        of_first _ (splits_of texts) (λ split. of_first _ split.slices (λ slice ident whole named. passed_error (KeepsWhole profile trees id ident) why result told (inr few)))
+
+    -- a database that is there isn't missed
+    pub missed_elder : {T : Type 0} (trees : Trees) (why : Refusal) (result : Result T Refusal) → result ≡ Err why → IsFailure (refused (why_of why)) ⊎ MissesDatabase trees name why → ElderOver profile name texts trees result
+    missed_elder trees why result told (inl failed) = few_elder trees why result told (inr failed)
+    missed_elder trees why result told (inr (inl none)) = λ id last there. absurd (none.0 id last there)
+    missed_elder trees why result told (inr (inr damaged)) = few_elder trees why result told (inl damaged.0)
+
+    -- once it is found whole, whatever comes goes by it
+    pub found_elder : {T X : Type 0} (trees : Trees) (x : X) (result : Result T Refusal) → ElderOver profile name texts trees (Ok x) → ElderOver profile name texts trees result
+    found_elder trees x result found id last there = files_find profile trees id result (splits_of texts) (found id last there)
+
+    -- the row of its database is written before the records, and keeps its id
+    pub put_elder : {T : Type 0} (old mid : State) (id last : ℤ) (result : Result T Refusal) → Changes databases_tree (PutsDatabase id name last) old mid → FirstFindsWhole profile mid.now.trees id (splits_of texts) result
+        → ElderOver profile name texts old.now.trees result
+    put_elder old mid id last result put found i l there =
+        subst (λ (db : ℤ). FirstFindsWhole profile old.now.trees db (splits_of texts) result) (sym (put.rows.kept i l there))
+        (same_records old.now.trees mid.now.trees id (splits_of texts) result (kept_records id name last old mid put) found)
+
+    -- behind calls that only looked
+    pub elder_after : {T : Type 0} (old mid : State) (result : Result T Refusal) → ChangesNothing old mid → StaysOpen old mid → (IsStore mid → ElderOver profile name texts mid.now.trees result)
+        → IsStore old → ElderOver profile name texts old.now.trees result
+    elder_after old mid result nothing opened told store =
+        let same = nothing opened.1 in
+        subst (λ (d : Database). ElderOver profile name texts d.trees result) same.1 (told (store_same old mid same.1 store))

@@ -1,0 +1,84 @@
+-- What a command did to a connection, by whether it asked the store.
+use Rattle.std.proofs.Common.{◌≡◌, ◌⊎◌, Result, Ok, Err, IfErr, OnErr, OnOk, inl, inr, refl, rules, subst, sym}
+use Rattle.sqlite.specs.Held.{Held, state}
+use Rattle.sqlite.specs.State.{State, HasCleanDisk, Survives}
+use Rattle.sqlite.specs.Store.{Ghosts}
+use Rattle.zeb_register.specs.Calls.{ChangesNothing}
+use Rattle.zeb_engine.specs.declared.commands.Command.{Command}
+use Rattle.zeb_engine.specs.declared.commands.Command.TheVariants.{Init, Check, Reindex, Upgrade, Create, Drop, Stat, Dump, Change, Find, Scan, Analyse}
+use Rattle.zeb_change.specs.declared.refusals.Refusal.{Refusal}
+use Rattle.zeb_engine.specs.Adopting.{StaysOpen}
+use Rattle.zeb_engine.specs.Answers.{Answer}
+use Rattle.zeb_change.specs.Conditions.{Conditions}
+use Rattle.zeb_image.specs.Holdings.{Holdings}
+use Rattle.zeb_engine.specs.Steps.{Step}
+use Rattle.zeb_engine.specs.Transactions.{AsksStore, Commanded, CommandedBy, EnduresRefusal, LeavesNoMore}
+
+-- the connection is as it was
+pub record IsAsItWas (old new : State) : Type 0 where
+  pub is_open : new.is_open ≡ old.is_open
+  pub nothing : ChangesNothing old new
+  pub no_more : LeavesNoMore old new
+
+-- the store was asked, and it is said what came of it, or the connection is as it was
+abbrev pub AsksOrStays : {T : Type 0} → Command → State → State → Result T Refusal → Type 0
+AsksOrStays command old new result = (AsksStore command × Commanded old new result) ⊎ ((¬ AsksStore command) × IsAsItWas old new)
+
+as_it_was : {S : Type 0} (g : Ghosts S) (old new : Held S) → new ≡ old → IsAsItWas (state g old) (state g new)
+as_it_was g old new same =
+    subst (λ (held : Held _). IsAsItWas (state g old) (state g held)) (sym same) record { is_open = refl; nothing = λ is_open. (is_open, refl, refl); no_more = λ db left. left }
+
+pub did : {S T : Type 0} (g : Ghosts S) (command : Command) (old new : Held S) (result : Result T Refusal) → CommandedBy g command old new result → AsksOrStays command (state g old) (state g new) result
+did g Init old new result it = inl (tt, it)
+did g Check old new result it = inl (tt, it)
+did g Reindex old new result it = inl (tt, it)
+did g Upgrade old new result it = inl (tt, it)
+did g (Create name) old new result it = inl (tt, it)
+did g (Drop name) old new result it = inl (tt, it)
+did g (Stat name) old new result it = inl (tt, it)
+did g (Dump name) old new result it = inl (tt, it)
+did g (Change kind name files) old new result it = inl (tt, it)
+did g (Find name query first count) old new result it = inl (tt, it)
+did g (Scan name query number position) old new result it = inl (tt, it)
+did g (Analyse files) old new result it = inr (λ asks. asks, as_it_was g old new it)
+
+on_any : {T E : Type 0} (r : Result T E) (P : Type 0) → P → OnErr r P
+on_any (Ok x) P p = search rules
+on_any (Err e) P p = p
+
+if_any : {T : Type 0} (r : Result T Refusal) (P : Refusal → Type 0) → ((why : Refusal) → P why) → IfErr r P
+if_any (Ok x) P p = search rules
+if_any (Err why) P p = p why
+
+module _ {T : Type 0} (command : Command) (old new : State) (result : Result T Refusal) (clean : HasCleanDisk new) where
+  pub did_refuse : AsksOrStays command old new result → OnErr result (ChangesNothing old new)
+  did_refuse (inl asked) = asked.1.refused clean
+  did_refuse (inr same) = on_any result (ChangesNothing old new) same.1.nothing
+
+  pub did_endure : AsksOrStays command old new result → IfErr result (EnduresRefusal old new)
+  did_endure (inl asked) = asked.1.endures clean
+  did_endure (inr same) = if_any result (EnduresRefusal old new) (λ why other. same.1.no_more)
+
+-- a command that asks nothing of the store leaves what is held
+pub unasked_still : (c : Conditions) (command : Command) (before later : Holdings) (answer : Answer) → (¬ AsksStore command) → Step c command before answer later → later ≡ before
+unasked_still c Init before later answer not step = absurd (not tt)
+unasked_still c Check before later answer not step = absurd (not tt)
+unasked_still c Reindex before later answer not step = absurd (not tt)
+unasked_still c Upgrade before later answer not step = absurd (not tt)
+unasked_still c (Create name) before later answer not step = absurd (not tt)
+unasked_still c (Drop name) before later answer not step = absurd (not tt)
+unasked_still c (Stat name) before later answer not step = absurd (not tt)
+unasked_still c (Dump name) before later answer not step = absurd (not tt)
+unasked_still c (Change kind name files) before later answer not step = absurd (not tt)
+unasked_still c (Find name query first count) before later answer not step = absurd (not tt)
+unasked_still c (Scan name query number position) before later answer not step = absurd (not tt)
+unasked_still c (Analyse files) before later answer not step = step.1
+
+-- a command that reads
+pub reads_command : {T : Type 0} (old new : State) (result : Result T Refusal) → (HasCleanDisk new → OnOk result (StaysOpen old new)) → (HasCleanDisk new → ChangesNothing old new) → Survives old new (λ _. ⊥)
+    → Commanded old new result
+reads_command old new result opens same survives = record {
+  accepted = opens;
+  refused = λ clean. on_any result (ChangesNothing old new) (same clean);
+  endures = λ clean. if_any result (EnduresRefusal old new) (λ why other db left. elim (survives.crash clean db left) [ inl was ↦ was | inr none ↦ absurd none ]);
+}

@@ -1,0 +1,150 @@
+-- A find, step by step: what a plan holds of by the postings of its key, and that sets of the same occurrences have the same answers.
+use Rattle.std.proofs.Common.{◌≡◌, ◌↔◌, ◌-◌, ◌&&◌, ℕ, ℤ, zero, suc, pos, Bool, true, false, if◌then◌else◌, List, [], ◌∷◌, length, take, drop, nat_lt, Some, Result, Ok, Err, refl, sym, ap, subst, inl, inr, arith, IsUtf8, string_bytes}
+use Rattle.std.specs.List.{Contains}
+use Rattle.std.specs.Fmt.{decimal}
+use Rattle.sqlite.specs.Tree.{Trees}
+use Rattle.sqlite_rules.specs.Lists.{Has}
+use Rattle.zeb_profile.specs.declared.directives.Directive.{Directive}
+use Rattle.zeb_query.specs.declared.faults.QueryFault.{QueryFault}
+use Rattle.zeb_query.specs.declared.faults.QueryFault.TheVariants.{Diagnostic, Memory}
+use Rattle.zeb_query.specs.Checks.{Fails, Refusal as PlanRefusal}
+use Rattle.zeb_query.specs.Grammar.{QueryValue, SpellsQuery}
+use Rattle.zeb_query.specs.Places.{IsReadable}
+use Rattle.zeb_query.specs.Plans.{PlanValue, plan_of}
+use Rattle.zeb_keys.specs.declared.keys.Occurrence.{Occurrence}
+use Rattle.zeb_register.specs.Content.{posted}
+use Rattle.zeb_register.specs.Formats.{Format}
+use Rattle.zeb_register.proofs.TermLists.{has_taken}
+use Rattle.zeb_change.specs.declared.refusals.Refusal.{Refusal}
+use Rattle.zeb_engine.specs.Answers.{Answer, found, refused}
+use Rattle.zeb_change.specs.Refused.{Why, diagnostic, why_of, Meets}
+use Rattle.zeb_engine.specs.Finding.{AreShown, IsAnswered, IsNamed, IsPlanned, IsShown, asked_of, has_name}
+use Rattle.zeb_change.specs.Occurs.{occurs}
+use Rattle.zeb_search.specs.Holds.{TreeHolds}
+use Rattle.zeb_search.specs.Lists.{AreNumbers}
+use Rattle.zeb_search.specs.Registers.{has_ident_in, HoldsIn, is_kept_in, NamesReadable}
+use Rattle.zeb_search.proofs.ReadableNames.{names_readable}
+use Rattle.zeb_search.proofs.HoldsAlike.{tree_alike}
+use Rattle.zeb_search.proofs.KnownHolders.{IsKnown, holder_known}
+use Rattle.zeb_change.specs.Base.{Base, Kept}
+use Rattle.zeb_image.specs.Holdings.{base_named}
+use Rattle.zeb_change.specs.Outcomes.{query_refusal}
+use Rattle.zeb_engine.specs.Steps.{FindAnswers}
+use Rattle.zeb_engine.proofs.ReadyQueries.{Ends, said_ends}
+use Rattle.zeb_engine.proofs.DatabasesOfImages.{IsHeld, kept_as_named, named_as_kept}
+use Rattle.zeb_engine.proofs.Showing.{KeepsEach}
+use Rattle.zeb_change.proofs.BaseLemmas.{base_numbered}
+
+-- ---- sets of the same occurrences
+
+pub numbers_as : (P Q : ℕ → Type 0) → ((n : ℕ) → P n ↔ Q n) → (numbers : List ℕ) → AreNumbers P numbers → AreNumbers Q numbers
+numbers_as P Q so numbers are = record { rising = are.rising; each = λ n. (λ h. (so n).0 ((are.each n).0 h), λ h. (are.each n).1 ((so n).1 h)) }
+
+shown_as : (N M : ℕ → List ℕ → Type 0) → ((n : ℕ) (ident : List ℕ) → N n ident → M n ident) → (numbers : List ℕ) (shown : List (ℕ × List ℕ)) → AreShown N numbers shown → AreShown M numbers shown
+shown_as N M so numbers shown are = record { in_order = are.in_order; named = λ hit there. so hit.0 hit.1 (are.named hit there) }
+
+module _ (O P : ℕ → Occurrence → Type 0) (same : (n : ℕ) (o : Occurrence) → O n o ↔ P n o) (N M : ℕ → List ℕ → Type 0) (so : (n : ℕ) (ident : List ℕ) → N n ident ↔ M n ident) where
+  named_alike : (n : ℕ) → IsNamed O N n ↔ IsNamed P M n
+  named_alike n = (λ h. (h.0, (so n h.0).0 h.1), λ h. (h.0, (so n h.0).1 h.1))
+
+  module _ (first count : ℕ) (answer : Answer) where
+    told_as : (hits : List ℕ) (asked : Result (List ℕ) Why) → IsShown N hits asked answer → IsShown M hits asked answer
+    told_as hits (Ok asked) is = (is.0, shown_as N M (λ n ident. (so n ident).0) asked is.0 is.1, is.2)
+    told_as hits (Err why) is = is
+
+    pub planned_as : (plan : Result PlanValue PlanRefusal) → IsPlanned O N plan first count answer → IsPlanned P M plan first count answer
+    planned_as (Ok plan) is =
+        let alike = tree_alike O P same (IsNamed O N) (IsNamed P M) named_alike plan in
+        (is.0, numbers_as (TreeHolds O (IsNamed O N) plan) (TreeHolds P (IsNamed P M) plan) alike is.0 is.1, told_as is.0 (asked_of is.0 first count) is.2)
+    planned_as (Err e) is = is
+
+-- ---- those that are asked for
+
+pub met_view : {A X : Type 0} (view : X → A) (said : Result A Why) (x : X) → Meets {A = A} {X = X} (λ wanted got. view got ≡ wanted) said (Ok x) → said ≡ Ok (view x)
+met_view view (Ok a) x met = ap Ok (sym met)
+met_view view (Err why) x met = absurd met
+
+part_if : (b : Bool) (why : Why) (numbers asked : List ℕ) → (if b then Err why else Ok numbers) ≡ Ok asked → numbers ≡ asked
+part_if true why numbers asked is = (let e : ◌≡◌ {A = Result (List ℕ) Why} (Err why) (Ok asked) = is in absurd cc)
+part_if false why numbers asked is = (let e : ◌≡◌ {A = Result (List ℕ) Why} (Ok numbers) (Ok asked) = is in cc)
+
+has_dropped : {X : Type 0} (n : ℕ) (xs : List X) (x : X) → Has (drop n xs) x → Has xs x
+has_dropped zero xs x h = h
+has_dropped (suc n) [] x h = absurd h
+has_dropped (suc n) (y ∷ xs) x h = inr (has_dropped n xs x h)
+
+pub asked_has : (numbers asked : List ℕ) (first count : ℕ) → asked_of numbers first count ≡ Ok asked → (n : ℕ) → Has asked n → Has numbers n
+asked_has numbers asked first count said n there =
+    let part = part_if (nat_lt 1 first && nat_lt (length numbers) first) (diagnostic 13 0 (decimal first)) (take count (drop (first - 1) numbers)) asked said in
+    has_dropped (first - 1) numbers n (has_taken count (drop (first - 1) numbers) n (subst (λ (l : List ℕ). Has l n) (sym part) there))
+
+module _ (format : Format) (profile : List Directive) (trees : Trees) (id : ℤ) (base : Base) (held : IsHeld format profile trees id base) where
+  abbrev in_tables : ℕ → Type 0
+  in_tables = is_kept_in trees id
+
+  -- who has an occurrence is kept, with the occurrence or without
+  known_kept : (n : ℕ) → IsKnown (posted held.content id) in_tables n → (k : Kept) × Contains base.records k × (k.sysno ≡ n)
+  known_kept n (inl known) = (let of = (held.occurring n known.0).0 known.1 in (of.0, of.1, of.2))
+  known_kept n (inr row) = (let of = (held.kept (pos n) row.0 row.1.0).0 row.1.1 in (of.0, of.1, (let e = of.2 in cc)))
+
+  -- the records of the hits are kept
+  pub asked_kept : (plan : PlanValue) (numbers asked : List ℕ) (first count : ℕ) → AreNumbers (HoldsIn trees held.content id plan) numbers → asked_of numbers first count ≡ Ok asked → KeepsEach trees id asked
+  asked_kept plan numbers asked first count are said n there =
+      let holds = (are.each n).0 (asked_has numbers asked first count said n there) in
+      let of = known_kept n (holder_known (posted held.content id) in_tables plan n holds) in (
+        (
+          (of.0.ident, (of.0.bytes, (held.kept (pos n) of.0.ident of.0.bytes).1 (of.0, of.1, ap pos (sym of.2), refl, refl))),
+          λ ident bytes row. let k = (held.kept (pos n) ident bytes).0 row in subst IsUtf8 (sym k.3) (held.sound.sound k.0 k.1).text,
+        ),
+        (let number = base_numbered profile base held.sound of.0 of.1 in omega (arith, number.1, of.2)),
+      )
+
+  -- each identifier in the tables is UTF-8
+  pub idents_readable : (plan : PlanValue) → NamesReadable trees id plan
+  idents_readable = names_readable trees id (λ n ident bytes row. let k = (held.kept (pos n) ident bytes).0 row in subst IsUtf8 (sym k.3) (held.sound.sound k.0 k.1).text)
+
+  -- ---- the answers
+
+  module _ (name query : List ℕ) (first count : ℕ) (bases : List Base) (readable : IsReadable query) (named : base_named name bases ≡ Some base) (value : QueryValue) (spells : SpellsQuery query value) where
+    abbrev pub FindEnds : Answer → Type 0
+    FindEnds = Ends (FindAnswers profile query first count) name query bases
+
+    -- what is answered by the registers is answered by the records' bytes
+    named_alike_kept : (n : ℕ) (ident : List ℕ) → has_ident_in trees id n ident ↔ has_name base.records n ident
+    named_alike_kept n ident = (named_as_kept format profile trees id base held n ident, kept_as_named format profile trees id base held n ident)
+
+    planned_ends : (answer : Answer) → IsPlanned (posted held.content id) (has_ident_in trees id) (plan_of profile value) first count answer → FindEnds answer
+    planned_ends answer is = said_ends (FindAnswers profile query first count) name query bases readable base named answer (
+      value,
+      spells,
+      planned_as (posted held.content id) (occurs profile base.records) held.occurring (has_ident_in trees id) (has_name base.records) named_alike_kept first count answer (plan_of profile value) is,
+    )
+
+    pub plan_ends : (e : QueryFault) → Fails e (plan_of profile value) → FindEnds (refused (why_of (query_refusal e)))
+    plan_ends Memory said = inr (inr refl)
+    plan_ends (Diagnostic number place addinfo) said =
+        let answer = refused (diagnostic number place (string_bytes addinfo)) in
+        planned_ends answer (subst (λ r. IsPlanned (posted held.content id) (has_ident_in trees id) r first count answer) (sym said) refl)
+
+    module _ (plan : PlanValue) (planned : plan_of profile value ≡ Ok plan) (numbers : List ℕ) (are : AreNumbers (HoldsIn trees held.content id plan) numbers) where
+      shown_ends : (answer : Answer) → IsShown (has_ident_in trees id) numbers (asked_of numbers first count) answer → FindEnds answer
+      shown_ends answer is = planned_ends answer (subst (λ r. IsPlanned (posted held.content id) (has_ident_in trees id) r first count answer) (sym planned) (numbers, are, is))
+
+      pub found_ends : (asked : List ℕ) → asked_of numbers first count ≡ Ok asked → (shown : List (ℕ × List ℕ)) → AreShown (has_ident_in trees id) asked shown → FindEnds (found (length numbers) shown)
+      found_ends asked said shown told = shown_ends (found (length numbers) shown)
+          (subst (λ (r : Result (List ℕ) Why). IsShown (has_ident_in trees id) numbers r (found (length numbers) shown)) (sym said) (shown, told, refl))
+
+      pub asked_ends : {X : Type 0} (Good : List ℕ → X → Type 0) (refusal : Refusal) → Meets {X = X} Good (asked_of numbers first count) (Err refusal) → FindEnds (refused (why_of refusal))
+      asked_ends Good refusal met = elim met [
+        | inl failed ↦ inr failed
+        | inr said ↦ shown_ends (refused (why_of refusal)) (subst (λ (r : Result (List ℕ) Why). IsShown (has_ident_in trees id) numbers r (refused (why_of refusal))) (sym said) refl)
+      ]
+
+-- what a find answers of a query with these hits
+pub hits_answered : (O : ℕ → Occurrence → Type 0) (N : ℕ → List ℕ → Type 0) (profile : List Directive) (query : List ℕ) (first count : ℕ) (value : QueryValue) → SpellsQuery query value
+    → (plan : PlanValue) → plan_of profile value ≡ Ok plan → (numbers : List ℕ) → AreNumbers (TreeHolds O (IsNamed O N) plan) numbers
+    → (asked : List ℕ) → asked_of numbers first count ≡ Ok asked → (shown : List (ℕ × List ℕ)) → AreShown N asked shown → IsAnswered O N profile query first count (found (length numbers) shown)
+hits_answered O N profile query first count value spells plan planned numbers are asked said shown told =
+    let answer = found (length numbers) shown in
+    let shows : IsShown N numbers (asked_of numbers first count) answer = subst (λ (r : Result (List ℕ) Why). IsShown N numbers r answer) (sym said) (shown, told, refl) in
+    (value, spells, subst (λ r. IsPlanned O N r first count answer) (sym planned) (numbers, are, shows))

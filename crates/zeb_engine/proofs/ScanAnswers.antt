@@ -1,0 +1,75 @@
+-- A scan, step by step: the terms around a start, and that the postings have the terms that the kept records have.
+use Rattle.std.proofs.Common.{◌≡◌, ◌↔◌, ◌∙◌, ℕ, ℤ, ◌+◌, ◌-◌, List, ◌++◌, map, filter, take, Some, Result, Ok, Err, refl, sym, ap, ap₂, subst, inr, string_bytes}
+use Rattle.sqlite.specs.Tree.{Trees}
+use Rattle.zeb_profile.specs.declared.directives.Directive.{Directive}
+use Rattle.zeb_query.specs.declared.faults.QueryFault.{QueryFault}
+use Rattle.zeb_query.specs.declared.faults.QueryFault.TheVariants.{Diagnostic, Memory}
+use Rattle.zeb_query.specs.Checks.{Fails, Refusal}
+use Rattle.zeb_query.specs.Grammar.{QueryValue, SpellsQuery}
+use Rattle.zeb_query.specs.Places.{IsReadable}
+use Rattle.zeb_query.specs.Plans.{ScanValue, scan_of}
+use Rattle.zeb_keys.specs.declared.keys.Occurrence.{Occurrence}
+use Rattle.zeb_register.specs.declared.registers.TermCount.{TermCount}
+use Rattle.zeb_register.specs.Content.{posted}
+use Rattle.zeb_register.specs.Formats.{Format}
+use Rattle.zeb_register.specs.Occurring.{AreTermsBefore, AreTermsFrom, is_before, is_from, last}
+use Rattle.zeb_register.proofs.OccurringLemmas.{one_terms, terms_as}
+use Rattle.zeb_engine.specs.Answers.{Answer, scanned, refused}
+use Rattle.zeb_change.specs.Refused.{diagnostic, why_of}
+use Rattle.zeb_change.specs.Occurs.{occurs}
+use Rattle.zeb_change.specs.Base.{Base}
+use Rattle.zeb_image.specs.Holdings.{base_named}
+use Rattle.zeb_change.specs.Outcomes.{query_refusal}
+use Rattle.zeb_engine.specs.Scanning.{AreAround, IsScanPlanned}
+use Rattle.zeb_engine.specs.Steps.{ScanAnswers}
+use Rattle.zeb_engine.proofs.ReadyQueries.{Ends, said_ends}
+use Rattle.zeb_engine.proofs.DatabasesOfImages.{IsHeld}
+
+-- the terms below the start, and those from it on, of the one list that a register has
+pub around_lists : (O : ℕ → Occurrence → Type 0) (plan : ScanValue) (number position : ℕ) (start : List ℕ) (below from : ℕ) (first rest terms : List TermCount)
+    → start ≡ plan.start → below ≡ position - 1 → from ≡ number + 1 - position
+    → AreTermsBefore O plan.index plan.register start below first → AreTermsFrom O plan.index plan.register start from rest → terms ≡ first ++ rest
+    → AreAround O plan number position terms
+around_lists O plan number position start below from first rest terms is_start is_below_many is_from_many before after is =
+    let one = one_terms O plan.index plan.register after.all before.all after.are before.are in
+    let front : first ≡ last (position - 1) (filter (is_before plan.start) before.all) =
+    before.is ∙ ap₂ (λ (n : ℕ) (s : List ℕ). last n (filter (is_before s) before.all)) is_below_many is_start in
+    let back : rest ≡ take (number + 1 - position) (filter (is_from plan.start) before.all) =
+    after.is ∙ ap (λ (l : List TermCount). take from (filter (is_from start) l)) one ∙ ap₂ (λ (n : ℕ) (s : List ℕ). take n (filter (is_from s) before.all)) is_from_many is_start in
+    record { all = before.all; are = before.are; is = is ∙ ap₂ (λ (xs ys : List TermCount). xs ++ ys) front back }
+
+-- ---- sets of the same occurrences
+
+module _ (O P : ℕ → Occurrence → Type 0) (same : (n : ℕ) (o : Occurrence) → O n o ↔ P n o) (number position : ℕ) (answer : Answer) where
+  pub scan_planned_as : (plan : Result ScanValue Refusal) → IsScanPlanned O plan number position answer → IsScanPlanned P plan number position answer
+  scan_planned_as (Ok plan) is = (is.0, record { all = is.1.all; are = terms_as O P same plan.index plan.register is.1.all is.1.are; is = is.1.is }, is.2)
+  scan_planned_as (Err e) is = is
+
+-- ---- the answers
+
+-- what is answered of a plan with these terms around its start
+pub terms_answered : (O : ℕ → Occurrence → Type 0) (profile : List Directive) (value : QueryValue) (number position : ℕ) (plan : ScanValue) → scan_of profile value ≡ Ok plan
+    → (terms : List TermCount) → AreAround O plan number position terms → IsScanPlanned O (scan_of profile value) number position (scanned plan.register (map (λ t. (t.term, t.records)) terms))
+terms_answered O profile value number position plan planned terms are =
+    subst (λ r. IsScanPlanned O r number position (scanned plan.register (map (λ t. (t.term, t.records)) terms))) (sym planned) (terms, are, refl)
+
+module _ (format : Format) (profile : List Directive) (trees : Trees) (id : ℤ) (base : Base) (held : IsHeld format profile trees id base)
+    (name query : List ℕ) (number position : ℕ) (bases : List Base) (readable : IsReadable query) (named : base_named name bases ≡ Some base) (value : QueryValue) (spells : SpellsQuery query value) where
+  abbrev pub ScanEnds : Answer → Type 0
+  ScanEnds = Ends (ScanAnswers profile query number position) name query bases
+
+  -- what is answered by the registers is answered by the records' bytes
+  planned_ends : (answer : Answer) → IsScanPlanned (posted held.content id) (scan_of profile value) number position answer → ScanEnds answer
+  planned_ends answer is = said_ends (ScanAnswers profile query number position) name query bases readable base named answer
+      (value, spells, scan_planned_as (posted held.content id) (occurs profile base.records) held.occurring number position answer (scan_of profile value) is)
+
+  pub plan_ends : (e : QueryFault) → Fails e (scan_of profile value) → ScanEnds (refused (why_of (query_refusal e)))
+  plan_ends Memory said = inr (inr refl)
+  plan_ends (Diagnostic number_of place addinfo) said =
+      let answer = refused (diagnostic number_of place (string_bytes addinfo)) in
+      planned_ends answer (subst (λ r. IsScanPlanned (posted held.content id) r number position answer) (sym said) refl)
+
+  pub scanned_ends : (plan : ScanValue) → scan_of profile value ≡ Ok plan → (terms : List TermCount) → AreAround (posted held.content id) plan number position terms
+      → ScanEnds (scanned plan.register (map (λ t. (t.term, t.records)) terms))
+  scanned_ends plan planned terms are =
+      planned_ends (scanned plan.register (map (λ t. (t.term, t.records)) terms)) (terms_answered (posted held.content id) profile value number position plan planned terms are)

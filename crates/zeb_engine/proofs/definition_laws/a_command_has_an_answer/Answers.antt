@@ -1,5 +1,0 @@
-use Rattle.zeb_engine.proofs.EveryAnswer.{step_there}
-use Rattle.zeb_engine.proofs.definition_laws.a_command_has_an_answer.Goals as goal
-
-pub returns : goal.returns
-returns c = step_there

@@ -1,5 +1,0 @@
-use Rattle.zeb_engine.proofs.OneAnswer.{steps_once}
-use Rattle.zeb_engine.proofs.definition_laws.a_command_has_one_answer.Goals as goal
-
-pub returns : goal.returns
-returns c = steps_once

@@ -1,5 +1,0 @@
-use Rattle.zeb_image.proofs.OneText.{under_other}
-use Rattle.zeb_engine.proofs.definition_laws.one_text_one_image.Goals as goal
-
-pub returns : goal.returns
-returns c = under_other

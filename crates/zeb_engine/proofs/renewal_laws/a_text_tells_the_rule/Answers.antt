@@ -1,5 +1,0 @@
-use Rattle.zeb_engine.proofs.Rebuilt.{rules_told}
-use Rattle.zeb_engine.proofs.renewal_laws.a_text_tells_the_rule.Goals as goal
-
-pub returns : goal.returns
-returns c one other is_one is_other = rules_told one other is_one is_other

@@ -1,0 +1,17 @@
+pub mod WorkedLemmas
+pub mod WorkedAnswers
+pub mod WorkedQuery
+pub mod WorkedRun
+pub mod OneHolding
+pub mod FoldCounts
+pub mod FoldRecords
+pub mod Accepted
+pub mod FoldInduction
+pub mod Lasting
+pub mod DeletedRecords
+pub mod EveryAnswerHolds
+pub mod EveryAnswerLists
+pub mod EveryAnswerTerms
+pub mod EveryAnswerAnalyses
+pub mod EveryAnswer
+pub mod CheckFollows

@@ -1,0 +1,5 @@
+use Rattle.zeb_engine.proofs.OneAnswer.{steps_once}
+use Rattle.zeb_laws.proofs.definition_laws.a_command_has_one_answer.Goals as goal
+
+pub returns : goal.returns
+returns c = steps_once

@@ -1,0 +1,19 @@
+//! Laws of the definitions that the engine's contracts cite: what follows from these alone, whatever the code does. Each law is a function
+//! with no code, whose contract is the law.
+#![tactic(auto)]
+
+mod definition_laws;
+mod holding_laws;
+mod laws;
+mod renewal_laws;
+
+pub use definition_laws::{
+    a_command_has_an_answer, a_command_has_one_answer, a_word_is_found_where_it_stands,
+    an_image_is_of_one_holding, counts_add_up, no_definition_answers_damage, numbers_stay,
+    one_text_one_image,
+};
+pub use holding_laws::{a_database_is_in_its_place, the_last_record_stays};
+pub use laws::worked_examples;
+pub use renewal_laws::{
+    a_check_accepts_what_commands_leave, a_text_tells_the_rule, the_databases_stay,
+};

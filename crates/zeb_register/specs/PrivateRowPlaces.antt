@@ -1,0 +1,86 @@
+-- What only the contracts of private functions speak of; no public clause reaches it.
+-- The places of one record as rows of `postings` show them.
+use Rattle.std.specs.Prelude.{◌≡◌, ◌↔◌, ◌⊎◌, ◌+◌, ◌<◌, ◌≤◌, ◌^◌, ℕ, ℤ, pos, List, [], ◌∷◌, ◌++◌, length}
+use Rattle.std.specs.List.{AllByRecursion}
+use Rattle.sqlite.specs.declared.types.Value.TheVariants.{Int}
+use Rattle.sqlite.specs.Order.{Row, column}
+use Rattle.sqlite.specs.Tree.{Trees}
+use Rattle.sqlite.specs.State.{State}
+use Rattle.sqlite_rules.specs.Lists.{Has}
+use Rattle.zeb_keys.specs.declared.keys.Key.{Key}
+use Rattle.zeb_keys.specs.Registers.{register_code}
+use Rattle.zeb_register.specs.declared.registers.Place.{Place}
+use Rattle.zeb_register.specs.Hindrances.{FitsEachLayout, LacksRowids, Placed, rows_of}
+use Rattle.zeb_register.specs.PrivateHindrances.{HindersNew}
+use Rattle.zeb_register.specs.Sql.{HasRow, Loses}
+use Rattle.zeb_register.specs.Store.{IsStore, IsPostingIn, postings_tree, blocks_tree, dict_tree, KeepsLists}
+use Rattle.zeb_register.specs.PrivateRowStatements.{IsPlaceOf}
+use Rattle.zeb_register.specs.Content.{posting_at}
+use Rattle.zeb_register.specs.PlainRows.{key_row, posting_row}
+
+abbrev pub first_three : Row → Row
+first_three row = column row 0 ∷ column row 1 ∷ column row 2 ∷ []
+
+-- a row of three numbers of 0 or more
+abbrev pub IsThreeNumbers : Row → Type 0
+IsThreeNumbers row = (a : ℕ) × (b : ℕ) × (c : ℕ) × (row ≡ Int (pos a) ∷ Int (pos b) ∷ Int (pos c) ∷ [])
+
+-- ---- one record's places
+
+abbrev pub place_row : Place → Row
+place_row place = Int (pos place.seq) ∷ Int (pos place.pos) ∷ []
+
+-- a row of two numbers of 0 or more
+abbrev pub IsTwoNumbers : Row → Type 0
+IsTwoNumbers row = (a : ℕ) × (b : ℕ) × (row ≡ Int (pos a) ∷ Int (pos b) ∷ [])
+
+abbrev pub posting_columns : ℤ → Key → ℕ → Place → Row
+posting_columns db key sysno place = key_row db key ++ posting_row (posting_at sysno place)
+
+-- a posting of the key in the record
+abbrev pub IsPlaceIn : ℤ → Key → ℕ → Row → Type 0
+IsPlaceIn db key sysno = IsPlaceOf db (pos key.index) (pos (register_code key.register)) key.term (pos sysno)
+
+-- the table has these postings too
+abbrev pub GainsPlaces : ℤ → Key → ℕ → List Place → Trees → Trees → Type 0
+GainsPlaces db key sysno places old new =
+    (row : Row) → HasRow new postings_tree row ↔ (HasRow old postings_tree row ⊎ ((place : Place) × Has places place × (row ≡ posting_columns db key sysno place)))
+
+-- each table but `postings` is as it was
+abbrev pub KeepsBesidePostings : Trees → Trees → Type 0
+KeepsBesidePostings old new = KeepsLists old new × (new 9 ≡ old 9) × (new 11 ≡ old 11)
+
+-- some posting of the key in the record is there
+abbrev pub HasPlaceIn : ℤ → Key → ℕ → Trees → Type 0
+HasPlaceIn db key sysno trees = (was : Row) × HasRow trees postings_tree was × IsPlaceIn db key sysno was
+
+-- such a posting, at this place
+abbrev pub IsPlaceAt : ℤ → Key → ℕ → Place → Row → Type 0
+IsPlaceAt db key sysno place was = IsPlaceIn db key sysno was × (column was 5 ≡ Int (pos place.seq)) × (column was 6 ≡ Int (pos place.pos))
+
+-- this posting may not be put: a number is none that a column stores, it is there, no rowid is left, or it is too large
+abbrev pub HindersPut : ℤ → Key → ℕ → Place → Trees → Type 0
+HindersPut db key sysno place trees =
+    ((2 ^ 63 ≤ sysno) ⊎ ((2 ^ 63 ≤ place.seq) ⊎ (2 ^ 63 ≤ place.pos)))
+    ⊎ HindersNew (IsPlaceAt db key sysno place) postings_tree (posting_columns db key sysno place) trees
+
+-- These places of a key may not be put in records that have none: a number or an order is none that each layout stores, so also where a
+-- place is given twice; too few rowids are left; or a row is too large, which its text alone decides.
+abbrev pub HindersRows : Key → List Placed → Trees → Type 0
+HindersRows key given trees =
+    (¬ AllByRecursion FitsEachLayout given)
+    ⊎ ((2 ^ 63 ≤ rows_of given) ⊎ (LacksRowids (rows_of given) postings_tree trees ⊎ (10 ^ 9 < 300 + length key.term)))
+
+-- these postings are put, and nothing else is changed
+pub record Puts (db : ℤ) (key : Key) (sysno : ℕ) (places : List Place) (old new : State) : Type 0 where
+  pub store : IsStore new
+  pub rows : GainsPlaces db key sysno places old.now.trees new.now.trees
+  pub others : KeepsBesidePostings old.now.trees new.now.trees
+
+-- the rows of the database are taken out of the tables of the registers, and the lists are as they were
+pub record DropsRegisters (db : ℤ) (old new : State) : Type 0 where
+  pub store : IsStore new
+  pub lists : KeepsLists old.now.trees new.now.trees
+  pub postings : Loses (IsPostingIn db) postings_tree old.now.trees new.now.trees
+  pub blocks : Loses (IsPostingIn db) blocks_tree old.now.trees new.now.trees
+  pub dict : Loses (IsPostingIn db) dict_tree old.now.trees new.now.trees

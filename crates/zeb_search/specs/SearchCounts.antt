@@ -1,0 +1,62 @@
+-- What a search counts of the rows of the packed tables.
+use Rattle.std.specs.Prelude.{◌≡◌, ◌+◌, ◌<◌, ◌≤◌, ◌^◌, ℕ, List, Some, None}
+use Rattle.std.specs.List.{Contains}
+use Rattle.sqlite.specs.State.{State, HasCleanDisk}
+use Rattle.sqlite_rules.specs.Lists.{Has}
+use Rattle.zeb_text.specs.Symbols.{Symbol, Star}
+use Rattle.zeb_query.specs.declared.plans.Relation.{Relation}
+use Rattle.zeb_query.specs.declared.plans.Relation.TheVariants as relation
+use Rattle.zeb_query.specs.Plans.{PlanValue, TermOf, PairOf, NearOf, TermPlanValue, RecordNumberOf, AlwaysOf, NumberOf, OrderedOf, CompleteOf, PhraseOf, AllWordsOf, AnyWordOf}
+use Rattle.zeb_register.specs.declared.registers.Work.{Work}
+use Rattle.zeb_register.specs.Content.{Content}
+use Rattle.zeb_register.specs.Formats.{Format, holds_in}
+use Rattle.zeb_register.specs.Store.{IsStore}
+use Rattle.zeb_register.specs.Tallies.{Rises}
+
+-- ---- plans that name each entry that they ask for
+
+-- the pattern is a text
+abbrev pub HasNoStar : List Symbol → Type 0
+HasNoStar pattern = ¬ Contains pattern Star
+
+abbrev pub AreWithoutStars : List (List Symbol) → Type 0
+AreWithoutStars patterns = (pattern : List Symbol) → Has patterns pattern → HasNoStar pattern
+
+-- just the number itself is asked for, and it has a key
+abbrev pub IsOneKey : Relation → ℕ → Type 0
+IsOneKey asked number = (asked ≡ relation.Equal) × (number < 10 ^ 18)
+
+-- the term asks for texts that it names, and for no other entry
+abbrev pub TermNamesEntries : TermPlanValue → Type 0
+TermNamesEntries (RecordNumberOf number) = Unit {0}
+TermNamesEntries (AlwaysOf index register) = ⊥
+TermNamesEntries (NumberOf index relation number) = IsOneKey relation number
+TermNamesEntries (OrderedOf index register order None) = Unit {0}
+TermNamesEntries (OrderedOf index register order (Some start)) = ⊥
+TermNamesEntries (CompleteOf index None) = Unit {0}
+TermNamesEntries (CompleteOf index (Some pattern)) = HasNoStar pattern
+TermNamesEntries (PhraseOf index patterns first) = AreWithoutStars patterns
+TermNamesEntries (AllWordsOf index patterns) = AreWithoutStars patterns
+TermNamesEntries (AnyWordOf index patterns) = AreWithoutStars patterns
+
+-- each term of the plan does
+abbrev pub NamesEntries : PlanValue → Type 0
+NamesEntries (TermOf plan) = TermNamesEntries plan
+NamesEntries (PairOf operator left right) = NamesEntries left × NamesEntries right
+NamesEntries (NearOf index left right separation) = HasNoStar left × HasNoStar right
+
+-- ---- counts
+
+-- No row is counted as written; of `dict` at most so many as read, and of `blocks` at most so many.
+pub record CountsAtMost (most_terms most_blocks : ℕ) (old new : Work) : Type 0 where
+  pub no_term : Rises 0 old.dict_written new.dict_written
+  pub no_block : Rises 0 old.block_written new.block_written
+  pub terms : new.dict_read ≤ old.dict_read + most_terms
+  pub blocks : new.block_read ≤ old.block_read + most_blocks
+
+-- The same of a call, where the disk is clean and the tables of a store hold a content. `Terms` says how many rows of `dict` the terms have
+-- that it goes through, `Rows` how many rows of `blocks` its lists have.
+abbrev pub CountsByContent : Format → (Terms Rows : Content → ℕ → Type 0) → (old new : State) → (before after : Work) → Type 0
+CountsByContent format Terms Rows old new before after =
+    HasCleanDisk new → IsStore old → (content : Content) → holds_in format old.now.trees content
+    → (most_terms : ℕ) × (most_blocks : ℕ) × Terms content most_terms × Rows content most_blocks × CountsAtMost most_terms most_blocks before after
