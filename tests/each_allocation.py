@@ -75,9 +75,15 @@ ALL = {
     ],
     "tables": ["tests::memory::one_request_for_memory_may_be_refused"],
     "acceptance": ["words::each_line_is_read", "words::names_of_databases_are_read"],
-    "endurance": [
-        "refused_memory::memory_or_the_ordinary_answer",
-        "refused_memory::a_refused_list_has_run_nothing",
+    "refused_memory": [
+        "answers::memory_or_the_ordinary_answer",
+        "refusals::memory_or_the_ordinary_refusal",
+        "refusals::memory_or_a_limit",
+        "refusals::memory_or_damage",
+        "queries::memory_or_the_ordinary_diagnostic",
+        "queries::memory_or_the_diagnostic_of_a_long_query",
+        "readers::memory_or_the_ordinary_change",
+        "lists::a_list_lacks_memory_or_one_command_does",
     ],
     "hindered_runs": ["memory::memory_or_the_ordinary_answer"],
 }

@@ -1,9 +1,8 @@
 //! Commands over files that stop at some call, each call in turn. What is opened again after it dumps and checks as before the command
 //! that was under way, or as after it, whichever layout and profile it is opened under.
 
-use crate::refused_memory::lacks_memory;
 use crate::renewals::SUBJECTS;
-use command_rows::commands::{Row, Step, adopted, answer, command_of, prints, told};
+use command_rows::commands::{Row, Step, adopted, answer, command_of, lacks_memory, prints, told};
 use command_rows::statements::Statement;
 use command_rows::stories::{Part, done};
 use sqlite::{Connection, FileStore, Files};

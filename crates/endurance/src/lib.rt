@@ -1,5 +1,5 @@
 //! Tests over the public names of several crates, and no product code: what a register goes through, and is as before: damage, crashes,
-//! refused memory, checks, renewals, and stores of other programs.
+//! checks, renewals, and stores of other programs.
 #![tactic(auto)]
 
 #[cfg(test)]
@@ -14,8 +14,6 @@ mod drawn;
 mod other_stores;
 #[cfg(test)]
 mod packed;
-#[cfg(test)]
-mod refused_memory;
 #[cfg(test)]
 mod renewals;
 #[cfg(test)]

@@ -1,9 +1,11 @@
-//! Tests of the whole program over its public names, and no product code: lines as they come, paths, and sources, writers and memory that
-//! fail.
+//! Tests of the whole program over its public names, and no product code: lines as they come, paths, damaged registers, and sources,
+//! writers and memory that fail.
 #![tactic(auto)]
 
 #[cfg(test)]
 mod by_lines;
+#[cfg(test)]
+mod damaged;
 #[cfg(test)]
 mod failing;
 #[cfg(test)]

@@ -1,21 +1,25 @@
--- What the first record of a fold found kept under its identifier.
-use Rattle.std.proofs.Common.{◌≡◌, ◌⊎◌, ◌∙◌, ◌≤◌, ◌<◌, ℕ, zero, suc, ℤ, List, [], ◌∷◌, Option, None, Some, Result, Ok, Err, Bool, true, false, drop, length, set, length-set, get_or-set_same, inl, inr, arith, refl, ap, sym, subst}
+-- What the records of a fold found kept under their identifiers.
+use Rattle.std.proofs.Common.{◌≡◌, ◌⊎◌, ◌∙◌, ◌+◌, ◌≤◌, ◌<◌, ℕ, zero, suc, ℤ, List, [], ◌∷◌, Option, None, Some, Result, Ok, Err, Bool, true, false, drop, length, set, length-set, get_or-set_same, inl, inr, arith, refl, ap, sym, subst}
+use Rattle.std.proofs.lemmas.List.{drop_all}
 use Rattle.sqlite.specs.State.{State}
 use Rattle.sqlite.specs.Effect.{Database}
 use Rattle.sqlite.specs.Tree.{Trees}
+use Rattle.sqlite_rules.specs.Lists.{Has}
 use Rattle.zeb_marc.specs.Records.{first_fault}
-use Rattle.zeb_marc.specs.Splits.{Next, Split, at_end, a_slice, a_fault, next_of, split_of}
+use Rattle.zeb_marc.specs.Splits.{Split, at_end, a_slice, next_of, split_of}
 use Rattle.zeb_marc.proofs.SplitLaws.{split_of-next}
 use Rattle.zeb_profile.specs.declared.directives.Directive.{Directive}
 use Rattle.zeb_register.specs.Store.{IsStore}
 use Rattle.zeb_change.specs.declared.files.Fold.{Fold}
 use Rattle.zeb_change.specs.declared.refusals.Refusal.{Refusal}
-use Rattle.zeb_change.specs.Elders.{FindsWhole, FirstFindsWhole, IsSoOrDamaged, KeepsWhole, OfFirst}
+use Rattle.zeb_change.specs.Elders.{AreWholeBefore, FindsWhole, FirstFindsWhole, IsWholeBefore, KeepsWhole, KeepsWholeTo, OfFirst}
+use Rattle.zeb_change.specs.PrivateElders.{PassesOn}
 use Rattle.zeb_change.specs.Folding.{ident_in, splits_of}
 use Rattle.zeb_change.specs.Reading.{NoneFailed}
 use Rattle.zeb_change.specs.PrivateReading.{ReadsNext}
 use Rattle.zeb_change.proofs.Elders.{is_so}
 use Rattle.zeb_change.proofs.FoldAll.{fine_at}
+use Rattle.zeb_change.proofs.KeptStill.{passes_then, whole_before}
 use Rattle.zeb_change.proofs.FoldFiles.{told_end, told_fault, told_slice}
 
 -- ---- of the first
@@ -104,3 +108,82 @@ abbrev pub FilesBegun : List Directive → (old now : State) → (first fold : F
 FilesBegun profile old now first fold index splits =
     (IsStore now × (now.now ≡ old.now) × (fold ≡ first) × (index ≡ 0))
     ⊎ OfFirst (λ split. OfFirst (FoundWhole profile old.now.trees first.progress.database.0) split.slices) splits
+
+-- ---- each record, where the files are accepted
+
+-- each record of the file stands in what is left of it, or this holds of it
+abbrev pub FileRead : (List ℕ → Type 0) → Option (List ℕ) → (text : List ℕ) → Type 0
+FileRead Found remaining text = (left : List ℕ) × (remaining ≡ Some left) × ((slice : List ℕ) → Has (split_of text).slices slice → Has (split_of left).slices slice ⊎ Found slice)
+
+slice_at : (text slice rest : List ℕ) → next_of text ≡ a_slice slice rest → (split_of text).slices ≡ slice ∷ (split_of rest).slices
+slice_at text slice rest is = rw (split_of-next text, is) refl
+
+none_at_end : (text : List ℕ) → next_of text ≡ at_end → (split_of text).slices ≡ []
+none_at_end text is = rw (split_of-next text, is) refl
+
+module _ (Found : List ℕ → Type 0) (file nth : ℕ) (kept : List ℕ) (left : Option (List ℕ)) (remaining : Option (List ℕ)) (text : List ℕ) (so_far : FileRead Found remaining text) where
+  -- one more is read
+  pub one_more : ReadsNext file nth (next_of so_far.0) (Ok true) kept left → Found kept → FileRead Found left text
+  one_more read found =
+      let it = told_slice file nth (next_of so_far.0) kept left read in
+      let whole = slice_at so_far.0 kept it.0 it.1 in (
+        it.0,
+        it.2,
+        λ slice there. elim (so_far.2 slice there) [
+          | inl later ↦ elim (subst (λ (slices : List (List ℕ)). Has slices slice) whole later) [
+            | inl same ↦ inr (subst Found (sym same) found)
+            | inr rest ↦ inl rest
+          ]
+          | inr done ↦ inr done
+        ],
+      )
+
+  -- there is no other
+  pub all_read : ReadsNext file nth (next_of so_far.0) (Ok false) kept left → (slice : List ℕ) → Has (split_of text).slices slice → Found slice
+  all_read read slice there =
+      let none = none_at_end so_far.0 (told_end file nth (next_of so_far.0) kept left read) in
+      elim (so_far.2 slice there) [
+        | inl later ↦ absurd (subst (λ (slices : List (List ℕ)). Has slices slice) none later)
+        | inr done ↦ done
+      ]
+
+-- each file stands behind those that are read, or this holds of it
+abbrev pub FilesRead : (Split → Type 0) → ℕ → (texts : List (List ℕ)) → Type 0
+FilesRead Found index texts = (split : Split) → Has (splits_of texts) split → Has (splits_of (drop index texts)) split ⊎ Found split
+
+module _ (Found : Split → Type 0) (index : ℕ) (texts : List (List ℕ)) (so_far : FilesRead Found index texts) where
+  pub file_more : (text : List ℕ) → drop index texts ≡ text ∷ drop (suc index) texts → Found (split_of text) → FilesRead Found (index + 1) texts
+  file_more text behind found split there =
+      let next : suc index ≡ index + 1 = omega arith in
+      elim (so_far split there) [
+        | inl later ↦ elim (subst (λ (rest : List (List ℕ)). Has (splits_of rest) split) behind later) [
+          | inl same ↦ inr (subst Found (sym same) found)
+          | inr rest ↦ inl (subst (λ (n : ℕ). Has (splits_of (drop n texts)) split) next rest)
+        ]
+        | inr done ↦ inr done
+      ]
+
+  pub files_read : length texts ≤ index → (split : Split) → Has (splits_of texts) split → Found split
+  files_read none split there = elim (so_far split there) [
+    | inl later ↦ absurd (subst (λ (rest : List (List ℕ)). Has (splits_of rest) split) (drop_all index texts none) later)
+    | inr done ↦ done
+  ]
+
+-- ---- what a fold that is accepted so far leaves kept
+
+module _ (profile : List Directive) (old now : State) (first fold : Fold) (same : fold.progress.database.0 ≡ first.progress.database.0)
+    (so_far : PassesOn profile first.progress.database.0 first.progress.last fold.progress.last old now) where
+  pub passes_more : (next : State) (folded : Fold) → PassesOn profile fold.progress.database.0 fold.progress.last folded.progress.last now next
+      → PassesOn profile first.progress.database.0 first.progress.last folded.progress.last old next
+  passes_more next folded more =
+      passes_then profile first.progress.database.0 first.progress.last fold.progress.last old now so_far folded.progress.last next
+      (subst (λ (db : ℤ). PassesOn profile db fold.progress.last folded.progress.last now next) same more)
+
+  pub record_before : (bytes : List ℕ) → IsWholeBefore profile fold.progress.last now.now.trees fold.progress.database.0 bytes → IsWholeBefore profile first.progress.last old.now.trees first.progress.database.0 bytes
+  record_before bytes found ident whole named =
+      whole_before profile first.progress.database.0 first.progress.last fold.progress.last old now so_far ident
+      (subst (λ (db : ℤ). KeepsWholeTo profile fold.progress.last now.now.trees db ident) same (found ident whole named))
+
+  pub records_before : (slices : List (List ℕ)) → AreWholeBefore profile fold.progress.last now.now.trees fold.progress.database.0 slices
+      → AreWholeBefore profile first.progress.last old.now.trees first.progress.database.0 slices
+  records_before slices found slice there = record_before slice (found slice there)

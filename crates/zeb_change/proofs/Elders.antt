@@ -1,5 +1,5 @@
 -- What a change finds kept under a record's identifier.
-use Rattle.std.proofs.Common.{◌≡◌, ◌≢◌, ◌⊎◌, ◌∙◌, ℕ, ℤ, pos, List, [], Option, Some, None, Result, Ok, Err, IsUtf8, inl, inr, refl, ap, sym, subst}
+use Rattle.std.proofs.Common.{◌≡◌, ◌≢◌, ◌⊎◌, ◌∙◌, ℕ, ℤ, pos, List, [], Option, Some, None, Result, Ok, Err, IsUtf8, inl, inr, refl, sym, subst}
 use Rattle.sqlite.specs.State.{State}
 use Rattle.sqlite.specs.Tree.{Trees}
 use Rattle.zeb_marc.specs.Records.{first_fault}
@@ -16,7 +16,7 @@ use Rattle.zeb_change.specs.declared.settings.Kind.TheVariants.{Adelete}
 use Rattle.zeb_change.specs.declared.tally.Fate.TheVariants.{PassedOver}
 use Rattle.zeb_change.specs.Base.{Base, Kept, kept_as}
 use Rattle.zeb_change.specs.Conditions.{Conditions}
-use Rattle.zeb_change.specs.Elders.{FindsWhole, IsSoOrDamaged, KeepsWhole}
+use Rattle.zeb_change.specs.Elders.{IsSoOrDamaged, KeepsWhole}
 use Rattle.zeb_change.specs.Folding.{Changed, changed_record, deleted, ident_in}
 use Rattle.zeb_change.specs.Outcomes.{register_refusal}
 use Rattle.zeb_change.specs.PrivateRecords.{GoesBy, IsWholeElder, elder_bytes}

@@ -17,6 +17,7 @@ pub mod TakenLemmas
 pub mod TurnLemmas
 pub mod FoldLemmas
 pub mod Elders
+pub mod KeptStill
 pub mod KeyEquality
 pub mod KeyChanges
 pub mod ChangeKeysContent

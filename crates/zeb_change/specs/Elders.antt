@@ -1,6 +1,7 @@
 -- What a change finds kept under a record's identifier, whatever rows the tables of the store have.
-use Rattle.std.specs.Prelude.{◌≡◌, ◌⊎◌, ℕ, ℤ, pos, List, [], ◌∷◌, None, Result, Ok, Err}
+use Rattle.std.specs.Prelude.{◌≡◌, ◌⊎◌, ◌≤◌, ℕ, ℤ, pos, List, [], ◌∷◌, None, Result, Ok, Err}
 use Rattle.sqlite.specs.Tree.{Trees}
+use Rattle.sqlite_rules.specs.Lists.{Has}
 use Rattle.zeb_marc.specs.Records.{first_fault}
 use Rattle.zeb_marc.specs.Splits.{Split}
 use Rattle.zeb_profile.specs.declared.directives.Directive.{Directive}
@@ -11,11 +12,13 @@ use Rattle.zeb_change.specs.Refused.{why_of, IsFailing}
 use Rattle.zeb_change.specs.Folding.{ident_in}
 use Rattle.zeb_change.specs.Stored.{IsKept}
 
--- What the database keeps under this identifier, if it keeps anything, has a number of 0 or more, and is a record of ISO 2709 in which the
--- profile finds that identifier.
+-- This has a number of 0 or more, and is a record of ISO 2709 in which the profile finds that identifier.
+abbrev pub IsWhole : List Directive → (sysno : ℤ) → (ident bytes : List ℕ) → Type 0
+IsWhole profile sysno ident bytes = (n : ℕ) × (sysno ≡ pos n) × IsKept profile (record { sysno = n; ident = ident; bytes = bytes })
+
+-- What the database keeps under this identifier, if it keeps anything, is whole.
 abbrev pub KeepsWhole : List Directive → Trees → ℤ → List ℕ → Type 0
-KeepsWhole profile trees db ident = (sysno : ℤ) (bytes : List ℕ) → HasRecord trees db sysno ident bytes
-    → (n : ℕ) × (sysno ≡ pos n) × IsKept profile (record { sysno = n; ident = ident; bytes = bytes })
+KeepsWhole profile trees db ident = (sysno : ℤ) (bytes : List ℕ) → HasRecord trees db sysno ident bytes → IsWhole profile sysno ident bytes
 
 -- this is so, or the change is refused: as damage, or because the store or the memory failed
 abbrev pub IsSoOrDamaged : {T : Type 0} → Type 0 → Result T Refusal → Type 0
@@ -36,3 +39,28 @@ OfFirst P (x ∷ xs) = P x
 abbrev pub FirstFindsWhole : {T : Type 0} → List Directive → Trees → ℤ → List Split → Result T Refusal → Type 0
 FirstFindsWhole profile trees db splits result =
     OfFirst (λ split. OfFirst (λ slice. FindsWhole profile trees db slice result) split.slices) splits
+
+-- ---- of each record, where the change is accepted
+
+-- this number isn't above the last one
+abbrev pub IsUpTo : (last : ℕ) → ℤ → Type 0
+IsUpTo last sysno = (n : ℕ) → sysno ≡ pos n → n ≤ last
+
+-- What the database keeps under this identifier, with a number up to the last one, is whole. A row with a greater number is none of a
+-- database's records, and the new record that gets this number takes its place unread.
+abbrev pub KeepsWholeTo : List Directive → (last : ℕ) → Trees → ℤ → List ℕ → Type 0
+KeepsWholeTo profile last trees db ident = (sysno : ℤ) (bytes : List ℕ) → HasRecord trees db sysno ident bytes → IsUpTo last sysno
+    → IsWhole profile sysno ident bytes
+
+-- what is kept so under the identifier of this record is whole
+abbrev pub IsWholeBefore : List Directive → (last : ℕ) → Trees → ℤ → List ℕ → Type 0
+IsWholeBefore profile last trees db bytes = (ident : List ℕ) → first_fault bytes ≡ None → ident_in profile bytes ≡ Ok ident
+    → KeepsWholeTo profile last trees db ident
+
+-- the same of each of these
+abbrev pub AreWholeBefore : List Directive → (last : ℕ) → Trees → ℤ → List (List ℕ) → Type 0
+AreWholeBefore profile last trees db slices = (slice : List ℕ) → Has slices slice → IsWholeBefore profile last trees db slice
+
+-- and of each record of the files
+abbrev pub AllFindWhole : List Directive → (last : ℕ) → Trees → ℤ → List Split → Type 0
+AllFindWhole profile last trees db splits = (split : Split) → Has splits split → AreWholeBefore profile last trees db split.slices

@@ -15,6 +15,7 @@ pub mod PrivateReading
 pub mod UnderWay
 pub mod Holding
 pub mod Elders
+pub mod PrivateElders
 pub mod Reposted
 pub mod NoteWords
 pub mod Noted

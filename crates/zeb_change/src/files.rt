@@ -13,7 +13,8 @@ ghost use Rattle.zeb_register.specs.Store.{records_tree};
 ghost use Rattle.zeb_change.specs.Asked.{AskFiles, AskSlices, AsksRecord};
 ghost use Rattle.zeb_change.specs.Folding.{Progress as FoldProgress, record_folded, file_folded, files_folded, splits_of};
 ghost use Rattle.zeb_change.specs.Base.{Base, Kept};
-ghost use Rattle.zeb_change.specs.Elders.{FindsWhole, FirstFindsWhole, OfFirst};
+ghost use Rattle.zeb_change.specs.Elders.{AllFindWhole, AreWholeBefore, FindsWhole, FirstFindsWhole, IsWholeBefore, OfFirst};
+ghost use Rattle.zeb_change.specs.PrivateElders.{PassesOn};
 ghost use Rattle.zeb_change.specs.Costs.{IsCostIn, IsFilesCost, IsSlicesCost, IsWorkFor, newer_of};
 ghost use Rattle.zeb_change.specs.Refused.{NeverUnready, Meets};
 ghost use Rattle.zeb_change.specs.Reading.{NamesFailed, NoneFailed, NoReadFault, TellsFailed, BlamesFailed};
@@ -37,8 +38,8 @@ use sqlite::{Alter, Transaction};
 use zeb_marc::{RecordBuf, Source, next_record};
 use zeb_register::Layout;
 
-/// How many bytes of memory what is noted of keys takes before it is written: 64 MB.
-const MOST_NOTED: usize = 67_108_864;
+/// How many bytes of memory what is noted of keys takes before it is written: 80 MB.
+const MOST_NOTED: usize = 80_000_000;
 
 /// Reads a file's next record into the buffer, and says whether there is one.
 fn read_record<R: Source>(
@@ -121,6 +122,10 @@ fn note_record<S: Alter>(
     ensures elder { InStore (state S.Store tx.old.conn.now) (state S.Store tx.new.conn.now) (λ trees.
         fold.old.tally.records < setting.now.limits.records
         → FindsWhole setting.now.profile.now trees fold.old.progress.database.0 incoming.entry.bytes.now result) }
+    ensures passes { InStore (state S.Store tx.old.conn.now) (state S.Store tx.new.conn.now) (λ trees. OnOk result
+        (PassesOn setting.now.profile.now fold.old.progress.database.0 fold.old.progress.last fold.new.progress.last
+        (state S.Store tx.old.conn.now) (state S.Store tx.new.conn.now)
+        × IsWholeBefore setting.now.profile.now fold.old.progress.last trees fold.old.progress.database.0 incoming.entry.bytes.now)) }
 {
     if fold.tally.records >= setting.limits.records {
         return Err(Refusal::TooManyRecords);
@@ -163,6 +168,10 @@ fn take_record<S: Alter, L: Layout>(
     ensures elder { InStore (state S.Store tx.old.conn.now) (state S.Store tx.new.conn.now) (λ trees.
         fold.old.tally.records < setting.now.limits.records
         → FindsWhole setting.now.profile.now trees fold.old.progress.database.0 incoming.entry.bytes.now result) }
+    ensures passes { InStore (state S.Store tx.old.conn.now) (state S.Store tx.new.conn.now) (λ trees. OnOk result
+        (PassesOn setting.now.profile.now fold.old.progress.database.0 fold.old.progress.last fold.new.progress.last
+        (state S.Store tx.old.conn.now) (state S.Store tx.new.conn.now)
+        × IsWholeBefore setting.now.profile.now fold.old.progress.last trees fold.old.progress.database.0 incoming.entry.bytes.now)) }
 {
     note_record(tx, setting, fold, pending, incoming)?;
     let database = fold.progress.database;
@@ -215,6 +224,11 @@ fn fold_file<S: Alter, L: Layout, R: Source>(
         fold.old.tally.records < setting.now.limits.records
         → (text : List ℕ) → R.remaining reader.old ≡ Some text → R.has_failed reader.new ≡ false
         → OfFirst (λ slice. FindsWhole setting.now.profile.now trees fold.old.progress.database.0 slice result) (split_of text).slices) }
+    ensures passes { InStore (state S.Store tx.old.conn.now) (state S.Store tx.new.conn.now) (λ trees. OnOk result
+        (PassesOn setting.now.profile.now fold.old.progress.database.0 fold.old.progress.last fold.new.progress.last
+        (state S.Store tx.old.conn.now) (state S.Store tx.new.conn.now)
+        × ((text : List ℕ) → R.remaining reader.old ≡ Some text
+        → AreWholeBefore setting.now.profile.now fold.old.progress.last trees fold.old.progress.database.0 (split_of text).slices))) }
 {
     for nth in 1..u64::MAX {
         if !read_record(reader, buffer, file, nth)? {
@@ -269,6 +283,9 @@ fn fold_readers<S: Alter, L: Layout, R: Source>(
         fold.old.tally.records < setting.now.limits.records
         → (texts : List (List ℕ)) → map R.remaining readers.old ≡ map Some texts → NoneFailed R.has_failed readers.new
         → FirstFindsWhole setting.now.profile.now trees fold.old.progress.database.0 (splits_of texts) result) }
+    ensures elders { InStore (state S.Store tx.old.conn.now) (state S.Store tx.new.conn.now) (λ trees. (texts : List (List ℕ))
+        → map R.remaining readers.old ≡ map Some texts
+        → OnOk result (AllFindWhole setting.now.profile.now fold.old.progress.last trees fold.old.progress.database.0 (splits_of texts))) }
 {
     for (index, reader) in readers.iter_mut().enumerate() {
         let file = index as u64 + 1;
@@ -337,6 +354,11 @@ pub fn fold_files<S: Alter, L: Layout, R: Source>(
         fold.old.tally.records < setting.now.limits.records
         → (texts : List (List ℕ)) → map R.remaining readers.old ≡ map Some texts → NoneFailed R.has_failed readers.new
         → FirstFindsWhole setting.now.profile.now trees fold.old.progress.database.0 (splits_of texts) result) }
+    // Where it is accepted, what was kept at first under the identifier of any record of the files, with a number up to the database's
+    // last one, was whole.
+    ensures elders { InStore (state S.Store tx.old.conn.now) (state S.Store tx.new.conn.now) (λ trees. (texts : List (List ℕ))
+        → map R.remaining readers.old ≡ map Some texts
+        → OnOk result (AllFindWhole setting.now.profile.now fold.old.progress.last trees fold.old.progress.database.0 (splits_of texts))) }
 {
     let mut pending = Pending::new(setting.alloc, MOST_NOTED);
     fold_readers::<S, L, R>(tx, setting, fold, &mut pending, buffer, readers)?;

@@ -7,12 +7,14 @@ ghost use Rattle.sqlite.specs.State.{HasCleanDisk};
 ghost use Rattle.zeb_marc.specs.Records.{IsRecord, first_fault};
 ghost use Rattle.zeb_register.specs.Clauses.{InStore};
 ghost use Rattle.zeb_register.specs.Formats.{Format};
+ghost use Rattle.zeb_register.specs.Kept.{IsElderOf};
 ghost use Rattle.zeb_change.specs.Noted.{noted_count};
 ghost use Rattle.zeb_change.specs.PrivateStanding.{WillBe, WillBeTaken, standing};
 ghost use Rattle.zeb_change.specs.Refused.{Why, why_of, IsFailing, NeverUnready, Meets};
 ghost use Rattle.zeb_change.specs.Folding.{Changed, changed_record, deleted, ident_in};
 ghost use Rattle.zeb_change.specs.Base.{Base, Kept, kept_as};
 ghost use Rattle.zeb_change.specs.Elders.{KeepsWhole};
+ghost use Rattle.zeb_change.specs.PrivateElders.{KeepsOtherRecords, PassesOn};
 ghost use Rattle.zeb_change.specs.Reading.{NoReadFault};
 ghost use Rattle.zeb_change.specs.Occurs.{AreOccurrencesOf};
 ghost use Rattle.zeb_change.specs.PrivateRecords.{GoesBy, IsElderAs, IsIdle, IsWholeElder, KeepsNewer, NotesAs, NotesNewer, Takes};
@@ -98,6 +100,9 @@ fn insert<S: Alter>(
         → KeepsInRoom setting.now progress.old.database.0 None newer.now (standing (state S.Store tx.old.conn.now) pending.old)
         (standing (state S.Store tx.new.conn.now) pending.new) result }
     ensures honest { result ≢ Err Refusal.Damaged }
+    ensures others { InStore (state S.Store tx.old.conn.now) (state S.Store tx.new.conn.now) (λ _. OnOk result
+        (KeepsOtherRecords progress.old.database.0 newer.now.ident.now progress.old.last progress.new.last
+        (state S.Store tx.old.conn.now) (state S.Store tx.new.conn.now))) }
 {
     if progress.last >= setting.limits.numbers {
         return Err(Refusal::DatabaseFull);
@@ -130,6 +135,10 @@ fn replace<S: Alter>(
         → KeepsInRoom setting.now progress.now.database.0 (Some elder.now) newer.now (standing (state S.Store tx.old.conn.now) pending.old)
         (standing (state S.Store tx.new.conn.now) pending.new) result }
     ensures elder { GoesBy (IsWholeElder setting.now.profile.now newer.now.ident.now (Some elder.now)) result }
+    ensures others { InStore (state S.Store tx.old.conn.now) (state S.Store tx.new.conn.now) (λ trees.
+        IsElderOf trees progress.now.database.0 newer.now.ident.now (Some elder.now) → OnOk result
+        (KeepsOtherRecords progress.now.database.0 newer.now.ident.now progress.now.last progress.now.last
+        (state S.Store tx.old.conn.now) (state S.Store tx.new.conn.now))) }
 {
     let old = elder_occurrences(setting, newer.ident, elder)?;
     let sysno = elder.sysno;
@@ -162,6 +171,10 @@ fn withdraw<S: Alter>(
         (standing (state S.Store tx.new.conn.now) pending.new)
         (λ base. IsElderAs ident.now base (Some elder.now)) None result }
     ensures elder { GoesBy (IsWholeElder setting.now.profile.now ident.now (Some elder.now)) result }
+    ensures others { InStore (state S.Store tx.old.conn.now) (state S.Store tx.new.conn.now) (λ trees.
+        IsElderOf trees progress.now.database.0 ident.now (Some elder.now) → OnOk result
+        (KeepsOtherRecords progress.now.database.0 ident.now progress.now.last progress.now.last
+        (state S.Store tx.old.conn.now) (state S.Store tx.new.conn.now))) }
 {
     let old = elder_occurrences(setting, ident, elder)?;
     let sysno = elder.sysno;
@@ -202,6 +215,10 @@ fn keep<S: Alter>(
         → KeepsInRoom setting.now progress.old.database.0 elder newer.now (standing (state S.Store tx.old.conn.now) pending.old)
         (standing (state S.Store tx.new.conn.now) pending.new) result }
     ensures elder { GoesBy (IsWholeElder setting.now.profile.now newer.now.ident.now elder) result }
+    ensures others { InStore (state S.Store tx.old.conn.now) (state S.Store tx.new.conn.now) (λ trees.
+        IsElderOf trees progress.old.database.0 newer.now.ident.now elder → OnOk result
+        (KeepsOtherRecords progress.old.database.0 newer.now.ident.now progress.old.last progress.new.last
+        (state S.Store tx.old.conn.now) (state S.Store tx.new.conn.now))) }
 {
     match elder {
         Some(elder) => replace(tx, setting, progress, pending, &elder, newer),
@@ -278,6 +295,9 @@ pub(crate) fn change_record<S: Alter>(
     ensures elder { InStore (state S.Store tx.old.conn.now) (state S.Store tx.new.conn.now) (λ trees. (ident : List ℕ)
         → first_fault incoming.entry.bytes.now ≡ None → ident_in setting.now.profile.now incoming.entry.bytes.now ≡ Ok ident
         → GoesBy (KeepsWhole setting.now.profile.now trees progress.old.database.0 ident) result) }
+    ensures passes { InStore (state S.Store tx.old.conn.now) (state S.Store tx.new.conn.now) (λ _. OnOk result
+        (PassesOn setting.now.profile.now progress.old.database.0 progress.old.last progress.new.last
+        (state S.Store tx.old.conn.now) (state S.Store tx.new.conn.now))) }
 {
     let Incoming { bytes, file, nth } = incoming;
     let (record, named) = sound_record(setting, incoming)?;

@@ -1,5 +1,5 @@
--- What a change finds kept under the identifier of its first record, step by step.
-use Rattle.std.proofs.Common.{◌≡◌, ◌⊎◌, ℕ, ℤ, List, [], ◌∷◌, Result, Ok, Err, inl, inr, sym, subst}
+-- What a change finds kept under the identifiers of its records, step by step.
+use Rattle.std.proofs.Common.{◌≡◌, ◌⊎◌, ℕ, ℤ, pos, List, [], ◌∷◌, Option, Some, None, Result, Ok, Err, inl, inr, sym, subst}
 use Rattle.sqlite.specs.Effect.{Database}
 use Rattle.sqlite.specs.Order.{Row}
 use Rattle.sqlite.specs.State.{State}
@@ -7,21 +7,30 @@ use Rattle.sqlite.specs.Tree.{Trees}
 use Rattle.zeb_marc.specs.Splits.{Split}
 use Rattle.zeb_profile.specs.declared.directives.Directive.{Directive}
 use Rattle.zeb_register.specs.Calls.{ChangesNothing}
-use Rattle.zeb_register.specs.Catalog.{PutsDatabase}
-use Rattle.zeb_register.specs.Store.{Changes, IsStore, databases_tree}
+use Rattle.zeb_register.specs.declared.catalog.Database as catalog
+use Rattle.zeb_register.specs.Catalog.{IsDatabaseOf, PutsDatabase}
+use Rattle.zeb_register.specs.Store.{Changes, HasDatabase, IsStore, databases_tree}
 use Rattle.zeb_register.proofs.Calls.{store_same}
+use Rattle.zeb_register.proofs.RowsAreLists.{one_last}
 use Rattle.zeb_change.specs.declared.refusals.Refusal.{Refusal}
-use Rattle.zeb_change.specs.Elders.{FirstFindsWhole, KeepsWhole, OfFirst}
+use Rattle.zeb_change.specs.Elders.{AllFindWhole, FirstFindsWhole, KeepsWhole, OfFirst}
 use Rattle.zeb_change.specs.Folding.{splits_of}
 use Rattle.zeb_change.specs.Refused.{why_of}
 use Rattle.zeb_change.proofs.Elders.{passed_error}
 use Rattle.zeb_change.proofs.ElderSteps.{files_find}
 use Rattle.zeb_engine.specs.Adopting.{StaysOpen}
 use Rattle.zeb_engine.specs.Answers.{IsFailure, refused}
-use Rattle.zeb_engine.specs.AnyTables.{ElderOver}
+use Rattle.zeb_engine.specs.AnyTables.{ElderOver, EldersOver}
+use Rattle.zeb_engine.specs.PrivateChanging.{last_of}
 use Rattle.zeb_engine.specs.PrivateLooking.{MissesDatabase}
 use Rattle.zeb_engine.proofs.ChangeSteps.{kept_records}
 use Rattle.zeb_engine.proofs.OverTables.{IsFew}
+
+-- what is said of tables is said of those that calls which only looked left as they were
+pub said_after : (Says : Trees → Type 0) (old mid : State) → ChangesNothing old mid → StaysOpen old mid → (IsStore mid → Says mid.now.trees) → IsStore old → Says old.now.trees
+said_after Says old mid nothing opened told store =
+    let same = nothing opened.1 in
+    subst (λ (d : Database). Says d.trees) same.1 (told (store_same old mid same.1 store))
 
 of_first : {A : Type 0} (P : A → Type 0) (xs : List A) → ((x : A) → P x) → OfFirst P xs
 of_first P [] each = tt
@@ -55,9 +64,20 @@ module _ (profile : List Directive) where
         subst (λ (db : ℤ). FirstFindsWhole profile old.now.trees db (splits_of texts) result) (sym (put.rows.kept i l there))
         (same_records old.now.trees mid.now.trees id (splits_of texts) result (kept_records id name last old mid put) found)
 
-    -- behind calls that only looked
-    pub elder_after : {T : Type 0} (old mid : State) (result : Result T Refusal) → ChangesNothing old mid → StaysOpen old mid → (IsStore mid → ElderOver profile name texts mid.now.trees result)
-        → IsStore old → ElderOver profile name texts old.now.trees result
-    elder_after old mid result nothing opened told store =
-        let same = nothing opened.1 in
-        subst (λ (d : Database). ElderOver profile name texts d.trees result) same.1 (told (store_same old mid same.1 store))
+    -- ---- each record
+
+    -- a refusal
+    pub refused_elders : {T : Type 0} (trees : Trees) (why : Refusal) (result : Result T Refusal) → result ≡ Err why → EldersOver profile name texts trees result
+    refused_elders trees why result told id last there = rw told tt
+
+    -- the row of its database, which was found, is written before the records
+    pub put_elders : {T : Type 0} (old mid : State) (id : ℤ) (found : Option catalog.Database) (x : T) → IsStore old → Changes databases_tree (PutsDatabase id name (pos (last_of found))) old mid
+        → IsDatabaseOf old.now.trees name found → AllFindWhole profile (last_of found) mid.now.trees id (splits_of texts) → EldersOver {T = T} profile name texts old.now.trees (Ok x)
+    put_elders old mid id None x store put none whole i l there = absurd (none i l there)
+    put_elders old mid id (Some database) x store put is whole i l there =
+        let found : database.id.0 ≡ id = put.rows.kept database.id.0 (pos database.last) is in
+        let same : i ≡ id = put.rows.kept i l there in
+        let one = one_last old store id name name l (pos database.last) (subst (λ (n : ℤ). HasDatabase old.now.trees n name l) same there)
+        (subst (λ (n : ℤ). HasDatabase old.now.trees n name (pos database.last)) found is) in
+        let before = subst (λ (rows : List Row). AllFindWhole profile database.last (λ tree. rows) id (splits_of texts)) (kept_records id name (pos database.last) old mid put) whole in
+        (database.last, one.1, subst (λ (n : ℤ). AllFindWhole profile database.last old.now.trees n (splits_of texts)) (sym same) before)

@@ -43,6 +43,7 @@ pub mod ReadyBases
 pub mod ScanAnswers
 pub mod StoreCauses
 pub mod WriteCauses
+pub mod AdoptingCauses
 pub mod InitCauses
 pub mod DumpAnswers
 pub mod ReadingOn

@@ -30,7 +30,8 @@ pub record IsAnswerOver (format : Format) (profile : List Directive) (command : 
   -- Also where they hold no content, a find, a scan, a stat and a dump of a ready register are refused by the definition, as damage or by a
   -- failure. Answered, a find shows each hit that is asked for as a record that is kept under it.
   pub tables : AnswersTables (version_of format) profile command s result
-  -- a change finds what is kept under its first record's identifier whole, or is refused as damage or by a failure
+  -- A change finds what is kept under its first record's identifier whole, or is refused as damage or by a failure. An accepted one has found
+  -- so what is kept under each record's.
   pub changes : ChangesOver (version_of format) profile command s result
   -- damage is told only of the image of nothing that can be held
   pub honest : result ≡ Err Damaged → (before : Holdings) → ¬ Keeps s before

@@ -1,8 +1,8 @@
 -- What a find, a scan, a stat and a dump answer over a register that is ready, whatever its other tables hold, also where these hold no
 -- content. What the rows of databases and of records tell is said, and each refusal but damage; what the registers tell isn't: which
 -- numbers are hits, which terms there are, and how many. Of tables that hold a content that is said by Alone. Of a change it is said what it
--- finds kept under the identifier of its first record.
-use Rattle.std.specs.Prelude.{◌≡◌, ◌⊎◌, ◌<◌, ◌^◌, ℕ, ℤ, pos, List, map, Result, Err, string_bytes}
+-- finds kept under the identifiers of its records.
+use Rattle.std.specs.Prelude.{◌≡◌, ◌⊎◌, ◌<◌, ◌^◌, ℕ, ℤ, pos, List, map, Result, Err, OnOk, string_bytes}
 use Rattle.std.specs.List.{flat_map}
 use Rattle.std.specs.List.Sorted.{IsStrictlySortedBy}
 use Rattle.std.specs.Ordering.{nat_cmp}
@@ -16,7 +16,7 @@ use Rattle.zeb_register.specs.Kept.{IsNumberOf, IsRecordCount}
 use Rattle.zeb_register.specs.Store.{HasDatabase, HasRecord, IsStore}
 use Rattle.zeb_search.specs.Registers.{has_ident_in}
 use Rattle.zeb_change.specs.Base.{Kept}
-use Rattle.zeb_change.specs.Elders.{FirstFindsWhole}
+use Rattle.zeb_change.specs.Elders.{AllFindWhole, FirstFindsWhole}
 use Rattle.zeb_change.specs.Folding.{splits_of}
 use Rattle.zeb_change.specs.declared.refusals.Refusal.{Refusal}
 use Rattle.zeb_change.specs.declared.refusals.Refusal.TheVariants.{Damaged}
@@ -110,10 +110,17 @@ abbrev pub ElderOver : {T : Type 0} → List Directive → (name : List ℕ) →
 ElderOver profile name texts trees result =
     (id last : ℤ) → HasDatabase trees id name last → FirstFindsWhole profile trees id (splits_of texts) result
 
--- the same on the tables of a store that keep the session's version and profile
+-- Of the same database, where the change is accepted: its last number is one of 0 or more, and what it keeps under the identifier of any
+-- record of these files, with a number up to the last one, is whole.
+abbrev pub EldersOver : {T : Type 0} → List Directive → (name : List ℕ) → (texts : List (List ℕ)) → Trees → Result T Refusal → Type 0
+EldersOver profile name texts trees result = (id last : ℤ) → HasDatabase trees id name last
+    → OnOk result ((given : ℕ) × (last ≡ pos given) × AllFindWhole profile given trees id (splits_of texts))
+
+-- both on the tables of a store that keep the session's version and profile
 abbrev pub ChangesReady : {T : Type 0} → (version : List ℕ) → List Directive → (name : List ℕ) → (texts : List (List ℕ)) → State → Result T Refusal → Type 0
 ChangesReady version profile name texts s result =
-    IsStore s → IsReadyFor version profile s.now.trees → ElderOver profile name texts s.now.trees result
+    IsStore s → IsReadyFor version profile s.now.trees
+    → ElderOver profile name texts s.now.trees result × EldersOver profile name texts s.now.trees result
 
 -- of a command that is a change
 abbrev pub ChangesOver : (version : List ℕ) → List Directive → Command → State → Result Reply Refusal → Type 0

@@ -1,16 +1,17 @@
 //! Updates and deletes: the records of files are folded into a database in one transaction.
 
-ghost use Rattle.std.specs.Prelude.{◌≡◌, ◌≢◌, ◌⊎◌, ℕ, List, map, Some, Ok, Err, OnOk, IfErr, false, IsTrue};
+ghost use Rattle.std.specs.Prelude.{◌≡◌, ◌≢◌, ◌⊎◌, ℕ, List, map, Some, Ok, Err, OnOk, IfOk, IfErr, false, IsTrue};
 ghost use Rattle.sqlite.specs.Held.{state};
 ghost use Rattle.sqlite.specs.State.{HasCleanDisk, Survives};
 ghost use Rattle.zeb_register.specs.Formats.{version_of};
 ghost use Rattle.zeb_register.specs.Calls.{MayRefuse};
+ghost use Rattle.zeb_register.specs.Catalog.{IsDatabaseOf};
 ghost use Rattle.zeb_register.specs.Clauses.{InStore, OnStore};
 ghost use Rattle.zeb_register.specs.Store.{IsStore};
 ghost use Rattle.zeb_engine.specs.PrivateChanging.{MayBeginUnder, MayBegin, comes_to, last_of};
 ghost use Rattle.zeb_change.specs.Conditions.{Conditions};
 ghost use Rattle.zeb_engine.specs.Answers.{IsFailure, refused};
-ghost use Rattle.zeb_engine.specs.AnyTables.{ElderOver};
+ghost use Rattle.zeb_engine.specs.AnyTables.{ElderOver, EldersOver};
 ghost use Rattle.zeb_engine.specs.Causes.{ChangesInRoom, HasRoomToChange};
 ghost use Rattle.zeb_engine.specs.PrivateCrashes.{Commits};
 ghost use Rattle.zeb_change.specs.Base.{Base};
@@ -110,6 +111,10 @@ fn apply<S: Alter, L: Layout, R: Source>(
     ensures elder { InStore (state S.Store tx.old.conn.now) (state S.Store tx.new.conn.now) (λ trees. (texts : List (List ℕ))
         → map R.remaining readers.old ≡ map Some texts → NoneFailed R.has_failed readers.new
         → ElderOver change.now.setting.profile.now (name_bytes change.now.name.now) texts trees result) }
+    ensures elders { InStore (state S.Store tx.old.conn.now) (state S.Store tx.new.conn.now) (λ trees.
+        IsDatabaseOf trees (name_bytes change.now.name.now) change.now.found
+        → (texts : List (List ℕ)) → map R.remaining readers.old ≡ map Some texts
+        → EldersOver change.now.setting.profile.now (name_bytes change.now.name.now) texts trees result) }
 {
     // Its profile is some text's.
     change.setting.profile.is_of_some_text();
@@ -177,6 +182,10 @@ fn transact<S: Alter, L: Layout, R: Source>(
     ensures elder { OnStore (state S.Store connection.old) (state S.Store connection.new) (λ trees. (texts : List (List ℕ))
         → map R.remaining readers.old ≡ map Some texts → NoneFailed R.has_failed readers.new
         → ElderOver change.now.setting.profile.now (name_bytes change.now.name.now) texts trees result) }
+    ensures elders { OnStore (state S.Store connection.old) (state S.Store connection.new) (λ trees.
+        IsDatabaseOf trees (name_bytes change.now.name.now) change.now.found
+        → (texts : List (List ℕ)) → map R.remaining readers.old ≡ map Some texts
+        → EldersOver change.now.setting.profile.now (name_bytes change.now.name.now) texts trees result) }
 {
     let _settled = connection.is_autocommit();
     let mut tx = connection.transaction();
@@ -206,6 +215,8 @@ fn found_for<S: Alter, L: Layout>(
     ensures found { FindsOpen S.Store connection.old connection.new result }
     ensures misses { OnStore (state S.Store connection.old) (state S.Store connection.new) (λ trees.
         IfErr result (λ refusal. IsFailure (refused (why_of refusal)) ⊎ MissesDatabase trees (name_bytes name.now) refusal)) }
+    ensures row { OnStore (state S.Store connection.old) (state S.Store connection.new) (λ trees.
+        IfOk result (IsDatabaseOf trees (name_bytes name.now))) }
 {
     match setting.kind {
         Kind::Update => Ok(database_of(connection, name.as_str())?),
@@ -262,6 +273,9 @@ pub(crate) fn change_database<S: Alter, L: Layout, R: Source>(
     ensures elder { OnStore (state S.Store connection.old) (state S.Store connection.new) (λ trees. (texts : List (List ℕ))
         → map R.remaining readers.old ≡ map Some texts → NoneFailed R.has_failed readers.new
         → ElderOver setting.entry.profile.now (name_bytes name.now) texts trees result) }
+    ensures elders { OnStore (state S.Store connection.old) (state S.Store connection.new) (λ trees. (texts : List (List ℕ))
+        → map R.remaining readers.old ≡ map Some texts
+        → EldersOver setting.entry.profile.now (name_bytes name.now) texts trees result) }
 {
     let found = found_for::<S, L>(connection, &setting, name)?;
     let mut buffer = RecordBuf::new(setting.alloc)?;

@@ -74,7 +74,7 @@ impl<S: Alter, L: Layout> Session<S, L> {
     ghost use Rattle.zeb_engine.specs.Crashes.{Bears, CommitsCommand, CommitsAdopted, CommitsOne, CommitsReindex, Endures, EnduresRun, KeepsDisk, Stands};
     ghost use Rattle.zeb_engine.specs.Headline.{Headline};
     ghost use Rattle.zeb_engine.specs.PrivateWriting.{HoldsRemade};
-    ghost use Rattle.zeb_engine.specs.Adopting.{HasOtherTables, HasOwnTables, StaysOpen};
+    ghost use Rattle.zeb_engine.specs.Adopting.{HasAdoptingCause, HasOtherTables, HasOwnTables, StaysOpen};
     ghost use Rattle.zeb_image.specs.Holdings.{Holdings};
     ghost use Rattle.zeb_image.specs.Image.{IsImage, Keeps};
     ghost use Rattle.zeb_register.specs.Sql.{KeepsTables};
@@ -133,6 +133,9 @@ impl<S: Alter, L: Layout> Session<S, L> {
         ensures endures { IfErr result (λ back. HasCleanDisk (state S.Store back.0)
             → EnduresRefusal (state S.Store connection) (state S.Store back.0) back.1) }
         ensures failed { IfErr result (λ back. (back.1 ≡ Refusal.Store) ⊎ ((back.1 ≡ Refusal.Commit) ⊎ (back.1 ≡ Refusal.Memory))) }
+        // Refused with `Store`, it has other tables, or there is a cause.
+        ensures caused { IfErr result (λ back. HasCleanDisk (state S.Store back.0)
+            → HasAdoptingCause (state S.Store connection) (state S.Store back.0) back.1) }
     {
         let mut connection = connection;
         if let Err(refusal) = make_absent_tables(&mut connection) {

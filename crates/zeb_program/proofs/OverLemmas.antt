@@ -1,42 +1,175 @@
--- What is written for a command is its answer on any tables.
-use Rattle.std.proofs.Common.{◌≡◌, ℕ, Bool, false, List, [], ◌∷◌, ◌++◌, refl}
-use Rattle.std.specs.Prelude.{Option, Result, Ok, Err, IfOk}
+-- What is written for a command, a change by a path and a line is their answer on any tables.
+use Rattle.std.proofs.Common.{◌≡◌, ◌∙◌, ◌⊎◌, inl, inr, ℕ, Bool, false, List, [], ◌∷◌, ◌++◌, Vec, ap, length, map, refl, subst, sym}
+use Rattle.std.specs.Prelude.{Option, Some, Result, Ok, Err, IfOk, IsErr, IsErrAnd, OnErr, String, string_bytes}
 use Rattle.std.specs.declared.alloc.AllocError.{AllocError}
+use Rattle.std.specs.declared.alloc.Global.{Global}
 use Rattle.std.specs.Io.KnownBytes.{Appends}
-use Rattle.sqlite.specs.State.{State}
+use Rattle.sqlite.specs.Held.{Held, state}
+use Rattle.sqlite.specs.State.{State, HasCleanDisk}
+use Rattle.sqlite.specs.Store.{Ghosts}
 use Rattle.zeb_profile.specs.declared.directives.Directive.{Directive}
-use Rattle.zeb_register.specs.Formats.{Format}
+use Rattle.zeb_profile.specs.declared.faults.ProfileFault.{ProfileFault}
+use Rattle.zeb_register.specs.Calls.{ChangesNothing}
+use Rattle.zeb_register.specs.Formats.{Format, version_of}
+use Rattle.zeb_change.specs.Conditions.{Conditions}
+use Rattle.zeb_change.specs.Reading.{NamesFailed, NoneFailed}
 use Rattle.zeb_change.specs.declared.refusals.Refusal.{Refusal}
+use Rattle.zeb_change.specs.declared.refusals.Refusal.TheVariants.{Damaged}
+use Rattle.zeb_change.specs.declared.settings.Kind.{Kind}
+use Rattle.zeb_image.specs.Holdings.{Holdings}
+use Rattle.zeb_image.specs.Image.{Keeps}
+use Rattle.zeb_image.specs.NameOf.{name_bytes}
+use Rattle.zeb_image.specs.declared.names.DbName.{DbName}
 use Rattle.zeb_engine.specs.AnyAnswers.{IsAnswerOver}
+use Rattle.zeb_engine.specs.AnyTables.{ChangesReady}
+use Rattle.zeb_engine.specs.Readiness.{GoesByTexts}
 use Rattle.zeb_engine.specs.Refusals.{refusal_text, status_of}
 use Rattle.zeb_engine.specs.Replies.{reply_text}
+use Rattle.zeb_engine.specs.Transactions.{CommandedBy}
 use Rattle.zeb_engine.specs.declared.commands.Command.{Command}
 use Rattle.zeb_engine.specs.declared.replies.Reply.{Reply}
-use Rattle.zeb_program.specs.declared.lines.Line.TheVariants.{Command as Order, Path}
+use Rattle.zeb_engine.proofs.CommandedConnections.{did, did_refuse}
+use Rattle.zeb_program.specs.declared.faults.Fault.{Fault}
+use Rattle.zeb_program.specs.declared.faults.Fault.TheVariants as fault
+use Rattle.zeb_program.specs.declared.lines.Line.{Line}
 use Rattle.zeb_program.specs.declared.path_changes.PathChange.{PathChange}
-use Rattle.zeb_program.specs.Answers.{Writes}
-use Rattle.zeb_program.specs.PrivateOverTables.{LineOver, WritesOver}
+use Rattle.zeb_program.specs.declared.tasks.Task.{Task}
+use Rattle.zeb_program.specs.declared.tasks.Task.TheVariants.{Change}
+use Rattle.zeb_program.specs.Answers.{ChangesBy, IsReadFaultOf, Writes}
+use Rattle.zeb_program.specs.PrivateFaults.{GivesAnswer, IsUnread, IsUnreadable, unreadable_path}
+use Rattle.zeb_program.specs.PrivateOverTables.{CommandLeaves, CommandOver, LineOver, PathLeaves, PathOver, PathsOver, SaysOver, TaskOver}
+use Rattle.zeb_program.specs.PrivateServing.{AnswersFrom}
+use Rattle.zeb_program.specs.PrivateTaskAnswers.{AreTold}
 use Rattle.zeb_program.specs.Says.{Says}
+use Rattle.zeb_program.proofs.PathLemmas.{as_many, named_fault}
 
-module _ (format : Format) (profile : List Directive) (command : Command) (s : State) (wrote writes : Option (List ℕ)) (failed : Bool) (Clean : Type 0) where
-  pub refused_over : (refusal : Refusal) (r : Result ℕ AllocError) → (Clean → IsAnswerOver format profile command s (Err refusal))
+-- where nothing is done nothing changes
+pub still : (s : State) → ChangesNothing s s
+still s = λ is_open. (is_open, refl, refl)
+
+-- ---- a command
+
+-- refused, it changes nothing
+pub refused_still : {S T : Type 0} (g : Ghosts S) (command : Command) (old new : Held S) (result : Result T Refusal) → CommandedBy g command old new result
+    → HasCleanDisk (state g new) → OnErr result (ChangesNothing (state g old) (state g new))
+refused_still g command old new result call clean = did_refuse command (state g old) (state g new) result clean (did g command old new result call)
+
+module _ (format : Format) (c : Conditions) (command : Command) (old new : State) (wrote writes : Option (List ℕ)) (failed : Bool) (Clean : Type 0) where
+  pub refused_over : (refusal : Refusal) (r : Result ℕ AllocError) → (Clean → IsAnswerOver format c.profile command old (Err refusal))
+      → (Clean → CommandLeaves format c command old new (Err refusal))
       → IfOk r (λ status. failed ≡ false → Writes wrote writes (λ bytes. (bytes ≡ refusal_text refusal ++ 10 ∷ []) × (status ≡ status_of refusal)))
-      → IfOk r (λ status. failed ≡ false → Clean → WritesOver format profile command s wrote writes status)
-  refused_over refusal (Err e) over h = h
-  refused_over refusal (Ok status) over h = λ sound clean. let w = h sound in (w.0, (Err refusal, w.1.0, w.1.1, over clean), w.2)
+      → IfOk r (λ status. failed ≡ false → Clean → Writes wrote writes (λ bytes. CommandOver format c command old bytes status new))
+  refused_over refusal (Err e) over leaves h = h
+  refused_over refusal (Ok status) over leaves h = λ sound clean.
+      let w = h sound in
+      (w.0, (Err refusal, w.1.0, w.1.1, over clean, leaves clean), w.2)
 
-  pub replied_over : (reply : Reply) (bytes : List ℕ) → (Clean → IsAnswerOver format profile command s (Ok reply)) → bytes ≡ reply_text reply → (failed ≡ false → Appends wrote writes bytes)
-      → failed ≡ false → Clean → WritesOver format profile command s wrote writes 0
-  replied_over reply bytes over is grew sound clean = (bytes, (Ok reply, is, refl, over clean), grew sound)
+  pub replied_over : (reply : Reply) (bytes : List ℕ) → (Clean → IsAnswerOver format c.profile command old (Ok reply)) → (Clean → CommandLeaves format c command old new (Ok reply))
+      → bytes ≡ reply_text reply → (failed ≡ false → Appends wrote writes bytes)
+      → failed ≡ false → Clean → Writes wrote writes (λ given. CommandOver format c command old given 0 new)
+  replied_over reply bytes over leaves is grew sound clean = (bytes, (Ok reply, is, refl, over clean, leaves clean), grew sound)
 
-  pub ordered_over : (text : List ℕ) (r : Result ℕ AllocError) → Says text (Order command)
-      → IfOk r (λ status. failed ≡ false → Clean → WritesOver format profile command s wrote writes status)
-      → IfOk r (λ status. failed ≡ false → Clean → LineOver format profile text s wrote writes status)
-  ordered_over text (Err e) says h = h
-  ordered_over text (Ok status) says h = λ sound clean. (Order command, says, h sound clean)
+-- ---- a change by paths
 
--- of a change by a path nothing is said
-pub path_over : (format : Format) (profile : List Directive) (change : PathChange) (s : State) (wrote writes : Option (List ℕ)) (failed : Bool) (Clean : Type 0) (text : List ℕ) (r : Result ℕ AllocError)
-    → Says text (Path change) → IfOk r (λ status. failed ≡ false → Clean → LineOver format profile text s wrote writes status)
-path_over format profile change s wrote writes failed Clean text (Err e) says = tt
-path_over format profile change s wrote writes failed Clean text (Ok status) says = λ sound clean. (Path change, says, tt)
+-- an answer of the register as the program gives it
+abbrev pub given : Result Reply Refusal → Result Reply Fault
+given (Ok reply) = Ok reply
+given (Err refusal) = Err (fault.Refused refusal)
+
+gives : (P : Result Reply Refusal → Type 0) (r : Result Reply Refusal) → P r → GivesAnswer P (given r)
+gives P (Ok reply) p = p
+gives P (Err refusal) p = p
+
+damaged : (r : Result Reply Refusal) → given r ≡ Err (fault.Refused Damaged) → r ≡ Err Damaged
+damaged (Ok reply) is = absurd (cc is)
+damaged (Err refusal) is = cc is
+
+module _ (told : List ℕ → Option (List ℕ)) (format : Format) (profile : List Directive) (name : List ℕ) (paths : List (List ℕ)) (s : State) where
+  -- the readers of the files were given to the register
+  pub changed_over : {R : Type 0} (remaining : R → Option (List ℕ)) (has_failed : R → Bool) (before after : List R) (r : Result Reply Refusal)
+      → ((files : List (List ℕ)) → AreTold told paths files → map remaining before ≡ map Some files) → length after ≡ length before
+      → GoesByTexts (version_of format) profile s r
+      → ((texts : List (List ℕ)) → map remaining before ≡ map Some texts → NoneFailed has_failed after → ChangesReady (version_of format) profile name texts s r)
+      → NoneFailed has_failed after ⊎ IsErrAnd r (NamesFailed has_failed after)
+      → (r ≡ Err Damaged → (held : Holdings) → ¬ Keeps s held)
+      → PathsOver told format profile name paths s (given r)
+  changed_over remaining has_failed before after r all same ready elder sound honest = record {
+    ready = inr (gives (GoesByTexts (version_of format) profile s) r ready);
+    changes = λ files known. gives (λ answer. ChangesReady (version_of format) profile name files s answer ⊎ IsReadFaultOf (length files) answer) r (which files (all files known) sound);
+    honest = λ is. honest (damaged r is);
+  }
+    where
+      which : (files : List (List ℕ)) → map remaining before ≡ map Some files → NoneFailed has_failed after ⊎ IsErrAnd r (NamesFailed has_failed after)
+          → ChangesReady (version_of format) profile name files s r ⊎ IsReadFaultOf (length files) r
+      which files met (inl fine) = inl (elder files met fine)
+      which files met (inr failed) = inr (named_fault has_failed after (length files) r (as_many remaining files before after met same) failed)
+
+  -- a path couldn't be read, or memory ran out in the program itself
+  pub unread_over : (why : Fault) → IsUnread why → ((files : List (List ℕ)) → AreTold told paths files → why ≡ fault.Memory) → PathsOver told format profile name paths s (Err why)
+  unread_over (fault.Unreadable path) unread memory = record { ready = inl tt; changes = λ files known. absurd (cc (memory files known)); honest = λ is. absurd (cc is) }
+  unread_over fault.Memory unread memory = record { ready = inr tt; changes = λ files known. tt; honest = λ is. absurd (cc is) }
+  unread_over (fault.Profile file why) unread memory = absurd unread
+  unread_over (fault.Refused refusal) unread memory = absurd unread
+
+-- the paths as a slice are those of the task
+pub changed_task_over : (told : List ℕ → Option (List ℕ)) (format : Format) (profile : List Directive) (task : Task) (s : State) (r : Result Reply Fault) (kind : Kind) (database : DbName) (paths : Vec (String Global) Global) (named : List (String Global))
+    → task ≡ Change kind database paths → named ≡ paths.items → PathsOver told format profile (name_bytes database) (map string_bytes named) s r → TaskOver told format profile task s r
+changed_task_over told format profile task s r kind database paths named is same over =
+    subst (λ t. TaskOver told format profile t s r) (sym is) (subst (λ items. PathsOver told format profile (name_bytes database) (map string_bytes items) s r) same over)
+
+-- ---- a change by one path
+
+module _ (told : List ℕ → Option (List ℕ)) (format : Format) (c : Conditions) (change : PathChange) (old new : State) (wrote writes : Option (List ℕ)) (failed : Bool) (Clean : Type 0) (named : List (String Global)) where
+  named_over : (result : Result Reply Fault) → named ≡ change.path ∷ [] → PathsOver told format c.profile (name_bytes change.database) (map string_bytes named) old result
+      → PathsOver told format c.profile (name_bytes change.database) (string_bytes change.path ∷ []) old result
+  named_over result is over = subst (λ paths. PathsOver told format c.profile (name_bytes change.database) paths old result) (ap (map string_bytes) is) over
+
+  -- the fault of a profile isn't among its answers
+  no_profile : (file : String Global) (why : ProfileFault) → IsUnreadable (Err (fault.Profile file why)) ⊎ GivesAnswer (GoesByTexts (version_of format) c.profile old) (Err (fault.Profile file why)) → ⊥
+  no_profile file why (inl it) = it
+  no_profile file why (inr it) = it
+
+  -- the same of the file at the path
+  leaves_path : (result : Result Reply Fault) → named ≡ change.path ∷ [] → OnErr result (ChangesNothing old new)
+      → ((files : List (List ℕ)) → AreTold told (map string_bytes named) files → AnswersFrom old new result (ChangesBy c change.kind (name_bytes change.database) files))
+      → PathLeaves told c change old new result
+  leaves_path result is nothing serves = record {
+    refused = nothing;
+    serves = λ file known. serves (file ∷ []) (ap (map told) (ap (map string_bytes) is) ∙ ap (λ bytes. bytes ∷ []) known);
+  }
+
+  pub replied_path : (reply : Reply) (bytes : List ℕ) → named ≡ change.path ∷ [] → (Clean → PathsOver told format c.profile (name_bytes change.database) (map string_bytes named) old (Ok reply))
+      → (Clean → (files : List (List ℕ)) → AreTold told (map string_bytes named) files → AnswersFrom old new (Ok reply) (ChangesBy c change.kind (name_bytes change.database) files))
+      → bytes ≡ reply_text reply → (failed ≡ false → Appends wrote writes bytes)
+      → failed ≡ false → Clean → Writes wrote writes (λ given. PathOver told format c change old given 0 new)
+  replied_path reply bytes one over serves is grew sound clean = (bytes, (Ok reply, (is, refl), named_over (Ok reply) one (over clean), leaves_path (Ok reply) one tt (serves clean)), grew sound)
+
+  pub refused_path : (why : Fault) (r : Result ℕ AllocError) → named ≡ change.path ∷ [] → (Clean → PathsOver told format c.profile (name_bytes change.database) (map string_bytes named) old (Err why))
+      → (Clean → ChangesNothing old new)
+      → (Clean → (files : List (List ℕ)) → AreTold told (map string_bytes named) files → AnswersFrom old new (Err why) (ChangesBy c change.kind (name_bytes change.database) files))
+      → ((refusal : Refusal) → why ≡ fault.Refused refusal → IfOk r (λ status. failed ≡ false → Writes wrote writes (λ bytes. (bytes ≡ refusal_text refusal ++ 10 ∷ []) × (status ≡ status_of refusal))))
+      → ((path : String Global) → why ≡ fault.Unreadable path → failed ≡ false → Appends wrote writes (unreadable_path (string_bytes path)))
+      → (IsUnread why → IfOk r (λ status. status ≡ 3)) → (why ≡ fault.Memory → IsErr r)
+      → IfOk r (λ status. failed ≡ false → Clean → Writes wrote writes (λ bytes. PathOver told format c change old bytes status new))
+  refused_path why (Err e) one over nothing serves tells shows unread memory = tt
+  refused_path (fault.Refused refusal) (Ok status) one over nothing serves tells shows unread memory = λ sound clean.
+      let w = tells refusal refl sound in
+      let result : Result Reply Fault = Err (fault.Refused refusal) in
+      (w.0, (result, (w.1.0, w.1.1), named_over result one (over clean), leaves_path result one (nothing clean) (serves clean)), w.2)
+  refused_path (fault.Unreadable path) (Ok status) one over nothing serves tells shows unread memory = λ sound clean.
+      let result : Result Reply Fault = Err (fault.Unreadable path) in
+      (unreadable_path (string_bytes path), (result, (refl, unread tt), named_over result one (over clean), leaves_path result one (nothing clean) (serves clean)), shows path refl sound)
+  refused_path fault.Memory (Ok status) one over nothing serves tells shows unread memory = absurd (cc (memory refl))
+  refused_path (fault.Profile file why) (Ok status) one over nothing serves tells shows unread memory = λ sound clean. absurd (no_profile file why (over clean).ready)
+
+-- ---- a line
+
+-- what is said of a line that says this
+pub said_over : {S : Type 0} (g : Ghosts S) (told : List ℕ → Option (List ℕ)) (format : Format) (c : Conditions) (number : ℕ) (text : List ℕ) (line : Line) (old new : Held S) (wrote writes : Option (List ℕ)) (failed : Bool) (Clean : Type 0) (r : Result ℕ AllocError)
+    → Says text line
+    → IfOk r (λ status. failed ≡ false → Clean → Writes wrote writes (λ bytes. SaysOver told format c number line (state g old) bytes status (state g new)))
+    → IfOk r (λ status. failed ≡ false → Clean → Writes wrote writes (λ bytes. LineOver g told format c number text old bytes status new))
+said_over g told format c number text line old new wrote writes failed Clean (Err e) says h = h
+said_over g told format c number text line old new wrote writes failed Clean (Ok status) says h = λ sound clean.
+    let w = h sound clean in
+    (w.0, (line, says, w.1), w.2)

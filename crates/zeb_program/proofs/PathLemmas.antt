@@ -24,7 +24,7 @@ use Rattle.zeb_program.specs.declared.faults.Fault.{Fault}
 use Rattle.zeb_program.specs.declared.faults.Fault.TheVariants as fault
 use Rattle.zeb_program.specs.declared.lines.Line.TheVariants.{Path}
 use Rattle.zeb_program.specs.declared.path_changes.PathChange.{PathChange}
-use Rattle.zeb_program.specs.Answers.{AnswersLine, ChangesBy, IsFileAnswer, Writes}
+use Rattle.zeb_program.specs.Answers.{AnswersLine, ChangesBy, IsFileAnswer, IsReadFaultOf, Writes}
 use Rattle.zeb_program.specs.Lines.{first_line, after_first_line}
 use Rattle.zeb_program.specs.PathChanges.{AreFilesTold, IsLineTold, HasPath, NamesPath}
 use Rattle.zeb_program.specs.Says.{SaysText}
@@ -50,6 +50,17 @@ told_rest told text all n = subst (λ rest. IsLineTold told (first_line rest)) (
 failed_among : {R : Type 0} (has_failed : R → Bool) (readers : List R) (file count : ℕ) → length readers ≡ count → HasFailedAt has_failed readers file → (1 ≤ file) × (file ≤ count)
 failed_among has_failed readers file count many at = (omega (arith, at.numbered), omega (arith, many, at.within, at.numbered))
 
+-- a refusal for a reader that failed is the read fault of one of so many files
+pub named_fault : {R : Type 0} (has_failed : R → Bool) (readers : List R) (count : ℕ) (r : Result Reply Refusal) → length readers ≡ count → IsErrAnd r (NamesFailed has_failed readers) → IsReadFaultOf count r
+named_fault has_failed readers count (Ok reply) many failed = absurd failed
+named_fault has_failed readers count (Err refusal) many failed =
+    let among = failed_among has_failed readers failed.0 count many failed.1 in
+    (failed.0, among.0, among.1, ap Err failed.3)
+
+-- there are as many readers as files
+pub as_many : {R : Type 0} (remaining : R → Option (List ℕ)) (files : List (List ℕ)) (before after : List R) → map remaining before ≡ map Some files → length after ≡ length before → length after ≡ length files
+as_many remaining files before after all same = same ∙ sym (length-map before remaining) ∙ ap length all ∙ length-map files Some
+
 -- what is answered where the readers told the files' bytes
 pub served_files : {R : Type 0} (remaining : R → Option (List ℕ)) (has_failed : R → Bool) (c : Conditions) (kind : Kind) (name : List ℕ) (files : List (List ℕ)) (old new : State) (before after : List R) (r : Result Reply Refusal)
     → map remaining before ≡ map Some files → length after ≡ length before
@@ -61,9 +72,7 @@ served_files remaining has_failed c kind name files old new before after r all s
     (served.0, inl served.1, served.2)
 served_files remaining has_failed c kind name files old new before after (Ok reply) all same serves (inr failed) nothing held keeps = absurd failed
 served_files remaining has_failed c kind name files old new before after (Err refusal) all same serves (inr failed) nothing held keeps =
-    let many : length after ≡ length files = same ∙ sym (length-map before remaining) ∙ ap length all ∙ length-map files Some in
-    let among = failed_among has_failed after failed.0 (length files) many failed.1 in
-    (held, inr (failed.0, among.0, among.1, ap Err failed.3, refl), keeps_still held old new nothing keeps)
+    (held, inr (named_fault has_failed after (length files) (Err refusal) (as_many remaining files before after all same) failed, refl), keeps_still held old new nothing keeps)
 
 -- ---- what is written
 

@@ -70,10 +70,10 @@ module _ (told : List ℕ → Option (List ℕ)) (c : Conditions) (short : AreFi
       let order = change_by change file (short (string_bytes change.path) file names.1) in
       run_command n text order answer before next last here there status greatest some (inr (change, file, names, (refl, refl, refl))) is has step rest
   run_file n text change file answer before next last here there status greatest some names is has (inr fault) rest =
-      let first : fault.0 ≡ 1 = omega (arith, fault.1, fault.2) in
-      let why : answer ≡ Err (ReadFault 1) = fault.3 ∙ ap (λ n. Err (ReadFault n)) first in
+      let first : fault.0.0 ≡ 1 = omega (arith, fault.0.1, fault.0.2) in
+      let why : answer ≡ Err (ReadFault 1) = fault.0.3 ∙ ap (λ n. Err (ReadFault n)) first in
       run_passed n text before next last (here ++ there) there (max status greatest) greatest
-      (λ commands answers w. rw (is, has, why) (unread change file some names w)) fault.4 rest
+      (λ commands answers w. rw (is, has, why) (unread change file some names w)) fault.1 rest
 
   run_line : (n : ℕ) (text : List ℕ) (line : Line) (before next last : Holdings) (here there : List ℕ) (status greatest : ℕ) → 0 < length text → Says (first_line text) line
       → IsAnswerTo told c (n + 1) line before here status next → IsOneRun told c (n + 1) (after_first_line text) next there greatest last
@@ -122,7 +122,7 @@ module _ (told : List ℕ → Option (List ℕ)) (c : Conditions) where
       (answers_lines (n + 1) (after_first_line text) orders others run.0 there greatest last w run.2)
   answers_lines n text commands answers before bytes status last (unread {bytes = there} {status = greatest} change file some names w) run =
       let one : (1 ≤ 1) × (1 ≤ length (file ∷ [])) = (omega arith, omega arith) in
-      more some (Path change, names.0, (file, names.1, (Err (ReadFault 1), refl, refl, inr (1, one.0, one.1, refl, refl))))
+      more some (Path change, names.0, (file, names.1, (Err (ReadFault 1), refl, refl, inr ((1, one.0, one.1, refl), refl))))
       (answers_lines (n + 1) (after_first_line text) commands answers before there greatest last w run)
 
 pub batch_is_one_run : BatchIsOneRun

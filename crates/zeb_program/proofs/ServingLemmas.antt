@@ -1,5 +1,5 @@
 -- How far the lines of a batch have come over a connection.
-use Rattle.std.proofs.Common.{◌≡◌, ◌<◌, ◌+◌, ℕ, Bool, false, List, [], ◌∷◌, ◌++◌, length, refl, subst}
+use Rattle.std.proofs.Common.{◌≡◌, ◌<◌, ◌+◌, ℕ, Bool, false, List, [], ◌∷◌, ◌++◌, length, refl}
 use Rattle.std.specs.Prelude.{Option, Result, Ok, Err, IfOk, OnErr, max}
 use Rattle.std.specs.declared.alloc.AllocError.{AllocError}
 use Rattle.std.specs.Io.KnownBytes.{Appends}
@@ -16,9 +16,9 @@ use Rattle.zeb_engine.specs.Works.{ServesCommand}
 use Rattle.zeb_program.specs.declared.lines.Line.TheVariants.{Remark, Command as Order, Bad}
 use Rattle.zeb_program.specs.Says.{Says}
 use Rattle.zeb_program.specs.Lines.{first_line, after_first_line}
-use Rattle.zeb_program.specs.Answers.{Writes, bad_line, IsAnswer, AnswersLine, AnswersLines, AnswersBatch, AnswersPart}
+use Rattle.zeb_program.specs.Answers.{Writes, bad_line, IsAnswer, AnswersLine, AnswersBatch, AnswersPart}
 use Rattle.zeb_program.specs.PrivateServing.{Leads, Stops}
-use Rattle.zeb_program.proofs.AnswerLemmas.{Appends-nil, IsAnswered, answered_start, answered_line, answered_lines}
+use Rattle.zeb_program.proofs.AnswerLemmas.{Appends-nil, IsAnswered, answered_all, answered_start, answered_line, answered_lines}
 
 -- a refusal that is written is the command's answer
 pub refused_command : (c : Conditions) (command : Command) (old new : State) (wrote writes : Option (List ℕ)) (refusal : Refusal) (failed : Bool) (Clean : Type 0) (r : Result ℕ AllocError)
@@ -64,10 +64,10 @@ remark_line told c number text old wrote says before keeps = (before, keeps, ([]
 -- from tables that keep what a register holds: the lines up to the rest are answered, and the tables keep what it holds then
 abbrev pub Reaches : (List ℕ → Option (List ℕ)) → Conditions → State → State → Option (List ℕ) → Option (List ℕ) → ℕ → List ℕ → ℕ → List ℕ → ℕ → Type 0
 Reaches told c old now wrote writes before text n rest greatest =
-    (first : Holdings) → Keeps old first → (held : Holdings) × Keeps now held × IsAnswered told c wrote writes before text first n rest greatest held
+    (first : Holdings) → Keeps old first → (held : Holdings) × Keeps now held × IsAnswered (AnswersLine told c) wrote writes before text first n rest greatest held
 
 pub reaches_start : (told : List ℕ → Option (List ℕ)) (c : Conditions) (old : State) (wrote : Option (List ℕ)) (n : ℕ) (text : List ℕ) → Reaches told c old old wrote wrote n text n text 0
-reaches_start told c old wrote n text first keeps = (first, keeps, answered_start told c wrote n text first)
+reaches_start told c old wrote n text first keeps = (first, keeps, answered_start (AnswersLine told c) wrote n text first)
 
 pub reaches_line : (told : List ℕ → Option (List ℕ)) (c : Conditions) (old now next : State) (wrote mid writes : Option (List ℕ)) (before : ℕ) (text : List ℕ) (n : ℕ) (rest line later : List ℕ) (greatest status top : ℕ) → 0 < length rest
     → line ≡ first_line rest → later ≡ after_first_line rest → top ≡ max greatest status
@@ -77,22 +77,21 @@ pub reaches_line : (told : List ℕ → Option (List ℕ)) (c : Conditions) (old
 reaches_line told c old now next wrote mid writes before text n rest line later greatest status top some is_line is_rest is_max far step first keeps =
     let here = far first keeps in
     let there = step here.0 here.1 in
-    (there.0, there.1, answered_line told c wrote mid writes before text first n rest line later greatest status top here.0 there.0 some is_line is_rest is_max here.2 there.2)
+    (there.0, there.1, answered_line (AnswersLine told c) wrote mid writes before text first n rest line later greatest status top here.0 there.0 some is_line is_rest is_max here.2 there.2)
 
 pub reaches_end : (told : List ℕ → Option (List ℕ)) (c : Conditions) (old now : State) (wrote writes : Option (List ℕ)) (before : ℕ) (text : List ℕ) (n : ℕ) (rest : List ℕ) (greatest : ℕ) → rest ≡ []
     → Reaches told c old now wrote writes before text n rest greatest
     → Leads old now wrote writes (λ first bytes last. AnswersBatch told c before text first bytes greatest last)
 reaches_end told c old now wrote writes before text n rest greatest none far first keeps =
     let here = far first keeps in
-    let w = answered_lines told c wrote writes before text first n rest greatest here.0 here.2 in
-    (here.0, here.1, (w.0, subst (λ left. AnswersLines told c before text first w.0 greatest left here.0) none w.1, w.2))
+    (here.0, here.1, answered_all (AnswersLine told c) wrote writes before text first n rest greatest here.0 none here.2)
 
 pub reaches_stop : (told : List ℕ → Option (List ℕ)) (c : Conditions) (old now : State) (wrote writes : Option (List ℕ)) (before : ℕ) (text : List ℕ) (n : ℕ) (rest : List ℕ) (greatest : ℕ) → 0 < length rest
     → Reaches told c old now wrote writes before text n rest greatest
     → Stops old wrote writes (AnswersPart told c before text)
 reaches_stop told c old now wrote writes before text n rest greatest some far first keeps =
     let here = far first keeps in
-    let w = answered_lines told c wrote writes before text first n rest greatest here.0 here.2 in
+    let w = answered_lines (AnswersLine told c) wrote writes before text first n rest greatest here.0 here.2 in
     (w.0, (greatest, rest, here.0, some, w.1), w.2)
 
 -- where memory runs out at a line, nothing is written for it

@@ -115,7 +115,7 @@ serves_stop told c old now wrote writes None left later n greatest taken far = t
 serves_stop told c old now wrote writes (Some text) None later n greatest taken far = absurd far
 serves_stop told c old now wrote writes (Some text) (Some rest) later n greatest taken far = λ known before keeps.
     let here = (far known).1 before keeps in
-    let w = answered_lines told c wrote writes 0 text before n rest greatest here.0 here.2 in
+    let w = answered_lines (AnswersLine told c) wrote writes 0 text before n rest greatest here.0 here.2 in
     (w.0, (greatest, rest, here.0, w.1, taken), w.2)
 
 -- where a line isn't answered

@@ -41,12 +41,16 @@ abbrev pub IsAnswer : Conditions → Command → Holdings → List ℕ → ℕ �
 IsAnswer c command before bytes status later =
     (answer : Result Reply Refusal) × (bytes ≡ answer_text answer) × (status ≡ answer_status answer) × Run c before (command ∷ []) (answer_of answer ∷ []) later
 
--- an answer to a change by files of these bytes, and what the register holds then: it is that of the change, or one of the files, which are
--- counted from 1, couldn't be read to its end and nothing changes
+-- the answer is that one of so many files, which are counted from 1, couldn't be read to its end
+abbrev pub IsReadFaultOf : ℕ → Result Reply Refusal → Type 0
+IsReadFaultOf count answer = (file : ℕ) × (1 ≤ file) × (file ≤ count) × (answer ≡ Err (ReadFault file))
+
+-- an answer to a change by files of these bytes, and what the register holds then: it is that of the change, or one of the files couldn't be
+-- read to its end and nothing changes
 abbrev pub ChangesBy : Conditions → Kind → List ℕ → List (List ℕ) → Holdings → Result Reply Refusal → Holdings → Type 0
 ChangesBy c kind name files before answer later =
     TellsOrFails (TakesFiles c kind name files) before (answer_of answer) later
-    ⊎ ((file : ℕ) × (1 ≤ file) × (file ≤ length files) × (answer ≡ Err (ReadFault file)) × (later ≡ before))
+    ⊎ (IsReadFaultOf (length files) answer × (later ≡ before))
 
 -- what is written for a change by the path of a file of these bytes, its status, and what the register holds then
 abbrev pub IsFileAnswer : Conditions → PathChange → List ℕ → Holdings → List ℕ → ℕ → Holdings → Type 0
@@ -69,12 +73,18 @@ IsAnswerTo told c number Bad before bytes status later = (bytes ≡ bad_line num
 abbrev pub AnswersLine : (List ℕ → Option (List ℕ)) → Conditions → ℕ → List ℕ → Holdings → List ℕ → ℕ → Holdings → Type 0
 AnswersLine told c number text before bytes status later = (line : Line) × Says text line × IsAnswerTo told c number line before bytes status later
 
--- the same for the first lines of a text, which n lines of the input stand before: as far as the rest, which is not answered
-pub data AnswersLines : (List ℕ → Option (List ℕ)) → Conditions → ℕ → List ℕ → Holdings → List ℕ → ℕ → List ℕ → Holdings → Type 0 where
-  none : {told : List ℕ → Option (List ℕ)} {c : Conditions} {n : ℕ} {text : List ℕ} {held : Holdings} → AnswersLines told c n text held [] 0 text held
-  more : {told : List ℕ → Option (List ℕ)} {c : Conditions} {n : ℕ} {text here there rest : List ℕ} {status greatest : ℕ} {before next last : Holdings} → 0 < length text
-      → AnswersLine told c (n + 1) (first_line text) before here status next → AnswersLines told c (n + 1) (after_first_line text) next there greatest rest last
-      → AnswersLines told c n text before (here ++ there) (max status greatest) rest last
+-- The first lines of a text, which n lines of the input stand before, are answered as far as the rest, which is not answered. `Answers` says
+-- of the number and the text of each line what is written for it and its status, and leads from what is there before it to what is there
+-- then, which the next line finds.
+pub data EachLine {X : Type 0} (Answers : ℕ → List ℕ → X → List ℕ → ℕ → X → Type 0) : ℕ → List ℕ → X → List ℕ → ℕ → List ℕ → X → Type 0 where
+  none : {n : ℕ} {text : List ℕ} {held : X} → EachLine Answers n text held [] 0 text held
+  more : {n : ℕ} {text here there rest : List ℕ} {status greatest : ℕ} {before next last : X} → 0 < length text
+      → Answers (n + 1) (first_line text) before here status next → EachLine Answers (n + 1) (after_first_line text) next there greatest rest last
+      → EachLine Answers n text before (here ++ there) (max status greatest) rest last
+
+-- the lines of a text are answered so from what a register holds
+abbrev pub AnswersLines : (List ℕ → Option (List ℕ)) → Conditions → ℕ → List ℕ → Holdings → List ℕ → ℕ → List ℕ → Holdings → Type 0
+AnswersLines told c = EachLine (AnswersLine told c)
 
 -- every line of the text is answered
 abbrev pub AnswersBatch : (List ℕ → Option (List ℕ)) → Conditions → ℕ → List ℕ → Holdings → List ℕ → ℕ → Holdings → Type 0

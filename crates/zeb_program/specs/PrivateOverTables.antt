@@ -1,37 +1,116 @@
 -- What only the contracts of private functions speak of; no public clause reaches it.
--- What a command is answered on any tables, whatever these hold, where words or a line name it (this program's own).
-use Rattle.std.specs.Prelude.{◌≡◌, ⊤, ℕ, Option, Result, List}
+-- What a command or a change by paths is answered on any tables, whatever these hold, where words or a line name it (this program's own).
+use Rattle.std.specs.Prelude.{◌≡◌, ◌⊎◌, ⊤, ℕ, Option, Some, Result, Ok, Err, OnErr, OnOk, List, [], ◌∷◌, length, map, string_bytes}
+use Rattle.sqlite.specs.Held.{Held, state}
 use Rattle.sqlite.specs.State.{State}
+use Rattle.sqlite.specs.Store.{Ghosts}
 use Rattle.zeb_profile.specs.declared.directives.Directive.{Directive}
-use Rattle.zeb_register.specs.Formats.{Format}
+use Rattle.zeb_register.specs.Calls.{ChangesNothing}
+use Rattle.zeb_register.specs.Formats.{Format, version_of}
+use Rattle.zeb_register.specs.Store.{IsStore}
+use Rattle.zeb_change.specs.Conditions.{Conditions}
 use Rattle.zeb_change.specs.declared.refusals.Refusal.{Refusal}
+use Rattle.zeb_change.specs.declared.refusals.Refusal.TheVariants.{Damaged}
+use Rattle.zeb_image.specs.Holdings.{Holdings}
+use Rattle.zeb_image.specs.Image.{Keeps}
+use Rattle.zeb_image.specs.NameOf.{name_bytes}
 use Rattle.zeb_engine.specs.AnyAnswers.{IsAnswerOver}
+use Rattle.zeb_engine.specs.AnyTables.{ChangesReady}
+use Rattle.zeb_engine.specs.Checking.{ReindexLeaves}
+use Rattle.zeb_engine.specs.Readiness.{GoesByTexts}
+use Rattle.zeb_engine.specs.Steps.{OnlyAsks, holding}
+use Rattle.zeb_engine.specs.Works.{ServesCommand}
 use Rattle.zeb_engine.specs.declared.commands.Command.{Command}
+use Rattle.zeb_engine.specs.declared.commands.Command.TheVariants.{Init, Reindex}
 use Rattle.zeb_engine.specs.declared.replies.Reply.{Reply}
 use Rattle.zeb_program.specs.declared.faults.Fault.{Fault}
+use Rattle.zeb_program.specs.declared.faults.Fault.TheVariants.{Profile, Unreadable, Refused, Memory}
 use Rattle.zeb_program.specs.declared.lines.Line.{Line}
-use Rattle.zeb_program.specs.declared.lines.Line.TheVariants.{Command as Order}
+use Rattle.zeb_program.specs.declared.lines.Line.TheVariants.{Remark, Command as Order, Path, Bad}
+use Rattle.zeb_program.specs.declared.path_changes.PathChange.{PathChange}
 use Rattle.zeb_program.specs.declared.tasks.Task.{Task}
-use Rattle.zeb_program.specs.declared.tasks.Task.TheVariants.{Ask}
-use Rattle.zeb_program.specs.Answers.{Writes, answer_status, answer_text}
-use Rattle.zeb_program.specs.PrivateFaults.{GivesAnswer}
+use Rattle.zeb_program.specs.declared.tasks.Task.TheVariants.{Ask, Change, Analyse}
+use Rattle.zeb_program.specs.Answers.{ChangesBy, EachLine, IsReadFaultOf, answer_status, answer_text, bad_line}
+use Rattle.zeb_program.specs.PrivateFaults.{GivesAnswer, IsUnreadable, unreadable_path}
+use Rattle.zeb_program.specs.PrivateServing.{AnswersFrom}
+use Rattle.zeb_program.specs.PrivateTaskAnswers.{AreTold}
 use Rattle.zeb_program.specs.Says.{Says}
 
--- The answer to a task of one command is what the engine says of it on any tables. Of a change by paths and of an analysis nothing is said
--- here.
-abbrev pub TaskOver : Format → List Directive → Task → State → Result Reply Fault → Type 0
-TaskOver format profile (Ask command) s result = GivesAnswer (IsAnswerOver format profile command s) result
-TaskOver format profile other s result = ⊤
+-- ---- a task
 
--- what is written for a command, and its status, are those of such an answer
-abbrev pub WritesOver : Format → List Directive → Command → State → Option (List ℕ) → Option (List ℕ) → ℕ → Type 0
-WritesOver format profile command s wrote writes status =
-    Writes wrote writes (λ bytes. (answer : Result Reply Refusal) × (bytes ≡ answer_text answer) × (status ≡ answer_status answer) × IsAnswerOver format profile command s answer)
+-- what is said of the answer to a change of the database of this name by the files at these paths
+pub record PathsOver (told : List ℕ → Option (List ℕ)) (format : Format) (profile : List Directive) (name : List ℕ) (paths : List (List ℕ)) (s : State) (result : Result Reply Fault) : Type 0 where
+  -- a path can't be read, or the texts of the store tell whether the register was ready
+  pub ready : IsUnreadable result ⊎ GivesAnswer (GoesByTexts (version_of format) profile s) result
+  -- Where the bytes of a file at each path are told: one of the files couldn't be read to its end, or what is kept under the first record's
+  -- identifier is whole, or the change is refused as damage or by a failure.
+  pub changes : (files : List (List ℕ)) → AreTold told paths files
+      → GivesAnswer (λ answer. ChangesReady (version_of format) profile name files s answer ⊎ IsReadFaultOf (length files) answer) result
+  -- damage is told only of the image of nothing that can be held
+  pub honest : result ≡ Err (Refused Damaged) → (before : Holdings) → ¬ Keeps s before
 
-abbrev pub SaysOver : Format → List Directive → Line → State → Option (List ℕ) → Option (List ℕ) → ℕ → Type 0
-SaysOver format profile (Order command) s wrote writes status = WritesOver format profile command s wrote writes status
-SaysOver format profile other s wrote writes status = ⊤
+-- The answer to a task of one command is what the engine says of it on any tables, and so is that to a change by paths. Of an analysis
+-- nothing is said here.
+abbrev pub TaskOver : (List ℕ → Option (List ℕ)) → Format → List Directive → Task → State → Result Reply Fault → Type 0
+TaskOver told format profile (Ask command) s result = GivesAnswer (IsAnswerOver format profile command s) result
+TaskOver told format profile (Change kind database paths) s result =
+    PathsOver told format profile (name_bytes database) (map string_bytes paths.items) s result
+TaskOver told format profile (Analyse paths) s result = ⊤
 
--- the same for a line that names a command, by its text
-abbrev pub LineOver : Format → List Directive → List ℕ → State → Option (List ℕ) → Option (List ℕ) → ℕ → Type 0
-LineOver format profile text s wrote writes status = (line : Line) × Says text line × SaysOver format profile line s wrote writes status
+-- ---- a line: from which tables, what is written, its status, and the tables then
+
+-- What a command leaves of the tables.
+pub record CommandLeaves (format : Format) (c : Conditions) (command : Command) (old new : State) (answer : Result Reply Refusal) : Type 0 where
+  -- nothing changes where it is refused, nor where it only asks
+  pub refused : OnErr answer (ChangesNothing old new)
+  pub asks : OnlyAsks command → ChangesNothing old new
+  -- from tables that keep what a register holds it is answered as a run of it, and they keep what is held then
+  pub serves : ServesCommand c command old new answer
+  -- an accepted init leaves a register without a database, whatever rows the tables had
+  pub begun : command ≡ Init → OnOk answer (IsStore old → Keeps new (holding c []))
+  -- an accepted reindex leaves the lists, and registers of these, whatever the registers held
+  pub remade : command ≡ Reindex → OnOk answer (ReindexLeaves format c.profile old new)
+
+-- what is written for a command, and its status, are those of its answer on any tables, and this is what it leaves of them
+abbrev pub CommandOver : Format → Conditions → Command → State → List ℕ → ℕ → State → Type 0
+CommandOver format c command old bytes status new =
+    (answer : Result Reply Refusal) × (bytes ≡ answer_text answer) × (status ≡ answer_status answer)
+    × IsAnswerOver format c.profile command old answer × CommandLeaves format c command old new answer
+
+-- This is written for an answer, or for a path that can't be read, and this is the status. For want of memory nothing is written.
+abbrev pub IsTold : Result Reply Fault → List ℕ → ℕ → Type 0
+IsTold (Ok reply) bytes status = (bytes ≡ answer_text (Ok reply)) × (status ≡ answer_status (Ok reply))
+IsTold (Err (Refused refusal)) bytes status = (bytes ≡ answer_text (Err refusal)) × (status ≡ answer_status (Err refusal))
+IsTold (Err (Unreadable path)) bytes status = (bytes ≡ unreadable_path (string_bytes path)) × (status ≡ 3)
+IsTold (Err (Profile file fault)) bytes status = ⊥
+IsTold (Err Memory) bytes status = ⊥
+
+-- What a change by the file at a path leaves of the tables: nothing changes where it isn't accepted, and where the file's bytes are told, it is
+-- answered from tables that keep what a register holds as a change by these, and they keep what is held then.
+pub record PathLeaves (told : List ℕ → Option (List ℕ)) (c : Conditions) (change : PathChange) (old new : State) (result : Result Reply Fault) : Type 0 where
+  pub refused : OnErr result (ChangesNothing old new)
+  pub serves : (file : List ℕ) → told (string_bytes change.path) ≡ Some file
+      → AnswersFrom old new result (ChangesBy c change.kind (name_bytes change.database) (file ∷ []))
+
+-- the same of a change by a path
+abbrev pub PathOver : (List ℕ → Option (List ℕ)) → Format → Conditions → PathChange → State → List ℕ → ℕ → State → Type 0
+PathOver told format c change old bytes status new =
+    (result : Result Reply Fault) × IsTold result bytes status
+    × PathsOver told format c.profile (name_bytes change.database) (string_bytes change.path ∷ []) old result
+    × PathLeaves told c change old new result
+
+-- of a line that says this
+abbrev pub SaysOver : (List ℕ → Option (List ℕ)) → Format → Conditions → ℕ → Line → State → List ℕ → ℕ → State → Type 0
+SaysOver told format c number Remark old bytes status new = (bytes ≡ []) × (status ≡ 0) × ChangesNothing old new
+SaysOver told format c number (Order command) old bytes status new = CommandOver format c command old bytes status new
+SaysOver told format c number (Path change) old bytes status new = PathOver told format c change old bytes status new
+SaysOver told format c number Bad old bytes status new = (bytes ≡ bad_line number) × (status ≡ 2) × ChangesNothing old new
+
+-- the same for a line, by its text and its number, and by the connection
+abbrev pub LineOver : {S : Type 0} → Ghosts S → (List ℕ → Option (List ℕ)) → Format → Conditions → ℕ → List ℕ → Held S → List ℕ → ℕ → Held S → Type 0
+LineOver g told format c number text old bytes status new =
+    (line : Line) × Says text line × SaysOver told format c number line (state g old) bytes status (state g new)
+
+-- every line of a text is answered so, each on the tables that the one before it left
+abbrev pub LinesOver : {S : Type 0} → Ghosts S → (List ℕ → Option (List ℕ)) → Format → Conditions → ℕ → List ℕ → Held S → List ℕ → ℕ → Held S → Type 0
+LinesOver g told format c n text old bytes status new = EachLine (LineOver g told format c) n text old bytes status [] new

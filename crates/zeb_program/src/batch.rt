@@ -9,7 +9,7 @@ ghost use Rattle.zeb_engine.specs.Refusals.{refusal_text, status_of};
 ghost use Rattle.zeb_program.specs.ScriptAnswers.{AnswersOpened, AnswersStopped};
 ghost use Rattle.std.specs.Io.KnownBytes.{Appends};
 ghost use Rattle.zeb_program.specs.Answers.{Writes, bad_line, IsAnswer, AnswersLine, AnswersBatch, AnswersPart};
-ghost use Rattle.zeb_program.specs.PrivateOverTables.{LineOver, WritesOver};
+ghost use Rattle.zeb_program.specs.PrivateOverTables.{CommandOver, LineOver, LinesOver};
 ghost use Rattle.zeb_program.specs.PathChanges.{AreFilesTold, IsLineTold};
 ghost use Rattle.zeb_program.specs.PrivateServing.{Leads, Stops};
 ghost use Rattle.zeb_program.specs.WordAnswers.{IsFaultStatus};
@@ -70,6 +70,11 @@ pub fn run_lines<S: Alter, L: Layout, P: Paths, W: Write>(
         (λ before bytes last. AnswersBatch (P.tells paths.now) (conditions
         (version_of L.format) session.old.profile session.old.limits) batch.entry.lines_before batch.entry.text.now before bytes status
         last)) }
+    // Each line is answered as the engine says of it on any tables, on those that the line before it left.
+    ensures over { IfOk result (λ status. output.new.failed ≡ false → HasCleanDisk (state S.Store session.new.connection)
+        → Writes (W.contents output.old.writer) (W.contents output.new.writer) (λ bytes. LinesOver S.Store (P.tells paths.now) L.format
+        (conditions (version_of L.format) session.old.profile session.old.limits) batch.entry.lines_before batch.entry.text.now
+        session.old.connection bytes status session.new.connection)) }
     ensures stopped { OnErr result (output.new.failed ≡ false → HasCleanDisk (state S.Store session.new.connection)
         → AreFilesTold (P.tells paths.now) batch.entry.text.now
         → Stops (state S.Store session.old.connection) (W.contents output.old.writer) (W.contents output.new.writer)
@@ -105,10 +110,11 @@ pub fn run_line<S: Alter, L: Layout, P: Paths, W: Write>(
         (W.contents output.new.writer)
         (λ before bytes later. AnswersLine (P.tells paths.now) (conditions
         (version_of L.format) session.old.profile session.old.limits) number line.now before bytes status later)) }
-    // A command is answered as the engine says of it on any tables.
+    // It is answered as the engine says of it on any tables.
     ensures over { IfOk result (λ status. output.new.failed ≡ false → HasCleanDisk (state S.Store session.new.connection)
-        → LineOver L.format session.old.profile line.now (state S.Store session.old.connection)
-        (W.contents output.old.writer) (W.contents output.new.writer) status) }
+        → Writes (W.contents output.old.writer) (W.contents output.new.writer) (λ bytes. LineOver S.Store (P.tells paths.now) L.format
+        (conditions (version_of L.format) session.old.profile session.old.limits) number line.now session.old.connection bytes status
+        session.new.connection)) }
     ensures stopped { OnErr result (output.new ≡ output.old) }
     ensures clean { HasCleanDisk (state S.Store session.new.connection) → HasCleanDisk (state S.Store session.old.connection) }
     ensures under { (session.new.profile ≡ session.old.profile) × (session.new.limits ≡ session.old.limits) }
@@ -135,8 +141,9 @@ fn run_command<S: Alter, L: Layout, W: Write>(
         (λ before bytes later. IsAnswer (conditions
         (version_of L.format) session.old.profile session.old.limits) command.now before bytes status later)) }
     ensures over { IfOk result (λ status. output.new.failed ≡ false → HasCleanDisk (state S.Store session.new.connection)
-        → WritesOver L.format session.old.profile command.now (state S.Store session.old.connection)
-        (W.contents output.old.writer) (W.contents output.new.writer) status) }
+        → Writes (W.contents output.old.writer) (W.contents output.new.writer) (λ bytes. CommandOver L.format
+        (conditions (version_of L.format) session.old.profile session.old.limits) command.now (state S.Store session.old.connection)
+        bytes status (state S.Store session.new.connection))) }
     ensures stopped { OnErr result (output.new ≡ output.old) }
     ensures clean { HasCleanDisk (state S.Store session.new.connection) → HasCleanDisk (state S.Store session.old.connection) }
     ensures under { (session.new.profile ≡ session.old.profile) × (session.new.limits ≡ session.old.limits) }

@@ -7,10 +7,11 @@ ghost use Rattle.sqlite.specs.State.{HasCleanDisk};
 ghost use Rattle.zeb_change.specs.Conditions.{conditions};
 ghost use Rattle.zeb_change.specs.declared.settings.Kind.{Kind};
 ghost use Rattle.zeb_register.specs.Formats.{version_of};
-ghost use Rattle.zeb_program.specs.Answers.{IsFileAnswer};
+ghost use Rattle.zeb_program.specs.Answers.{IsFileAnswer, Writes};
 ghost use Rattle.zeb_program.specs.Batches.{kind_word};
 ghost use Rattle.zeb_program.specs.PathChanges.{HasPath, IsDigits, NamesPath};
 ghost use Rattle.zeb_program.specs.PrivateServing.{Leads};
+ghost use Rattle.zeb_program.specs.PrivateOverTables.{PathOver};
 
 use crate::digits::bytes_of_digits;
 use crate::faults::tell;
@@ -94,6 +95,11 @@ pub fn run_path_change<S: Alter, L: Layout, P: Paths, W: Write>(
         (W.contents output.new.writer)
         (λ before bytes later. IsFileAnswer (conditions
         (version_of L.format) session.old.profile session.old.limits) change.now file before bytes status later)) }
+    // It is answered as the engine says of it on any tables, whatever the paths tell.
+    ensures over { IfOk result (λ status. output.new.failed ≡ false → HasCleanDisk (state S.Store session.new.connection)
+        → Writes (W.contents output.old.writer) (W.contents output.new.writer) (λ bytes. PathOver (P.tells paths.now) L.format
+        (conditions (version_of L.format) session.old.profile session.old.limits) change.now (state S.Store session.old.connection)
+        bytes status (state S.Store session.new.connection))) }
     ensures stopped { OnErr result (output.new ≡ output.old) }
     ensures clean { HasCleanDisk (state S.Store session.new.connection) → HasCleanDisk (state S.Store session.old.connection) }
     ensures under { (session.new.profile ≡ session.old.profile) × (session.new.limits ≡ session.old.limits) }

@@ -1,17 +1,18 @@
 //! The tasks that words name, each carried out on the register that the profile names.
 
-ghost use Rattle.std.specs.Prelude.{◌≡◌, ◌⊎◌, ℕ, [], List, map, string_bytes, IfErr, IfOk};
+ghost use Rattle.std.specs.Prelude.{◌≡◌, ◌⊎◌, ℕ, [], List, map, string_bytes, IfErr, IfOk, OnErr};
 ghost use Rattle.std.specs.Option.{option_map};
 ghost use Rattle.sqlite.specs.Held.{state};
 ghost use Rattle.sqlite.specs.State.{HasCleanDisk};
 ghost use Rattle.zeb_change.specs.Conditions.{conditions};
 ghost use Rattle.zeb_image.specs.NameOf.{name_bytes};
+ghost use Rattle.zeb_register.specs.Calls.{ChangesNothing};
 ghost use Rattle.zeb_register.specs.Formats.{packed_blocks, version_of};
 ghost use Rattle.zeb_program.specs.Answers.{ChangesBy};
 ghost use Rattle.zeb_engine.specs.AnyAnswers.{IsAnswerOver};
 ghost use Rattle.zeb_program.specs.PrivateFaults.{GivesAnswer, IsOpeningFault, IsUnread, IsUnreadable};
 ghost use Rattle.zeb_program.specs.ScriptAnswers.{AreScriptConditions};
-ghost use Rattle.zeb_program.specs.PrivateOverTables.{TaskOver};
+ghost use Rattle.zeb_program.specs.PrivateOverTables.{PathsOver, TaskOver};
 ghost use Rattle.zeb_program.specs.PrivateServing.{AnswersFrom, ServesTask, replied};
 ghost use Rattle.zeb_program.specs.TaskAnswers.{ReadsWhole};
 ghost use Rattle.zeb_program.specs.PrivateTaskAnswers.{AnalysesFiles, AnswersCommand, AreTold, paths_of};
@@ -181,9 +182,9 @@ pub fn carry_out<S: Alter, L: Layout, P: Paths>(
     ensures answer { HasCleanDisk (state S.Store session.new.connection)
         → ServesTask (P.tells paths.now) (conditions (version_of L.format) session.old.profile session.old.limits) task.now
         (state S.Store session.old.connection) (state S.Store session.new.connection) (replied result) }
-    // One command is answered as the engine says of it on any tables.
+    // One command, and a change by paths, is answered as the engine says of it on any tables.
     ensures over { HasCleanDisk (state S.Store session.new.connection)
-        → TaskOver L.format session.old.profile task.now (state S.Store session.old.connection) (replied result) }
+        → TaskOver (P.tells paths.now) L.format session.old.profile task.now (state S.Store session.old.connection) (replied result) }
     // Where something couldn't be read, the register was asked for nothing.
     ensures unread { IfErr result (λ fault. IsUnread fault → session.new ≡ session.old) }
     // Where the bytes of a file at each path are told; and of another task than an analysis nothing is to be warned of.
@@ -247,6 +248,12 @@ pub fn change_by_paths<S: Alter, L: Layout, P: Paths>(
         → (files : List (List ℕ)) → AreTold (P.tells paths.now) (map string_bytes named.now) files
         → AnswersFrom (state S.Store session.old.connection) (state S.Store session.new.connection) result
         (ChangesBy (conditions (version_of L.format) session.old.profile session.old.limits) kind (name_bytes database.now) files) }
+    // On any tables, and whatever the paths tell.
+    ensures over { HasCleanDisk (state S.Store session.new.connection)
+        → PathsOver (P.tells paths.now) L.format session.old.profile (name_bytes database.now) (map string_bytes named.now)
+        (state S.Store session.old.connection) result }
+    ensures refused { HasCleanDisk (state S.Store session.new.connection)
+        → OnErr result (ChangesNothing (state S.Store session.old.connection) (state S.Store session.new.connection)) }
     ensures unread { IfErr result (λ fault. IsUnread fault → session.new ≡ session.old) }
 {
     let mut readers = readers_of(alloc, paths, named)?;

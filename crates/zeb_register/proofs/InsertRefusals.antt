@@ -4,6 +4,7 @@ use Rattle.std.specs.Prelude.{IfErr}
 use Rattle.std.proofs.lemmas.Bool.{and_cases}
 use Rattle.sqlite.specs.declared.types.Value.TheVariants.{Null, Int}
 use Rattle.sqlite.specs.Cast.{cast_row}
+use Rattle.sqlite.specs.Calls.{IsWrite}
 use Rattle.sqlite.specs.Command.TheVariants.{Insert}
 use Rattle.sqlite.specs.Does.{Does}
 use Rattle.sqlite.specs.Edit.{Edit, IsOversized, IsRefused, next_rowid, numbered, taken_by, with_rowid}
@@ -42,7 +43,8 @@ use Rattle.zeb_register.proofs.NewRows.{IsRowFor, large_for, no_rowid_left, part
 use Rattle.zeb_register.proofs.Refusals.{IsWhole}
 use Rattle.zeb_register.specs.Tables.{store_schema}
 use Rattle.zeb_register.proofs.ValueKinds.{HasKeys, IsPlainTable, SharesKey, keeps_all}
-use Rattle.zeb_register.proofs.WriteRefusals.{IsHinderedWrite, IsUnbrokenWrite, concluded, differs, referred, same_stop, settled, unbound_at, why_stopped}
+use Rattle.zeb_register.proofs.WriteRefusals.{IsHinderedWrite, IsUnbrokenWrite, concluded, differs, referred, same_stop, settled, unbound_at}
+use Rattle.zeb_register.proofs.StatementRefusals.{why_stopped}
 use Rattle.zeb_register.proofs.Writes.{codes_there, keyed_there}
 use Rattle.zeb_register.proofs.WrittenRows.{cast_row_same, not_above, not_counted, not_stamped}
 
@@ -129,8 +131,8 @@ module _ (old : State) (at : ℕ) (table : Table) (static : IsPlainTable store_s
           | inr late ↦ absurd (concluded task refl old late.0 stop late.2)
         ]
 
-    stuck_at : (stop : Option Error) (e : Error) → (stop ≡ Some e) ⊎ (stop ≡ None) → IsStuck stop old.now.trees table columns → IsStuck (Some e) old.now.trees table columns
-    stuck_at stop e (inl is) stuck = subst (λ s. IsStuck s old.now.trees table columns) is stuck
+    stuck_at : (stop : Option Error) (e : Error) → ((stop ≡ Some e) × IsWrite (Insert at (Values terms width))) ⊎ (stop ≡ None) → IsStuck stop old.now.trees table columns → IsStuck (Some e) old.now.trees table columns
+    stuck_at stop e (inl is) stuck = subst (λ s. IsStuck s old.now.trees table columns) is.0 stuck
     stuck_at stop e (inr none) (inl clash) = absurd (let n : None ≡ Some (edit_error (why.Violates Unique)) = sym none ∙ clash.1 in cc)
     stuck_at stop e (inr none) (inr hinders) = inr hinders
 
@@ -138,7 +140,7 @@ module _ (old : State) (at : ℕ) (table : Table) (static : IsPlainTable store_s
     pub why_insert_refused : (sql : List ℕ) → command_of (understood store_schema sql) ≡ Insert at (Values terms width) → IsPlain (understood store_schema sql) → IsWhole sql (length params) (understood store_schema sql)
         → (new : State) (r : Result ℕ Error) → ExecutesInside 0 sql params old new r → IfErr r (λ e. fault_of e ≡ Store → MayRefuse old new ⊎ IsStuck (Some e) old.now.trees table columns)
     why_insert_refused sql is plain whole new (Ok count) ran = tt
-    why_insert_refused sql is plain whole new (Err e) ran = λ told. elim (why_stopped sql params (Insert at (Values terms width)) refl is plain whole old new store e told ran) [
+    why_insert_refused sql is plain whole new (Err e) ran = λ told. elim (why_stopped store_schema sql params (Insert at (Values terms width)) refl is plain whole old new store.is e told ran) [
       | inl cause ↦ inl cause
       | inr stopped ↦ elim (why_insert_stops (statement_of sql (understood store_schema sql)) stopped.0 stopped.1) [ inl limit ↦ inl (inr (inr limit)) | inr hinders ↦ inr (stuck_at stopped.0 e stopped.2 hinders) ]
     ]

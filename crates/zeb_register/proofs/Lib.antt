@@ -15,6 +15,7 @@ pub mod CallsInTurn
 pub mod Calls
 pub mod Causes
 pub mod CreateKeepsTables
+pub mod CreateRefusals
 pub mod TextStatements
 pub mod DatabaseStatements
 pub mod DatabaseLists
@@ -45,6 +46,7 @@ pub mod PlaceRefusals
 pub mod RecordLemmas
 pub mod RecordReadings
 pub mod Refusals
+pub mod StatementRefusals
 pub mod WriteRefusals
 pub mod RowSizes
 pub mod UniqueKeyClashes

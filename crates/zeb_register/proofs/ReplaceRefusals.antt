@@ -39,7 +39,8 @@ use Rattle.zeb_register.proofs.EditedRows.{picked}
 use Rattle.zeb_register.proofs.NewRows.{IsRowFor, large_for, no_rowid_left}
 use Rattle.zeb_register.proofs.Refusals.{IsWhole}
 use Rattle.zeb_register.proofs.ValueKinds.{HasKeys, IsPlainTable, is_stored}
-use Rattle.zeb_register.proofs.WriteRefusals.{IsHinderedWrite, concluded, differs, referred, removed, settled, unbound_at, why_stopped}
+use Rattle.zeb_register.proofs.WriteRefusals.{IsHinderedWrite, concluded, differs, referred, removed, settled, unbound_at}
+use Rattle.zeb_register.proofs.StatementRefusals.{why_stopped}
 use Rattle.zeb_register.proofs.Writes.{cleared_has, cleared_keeps, codes_there, conflicts_mean, keyed_there}
 use Rattle.zeb_register.proofs.WrittenRows.{IsCleared, cast_row_same, mended_row_same, not_above, not_counted, not_stamped}
 
@@ -187,7 +188,7 @@ module _ (at : ℕ) (table : Table) (static : IsPlainTable store_schema at table
       → IsWhole sql (length params) (understood store_schema sql) → IsHinderedWrite sql params (Hinders 1 table.tree columns)
   why_replace_hindered params terms width source accepted sql is plain whole old after (Ok count) store ran = tt
   why_replace_hindered params terms width source accepted sql is plain whole old after (Err e) store ran = λ told.
-      elim (why_stopped sql params (InsertOr at Replace (Values terms width) []) refl is plain whole old after store e told ran) [
+      elim (why_stopped store_schema sql params (InsertOr at Replace (Values terms width) []) refl is plain whole old after store.is e told ran) [
         | inl cause ↦ inl cause
         | inr stopped ↦ elim (replace_stops old store params terms width source accepted (statement_of sql (understood store_schema sql)) stopped.0 stopped.1) [ inl limit ↦ inl (inr (inr limit)) | inr hinders ↦ inr hinders ]
       ]

@@ -46,7 +46,8 @@ use Rattle.zeb_register.proofs.SharedKeys.{single}
 use Rattle.zeb_register.proofs.Scans.{reads, shows_each}
 use Rattle.zeb_register.proofs.StatementForms.{Condition, MeetsAll, alone, no_limit, passes, reading, shown_of}
 use Rattle.zeb_register.proofs.ValueKinds.{HasKeys, IsPlainTable, SharesKey, are_fit, code, codes_of, store_all}
-use Rattle.zeb_register.proofs.WriteRefusals.{IsHinderedWrite, concluded, differs, query_stopped, referred, removed, same_stop, settled, unbound_at, why_stopped}
+use Rattle.zeb_register.proofs.WriteRefusals.{IsHinderedWrite, concluded, differs, query_stopped, referred, removed, same_stop, settled, unbound_at}
+use Rattle.zeb_register.proofs.StatementRefusals.{why_stopped}
 use Rattle.zeb_register.proofs.Writes.{codes_there, keyed_there, meets_there}
 use Rattle.zeb_register.proofs.WrittenRows.{cast_row_same}
 
@@ -224,7 +225,7 @@ module _ (at : ℕ) (table : Table) (static : IsPlainTable store_schema at table
   pub why_update_hindered : (Hindering : Trees → Type 0) → ((old : State) → IsStore old → HindersUpdate old.now.trees → Hindering old.now.trees) → (sql : List ℕ) → command_of (understood store_schema sql) ≡ Update at looks → IsPlain (understood store_schema sql) → IsWhole sql (length params) (understood store_schema sql)
       → IsFit looks params → IsHinderedWrite sql params Hindering
   why_update_hindered Hindering so sql is plain whole types old after (Ok count) store ran = tt
-  why_update_hindered Hindering so sql is plain whole types old after (Err e) store ran = λ told. elim (why_stopped sql params (Update at looks) refl is plain whole old after store e told ran) [
+  why_update_hindered Hindering so sql is plain whole types old after (Err e) store ran = λ told. elim (why_stopped store_schema sql params (Update at looks) refl is plain whole old after store.is e told ran) [
     | inl cause ↦ inl cause
     | inr stopped ↦ elim (update_stops old store (statement_of sql (understood store_schema sql)) stopped.0 stopped.1) [ inl it ↦ inl (unread old store after it.0 types it.1) | inr hinders ↦ inr (so old store hinders) ]
   ]

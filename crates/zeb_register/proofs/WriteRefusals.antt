@@ -1,5 +1,5 @@
 -- Why a statement that writes rows, and fits the tables, is refused inside a transaction.
-use Rattle.std.proofs.Common.{◌≡◌, ◌≢◌, ◌⊎◌, ◌∙◌, ◌||◌, ℕ, zero, suc, arith, ℤ, List, [], ◌∷◌, ◌==◌, nat_lt, length, length-append, Ok, Err, Result, Option, inl, inr, None, Some, Bool, true, false, refl, sym, ap, subst, append-nil, eqb-true}
+use Rattle.std.proofs.Common.{◌≡◌, ◌≢◌, ◌⊎◌, ◌∙◌, ℕ, zero, suc, arith, ℤ, List, [], ◌∷◌, ◌==◌, nat_lt, length, length-append, Ok, Err, Result, Option, inl, inr, None, Some, Bool, true, false, refl, sym, ap, subst, eqb-true}
 use Rattle.std.specs.Prelude.{IfErr}
 use Rattle.std.specs.List.{AllByRecursion}
 use Rattle.std.proofs.lemmas.Bool.{cases_Bool, both_ways, and_from, and_parts, not-true, not_from_false, false_from_ne_true}
@@ -7,22 +7,19 @@ use Rattle.sqlite.specs.Order.{Row}
 use Rattle.sqlite.specs.Tree.{Trees, with_tree}
 use Rattle.sqlite.specs.Table.{Table}
 use Rattle.sqlite.specs.Schema.{Schema}
-use Rattle.sqlite.specs.Command.{Command}
-use Rattle.sqlite.specs.Command.TheVariants.{Insert, InsertOr, Update, Delete}
+use Rattle.sqlite.specs.Command.TheVariants.{Delete}
 use Rattle.sqlite.specs.Does.{Does, Concludes}
 use Rattle.sqlite.specs.Edit.{Edit, edit_of, taken_by, without_all, IsRefused}
-use Rattle.sqlite.specs.Effect.{Database, RefusesQuery, is_query}
+use Rattle.sqlite.specs.Effect.{Database, RefusesQuery}
 use Rattle.sqlite.specs.Listing.{understood}
 use Rattle.sqlite.specs.Rowids.TheVariants.{Given}
 use Rattle.sqlite.specs.Rows.{Written, Task, Queried}
 use Rattle.sqlite_schema.specs.declared.program.Program.{Program}
-use Rattle.sqlite.specs.State.{State, mode_of, ExecutesInside, ExecutesIn, EndsScope, IsNotRun, IsStatement, RunsAlone, RunsCommand, Escapes, IsMisplaced, is_pragma, shows_rows}
-use Rattle.sqlite.specs.Clock.{timed}
+use Rattle.sqlite.specs.State.{State, mode_of, ExecutesInside}
 use Rattle.sqlite.specs.declared.error.Error.{Error}
 use Rattle.sqlite.specs.declared.error.Error.TheVariants.{SqliteFailure}
 use Rattle.sqlite.specs.declared.error.ErrorCode.TheVariants.{ConstraintViolation}
 use Rattle.sqlite.proofs.Callers.{IsPlain, command_of, statement_of}
-use Rattle.sqlite_resolve.specs.declared.compiled.Compiled.{Compiled}
 use Rattle.sqlite_rules.specs.Action.{Leads, Writes, works}
 use Rattle.sqlite_rules.specs.Calls.{ids_of}
 use Rattle.sqlite_rules.specs.Lists.{Has}
@@ -41,93 +38,10 @@ use Rattle.zeb_register.specs.Faults.{fault_of}
 use Rattle.zeb_register.specs.Store.{IsStore}
 use Rattle.zeb_register.specs.Tables.{store_schema}
 use Rattle.zeb_register.proofs.EditedRows.{left_has}
-use Rattle.zeb_register.proofs.Refusals.{IsFit, IsWhole, by_cause, without_size}
+use Rattle.zeb_register.proofs.Refusals.{IsFit, IsWhole}
+use Rattle.zeb_register.proofs.StatementRefusals.{why_stopped}
 use Rattle.zeb_register.proofs.StatementForms.{Condition, alone, reading, shows, no_limit}
 use Rattle.zeb_register.proofs.ValueKinds.{IsPlainTable}
-
--- ---- what the database refused, or could not store
-
-abbrev pub writes_rows : Command → Bool
-writes_rows (Insert at from) = true
-writes_rows (InsertOr at way from clauses) = true
-writes_rows (Update at q) = true
-writes_rows (Delete at q) = true
-writes_rows _ = false
-
-quiet : (command : Command) → writes_rows command ≡ true → (is_query command || (is_pragma command || false)) ≡ false
-quiet (Insert at from) h = refl
-quiet (InsertOr at way from clauses) h = refl
-quiet (Update at q) h = refl
-quiet (Delete at q) h = refl
-quiet _ h = absurd cc
-
-not_misplaced : (s : State) (command : Command) (e : Error) → writes_rows command ≡ true → ¬ IsMisplaced s command e
-not_misplaced s command e writes (inl h) = elim h.1 [
-  | inl begins ↦ let n : true ≡ false = sym writes ∙ ap writes_rows begins.0 in cc
-  | inr ends ↦ elim ends.0 [
-    | inl commits ↦ let n : true ≡ false = sym writes ∙ ap writes_rows commits in cc
-    | inr undoes ↦ let n : true ≡ false = sym writes ∙ ap writes_rows undoes in cc
-  ]
-]
-not_misplaced s command e writes (inr h) = elim h.2 [
-  | inl releases ↦ let n : true ≡ false = sym writes ∙ ap writes_rows releases in cc
-  | inr returns ↦ let n : true ≡ false = sym writes ∙ ap writes_rows returns in cc
-]
-
-not_escaping : (held : ℕ) (s : State) (command : Command) → writes_rows command ≡ true → ¬ Escapes held s command
-not_escaping held s command writes (inl (inl commits)) = let n : true ≡ false = sym writes ∙ ap writes_rows commits in cc
-not_escaping held s command writes (inl (inr undoes)) = let n : true ≡ false = sym writes ∙ ap writes_rows undoes in cc
-not_escaping held s command writes (inr h) = elim h.1 [
-  | inl releases ↦ let n : true ≡ false = sym writes ∙ ap writes_rows releases in cc
-  | inr returns ↦ let n : true ≡ false = sym writes ∙ ap writes_rows returns in cc
-]
-
-module _ (sql : List ℕ) (params : Row) (command : Command) (writes : writes_rows command ≡ true)
-    (is : command_of (understood store_schema sql) ≡ command) (plain : IsPlain (understood store_schema sql))
-    (whole : IsWhole sql (length params) (understood store_schema sql)) (old new : State) (store : IsStore old) where
-  -- the command came to no end, with this error or for a row that cannot be stored
-  abbrev pub Stops : Error → Type 0
-  Stops e = (stop : Option Error) × Does old.step_limit (mode_of old) params old.now (statement_of sql (understood store_schema sql)) None command (Err stop) × ((stop ≡ Some e) ⊎ (stop ≡ None))
-
-  known : (c : Compiled) → IsStatement old sql params c → Ok c ≡ understood store_schema sql
-  known c it = sym it.is ∙ ap (λ s. understood s sql) store.is
-
-  not_run : (e : Error) → fault_of e ≡ Store → IsNotRun old new sql params e → MayRefuse old new
-  unfolding IsNotRun
-  not_run e told (inl (inl none, same)) = absurd (subst IsPlain (ap (λ s. understood s sql) (sym store.is) ∙ none.1) plain)
-  not_run e told (inl (inr unfit, same)) =
-      let found = ap (λ s. understood s sql) (sym store.is) ∙ unfit.1 in
-      let fits = subst (IsWhole sql (length params)) found whole in
-      elim unfit.2 [
-        | inl more ↦ absurd (more.0 fits.0)
-        | inr (inl count) ↦ absurd (count.0 fits.1)
-        | inr (inr clock) ↦ absurd (clock.0 (subst IsPlain found plain).1)
-      ]
-  not_run e told (inr failed) = without_size old new failed.0 (ap fault_of (sym failed.1) ∙ told) failed.2
-
-  commanded : (c : Compiled) → Ok c ≡ understood store_schema sql → c.command ≡ command → c.returning ≡ None → (e : Error) → fault_of e ≡ Store → RunsCommand old new sql c params (Err e) → MayRefuse old new ⊎ Stops e
-  commanded c found same bare e told (inl (inl misplaced, kept)) = absurd (not_misplaced old c.command e (ap writes_rows same ∙ writes) misplaced)
-  commanded c found same bare e told (inl (inr does, kept)) = inr (Some e, rw (← same, ← ap (statement_of sql) found, ← bare) does.1, inl refl)
-  commanded c found same bare e told (inr failed) = elim (by_cause old new _ failed.0 (ap fault_of (sym failed.1) ∙ told) failed.2) [
-    | inl cause ↦ inl cause
-    | inr big ↦ inr (None, rw (← same, ← ap (statement_of sql) found, ← bare) big, inr refl)
-  ]
-
-  ran : (c : Compiled) (it : IsStatement old sql params c) (e : Error) → fault_of e ≡ Store → RunsAlone false old new sql c (timed params c.formats it.now) (Err e) → MayRefuse old new ⊎ Stops e
-  ran c it e told h =
-      let found = known c it in
-      let bare = subst IsPlain (sym found) plain in
-      let same = ap command_of found ∙ is in
-      let silent : shows_rows false c ≡ false = rw (same, bare.0) (quiet command writes) in
-      commanded c found same bare.0 e told (rw (silent, bare.1, append-nil params) at h)
-
-  pub why_stopped : (e : Error) → fault_of e ≡ Store → ExecutesInside 0 sql params old new (Err e) → MayRefuse old new ⊎ Stops e
-  unfolding ExecutesIn EndsScope
-  why_stopped e told (inl (inl unread, after)) = inl (not_run e told unread)
-  why_stopped e told (inl (inr h, after)) = ran h.0 h.1 e told h.2
-  why_stopped e told (inr late) =
-      let it = late.0 in
-      absurd (not_escaping 0 old it.0.command (ap writes_rows (ap command_of (known it.0 it.1) ∙ is) ∙ writes) it.2)
 
 -- ---- rules that fewer rows keep
 
@@ -256,7 +170,7 @@ module _ (sql : List ℕ) (params : Row) (at : ℕ) (table : Table) (static : Is
 
   pub why_delete_refused : IsReasonedWrite sql params
   why_delete_refused old new (Ok count) store ran = tt
-  why_delete_refused old new (Err e) store ran = λ told. elim (why_stopped sql params (Delete at looks) refl is plain whole old new store e told ran) [
+  why_delete_refused old new (Err e) store ran = λ told. elim (why_stopped store_schema sql params (Delete at looks) refl is plain whole old new store.is e told ran) [
     | inl cause ↦ cause
     | inr stopped ↦ let it = delete_stops old params at table static store (statement_of sql (understood store_schema sql)) looks stopped.0 stopped.1 in unread old new it.0 it.1
   ]

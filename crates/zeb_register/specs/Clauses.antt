@@ -15,6 +15,7 @@ use Rattle.zeb_register.specs.Faults.{fault_of}
 use Rattle.zeb_register.specs.Hindrances.{TakesRegisterRowids, TakesRowids}
 use Rattle.zeb_register.specs.Sql.{KeepsTables}
 use Rattle.zeb_register.specs.Store.{IsStore, Changes, KeepsLists}
+use Rattle.zeb_register.specs.Tables.{no_schema, store_schema}
 
 -- this is said of the tables as they were before the call
 abbrev pub OnStore : State → State → (Trees → Type 0) → Type 0
@@ -129,3 +130,8 @@ DoneUnder schema old new result Done = HasCleanDisk new → IsTrue old.in_transa
 -- an accepted call inside a transaction keeps each table that is there, with its rows
 abbrev pub KeepsAllTables : {A E : Type 0} → State → State → Result A E → Type 0
 KeepsAllTables old new result = HasCleanDisk new → IsTrue old.in_transaction → OnOk result (KeepsTables old.now new.now)
+
+-- on a database without a table, or with just those of a store, a failure of it inside a transaction has a reason
+abbrev pub IsReasonedMaking : {A : Type 0} → State → State → Result A RegFault → Type 0
+IsReasonedMaking old new result =
+    HasCleanDisk new → IsTrue old.in_transaction → (old.now.schema ≡ no_schema) ⊎ (old.now.schema ≡ store_schema) → result ≡ Err Store → MayRefuse old new

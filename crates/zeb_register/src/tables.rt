@@ -7,7 +7,8 @@ ghost use Rattle.zeb_register.specs.Tables.{no_schema, with_meta, with_databases
 ghost use Rattle.zeb_register.specs.PrivateRowStatements.{IsMade};
 ghost use Rattle.zeb_register.specs.Store.{IsEmptyStore};
 ghost use Rattle.zeb_register.specs.Calls.{GoesOn, Inside};
-ghost use Rattle.zeb_register.specs.Clauses.{DoneUnder, KeepsAllTables};
+ghost use Rattle.zeb_register.specs.Clauses.{DoneUnder, IsReasonedMaking, KeepsAllTables};
+ghost use Rattle.zeb_register.specs.PrivateClauses.{IsReasonedMakingError};
 
 use crate::RegFault;
 use sqlite::{Alter, Error, Transaction};
@@ -18,6 +19,7 @@ fn make_meta<S: Alter>(tx: &mut Transaction<'_, S>) -> Result<(), Error>
     ensures there { DoneUnder store_schema (state S.Store tx.old.conn.now) (state S.Store tx.new.conn.now) result IsUnchanged }
     ensures kept { KeepsAllTables (state S.Store tx.old.conn.now) (state S.Store tx.new.conn.now) result }
     ensures call { Inside (state S.Store tx.old.conn.now) (state S.Store tx.new.conn.now) result (λ _. GoesOn) }
+    ensures refused { IsReasonedMakingError (state S.Store tx.old.conn.now) (state S.Store tx.new.conn.now) result }
 {
     tx.execute(
         "CREATE TABLE IF NOT EXISTS meta (name TEXT NOT NULL, value TEXT NOT NULL, PRIMARY KEY (name)) STRICT",
@@ -33,6 +35,7 @@ fn make_databases<S: Alter>(tx: &mut Transaction<'_, S>) -> Result<(), Error>
     ensures there { DoneUnder store_schema (state S.Store tx.old.conn.now) (state S.Store tx.new.conn.now) result IsUnchanged }
     ensures kept { KeepsAllTables (state S.Store tx.old.conn.now) (state S.Store tx.new.conn.now) result }
     ensures call { Inside (state S.Store tx.old.conn.now) (state S.Store tx.new.conn.now) result (λ _. GoesOn) }
+    ensures refused { IsReasonedMakingError (state S.Store tx.old.conn.now) (state S.Store tx.new.conn.now) result }
 {
     make_meta(tx)?;
     tx.execute(
@@ -49,6 +52,7 @@ fn make_records<S: Alter>(tx: &mut Transaction<'_, S>) -> Result<(), Error>
     ensures there { DoneUnder store_schema (state S.Store tx.old.conn.now) (state S.Store tx.new.conn.now) result IsUnchanged }
     ensures kept { KeepsAllTables (state S.Store tx.old.conn.now) (state S.Store tx.new.conn.now) result }
     ensures call { Inside (state S.Store tx.old.conn.now) (state S.Store tx.new.conn.now) result (λ _. GoesOn) }
+    ensures refused { IsReasonedMakingError (state S.Store tx.old.conn.now) (state S.Store tx.new.conn.now) result }
 {
     make_databases(tx)?;
     tx.execute(
@@ -65,6 +69,7 @@ fn make_postings<S: Alter>(tx: &mut Transaction<'_, S>) -> Result<(), Error>
     ensures there { DoneUnder store_schema (state S.Store tx.old.conn.now) (state S.Store tx.new.conn.now) result IsUnchanged }
     ensures kept { KeepsAllTables (state S.Store tx.old.conn.now) (state S.Store tx.new.conn.now) result }
     ensures call { Inside (state S.Store tx.old.conn.now) (state S.Store tx.new.conn.now) result (λ _. GoesOn) }
+    ensures refused { IsReasonedMakingError (state S.Store tx.old.conn.now) (state S.Store tx.new.conn.now) result }
 {
     make_records(tx)?;
     tx.execute(
@@ -81,6 +86,7 @@ fn make_blocks<S: Alter>(tx: &mut Transaction<'_, S>) -> Result<(), Error>
     ensures there { DoneUnder store_schema (state S.Store tx.old.conn.now) (state S.Store tx.new.conn.now) result IsUnchanged }
     ensures kept { KeepsAllTables (state S.Store tx.old.conn.now) (state S.Store tx.new.conn.now) result }
     ensures call { Inside (state S.Store tx.old.conn.now) (state S.Store tx.new.conn.now) result (λ _. GoesOn) }
+    ensures refused { IsReasonedMakingError (state S.Store tx.old.conn.now) (state S.Store tx.new.conn.now) result }
 {
     make_postings(tx)?;
     tx.execute(
@@ -97,6 +103,7 @@ fn make_dict<S: Alter>(tx: &mut Transaction<'_, S>) -> Result<(), Error>
     ensures there { DoneUnder store_schema (state S.Store tx.old.conn.now) (state S.Store tx.new.conn.now) result IsUnchanged }
     ensures kept { KeepsAllTables (state S.Store tx.old.conn.now) (state S.Store tx.new.conn.now) result }
     ensures call { Inside (state S.Store tx.old.conn.now) (state S.Store tx.new.conn.now) result (λ _. GoesOn) }
+    ensures refused { IsReasonedMakingError (state S.Store tx.old.conn.now) (state S.Store tx.new.conn.now) result }
 {
     make_blocks(tx)?;
     tx.execute(
@@ -108,13 +115,15 @@ fn make_dict<S: Alter>(tx: &mut Transaction<'_, S>) -> Result<(), Error>
 
 /// Makes the tables that are absent. No row of a table that is there changes.
 ///
-/// `Store` also where a table of one of these names is there with other columns that the statement doesn't fit.
+/// `Store` also where a table of one of these names is there with other columns that the statement doesn't fit. Where no table
+/// is there, or just the six, `Store` has a cause.
 pub fn make_tables<S: Alter>(tx: &mut Transaction<'_, S>) -> Result<(), RegFault>
     ensures same { tx.new.conn.ghost_name ≡ tx.old.conn.ghost_name }
     ensures made { DoneUnder no_schema (state S.Store tx.old.conn.now) (state S.Store tx.new.conn.now) result (λ _ b. IsEmptyStore b) }
     ensures there { DoneUnder store_schema (state S.Store tx.old.conn.now) (state S.Store tx.new.conn.now) result IsUnchanged }
     ensures kept { KeepsAllTables (state S.Store tx.old.conn.now) (state S.Store tx.new.conn.now) result }
     ensures call { Inside (state S.Store tx.old.conn.now) (state S.Store tx.new.conn.now) result (λ _. GoesOn) }
+    ensures refused { IsReasonedMaking (state S.Store tx.old.conn.now) (state S.Store tx.new.conn.now) result }
     ensures honest { result ≢ Err RegFault.Damaged }
 {
     make_dict(tx)?;

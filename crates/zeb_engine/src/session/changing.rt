@@ -109,7 +109,8 @@ impl<S: Alter, L: Layout> Session<S, L> {
             → ChangesInRoom L.format self.old.profile kind texts Always
             (state S.Store self.old.connection) (state S.Store self.new.connection) result }
         // Whatever rows the tables of a ready register have: what is kept under the first record's identifier is whole, or the change is
-        // refused as damage or by a failure.
+        // refused as damage or by a failure; and where the change is accepted, so is what is kept under each record's identifier, with a
+        // number up to the database's last one.
         ensures elder { HasCleanDisk (state S.Store self.new.connection) → (texts : List (List ℕ))
             → map R.remaining readers.old ≡ map Some texts → NoneFailed R.has_failed readers.new
             → ChangesReady (version_of L.format) self.old.profile (name_bytes database.now) texts

@@ -22,8 +22,9 @@ use Rattle.zeb_change.proofs.FoldRoom.{NextRoom, next_room}
 use Rattle.zeb_change.proofs.RecordRoom.{not_refused, refused_for, room_enough}
 use Rattle.zeb_register.specs.Store.{IsStore}
 use Rattle.zeb_change.specs.declared.files.Fold.{Fold}
-use Rattle.zeb_change.specs.Elders.{FindsWhole}
-use Rattle.zeb_change.proofs.ElderSteps.{fault_read, file_finds, first_read, found_same, none_read}
+use Rattle.zeb_change.specs.Elders.{FindsWhole, IsWholeBefore}
+use Rattle.zeb_change.proofs.ElderSteps.{all_read, fault_read, file_finds, first_read, found_same, none_read, one_more, passes_more, record_before}
+use Rattle.zeb_change.proofs.KeptStill.{passes_seen}
 use Rattle.zeb_change.proofs.files.fold_file.Given as given
 use Rattle.zeb_change.proofs.files.fold_file.Goals.{After-take_record}
 use Rattle.zeb_change.proofs.files.fold_file.Goals as goal
@@ -37,6 +38,10 @@ loop-nth-init g c = record {
   no_work = λ none. refl;
   room = λ clean mode text told records_of some most places rowids asks spare more has. record { left = text; remains = told; places = places; rowids = rowids; asks = asks; room = has };
   elder = λ clean mode store below text told. inl (store, refl, refl, told);
+  passes = λ clean mode store. (
+    passes_seen c.args.setting.now.profile.now c.args.fold.now.progress.database.0 c.args.fold.now.progress.last (state g.S.Store c.args.tx.now.conn.now) (state g.S.Store c.args.tx.now.conn.now) store refl,
+    λ text told. (text, told, λ slice there. inl there),
+  );
   under = λ clean mode text told version records_of p stands under_way. (
     before_first g.L.Layout.format (conditions_of version c.args.setting.now) c.args.setting.now.kind c.args.file c.args.fold.now.progress.database.0 records_of text
         (g.R.Source.remaining c.args.reader.now) (standing (state g.S.Store c.args.tx.now.conn.now) c.args.pending.now) c.args.fold.now p told stands under_way,
@@ -225,6 +230,19 @@ loop-nth-preserved g c =
                 (record_read g (goal.at.loop-nth-preserved g c).After-take_record text begun.3) took)
             | inr found ↦ found
           ]);
+      passes = λ clean mode store.
+          let was : HasCleanDisk now.tables = omega (arith, c.take_record.ensures.inside.crash.clean) in
+          let same = same_id c.loop-nth.invariant.on in
+          let so_far = c.loop-nth.invariant.passes was mode store in
+          let took = c.in_ok-take_record.ensures.passes clean (c.loop-nth.invariant.on.stays was mode).mode so_far.0.store in
+          let found = subst (IsWholeBefore setting.profile.now c.args.fold.now.progress.last old.tables.now.trees id) c.bytes.ensures
+          (record_before setting.profile.now old.tables now.tables c.args.fold.now c.loop-nth.fold same so_far.0 c.bytes.result.now took.1) in (
+            passes_more setting.profile.now old.tables now.tables c.args.fold.now c.loop-nth.fold same so_far.0 next.tables c.take_record.new.fold took.0,
+            λ text told.
+                let read = so_far.1 text told in
+                one_more _ c.args.file c.loop-nth.nth c.read_record.new.buffer (g.R.Source.remaining c.read_record.new.reader) (g.R.Source.remaining c.loop-nth.reader) text read
+                (record_read g (goal.at.loop-nth-preserved g c).After-take_record read.0 read.1) found,
+          );
     }
 
 pub returns-then-not-branch-clause-work : goal.returns-then-not-branch-clause-work
@@ -291,3 +309,17 @@ returns-in_err-take_record-clause-elder g c clean mode store below text told fin
           (subst (λ (r : Result (Unit {0}) Refusal). FindsWhole profile trees id c.read_record.new.buffer r) same (first_found g at clean mode below text begun))
       | inr found ↦ file_finds profile trees id c.from_residual-in_err-take_record.result (split_of text).slices found
     ]
+
+-- ---- what each record finds kept under its identifier
+
+pub returns-then-not-branch-clause-passes : goal.returns-then-not-branch-clause-passes
+returns-then-not-branch-clause-passes g c clean mode store =
+    let none : c.in_ok-read_record.field-0 ≡ false = search rules in
+    let fine : g.R.Source.has_failed c.read_record.new.reader ≡ false = sound (g.R.Source.has_failed c.read_record.new.reader) (λ failed. let no = c.in_ok-read_record.ensures.failed failed in absurd (cc)) in
+    let so_far = c.loop-nth.invariant.passes clean mode store in (
+      so_far.0,
+      λ text told.
+          let read = so_far.1 text told in
+          all_read _ c.args.file c.loop-nth.nth c.read_record.new.buffer (g.R.Source.remaining c.read_record.new.reader) (g.R.Source.remaining c.loop-nth.reader) text read
+          (subst (λ b. ReadsNext c.args.file c.loop-nth.nth (next_of read.0) (Ok b) c.read_record.new.buffer (g.R.Source.remaining c.read_record.new.reader)) none (c.in_ok-read_record.ensures.told read.0 read.1 fine)),
+    )

@@ -11,7 +11,9 @@ use Rattle.zeb_change.proofs.FoldsOn.{FoldsOn}
 use Rattle.zeb_change.proofs.FoldCosts.{Spent}
 use Rattle.zeb_change.specs.Asked.{AskSlices}
 use Rattle.zeb_register.specs.Store.{IsStore}
-use Rattle.zeb_change.proofs.ElderSteps.{FileBegun}
+use Rattle.zeb_change.specs.Elders.{IsWholeBefore}
+use Rattle.zeb_change.specs.PrivateElders.{PassesOn}
+use Rattle.zeb_change.proofs.ElderSteps.{FileBegun, FileRead}
 use Rattle.zeb_change.proofs.FoldFiles.{Under}
 use Rattle.zeb_change.proofs.FoldRoom.{FileRoom, LeavesRoom}
 use Rattle.zeb_change.proofs.files.fold_file.Given as goal
@@ -37,4 +39,8 @@ invariant-loop-nth g l =
       elder : HasCleanDisk now.tables → IsTrue old.tables.in_transaction → IsStore old.tables → l.fn.fold.tally.records < l.setting.limits.records
           → (text : List ℕ) → g.R.Source.remaining l.fn.reader ≡ Some text
           → FileBegun l.setting.profile.now old.tables now.tables l.fn.fold l.fold (g.R.Source.remaining l.reader) text;
+      passes : HasCleanDisk now.tables → IsTrue old.tables.in_transaction → IsStore old.tables
+          → PassesOn l.setting.profile.now l.fn.fold.progress.database.0 l.fn.fold.progress.last l.fold.progress.last old.tables now.tables
+          × ((text : List ℕ) → g.R.Source.remaining l.fn.reader ≡ Some text
+          → FileRead (IsWholeBefore l.setting.profile.now l.fn.fold.progress.last old.tables.now.trees l.fn.fold.progress.database.0) (g.R.Source.remaining l.reader) text);
     }

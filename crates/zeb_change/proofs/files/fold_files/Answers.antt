@@ -206,3 +206,8 @@ pub returns-clause-elder : goal.returns-clause-elder
 returns-clause-elder g c clean mode store below texts told fine =
     let was : HasCleanDisk (state g.S.Store c.fold_readers.new.tx.conn.now) = omega (arith, c.write_pending.ensures.call.crash.clean) in
     c.in_ok-fold_readers.ensures.elder was mode store below texts told fine
+
+pub returns-clause-elders : goal.returns-clause-elders
+returns-clause-elders g c clean mode store texts told =
+    let was : HasCleanDisk (state g.S.Store c.fold_readers.new.tx.conn.now) = omega (arith, c.write_pending.ensures.call.crash.clean) in
+    c.in_ok-fold_readers.ensures.elders was mode store texts told

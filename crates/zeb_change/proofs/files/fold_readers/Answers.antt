@@ -24,7 +24,8 @@ use Rattle.zeb_change.proofs.RecordRoom.{not_refused, refused_for, room_enough}
 use Rattle.zeb_register.specs.Store.{IsStore}
 use Rattle.zeb_change.specs.declared.files.Fold.{Fold}
 use Rattle.zeb_change.specs.Elders.{FindsWhole, OfFirst}
-use Rattle.zeb_change.proofs.ElderSteps.{file_same, files_find, fine_set, first_file, no_files}
+use Rattle.zeb_change.proofs.ElderSteps.{file_more, file_same, files_find, files_read, fine_set, first_file, no_files, passes_more, records_before}
+use Rattle.zeb_change.proofs.KeptStill.{passes_seen}
 use Rattle.zeb_change.proofs.files.fold_readers.Given as given
 use Rattle.zeb_change.proofs.files.fold_readers.Goals.{After-fold_file}
 use Rattle.zeb_change.proofs.files.fold_readers.Goals as goal
@@ -39,6 +40,10 @@ loop-index-init g c = record {
   no_work = λ none. refl;
   room = λ clean mode texts told records_of some most places rowids asks spare more has. record { places = places; rowids = rowids; asks = asks; room = has };
   elder = λ clean mode store below texts told. inl (store, refl, refl, refl);
+  passes = λ clean mode store. (
+    passes_seen c.args.setting.now.profile.now c.args.fold.now.progress.database.0 c.args.fold.now.progress.last (state g.S.Store c.args.tx.now.conn.now) (state g.S.Store c.args.tx.now.conn.now) store refl,
+    λ texts told split there. inl there,
+  );
   over = λ clean mode texts told version records_of p stands under_way. (
     before_files g.L.Layout.format (conditions_of version c.args.setting.now) c.args.setting.now.kind texts c.args.fold.now.progress.database.0 records_of (standing (state g.S.Store c.args.tx.now.conn.now) c.args.pending.now) c.args.fold.now p stands under_way,
     none_spent g.L.Layout.row_work (IsFilesCost (conditions_of version c.args.setting.now) c.args.setting.now.kind 1 (splits_of texts) p) c.args.fold.now.progress.work c.args.pending.now,
@@ -215,6 +220,17 @@ loop-index-preserved g c =
                 (first_found g at clean mode below begun.0 begun.1 begun.2 text.0 text.1 fine))
             | inr found ↦ found
           ]);
+      passes = λ clean mode store.
+          let was : HasCleanDisk now.tables = omega (arith, c.fold_file.ensures.inside.crash.clean) in
+          let same = same_id c.loop-index.invariant.on in
+          let so_far = c.loop-index.invariant.passes was mode store in
+          let took = c.in_ok-fold_file.ensures.passes clean (c.loop-index.invariant.on.stays was mode).mode so_far.0.store in (
+            passes_more setting.profile.now old.tables now.tables c.args.fold.now c.loop-index.fold same so_far.0 next.tables c.fold_file.new.fold took.0,
+            λ texts told.
+                let text = text_here g (goal.at.loop-index-preserved g c).After-fold_file texts told in
+                file_more _ index texts (so_far.1 texts told) text.0 text.2
+                (records_before setting.profile.now old.tables now.tables c.args.fold.now c.loop-index.fold same so_far.0 (split_of text.0).slices (took.1 text.0 text.1)),
+          );
     }
 
 pub returns-clause-failed : goal.returns-clause-failed
@@ -291,3 +307,11 @@ returns-in_err-fold_file-clause-elder g c clean mode store below texts told fine
           (first_found g at clean mode below begun.0 begun.1 begun.2 text.0 text.1 sound_one))
       | inr found ↦ files_find profile trees id c.from_residual.result (splits_of texts) found
     ]
+
+-- ---- what each record finds kept under its identifier
+
+pub returns-clause-elders : goal.returns-clause-elders
+returns-clause-elders g c clean mode store texts told =
+    let many = as_many g.R.Source.remaining c.args.readers.now texts told in
+    let none : length texts ≤ c.loop-index.index = omega (arith, c.loop-index-test.false, c.loop-index.auto.readers, many) in
+    files_read _ c.loop-index.index texts ((c.loop-index.invariant.passes clean mode store).1 texts told) none

@@ -8,7 +8,9 @@ use Rattle.zeb_change.specs.UnderWay.{StandsFor, conditions_of}
 use Rattle.zeb_change.specs.Costs.{IsFilesCost}
 use Rattle.zeb_change.specs.Asked.{AskFiles}
 use Rattle.zeb_register.specs.Store.{IsStore}
-use Rattle.zeb_change.proofs.ElderSteps.{FilesBegun}
+use Rattle.zeb_change.specs.Elders.{AreWholeBefore}
+use Rattle.zeb_change.specs.PrivateElders.{PassesOn}
+use Rattle.zeb_change.proofs.ElderSteps.{FilesBegun, FilesRead}
 use Rattle.zeb_change.proofs.FoldAll.{Over}
 use Rattle.zeb_change.proofs.FoldRoom.{FilesRoom, LeavesRoom}
 use Rattle.zeb_change.proofs.FoldsOn.{FoldsOn}
@@ -36,4 +38,8 @@ invariant-loop-index g l =
       elder : HasCleanDisk now.tables → IsTrue old.tables.in_transaction → IsStore old.tables → l.fn.fold.tally.records < l.setting.limits.records
           → (texts : List (List ℕ)) → map g.R.Source.remaining l.fn.readers ≡ map Some texts
           → FilesBegun l.setting.profile.now old.tables now.tables l.fn.fold l.fold l.index (splits_of texts);
+      passes : HasCleanDisk now.tables → IsTrue old.tables.in_transaction → IsStore old.tables
+          → PassesOn l.setting.profile.now l.fn.fold.progress.database.0 l.fn.fold.progress.last l.fold.progress.last old.tables now.tables
+          × ((texts : List (List ℕ)) → map g.R.Source.remaining l.fn.readers ≡ map Some texts
+          → FilesRead (λ split. AreWholeBefore l.setting.profile.now l.fn.fold.progress.last old.tables.now.trees l.fn.fold.progress.database.0 split.slices) l.index texts);
     }

@@ -20,6 +20,7 @@ use Rattle.zeb_change.proofs.TransactionLemmas.{continues_then}
 use Rattle.zeb_change.specs.declared.refusals.Refusal.{Refusal}
 use Rattle.zeb_change.specs.Elders.{FindsWhole}
 use Rattle.zeb_change.proofs.Elders.{is_so}
+use Rattle.zeb_change.proofs.KeptStill.{passes_same, passes_then}
 use Rattle.zeb_change.proofs.files.take_record.Given as given
 use Rattle.zeb_change.proofs.files.take_record.Goals.{After-write_where_full}
 use Rattle.zeb_change.proofs.files.take_record.Goals as goal
@@ -173,3 +174,19 @@ pub returns-clause-elder : goal.returns-clause-elder
 returns-clause-elder g c clean mode store below =
     let was : HasCleanDisk (state g.S.Store c.note_record.new.tx.conn.now) = omega (arith, c.write_where_full.ensures.call.crash.clean) in
     c.in_ok-note_record.ensures.elder was mode store below
+
+-- ---- what is kept still
+
+pub returns-clause-passes : goal.returns-clause-passes
+returns-clause-passes g c clean mode store =
+    let profile = c.args.setting.now.profile.now in
+    let id = c.args.fold.now.progress.database.0 in
+    let first = c.args.fold.now.progress.last in
+    let last = c.note_record.new.fold.progress.last in
+    let old = state g.S.Store c.args.tx.now.conn.now in
+    let mid = state g.S.Store c.note_record.new.tx.conn.now in
+    let new = state g.S.Store c.write_where_full.new.tx.conn.now in
+    let was : HasCleanDisk mid = omega (arith, c.write_where_full.ensures.call.crash.clean) in
+    let took = c.in_ok-note_record.ensures.passes was mode store in
+    let writes = c.in_ok-write_where_full.ensures.call.written clean (c.in_ok-note_record.ensures.inside.stays was mode).mode took.0.store in
+    (passes_then profile id first last old mid took.0 last new (passes_same profile id last mid new writes.0 writes.1.2), took.1)

@@ -38,7 +38,13 @@ use Rattle.zeb_change.proofs.UnderWay.{fault_fails, same_way}
 use Rattle.zeb_register.specs.Store.{IsStore}
 use Rattle.zeb_change.specs.declared.refusals.Refusal.TheVariants.{Memory, Unknown}
 use Rattle.zeb_change.specs.Elders.{KeepsWhole}
+use Rattle.zeb_change.specs.PrivateElders.{KeepsOtherRecords, PassesOn}
 use Rattle.zeb_change.proofs.Elders.{alike_whole, by_name, failed_so, fault_so, kept_numbered, never_refused, no_base, so_undamaged}
+use Rattle.sqlite.specs.Effect.{Database}
+use Rattle.sqlite.specs.State.{State}
+use Rattle.zeb_register.specs.Kept.{IsElderOf}
+use Rattle.zeb_register.proofs.Calls.{store_same}
+use Rattle.zeb_change.proofs.KeptStill.{keeps_from, passes_by, passes_seen}
 use Rattle.zeb_change.proofs.records.change_record.Given as given
 use Rattle.zeb_change.proofs.records.change_record.Goals.{In_ok-elder}
 use Rattle.zeb_change.proofs.records.change_record.Goals as goal
@@ -399,3 +405,55 @@ returns-in-Delete-None-clause-elder g c clean mode store ident whole named_so =
 pub returns-clause-elder : goal.returns-clause-elder
 returns-clause-elder g c clean mode store ident whole named_so =
     goes_by g (goal.at.returns-clause-elder g c).In_ok-elder clean mode store ident named_so None c.in-Adelete-None.is-1 (Ok PassedOver) (so_undamaged (Unit {0}) _ tt (λ is. cc))
+
+-- ---- what is kept still, whatever the tables' rows are
+
+-- the record that goes by its elder
+passes_on : (g : given.Over) (c : In_ok-elder g) → HasCleanDisk (state g.S.Store c.record_of_ident.new.tx.conn.now) → IsTrue (state g.S.Store c.args.tx.now.conn.now).in_transaction
+    → IsStore (state g.S.Store c.args.tx.now.conn.now) → (found : Option Elder) → c.in_ok-elder.elder ≡ found → (result : Result Fate Refusal)
+    → GoesBy (IsWholeElder c.args.setting.now.profile.now c.as_str-ident.result.now found) result → (after : ℕ) (new : State)
+    → (IsTrue (state g.S.Store c.record_of_ident.new.tx.conn.now).in_transaction → IsStore (state g.S.Store c.record_of_ident.new.tx.conn.now)
+    → IsElderOf (state g.S.Store c.record_of_ident.new.tx.conn.now).now.trees c.args.progress.now.database.0 c.as_str-ident.result.now found
+    → OnOk result (KeepsOtherRecords c.args.progress.now.database.0 c.as_str-ident.result.now c.args.progress.now.last after (state g.S.Store c.record_of_ident.new.tx.conn.now) new))
+    → OnOk result (PassesOn c.args.setting.now.profile.now c.args.progress.now.database.0 c.args.progress.now.last after (state g.S.Store c.args.tx.now.conn.now) new)
+passes_on g c clean mode store found is result goes after new others =
+    let old = state g.S.Store c.args.tx.now.conn.now in
+    let mid = state g.S.Store c.record_of_ident.new.tx.conn.now in
+    let profile = c.args.setting.now.profile.now in
+    let db = c.args.progress.now.database.0 in
+    let last = c.args.progress.now.last in
+    let ident = c.as_str-ident.result.now in
+    let reads = c.in_ok-elder.ensures.call.ok clean mode in
+    let there = subst (λ (e : Option Elder). IsElderOf old.now.trees db ident e) is (c.in_ok-elder.ensures.value clean mode store) in
+    let there_still = subst (λ (d : Database). IsElderOf d.trees db ident found) (sym reads.now_is) there in
+    passes_by profile db ident last after old new result (goes_by g c clean mode store ident (named g c) found is result goes).0
+    (keeps_from db ident last after old mid new result reads.now_is (others reads.mode (store_same old mid reads.now_is store) there_still))
+
+-- nothing becomes of it
+passes_over : (g : given.Over) (c : In_ok-elder g) → HasCleanDisk (state g.S.Store c.record_of_ident.new.tx.conn.now) → IsTrue (state g.S.Store c.args.tx.now.conn.now).in_transaction
+    → IsStore (state g.S.Store c.args.tx.now.conn.now)
+    → PassesOn c.args.setting.now.profile.now c.args.progress.now.database.0 c.args.progress.now.last c.args.progress.now.last (state g.S.Store c.args.tx.now.conn.now) (state g.S.Store c.record_of_ident.new.tx.conn.now)
+passes_over g c clean mode store =
+    passes_seen c.args.setting.now.profile.now c.args.progress.now.database.0 c.args.progress.now.last (state g.S.Store c.args.tx.now.conn.now) (state g.S.Store c.record_of_ident.new.tx.conn.now) store
+    (c.in_ok-elder.ensures.call.ok clean mode).now_is
+
+pub returns-then-has_bytes-clause-passes : goal.returns-then-has_bytes-clause-passes
+returns-then-has_bytes-clause-passes g c clean mode store = passes_over g (goal.at.returns-then-has_bytes-clause-passes g c).In_ok-elder clean mode store
+
+pub returns-clause-passes : goal.returns-clause-passes
+returns-clause-passes g c clean mode store = passes_over g (goal.at.returns-clause-passes g c).In_ok-elder clean mode store
+
+pub returns-in-Update-default-clause-passes : goal.returns-in-Update-default-clause-passes
+returns-in-Update-default-clause-passes g c clean mode store =
+    passes_on g (goal.at.returns-in-Update-default-clause-passes g c).In_ok-elder (omega (arith, c.keep.ensures.inside.crash.clean)) mode store c.in_ok-elder.elder refl c.keep.result c.keep.ensures.elder
+    c.keep.new.progress.last (state g.S.Store c.keep.new.tx.conn.now) (c.keep.ensures.others clean)
+
+pub returns-in-Delete-Some-clause-passes : goal.returns-in-Delete-Some-clause-passes
+returns-in-Delete-Some-clause-passes g c clean mode store =
+    passes_on g (goal.at.returns-in-Delete-Some-clause-passes g c).In_ok-elder (omega (arith, c.withdraw.ensures.inside.crash.clean)) mode store (Some c.in-Delete-Some.elder) c.in-Delete-Some.is-1 c.withdraw.result c.withdraw.ensures.elder
+    c.args.progress.now.last (state g.S.Store c.withdraw.new.tx.conn.now) (c.withdraw.ensures.others clean)
+
+pub returns-in-Adelete-Some-clause-passes : goal.returns-in-Adelete-Some-clause-passes
+returns-in-Adelete-Some-clause-passes g c clean mode store =
+    passes_on g (goal.at.returns-in-Adelete-Some-clause-passes g c).In_ok-elder (omega (arith, c.withdraw-in-Adelete-Some.ensures.inside.crash.clean)) mode store (Some c.in-Adelete-Some.elder) c.in-Adelete-Some.is-1
+    c.withdraw-in-Adelete-Some.result c.withdraw-in-Adelete-Some.ensures.elder c.args.progress.now.last (state g.S.Store c.withdraw-in-Adelete-Some.new.tx.conn.now) (c.withdraw-in-Adelete-Some.ensures.others clean)

@@ -9,6 +9,7 @@ use Rattle.zeb_change.proofs.TurnLemmas.{none_rise, inserted}
 use Rattle.zeb_change.proofs.CostLemmas.{new_cost}
 use Rattle.zeb_change.proofs.RecordRoom.{newer_few, newer_fits, newer_storable, only_store, put_served, refused_for, room_after}
 use Rattle.zeb_change.proofs.UnderWay.{registers_still}
+use Rattle.zeb_change.proofs.KeptStill.{none_owns, put_keeps}
 use Rattle.zeb_change.proofs.records.insert.Goals as goal
 use Rattle.zeb_register.proofs.FormatLemmas.{registers_stay}
 
@@ -68,3 +69,14 @@ returns-clause-room g c clean mode is format records_of base under none most pla
           (registers_still old mid _ ((c.in_ok-record_put.ensures.call.ok clean mode).rows under.0)) (c.in_ok-record_put.ensures.rowids clean mode under.0) (omega (arith, asks.put))
           (newer_few profile most newer.bytes.now places rowids asks c.deref.result.now are.found) noted,
     )
+
+-- ---- what is kept under other identifiers, whatever the tables' rows are
+
+pub returns-clause-others : goal.returns-clause-others
+returns-clause-others g c clean mode store =
+    let db = c.args.progress.now.database.0 in
+    let last = c.args.progress.now.last in
+    let newer = c.args.newer.now in
+    let old = state g.S.Store c.args.tx.now.conn.now in
+    put_keeps db newer.ident.now (last + 1) last (last + 1) (omega arith) old (state g.S.Store c.record_put.new.tx.conn.now) (none_owns old.now.trees db newer.ident.now last) newer.bytes.now
+    ((c.in_ok-record_put.ensures.call.ok clean mode).rows store)

@@ -1,5 +1,7 @@
 use Rattle.std.proofs.Common.{Option, Some, OnOk, sym, subst}
+use Rattle.sqlite.specs.Held.{state}
 use Rattle.zeb_register.specs.declared.kept.Elder.{Elder}
+use Rattle.zeb_register.specs.Kept.{IsElderOf}
 use Rattle.zeb_change.specs.PrivateRecords.{GoesBy, IsElderAs, IsWholeElder, NotesAs, elder_bytes}
 use Rattle.zeb_change.proofs.Elders.{so_undamaged}
 use Rattle.zeb_change.proofs.records.keep.Goals as goal
@@ -38,3 +40,11 @@ pub returns-in-None-clause-elder : goal.returns-in-None-clause-elder
 returns-in-None-clause-elder g c =
     subst (λ (found : Option Elder). GoesBy (IsWholeElder c.args.setting.now.profile.now c.args.newer.now.ident.now found) c.insert.result) (sym c.in-None.is)
     (so_undamaged (Unit {0}) c.insert.result tt c.insert.ensures.honest)
+
+pub returns-in-Some-clause-others : goal.returns-in-Some-clause-others
+returns-in-Some-clause-others g c clean mode store is =
+    c.replace.ensures.others clean mode store
+    (subst (λ (found : Option Elder). IsElderOf (state g.S.Store c.args.tx.now.conn.now).now.trees c.args.progress.now.database.0 c.args.newer.now.ident.now found) c.in-Some.is is)
+
+pub returns-in-None-clause-others : goal.returns-in-None-clause-others
+returns-in-None-clause-others g c clean mode store is = c.insert.ensures.others clean mode store

@@ -14,6 +14,7 @@ use Rattle.zeb_change.proofs.RecordRoom.{elder_numbered, found_fits, newer_few, 
 use Rattle.zeb_change.proofs.UnderWay.{registers_still}
 use Rattle.zeb_change.specs.declared.refusals.Refusal.TheVariants.{Memory}
 use Rattle.zeb_change.proofs.Elders.{error_so, failed_so, fault_so}
+use Rattle.zeb_change.proofs.KeptStill.{elder_owns, put_keeps}
 use Rattle.zeb_change.proofs.records.replace.Goals as goal
 use Rattle.zeb_register.proofs.FormatLemmas.{registers_stay}
 
@@ -115,3 +116,15 @@ returns-in_err-note_keys-clause-elder g c =
 
 pub returns-clause-elder : goal.returns-clause-elder
 returns-clause-elder g c = (c.in_ok-old.ensures.elder.0, λ is. absurd (cc))
+
+-- ---- what is kept under other identifiers, whatever the tables' rows are
+
+pub returns-clause-others : goal.returns-clause-others
+returns-clause-others g c clean mode store is =
+    let db = c.args.progress.now.database.0 in
+    let last = c.args.progress.now.last in
+    let newer = c.args.newer.now in
+    let elder = c.args.elder.now in
+    let old = state g.S.Store c.args.tx.now.conn.now in
+    put_keeps db newer.ident.now elder.sysno last last (omega arith) old (state g.S.Store c.record_put.new.tx.conn.now) (elder_owns old store db newer.ident.now elder is last) newer.bytes.now
+    ((c.in_ok-record_put.ensures.call.ok clean mode).rows store)

@@ -1,11 +1,12 @@
-use Rattle.std.proofs.Common.{rules, arith, ◌≡◌, ◌∙◌, ◌≤◌, ◌<◌, length, inr, pos, Result, Ok, Err, inl, refl, sym, ap, subst}
+use Rattle.std.proofs.Common.{rules, arith, ◌≡◌, ◌∙◌, ◌≤◌, ◌<◌, ℕ, length, inr, pos, Result, Ok, Err, inl, refl, sym, ap, subst, subst₂}
 use Rattle.sqlite.specs.Held.{state}
 use Rattle.sqlite.specs.State.{HasCleanDisk, KeepsCommit}
 use Rattle.zeb_register.specs.Catalog.{PutsDatabase}
 use Rattle.zeb_register.specs.Store.{Changes, databases_tree}
 use Rattle.zeb_change.specs.declared.refusals.Refusal.{Refusal}
 use Rattle.zeb_change.specs.declared.refusals.Refusal.TheVariants.{ReadFault, Store}
-use Rattle.zeb_change.specs.Folding.{at_first, Progress}
+use Rattle.zeb_change.specs.Elders.{AllFindWhole}
+use Rattle.zeb_change.specs.Folding.{at_first, Progress, splits_of}
 use Rattle.zeb_change.specs.Outcomes.{register_refusal}
 use Rattle.zeb_change.specs.UnderWay.{IsFolded}
 use Rattle.zeb_change.proofs.TransactionLemmas.{kept_then, goes_on}
@@ -13,7 +14,7 @@ use Rattle.zeb_change.proofs.UnderWay.{fault_fails}
 use Rattle.zeb_image.specs.NameOf.{name_bytes}
 use Rattle.zeb_engine.specs.declared.replies.Reply.{Reply}
 use Rattle.zeb_engine.specs.declared.replies.Reply.TheVariants as reply
-use Rattle.zeb_engine.specs.PrivateChanging.{MayBegin, comes_to}
+use Rattle.zeb_engine.specs.PrivateChanging.{MayBegin, comes_to, last_of}
 use Rattle.zeb_engine.specs.PrivateWorks.{ReachesOutcome}
 use Rattle.zeb_engine.proofs.ChangeWay.{change_begun, change_done, change_led, change_refused, change_way, under_change}
 use Rattle.zeb_engine.proofs.NoDamageAnswered.{failure_honest}
@@ -22,7 +23,7 @@ use Rattle.zeb_register.proofs.Causes.{may_after}
 use Rattle.zeb_register.proofs.TakenRowids.{has_less}
 use Rattle.zeb_change.specs.UnderWay.{conditions_of}
 use Rattle.zeb_change.proofs.RecordRoom.{not_refused, one_refusal, only_store, rowids_same}
-use Rattle.zeb_engine.proofs.ChangeElders.{few_elder, put_elder}
+use Rattle.zeb_engine.proofs.ChangeElders.{few_elder, put_elder, put_elders}
 use Rattle.zeb_engine.proofs.ChangeRoom.{begin_below, room_behind, row_served}
 use Rattle.zeb_engine.proofs.OverTables.{fault_few}
 use Rattle.zeb_engine.proofs.changes.apply.Goals as goal
@@ -293,3 +294,21 @@ returns-clause-elder g c clean inside store texts told fine =
     let some : 0 < change.setting.limits.records = omega (arith, change.setting.limits.some_record) in
     let found = c.in_ok-fold_files.ensures.elder second on.mode put.layout (subst (λ n. n < change.setting.limits.records) (sym c.new.ensures.0) some) texts told fine in
     put_elder change.setting.profile.now name texts {T = Reply} old mid id (pos c.last-last.result) (Ok c.changed.result) put found
+
+-- ---- what is kept under each record's identifier
+
+pub returns-clause-elders : goal.returns-clause-elders
+returns-clause-elders g c clean inside store found texts told =
+    let old = state g.S.Store c.args.tx.now.conn.now in
+    let mid = state g.S.Store c.database_put.new.tx.conn.now in
+    let change = c.args.change.now in
+    let profile = change.setting.profile.now in
+    let name = name_bytes change.name.now in
+    let id = c.in_ok-database.database.0 in
+    let last = last_of change.found in
+    let second : HasCleanDisk (state g.S.Store c.fold_files.new.tx.conn.now) = omega (arith, c.database_put-2.ensures.call.crash.clean) in
+    let first : HasCleanDisk mid = omega (arith, c.fold_files.ensures.crash.clean) in
+    let on = c.in_ok-database.ensures.call.ok first inside in
+    let put = subst₂ (λ n l. Changes databases_tree (PutsDatabase id n (pos l)) old mid) c.as_str-name.ensures c.last-last.ensures (c.in_ok-database.ensures.put first inside store) in
+    let whole = subst (λ (l : ℕ). AllFindWhole profile l mid.now.trees id (splits_of texts)) c.last-last.ensures (c.in_ok-fold_files.ensures.elders second on.mode put.layout texts told) in
+    put_elders profile name texts {T = Reply} old mid id change.found c.changed.result store put found whole

@@ -18,7 +18,9 @@ use Rattle.zeb_register.specs.Formats.{version_of}
 use Rattle.zeb_register.proofs.Causes.{may_after}
 use Rattle.zeb_change.specs.Refused.{why_of}
 use Rattle.zeb_change.proofs.RecordRoom.{one_refusal}
-use Rattle.zeb_engine.proofs.ChangeElders.{elder_after, few_elder, missed_elder}
+use Rattle.zeb_register.specs.Catalog.{IsDatabaseOf}
+use Rattle.zeb_engine.specs.AnyTables.{ElderOver, EldersOver}
+use Rattle.zeb_engine.proofs.ChangeElders.{few_elder, missed_elder, said_after}
 use Rattle.zeb_engine.proofs.ChangeRoom.{room_still, where_open}
 use Rattle.zeb_engine.proofs.changes.change_database.Goals as goal
 
@@ -153,5 +155,18 @@ pub returns-clause-elder : goal.returns-clause-elder
 returns-clause-elder g c clean store texts told fine =
     let mid = state g.S.Store c.found_for.new.connection in
     let first : HasCleanDisk mid = omega (arith, c.transact.ensures.survives.clean) in
-    elder_after c.args.setting.profile.now (name_bytes c.args.name.now) texts (state g.S.Store c.args.connection.now) mid c.transact.result (c.found_for.ensures.same first) (c.in_ok-found.ensures.found first)
+    said_after (λ trees. ElderOver c.args.setting.profile.now (name_bytes c.args.name.now) texts trees c.transact.result) (state g.S.Store c.args.connection.now) mid (c.found_for.ensures.same first) (c.in_ok-found.ensures.found first)
     (λ there. c.transact.ensures.elder clean there texts told fine) store
+
+-- ---- what is kept under each record's identifier
+
+pub returns-clause-elders : goal.returns-clause-elders
+returns-clause-elders g c clean store texts told =
+    let profile = c.args.setting.profile.now in
+    let name = name_bytes c.args.name.now in
+    let old = state g.S.Store c.args.connection.now in
+    let mid = state g.S.Store c.found_for.new.connection in
+    let first : HasCleanDisk mid = omega (arith, c.transact.ensures.survives.clean) in
+    let found = c.in_ok-found.ensures.row first store in
+    said_after (λ trees. IsDatabaseOf trees name c.in_ok-found.found → EldersOver profile name texts trees c.transact.result) old mid (c.found_for.ensures.same first) (c.in_ok-found.ensures.found first)
+    (λ there known. c.transact.ensures.elders clean there known texts told) store found

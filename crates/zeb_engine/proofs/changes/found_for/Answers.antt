@@ -65,3 +65,12 @@ returns-in_ok-database-in-Delete-clause-found g c clean = c.in_ok-database-in-De
 
 pub returns-in_ok-database-in-Delete-clause-misses : goal.returns-in_ok-database-in-Delete-clause-misses
 returns-in_ok-database-in-Delete-clause-misses g c clean store = tt
+
+-- ---- the row of the name, on any tables
+
+pub returns-in_ok-database_of-in-Update-clause-row : goal.returns-in_ok-database_of-in-Update-clause-row
+returns-in_ok-database_of-in-Update-clause-row g c clean store =
+    subst (λ n. IsDatabaseOf (state g.S.Store c.args.connection.now).now.trees n c.in_ok-database_of-in-Update.field-0) c.as_str.ensures (c.in_ok-database_of-in-Update.ensures.value clean store)
+
+pub returns-in_ok-database-in-Delete-clause-row : goal.returns-in_ok-database-in-Delete-clause-row
+returns-in_ok-database-in-Delete-clause-row g c clean store = c.in_ok-database-in-Delete.ensures.row clean store

@@ -19,7 +19,8 @@ use Rattle.zeb_image.specs.Holdings.{Holdings}
 use Rattle.zeb_register.specs.Calls.{MayRefuse}
 use Rattle.zeb_change.proofs.RecordRoom.{not_refused, one_refusal}
 use Rattle.zeb_engine.specs.Causes.{HasRoomToChange}
-use Rattle.zeb_engine.specs.AnyTables.{ElderOver}
+use Rattle.zeb_register.specs.Catalog.{IsDatabaseOf}
+use Rattle.zeb_engine.specs.AnyTables.{ElderOver, EldersOver}
 use Rattle.zeb_engine.proofs.ChangeElders.{found_elder}
 use Rattle.zeb_engine.proofs.ChangeRoom.{where_open}
 use Rattle.zeb_engine.proofs.WriteCauses.{may_later}
@@ -183,3 +184,17 @@ returns-clause-elder g c clean store texts told fine =
     let there = subst (λ (held : Held _). IsStore (state g.S.Store held)) (sym begun) (record { is = store.is; sound = store.sound; keyed = store.keyed }) in
     let said = c.in_ok-reply.ensures.elder (omega (arith, c.commit.ensures.survives.clean)) (rw begun refl) there texts told fine in
     subst (λ (held : Held _). ElderOver {T = Reply} change.setting.profile.now (name_bytes change.name.now) texts (state g.S.Store held).now.trees (Ok reply)) begun said
+
+-- ---- what is kept under each record's identifier
+
+pub returns-clause-elders : goal.returns-clause-elders
+returns-clause-elders g c clean store found texts told =
+    let begun = c.transaction-tx.ensures.begun in
+    let change = c.args.change.now in
+    let name = name_bytes change.name.now in
+    let late : HasCleanDisk (state g.S.Store c.commit.new.self.0) = search rules in
+    let reply = c.in_ok-reply.reply in
+    let there = subst (λ (held : Held _). IsStore (state g.S.Store held)) (sym begun) (record { is = store.is; sound = store.sound; keyed = store.keyed }) in
+    let known = subst (λ (held : Held _). IsDatabaseOf (state g.S.Store held).now.trees name change.found) (sym begun) found in
+    let said = c.in_ok-reply.ensures.elders (omega (arith, c.commit.ensures.survives.clean)) (rw begun refl) there known texts told in
+    subst (λ (held : Held _). EldersOver {T = Reply} change.setting.profile.now name texts (state g.S.Store held).now.trees (Ok reply)) begun said

@@ -1,11 +1,13 @@
-use Rattle.std.proofs.Common.{inl, subst}
+use Rattle.std.proofs.Common.{[], inl, refl, subst}
 use Rattle.sqlite.specs.Held.{state}
 use Rattle.sqlite.specs.State.{HasCleanDisk}
 use Rattle.zeb_change.specs.Conditions.{conditions}
+use Rattle.zeb_program.specs.Answers.{bad_line}
 use Rattle.zeb_program.specs.Says.{SaysText}
-use Rattle.zeb_program.specs.declared.lines.Line.TheVariants.{Remark, Bad}
+use Rattle.zeb_program.specs.declared.lines.Line.TheVariants.{Remark, Command as Order, Path, Bad}
 use Rattle.zeb_program.specs.PathChanges.{IsLineTold}
-use Rattle.zeb_program.proofs.OverLemmas.{ordered_over, path_over}
+use Rattle.zeb_program.proofs.AnswerLemmas.{Appends-nil}
+use Rattle.zeb_program.proofs.OverLemmas.{said_over, still}
 use Rattle.zeb_program.proofs.PathLemmas.{path_line}
 use Rattle.zeb_program.proofs.ServingLemmas.{bad_line_answer, ordered_line, remark_line}
 use Rattle.zeb_program.proofs.batch.run_line.Goals as goal
@@ -41,19 +43,23 @@ returns-in-Bad-clause-answer g c =
     c.refuse_line.result (inl (c.utf8.line, subst (SaysText c.args.line.now) c.in-Bad.is c.in_ok-read.ensures)) c.refuse_line.ensures.status (c.refuse_line.ensures.line sound)
 
 pub returns-in-Remark-clause-over : goal.returns-in-Remark-clause-over
-returns-in-Remark-clause-over g c = λ _ _. (Remark, inl (c.utf8.line, subst (SaysText c.args.line.now) c.in-Remark.is c.in_ok-read.ensures), tt)
+returns-in-Remark-clause-over g c = λ _ _.
+    ([], (Remark, inl (c.utf8.line, subst (SaysText c.args.line.now) c.in-Remark.is c.in_ok-read.ensures), (refl, refl, still (state g.S.Store c.args.session.now.connection))), Appends-nil (g.W.Write.contents c.args.output.now.writer))
 
 pub returns-in-Command-clause-over : goal.returns-in-Command-clause-over
 returns-in-Command-clause-over g c =
-    let new = state g.S.Store c.run_command.new.session.connection in
-    ordered_over g.L.Layout.format c.args.session.now.profile c.in-Command.command (state g.S.Store c.args.session.now.connection) (g.W.Write.contents c.args.output.now.writer) (g.W.Write.contents c.run_command.new.output.writer)
-    c.run_command.new.output.failed (HasCleanDisk new) c.args.line.now c.run_command.result (inl (c.utf8.line, subst (SaysText c.args.line.now) c.in-Command.is c.in_ok-read.ensures)) c.run_command.ensures.over
+    let new = c.run_command.new.session.connection in
+    said_over g.S.Store (g.P.Paths.tells c.args.paths.now) g.L.Layout.format (conditions (version_of g.L.Layout.format) c.args.session.now.profile c.args.session.now.limits) c.args.number c.args.line.now (Order c.in-Command.command) c.args.session.now.connection new
+    (g.W.Write.contents c.args.output.now.writer) (g.W.Write.contents c.run_command.new.output.writer) c.run_command.new.output.failed (HasCleanDisk (state g.S.Store new)) c.run_command.result
+    (inl (c.utf8.line, subst (SaysText c.args.line.now) c.in-Command.is c.in_ok-read.ensures)) c.run_command.ensures.over
 
 pub returns-in-Path-clause-over : goal.returns-in-Path-clause-over
 returns-in-Path-clause-over g c =
-    let new = state g.S.Store c.run_path_change.new.session.connection in
-    path_over g.L.Layout.format c.args.session.now.profile c.in-Path.change (state g.S.Store c.args.session.now.connection) (g.W.Write.contents c.args.output.now.writer) (g.W.Write.contents c.run_path_change.new.output.writer)
-    c.run_path_change.new.output.failed (HasCleanDisk new) c.args.line.now c.run_path_change.result (inl (c.utf8.line, subst (SaysText c.args.line.now) c.in-Path.is c.in_ok-read.ensures))
+    let new = c.run_path_change.new.session.connection in
+    said_over g.S.Store (g.P.Paths.tells c.args.paths.now) g.L.Layout.format (conditions (version_of g.L.Layout.format) c.args.session.now.profile c.args.session.now.limits) c.args.number c.args.line.now (Path c.in-Path.change) c.args.session.now.connection new
+    (g.W.Write.contents c.args.output.now.writer) (g.W.Write.contents c.run_path_change.new.output.writer) c.run_path_change.new.output.failed (HasCleanDisk (state g.S.Store new)) c.run_path_change.result
+    (inl (c.utf8.line, subst (SaysText c.args.line.now) c.in-Path.is c.in_ok-read.ensures)) c.run_path_change.ensures.over
 
 pub returns-in-Bad-clause-over : goal.returns-in-Bad-clause-over
-returns-in-Bad-clause-over g c = λ _ _. (Bad, inl (c.utf8.line, subst (SaysText c.args.line.now) c.in-Bad.is c.in_ok-read.ensures), tt)
+returns-in-Bad-clause-over g c = λ sound _.
+    (bad_line c.args.number, (Bad, inl (c.utf8.line, subst (SaysText c.args.line.now) c.in-Bad.is c.in_ok-read.ensures), (refl, c.refuse_line.ensures.status, still (state g.S.Store c.args.session.now.connection))), c.refuse_line.ensures.line sound)

@@ -3,6 +3,8 @@ use Rattle.sqlite.specs.Held.{state}
 use Rattle.sqlite.specs.State.{HasCleanDisk}
 use Rattle.zeb_change.specs.Conditions.{conditions}
 use Rattle.zeb_program.specs.PathChanges.{AreFilesTold}
+use Rattle.zeb_program.specs.PrivateOverTables.{LineOver}
+use Rattle.zeb_program.proofs.AnswerLemmas.{IsAnswered}
 use Rattle.zeb_program.proofs.ServingLemmas.{Reaches}
 use denote.Text.{Utf8}
 use denote.Shadow.{shadow}
@@ -20,6 +22,9 @@ invariant-loop-rest g l =
       sound : l.output.failed ≡ false → l.initial.output.failed ≡ false;
       under : (l.session.profile ≡ before.profile) × (l.session.limits ≡ before.limits);
       told : AreFilesTold (g.P.Paths.tells l.paths) l.batch.text.now → AreFilesTold (g.P.Paths.tells l.paths) l.rest;
+      over : l.output.failed ≡ false → HasCleanDisk (state g.S.Store l.session.connection)
+          → IsAnswered (LineOver g.S.Store (g.P.Paths.tells l.paths) g.L.Layout.format (conditions (version_of g.L.Layout.format) before.profile before.limits))
+          (g.W.Write.contents l.initial.output.writer) (g.W.Write.contents l.output.writer) l.batch.lines_before l.batch.text.now before.connection l.number l.rest l.greatest l.session.connection;
       answers : l.output.failed ≡ false → HasCleanDisk (state g.S.Store l.session.connection) → AreFilesTold (g.P.Paths.tells l.paths) l.batch.text.now
           → Reaches (g.P.Paths.tells l.paths) (conditions (version_of g.L.Layout.format) before.profile before.limits) (state g.S.Store before.connection) (state g.S.Store l.session.connection)
           (g.W.Write.contents l.initial.output.writer) (g.W.Write.contents l.output.writer) l.batch.lines_before l.batch.text.now l.number l.rest l.greatest;

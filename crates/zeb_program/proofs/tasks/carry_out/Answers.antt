@@ -4,6 +4,7 @@ use Rattle.zeb_change.specs.Conditions.{conditions}
 use Rattle.zeb_register.specs.Formats.{version_of}
 use Rattle.zeb_program.specs.PrivateOverTables.{TaskOver}
 use Rattle.zeb_program.specs.PrivateServing.{ServesTask, replied}
+use Rattle.zeb_program.proofs.OverLemmas.{changed_task_over}
 use Rattle.zeb_program.proofs.TaskLemmas.{analysed_task, asked_task, changed_task}
 use Rattle.zeb_program.proofs.tasks.carry_out.Goals as goal
 
@@ -34,16 +35,24 @@ returns-in-Analyse-clause-answer g c = λ clean.
 
 pub returns-in-Ask-clause-over : goal.returns-in-Ask-clause-over
 returns-in-Ask-clause-over g c = λ clean.
+    let told = g.P.Paths.tells c.args.paths.now in
     let format = g.L.Layout.format in
     let profile = c.args.session.now.profile in
     let old = state g.S.Store c.args.session.now.connection in
-    subst (TaskOver format profile c.args.task.now old) (sym c.to_serve.ensures.reply)
-    (subst (λ task. TaskOver format profile task old c.ask.result) (sym c.in-Ask.is) (c.ask.ensures.over clean))
+    subst (TaskOver told format profile c.args.task.now old) (sym c.to_serve.ensures.reply)
+    (subst (λ task. TaskOver told format profile task old c.ask.result) (sym c.in-Ask.is) (c.ask.ensures.over clean))
 
 pub returns-in-Change-clause-over : goal.returns-in-Change-clause-over
 returns-in-Change-clause-over g c = λ clean.
-    subst (λ task. TaskOver g.L.Layout.format c.args.session.now.profile task (state g.S.Store c.args.session.now.connection) (replied c.to_serve-in-Change.result)) (sym c.in-Change.is) tt
+    let told = g.P.Paths.tells c.args.paths.now in
+    let format = g.L.Layout.format in
+    let profile = c.args.session.now.profile in
+    let old = state g.S.Store c.args.session.now.connection in
+    subst (TaskOver told format profile c.args.task.now old) (sym c.to_serve-in-Change.ensures.reply)
+    (changed_task_over told format profile c.args.task.now old c.change_by_paths-reply.result c.in-Change.kind c.in-Change.database c.in-Change.named c.deref.result.now
+    c.in-Change.is c.deref.ensures.value (c.change_by_paths-reply.ensures.over clean))
 
 pub returns-in-Analyse-clause-over : goal.returns-in-Analyse-clause-over
 returns-in-Analyse-clause-over g c = λ clean.
-    subst (λ task. TaskOver g.L.Layout.format c.args.session.now.profile task (state g.S.Store c.args.session.now.connection) (replied c.analyse_paths.result)) (sym c.in-Analyse.is) tt
+    let told = g.P.Paths.tells c.args.paths.now in
+    subst (λ task. TaskOver told g.L.Layout.format c.args.session.now.profile task (state g.S.Store c.args.session.now.connection) (replied c.analyse_paths.result)) (sym c.in-Analyse.is) tt

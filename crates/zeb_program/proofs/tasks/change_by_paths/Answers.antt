@@ -1,8 +1,9 @@
-use Rattle.std.proofs.Common.{◌≡◌, ◌∙◌, Err, Ok, ap, length, map, rules}
+use Rattle.std.proofs.Common.{◌≡◌, ◌∙◌, Err, Ok, ap, length, map, rules, string_bytes}
 use Rattle.sqlite.specs.Held.{state}
 use Rattle.zeb_change.specs.Conditions.{conditions}
 use Rattle.zeb_image.specs.NameOf.{name_bytes}
 use Rattle.zeb_register.specs.Formats.{version_of}
+use Rattle.zeb_program.proofs.OverLemmas.{changed_over}
 use Rattle.zeb_program.proofs.PathLemmas.{served_files}
 use Rattle.zeb_program.proofs.tasks.change_by_paths.Goals as goal
 
@@ -25,3 +26,19 @@ returns-clause-told g c = λ clean files known.
     served_files g.P.Reader.Source.remaining g.P.Reader.Source.has_failed k c.args.kind (name_bytes c.args.database.now) files old new c.deref_mut.result.now c.update_from.new.readers (Err c.in-Err.refusal)
     (ap (map g.P.Reader.Source.remaining) c.deref_mut.ensures.value ∙ c.in_ok-readers.ensures.told files known) same
     (c.in-Err.ensures.serves clean) c.in-Err.ensures.sound (c.in-Err.ensures.call.refused clean)
+
+pub returns-in-Ok-clause-over : goal.returns-in-Ok-clause-over
+returns-in-Ok-clause-over g c = λ clean.
+    let same : length c.update_from.new.readers ≡ length c.deref_mut.result.now = search rules in
+    changed_over (g.P.Paths.tells c.args.paths.now) g.L.Layout.format c.args.session.now.profile (name_bytes c.args.database.now) (map string_bytes c.args.named.now) (state g.S.Store c.args.session.now.connection)
+    g.P.Reader.Source.remaining g.P.Reader.Source.has_failed c.deref_mut.result.now c.update_from.new.readers (Ok c.in-Ok.reply)
+    (λ files known. ap (map g.P.Reader.Source.remaining) c.deref_mut.ensures.value ∙ c.in_ok-readers.ensures.told files known) same
+    (c.in-Ok.ensures.ready clean) (c.in-Ok.ensures.elder clean) c.in-Ok.ensures.sound (c.in-Ok.ensures.honest clean)
+
+pub returns-clause-over : goal.returns-clause-over
+returns-clause-over g c = λ clean.
+    let same : length c.update_from.new.readers ≡ length c.deref_mut.result.now = search rules in
+    changed_over (g.P.Paths.tells c.args.paths.now) g.L.Layout.format c.args.session.now.profile (name_bytes c.args.database.now) (map string_bytes c.args.named.now) (state g.S.Store c.args.session.now.connection)
+    g.P.Reader.Source.remaining g.P.Reader.Source.has_failed c.deref_mut.result.now c.update_from.new.readers (Err c.in-Err.refusal)
+    (λ files known. ap (map g.P.Reader.Source.remaining) c.deref_mut.ensures.value ∙ c.in_ok-readers.ensures.told files known) same
+    (c.in-Err.ensures.ready clean) (c.in-Err.ensures.elder clean) c.in-Err.ensures.sound (c.in-Err.ensures.honest clean)

@@ -1,5 +1,5 @@
-use Rattle.std.proofs.Common.{rules}
-use Rattle.zeb_register.proofs.TableStatements.{meta_made, meta_there}
+use Rattle.std.proofs.Common.{◌≡◌, Err, rules}
+use Rattle.zeb_register.proofs.TableStatements.{meta_made, meta_refused, meta_there}
 use Rattle.zeb_register.proofs.TableStatements.{meta_creates}
 use Rattle.zeb_register.proofs.CreateKeepsTables.{create_keeps}
 use Rattle.zeb_register.proofs.CallsInTurn.{inside_keeps}
@@ -21,3 +21,8 @@ returns-in_err-execute-clause-call g c = record {
 
 pub returns-clause-kept : goal.returns-clause-kept
 returns-clause-kept g c clean inside = create_keeps _ meta_creates _ _ _ (c.in_ok-execute.ensures.runs clean inside).0
+
+pub returns-in_err-execute-clause-refused : goal.returns-in_err-execute-clause-refused
+returns-in_err-execute-clause-refused g c clean inside has =
+    let told : c.from_residual.result ≡ Err c.in_err-execute.field-0.0 = search rules in
+    rw told (λ is. meta_refused _ _ _ has is (c.in_err-execute.ensures.runs clean inside))

@@ -1,5 +1,7 @@
-use Rattle.std.proofs.Common.{rules, arith}
-use Rattle.zeb_register.proofs.TableStatements.{records_made, records_there}
+use Rattle.std.proofs.Common.{◌≡◌, Err, rules, arith}
+use Rattle.sqlite.specs.Held.{state}
+use Rattle.sqlite.specs.State.{HasCleanDisk}
+use Rattle.zeb_register.proofs.TableStatements.{records_made, records_refused, records_there}
 use Rattle.zeb_register.proofs.CallsInTurn.{still_unchanged, quiet_then}
 use Rattle.zeb_register.proofs.CallsInTurn.{inside_keeps}
 use Rattle.zeb_register.proofs.Calls.{goes_then, goes_keeps, on_err}
@@ -35,3 +37,11 @@ returns-clause-kept g c clean inside =
     let was = c.in_ok-make_databases.ensures.call.ok (omega (arith, c.execute.ensures.survives.clean)) inside in
     let first = c.in_ok-make_databases.ensures.kept (omega (arith, c.execute.ensures.survives.clean)) inside in
     keeps_then _ _ _ first (create_keeps _ records_creates _ _ _ (c.in_ok-execute.ensures.runs clean was.mode).0)
+
+pub returns-in_err-execute-clause-refused : goal.returns-in_err-execute-clause-refused
+returns-in_err-execute-clause-refused g c clean inside has =
+    let first : HasCleanDisk (state g.S.Store c.make_databases.new.tx.conn.now) = omega (arith, c.execute.ensures.survives.clean) in
+    let did = c.in_ok-make_databases.ensures in
+    let on = did.call.ok first inside in
+    let told : c.from_residual-in_err-execute.result ≡ Err c.in_err-execute.field-0.0 = search rules in
+    rw told (λ is. records_refused _ _ _ _ c.make_databases.ensures.call.crash on (did.made first inside) (did.there first inside) has is (c.in_err-execute.ensures.runs clean on.mode))

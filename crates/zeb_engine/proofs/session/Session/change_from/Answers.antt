@@ -20,7 +20,8 @@ use Rattle.zeb_engine.specs.Costs.{Costs, no_work}
 use Rattle.zeb_register.proofs.Causes.{may_after}
 use Rattle.zeb_change.specs.declared.refusals.Refusal.TheVariants.{Store}
 use Rattle.zeb_change.proofs.RecordRoom.{one_refusal}
-use Rattle.zeb_engine.proofs.ChangeElders.{elder_after, few_elder}
+use Rattle.zeb_engine.specs.AnyTables.{ElderOver, EldersOver}
+use Rattle.zeb_engine.proofs.ChangeElders.{few_elder, refused_elders, said_after}
 use Rattle.zeb_engine.proofs.ChangeRoom.{room_still, where_open}
 use Rattle.zeb_engine.proofs.session.Session.change_from.Goals as goal
 use Rattle.zeb_register.specs.Formats.{version_of}
@@ -175,11 +176,17 @@ returns-in_err-check_ready-clause-elder g c clean texts told fine store is =
     let refusal = c.in_err-check_ready.field-0.0 in
     let result : c.from_residual-in_err-check_ready.result ≡ Err refusal = search rules in
     let failed = unready_fails (version_of g.L.Layout.format) profile trees is refusal c.in_err-check_ready.ensures.few (c.in_err-check_ready.ensures.texts clean store) (c.in_err-check_ready.ensures.whole clean store is) in
-    few_elder profile (name_bytes c.args.database.now) texts trees refusal c.from_residual-in_err-check_ready.result result (inr failed)
+    let name = name_bytes c.args.database.now in (
+      few_elder profile name texts trees refusal c.from_residual-in_err-check_ready.result result (inr failed),
+      refused_elders profile name texts trees refusal c.from_residual-in_err-check_ready.result result,
+    )
 
 pub returns-clause-elder : goal.returns-clause-elder
 returns-clause-elder g c clean texts told fine store is =
     let mid = state g.S.Store c.check_ready.new.connection in
     let first : HasCleanDisk mid = omega (arith, c.change_database.ensures.survives.clean) in
-    elder_after c.args.self.now.profile (name_bytes c.args.database.now) texts (state g.S.Store c.args.self.now.connection) mid c.change_database.result (c.check_ready.ensures.same first) (c.in_ok-check_ready.ensures.«open» first)
-    (λ there. c.change_database.ensures.elder clean there texts told fine) store
+    let profile = c.args.self.now.profile in
+    let name = name_bytes c.args.database.now in
+    said_after (λ trees. ElderOver profile name texts trees c.change_database.result × EldersOver profile name texts trees c.change_database.result) (state g.S.Store c.args.self.now.connection) mid
+    (c.check_ready.ensures.same first) (c.in_ok-check_ready.ensures.«open» first)
+    (λ there. (c.change_database.ensures.elder clean there texts told fine, c.change_database.ensures.elders clean there texts told)) store
