@@ -2,10 +2,10 @@
 
 Contracts allow such a failure wherever a call takes memory or reaches the store, so a body that answers one for no reason meets any of
 them. It has to come from a call that failed: by `?`, by a conversion of what only such a call gives, or by an arm that passes it on.
-The program's status of a failure is one too, by its name or as a number, and a growth that asks for more than any memory has: of a growth
+The program's status of a failure is one too, by its name or as the number 3, and a growth that asks for more than any memory has: of a growth
 by a count that isn't the length of something this can't tell, so it is named here too. A function that is named here is known by its text,
 so that neither what it asks before it fails nor how often it does may change unseen. What isn't seen: a call that is made so that it fails,
-as a statement without a sense.
+as a statement without a sense; and a status that is reckoned, as a sum, or named anew.
 """
 import collections
 import hashlib

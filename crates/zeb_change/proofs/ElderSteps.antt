@@ -12,8 +12,7 @@ use Rattle.zeb_profile.specs.declared.directives.Directive.{Directive}
 use Rattle.zeb_register.specs.Store.{IsStore}
 use Rattle.zeb_change.specs.declared.files.Fold.{Fold}
 use Rattle.zeb_change.specs.declared.refusals.Refusal.{Refusal}
-use Rattle.zeb_change.specs.Elders.{AreWholeBefore, FindsWhole, FirstFindsWhole, IsWholeBefore, KeepsWhole, KeepsWholeTo, OfFirst}
-use Rattle.zeb_change.specs.PrivateElders.{PassesOn}
+use Rattle.zeb_change.specs.Elders.{AreWholeBefore, FindsWhole, FirstFindsWhole, IsWholeBefore, KeepsWhole, KeepsWholeTo, OfFirst, PassesOn}
 use Rattle.zeb_change.specs.Folding.{ident_in, splits_of}
 use Rattle.zeb_change.specs.Reading.{NoneFailed}
 use Rattle.zeb_change.specs.PrivateReading.{ReadsNext}

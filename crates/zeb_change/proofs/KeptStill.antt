@@ -1,5 +1,5 @@
 -- What is kept still while records of a change are taken, whatever rows the tables have.
-use Rattle.std.proofs.Common.{◌≡◌, ◌≢◌, ◌⊎◌, ◌∙◌, ◌≤◌, ◌+◌, ◌∷◌, ℕ, ℤ, pos, true, false, List, Some, Result, Ok, Err, OnOk, inl, inr, sym, ap, subst, arith}
+use Rattle.std.proofs.Common.{◌≡◌, ◌≢◌, ◌↔◌, ◌⊎◌, ◌∙◌, ◌≤◌, ◌+◌, ◌∷◌, ℕ, ℤ, pos, true, false, List, Some, Result, Ok, Err, OnOk, inl, inr, sym, ap, subst, arith}
 use Rattle.std.specs.Str.{bytes_eq}
 use Rattle.std.proofs.lemmas.Slice.Eq.{bytes_eq-Decides}
 use Rattle.sqlite.specs.declared.types.Value.TheVariants.{Int, Text}
@@ -16,8 +16,8 @@ use Rattle.zeb_register.specs.Store.{Changes, HasNumber, HasRecord, IsStore, Sha
 use Rattle.zeb_register.proofs.Calls.{store_same}
 use Rattle.zeb_register.proofs.RowsAreLists.{one_number}
 use Rattle.zeb_change.specs.declared.refusals.Refusal.{Refusal}
-use Rattle.zeb_change.specs.Elders.{IsSoOrDamaged, IsUpTo, KeepsWhole, KeepsWholeTo}
-use Rattle.zeb_change.specs.PrivateElders.{KeepsOtherRecords, KeepsUnder, PassesOn}
+use Rattle.zeb_change.specs.Elders.{IsSoOrDamaged, IsUpTo, KeepsAside, KeepsWhole, KeepsWholeTo, PassesOn}
+use Rattle.zeb_change.specs.PrivateElders.{KeepsOtherRecords, KeepsUnder}
 use Rattle.zeb_change.proofs.KeptLemmas.{tests}
 
 same_ident : (one two : List ℕ) → (one ≡ two) ⊎ (one ≢ two)
@@ -31,6 +31,9 @@ up_more last after sysno rises up n is = let below = up n is in omega (arith, ri
 
 -- ---- the table of records is written
 
+other_database : (other db : ℤ) → other ≢ db → ¬ (Int other ≡ Int db)
+other_database other db differs is = differs (cc)
+
 module _ (db : ℤ) (ident : List ℕ) (number last after : ℕ) (rises : last ≤ after) (old new : State)
     (owner : (other bytes : List ℕ) → HasRecord old.now.trees db (pos number) other bytes → number ≤ last → other ≡ ident) where
   -- a row of this number is of the record with this identifier
@@ -39,6 +42,16 @@ module _ (db : ℤ) (ident : List ℕ) (number last after : ℕ) (rises : last �
       let number_is : Int sysno ≡ Int (pos number) = numbers.1 in
       let same : sysno ≡ pos number = cc in
       differs (owner other bytes (subst (λ (n : ℤ). HasRecord old.now.trees db n other bytes) same there) (up number same))
+
+  -- no row of another database is one of this record
+  not_shared : (other sysno : ℤ) (name bytes : List ℕ) → other ≢ db → ¬ SharesRecord db (pos number) ident (record_row other sysno name bytes)
+  not_shared other sysno name bytes differs (inl numbers) = other_database other db differs numbers.0
+  not_shared other sysno name bytes differs (inr names) = other_database other db differs names.0
+
+  not_put : (other sysno : ℤ) (name bytes put : List ℕ) → other ≢ db → ¬ (record_row other sysno name bytes ≡ record_row db (pos number) ident put)
+  not_put other sysno name bytes put differs is =
+      let first : Int other ≡ Int db = cc in
+      other_database other db differs first
 
   pub put_keeps : (bytes : List ℕ) → Changes records_tree (Replaces (SharesRecord db (pos number) ident) (record_row db (pos number) ident bytes)) old new → KeepsOtherRecords db ident last after old new
   put_keeps row put = record {
@@ -51,6 +64,13 @@ module _ (db : ℤ) (ident : List ℕ) (number last after : ℕ) (rises : last �
         | inr names ↦ (let name : Text other ≡ Text ident = names.1 in differs (cc))
       ],
     ));
+    aside = λ other sysno name kept differs. (
+      λ after. elim ((put.rows (record_row other sysno name kept)).0 after) [
+        | inl before ↦ before.0
+        | inr same ↦ absurd (not_put other sysno name kept row differs same)
+      ],
+      λ before. (put.rows (record_row other sysno name kept)).1 (inl (before, not_shared other sysno name kept differs)),
+    );
   }
 
   pub take_keeps : Changes records_tree (Loses (HasNumber db (pos number))) old new → KeepsOtherRecords db ident last after old new
@@ -58,6 +78,10 @@ module _ (db : ℤ) (ident : List ℕ) (number last after : ℕ) (rises : last �
     store = take.layout;
     rises = rises;
     others = λ other differs sysno bytes there up. (take.rows (record_row db sysno other bytes)).1 (there, its_own other sysno bytes differs there up);
+    aside = λ other sysno name kept differs. (
+      λ after. ((take.rows (record_row other sysno name kept)).0 after).0,
+      λ before. (take.rows (record_row other sysno name kept)).1 (before, λ numbers. other_database other db differs numbers.0),
+    );
   }
 
 -- the row with the elder's number is the elder's
@@ -76,25 +100,30 @@ keeps_from db ident last after old mid new (Ok x) same kept = record {
   store = kept.store;
   rises = kept.rises;
   others = λ other differs. subst (λ (d : Database). KeepsUnder last db other d.trees new.now.trees) same (kept.others other differs);
+  aside = subst (λ (d : Database). KeepsAside db d.trees new.now.trees) same kept.aside;
 }
 keeps_from db ident last after old mid new (Err refusal) same kept = tt
 
 -- ---- records are passed on
 
-module _ (profile : List Directive) (db : ℤ) where
-  pub whole_to : (last : ℕ) (trees : Trees) (ident : List ℕ) → KeepsWhole profile trees db ident → KeepsWholeTo profile last trees db ident
-  whole_to last trees ident kept sysno bytes there up = kept sysno bytes there
+rows_same : (old new : Trees) → new records_tree ≡ old records_tree → (db sysno : ℤ) (ident bytes : List ℕ) → HasRecord old db sysno ident bytes → HasRecord new db sysno ident bytes
+rows_same old new same db sysno ident bytes there = (there.0, subst (λ (rows : List Row). Has rows (Int there.0 ∷ record_row db sysno ident bytes)) (sym same) there.1)
 
+both_ways : {A B C : Type 0} → A ↔ B → B ↔ C → A ↔ C
+both_ways one two = (λ a. two.0 (one.0 a), λ c. one.1 (two.1 c))
+
+module _ (profile : List Directive) (db : ℤ) where
   -- what is kept under the one identifier was found whole
   pub passes_by : (ident : List ℕ) (last after : ℕ) (old new : State) {T : Type 0} (result : Result T Refusal) → IsSoOrDamaged (KeepsWhole profile old.now.trees db ident) result
       → OnOk result (KeepsOtherRecords db ident last after old new) → OnOk result (PassesOn profile db last after old new)
   passes_by ident last after old new (Ok x) whole kept = record {
     store = kept.store;
     rises = kept.rises;
-    each = λ other. elim (same_ident other ident) [
-      | inl same ↦ inl (subst (λ (i : List ℕ). KeepsWholeTo profile last old.now.trees db i) (sym same) (whole_to last old.now.trees ident whole))
-      | inr differs ↦ inr (kept.others other differs)
+    each = λ sysno other bytes there up. elim (same_ident other ident) [
+      | inl same ↦ inl (subst (λ (i : List ℕ). KeepsWhole profile old.now.trees db i) (sym same) whole sysno bytes there)
+      | inr differs ↦ inr (kept.others other differs sysno bytes there up)
     ];
+    aside = kept.aside;
   }
   passes_by ident last after old new (Err refusal) whole kept = tt
 
@@ -103,7 +132,11 @@ module _ (profile : List Directive) (db : ℤ) where
   passes_same last old new store same = record {
     store = store;
     rises = omega arith;
-    each = λ ident. inr (λ sysno bytes there up. (there.0, subst (λ (rows : List Row). Has rows (Int there.0 ∷ record_row db sysno ident bytes)) (sym same) there.1));
+    each = λ sysno ident bytes there up. inr (rows_same old.now.trees new.now.trees same db sysno ident bytes there);
+    aside = λ other sysno ident bytes differs. (
+      rows_same new.now.trees old.now.trees (sym same) other sysno ident bytes,
+      rows_same old.now.trees new.now.trees same other sysno ident bytes,
+    );
   }
 
   -- a look left everything as it was
@@ -115,18 +148,16 @@ module _ (profile : List Directive) (db : ℤ) where
     passes_then after c two = record {
       store = two.store;
       rises = omega (arith, one.rises, two.rises);
-      each = λ ident. elim (one.each ident) [
+      each = λ sysno ident bytes there up. elim (one.each sysno ident bytes there up) [
         | inl whole ↦ inl whole
-        | inr kept ↦ elim (two.each ident) [
-          | inl whole ↦ inl (λ sysno bytes there up. whole sysno bytes (kept sysno bytes there up) (up_more last mid sysno one.rises up))
-          | inr more ↦ inr (λ sysno bytes there up. more sysno bytes (kept sysno bytes there up) (up_more last mid sysno one.rises up))
-        ]
+        | inr kept ↦ two.each sysno ident bytes kept (up_more last mid sysno one.rises up)
       ];
+      aside = λ other sysno ident bytes differs. both_ways (two.aside other sysno ident bytes differs) (one.aside other sysno ident bytes differs);
     }
 
     -- what is whole now was whole before
     pub whole_before : (ident : List ℕ) → KeepsWholeTo profile mid b.now.trees db ident → KeepsWholeTo profile last a.now.trees db ident
-    whole_before ident now = elim (one.each ident) [
+    whole_before ident now sysno bytes there up = elim (one.each sysno ident bytes there up) [
       | inl whole ↦ whole
-      | inr kept ↦ λ sysno bytes there up. now sysno bytes (kept sysno bytes there up) (up_more last mid sysno one.rises up)
+      | inr kept ↦ now sysno bytes kept (up_more last mid sysno one.rises up)
     ]

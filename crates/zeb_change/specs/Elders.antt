@@ -1,11 +1,12 @@
 -- What a change finds kept under a record's identifier, whatever rows the tables of the store have.
-use Rattle.std.specs.Prelude.{◌≡◌, ◌⊎◌, ◌≤◌, ℕ, ℤ, pos, List, [], ◌∷◌, None, Result, Ok, Err}
+use Rattle.std.specs.Prelude.{◌≡◌, ◌≢◌, ◌↔◌, ◌⊎◌, ◌≤◌, ℕ, ℤ, pos, List, [], ◌∷◌, None, Result, Ok, Err}
+use Rattle.sqlite.specs.State.{State}
 use Rattle.sqlite.specs.Tree.{Trees}
 use Rattle.sqlite_rules.specs.Lists.{Has}
 use Rattle.zeb_marc.specs.Records.{first_fault}
 use Rattle.zeb_marc.specs.Splits.{Split}
 use Rattle.zeb_profile.specs.declared.directives.Directive.{Directive}
-use Rattle.zeb_register.specs.Store.{HasRecord}
+use Rattle.zeb_register.specs.Store.{HasRecord, IsStore}
 use Rattle.zeb_change.specs.declared.refusals.Refusal.{Refusal}
 use Rattle.zeb_change.specs.declared.refusals.Refusal.TheVariants.{Damaged}
 use Rattle.zeb_change.specs.Refused.{why_of, IsFailing}
@@ -64,3 +65,23 @@ AreWholeBefore profile last trees db slices = (slice : List ℕ) → Has slices 
 -- and of each record of the files
 abbrev pub AllFindWhole : List Directive → (last : ℕ) → Trees → ℤ → List Split → Type 0
 AllFindWhole profile last trees db splits = (split : Split) → Has splits split → AreWholeBefore profile last trees db split.slices
+
+-- ---- what is kept after, of any files, where the change is accepted
+
+-- each record that the database kept, with a number up to the last one, was whole or is kept after just as it was
+abbrev pub LosesWholeAlone : List Directive → (last : ℕ) → ℤ → (old new : Trees) → Type 0
+LosesWholeAlone profile last db old new = (sysno : ℤ) (ident bytes : List ℕ) → HasRecord old db sysno ident bytes → IsUpTo last sysno
+    → IsWhole profile sysno ident bytes ⊎ HasRecord new db sysno ident bytes
+
+-- each other database keeps just the records that it kept
+abbrev pub KeepsAside : ℤ → (old new : Trees) → Type 0
+KeepsAside db old new = (other sysno : ℤ) (ident bytes : List ℕ) → other ≢ db
+    → HasRecord new other sysno ident bytes ↔ HasRecord old other sysno ident bytes
+
+-- What an accepted change of a database does to the records of any tables, and each part of it: only whole ones are lost up to the last
+-- number, which doesn't fall, and none is touched of another database.
+pub record PassesOn (profile : List Directive) (db : ℤ) (last after : ℕ) (old new : State) : Type 0 where
+  pub store : IsStore new
+  pub rises : last ≤ after
+  pub each : LosesWholeAlone profile last db old.now.trees new.now.trees
+  pub aside : KeepsAside db old.now.trees new.now.trees

@@ -13,8 +13,7 @@ ghost use Rattle.zeb_register.specs.Store.{records_tree};
 ghost use Rattle.zeb_change.specs.Asked.{AskFiles, AskSlices, AsksRecord};
 ghost use Rattle.zeb_change.specs.Folding.{Progress as FoldProgress, record_folded, file_folded, files_folded, splits_of};
 ghost use Rattle.zeb_change.specs.Base.{Base, Kept};
-ghost use Rattle.zeb_change.specs.Elders.{AllFindWhole, AreWholeBefore, FindsWhole, FirstFindsWhole, IsWholeBefore, OfFirst};
-ghost use Rattle.zeb_change.specs.PrivateElders.{PassesOn};
+ghost use Rattle.zeb_change.specs.Elders.{AllFindWhole, AreWholeBefore, FindsWhole, FirstFindsWhole, IsWholeBefore, OfFirst, PassesOn};
 ghost use Rattle.zeb_change.specs.Costs.{IsCostIn, IsFilesCost, IsSlicesCost, IsWorkFor, newer_of};
 ghost use Rattle.zeb_change.specs.Refused.{NeverUnready, Meets};
 ghost use Rattle.zeb_change.specs.Reading.{NamesFailed, NoneFailed, NoReadFault, TellsFailed, BlamesFailed};
@@ -286,6 +285,9 @@ fn fold_readers<S: Alter, L: Layout, R: Source>(
     ensures elders { InStore (state S.Store tx.old.conn.now) (state S.Store tx.new.conn.now) (λ trees. (texts : List (List ℕ))
         → map R.remaining readers.old ≡ map Some texts
         → OnOk result (AllFindWhole setting.now.profile.now fold.old.progress.last trees fold.old.progress.database.0 (splits_of texts))) }
+    ensures passes { InStore (state S.Store tx.old.conn.now) (state S.Store tx.new.conn.now) (λ _. OnOk result
+        (PassesOn setting.now.profile.now fold.old.progress.database.0 fold.old.progress.last fold.new.progress.last
+        (state S.Store tx.old.conn.now) (state S.Store tx.new.conn.now))) }
 {
     for (index, reader) in readers.iter_mut().enumerate() {
         let file = index as u64 + 1;
@@ -359,6 +361,11 @@ pub fn fold_files<S: Alter, L: Layout, R: Source>(
     ensures elders { InStore (state S.Store tx.old.conn.now) (state S.Store tx.new.conn.now) (λ trees. (texts : List (List ℕ))
         → map R.remaining readers.old ≡ map Some texts
         → OnOk result (AllFindWhole setting.now.profile.now fold.old.progress.last trees fold.old.progress.database.0 (splits_of texts))) }
+    // Whatever the readers tell, too: where it is accepted, each record kept before that isn't kept after just as it was, with a number up
+    // to the database's last one, was whole; and each other database keeps just what it kept.
+    ensures passes { InStore (state S.Store tx.old.conn.now) (state S.Store tx.new.conn.now) (λ _. OnOk result
+        (PassesOn setting.now.profile.now fold.old.progress.database.0 fold.old.progress.last fold.new.progress.last
+        (state S.Store tx.old.conn.now) (state S.Store tx.new.conn.now))) }
 {
     let mut pending = Pending::new(setting.alloc, MOST_NOTED);
     fold_readers::<S, L, R>(tx, setting, fold, &mut pending, buffer, readers)?;

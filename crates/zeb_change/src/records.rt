@@ -13,8 +13,8 @@ ghost use Rattle.zeb_change.specs.PrivateStanding.{WillBe, WillBeTaken, standing
 ghost use Rattle.zeb_change.specs.Refused.{Why, why_of, IsFailing, NeverUnready, Meets};
 ghost use Rattle.zeb_change.specs.Folding.{Changed, changed_record, deleted, ident_in};
 ghost use Rattle.zeb_change.specs.Base.{Base, Kept, kept_as};
-ghost use Rattle.zeb_change.specs.Elders.{KeepsWhole};
-ghost use Rattle.zeb_change.specs.PrivateElders.{KeepsOtherRecords, PassesOn};
+ghost use Rattle.zeb_change.specs.Elders.{KeepsWhole, PassesOn};
+ghost use Rattle.zeb_change.specs.PrivateElders.{KeepsOtherRecords};
 ghost use Rattle.zeb_change.specs.Reading.{NoReadFault};
 ghost use Rattle.zeb_change.specs.Occurs.{AreOccurrencesOf};
 ghost use Rattle.zeb_change.specs.PrivateRecords.{GoesBy, IsElderAs, IsIdle, IsWholeElder, KeepsNewer, NotesAs, NotesNewer, Takes};

@@ -1,5 +1,5 @@
--- What a change finds kept under the identifiers of its records, step by step.
-use Rattle.std.proofs.Common.{◌≡◌, ◌⊎◌, ℕ, ℤ, pos, List, [], ◌∷◌, Option, Some, None, Result, Ok, Err, inl, inr, sym, subst}
+-- What a change finds kept under the identifiers of its records, and what it leaves, step by step.
+use Rattle.std.proofs.Common.{◌≡◌, ◌⊎◌, ℕ, ℤ, pos, List, [], ◌∷◌, Option, Some, None, Result, Ok, Err, inl, inr, sym, subst, subst₂}
 use Rattle.sqlite.specs.Effect.{Database}
 use Rattle.sqlite.specs.Order.{Row}
 use Rattle.sqlite.specs.State.{State}
@@ -13,14 +13,14 @@ use Rattle.zeb_register.specs.Store.{Changes, HasDatabase, IsStore, databases_tr
 use Rattle.zeb_register.proofs.Calls.{store_same}
 use Rattle.zeb_register.proofs.RowsAreLists.{one_last}
 use Rattle.zeb_change.specs.declared.refusals.Refusal.{Refusal}
-use Rattle.zeb_change.specs.Elders.{AllFindWhole, FirstFindsWhole, KeepsWhole, OfFirst}
+use Rattle.zeb_change.specs.Elders.{AllFindWhole, FirstFindsWhole, KeepsAside, KeepsWhole, LosesWholeAlone, OfFirst, PassesOn}
 use Rattle.zeb_change.specs.Folding.{splits_of}
 use Rattle.zeb_change.specs.Refused.{why_of}
 use Rattle.zeb_change.proofs.Elders.{passed_error}
 use Rattle.zeb_change.proofs.ElderSteps.{files_find}
 use Rattle.zeb_engine.specs.Adopting.{StaysOpen}
 use Rattle.zeb_engine.specs.Answers.{IsFailure, refused}
-use Rattle.zeb_engine.specs.AnyTables.{ElderOver, EldersOver}
+use Rattle.zeb_engine.specs.AnyTables.{ElderOver, EldersOver, KeepsOtherDatabases, LeavesRecords, LosesWholeOver}
 use Rattle.zeb_engine.specs.PrivateChanging.{last_of}
 use Rattle.zeb_engine.specs.PrivateLooking.{MissesDatabase}
 use Rattle.zeb_engine.proofs.ChangeSteps.{kept_records}
@@ -81,3 +81,33 @@ module _ (profile : List Directive) where
         (subst (λ (n : ℤ). HasDatabase old.now.trees n name (pos database.last)) found is) in
         let before = subst (λ (rows : List Row). AllFindWhole profile database.last (λ tree. rows) id (splits_of texts)) (kept_records id name (pos database.last) old mid put) whole in
         (database.last, one.1, subst (λ (n : ℤ). AllFindWhole profile database.last old.now.trees n (splits_of texts)) (sym same) before)
+
+-- ---- what is kept after
+
+module _ (profile : List Directive) (name : List ℕ) (old mid now new : State) (id : ℤ) where
+  -- a part of a change goes by the rows of records alone
+  rows_pass : (last after : ℕ) → PassesOn profile id last after mid now → mid.now.trees 4 ≡ old.now.trees 4 → now.now.trees 4 ≡ new.now.trees 4
+      → LosesWholeAlone profile last id old.now.trees new.now.trees × KeepsAside id old.now.trees new.now.trees
+  rows_pass last after passes before behind =
+      subst₂ (λ (a b : List Row). LosesWholeAlone profile last id (λ tree. a) (λ tree. b) × KeepsAside id (λ tree. a) (λ tree. b)) before behind (passes.each, passes.aside)
+
+  lost : (found : Option catalog.Database) → IsStore old → Changes databases_tree (PutsDatabase id name (pos (last_of found))) old mid → IsDatabaseOf old.now.trees name found
+      → LosesWholeAlone profile (last_of found) id old.now.trees new.now.trees → LosesWholeOver profile name old.now.trees new.now.trees
+  lost None store put none whole i l there = absurd (none i l there)
+  lost (Some database) store put is whole i l there =
+      let found : database.id.0 ≡ id = put.rows.kept database.id.0 (pos database.last) is in
+      let same : i ≡ id = put.rows.kept i l there in
+      let one = one_last old store id name name l (pos database.last) (subst (λ (n : ℤ). HasDatabase old.now.trees n name l) same there)
+      (subst (λ (n : ℤ). HasDatabase old.now.trees n name (pos database.last)) found is) in
+      (database.last, one.1, subst (λ (n : ℤ). LosesWholeAlone profile database.last n old.now.trees new.now.trees) (sym same) whole)
+
+  aside : (last : ℤ) → Changes databases_tree (PutsDatabase id name last) old mid → KeepsAside id old.now.trees new.now.trees → KeepsOtherDatabases name old.now.trees new.now.trees
+  aside last put keeps i l other there differs sysno ident bytes =
+      keeps i sysno ident bytes (λ here. differs (put.rows.own other l (subst (λ (n : ℤ). HasDatabase old.now.trees n other l) here there)))
+
+  -- the row of its database, which was found, is written before the records and after them
+  pub put_leaves : (found : Option catalog.Database) (after : ℕ) → IsStore old → Changes databases_tree (PutsDatabase id name (pos (last_of found))) old mid → IsDatabaseOf old.now.trees name found
+      → PassesOn profile id (last_of found) after mid now → new.now.trees 4 ≡ now.now.trees 4 → LeavesRecords profile name old.now.trees new.now.trees
+  put_leaves found after store put is passes same =
+      let left = rows_pass (last_of found) after passes (kept_records id name (pos (last_of found)) old mid put) (sym same) in
+      (lost found store put is left.0, aside (pos (last_of found)) put left.1)

@@ -38,6 +38,7 @@ pub mod Showing
 pub mod FindAnswers
 pub mod FindRefusals
 pub mod OverTables
+pub mod HiddenRows
 pub mod Lookups
 pub mod ReadyBases
 pub mod ScanAnswers

@@ -24,7 +24,7 @@ use Rattle.zeb_engine.specs.declared.replies.Reply.{Reply}
 use Rattle.zeb_engine.specs.Adopting.{StaysOpen}
 use Rattle.zeb_engine.specs.Alone.{IsAsked, IsSaidOrMissed, OfDatabase}
 use Rattle.zeb_engine.specs.Answers.{Answer, answer_of, found, refused, scanned, IsFailure}
-use Rattle.zeb_engine.specs.AnyTables.{AnyHits, AnyTerms, OverReady, TellsOver}
+use Rattle.zeb_engine.specs.AnyTables.{OverReady, TellsOver}
 use Rattle.zeb_engine.specs.Finding.{AreShown, IsAnsweredBy, IsPlannedBy, IsShown, asked_of}
 use Rattle.zeb_engine.specs.PrivateLooking.{IsUnready, MissesDatabase}
 use Rattle.zeb_engine.specs.Readiness.{IsReadyFor, IsRefusedOver}
@@ -99,22 +99,22 @@ or_fails Tells name trees text readable id last row why (inl is) = said_over Tel
 or_fails Tells name trees text readable id last row why (inr failed) = inr (inr failed)
 
 module _ (profile : List Directive) (text : List ℕ) (value : QueryValue) (spells : SpellsQuery text value) where
-  module _ (Named : ℕ → List ℕ → Type 0) (first count : ℕ) where
+  module _ (Named : ℕ → List ℕ → Type 0) (Hits : PlanValue → List ℕ → Type 0) (first count : ℕ) where
     abbrev pub Finds : Answer → Type 0
-    Finds = IsAnsweredBy Named AnyHits profile text first count
+    Finds = IsAnsweredBy Named Hits profile text first count
 
-    planned_found : (answer : Answer) → IsPlannedBy Named AnyHits (plan_of profile value) first count answer → Finds answer
+    planned_found : (answer : Answer) → IsPlannedBy Named Hits (plan_of profile value) first count answer → Finds answer
     planned_found answer is = (value, spells, is)
 
     pub plan_found : (e : QueryFault) → Fails e (plan_of profile value) → IsOrFails Finds (query_refusal e)
     plan_found Memory said = inr (inr refl)
     plan_found (Diagnostic number place addinfo) said =
         let answer = refused (diagnostic number place (string_bytes addinfo)) in
-        inl (planned_found answer (subst (λ r. IsPlannedBy Named AnyHits r first count answer) (sym said) refl))
+        inl (planned_found answer (subst (λ r. IsPlannedBy Named Hits r first count answer) (sym said) refl))
 
-    module _ (plan : PlanValue) (planned : plan_of profile value ≡ Ok plan) (numbers : List ℕ) where
+    module _ (plan : PlanValue) (planned : plan_of profile value ≡ Ok plan) (numbers : List ℕ) (hits : Hits plan numbers) where
       shown_found : (answer : Answer) → IsShown Named numbers (asked_of numbers first count) answer → Finds answer
-      shown_found answer is = planned_found answer (subst (λ r. IsPlannedBy Named AnyHits r first count answer) (sym planned) (numbers, tt, is))
+      shown_found answer is = planned_found answer (subst (λ r. IsPlannedBy Named Hits r first count answer) (sym planned) (numbers, hits, is))
 
       pub past_found : {X : Type 0} (Good : List ℕ → X → Type 0) (why : Refusal) → Meets {X = X} Good (asked_of numbers first count) (Err why) → IsOrFails Finds why
       past_found Good why (inl failed) = inr failed
@@ -127,17 +127,17 @@ module _ (profile : List Directive) (text : List ℕ) (value : QueryValue) (spel
           let answer = found (length numbers) shown in
           shown_found answer (subst (λ (r : Result (List ℕ) Why). IsShown Named numbers r answer) (sym said) (shown, told, refl))
 
-  module _ (number position : ℕ) where
+  module _ (Terms : ScanValue → ℕ → ℕ → List TermCount → Type 0) (number position : ℕ) where
     abbrev pub Scans : Answer → Type 0
-    Scans = IsScannedBy AnyTerms profile text number position
+    Scans = IsScannedBy Terms profile text number position
 
     pub plan_scanned : (e : QueryFault) → Fails e (scan_of profile value) → IsOrFails Scans (query_refusal e)
     plan_scanned Memory said = inr (inr refl)
     plan_scanned (Diagnostic number_of place addinfo) said =
         let answer = refused (diagnostic number_of place (string_bytes addinfo)) in
-        inl (value, spells, subst (λ r. IsScanPlannedBy AnyTerms r number position answer) (sym said) refl)
+        inl (value, spells, subst (λ r. IsScanPlannedBy Terms r number position answer) (sym said) refl)
 
-    pub terms_scanned : (plan : ScanValue) → scan_of profile value ≡ Ok plan → (terms : List TermCount) → Scans (scanned plan.register (map (λ t. (t.term, t.records)) terms))
-    terms_scanned plan planned terms =
+    pub terms_scanned : (plan : ScanValue) → scan_of profile value ≡ Ok plan → (terms : List TermCount) → Terms plan number position terms → Scans (scanned plan.register (map (λ t. (t.term, t.records)) terms))
+    terms_scanned plan planned terms are =
         let answer = scanned plan.register (map (λ t. (t.term, t.records)) terms) in
-        (value, spells, subst (λ r. IsScanPlannedBy AnyTerms r number position answer) (sym planned) (terms, tt, refl))
+        (value, spells, subst (λ r. IsScanPlannedBy Terms r number position answer) (sym planned) (terms, are, refl))

@@ -120,19 +120,19 @@ scan_alone format profile s result database query number position name asked man
 
 -- ---- on any tables
 
-pub find_tables : (version : List ℕ) (profile : List Directive) (s : State) (result : Result Reply Refusal) (database : DbName) (query : String Global) (first count : ℕ)
+pub find_tables : (format : Format) (profile : List Directive) (s : State) (result : Result Reply Refusal) (database : DbName) (query : String Global) (first count : ℕ)
     → (name asked : List ℕ) (from many : ℕ) → name ≡ name_bytes database → asked ≡ string_bytes query → from ≡ first → many ≡ count
-    → OverReady version profile (FindOver profile name asked from many) s result → AnswersTables version profile (Find database query first count) s result
-find_tables version profile s result database query first count name asked from many is_name is_asked is_from is_many told =
-    subst₂ (λ (n q : List ℕ). OverReady version profile (FindOver profile n q first count) s result) is_name is_asked
-    (subst₂ (λ (f m : ℕ). OverReady version profile (FindOver profile name asked f m) s result) is_from is_many told)
+    → OverReady (version_of format) profile (FindOver format profile name asked from many) s result → AnswersTables format profile (Find database query first count) s result
+find_tables format profile s result database query first count name asked from many is_name is_asked is_from is_many told =
+    subst₂ (λ (n q : List ℕ). OverReady (version_of format) profile (FindOver format profile n q first count) s result) is_name is_asked
+    (subst₂ (λ (f m : ℕ). OverReady (version_of format) profile (FindOver format profile name asked f m) s result) is_from is_many told)
 
-pub scan_tables : (version : List ℕ) (profile : List Directive) (s : State) (result : Result Reply Refusal) (database : DbName) (query : String Global) (number position : ℕ)
+pub scan_tables : (format : Format) (profile : List Directive) (s : State) (result : Result Reply Refusal) (database : DbName) (query : String Global) (number position : ℕ)
     → (name asked : List ℕ) (many at : ℕ) → name ≡ name_bytes database → asked ≡ string_bytes query → many ≡ number → at ≡ position
-    → OverReady version profile (ScanOver profile name asked many at) s result → AnswersTables version profile (Scan database query number position) s result
-scan_tables version profile s result database query number position name asked many at is_name is_asked is_many is_at told =
-    subst₂ (λ (n q : List ℕ). OverReady version profile (ScanOver profile n q number position) s result) is_name is_asked
-    (subst₂ (λ (m p : ℕ). OverReady version profile (ScanOver profile name asked m p) s result) is_many is_at told)
+    → OverReady (version_of format) profile (ScanOver format profile name asked many at) s result → AnswersTables format profile (Scan database query number position) s result
+scan_tables format profile s result database query number position name asked many at is_name is_asked is_many is_at told =
+    subst₂ (λ (n q : List ℕ). OverReady (version_of format) profile (ScanOver format profile n q number position) s result) is_name is_asked
+    (subst₂ (λ (m p : ℕ). OverReady (version_of format) profile (ScanOver format profile name asked m p) s result) is_many is_at told)
 
 pub change_over : (version : List ℕ) (profile : List Directive) (s : State) (result : Result Reply Refusal) (kind : Kind) (database : DbName) (files : Vec (Vec ℕ Global) Global) (named : DbName) (given : List (Vec ℕ Global))
     → named ≡ database → given ≡ files.items → ChangesReady version profile (name_bytes named) (map (λ file. file.items) given) s result → ChangesOver version profile (Change kind database files) s result

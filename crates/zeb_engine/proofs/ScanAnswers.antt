@@ -1,5 +1,5 @@
 -- A scan, step by step: the terms around a start, and that the postings have the terms that the kept records have.
-use Rattle.std.proofs.Common.{◌≡◌, ◌↔◌, ◌∙◌, ℕ, ℤ, ◌+◌, ◌-◌, List, ◌++◌, map, filter, take, Some, Result, Ok, Err, refl, sym, ap, ap₂, subst, inr, string_bytes}
+use Rattle.std.proofs.Common.{◌≡◌, ◌↔◌, ◌∙◌, ℕ, ℤ, ◌+◌, ◌-◌, List, ◌++◌, map, filter, take, Some, Result, Ok, Err, refl, sym, ap, ap₂, subst, subst₂, inr, string_bytes}
 use Rattle.sqlite.specs.Tree.{Trees}
 use Rattle.zeb_profile.specs.declared.directives.Directive.{Directive}
 use Rattle.zeb_query.specs.declared.faults.QueryFault.{QueryFault}
@@ -13,8 +13,10 @@ use Rattle.zeb_register.specs.declared.registers.TermCount.{TermCount}
 use Rattle.zeb_register.specs.Content.{posted}
 use Rattle.zeb_register.specs.Formats.{Format}
 use Rattle.zeb_register.specs.Occurring.{AreTermsBefore, AreTermsFrom, is_before, is_from, last}
+use Rattle.zeb_register.specs.Sound.{TellsBefore, TellsFrom}
 use Rattle.zeb_register.proofs.OccurringLemmas.{one_terms, terms_as}
 use Rattle.zeb_engine.specs.Answers.{Answer, scanned, refused}
+use Rattle.zeb_engine.specs.AnyTables.{TellsAround}
 use Rattle.zeb_change.specs.Refused.{diagnostic, why_of}
 use Rattle.zeb_change.specs.Occurs.{occurs}
 use Rattle.zeb_change.specs.Base.{Base}
@@ -37,6 +39,17 @@ around_lists O plan number position start below from first rest terms is_start i
     let back : rest ≡ take (number + 1 - position) (filter (is_from plan.start) before.all) =
     after.is ∙ ap (λ (l : List TermCount). take from (filter (is_from start) l)) one ∙ ap₂ (λ (n : ℕ) (s : List ℕ). take n (filter (is_from s) before.all)) is_from_many is_start in
     record { all = before.all; are = before.are; is = is ∙ ap₂ (λ (xs ys : List TermCount). xs ++ ys) front back }
+
+-- the same of the terms that the rows tell, the first of them on the tables that a look leaves as they were
+pub around_told : (format : Format) (trees mid : Trees) (db : ℤ) (plan : ScanValue) (number position : ℕ) (start : List ℕ) (below from : ℕ) (first rest terms : List TermCount)
+    → start ≡ plan.start → below ≡ position - 1 → from ≡ number + 1 - position → mid ≡ trees
+    → TellsBefore format trees db plan.index plan.register start below first → TellsFrom format mid db plan.index plan.register start from rest → terms ≡ first ++ rest
+    → TellsAround format trees db plan number position terms
+around_told format trees mid db plan number position start below from first rest terms is_start is_below_many is_from_many same before after is =
+    let front = subst₂ (λ (s : List ℕ) (n : ℕ). TellsBefore format trees db plan.index plan.register s n first) is_start is_below_many before in
+    let back = subst₂ (λ (s : List ℕ) (n : ℕ). TellsFrom format trees db plan.index plan.register s n rest) is_start is_from_many
+    (subst (λ (t : Trees). TellsFrom format t db plan.index plan.register start from rest) same after) in
+    record { below = first; rest = rest; before = front; from = back; joined = is }
 
 -- ---- sets of the same occurrences
 

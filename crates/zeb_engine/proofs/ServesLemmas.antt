@@ -20,7 +20,7 @@ use Rattle.zeb_engine.specs.PrivateWorks.{ReachesOutcome, Serves}
 use Rattle.zeb_engine.specs.declared.writes.Write.{Write}
 use Rattle.zeb_engine.specs.declared.writes.Write.TheVariants as write
 use Rattle.zeb_engine.specs.Checking.{TellsSound}
-use Rattle.zeb_engine.specs.PrivateWriting.{Begins, IsReached, ReadsSound}
+use Rattle.zeb_engine.specs.PrivateWriting.{Begins, DoneOrFails, IsReached, ReadsSound}
 use Rattle.zeb_engine.proofs.Ready.{image_still}
 use Rattle.zeb_register.specs.Formats.{Format}
 
@@ -100,11 +100,18 @@ pub opened_so : {A E : Type 0} (r : Result A E) (P Q Opened : Type 0) → (Opene
 opened_so (Ok x) P Q Opened told so = so told
 opened_so (Err e) P Q Opened told so = tt
 
+-- a transaction begins over the tables that are shown before it
+done_over : {S : Type 0} (g : Ghosts S) (old inside : Held S) (result : Result Reply Refusal) → inside ≡ record old { in_transaction = true }
+    → (IsStore (state g inside) → DoneOrFails result) → IsStore (state g old) → DoneOrFails result
+done_over g old inside result begins did store =
+    let began = subst (λ (held : Held _). IsStore (state g held) → DoneOrFails result) begins did in
+    began (record { is = store.is; sound = store.sound; keyed = store.keyed })
+
 -- what a write read sound is read sound before it begins
 pub sound_over : {S : Type 0} (g : Ghosts S) (w : Write) (old inside : Held S) (result : Result Reply Refusal) → inside ≡ record old { in_transaction = true } → ReadsSound w (state g inside) result → ReadsSound w (state g old) result
 sound_over g (write.Init profile pattern) old inside result begins did = tt
-sound_over g (write.Create name) old inside result begins did = tt
-sound_over g (write.Drop name id) old inside result begins did = tt
+sound_over g (write.Create name) old inside result begins did = done_over g old inside result begins did
+sound_over g (write.Drop name id) old inside result begins did = done_over g old inside result begins did
 sound_over g (write.Reindex alloc profile) old inside result begins did = λ store.
     let began = subst (λ (held : Held _). IsStore (state g held) → TellsSound profile.now (state g held).now.trees result) begins did in
     began (record { is = store.is; sound = store.sound; keyed = store.keyed })
@@ -113,7 +120,7 @@ sound_over g (write.Upgrade alloc profile) old inside result begins did = tt
 -- a commit that failed tells nothing
 pub sound_failed : (w : Write) (s : State) → ReadsSound w s (Err refusal.Commit)
 sound_failed (write.Init profile pattern) s = tt
-sound_failed (write.Create name) s = tt
-sound_failed (write.Drop name id) s = tt
+sound_failed (write.Create name) s = λ store. inr (inl refl)
+sound_failed (write.Drop name id) s = λ store. inr (inl refl)
 sound_failed (write.Reindex alloc profile) s = λ store. inr (inr (inl refl))
 sound_failed (write.Upgrade alloc profile) s = tt

@@ -14,7 +14,7 @@ use Rattle.zeb_engine.specs.declared.replies.Reply.{Reply}
 use Rattle.zeb_engine.specs.Answers.{Extent, answer_of, extent_of, refused, IsFailure}
 use Rattle.zeb_change.specs.Refused.{Why, why_of, Meets}
 use Rattle.zeb_change.specs.Conditions.{Conditions}
-use Rattle.zeb_engine.specs.Counting.{IsExtent, IsUnder, Paired, Target}
+use Rattle.zeb_engine.specs.Counting.{IsExtent, Paired, Target}
 use Rattle.zeb_image.specs.Holdings.{Holdings, base_named}
 use Rattle.zeb_change.specs.Base.{Base}
 use Rattle.zeb_image.specs.Image.{Keeps}
@@ -37,9 +37,9 @@ paired_to P Q f so [] (y ∷ ys) all = absurd all
 paired_to P Q f so (x ∷ xs) [] all = absurd all
 paired_to P Q f so (x ∷ xs) (y ∷ ys) all = (so x y all.0, paired_to P Q f so xs ys all.1)
 
--- what stands under the names of indexes
-pub unders_as : (profile : List Directive) (targets : List Target) (holdings : List Holding) → Paired (λ target holding. IsUnder profile target (extent_of holding)) targets holdings → Paired (IsUnder profile) targets (map extent_of holdings)
-unders_as profile targets holdings all = paired_to (λ target holding. IsUnder profile target (extent_of holding)) (IsUnder profile) extent_of (λ target holding is. is) targets holdings all
+-- what is said of the holdings is said of their extents
+pub extents_told : (P : Target → Extent → Type 0) (targets : List Target) (holdings : List Holding) → Paired (λ target holding. P target (extent_of holding)) targets holdings → Paired P targets (map extent_of holdings)
+extents_told P targets holdings all = paired_to (λ target holding. P target (extent_of holding)) P extent_of (λ target holding is. is) targets holdings all
 
 -- ---- sets of the same occurrences
 

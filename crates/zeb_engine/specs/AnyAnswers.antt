@@ -28,8 +28,10 @@ pub record IsAnswerOver (format : Format) (profile : List Directive) (command : 
   -- definition, read so, or for damage in a row that it has to read, as where a hit has no record to show.
   pub alone : AnswersAlone format profile command s result
   -- Also where they hold no content, a find, a scan, a stat and a dump of a ready register are refused by the definition, as damage or by a
-  -- failure. Answered, a find shows each hit that is asked for as a record that is kept under it.
-  pub tables : AnswersTables (version_of format) profile command s result
+  -- failure. Answered, a find, a scan and a stat have met sound rows where they asked, and a find shows each hit that is asked for as a record that is
+  -- kept under it. A create and a drop go by the row of the name. They are refused as damage only where this can't be read, and a dump only
+  -- where this or a record of the database can't be.
+  pub tables : AnswersTables format profile command s result
   -- A change finds what is kept under its first record's identifier whole, or is refused as damage or by a failure. An accepted one has found
   -- so what is kept under each record's.
   pub changes : ChangesOver (version_of format) profile command s result

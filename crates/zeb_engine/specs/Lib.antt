@@ -10,6 +10,7 @@ pub mod Rules
 pub mod Steps
 pub mod PrivateSteps
 pub mod Alone
+pub mod AnyRefusals
 pub mod AnyTables
 pub mod Works
 pub mod PrivateWorks

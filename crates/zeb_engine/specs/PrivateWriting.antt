@@ -17,7 +17,7 @@ use Rattle.zeb_engine.specs.declared.writes.Write.TheVariants as write
 use Rattle.zeb_change.specs.declared.refusals.Refusal.{Refusal}
 use Rattle.zeb_engine.specs.declared.replies.Reply.{Reply}
 use Rattle.zeb_engine.specs.declared.replies.Reply.TheVariants.{Done}
-use Rattle.zeb_engine.specs.Answers.{IsFailure, refused}
+use Rattle.zeb_engine.specs.Answers.{answer_of, done, refused, IsFailure}
 use Rattle.zeb_engine.specs.Causes.{HasRoomToRenew}
 use Rattle.zeb_change.specs.Refused.{why_of}
 use Rattle.zeb_change.specs.Conditions.{Conditions}
@@ -133,11 +133,15 @@ HasRoomToWrite (write.Drop name id) trees = ⊥
 HasRoomToWrite (write.Reindex alloc profile) trees = HasRoomToRenew profile.now trees × ¬ IsTooLarge (entry (codes "profile") (canonical_text profile.now))
 HasRoomToWrite (write.Upgrade alloc profile) trees = HasRoomToRenew profile.now trees
 
--- a reindex goes by the kept records
+-- it is done, or it failed
+abbrev pub DoneOrFails : Result Reply Refusal → Type 0
+DoneOrFails result = (answer_of result ≡ done) ⊎ IsFailure (answer_of result)
+
+-- a reindex goes by the kept records; a create and a drop meet no damage, once the row of the name is read
 abbrev pub ReadsSound : Write → State → Result Reply Refusal → Type 0
 ReadsSound (write.Init profile pattern) s result = Unit {0}
-ReadsSound (write.Create name) s result = Unit {0}
-ReadsSound (write.Drop name id) s result = Unit {0}
+ReadsSound (write.Create name) s result = IsStore s → DoneOrFails result
+ReadsSound (write.Drop name id) s result = IsStore s → DoneOrFails result
 ReadsSound (write.Reindex alloc profile) s result = IsStore s → TellsSound profile.now s.now.trees result
 ReadsSound (write.Upgrade alloc profile) s result = Unit {0}
 

@@ -11,7 +11,7 @@ ghost use Rattle.zeb_register.specs.Store.{IsStore};
 ghost use Rattle.zeb_engine.specs.PrivateChanging.{MayBeginUnder, MayBegin, comes_to, last_of};
 ghost use Rattle.zeb_change.specs.Conditions.{Conditions};
 ghost use Rattle.zeb_engine.specs.Answers.{IsFailure, refused};
-ghost use Rattle.zeb_engine.specs.AnyTables.{ElderOver, EldersOver};
+ghost use Rattle.zeb_engine.specs.AnyTables.{ElderOver, EldersOver, LeavesRecords, LeavesWhole};
 ghost use Rattle.zeb_engine.specs.Causes.{ChangesInRoom, HasRoomToChange};
 ghost use Rattle.zeb_engine.specs.PrivateCrashes.{Commits};
 ghost use Rattle.zeb_change.specs.Base.{Base};
@@ -115,6 +115,10 @@ fn apply<S: Alter, L: Layout, R: Source>(
         IsDatabaseOf trees (name_bytes change.now.name.now) change.now.found
         → (texts : List (List ℕ)) → map R.remaining readers.old ≡ map Some texts
         → EldersOver change.now.setting.profile.now (name_bytes change.now.name.now) texts trees result) }
+    ensures loses { InStore (state S.Store tx.old.conn.now) (state S.Store tx.new.conn.now) (λ trees.
+        IsDatabaseOf trees (name_bytes change.now.name.now) change.now.found
+        → OnOk result (LeavesRecords change.now.setting.profile.now (name_bytes change.now.name.now) trees
+        (state S.Store tx.new.conn.now).now.trees)) }
 {
     // Its profile is some text's.
     change.setting.profile.is_of_some_text();
@@ -186,6 +190,10 @@ fn transact<S: Alter, L: Layout, R: Source>(
         IsDatabaseOf trees (name_bytes change.now.name.now) change.now.found
         → (texts : List (List ℕ)) → map R.remaining readers.old ≡ map Some texts
         → EldersOver change.now.setting.profile.now (name_bytes change.now.name.now) texts trees result) }
+    ensures loses { OnStore (state S.Store connection.old) (state S.Store connection.new) (λ trees.
+        IsDatabaseOf trees (name_bytes change.now.name.now) change.now.found
+        → OnOk result (LeavesRecords change.now.setting.profile.now (name_bytes change.now.name.now) trees
+        (state S.Store connection.new).now.trees)) }
 {
     let _settled = connection.is_autocommit();
     let mut tx = connection.transaction();
@@ -276,6 +284,8 @@ pub(crate) fn change_database<S: Alter, L: Layout, R: Source>(
     ensures elders { OnStore (state S.Store connection.old) (state S.Store connection.new) (λ trees. (texts : List (List ℕ))
         → map R.remaining readers.old ≡ map Some texts
         → EldersOver setting.entry.profile.now (name_bytes name.now) texts trees result) }
+    ensures loses { HasCleanDisk (state S.Store connection.new)
+        → LeavesWhole setting.entry.profile.now (name_bytes name.now) (state S.Store connection.old) (state S.Store connection.new) result }
 {
     let found = found_for::<S, L>(connection, &setting, name)?;
     let mut buffer = RecordBuf::new(setting.alloc)?;

@@ -6,8 +6,10 @@ ghost use Rattle.sqlite.specs.Held.{state};
 ghost use Rattle.sqlite.specs.State.{HasCleanDisk};
 ghost use Rattle.sqlite.specs.Tree.{Trees};
 ghost use Rattle.zeb_register.specs.Formats.{version_of};
+ghost use Rattle.zeb_register.specs.Kept.{AreReadable};
 ghost use Rattle.zeb_engine.specs.Answers.{IsFailure, refused};
-ghost use Rattle.zeb_engine.specs.AnyTables.{DumpOver, JoinsRecords, OverReady};
+ghost use Rattle.zeb_engine.specs.AnyRefusals.{HidesRecords, UnlessHidden};
+ghost use Rattle.zeb_engine.specs.AnyTables.{DumpOver, JoinsRecords};
 ghost use Rattle.zeb_change.specs.Refused.{why_of};
 ghost use Rattle.zeb_change.specs.Conditions.{conditions};
 ghost use Rattle.zeb_change.specs.declared.settings.Limits.{Limits};
@@ -51,7 +53,10 @@ fn bytes_of<S: Alter>(
     ensures failed { HasCleanDisk (state S.Store connection.new) → (trees : Trees) → ShowsStore (state S.Store connection.old) trees
         → IsTrue (state S.Store connection.old).is_open → (records : List Kept) → KeepsBase trees database.0 records
         → IfErr result (λ refusal. IsFailure (refused (why_of refusal))) }
-    ensures few { IfErr result (λ refusal. (refusal ≡ Refusal.Damaged) ⊎ IsFailure (refused (why_of refusal))) }
+    // Damage is told only of records that can't be read.
+    ensures honest { HasCleanDisk (state S.Store connection.new) → (trees : Trees) → ShowsStore (state S.Store connection.old) trees
+        → IsTrue (state S.Store connection.old).is_open → IfErr result (λ refusal. IsFailure (refused (why_of refusal))
+        ⊎ ((refusal ≡ Refusal.Damaged) × (¬ AreReadable trees database.0))) }
     ensures unread { NoReadFault result }
     ensures ready { NeverUnready result }
     ensures caused { FailsForCause S.Store connection.old connection.new result }
@@ -79,9 +84,10 @@ pub(crate) fn dump<S: Alter, L: Layout>(
     ensures serves { HasCleanDisk (state S.Store connection.new) → (limits : Limits)
         → Serves Always (dumped_by (conditions (version_of L.format) profile.now limits) (name_bytes name.now))
         (state S.Store connection.old) (state S.Store connection.new) result }
-    // Whatever the tables hold, it is of records that the database keeps, or refused by the definition or as damage.
+    // Whatever the tables hold, it is of records that the database keeps, or refused by the definition, or as damage that they have.
     ensures tables { HasCleanDisk (state S.Store connection.new)
-        → OverReady (version_of L.format) profile.now (DumpOver (name_bytes name.now)) (state S.Store connection.old) result }
+        → UnlessHidden (version_of L.format) profile.now (DumpOver (name_bytes name.now)) (HidesRecords (name_bytes name.now))
+        (state S.Store connection.old) result }
     ensures idle { connection.new.in_transaction ≡ false }
     ensures open { FindsOpen S.Store connection.old connection.new result }
     ensures same { LeavesAsIs S.Store connection.old connection.new }

@@ -133,10 +133,10 @@ pub(crate) fn find<S: Alter, L: Layout>(
     ensures refused { HasCleanDisk (state S.Store connection.new)
         → RefusedAlone L.format (RefusesFind profile.now (name_bytes name.now) question.entry.query.now question.entry.first
         question.entry.count) (state S.Store connection.old) result }
-    // A hit is shown only as a record that is kept, whatever the tables hold.
+    // Whatever the tables hold, each row of an entry that the query asks for is sound, and a hit is shown only as a record that is kept.
     ensures tables { HasCleanDisk (state S.Store connection.new) → IsStore (state S.Store connection.old)
-        → TellsOver (FindOver profile.now (name_bytes name.now) question.entry.query.now question.entry.first question.entry.count)
-        (state S.Store connection.old).now.trees result }
+        → TellsOver (FindOver L.format profile.now (name_bytes name.now) question.entry.query.now question.entry.first
+        question.entry.count) (state S.Store connection.old).now.trees result }
     ensures idle { connection.new.in_transaction ≡ false }
     ensures open { FindsOpen S.Store connection.old connection.new result }
     ensures same { LeavesAsIs S.Store connection.old connection.new }

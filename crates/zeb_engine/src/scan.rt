@@ -17,7 +17,7 @@ ghost use Rattle.zeb_image.specs.Image.{Keeps};
 ghost use Rattle.zeb_image.specs.NameOf.{name_bytes};
 ghost use Rattle.zeb_change.specs.Reading.{NoReadFault};
 ghost use Rattle.zeb_engine.specs.Alone.{Alone, ScanSays};
-ghost use Rattle.zeb_engine.specs.AnyTables.{ScanOver, TellsOver};
+ghost use Rattle.zeb_engine.specs.AnyTables.{ScanOver, TellsAround, TellsOver};
 ghost use Rattle.zeb_engine.specs.Reads.{ScanReads};
 ghost use Rattle.zeb_engine.specs.Scanning.{AreAround};
 ghost use Rattle.zeb_engine.specs.Steps.{ready, AskedAmong, ScanAnswers};
@@ -65,6 +65,10 @@ fn terms_around<S: Alter, L: Layout>(
     ensures around { HasCleanDisk (state S.Store connection.new) → IsStore (state S.Store connection.old)
         → IfOk result (λ terms. (content : Content) → holds_in L.format (state S.Store connection.old).now.trees content
         → AreAround (posted content database.0) (scan_value plan.now) around.now.number around.now.position terms.items) }
+    // They are those that the rows tell, whatever the tables hold.
+    ensures told { HasCleanDisk (state S.Store connection.new) → IsStore (state S.Store connection.old)
+        → IfOk result (λ terms. TellsAround L.format (state S.Store connection.old).now.trees database.0 (scan_value plan.now)
+        around.now.number around.now.position terms.items) }
     ensures idle { connection.new.in_transaction ≡ false }
     ensures open { FindsOpen S.Store connection.old connection.new result }
     ensures same { LeavesAsIs S.Store connection.old connection.new }
@@ -114,10 +118,10 @@ pub(crate) fn scan<S: Alter, L: Layout>(
     ensures alone { HasCleanDisk (state S.Store connection.new)
         → Alone L.format (ScanSays profile.now around.entry.query.now around.entry.number around.entry.position) (name_bytes name.now)
         (state S.Store connection.old) result }
-    // Whatever the tables hold, it is of the database and of the register that are asked for, or refused by the definition or as damage.
+    // Whatever the tables hold, the terms are those that the rows around the start tell, or it is refused by the definition or as damage.
     ensures tables { HasCleanDisk (state S.Store connection.new) → IsStore (state S.Store connection.old)
-        → TellsOver (ScanOver profile.now (name_bytes name.now) around.entry.query.now around.entry.number around.entry.position)
-        (state S.Store connection.old).now.trees result }
+        → TellsOver (ScanOver L.format profile.now (name_bytes name.now) around.entry.query.now around.entry.number
+        around.entry.position) (state S.Store connection.old).now.trees result }
     ensures idle { connection.new.in_transaction ≡ false }
     ensures open { FindsOpen S.Store connection.old connection.new result }
     ensures same { LeavesAsIs S.Store connection.old connection.new }

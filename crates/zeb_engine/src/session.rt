@@ -9,7 +9,7 @@ ghost use Rattle.zeb_engine.specs.Costs.{CommandCosts, no_work};
 ghost use Rattle.zeb_engine.specs.Reads.{CommandReads};
 ghost use Rattle.zeb_engine.specs.Alone.{AnswersAlone};
 ghost use Rattle.zeb_engine.specs.AnyAnswers.{IsAnswerOver};
-ghost use Rattle.zeb_engine.specs.AnyTables.{AnswersTables, ChangesOver};
+ghost use Rattle.zeb_engine.specs.AnyTables.{AnswersTables, ChangeLeaves, ChangesOver};
 ghost use Rattle.zeb_engine.specs.Analysed.{AnswersAnalysis};
 ghost use Rattle.zeb_engine.specs.Answers.{IsFailure, answer_of, refused};
 ghost use Rattle.zeb_change.specs.Refused.{why_of};
@@ -213,6 +213,9 @@ impl<S: Alter, L: Layout> Session<S, L> {
         // All that is said of an answer on any tables, as the program passes it on.
         ensures over { HasCleanDisk (state S.Store self.new.connection)
             → IsAnswerOver L.format self.old.profile command.now (state S.Store self.old.connection) result }
+        // An accepted change loses none of its database's records up to the last number but whole ones, and none of any other database.
+        ensures loses { HasCleanDisk (state S.Store self.new.connection) → ChangeLeaves self.old.profile command.now
+            (state S.Store self.old.connection) (state S.Store self.new.connection) result }
         // An analysis is answered by its files, whatever the tables hold, and also where the connection is shut.
         ensures analysed { AnswersAnalysis self.old.profile self.old.limits.records command.now result }
         // A command that only asks changes nothing, whatever it answers and whatever the tables hold.
@@ -279,8 +282,9 @@ impl<S: Alter, L: Layout> Session<S, L> {
         ensures failed { command.now ≡ Command.Init → IfErr result (λ refusal. IsFailure (refused (why_of refusal))) }
         ensures asked { HasCleanDisk (state S.Store self.new.connection)
             → AnswersAlone L.format self.old.profile command.now (state S.Store self.old.connection) result
-            × AnswersTables (version_of L.format) self.old.profile command.now (state S.Store self.old.connection) result
-            × ChangesOver (version_of L.format) self.old.profile command.now (state S.Store self.old.connection) result }
+            × AnswersTables L.format self.old.profile command.now (state S.Store self.old.connection) result
+            × (ChangesOver (version_of L.format) self.old.profile command.now (state S.Store self.old.connection) result
+            × ChangeLeaves self.old.profile command.now (state S.Store self.old.connection) (state S.Store self.new.connection) result) }
         ensures analysed { AnswersAnalysis self.old.profile self.old.limits.records command.now result }
         ensures reads { HasCleanDisk (state S.Store self.new.connection) → OnlyAsks command.now
             → ChangesNothing (state S.Store self.old.connection) (state S.Store self.new.connection) }

@@ -7,11 +7,11 @@ ghost use Rattle.sqlite.specs.Tree.{Trees};
 ghost use Rattle.zeb_register.specs.Formats.{holds_in, version_of};
 ghost use Rattle.zeb_register.specs.Content.{Content, IsStorable, posted};
 ghost use Rattle.zeb_engine.specs.Alone.{Alone, StatSays};
-ghost use Rattle.zeb_engine.specs.AnyTables.{OverReady, StatOver};
+ghost use Rattle.zeb_engine.specs.AnyTables.{IsSoundUnder, OverReady, StatOver};
 ghost use Rattle.zeb_engine.specs.Answers.{IsFailure, extent_of, refused};
 ghost use Rattle.zeb_change.specs.Refused.{why_of, NeverUnready};
 ghost use Rattle.zeb_change.specs.Conditions.{conditions};
-ghost use Rattle.zeb_engine.specs.Counting.{IsExtent, IsUnder, Paired, name_of_index, target_in, target_list};
+ghost use Rattle.zeb_engine.specs.Counting.{IsExtent, Paired, name_of_index, target_in, target_list};
 ghost use Rattle.zeb_change.specs.declared.settings.Limits.{Limits};
 ghost use Rattle.zeb_image.specs.NameOf.{name_bytes};
 ghost use Rattle.zeb_change.specs.Reading.{NoReadFault};
@@ -94,9 +94,11 @@ fn holdings_of<S: Alter, L: Layout>(
         → (content : Content) → holds_in L.format trees content
         → IfOk result (λ holdings. Paired (λ target holding. IsExtent (posted content database.0) profile.now target
         (extent_of holding)) targets.now holdings.items) }
-    // Whatever the tables hold, each stands under the name of its index.
-    ensures named { IfOk result (λ holdings. Paired (λ target holding. IsUnder profile.now target (extent_of holding))
-        targets.now holdings.items) }
+    // Whatever the tables hold, each stands under the name of its index, and the rows of its register are sound.
+    ensures sound { HasCleanDisk (state S.Store connection.new) → (trees : Trees) → ShowsStore (state S.Store connection.old) trees
+        → IsTrue (state S.Store connection.old).is_open
+        → IfOk result (λ holdings. Paired (λ target holding. IsSoundUnder L.format profile.now trees database.0 target
+        (extent_of holding)) targets.now holdings.items) }
     ensures idle { connection.new.in_transaction ≡ false }
     ensures open { LeavesOpen S.Store connection.old connection.new result }
     ensures same { LeavesAsIs S.Store connection.old connection.new }
@@ -145,9 +147,11 @@ pub(crate) fn stat<S: Alter, L: Layout>(
     // The terms and occurrences are counted in the registers, on any tables that hold a content.
     ensures alone { HasCleanDisk (state S.Store connection.new)
         → Alone L.format (StatSays profile.now) (name_bytes name.now) (state S.Store connection.old) result }
-    // Whatever the tables hold, the records are counted and the last number is told, or it is refused by the definition or as damage.
+    // Whatever the tables hold, the records are counted, the last number is told and the rows of the registers are sound, or it is refused by
+    // the definition or as damage.
     ensures tables { HasCleanDisk (state S.Store connection.new)
-        → OverReady (version_of L.format) profile.now (StatOver profile.now (name_bytes name.now)) (state S.Store connection.old) result }
+        → OverReady (version_of L.format) profile.now (StatOver L.format profile.now (name_bytes name.now))
+        (state S.Store connection.old) result }
     ensures unread { NoReadFault result }
     ensures ready { TellsReady S.Store (version_of L.format) profile.now connection.old connection.new result }
     // The store fails for a cause.

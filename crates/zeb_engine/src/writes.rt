@@ -1,15 +1,16 @@
 //! The commands that write without reading records, each in one transaction.
 
-ghost use Rattle.std.specs.Prelude.{◌≡◌, ◌⊎◌, false, [], IsTrue, OnOk, OnErr, IfErr, codes};
+ghost use Rattle.std.specs.Prelude.{◌≡◌, ◌≢◌, ◌⊎◌, false, [], IsTrue, OnOk, OnErr, IfErr, codes};
 ghost use Rattle.sqlite.specs.Held.{state};
 ghost use Rattle.sqlite.specs.State.{HasCleanDisk, KeepsCommit, Survives};
 ghost use Rattle.zeb_register.specs.Calls.{GoesOn, MayRefuse};
-ghost use Rattle.zeb_register.specs.Clauses.{InStore, IsHinderedInside, IsReasonedInside};
+ghost use Rattle.zeb_register.specs.Clauses.{InStore, IsHinderedInside, IsReasonedInside, OnStore};
 ghost use Rattle.zeb_register.specs.Formats.{version_of};
 ghost use Rattle.zeb_register.specs.Hindrances.{IsTooLarge, LacksRowids};
 ghost use Rattle.zeb_register.specs.Store.{IsStore, databases_tree, entry, meta_tree};
 ghost use Rattle.zeb_profile.specs.Canonical.{canonical_text};
 ghost use Rattle.zeb_change.specs.declared.settings.Limits.{Limits};
+ghost use Rattle.zeb_engine.specs.AnyRefusals.{CreateOver, DropOver, HidesDatabase, TellsUnlessHidden};
 ghost use Rattle.zeb_engine.specs.Answers.{IsFailure, refused};
 ghost use Rattle.zeb_change.specs.Refused.{why_of, NeverUnready};
 ghost use Rattle.zeb_change.specs.Conditions.{Conditions, conditions};
@@ -126,6 +127,7 @@ fn create<S: Alter, L: Layout>(tx: &mut Transaction<'_, S>, name: &DbName) -> Re
         (state S.Store tx.new.conn.now) (reply_of_work result) }
     ensures refused { IsHinderedInside (state S.Store tx.old.conn.now) (state S.Store tx.new.conn.now) result
         (LacksRowids 1 databases_tree) }
+    ensures honest { InStore (state S.Store tx.old.conn.now) (state S.Store tx.new.conn.now) (λ _. result ≢ Err RegFault.Damaged) }
     ensures crash { CommitsNothing S.Store tx.old.conn.now tx.new.conn.now }
 {
     database_put(tx, name.as_str(), 0)?;
@@ -146,6 +148,7 @@ fn take<S: Alter, L: Layout>(
         × IsKnown (name_bytes name.now) id.0 c trees before) (turned c (dropped (name_bytes name.now))) (state S.Store tx.old.conn.now)
         (state S.Store tx.new.conn.now) (reply_of_work result) }
     ensures refused { IsReasonedInside (state S.Store tx.old.conn.now) (state S.Store tx.new.conn.now) result }
+    ensures honest { result ≢ Err RegFault.Damaged }
     ensures crash { CommitsNothing S.Store tx.old.conn.now tx.new.conn.now }
 {
     L::database_take(tx, id)?;
@@ -322,6 +325,9 @@ pub(crate) fn create_database<S: Alter, L: Layout>(
     ensures ready { NeverUnready result }
     ensures caused { HasCleanDisk (state S.Store connection.new)
         → HasCauseOver (LacksRowids 1 databases_tree) (state S.Store connection.old) (state S.Store connection.new) result }
+    // Whatever the tables hold, it goes by the row of the name.
+    ensures tables { OnStore (state S.Store connection.old) (state S.Store connection.new) (λ trees.
+        TellsUnlessHidden (CreateOver (name_bytes name.now)) (HidesDatabase (name_bytes name.now)) trees result) }
 {
     let found = database_of(connection, name.as_str())?;
     match found {
@@ -349,6 +355,8 @@ pub(crate) fn drop_database<S: Alter, L: Layout>(
     ensures ready { NeverUnready result }
     ensures caused { HasCleanDisk (state S.Store connection.new)
         → HasCauseOver (λ _. ⊥) (state S.Store connection.old) (state S.Store connection.new) result }
+    ensures tables { OnStore (state S.Store connection.old) (state S.Store connection.new) (λ trees.
+        TellsUnlessHidden (DropOver (name_bytes name.now)) (HidesDatabase (name_bytes name.now)) trees result) }
 {
     let database = existing_database::<S, L>(alloc, connection, name)?;
     transact::<S, L>(connection, &Write::Drop(name, database.id))

@@ -11,3 +11,4 @@ pub mod PackedChanges
 pub mod PackedHindrances
 pub mod PackedCauses
 pub mod PackedSound
+pub mod PackedOld

@@ -57,7 +57,7 @@ after_block db idx reg term block (a ∷ b ∷ c ∷ d ∷ e ∷ rest) is = (res
     same one two three four five = cc
 
 -- a row of `dict` follows the key
-after_key : (db idx reg : ℤ) (term : List ℕ) (row : Row) → IsRowOf db idx reg term row → (rest : Row) × (row ≡ key_of db idx reg term ++ rest)
+pub after_key : (db idx reg : ℤ) (term : List ℕ) (row : Row) → IsRowOf db idx reg term row → (rest : Row) × (row ≡ key_of db idx reg term ++ rest)
 after_key db idx reg term [] is = absurd (let e = is.0 in cc)
 after_key db idx reg term (a ∷ []) is = absurd (let e = is.1 in cc)
 after_key db idx reg term (a ∷ b ∷ []) is = absurd (let e = is.2 in cc)
@@ -200,7 +200,7 @@ spells_so db key P Q old new so more p spelled = elim (more p spelled) [ inl was
 
 module _ (db : ℤ) (key : Key) (block : ℕ) (list : List Posting) (old new : Trees) where
   -- what one row spells
-  one_row : (b : ℕ) (bs bytes : List ℕ) (l : List Posting) → block_row db key b bs ≡ block_row db key block bytes → BlockSpells b l bs → BlockSpells block list bytes → l ≡ list
+  pub one_row : (b : ℕ) (bs bytes : List ℕ) (l : List Posting) → block_row db key b bs ≡ block_row db key block bytes → BlockSpells b l bs → BlockSpells block list bytes → l ≡ list
   one_row b bs bytes l same one two =
       let number : Int (pos b) ≡ Int (pos block) = ap (λ (r : Row). column r 4) same in
       let blob : Blob bs ≡ Blob bytes = ap (λ (r : Row). column r 5) same in

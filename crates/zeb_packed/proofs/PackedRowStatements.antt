@@ -109,14 +109,14 @@ records_refused db idx reg term old new e store told failed =
 abbrev pub add_block_text : List ℕ
 add_block_text = codes "INSERT INTO blocks VALUES (?1, ?2, ?3, ?4, ?5, ?6)"
 
-abbrev add_block_terms : List Term
+abbrev pub add_block_terms : List Term
 add_block_terms = lit Null ∷ col 0 0 ∷ col 0 1 ∷ col 0 2 ∷ col 0 3 ∷ col 0 4 ∷ col 0 5 ∷ []
 
-add_block_is : command_of (understood store_schema add_block_text) ≡ Insert 4 (Values add_block_terms 7)
+pub add_block_is : command_of (understood store_schema add_block_text) ≡ Insert 4 (Values add_block_terms 7)
 unfolding understood everything
 add_block_is = refl
 
-add_block_plain : IsPlain (understood store_schema add_block_text)
+pub add_block_plain : IsPlain (understood store_schema add_block_text)
 unfolding understood everything
 add_block_plain = (refl, refl)
 

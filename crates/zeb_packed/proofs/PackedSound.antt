@@ -27,7 +27,9 @@ use Rattle.zeb_register.specs.PackedBlocks.{IsRecordNumber, SpellsPart, block_ro
 use Rattle.zeb_packed.specs.PrivatePackedChanges.{IsBlockIn, IsTold, PutsBlock, SpellsIn}
 use Rattle.zeb_packed.specs.PrivatePackedHindrances.{AreRunsSpelled, WereSpelled}
 use Rattle.zeb_register.specs.PrivatePackedRows.{AreSpelled, IsInBlock}
-use Rattle.zeb_packed.specs.PackedSound.{AreBetweenSpelled, IsBlockSpelled, IsKeyCounted}
+use Rattle.zeb_packed.specs.PackedSound.{IsBlockSpelled, IsKeyCounted, PlacesIn, had}
+use Rattle.zeb_register.specs.Formats.{packed_blocks}
+use Rattle.zeb_register.specs.Sound.{AreListsSound}
 use Rattle.zeb_register.specs.PlainRows.{key_row}
 use Rattle.zeb_register.specs.PrivateRowStatements.{Gains}
 use Rattle.zeb_register.specs.Sql.{IsListOf}
@@ -88,11 +90,11 @@ module _ (trees : Trees) (at : RegisterOf) (first last : List ℕ) (rows : List 
       let high = sym (ap is_lt (ap (λ v. value_cmp v (Text (last ++ 0 ∷ []))) text.1 ∙ value_cmp-Text text.0 (last ++ 0 ∷ []))) ∙ it.2 in
       (text.0, (low, (up_to last text.0).0 high), begins row (Text text.0) text.1 (λ none. cc), it.0)
 
-  pub between_spelled : (list : List Posting) → AreSpelled (map two_behind rows) list → AreBetweenSpelled trees at first last
+  pub between_spelled : (list : List Posting) → AreSpelled (map two_behind rows) list → AreListsSound packed_blocks trees at.db.0 at.index at.register first last
   between_spelled list spelled term between row there =
       each_spelled (map two_behind rows) list spelled (two_behind (Text term ∷ row)) (mapped_has two_behind rows (Text term ∷ row) (row_shown term row between there))
 
-  pub all_between : AreBetweenSpelled trees at first last → (list : List Posting) × AreSpelled (map two_behind rows) list
+  pub all_between : AreListsSound packed_blocks trees at.db.0 at.index at.register first last → (list : List Posting) × AreSpelled (map two_behind rows) list
   all_between all = all_spelled (map two_behind rows) (λ x here.
       let row = has_mapped two_behind rows x here in
       let it = shown_row row.0 row.1 in
@@ -106,7 +108,7 @@ pub absent_spelled : (trees : Trees) (db : ℤ) (key : Key) (block : ℕ) → Is
 absent_spelled trees db key block told row there at = absurd (told (key_row db key ++ row) there (refl, refl, refl, refl, at))
 
 module _ (s : State) (store : IsStore s) (db : ℤ) (key : Key) where
-  one_block : (block : ℕ) (row other : Row) → IsRest blocks_tree (block_front db key block) s.now.trees row → IsRest blocks_tree (block_front db key block) s.now.trees other → row ≡ other
+  pub one_block : (block : ℕ) (row other : Row) → IsRest blocks_tree (block_front db key block) s.now.trees row → IsRest blocks_tree (block_front db key block) s.now.trees other → row ≡ other
   one_block block row other here there =
       let front = block_front db key block in
       let same = single 4 blocks blocks_static ((1 ∷ 2 ∷ 3 ∷ 4 ∷ 5 ∷ []) ∷ []) blocks_keys s store here.0 there.0 (front ++ row) (front ++ other) here.1 there.1
@@ -162,8 +164,8 @@ run_sound db key xs d n block done old mid last is inside so_far next = (
   ],
 )
 
--- by the numbers of the records
-pub numbers_sound : (db : ℤ) (key : Key) (xs : List RecordChange) (trees : Trees) → AreRunsSpelled db key xs trees → (sysno : ℕ) → Has (map (λ (x : RecordChange). x.sysno) xs) sysno → IsBlockSpelled trees db key (sysno / 256)
-numbers_sound db key xs trees all sysno here =
-    let it = has_mapped (λ (x : RecordChange). x.sysno) xs sysno here in
-    subst (λ n. IsBlockSpelled trees db key (n / 256)) (sym it.2) (all it.0 it.1)
+-- by what the changes say stood there
+pub numbers_sound : (db : ℤ) (key : Key) (xs : List RecordChange) (trees : Trees) → AreRunsSpelled db key xs trees → (it : PlacesIn) → Has (map had xs) it → IsBlockSpelled trees db key (it.0 / 256)
+numbers_sound db key xs trees all it here =
+    let from = has_mapped had xs it here in
+    subst (λ (x : PlacesIn). IsBlockSpelled trees db key (x.0 / 256)) (sym from.2) (all from.0 from.1)

@@ -19,9 +19,10 @@ use Rattle.zeb_keys.specs.Registers.{register_code}
 use Rattle.zeb_register.specs.declared.registers.TermCount.{TermCount}
 use Rattle.zeb_register.specs.Content.{Content, IsStorable, posted}
 use Rattle.zeb_register.specs.Occurring.{AreTermsBefore, AreTermsFrom, AreTermsOf, HasKey, IsCount, TermIn, is_before, is_from, key_in, last, term_cmp}
-use Rattle.zeb_register.specs.PackedBlocks.{HoldsBlocks, IsRestBefore, IsRestFrom, CountsTerm, count_row, first_two}
+use Rattle.zeb_register.specs.PackedBlocks.{AreShown, HoldsBlocks, IsRestBefore, IsRestFrom, CountsTerm, count_row, first_two}
 use Rattle.zeb_packed.specs.PrivatePackedRows.{IsFallingListOf}
 use Rattle.zeb_register.specs.PlainRows.{register_front}
+use Rattle.zeb_register.specs.Sound.{TellTerms}
 use Rattle.zeb_register.specs.Sql.{IsListOf}
 use Rattle.zeb_register.specs.Store.{IsRest, dict_tree}
 use Rattle.zeb_register.proofs.ContentLemmas.{one_list, same_key, some_posting}
@@ -153,6 +154,23 @@ has_last P rows others n row down up =
     let same : last n others ≡ reverse (take n rows) = ap (last n) is ∙ last_reversed n rows in
     let back = has_reversed (take n rows) row in
     (λ h. back.0 (subst (λ l. Has l row) same h), λ h. subst (λ l. Has l row) (sym same) (back.1 h))
+
+-- ---- what rows of `dict` tell
+
+pub tell_first : (n : ℕ) (rows every : List Row) (list : List TermCount) → rows ≡ take n every → AreShown list rows → ((row : Row) → Has rows row → CountsTerm row)
+    → TellTerms (take n every) list
+tell_first n rows every list is shown counted = record {
+  shown = shown ∙ ap (map first_two) is;
+  counted = λ row here. counted row (subst (λ l. Has l row) (sym is) here);
+}
+
+pub tell_last : (n : ℕ) (rows every : List Row) (list : List TermCount) → rows ≡ take n every → AreShown list rows → ((row : Row) → Has rows row → CountsTerm row)
+    → TellTerms (last n (reverse every)) (reverse list)
+tell_last n rows every list is shown counted =
+    let same : last n (reverse every) ≡ reverse rows = last_reversed n every ∙ ap reverse (sym is) in record {
+      shown = sym (reversed_map count_row list) ∙ ap reverse shown ∙ reversed_map first_two rows ∙ ap (map first_two) (sym same);
+      counted = λ row here. counted row ((has_reversed rows row).0 (subst (λ l. Has l row) same here));
+    }
 
 -- ---- the rows of one register
 

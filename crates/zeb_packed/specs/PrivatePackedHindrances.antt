@@ -1,6 +1,6 @@
 -- What only the contracts of private functions speak of; no public clause reaches it.
 -- Why rows of a key can't be put into packed tables, and what they spell then.
-use Rattle.std.specs.Prelude.{◌≡◌, ◌⊎◌, ◌+◌, ◌/◌, ◌<◌, ◌≤◌, ◌^◌, ℕ, zero, suc, ℤ, Bool, true, false, List, length, map, Result, OnOk}
+use Rattle.std.specs.Prelude.{◌≡◌, ◌↔◌, ◌⊎◌, ◌+◌, ◌/◌, ◌<◌, ◌≤◌, ◌^◌, ℕ, zero, suc, ℤ, Bool, true, false, List, length, map, Result, OnOk}
 use Rattle.sqlite.specs.Order.{Row}
 use Rattle.sqlite.specs.State.{State}
 use Rattle.sqlite.specs.Tree.{Trees}
@@ -13,7 +13,8 @@ use Rattle.zeb_register.specs.declared.faults.RegFault.{RegFault}
 use Rattle.zeb_register.specs.Clauses.{InStore, IsHinderedInside}
 use Rattle.zeb_register.specs.Hindrances.{HasLargeRow, IsPlacedAt, IsSpelledAt, LacksRowids, placed, rows_of}
 use Rattle.zeb_register.specs.PrivateKeyColumns.{IsDictIn}
-use Rattle.zeb_packed.specs.PackedSound.{IsBlockSpelled}
+use Rattle.zeb_packed.specs.PackedSound.{AreOfOthers, AreSpelledIn, IsBlockSpelled, IsOfFirsts, IsOfRising, PlacesIn, had}
+use Rattle.zeb_packed.specs.PrivatePackedChanges.{IsBlockIn, IsTold}
 use Rattle.zeb_register.specs.Sql.{HasRow}
 use Rattle.zeb_register.specs.Store.{blocks_tree, dict_tree}
 
@@ -81,3 +82,28 @@ FindsSpelled db key block old new result = InStore old new (λ trees. OnOk resul
 -- the rows of each block in which a changed record lies spell some postings
 abbrev pub AreRunsSpelled : ℤ → Key → List RecordChange → Trees → Type 0
 AreRunsSpelled db key changes trees = (change : RecordChange) → Has changes change → IsBlockSpelled trees db key (change.sysno / 256)
+
+-- ---- what the rows of a key have of the records
+
+-- what they spell of the records that none of the changes is of is the same before and behind
+abbrev pub KeepsRecords : ℤ → Key → List PlacesIn → Trees → Trees → Type 0
+KeepsRecords db key changes old new = (p : Posting) → AreOfOthers changes p.sysno → IsSpelledAt db key new p ↔ IsSpelledAt db key old p
+
+-- the rows that are none of the key and the block stay
+abbrev pub KeepsOutside : ℤ → Key → ℕ → Trees → Trees → Type 0
+KeepsOutside db key block old new = (row : Row) → HasRow old blocks_tree row → ¬ IsBlockIn db key block row → HasRow new blocks_tree row
+
+-- a call with these changes in the block is accepted only where the first one of each record says its places; it keeps the other records,
+-- and the rows outside of the block
+abbrev pub FindsOld : {A : Type 0} → ℤ → Key → ℕ → List RecordChange → State → State → Result A RegFault → Type 0
+FindsOld db key block run old new result =
+    InStore old new (λ trees. OnOk result (IsOfFirsts (AreSpelledIn trees db key) (map had run)
+    × KeepsRecords db key (map had run) trees new.now.trees × KeepsOutside db key block trees new.now.trees))
+
+-- the key has no row of the block
+abbrev pub LacksBlock : ℤ → Key → ℕ → Trees → Type 0
+LacksBlock db key block trees = IsTold false (IsBlockIn db key block) blocks_tree trees
+
+-- from this block on the key had no row for a change in a block above those of all changes before it
+abbrev pub WereClear : ℤ → Key → ℕ → List RecordChange → Trees → Type 0
+WereClear db key clear_from changes trees = IsOfRising (λ it. clear_from ≤ it.0 / 256 → LacksBlock db key (it.0 / 256) trees) (map had changes)

@@ -3,12 +3,11 @@
 ghost use Rattle.std.specs.Prelude.{IsUtf8, ◌≡◌, ◌≢◌, ◌↔◌, ◌*◌, ◌∷◌, [], List, length, map, sum_by, IfOk, OnOk};
 ghost use Rattle.std.specs.List.Sorted.{IsStrictlySortedBy};
 ghost use Rattle.sqlite.specs.Held.{state};
-ghost use Rattle.sqlite.specs.Order.{Row as Columns};
 ghost use Rattle.sqlite.specs.State.{IsUnchanged};
 ghost use Rattle.sqlite_rules.specs.Lists.{Has};
 ghost use Rattle.zeb_blocks.specs.declared.postings.Posting.{Posting};
 ghost use Rattle.zeb_keys.specs.declared.keys.Key.{Key};
-ghost use Rattle.zeb_packed.specs.PackedSound.{AreBetweenSpelled, AreKeyRowsSound};
+ghost use Rattle.zeb_packed.specs.PackedSound.{AreKeyRowsSound, had};
 ghost use Rattle.zeb_register.specs.Between.{AreKeysBetween, IsPostingBetween};
 ghost use Rattle.zeb_register.specs.Calls.{GoesOn, Inside, Reading};
 ghost use Rattle.zeb_register.specs.Clauses.{ChangesHeld, DamagedHeld, FindsHeld, InStore, IsHinderedInside, IsHonest};
@@ -16,11 +15,11 @@ ghost use Rattle.zeb_register.specs.Clauses.{IsHonestStorable, IsReasoned, OnSto
 ghost use Rattle.zeb_register.specs.Content.{AreChangedAt, ArePlacesOf, Content, IsChangedAt, OldsRise, place_cmp, posted};
 ghost use Rattle.zeb_register.specs.Hindrances.{HindersPlaces, placed, rows_of};
 ghost use Rattle.zeb_register.specs.Occurring.{AreTermsBefore, AreTermsFrom, AreTermsOf, AreTotals, key_in};
-ghost use Rattle.zeb_register.specs.PackedBlocks.{AreAllCounted, AreAllSpelled, AreBeforeCounted, AreFromCounted, AreShown};
+ghost use Rattle.zeb_register.specs.Formats.{packed_blocks};
+ghost use Rattle.zeb_register.specs.PackedBlocks.{AreAllCounted, AreAllSpelled, AreBeforeCounted, AreFromCounted};
 ghost use Rattle.zeb_register.specs.PackedBlocks.{CountsRegister, HoldsBlocks, IsRegisterSound, blocks_of};
 ghost use Rattle.zeb_register.specs.PlainRows.{key_row, register_front};
-ghost use Rattle.zeb_register.specs.Sql.{IsListOf};
-ghost use Rattle.zeb_register.specs.Store.{IsRest, dict_tree};
+ghost use Rattle.zeb_register.specs.Sound.{AreListsSound, TellsBefore, TellsFrom, TellsRegister};
 ghost use Rattle.zeb_register.specs.Tallies.{Works};
 ghost use Rattle.zeb_register.specs.declared.registers.TermCount.{TermCount};
 
@@ -81,7 +80,7 @@ impl Layout for Blocks {
         ensures damaged { DamagedHeld HoldsBlocks (state S.Store tx.old.conn.now) (state S.Store tx.new.conn.now) result
             (IsStrictlySortedBy place_cmp old.now) (λ content. ¬ ArePlacesOf sysno old.now (content db.0 key.now)) }
         ensures sound { InStore (state S.Store tx.old.conn.now) (state S.Store tx.new.conn.now) (λ trees. OnOk result
-            (AreKeyRowsSound trees db.0 key.now (sysno ∷ []))) }
+            (AreKeyRowsSound trees db.0 key.now ((sysno, old.now) ∷ []))) }
         ensures text { OnOk result (IsUtf8 key.now.term) }
         ensures refused { IsHinderedInside (state S.Store tx.old.conn.now) (state S.Store tx.new.conn.now) result
             (HindersPlaces db.0 key.now ((sysno, new.now) ∷ [])) }
@@ -95,8 +94,8 @@ impl Layout for Blocks {
     }
 
     /// `Damaged` also where the rows that are read can't be those of a content that every layout can store; `Store` also where one of the
-    /// places `new` is 0, or these don't rise. So no change is accepted where the row of the key in `dict` doesn't say 1 to 999,999,999, or
-    /// where the row of a changed record's block spells no postings.
+    /// places `new` is 0, or these don't rise. So no change is accepted where the row of the key in `dict` doesn't say 1 to 999,999,999,
+    /// where the row of a changed record's block spells no postings, or where it has other places in the record than its first change says.
     fn key_changes<S: Alter>(
         tx: &mut Transaction<'_, S>,
         work: &mut Work,
@@ -113,7 +112,7 @@ impl Layout for Blocks {
         ensures damaged { DamagedHeld HoldsBlocks (state S.Store tx.old.conn.now) (state S.Store tx.new.conn.now) result
             (OldsRise changes.now) (λ content. (after : Content) → ¬ AreChangedAt db.0 key.now changes.now content after) }
         ensures sound { InStore (state S.Store tx.old.conn.now) (state S.Store tx.new.conn.now) (λ trees. OnOk result
-            (changes.now ≢ [] → AreKeyRowsSound trees db.0 key.now (map (λ change. change.sysno) changes.now))) }
+            (changes.now ≢ [] → AreKeyRowsSound trees db.0 key.now (map had changes.now))) }
         ensures text { OnOk result (changes.now ≢ [] → IsUtf8 key.now.term) }
         ensures refused { IsHinderedInside (state S.Store tx.old.conn.now) (state S.Store tx.new.conn.now) result
             (HindersPlaces db.0 key.now (map placed changes.now)) }
@@ -187,9 +186,9 @@ impl Layout for Blocks {
         ensures honest { IsHonestStorable HoldsBlocks (state S.Store conn.old) (state S.Store conn.new) result }
         ensures refused { IsReasoned (state S.Store conn.old) (state S.Store conn.new) result }
         ensures spelled { OnStore (state S.Store conn.old) (state S.Store conn.new) (λ trees. OnOk result
-            (AreBetweenSpelled trees at first.now last.now)) }
+            (AreListsSound packed_blocks trees at.db.0 at.index at.register first.now last.now)) }
         ensures damaged { IsHonest (state S.Store conn.old) (state S.Store conn.new) result
-            (λ trees. AreBetweenSpelled trees at first.now last.now) }
+            (λ trees. AreListsSound packed_blocks trees at.db.0 at.index at.register first.now last.now) }
         ensures work { TellsHeld HoldsBlocks (state S.Store conn.old) (state S.Store conn.new) result
             (λ content _. (keys : List Key) → AreKeysBetween content at first.now last.now keys → Works 0 0
             (sum_by (λ key. blocks_of (content at.db.0 key)) keys) 0 work.old work.new) }
@@ -210,8 +209,8 @@ impl Layout for Blocks {
             (λ content list. AreTermsOf (posted content at.db.0) at.index at.register list.items) }
         ensures honest { IsHonestStorable HoldsBlocks (state S.Store conn.old) (state S.Store conn.new) result }
         ensures refused { IsReasoned (state S.Store conn.old) (state S.Store conn.new) result }
-        ensures shown { Tells (state S.Store conn.old) (state S.Store conn.new) result (λ trees list. (rows : List Columns)
-            × IsListOf (IsRest dict_tree (register_front at.db.0 at.index at.register) trees) rows × AreShown list.items rows) }
+        ensures told { Tells (state S.Store conn.old) (state S.Store conn.new) result (λ trees list.
+            TellsRegister packed_blocks trees at.db.0 at.index at.register list.items) }
         ensures sound { OnStore (state S.Store conn.old) (state S.Store conn.new) (λ trees. OnOk result
             (AreAllCounted trees (register_front at.db.0 at.index at.register))) }
         ensures damaged { IsHonest (state S.Store conn.old) (state S.Store conn.new) result
@@ -238,6 +237,8 @@ impl Layout for Blocks {
             (λ content list. AreTermsFrom (posted content at.db.0) at.index at.register start.now n list.items) }
         ensures honest { IsHonestStorable HoldsBlocks (state S.Store conn.old) (state S.Store conn.new) result }
         ensures refused { IsReasoned (state S.Store conn.old) (state S.Store conn.new) result }
+        ensures told { Tells (state S.Store conn.old) (state S.Store conn.new) result (λ trees list.
+            TellsFrom packed_blocks trees at.db.0 at.index at.register start.now n list.items) }
         ensures sound { OnStore (state S.Store conn.old) (state S.Store conn.new) (λ trees. OnOk result
             (AreFromCounted trees (register_front at.db.0 at.index at.register) start.now n)) }
         ensures damaged { IsHonest (state S.Store conn.old) (state S.Store conn.new) result
@@ -265,6 +266,8 @@ impl Layout for Blocks {
             (λ content list. AreTermsBefore (posted content at.db.0) at.index at.register start.now n list.items) }
         ensures honest { IsHonestStorable HoldsBlocks (state S.Store conn.old) (state S.Store conn.new) result }
         ensures refused { IsReasoned (state S.Store conn.old) (state S.Store conn.new) result }
+        ensures told { Tells (state S.Store conn.old) (state S.Store conn.new) result (λ trees list.
+            TellsBefore packed_blocks trees at.db.0 at.index at.register start.now n list.items) }
         ensures sound { OnStore (state S.Store conn.old) (state S.Store conn.new) (λ trees. OnOk result
             (AreBeforeCounted trees (register_front at.db.0 at.index at.register) start.now n)) }
         ensures damaged { IsHonest (state S.Store conn.old) (state S.Store conn.new) result

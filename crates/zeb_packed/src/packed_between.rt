@@ -10,7 +10,8 @@ ghost use Rattle.zeb_register.specs.Calls.{Reading};
 ghost use Rattle.zeb_register.specs.Clauses.{IsHonest, IsHonestOfHeld, IsReasoned, OnStore, TellsHeld};
 ghost use Rattle.zeb_register.specs.PackedBlocks.{HoldsBlocks, SpellsPart, blocks_of};
 ghost use Rattle.zeb_register.specs.PrivatePackedRows.{AreSpelled};
-ghost use Rattle.zeb_packed.specs.PackedSound.{AreBetweenSpelled};
+ghost use Rattle.zeb_register.specs.Formats.{packed_blocks};
+ghost use Rattle.zeb_register.specs.Sound.{AreListsSound};
 ghost use Rattle.zeb_register.specs.Tallies.{Works};
 
 use crate::packed::{add_spelled, counted};
@@ -36,9 +37,9 @@ pub(crate) fn blocks_between<S: Alter>(
     ensures honest { IsHonestOfHeld HoldsBlocks (state S.Store conn.old) (state S.Store conn.new) result }
     ensures refused { IsReasoned (state S.Store conn.old) (state S.Store conn.new) result }
     ensures spelled { OnStore (state S.Store conn.old) (state S.Store conn.new) (λ trees. OnOk result
-        (AreBetweenSpelled trees at first.now last.now)) }
+        (AreListsSound packed_blocks trees at.db.0 at.index at.register first.now last.now)) }
     ensures damaged { IsHonest (state S.Store conn.old) (state S.Store conn.new) result
-        (λ trees. AreBetweenSpelled trees at first.now last.now) }
+        (λ trees. AreListsSound packed_blocks trees at.db.0 at.index at.register first.now last.now) }
     ensures work { TellsHeld HoldsBlocks (state S.Store conn.old) (state S.Store conn.new) result
         (λ content _. (keys : List _) → AreKeysBetween content at first.now last.now keys
         → Works 0 0 (sum_by (λ key. blocks_of (content at.db.0 key)) keys) 0 work.old work.new) }

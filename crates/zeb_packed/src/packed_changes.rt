@@ -1,6 +1,6 @@
 //! One row of a key in packed registers, read and written inside a transaction: that of a block, and that of `dict`.
 
-ghost use Rattle.std.specs.Prelude.{IsUtf8, ◌≡◌, ◌≢◌, ◌⊎◌, ◌<◌, ◌≤◌, ◌==◌, ◌^◌, List, true, false, length, not, pos, IfOk, OnOk};
+ghost use Rattle.std.specs.Prelude.{IsUtf8, ◌≡◌, ◌≢◌, ◌⊎◌, ◌<◌, ◌≤◌, ◌==◌, ◌^◌, ◌/◌, ℕ, List, true, false, length, not, pos, IfOk, OnOk};
 ghost use Rattle.sqlite.specs.declared.error.Error.TheVariants.{SqliteFailure};
 ghost use Rattle.sqlite.specs.declared.error.ErrorCode.TheVariants.{ConstraintViolation};
 ghost use Rattle.sqlite.specs.declared.types.Value.TheVariants.{Int};
@@ -53,6 +53,8 @@ pub(crate) fn block_list<S: Alter>(
         (λ trees list. IsTold (not (length list.items == 0)) (IsBlockIn db.0 key.now block) blocks_tree trees) }
     ensures spelled { TellsInside (state S.Store tx.old.conn.now) (state S.Store tx.new.conn.now) result
         (λ trees list. (p : Posting) → Has list.items p → IsSpelledAt db.0 key.now trees p) }
+    ensures whole { TellsInside (state S.Store tx.old.conn.now) (state S.Store tx.new.conn.now) result
+        (λ trees list. (p : Posting) → p.sysno / 256 ≡ block → IsSpelledAt db.0 key.now trees p → Has list.items p) }
     ensures sound { InStore (state S.Store tx.old.conn.now) (state S.Store tx.new.conn.now) (λ trees. OnOk result
         (IsBlockSpelled trees db.0 key.now block)) }
     ensures refused { IsReasonedInside (state S.Store tx.old.conn.now) (state S.Store tx.new.conn.now) result }
@@ -96,6 +98,7 @@ impl Known {
         ensures records { result.records ≡ records }
         ensures keeps { self.clear_from ≤ result.clear_from }
         ensures behind { block < result.clear_from }
+        ensures most { (b : ℕ) → self.clear_from ≤ b → block < b → result.clear_from ≤ b }
     {
         let clear_from = self.clear_from.max(block + 1);
         Known {
@@ -122,6 +125,7 @@ pub(crate) fn key_known<S: Alter>(
     ensures told { TellsInside (state S.Store tx.old.conn.now) (state S.Store tx.new.conn.now) result
         (λ trees known. IsTold (not (known.records == 0)) (IsDictIn db.0 key.now) dict_tree trees) }
     ensures few { IfOk result (λ known. known.records ≤ 999999999) }
+    ensures clear { IfOk result (λ known. known.records ≡ 0 → known.clear_from ≡ 0) }
     ensures sound { InStore (state S.Store tx.old.conn.now) (state S.Store tx.new.conn.now) (λ trees. OnOk result
         (IsKeyCounted trees db.0 key.now)) }
     ensures refused { IsReasonedInside (state S.Store tx.old.conn.now) (state S.Store tx.new.conn.now) result }
@@ -210,6 +214,8 @@ pub(crate) fn block_begin<S: Alter>(
     ensures spelled { InStore (state S.Store tx.old.conn.now) (state S.Store tx.new.conn.now) (λ trees. OnOk result
         (SpellsMore db.0 key.now (Has list.now) trees (state S.Store tx.new.conn.now).now.trees)) }
     ensures sound { FindsSpelled db.0 key.now block (state S.Store tx.old.conn.now) (state S.Store tx.new.conn.now) result }
+    ensures absent { InStore (state S.Store tx.old.conn.now) (state S.Store tx.new.conn.now) (λ trees. OnOk result
+        (IsTold false (IsBlockIn db.0 key.now block) blocks_tree trees)) }
     ensures refused { IsHinderedInside (state S.Store tx.old.conn.now) (state S.Store tx.new.conn.now) result
         (HindersBlock false key.now block list.now) }
     ensures rowids { TakesInside (state S.Store tx.old.conn.now) (state S.Store tx.new.conn.now) result

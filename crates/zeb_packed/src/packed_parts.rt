@@ -1,6 +1,6 @@
 //! What the packed tables hold of a key in one block, and what they hold of it after records' places are changed.
 
-ghost use Rattle.std.specs.Prelude.{◌≡◌, ◌≢◌, ◌⊎◌, ◌<◌, ◌≤◌, ◌+◌, ◌++◌, ◌^◌, ◌==◌, ◌∷◌, [], ℕ, List};
+ghost use Rattle.std.specs.Prelude.{◌≡◌, ◌≢◌, ◌↔◌, ◌⊎◌, ◌<◌, ◌≤◌, ◌+◌, ◌++◌, ◌^◌, ◌==◌, ◌∷◌, [], ℕ, List};
 ghost use Rattle.std.specs.Prelude.{filter, map, true, false, IfOk, MatchOption, OnOk};
 ghost use Rattle.std.specs.declared.cmp.Ordering.TheVariants.{Less};
 ghost use Rattle.std.specs.List.{AllByRecursion};
@@ -11,6 +11,7 @@ ghost use Rattle.zeb_blocks.specs.declared.postings.Posting.{Posting};
 ghost use Rattle.zeb_register.specs.Content.{AreListChanges, ArePlacesOf, AreStorablePlaces, IsListChanged, IsStorablePlace};
 ghost use Rattle.zeb_register.specs.Content.{OldsRise, place_cmp, posting_at, posting_cmp};
 ghost use Rattle.zeb_register.specs.Hindrances.{FitsEachLayout, placed, rows_of};
+ghost use Rattle.zeb_packed.specs.PackedSound.{AreOfOthers, IsOfFirsts, had};
 ghost use Rattle.zeb_packed.specs.PrivatePackedChanges.{CountsOn, IsHeld, IsParted, IsStorableChange};
 ghost use Rattle.zeb_register.specs.PrivatePackedRows.{IsInBlock};
 ghost use Rattle.zeb_packed.specs.PrivatePackedHindrances.{IsPut};
@@ -43,6 +44,9 @@ impl Held {
         ensures damaged { result ≡ Err RegFault.Damaged → OldsRise changes.now
             → (old new : List Posting) → IsStrictlySortedBy posting_cmp old → IsHeld old self → ¬ AreListChanges changes.now old new }
         ensures made { IfOk result (λ held. (p : Posting) → Has held.list.items p → Has self.list.items p ⊎ IsPut changes.now p) }
+        ensures found { OnOk result (IsOfFirsts (λ it. ArePlacesOf it.0 it.1 self.list.items) (map had changes.now)) }
+        ensures kept { IfOk result (λ held. (p : Posting) → AreOfOthers (map had changes.now) p.sysno
+            → Has held.list.items p ↔ Has self.list.items p) }
         ensures grows { IfOk result (λ held. held.records ≤ self.records + rows_of (map placed changes.now)) }
         ensures refused { result ≡ Err RegFault.Store → 2 ^ 63 ≤ self.records + rows_of (map placed changes.now) }
     {

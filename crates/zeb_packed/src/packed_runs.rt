@@ -13,8 +13,9 @@ ghost use Rattle.zeb_register.specs.PackedBlocks.{HoldsBlocks};
 ghost use Rattle.zeb_packed.specs.PrivatePackedChanges.{IsClear, HasSoManyRecords, IsHonestRun, IsKnown, IsStorableChange, PutsChanges};
 ghost use Rattle.zeb_packed.specs.PrivatePackedChanges.{PutsRun};
 ghost use Rattle.zeb_register.specs.PrivatePackedRows.{IsInBlock};
-ghost use Rattle.zeb_packed.specs.PrivatePackedHindrances.{AreRunsSpelled, FindsSpelled, HindersChanges, IsHinderedRun, SpellsRun};
-ghost use Rattle.zeb_packed.specs.PackedSound.{AreKeyRowsSound};
+ghost use Rattle.zeb_packed.specs.PrivatePackedHindrances.{AreRunsSpelled, FindsOld, FindsSpelled, HindersChanges, IsHinderedRun, LacksBlock, SpellsRun};
+ghost use Rattle.zeb_packed.specs.PrivatePackedHindrances.{WereClear};
+ghost use Rattle.zeb_packed.specs.PackedSound.{AreKeyRowsSound, AreSpelledIn, IsOfFirsts, had};
 ghost use Rattle.zeb_register.specs.Store.{IsStore, KeepsLists, blocks_tree};
 ghost use Rattle.zeb_register.specs.Tallies.{Works};
 
@@ -57,7 +58,7 @@ pub(crate) fn changes_put<S: Alter>(
         (OldsRise changes.now) (λ content. (new : List Posting) → ¬ AreListChanges changes.now (content db.0 key.now) new) }
     ensures text { OnOk result (IsUtf8 key.now.term) }
     ensures sound { InStore (state S.Store tx.old.conn.now) (state S.Store tx.new.conn.now) (λ trees. OnOk result
-        (AreKeyRowsSound trees db.0 key.now (map (λ change. change.sysno) changes.now))) }
+        (AreKeyRowsSound trees db.0 key.now (map had changes.now))) }
     ensures refused { IsHinderedInside (state S.Store tx.old.conn.now) (state S.Store tx.new.conn.now) result
         (HindersPlaces db.0 key.now (map placed changes.now)) }
     ensures rowids { TakesRegistersInside (state S.Store tx.old.conn.now) (state S.Store tx.new.conn.now) result
@@ -86,6 +87,10 @@ fn runs_put<S: Alter>(
     ensures grows { IfOk result (λ after. after ≤ known.records + rows_of (map placed changes.now)) }
     ensures sound { InStore (state S.Store tx.old.conn.now) (state S.Store tx.new.conn.now) (λ trees. OnOk result
         (AreRunsSpelled db.0 key.now changes.now trees)) }
+    ensures old { InStore (state S.Store tx.old.conn.now) (state S.Store tx.new.conn.now) (λ trees. OnOk result
+        (IsOfFirsts (AreSpelledIn trees db.0 key.now) (map had changes.now))) }
+    ensures clear { InStore (state S.Store tx.old.conn.now) (state S.Store tx.new.conn.now) (λ trees. OnOk result
+        (WereClear db.0 key.now known.clear_from changes.now trees)) }
     ensures refused { IsHinderedInside (state S.Store tx.old.conn.now) (state S.Store tx.new.conn.now) result
         (HindersChanges db.0 key.now known.records changes.now) }
     ensures rowids { TakesInside (state S.Store tx.old.conn.now) (state S.Store tx.new.conn.now) result
@@ -142,6 +147,9 @@ fn run_put<S: Alter>(
         (rows_of (map placed run.now)) blocks_tree }
     ensures spelled { SpellsRun db.0 key.now run.now (state S.Store tx.old.conn.now) (state S.Store tx.new.conn.now) result }
     ensures sound { FindsSpelled db.0 key.now block (state S.Store tx.old.conn.now) (state S.Store tx.new.conn.now) result }
+    ensures old { FindsOld db.0 key.now block run.now (state S.Store tx.old.conn.now) (state S.Store tx.new.conn.now) result }
+    ensures absent { InStore (state S.Store tx.old.conn.now) (state S.Store tx.new.conn.now) (λ trees. OnOk result
+        (known.clear_from ≤ block → LacksBlock db.0 key.now block trees)) }
 {
     if block < known.clear_from {
         return row_renew(tx, db, key, block, known.records, run);
@@ -173,6 +181,7 @@ fn row_renew<S: Alter>(
         (rows_of (map placed run.now)) blocks_tree }
     ensures spelled { SpellsRun db.0 key.now run.now (state S.Store tx.old.conn.now) (state S.Store tx.new.conn.now) result }
     ensures sound { FindsSpelled db.0 key.now block (state S.Store tx.old.conn.now) (state S.Store tx.new.conn.now) result }
+    ensures old { FindsOld db.0 key.now block run.now (state S.Store tx.old.conn.now) (state S.Store tx.new.conn.now) result }
 {
     let list = block_list(tx, db, key, block)?;
     let is_there = !list.is_empty();
@@ -212,6 +221,9 @@ fn row_begin<S: Alter>(
         (rows_of (map placed run.now)) blocks_tree }
     ensures spelled { SpellsRun db.0 key.now run.now (state S.Store tx.old.conn.now) (state S.Store tx.new.conn.now) result }
     ensures sound { FindsSpelled db.0 key.now block (state S.Store tx.old.conn.now) (state S.Store tx.new.conn.now) result }
+    ensures old { FindsOld db.0 key.now block run.now (state S.Store tx.old.conn.now) (state S.Store tx.new.conn.now) result }
+    ensures absent { InStore (state S.Store tx.old.conn.now) (state S.Store tx.new.conn.now) (λ trees. OnOk result
+        (LacksBlock db.0 key.now block trees)) }
 {
     let held = Held {
         block,

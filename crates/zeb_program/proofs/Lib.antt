@@ -1,5 +1,6 @@
 pub mod AnswerLemmas
 pub mod BatchLemmas
+pub mod FileLemmas
 pub mod LineInputLemmas
 pub mod LineLemmas
 pub mod MemoryLemmas
@@ -12,6 +13,7 @@ pub mod ScriptAnswerLemmas
 pub mod ScriptLemmas
 pub mod ServingLemmas
 pub mod ShellLemmas
+pub mod ShellOverLemmas
 pub mod TaskLemmas
 pub mod WarningLemmas
 pub mod WholeLineLemmas

@@ -20,6 +20,7 @@ use Rattle.zeb_image.specs.Holdings.{Holdings}
 use Rattle.zeb_image.specs.Image.{Keeps}
 use Rattle.zeb_image.specs.NameOf.{name_bytes}
 use Rattle.zeb_image.specs.declared.names.DbName.{DbName}
+use Rattle.zeb_engine.specs.Analysed.{AnswersAnalysis}
 use Rattle.zeb_engine.specs.AnyAnswers.{IsAnswerOver}
 use Rattle.zeb_engine.specs.AnyTables.{ChangesReady}
 use Rattle.zeb_engine.specs.Readiness.{GoesByTexts}
@@ -27,6 +28,7 @@ use Rattle.zeb_engine.specs.Refusals.{refusal_text, status_of}
 use Rattle.zeb_engine.specs.Replies.{reply_text}
 use Rattle.zeb_engine.specs.Transactions.{CommandedBy}
 use Rattle.zeb_engine.specs.declared.commands.Command.{Command}
+use Rattle.zeb_engine.specs.declared.commands.Command.TheVariants.{Analyse as Analysis}
 use Rattle.zeb_engine.specs.declared.replies.Reply.{Reply}
 use Rattle.zeb_engine.proofs.CommandedConnections.{did, did_refuse}
 use Rattle.zeb_program.specs.declared.faults.Fault.{Fault}
@@ -34,10 +36,11 @@ use Rattle.zeb_program.specs.declared.faults.Fault.TheVariants as fault
 use Rattle.zeb_program.specs.declared.lines.Line.{Line}
 use Rattle.zeb_program.specs.declared.path_changes.PathChange.{PathChange}
 use Rattle.zeb_program.specs.declared.tasks.Task.{Task}
-use Rattle.zeb_program.specs.declared.tasks.Task.TheVariants.{Change}
+use Rattle.zeb_program.specs.declared.tasks.Task.TheVariants.{Ask, Change, Analyse}
 use Rattle.zeb_program.specs.Answers.{ChangesBy, IsReadFaultOf, Writes}
 use Rattle.zeb_program.specs.PrivateFaults.{GivesAnswer, IsUnread, IsUnreadable, unreadable_path}
-use Rattle.zeb_program.specs.PrivateOverTables.{CommandLeaves, CommandOver, LineOver, PathLeaves, PathOver, PathsOver, SaysOver, TaskOver}
+use Rattle.zeb_program.specs.PrivateFiles.{AreShort}
+use Rattle.zeb_program.specs.PrivateOverTables.{AnalysesOver, CommandLeaves, CommandOver, LineOver, PathLeaves, PathOver, PathsOver, SaysOver, ServesOver, TaskOver}
 use Rattle.zeb_program.specs.PrivateServing.{AnswersFrom}
 use Rattle.zeb_program.specs.PrivateTaskAnswers.{AreTold}
 use Rattle.zeb_program.specs.Says.{Says}
@@ -62,12 +65,12 @@ module _ (format : Format) (c : Conditions) (command : Command) (old new : State
   refused_over refusal (Err e) over leaves h = h
   refused_over refusal (Ok status) over leaves h = λ sound clean.
       let w = h sound in
-      (w.0, (Err refusal, w.1.0, w.1.1, over clean, leaves clean), w.2)
+      (w.0, (Err refusal, w.1.0, w.1.1, (over clean, leaves clean)), w.2)
 
   pub replied_over : (reply : Reply) (bytes : List ℕ) → (Clean → IsAnswerOver format c.profile command old (Ok reply)) → (Clean → CommandLeaves format c command old new (Ok reply))
       → bytes ≡ reply_text reply → (failed ≡ false → Appends wrote writes bytes)
       → failed ≡ false → Clean → Writes wrote writes (λ given. CommandOver format c command old given 0 new)
-  replied_over reply bytes over leaves is grew sound clean = (bytes, (Ok reply, is, refl, over clean, leaves clean), grew sound)
+  replied_over reply bytes over leaves is grew sound clean = (bytes, (Ok reply, is, refl, (over clean, leaves clean)), grew sound)
 
 -- ---- a change by paths
 
@@ -111,11 +114,60 @@ module _ (told : List ℕ → Option (List ℕ)) (format : Format) (profile : Li
   unread_over (fault.Profile file why) unread memory = absurd unread
   unread_over (fault.Refused refusal) unread memory = absurd unread
 
--- the paths as a slice are those of the task
-pub changed_task_over : (told : List ℕ → Option (List ℕ)) (format : Format) (profile : List Directive) (task : Task) (s : State) (r : Result Reply Fault) (kind : Kind) (database : DbName) (paths : Vec (String Global) Global) (named : List (String Global))
-    → task ≡ Change kind database paths → named ≡ paths.items → PathsOver told format profile (name_bytes database) (map string_bytes named) s r → TaskOver told format profile task s r
-changed_task_over told format profile task s r kind database paths named is same over =
-    subst (λ t. TaskOver told format profile t s r) (sym is) (subst (λ items. PathsOver told format profile (name_bytes database) (map string_bytes items) s r) same over)
+-- ---- an analysis by paths
+
+module _ (told : List ℕ → Option (List ℕ)) (profile : List Directive) (limit : ℕ) (paths : List (List ℕ)) where
+  -- the register was asked for the analysis of these contents
+  pub analysed_over : (contents : Vec (Vec ℕ Global) Global) (r : Result Reply Fault) → AreShort (map (λ content. content.items) contents.items)
+      → ((files : List (List ℕ)) → AreTold told paths files → map (λ content. content.items) contents.items ≡ files)
+      → GivesAnswer (AnswersAnalysis profile limit (Analysis contents)) r → AnalysesOver told profile limit paths r
+  analysed_over contents (Ok reply) short these answer = inr (record { texts = map (λ content. content.items) contents.items; analysed = answer; short = short; these = these })
+  analysed_over contents (Err (fault.Refused refusal)) short these answer = inr (record { texts = map (λ content. content.items) contents.items; analysed = answer; short = short; these = these })
+  analysed_over contents (Err fault.Memory) short these answer = inr tt
+  analysed_over contents (Err (fault.Profile file why)) short these answer = absurd answer
+  analysed_over contents (Err (fault.Unreadable path)) short these answer = absurd answer
+
+  -- a path couldn't be read, or memory ran out in the program itself
+  pub unanalysed_over : (why : Fault) → IsUnread why → AnalysesOver told profile limit paths (Err why)
+  unanalysed_over (fault.Unreadable path) unread = inl tt
+  unanalysed_over fault.Memory unread = inr tt
+  unanalysed_over (fault.Profile file why) unread = absurd unread
+  unanalysed_over (fault.Refused refusal) unread = absurd unread
+
+-- an analysis leaves the connection as it is
+pub analysis_still : {S T : Type 0} (g : Ghosts S) (command : Command) (old new : Held S) (result : Result T Refusal) → CommandedBy g command old new result
+    → (contents : Vec (Vec ℕ Global) Global) → command ≡ Analysis contents → new ≡ old
+analysis_still g command old new result call contents is = subst (λ order. CommandedBy g order old new result) is call
+
+-- ---- a task
+
+module _ (told : List ℕ → Option (List ℕ)) (format : Format) (c : Conditions) (task : Task) (old new : State) (r : Result Reply Fault) where
+  pub asked_task_over : (order : Command) → task ≡ Ask order → GivesAnswer (ServesOver format c order old new) r → OnErr r (ChangesNothing old new) → TaskOver told format c task old new r
+  asked_task_over order is serves nothing = subst (λ t. TaskOver told format c t old new r) (sym is) (record { answer = serves; refused = nothing; reads = λ reads. absurd reads })
+
+  -- the paths as a slice are those of the task
+  pub changed_task_over : (kind : Kind) (database : DbName) (paths : Vec (String Global) Global) (named : List (String Global)) → task ≡ Change kind database paths → named ≡ paths.items
+      → PathsOver told format c.profile (name_bytes database) (map string_bytes named) old r → OnErr r (ChangesNothing old new) → TaskOver told format c task old new r
+  changed_task_over kind database paths named is same over nothing = subst (λ t. TaskOver told format c t old new r) (sym is) (record {
+    answer = subst (λ items. PathsOver told format c.profile (name_bytes database) (map string_bytes items) old r) same over;
+    refused = nothing;
+    reads = λ reads. absurd reads;
+  })
+
+  pub analysed_task_over : (paths : Vec (String Global) Global) (named : List (String Global)) → task ≡ Analyse paths → named ≡ paths.items
+      → AnalysesOver told c.profile c.limits.records (map string_bytes named) r → new ≡ old → TaskOver told format c task old new r
+  analysed_task_over paths named is same over left = subst (λ t. TaskOver told format c t old new r) (sym is) (record {
+    answer = subst (λ items. AnalysesOver told c.profile c.limits.records (map string_bytes items) r) same over;
+    refused = refused r;
+    reads = λ _. nothing;
+  })
+    where
+      nothing : ChangesNothing old new
+      nothing = subst (ChangesNothing old) (sym left) (still old)
+
+      refused : (answer : Result Reply Fault) → OnErr answer (ChangesNothing old new)
+      refused (Ok reply) = tt
+      refused (Err why) = nothing
 
 -- ---- a change by one path
 

@@ -1,8 +1,9 @@
 -- How far the files at some paths have come, of which readers or contents are made.
-use Rattle.std.proofs.Common.{◌≡◌, ◌∙◌, ℕ, List, [], ◌∷◌, ◌++◌, Vec, ap, append_assoc, map, refl, sym}
-use Rattle.std.specs.Prelude.{Option, Some, None, Result, Ok, Err, String, string_bytes}
+use Rattle.std.proofs.Common.{◌≡◌, ◌≤◌, ◌∙◌, ℕ, List, [], ◌∷◌, ◌++◌, Vec, ap, append_assoc, arith, length, map, refl, subst, sym}
+use Rattle.std.specs.Prelude.{Option, Some, None, Result, Ok, Err, String, string_bytes, vec_len}
 use Rattle.std.specs.declared.alloc.Global.{Global}
 use Rattle.std.proofs.lemmas.List.{append-nil, map-append}
+use Rattle.zeb_program.specs.PrivateFiles.{AreShort}
 use Rattle.zeb_paths.specs.Walks.{GivesFile}
 use Rattle.zeb_paths.specs.declared.walk.WalkFault.{WalkFault}
 
@@ -69,3 +70,17 @@ same_contents (one ∷ contents) (file ∷ files) e =
     let rest : map (λ content. Some content.items) contents ≡ map Some files = cc in
     let behind = same_contents contents files rest in
     cc
+
+-- ---- contents that aren't too long
+
+pub none_short : (contents : List (Vec ℕ Global)) → contents ≡ [] → AreShort (map (λ content. content.items) contents)
+none_short contents none = subst (λ all. AreShort (map (λ content. content.items) all)) (sym none) tt
+
+short_behind : (contents : List (Vec ℕ Global)) (one : Vec ℕ Global) → AreShort (map (λ content. content.items) contents) → length one.items ≤ 16777216 → AreShort (map (λ content. content.items) (contents ++ one ∷ []))
+short_behind [] one all short = (short, tt)
+short_behind (first ∷ contents) one all short = (all.0, short_behind contents one all.1 short)
+
+-- a short one is put behind the others
+pub more_short : (contents more : List (Vec ℕ Global)) (one : Vec ℕ Global) → AreShort (map (λ content. content.items) contents) → vec_len one ≤ 16777216 → more ≡ contents ++ one ∷ []
+    → AreShort (map (λ content. content.items) more)
+more_short contents more one all short grew = subst (λ all. AreShort (map (λ content. content.items) all)) (sym grew) (short_behind contents one all (omega (arith, short, one.ok.0)))

@@ -8,6 +8,7 @@ pub mod BatchRuns
 pub mod Errands
 pub mod PrivateErrands
 pub mod PrivateFaults
+pub mod PrivateFiles
 pub mod Inputs
 pub mod Lines
 pub mod PrivateLines

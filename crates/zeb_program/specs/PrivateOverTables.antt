@@ -1,6 +1,7 @@
 -- What only the contracts of private functions speak of; no public clause reaches it.
 -- What a command or a change by paths is answered on any tables, whatever these hold, where words or a line name it (this program's own).
-use Rattle.std.specs.Prelude.{◌≡◌, ◌⊎◌, ⊤, ℕ, Option, Some, Result, Ok, Err, OnErr, OnOk, List, [], ◌∷◌, length, map, string_bytes}
+use Rattle.std.specs.Prelude.{◌≡◌, ◌⊎◌, ℕ, Option, Some, Result, Ok, Err, OnErr, OnOk, List, [], ◌∷◌, length, map, string_bytes}
+use Rattle.std.specs.Io.KnownBytes.{Appends, Keeps as Stays}
 use Rattle.sqlite.specs.Held.{Held, state}
 use Rattle.sqlite.specs.State.{State}
 use Rattle.sqlite.specs.Store.{Ghosts}
@@ -10,10 +11,12 @@ use Rattle.zeb_register.specs.Formats.{Format, version_of}
 use Rattle.zeb_register.specs.Store.{IsStore}
 use Rattle.zeb_change.specs.Conditions.{Conditions}
 use Rattle.zeb_change.specs.declared.refusals.Refusal.{Refusal}
-use Rattle.zeb_change.specs.declared.refusals.Refusal.TheVariants.{Damaged}
+use Rattle.zeb_change.specs.declared.refusals.Refusal.TheVariants.{Damaged, Memory as OutOfMemory}
 use Rattle.zeb_image.specs.Holdings.{Holdings}
 use Rattle.zeb_image.specs.Image.{Keeps}
 use Rattle.zeb_image.specs.NameOf.{name_bytes}
+use Rattle.zeb_engine.specs.Analysed.{IsAnalysed}
+use Rattle.zeb_engine.specs.Answers.{answer_of}
 use Rattle.zeb_engine.specs.AnyAnswers.{IsAnswerOver}
 use Rattle.zeb_engine.specs.AnyTables.{ChangesReady}
 use Rattle.zeb_engine.specs.Checking.{ReindexLeaves}
@@ -30,11 +33,15 @@ use Rattle.zeb_program.specs.declared.lines.Line.TheVariants.{Remark, Command as
 use Rattle.zeb_program.specs.declared.path_changes.PathChange.{PathChange}
 use Rattle.zeb_program.specs.declared.tasks.Task.{Task}
 use Rattle.zeb_program.specs.declared.tasks.Task.TheVariants.{Ask, Change, Analyse}
-use Rattle.zeb_program.specs.Answers.{ChangesBy, EachLine, IsReadFaultOf, answer_status, answer_text, bad_line}
+use Rattle.zeb_program.specs.Answers.{ChangesBy, EachLine, IsReadFaultOf, Writes, answer_status, answer_text, bad_line}
+use Rattle.zeb_program.specs.Inputs.{TakesAtMost}
 use Rattle.zeb_program.specs.PrivateFaults.{GivesAnswer, IsUnreadable, unreadable_path}
+use Rattle.zeb_program.specs.PrivateFiles.{AreShort}
 use Rattle.zeb_program.specs.PrivateServing.{AnswersFrom}
 use Rattle.zeb_program.specs.PrivateTaskAnswers.{AreTold}
 use Rattle.zeb_program.specs.Says.{Says}
+use Rattle.zeb_program.specs.ScriptAnswers.{unreadable_line}
+use Rattle.zeb_program.specs.TaskAnswers.{ReadsWhole}
 
 -- ---- a task
 
@@ -49,17 +56,7 @@ pub record PathsOver (told : List ℕ → Option (List ℕ)) (format : Format) (
   -- damage is told only of the image of nothing that can be held
   pub honest : result ≡ Err (Refused Damaged) → (before : Holdings) → ¬ Keeps s before
 
--- The answer to a task of one command is what the engine says of it on any tables, and so is that to a change by paths. Of an analysis
--- nothing is said here.
-abbrev pub TaskOver : (List ℕ → Option (List ℕ)) → Format → List Directive → Task → State → Result Reply Fault → Type 0
-TaskOver told format profile (Ask command) s result = GivesAnswer (IsAnswerOver format profile command s) result
-TaskOver told format profile (Change kind database paths) s result =
-    PathsOver told format profile (name_bytes database) (map string_bytes paths.items) s result
-TaskOver told format profile (Analyse paths) s result = ⊤
-
--- ---- a line: from which tables, what is written, its status, and the tables then
-
--- What a command leaves of the tables.
+-- what a command leaves of the tables
 pub record CommandLeaves (format : Format) (c : Conditions) (command : Command) (old new : State) (answer : Result Reply Refusal) : Type 0 where
   -- nothing changes where it is refused, nor where it only asks
   pub refused : OnErr answer (ChangesNothing old new)
@@ -71,11 +68,44 @@ pub record CommandLeaves (format : Format) (c : Conditions) (command : Command) 
   -- an accepted reindex leaves the lists, and registers of these, whatever the registers held
   pub remade : command ≡ Reindex → OnOk answer (ReindexLeaves format c.profile old new)
 
+-- What is said of the answer to an analysis of the files at these paths, of at most so many records.
+pub record IsAnalysisOver (told : List ℕ → Option (List ℕ)) (profile : List Directive) (limit : ℕ) (paths : List (List ℕ)) (answer : Result Reply Refusal) : Type 0 where
+  -- it is that of files with these texts, or memory ran out
+  pub texts : List (List ℕ)
+  pub analysed : IsAnalysed profile limit texts (answer_of answer) ⊎ (answer ≡ Err OutOfMemory)
+  -- none of them has too many bytes, and where the bytes of a file at each path are told, they are these
+  pub short : AreShort texts
+  pub these : (files : List (List ℕ)) → AreTold told paths files → texts ≡ files
+
+-- a path of an analysis can't be read, or it is answered so
+abbrev pub AnalysesOver : (List ℕ → Option (List ℕ)) → List Directive → ℕ → List (List ℕ) → Result Reply Fault → Type 0
+AnalysesOver told profile limit paths result = IsUnreadable result ⊎ GivesAnswer (IsAnalysisOver told profile limit paths) result
+
+-- A command is answered as the engine says of it on any tables, and this is what it leaves of them.
+abbrev pub ServesOver : Format → Conditions → Command → State → State → Result Reply Refusal → Type 0
+ServesOver format c command old new answer = IsAnswerOver format c.profile command old answer × CommandLeaves format c command old new answer
+
+-- A task of one command is answered as the engine says of it on any tables, and so are a change and an analysis by paths.
+abbrev pub AnswersOver : (List ℕ → Option (List ℕ)) → Format → Conditions → Task → State → State → Result Reply Fault → Type 0
+AnswersOver told format c (Ask command) old new result = GivesAnswer (ServesOver format c command old new) result
+AnswersOver told format c (Change kind database paths) old new result =
+    PathsOver told format c.profile (name_bytes database) (map string_bytes paths.items) old result
+AnswersOver told format c (Analyse paths) old new result = AnalysesOver told c.profile c.limits.records (map string_bytes paths.items) result
+
+-- what is said of a task, from these tables to those
+pub record TaskOver (told : List ℕ → Option (List ℕ)) (format : Format) (c : Conditions) (task : Task) (old new : State) (result : Result Reply Fault) : Type 0 where
+  pub answer : AnswersOver told format c task old new result
+  -- nothing changes where it isn't accepted, nor where it is an analysis
+  pub refused : OnErr result (ChangesNothing old new)
+  pub reads : ReadsWhole task → ChangesNothing old new
+
+-- ---- a line: from which tables, what is written, its status, and the tables then
+
 -- what is written for a command, and its status, are those of its answer on any tables, and this is what it leaves of them
 abbrev pub CommandOver : Format → Conditions → Command → State → List ℕ → ℕ → State → Type 0
 CommandOver format c command old bytes status new =
     (answer : Result Reply Refusal) × (bytes ≡ answer_text answer) × (status ≡ answer_status answer)
-    × IsAnswerOver format c.profile command old answer × CommandLeaves format c command old new answer
+    × ServesOver format c command old new answer
 
 -- This is written for an answer, or for a path that can't be read, and this is the status. For want of memory nothing is written.
 abbrev pub IsTold : Result Reply Fault → List ℕ → ℕ → Type 0
@@ -114,3 +144,19 @@ LineOver g told format c number text old bytes status new =
 -- every line of a text is answered so, each on the tables that the one before it left
 abbrev pub LinesOver : {S : Type 0} → Ghosts S → (List ℕ → Option (List ℕ)) → Format → Conditions → ℕ → List ℕ → Held S → List ℕ → ℕ → Held S → Type 0
 LinesOver g told format c n text old bytes status new = EachLine (LineOver g told format c) n text old bytes status [] new
+
+-- The first lines of a text are answered so, maybe all, and this is left of it: of the lines behind them no more is gone than one line may
+-- take.
+pub record FirstOver {S : Type 0} (g : Ghosts S) (told : List ℕ → Option (List ℕ)) (format : Format) (c : Conditions) (text : List ℕ) (left : Option (List ℕ)) (old : Held S) (bytes : List ℕ) : Type 0 where
+  pub status : ℕ
+  pub rest : List ℕ
+  pub last : Held S
+  pub lines : EachLine (LineOver g told format c) 0 text old bytes status rest last
+  pub behind : TakesAtMost 16777217 (Some rest) left
+
+-- A shell of these lines: all are answered so, and nothing goes to the fault output; or one can't be read, which is told there, and the lines
+-- before it are answered so, where this is left of the input.
+abbrev pub ServesOverLines : {S : Type 0} → Ghosts S → (List ℕ → Option (List ℕ)) → Format → Conditions → List ℕ → Option (List ℕ) → Held S → Held S → Option (List ℕ) → Option (List ℕ) → Option (List ℕ) → Option (List ℕ) → ℕ → Type 0
+ServesOverLines g told format c text left old new wrote writes fault_old fault_new status =
+    (Writes wrote writes (λ bytes. LinesOver g told format c 0 text old bytes status new) × Stays fault_old fault_new)
+    ⊎ (Writes wrote writes (FirstOver g told format c text left old) × (status ≡ 3) × Appends fault_old fault_new unreadable_line)

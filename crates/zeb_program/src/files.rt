@@ -1,13 +1,16 @@
 //! The files at the paths that words or a line name.
 
-ghost use Rattle.std.specs.Prelude.{◌≡◌, ℕ, List, Some, map, string_bytes, IfErr, IfOk};
+ghost use Rattle.std.specs.Prelude.{◌≡◌, ◌≤◌, ℕ, List, Some, map, string_bytes, vec_len, Err, IfErr, IfOk, IfSome, false};
+ghost use Rattle.zeb_program.specs.Inputs.{IsTextWithin};
 ghost use Rattle.zeb_program.specs.PrivateFaults.{IsUnread};
+ghost use Rattle.zeb_program.specs.PrivateFiles.{AreShort, ReadsProfile};
 ghost use Rattle.zeb_program.specs.PrivateTaskAnswers.{AreTold};
-ghost use Rattle.zeb_program.specs.declared.faults.Fault.TheVariants.{Memory};
+ghost use Rattle.zeb_program.specs.declared.faults.Fault.TheVariants.{Memory, Unreadable};
 
 use crate::faults::Fault;
 use crate::input::{GREATEST_INPUT, InputFault, read_text, read_whole};
 use std::alloc::Global;
+use zeb_marc::Source;
 use zeb_paths::{Paths, Walk};
 use zeb_profile::Profile;
 
@@ -15,9 +18,22 @@ use zeb_profile::Profile;
 const GREATEST_PROFILE: usize = 1_048_576;
 
 /// Reads a profile's file.
-pub fn read_profile<P: Paths>(alloc: Global, paths: &P, file: String) -> Result<Profile, Fault> {
+pub fn read_profile<P: Paths>(alloc: Global, paths: &P, file: String) -> Result<Profile, Fault>
+    ensures { ReadsProfile (P.tells paths.now (string_bytes file)) file result }
+{
     let mut source = paths.reader(file.clone()?);
-    let text = match read_text(alloc, &mut source, GREATEST_PROFILE) {
+    profile_from(alloc, &mut source, file)
+}
+
+/// Reads the profile that stands in this file, whose bytes the source gives.
+fn profile_from<R: Source>(alloc: Global, source: &mut R, file: String) -> Result<Profile, Fault>
+    requires { R.has_failed source.old ≡ false }
+    ensures read { ReadsProfile (R.remaining source.old) file result }
+    // Bytes that are told can't be read only where they are too many or no text, or where a read failed.
+    ensures unreadable { result ≡ Err (Unreadable file) → R.has_failed source.new ≡ false
+        → IfSome (R.remaining source.old) (λ bytes. ¬ IsTextWithin GREATEST_PROFILE bytes) }
+{
+    let text = match read_text(alloc, source, GREATEST_PROFILE) {
         Ok(text) => text,
         Err(fault) => return Err(unread(fault, file)),
     };
@@ -29,7 +45,9 @@ pub fn read_profile<P: Paths>(alloc: Global, paths: &P, file: String) -> Result<
 
 /// Why what is at this path isn't read whole.
 pub fn unread(fault: InputFault, path: String) -> Fault
-    ensures { IsUnread result }
+    ensures unread { IsUnread result }
+    ensures path { fault ≡ InputFault.Unreadable → result ≡ Unreadable path }
+    ensures memory { fault ≡ InputFault.Memory → result ≡ Memory }
 {
     match fault {
         InputFault::Unreadable => Fault::Unreadable(path),
@@ -72,6 +90,8 @@ pub fn contents_of<P: Paths>(
     // Where the bytes of a file at each path are told, they are just these.
     ensures told { (files : List (List ℕ)) → AreTold (P.tells paths.now) (map string_bytes named.now) files
         → IfOk result (λ contents. map (λ content. content.items) contents.items ≡ files) }
+    // So where one of these files has more bytes than a file may have, they are refused.
+    ensures short { IfOk result (λ contents. AreShort (map (λ content. content.items) contents.items)) }
     ensures unread { IfErr result IsUnread }
 {
     let mut contents = Vec::new(alloc);
@@ -89,6 +109,7 @@ pub fn contents_of<P: Paths>(
 fn content_of<P: Paths>(alloc: Global, paths: &P, path: String) -> Result<Vec<u8>, Fault>
     ensures told { (file : List ℕ) → P.tells paths.now (string_bytes path) ≡ Some file
         → IfOk result (λ content. content.items ≡ file) }
+    ensures short { IfOk result (λ content. vec_len content ≤ GREATEST_INPUT) }
     ensures unread { IfErr result IsUnread }
 {
     let mut source = paths.reader(path.clone()?);

@@ -6,12 +6,13 @@ ghost use Rattle.sqlite.specs.Held.{state};
 ghost use Rattle.sqlite.specs.State.{HasCleanDisk};
 ghost use Rattle.zeb_change.specs.Conditions.{conditions};
 ghost use Rattle.zeb_register.specs.Formats.{version_of};
-ghost use Rattle.zeb_program.specs.Answers.{AnswersBatch, AnswersLine};
+ghost use Rattle.zeb_program.specs.Answers.{AnswersBatch, AnswersLine, Writes};
 ghost use Rattle.zeb_program.specs.PrivateAnswers.{AnswersFirst};
 ghost use Rattle.zeb_program.specs.Inputs.{TakesAtMost};
 ghost use Rattle.zeb_program.specs.Lines.{first_line, after_first_line};
 ghost use Rattle.zeb_program.specs.PrivateLines.{whole_first_line};
 ghost use Rattle.zeb_program.specs.PathChanges.{AreFilesTold, IsLineTold};
+ghost use Rattle.zeb_program.specs.PrivateOverTables.{FirstOver, LineOver, LinesOver, ServesOverLines};
 ghost use Rattle.zeb_program.specs.PrivateServing.{Leads, ServesLines, Stops};
 ghost use Rattle.zeb_program.specs.declared.input.InputFault.TheVariants.{Unreadable};
 
@@ -48,6 +49,17 @@ pub fn serve_lines<R: Source, S: Alter, L: Layout, P: Paths, W: Output, V: Write
         (version_of L.format) session.old.profile session.old.limits) text (R.remaining input.new)
         (state S.Store session.old.connection) (state S.Store session.new.connection) (W.contents output.old.writer)
         (W.contents output.new.writer) (V.contents fault_output.old.writer) (V.contents fault_output.new.writer) status)) }
+    // Each line is answered as the engine says of it on any tables, on those that the line before it left.
+    ensures over { IfOk result (λ status. output.new.failed ≡ false → fault_output.new.failed ≡ false
+        → HasCleanDisk (state S.Store session.new.connection)
+        → IfSome (R.remaining input.old) (λ text. ServesOverLines S.Store (P.tells paths.now) L.format (conditions
+        (version_of L.format) session.old.profile session.old.limits) text (R.remaining input.new)
+        session.old.connection session.new.connection (W.contents output.old.writer) (W.contents output.new.writer)
+        (V.contents fault_output.old.writer) (V.contents fault_output.new.writer) status)) }
+    ensures stopped_over { OnErr result (output.new.failed ≡ false → HasCleanDisk (state S.Store session.new.connection)
+        → IfSome (R.remaining input.old) (λ text. Writes (W.contents output.old.writer) (W.contents output.new.writer) (FirstOver
+        S.Store (P.tells paths.now) L.format (conditions (version_of L.format) session.old.profile session.old.limits) text
+        (R.remaining input.new) session.old.connection))) }
     ensures stopped { OnErr result (output.new.failed ≡ false → HasCleanDisk (state S.Store session.new.connection)
         → IfSome (R.remaining input.old) (λ text. AreFilesTold (P.tells paths.now) text
         → Stops (state S.Store session.old.connection) (W.contents output.old.writer) (W.contents output.new.writer)
@@ -91,11 +103,20 @@ pub fn run_shell_lines<R: Source, S: Alter, L: Layout, P: Paths, W: Output>(
         (W.contents output.new.writer)
         (λ before bytes last. AnswersBatch (P.tells paths.now) (conditions
         (version_of L.format) session.old.profile session.old.limits) 0 text before bytes status last))) }
+    // Each line is answered as the engine says of it on any tables, on those that the line before it left.
+    ensures over { IfOk result (λ status. output.new.failed ≡ false → HasCleanDisk (state S.Store session.new.connection)
+        → IfSome (R.remaining input.old) (λ text. Writes (W.contents output.old.writer) (W.contents output.new.writer) (λ bytes. LinesOver
+        S.Store (P.tells paths.now) L.format (conditions (version_of L.format) session.old.profile session.old.limits) 0 text
+        session.old.connection bytes status session.new.connection))) }
     ensures stopped { OnErr result (output.new.failed ≡ false → HasCleanDisk (state S.Store session.new.connection)
         → IfSome (R.remaining input.old) (λ text. AreFilesTold (P.tells paths.now) text
         → Stops (state S.Store session.old.connection) (W.contents output.old.writer) (W.contents output.new.writer)
         (AnswersFirst (P.tells paths.now) (conditions
         (version_of L.format) session.old.profile session.old.limits) 0 text (R.remaining input.new)))) }
+    ensures stopped_over { OnErr result (output.new.failed ≡ false → HasCleanDisk (state S.Store session.new.connection)
+        → IfSome (R.remaining input.old) (λ text. Writes (W.contents output.old.writer) (W.contents output.new.writer) (FirstOver
+        S.Store (P.tells paths.now) L.format (conditions (version_of L.format) session.old.profile session.old.limits) text
+        (R.remaining input.new) session.old.connection))) }
     ensures range { IfOk result (λ status. status ≤ FAILED) }
     ensures failed { R.has_failed input.new ≡ true → result ≡ Err Unreadable }
     // Only where something failed a line may be left.
@@ -134,6 +155,11 @@ fn run_next_line<R: Source, S: Alter, L: Layout, P: Paths, W: Output>(
         (W.contents output.new.writer)
         (λ before bytes later. AnswersLine (P.tells paths.now) (conditions
         (version_of L.format) session.old.profile session.old.limits) number (first_line left) before bytes status later)))) }
+    ensures over { IfOk result (λ found. IfSome found (λ status. output.new.failed ≡ false
+        → HasCleanDisk (state S.Store session.new.connection)
+        → IfSome (R.remaining input.old) (λ left. Writes (W.contents output.old.writer) (W.contents output.new.writer) (λ bytes. LineOver
+        S.Store (P.tells paths.now) L.format (conditions (version_of L.format) session.old.profile session.old.limits) number
+        (first_line left) session.old.connection bytes status session.new.connection)))) }
     ensures stopped { OnErr result (output.new ≡ output.old) }
     ensures clean { HasCleanDisk (state S.Store session.new.connection) → HasCleanDisk (state S.Store session.old.connection) }
     ensures under { (session.new.profile ≡ session.old.profile) × (session.new.limits ≡ session.old.limits) }
@@ -175,6 +201,11 @@ fn run_bytes<S: Alter, L: Layout, P: Paths, W: Write>(
         (W.contents output.new.writer)
         (λ before written later. AnswersLine (P.tells paths.now) (conditions
         (version_of L.format) session.old.profile session.old.limits) number (first_line bytes.items) before written status later)) }
+    ensures over { IfOk result (λ status. output.new.failed ≡ false → HasCleanDisk (state S.Store session.new.connection)
+        → after_first_line bytes.items ≡ []
+        → Writes (W.contents output.old.writer) (W.contents output.new.writer) (λ written. LineOver S.Store (P.tells paths.now) L.format
+        (conditions (version_of L.format) session.old.profile session.old.limits) number (first_line bytes.items) session.old.connection
+        written status session.new.connection)) }
     ensures stopped { OnErr result (output.new ≡ output.old) }
     ensures clean { HasCleanDisk (state S.Store session.new.connection) → HasCleanDisk (state S.Store session.old.connection) }
     ensures under { (session.new.profile ≡ session.old.profile) × (session.new.limits ≡ session.old.limits) }

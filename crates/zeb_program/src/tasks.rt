@@ -1,7 +1,8 @@
 //! The tasks that words name, each carried out on the register that the profile names.
 
-ghost use Rattle.std.specs.Prelude.{◌≡◌, ◌⊎◌, ℕ, [], List, map, string_bytes, IfErr, IfOk, OnErr};
+ghost use Rattle.std.specs.Prelude.{◌≡◌, ◌⊎◌, ℕ, [], List, Vec, map, string_bytes, IfErr, IfOk, OnErr};
 ghost use Rattle.std.specs.Option.{option_map};
+ghost use Rattle.std.specs.declared.alloc.Global.{Global};
 ghost use Rattle.sqlite.specs.Held.{state};
 ghost use Rattle.sqlite.specs.State.{HasCleanDisk};
 ghost use Rattle.zeb_change.specs.Conditions.{conditions};
@@ -9,10 +10,10 @@ ghost use Rattle.zeb_image.specs.NameOf.{name_bytes};
 ghost use Rattle.zeb_register.specs.Calls.{ChangesNothing};
 ghost use Rattle.zeb_register.specs.Formats.{packed_blocks, version_of};
 ghost use Rattle.zeb_program.specs.Answers.{ChangesBy};
-ghost use Rattle.zeb_engine.specs.AnyAnswers.{IsAnswerOver};
+ghost use Rattle.zeb_engine.specs.Analysed.{AnswersAnalysis};
 ghost use Rattle.zeb_program.specs.PrivateFaults.{GivesAnswer, IsOpeningFault, IsUnread, IsUnreadable};
 ghost use Rattle.zeb_program.specs.ScriptAnswers.{AreScriptConditions};
-ghost use Rattle.zeb_program.specs.PrivateOverTables.{PathsOver, TaskOver};
+ghost use Rattle.zeb_program.specs.PrivateOverTables.{AnalysesOver, PathsOver, ServesOver, TaskOver};
 ghost use Rattle.zeb_program.specs.PrivateServing.{AnswersFrom, ServesTask, replied};
 ghost use Rattle.zeb_program.specs.TaskAnswers.{ReadsWhole};
 ghost use Rattle.zeb_program.specs.PrivateTaskAnswers.{AnalysesFiles, AnswersCommand, AreTold, paths_of};
@@ -182,9 +183,12 @@ pub fn carry_out<S: Alter, L: Layout, P: Paths>(
     ensures answer { HasCleanDisk (state S.Store session.new.connection)
         → ServesTask (P.tells paths.now) (conditions (version_of L.format) session.old.profile session.old.limits) task.now
         (state S.Store session.old.connection) (state S.Store session.new.connection) (replied result) }
-    // One command, and a change by paths, is answered as the engine says of it on any tables.
+    // It is answered as the engine says of it on any tables, and refused it changes nothing.
     ensures over { HasCleanDisk (state S.Store session.new.connection)
-        → TaskOver (P.tells paths.now) L.format session.old.profile task.now (state S.Store session.old.connection) (replied result) }
+        → TaskOver (P.tells paths.now) L.format (conditions (version_of L.format) session.old.profile session.old.limits) task.now
+        (state S.Store session.old.connection) (state S.Store session.new.connection) (replied result) }
+    // An analysis leaves the connection as it is, whatever it is answered.
+    ensures still { ReadsWhole task.now → session.new.connection ≡ session.old.connection }
     // Where something couldn't be read, the register was asked for nothing.
     ensures unread { IfErr result (λ fault. IsUnread fault → session.new ≡ session.old) }
     // Where the bytes of a file at each path are told; and of another task than an analysis nothing is to be warned of.
@@ -223,7 +227,14 @@ fn ask<S: Alter, L: Layout>(session: &mut Session<S, L>, command: &Command) -> R
         → AnswersFrom (state S.Store session.old.connection) (state S.Store session.new.connection) result
         (AnswersCommand (conditions (version_of L.format) session.old.profile session.old.limits) command.now) }
     ensures over { HasCleanDisk (state S.Store session.new.connection)
-        → GivesAnswer (IsAnswerOver L.format session.old.profile command.now (state S.Store session.old.connection)) result }
+        → GivesAnswer (ServesOver L.format (conditions (version_of L.format) session.old.profile session.old.limits) command.now
+        (state S.Store session.old.connection) (state S.Store session.new.connection)) result }
+    ensures refused { HasCleanDisk (state S.Store session.new.connection)
+        → OnErr result (ChangesNothing (state S.Store session.old.connection) (state S.Store session.new.connection)) }
+    // An analysis asks the store for nothing.
+    ensures analysed { GivesAnswer (AnswersAnalysis session.old.profile session.old.limits.records command.now) result }
+    ensures still { (files : Vec (Vec ℕ Global) Global) → command.now ≡ Command.Analyse files
+        → session.new.connection ≡ session.old.connection }
     ensures read { IfErr result (λ fault. ¬ IsUnread fault) }
 {
     match session.command(command) {
@@ -275,6 +286,10 @@ fn analyse_paths<S: Alter, L: Layout, P: Paths>(
         → (files : List (List ℕ)) → AreTold (P.tells paths.now) (map string_bytes named.now) files
         → AnswersFrom (state S.Store session.old.connection) (state S.Store session.new.connection) (replied result)
         (AnalysesFiles (conditions (version_of L.format) session.old.profile session.old.limits) files) ⊎ IsUnreadable (replied result) }
+    // On any tables, and whatever the paths tell.
+    ensures over { AnalysesOver (P.tells paths.now) session.old.profile session.old.limits.records (map string_bytes named.now)
+        (replied result) }
+    ensures still { session.new.connection ≡ session.old.connection }
     ensures unread { IfErr result (λ fault. IsUnread fault → session.new ≡ session.old) }
     ensures unmarked { (files : List (List ℕ)) → AreTold (P.tells paths.now) (map string_bytes named.now) files
         → IfOk result (λ served. served.unmarked.items ≡ spec.unmarked_of 1 files) }

@@ -20,6 +20,7 @@ pub mod PrivateRowTerms
 pub mod PrivateRowPlaces
 pub mod PrivatePackedRows
 pub mod Formats
+pub mod Sound
 pub mod Room
 pub mod Expected
 pub mod PrivateRowExpected

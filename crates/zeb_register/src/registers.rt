@@ -6,8 +6,8 @@ ghost use Rattle.sqlite.specs.State.{IsUnchanged};
 ghost use Rattle.sqlite_rules.specs.Lists.{Has};
 ghost use Rattle.zeb_register.specs.Calls.{GoesOn, Inside, Reading};
 ghost use Rattle.zeb_register.specs.Clauses.{ChangesHeld, DamagedHeld, FindsHeld, InStore, IsHonestStorable};
-ghost use Rattle.zeb_register.specs.Clauses.{IsHinderedInside, IsReasoned, IsReasonedInside, TakesRegistersInside, TellsHeld};
-ghost use Rattle.zeb_register.specs.Clauses.{TellsWhether};
+ghost use Rattle.zeb_register.specs.Clauses.{IsHinderedInside, IsReasoned, IsReasonedInside, OnStore, TakesRegistersInside};
+ghost use Rattle.zeb_register.specs.Clauses.{Tells, TellsHeld, TellsWhether};
 ghost use Rattle.sqlite.specs.Tree.{Trees};
 ghost use Rattle.zeb_register.specs.Content.{Content, HasRisingLists, IsChangedAt, IsWithout};
 ghost use Rattle.zeb_register.specs.Formats.{Format, holds_in, version_of};
@@ -84,6 +84,7 @@ pub trait Layout {
     ghost use Rattle.zeb_register.specs.Tallies.{Works};
     ghost use Rattle.zeb_register.specs.declared.registers.TermCount.{TermCount};
     ghost use Rattle.zeb_register.specs.Between.{AreKeysBetween, IsPostingBetween};
+    ghost use Rattle.zeb_register.specs.Sound.{AreListsSound, AreTermsSound, IsListSound, TellsBefore, TellsFrom, TellsRegister};
     ghost use Rattle.zeb_register.specs.Hindrances.{HindersPlaces, placed, rows_of};
     ghost use Rattle.zeb_keys.specs.declared.keys.Key.{Key};
     ghost use Rattle.zeb_blocks.specs.declared.postings.Posting.{Posting};
@@ -185,6 +186,8 @@ pub trait Layout {
             (λ content list. list.items ≡ content db.0 key.now) }
         ensures honest { IsHonestStorable (holds_in format) (state S.Store conn.old) (state S.Store conn.new) result }
         ensures refused { IsReasoned (state S.Store conn.old) (state S.Store conn.new) result }
+        ensures spelled { OnStore (state S.Store conn.old) (state S.Store conn.new) (λ trees. OnOk result
+            (IsListSound format trees db.0 key.now)) }
         ensures work { TellsHeld (holds_in format) (state S.Store conn.old) (state S.Store conn.new) result
             (λ _ list. Works 0 0 (block_rows list.items) 0 work.old work.new) }
         ensures no_work { row_work ≡ 0 → work.new ≡ work.old };
@@ -204,6 +207,8 @@ pub trait Layout {
             (λ content list. (p : Posting) → Has list.items p ↔ IsPostingBetween content at first.now last.now p) }
         ensures honest { IsHonestStorable (holds_in format) (state S.Store conn.old) (state S.Store conn.new) result }
         ensures refused { IsReasoned (state S.Store conn.old) (state S.Store conn.new) result }
+        ensures spelled { OnStore (state S.Store conn.old) (state S.Store conn.new) (λ trees. OnOk result
+            (AreListsSound format trees at.db.0 at.index at.register first.now last.now)) }
         ensures work { TellsHeld (holds_in format) (state S.Store conn.old) (state S.Store conn.new) result
             (λ content _. (keys : List Key) → AreKeysBetween content at first.now last.now keys → Works 0 0
             (sum_by (λ key. block_rows (content at.db.0 key)) keys) 0 work.old work.new) }
@@ -221,6 +226,8 @@ pub trait Layout {
             (λ content list. AreTermsOf (posted content at.db.0) at.index at.register list.items) }
         ensures honest { IsHonestStorable (holds_in format) (state S.Store conn.old) (state S.Store conn.new) result }
         ensures refused { IsReasoned (state S.Store conn.old) (state S.Store conn.new) result }
+        ensures told { Tells (state S.Store conn.old) (state S.Store conn.new) result (λ trees list.
+            TellsRegister format trees at.db.0 at.index at.register list.items) }
         ensures work { TellsHeld (holds_in format) (state S.Store conn.old) (state S.Store conn.new) result
             (λ _ list. Works (row_work * length list.items) 0 0 0 work.old work.new) }
         ensures no_work { row_work ≡ 0 → work.new ≡ work.old };
@@ -239,6 +246,8 @@ pub trait Layout {
             (λ content list. AreTermsFrom (posted content at.db.0) at.index at.register start.now n list.items) }
         ensures honest { IsHonestStorable (holds_in format) (state S.Store conn.old) (state S.Store conn.new) result }
         ensures refused { IsReasoned (state S.Store conn.old) (state S.Store conn.new) result }
+        ensures told { Tells (state S.Store conn.old) (state S.Store conn.new) result (λ trees list.
+            TellsFrom format trees at.db.0 at.index at.register start.now n list.items) }
         ensures work { TellsHeld (holds_in format) (state S.Store conn.old) (state S.Store conn.new) result
             (λ _ list. Works (row_work * length list.items) 0 0 0 work.old work.new) }
         ensures no_work { row_work ≡ 0 → work.new ≡ work.old };
@@ -257,6 +266,8 @@ pub trait Layout {
             (λ content list. AreTermsBefore (posted content at.db.0) at.index at.register start.now n list.items) }
         ensures honest { IsHonestStorable (holds_in format) (state S.Store conn.old) (state S.Store conn.new) result }
         ensures refused { IsReasoned (state S.Store conn.old) (state S.Store conn.new) result }
+        ensures told { Tells (state S.Store conn.old) (state S.Store conn.new) result (λ trees list.
+            TellsBefore format trees at.db.0 at.index at.register start.now n list.items) }
         ensures work { TellsHeld (holds_in format) (state S.Store conn.old) (state S.Store conn.new) result
             (λ _ list. Works (row_work * length list.items) 0 0 0 work.old work.new) }
         ensures no_work { row_work ≡ 0 → work.new ≡ work.old };
@@ -273,6 +284,8 @@ pub trait Layout {
             (λ content sums. AreTotals (posted content at.db.0) at.index at.register sums) }
         ensures honest { IsHonestStorable (holds_in format) (state S.Store conn.old) (state S.Store conn.new) result }
         ensures refused { IsReasoned (state S.Store conn.old) (state S.Store conn.new) result }
+        ensures sound { OnStore (state S.Store conn.old) (state S.Store conn.new) (λ trees. OnOk result
+            (AreTermsSound format trees at.db.0 at.index at.register)) }
         ensures work { TellsHeld (holds_in format) (state S.Store conn.old) (state S.Store conn.new) result
             (λ content _. (all : List TermCount) → AreTermsOf (posted content at.db.0) at.index at.register all
             → Works (row_work * length all) 0 (sum_by (λ t. block_rows (content at.db.0 (key_in at.index at.register t.term))) all) 0

@@ -7,6 +7,9 @@ pub mod HoldsAlike
 pub mod JoinedLists
 pub mod JustLemmas
 pub mod KnownHolders
+pub mod MetPages
+pub mod MetTerms
+pub mod MetRows
 pub mod NeighbourLemmas
 pub mod OneKey
 pub mod OrderedLists

@@ -144,7 +144,7 @@ several [] some more = absurd (omega (arith, some))
 several (key ∷ []) some more = absurd (more refl)
 several (key ∷ other ∷ keys) some more = omega arith
 
-not_lower : (a b : List ℕ) → ¬ Precedes a b → is_lt (slice_cmp nat_cmp a b) ≡ false
+pub not_lower : (a b : List ℕ) → ¬ Precedes a b → is_lt (slice_cmp nat_cmp a b) ≡ false
 not_lower a b never = by (slice_cmp nat_cmp a b) refl
   where
     by : (o : Ordering) → slice_cmp nat_cmp a b ≡ o → is_lt o ≡ false
@@ -155,27 +155,29 @@ not_lower a b never = by (slice_cmp nat_cmp a b) refl
 never_lower : (a b : List ℕ) → is_lt (slice_cmp nat_cmp a b) ≡ false → ¬ Precedes a b
 never_lower a b low is = let e : true ≡ false = sym (ap is_lt is) ∙ low in cc
 
-module _ (content : Content) (of : RegisterOf) (keys : List Key) (are : AreRun content of keys) (many : 2 ≤ length keys) (first last : Key) (at : HaveEnds keys first last) where
-  from_first : (key : Key) → Has keys key → ¬ Precedes key.term first.term
+-- keys that rise stand between the first and the last
+module _ (keys : List Key) (up : Rise (λ (key : Key). key.term) keys) (first last : Key) (at : HaveEnds keys first last) where
+  pub from_first : (key : Key) → Has keys key → ¬ Precedes key.term first.term
   unfolding IsStrictlySortedBy
   from_first key here low =
-      let up : Rise (λ (k : Key). k.term) (first ∷ at.rest) = subst (Rise (λ (k : Key). k.term)) at.begins are.rising in
+      let rises : Rise (λ (k : Key). k.term) (first ∷ at.rest) = subst (Rise (λ (k : Key). k.term)) at.begins up in
       elim (subst (λ (l : List Key). Has l key) at.begins here) [
         | inl same ↦ never_before_itself first.term (subst (λ (k : Key). Precedes k.term first.term) same low)
-        | inr later ↦ never_after first.term key.term (all_has (λ t. slice_cmp nat_cmp first.term t ≡ Less) (map (λ (k : Key). k.term) at.rest) key.term up.0 (mapped_has (λ (k : Key). k.term) at.rest key later)) low
+        | inr later ↦ never_after first.term key.term (all_has (λ t. slice_cmp nat_cmp first.term t ≡ Less) (map (λ (k : Key). k.term) at.rest) key.term rises.0 (mapped_has (λ (k : Key). k.term) at.rest key later)) low
       ]
 
-  up_to_last : (key : Key) → Has keys key → ¬ Precedes last.term key.term
+  pub up_to_last : (key : Key) → Has keys key → ¬ Precedes last.term key.term
   up_to_last key here low =
       elim (has_either at.front (last ∷ []) key (subst (λ (l : List Key). Has l key) at.ends here)) [
-        | inl before ↦ never_after key.term last.term (before_last_text (λ (k : Key). k.term) at.front last (subst (Rise (λ (k : Key). k.term)) at.ends are.rising) key before) low
+        | inl before ↦ never_after key.term last.term (before_last_text (λ (k : Key). k.term) at.front last (subst (Rise (λ (k : Key). k.term)) at.ends up) key before) low
         | inr end ↦ elim end [ inl same ↦ never_before_itself last.term (subst (λ (k : Key). Precedes last.term k.term) same low) | inr none ↦ absurd none ]
       ]
 
+module _ (content : Content) (of : RegisterOf) (keys : List Key) (are : AreRun content of keys) (many : 2 ≤ length keys) (first last : Key) (at : HaveEnds keys first last) where
   pub keys_between : AreKeysBetween content of first.term last.term keys
   keys_between = record {
     rising = are.rising;
-    each = λ key here. (are.each key here, (not_lower key.term first.term (from_first key here), not_lower last.term key.term (up_to_last key here)));
+    each = λ key here. (are.each key here, (not_lower key.term first.term (from_first keys are.rising first last at key here), not_lower last.term key.term (up_to_last keys are.rising first last at key here)));
     all = λ term p between here.
         are.neighbours many first last (subst (λ (l : List Key). Has l first) (sym at.begins) (inl refl)) (subst (λ (l : List Key). Has l last) (sym at.ends) (has_right at.front (last ∷ []) last (inl refl)))
         term p (never_lower term first.term between.0, never_lower last.term term between.1) here;

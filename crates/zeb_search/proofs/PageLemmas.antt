@@ -4,7 +4,7 @@ use Rattle.std.specs.declared.alloc.Global.{Global}
 use Rattle.std.specs.Ordering.{nat_cmp, is_lt}
 use Rattle.std.specs.Cmp.Lexicographic.{slice_cmp}
 use Rattle.std.specs.List.Sorted.{IsStrictlySortedBy}
-use Rattle.std.proofs.lemmas.List.{take-append-drop}
+use Rattle.std.proofs.lemmas.List.{append_assoc, take-append-drop}
 use Rattle.std.proofs.lemmas.List.Kept.{IsStrictlySortedBy-filter}
 use Rattle.sqlite.specs.State.{State, HasCleanDisk, Survives}
 use Rattle.sqlite_rules.specs.Lists.{Has}
@@ -26,17 +26,24 @@ use Rattle.zeb_search.proofs.RisingTexts.{before_last_text, front_rise, joined_r
 -- ---- lists cut in two
 
 -- what stands in front of a cut comes before what stands behind it
-cut_rises : {K : Type 0} (R : K → K → Ordering) (xs ys : List K) → IsStrictlySortedBy R (xs ++ ys) → (x y : K) → Has xs x → Has ys y → R x y ≡ Less
+pub cut_rises : {K : Type 0} (R : K → K → Ordering) (xs ys : List K) → IsStrictlySortedBy R (xs ++ ys) → (x y : K) → Has xs x → Has ys y → R x y ≡ Less
 unfolding IsStrictlySortedBy
 cut_rises R [] ys up x y here there = absurd here
 cut_rises R (z ∷ xs) ys up x y (inl same) there = subst (λ w. R w y ≡ Less) (sym same) (all_has (λ w. R z w ≡ Less) (xs ++ ys) y up.0 (has_right xs ys y there))
 cut_rises R (z ∷ xs) ys up x y (inr later) there = cut_rises R xs ys up.1 x y later there
 
 -- a list is cut at 0 or has a first part
-some_taken : {K : Type 0} (n : ℕ) (xs : List K) (y : K) → 0 < n → take n xs ≡ [] → ¬ Has (drop n xs) y
+pub some_taken : {K : Type 0} (n : ℕ) (xs : List K) (y : K) → 0 < n → take n xs ≡ [] → ¬ Has (drop n xs) y
 some_taken zero xs y some none there = omega (arith, some)
 some_taken (suc n) [] y some none there = there
 some_taken (suc n) (x ∷ xs) y some none there = cc
+
+-- terms that rise are below the text right above the last one
+pub below_above : (terms front : List TermCount) (last : TermCount) → terms ≡ front ++ last ∷ [] → TermsRise terms → (t : TermCount) → Has terms t → Precedes t.term (last.term ++ 0 ∷ [])
+below_above terms front last is up t there = elim (has_either front (last ∷ []) t (subst (λ (l : List TermCount). Has l t) is there)) [
+  | inl before ↦ precedes_then t.term last.term (last.term ++ 0 ∷ []) (before_last_text (λ (u : TermCount). u.term) front last (subst TermsRise is up) t before) (below_next last.term)
+  | inr end ↦ elim end [ inl same ↦ subst (λ (u : TermCount). Precedes u.term (last.term ++ 0 ∷ [])) (sym same) (below_next last.term) | inr none ↦ absurd none ]
+]
 
 -- ---- one page
 
@@ -169,27 +176,12 @@ module _ (O : ℕ → Occurrence → Type 0) (index : ℕ) (register : Register)
         last_there : Has page last
         last_there = subst (λ (l : List TermCount). Has l last) (sym is_page) (has_right front (last ∷ []) last (inl refl))
 
-        -- each term is the last one or comes before it
-        up_to_last : (t : TermCount) → Has (terms ++ page) t → Precedes t.term last.term ⊎ (t ≡ last)
-        up_to_last t there = elim (has_either terms page t there) [
-          | inl before ↦ inl (in_order t last before last_there)
-          | inr here ↦ elim (has_either front (last ∷ []) t (subst (λ (l : List TermCount). Has l t) is_page here)) [
-            | inl first ↦ inl (before_last_text (λ (u : TermCount). u.term) front last (subst TermsRise is_page (page_rises start n page are)) t first)
-            | inr end ↦ elim end [ inl same ↦ inr same | inr none ↦ absurd none ]
-          ]
-        ]
-
-        below_above : (t : TermCount) → Has (terms ++ page) t → Precedes t.term (last.term ++ 0 ∷ [])
-        below_above t there = elim (up_to_last t there) [
-          | inl before ↦ precedes_then t.term last.term (last.term ++ 0 ∷ []) before (below_next last.term)
-          | inr same ↦ subst (λ (u : TermCount). Precedes u.term (last.term ++ 0 ∷ [])) (sym same) (below_next last.term)
-        ]
-
         pub page_behind : (next : List ℕ) → next ≡ last.term ++ 0 ∷ [] → HasUpTo (terms ++ page) next
         page_behind next is_next = record {
           of = more_of;
           rising = more_rises;
-          below = λ t there. subst (Precedes t.term) (sym is_next) (below_above t there);
+          below = λ t there. subst (Precedes t.term) (sym is_next)
+              (below_above (terms ++ page) (terms ++ front) last (ap (λ (l : List TermCount). terms ++ l) is_page ∙ sym (append_assoc terms front (last ∷ []))) more_rises t there);
           among = λ term m there asked. elim (after_page term m there asked) [
             | inl among ↦ inl among
             | inr behind ↦ inr (subst (λ (l : List ℕ). ¬ Precedes term l) (sym is_next) (none_between last.term term (behind.1 last last_there)))

@@ -4,10 +4,12 @@ pub mod PrivateSearchCounts
 pub mod DictRows
 pub mod Holds
 pub mod ListRows
+pub mod SearchRows
 pub mod Lists
 pub mod PrivateLists
 pub mod PrivateWordCounts
 pub mod PrivateTerms
+pub mod PrivateMet
 pub mod PrivateWalks
 pub mod Registers
 pub mod Untouched

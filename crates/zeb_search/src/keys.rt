@@ -3,13 +3,14 @@
 ghost use Rattle.std.specs.Prelude.{◌≡◌, IfOk, IsTrue, OnOk};
 ghost use Rattle.sqlite.specs.Held.{state};
 ghost use Rattle.zeb_register.specs.Calls.{Reading};
-ghost use Rattle.zeb_register.specs.Clauses.{IsHonestStorable, IsReasoned, TellsHeld};
+ghost use Rattle.zeb_register.specs.Clauses.{IsHonestStorable, IsReasoned, Tells, TellsHeld};
 ghost use Rattle.zeb_register.specs.Content.{posted};
 ghost use Rattle.zeb_register.specs.Formats.{holds_in};
 ghost use Rattle.zeb_search.specs.SearchCounts.{CountsByContent};
 ghost use Rattle.zeb_search.specs.PrivateSearchCounts.{NoRows};
 ghost use Rattle.zeb_search.specs.DictRows.{EntryDict, RegisterDict};
 ghost use Rattle.zeb_search.specs.ListRows.{AreKeysOf};
+ghost use Rattle.zeb_search.specs.PrivateMet.{AreMet, HasMet};
 ghost use Rattle.zeb_search.specs.PrivateTerms.{AreFound, AreTaken, HasWanted, IsWanted, LeadsTo, NamesEntry, StandTogether, TermsRise};
 ghost use Rattle.zeb_search.specs.Untouched.{IsUntouched};
 
@@ -109,6 +110,8 @@ fn terms_wanted<S: Alter, L: Layout>(
         (λ content terms. HasWanted (posted content of.db.0) of.index of.register wanted.entry terms.items) }
     ensures honest { IsHonestStorable (holds_in L.format) (state S.Store connection.old) (state S.Store connection.new) result }
     ensures refused { IsReasoned (state S.Store connection.old) (state S.Store connection.new) result }
+    ensures told { Tells (state S.Store connection.old) (state S.Store connection.new) result
+        (λ trees terms. HasMet L.format trees of.db.0 of.index of.register wanted.entry terms.items) }
     ensures work { OnOk result (CountsByContent L.format (λ content. RegisterDict L.row_work content of.db.0 of.index of.register) NoRows
         (state S.Store connection.old) (state S.Store connection.new) work.old work.new) }
     ensures no_work { L.row_work ≡ 0 → work.new ≡ work.old }
@@ -148,6 +151,8 @@ pub(crate) fn keys_wanted<S: Alter, L: Layout>(
         × AreFound content of found) }
     ensures honest { IsHonestStorable (holds_in L.format) (state S.Store connection.old) (state S.Store connection.new) result }
     ensures refused { IsReasoned (state S.Store connection.old) (state S.Store connection.new) result }
+    ensures met { Tells (state S.Store connection.old) (state S.Store connection.new) result
+        (λ trees found. AreMet L.format trees of wanted.entry found.keys.items) }
     ensures work { OnOk result (CountsByContent L.format
         (λ content. EntryDict L.row_work content of.db.0 (NamesEntry wanted.entry) of.index of.register) NoRows
         (state S.Store connection.old) (state S.Store connection.new) work.old work.new) }

@@ -14,6 +14,7 @@ ghost use Rattle.zeb_search.specs.ListRows.{PlanRows, TermRows};
 ghost use Rattle.zeb_search.specs.Lists.{AreNumbers};
 ghost use Rattle.zeb_search.specs.PrivateWordCounts.{CountedWords};
 ghost use Rattle.zeb_search.specs.Registers.{HoldsIn, NamesReadable, TermNamesReadable, is_kept_in};
+ghost use Rattle.zeb_search.specs.SearchRows.{ArePlanRowsSound, AreTermRowsSound, AreWordsSound};
 ghost use Rattle.zeb_search.specs.Untouched.{IsUntouched};
 
 use crate::distances::near;
@@ -49,6 +50,8 @@ pub fn hits<S: Alter, L: Layout>(
         → NamesReadable trees database.0 (plan_value plan.now)
         → (content : Content) → IsStorable content → ¬ holds_in L.format trees content) }
     ensures refused { IsReasoned (state S.Store connection.old) (state S.Store connection.new) result }
+    ensures sound { OnStore (state S.Store connection.old) (state S.Store connection.new) (λ trees. OnOk result
+        (ArePlanRowsSound L.format trees database.0 (plan_value plan.now))) }
     ensures work { OnOk result (CountsByContent L.format (λ content. PlanDict L.row_work content database.0 (plan_value plan.now))
         (λ content. PlanRows L.block_rows content database.0 (plan_value plan.now))
         (state S.Store connection.old) (state S.Store connection.new) work.old work.new) }
@@ -82,6 +85,8 @@ fn term_hits<S: Alter, L: Layout>(
         → TermNamesReadable trees database.0 (term_plan_value term.now)
         → (content : Content) → IsStorable content → ¬ holds_in L.format trees content) }
     ensures refused { IsReasoned (state S.Store connection.old) (state S.Store connection.new) result }
+    ensures sound { OnStore (state S.Store connection.old) (state S.Store connection.new) (λ trees. OnOk result
+        (AreTermRowsSound L.format trees database.0 (term_plan_value term.now))) }
     ensures work { OnOk result (CountsByContent L.format (λ content. TermDict L.row_work content database.0 (term_plan_value term.now))
         (λ content. TermRows L.block_rows content database.0 (term_plan_value term.now))
         (state S.Store connection.old) (state S.Store connection.new) work.old work.new) }
@@ -202,6 +207,8 @@ fn near_hits<S: Alter, L: Layout>(
         (NearOf plan.now.index plan.now.left plan.now.right plan.now.separation)) hits.items) }
     ensures honest { IsHonestStorable (holds_in L.format) (state S.Store connection.old) (state S.Store connection.new) result }
     ensures refused { IsReasoned (state S.Store connection.old) (state S.Store connection.new) result }
+    ensures sound { OnStore (state S.Store connection.old) (state S.Store connection.new) (λ trees. OnOk result
+        (AreWordsSound L.format trees database.0 plan.now.index (plan.now.left ∷ plan.now.right ∷ []))) }
     ensures work { OnOk result (CountedWords L.format L.row_work L.block_rows database.0 plan.now.index
         (plan.now.left ∷ plan.now.right ∷ []) (state S.Store connection.old) (state S.Store connection.new) work.old work.new) }
     ensures no_work { L.row_work ≡ 0 → work.new ≡ work.old }

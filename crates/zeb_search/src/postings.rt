@@ -9,11 +9,14 @@ ghost use Rattle.zeb_register.specs.Content.{Content, posted};
 ghost use Rattle.zeb_register.specs.Formats.{holds_in};
 ghost use Rattle.zeb_search.specs.SearchCounts.{CountsByContent, CountsAtMost};
 ghost use Rattle.zeb_search.specs.DictRows.{EntryDict};
-ghost use Rattle.zeb_search.specs.Holds.{HasEntry, HasWord};
+ghost use Rattle.zeb_search.specs.SearchCounts.{HasNoStar};
+ghost use Rattle.zeb_search.specs.SearchRows.{AreEntriesSound};
+ghost use Rattle.zeb_search.specs.Holds.{Fits, HasEntry, HasWord};
 ghost use Rattle.zeb_search.specs.ListRows.{EntryRows, rows_under};
 ghost use Rattle.zeb_search.specs.Lists.{AreNumbers};
 ghost use Rattle.zeb_search.specs.PrivateLists.{ArePostings};
 ghost use Rattle.zeb_search.specs.PrivateWordCounts.{CountedMatches};
+ghost use Rattle.zeb_search.specs.PrivateMet.{AreKeyListsSound, AreKeysIn};
 ghost use Rattle.zeb_search.specs.PrivateTerms.{AreFound, AreRun, IsPostingOf, IsWanted, NamesEntry};
 ghost use Rattle.zeb_search.specs.Untouched.{IsUntouched};
 
@@ -66,6 +69,8 @@ fn list_of_run<S: Alter, L: Layout>(
         (λ content list. AreRun content of run.now → (p : Posting) → Has list.items p ↔ IsPostingOf content of.db.0 run.now p) }
     ensures honest { IsHonestStorable (holds_in L.format) (state S.Store connection.old) (state S.Store connection.new) result }
     ensures refused { IsReasoned (state S.Store connection.old) (state S.Store connection.new) result }
+    ensures spelled { OnStore (state S.Store connection.old) (state S.Store connection.new) (λ trees. OnOk result
+        (AreKeysIn of run.now → AreKeyListsSound L.format trees of.db.0 run.now)) }
     ensures work { OnOk result (OnStore (state S.Store connection.old) (state S.Store connection.new) (λ trees.
         (content : Content) → holds_in L.format trees content → AreRun content of run.now
         → CountsAtMost 0 (rows_under L.block_rows content of.db.0 run.now) work.old work.new)) }
@@ -100,6 +105,8 @@ fn list_found<S: Alter, L: Layout>(
         → (p : Posting) → Has list.items p ↔ IsPostingOf content of.db.0 found.now.keys.items p) }
     ensures honest { IsHonestStorable (holds_in L.format) (state S.Store connection.old) (state S.Store connection.new) result }
     ensures refused { IsReasoned (state S.Store connection.old) (state S.Store connection.new) result }
+    ensures spelled { OnStore (state S.Store connection.old) (state S.Store connection.new) (λ trees. OnOk result
+        (AreKeysIn of found.now.keys.items → AreKeyListsSound L.format trees of.db.0 found.now.keys.items)) }
     ensures work { OnOk result (OnStore (state S.Store connection.old) (state S.Store connection.new) (λ trees.
         (content : Content) → holds_in L.format trees content → AreFound content of found.now
         → CountsAtMost 0 (rows_under L.block_rows content of.db.0 found.now.keys.items) work.old work.new)) }
@@ -130,6 +137,8 @@ pub(crate) fn numbers_wanted<S: Alter, L: Layout>(
         (λ content hits. AreNumbers (HasEntry (posted content of.db.0) of.index of.register (IsWanted wanted.entry)) hits.items) }
     ensures honest { IsHonestStorable (holds_in L.format) (state S.Store connection.old) (state S.Store connection.new) result }
     ensures refused { IsReasoned (state S.Store connection.old) (state S.Store connection.new) result }
+    ensures sound { OnStore (state S.Store connection.old) (state S.Store connection.new) (λ trees. OnOk result
+        (AreEntriesSound L.format trees of.db.0 (NamesEntry wanted.entry) of.index of.register (IsWanted wanted.entry))) }
     ensures work { OnOk result (CountsByContent L.format
         (λ content. EntryDict L.row_work content of.db.0 (NamesEntry wanted.entry) of.index of.register)
         (λ content. EntryRows L.block_rows content of.db.0 of.index of.register (IsWanted wanted.entry))
@@ -154,6 +163,8 @@ pub(crate) fn places_of_words<S: Alter, L: Layout>(
         (λ content list. ArePostings (λ p. HasWord (posted content of.db.0) of.index pattern.now p.sysno p.seq p.pos) list.items) }
     ensures honest { IsHonestStorable (holds_in L.format) (state S.Store connection.old) (state S.Store connection.new) result }
     ensures refused { IsReasoned (state S.Store connection.old) (state S.Store connection.new) result }
+    ensures sound { OnStore (state S.Store connection.old) (state S.Store connection.new) (λ trees. OnOk result
+        (AreEntriesSound L.format trees of.db.0 (HasNoStar pattern.now) of.index Register.Word (Fits pattern.now))) }
     ensures work { OnOk result (CountedMatches L.format L.row_work L.block_rows of.db.0 of.index pattern.now
         (state S.Store connection.old) (state S.Store connection.new) work.old work.new) }
     ensures no_work { L.row_work ≡ 0 → work.new ≡ work.old }

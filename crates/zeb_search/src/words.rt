@@ -4,14 +4,16 @@ ghost use Rattle.std.specs.Prelude.{◌≡◌, ◌≢◌, ◌==◌, [], IfOk, fi
 ghost use Rattle.sqlite.specs.Held.{state};
 ghost use Rattle.zeb_query.specs.Plans.{AllWordsOf, AnyWordOf, PhraseOf, TermOf};
 ghost use Rattle.zeb_register.specs.Calls.{Reading};
-ghost use Rattle.zeb_register.specs.Clauses.{IsHonestStorable, IsReasoned, TellsHeld};
+ghost use Rattle.zeb_register.specs.Clauses.{IsHonestStorable, IsReasoned, OnStore, TellsHeld};
 ghost use Rattle.zeb_register.specs.Content.{posted};
 ghost use Rattle.zeb_register.specs.Formats.{holds_in};
-ghost use Rattle.zeb_search.specs.Holds.{HasMatch, HasWords};
+ghost use Rattle.zeb_search.specs.Holds.{Fits, HasMatch, HasWords};
 ghost use Rattle.zeb_search.specs.Lists.{AreNumbers};
 ghost use Rattle.zeb_search.specs.PrivateLists.{ArePostings};
 ghost use Rattle.zeb_search.specs.PrivateWordCounts.{CountedMatches, CountedWords};
 ghost use Rattle.zeb_search.specs.Registers.{HoldsIn};
+ghost use Rattle.zeb_search.specs.SearchCounts.{HasNoStar};
+ghost use Rattle.zeb_search.specs.SearchRows.{AreEntriesSound, AreWordsSound};
 ghost use Rattle.zeb_search.specs.Untouched.{IsUntouched};
 
 use crate::lists::{joined, numbers_of, with_one_behind};
@@ -38,6 +40,8 @@ fn word_hits<S: Alter, L: Layout>(
         (λ content hits. AreNumbers (HasMatch (posted content of.db.0) of.index pattern.now) hits.items) }
     ensures honest { IsHonestStorable (holds_in L.format) (state S.Store connection.old) (state S.Store connection.new) result }
     ensures refused { IsReasoned (state S.Store connection.old) (state S.Store connection.new) result }
+    ensures sound { OnStore (state S.Store connection.old) (state S.Store connection.new) (λ trees. OnOk result
+        (AreEntriesSound L.format trees of.db.0 (HasNoStar pattern.now) of.index Register.Word (Fits pattern.now))) }
     ensures work { OnOk result (CountedMatches L.format L.row_work L.block_rows of.db.0 of.index pattern.now
         (state S.Store connection.old) (state S.Store connection.new) work.old work.new) }
     ensures no_work { L.row_work ≡ 0 → work.new ≡ work.old }
@@ -64,6 +68,8 @@ pub(crate) fn any_word_hits<S: Alter, L: Layout>(
         (TermOf (AnyWordOf of.index patterns.now))) hits.items) }
     ensures honest { IsHonestStorable (holds_in L.format) (state S.Store connection.old) (state S.Store connection.new) result }
     ensures refused { IsReasoned (state S.Store connection.old) (state S.Store connection.new) result }
+    ensures sound { OnStore (state S.Store connection.old) (state S.Store connection.new) (λ trees. OnOk result
+        (AreWordsSound L.format trees of.db.0 of.index patterns.now)) }
     ensures work { OnOk result (CountedWords L.format L.row_work L.block_rows of.db.0 of.index patterns.now
         (state S.Store connection.old) (state S.Store connection.new) work.old work.new) }
     ensures no_work { L.row_work ≡ 0 → work.new ≡ work.old }
@@ -90,6 +96,8 @@ pub(crate) fn all_words_hits<S: Alter, L: Layout>(
         (TermOf (AllWordsOf of.index patterns.now))) hits.items) }
     ensures honest { IsHonestStorable (holds_in L.format) (state S.Store connection.old) (state S.Store connection.new) result }
     ensures refused { IsReasoned (state S.Store connection.old) (state S.Store connection.new) result }
+    ensures sound { OnStore (state S.Store connection.old) (state S.Store connection.new) (λ trees. OnOk result
+        (AreWordsSound L.format trees of.db.0 of.index patterns.now)) }
     ensures work { OnOk result (CountedWords L.format L.row_work L.block_rows of.db.0 of.index patterns.now
         (state S.Store connection.old) (state S.Store connection.new) work.old work.new) }
     ensures no_work { L.row_work ≡ 0 → work.new ≡ work.old }
@@ -121,6 +129,8 @@ pub(crate) fn phrase_hits<S: Alter, L: Layout>(
         (TermOf (PhraseOf of.index patterns.now first))) hits.items) }
     ensures honest { IsHonestStorable (holds_in L.format) (state S.Store connection.old) (state S.Store connection.new) result }
     ensures refused { IsReasoned (state S.Store connection.old) (state S.Store connection.new) result }
+    ensures sound { OnStore (state S.Store connection.old) (state S.Store connection.new) (λ trees. OnOk result
+        (AreWordsSound L.format trees of.db.0 of.index patterns.now)) }
     ensures work { OnOk result (CountedWords L.format L.row_work L.block_rows of.db.0 of.index patterns.now
         (state S.Store connection.old) (state S.Store connection.new) work.old work.new) }
     ensures no_work { L.row_work ≡ 0 → work.new ≡ work.old }
@@ -163,6 +173,8 @@ fn places_of_phrase<S: Alter, L: Layout>(
         × HasWords (posted content of.db.0) of.index patterns.now p.sysno p.seq p.pos) places.items) }
     ensures honest { IsHonestStorable (holds_in L.format) (state S.Store connection.old) (state S.Store connection.new) result }
     ensures refused { IsReasoned (state S.Store connection.old) (state S.Store connection.new) result }
+    ensures sound { OnStore (state S.Store connection.old) (state S.Store connection.new) (λ trees. OnOk result
+        (AreWordsSound L.format trees of.db.0 of.index patterns.now)) }
     ensures work { OnOk result (CountedWords L.format L.row_work L.block_rows of.db.0 of.index patterns.now
         (state S.Store connection.old) (state S.Store connection.new) work.old work.new) }
     ensures no_work { L.row_work ≡ 0 → work.new ≡ work.old }

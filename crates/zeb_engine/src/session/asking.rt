@@ -54,8 +54,8 @@ impl<S: Alter, L: Layout> Session<S, L> {
             question.entry.count) (state S.Store self.old.connection) result }
         ensures tables { HasCleanDisk (state S.Store self.new.connection)
             → OverReady (version_of L.format) self.old.profile
-            (FindOver self.old.profile (name_bytes database.now) question.entry.query.now question.entry.first question.entry.count)
-            (state S.Store self.old.connection) result }
+            (FindOver L.format self.old.profile (name_bytes database.now) question.entry.query.now question.entry.first
+            question.entry.count) (state S.Store self.old.connection) result }
         ensures caused { FailsForCause S.Store self.old.connection self.new.connection result }
         ensures work { HasCleanDisk (state S.Store self.new.connection)
             → OnOk result (FindReads L.format L.row_work L.block_rows self.old.profile (name_bytes database.now)
@@ -90,8 +90,8 @@ impl<S: Alter, L: Layout> Session<S, L> {
             (name_bytes database.now) (state S.Store self.old.connection) result }
         ensures tables { HasCleanDisk (state S.Store self.new.connection)
             → OverReady (version_of L.format) self.old.profile
-            (ScanOver self.old.profile (name_bytes database.now) around.entry.query.now around.entry.number around.entry.position)
-            (state S.Store self.old.connection) result }
+            (ScanOver L.format self.old.profile (name_bytes database.now) around.entry.query.now around.entry.number
+            around.entry.position) (state S.Store self.old.connection) result }
         ensures caused { FailsForCause S.Store self.old.connection self.new.connection result }
         ensures work { HasCleanDisk (state S.Store self.new.connection)
             → OnOk result (ScanReads L.format L.row_work around.entry.number around.entry.position

@@ -9,7 +9,7 @@ ghost use Rattle.zeb_change.specs.Reading.{HasFailedAt, NamesFailed, NoneFailed,
 ghost use Rattle.zeb_image.specs.Holdings.{Holdings};
 ghost use Rattle.zeb_image.specs.Image.{Keeps};
 ghost use Rattle.zeb_image.specs.NameOf.{name_bytes};
-ghost use Rattle.zeb_engine.specs.AnyTables.{ChangesReady};
+ghost use Rattle.zeb_engine.specs.AnyTables.{ChangesReady, LeavesWhole};
 ghost use Rattle.zeb_engine.specs.Causes.{ChangesInRoom};
 ghost use Rattle.zeb_engine.specs.Costs.{CostsAlone, no_work};
 ghost use Rattle.zeb_engine.specs.Crashes.{CommitsBy, Endures};
@@ -56,6 +56,9 @@ impl<S: Alter, L: Layout> Session<S, L> {
         ensures elder { HasCleanDisk (state S.Store self.new.connection)
             → ChangesReady (version_of L.format) self.old.profile (name_bytes database.now) (map (λ file. file.items) files.now)
             (state S.Store self.old.connection) result }
+        ensures loses { HasCleanDisk (state S.Store self.new.connection)
+            → LeavesWhole self.old.profile (name_bytes database.now) (state S.Store self.old.connection)
+            (state S.Store self.new.connection) result }
     {
         let mut readers = Vec::with_capacity(self.alloc, files.len())?;
         for file in files {
@@ -115,6 +118,11 @@ impl<S: Alter, L: Layout> Session<S, L> {
             → map R.remaining readers.old ≡ map Some texts → NoneFailed R.has_failed readers.new
             → ChangesReady (version_of L.format) self.old.profile (name_bytes database.now) texts
             (state S.Store self.old.connection) result }
+        // Of any store and whatever the readers tell, too: where the change is accepted, each record that the database kept, with a number up
+        // to its last one, was whole or is kept after just as it was; and each other database keeps just the records that it kept.
+        ensures loses { HasCleanDisk (state S.Store self.new.connection)
+            → LeavesWhole self.old.profile (name_bytes database.now) (state S.Store self.old.connection)
+            (state S.Store self.new.connection) result }
     {
         let answer = self.change_from(database, kind, readers);
         // What is shown is what was committed.
@@ -156,6 +164,9 @@ impl<S: Alter, L: Layout> Session<S, L> {
             → map R.remaining readers.old ≡ map Some texts → NoneFailed R.has_failed readers.new
             → ChangesReady (version_of L.format) self.old.profile (name_bytes database.now) texts
             (state S.Store self.old.connection) result }
+        ensures loses { HasCleanDisk (state S.Store self.new.connection)
+            → LeavesWhole self.old.profile (name_bytes database.now) (state S.Store self.old.connection)
+            (state S.Store self.new.connection) result }
     {
         self.work = Work::default();
         check_readers(readers)?;

@@ -9,6 +9,7 @@ ghost use Rattle.zeb_register.specs.Store.{databases_tree};
 ghost use Rattle.zeb_change.specs.Conditions.{conditions};
 ghost use Rattle.zeb_change.specs.Reading.{NoReadFault};
 ghost use Rattle.zeb_image.specs.NameOf.{name_bytes};
+ghost use Rattle.zeb_engine.specs.AnyRefusals.{CreateOver, DropOver, HidesDatabase, UnlessHidden};
 ghost use Rattle.zeb_engine.specs.PrivateCauses.{HasCauseOver};
 ghost use Rattle.zeb_engine.specs.PrivateCrashes.{Commits};
 ghost use Rattle.zeb_engine.specs.Steps.{created, dropped, turned};
@@ -42,6 +43,10 @@ impl<S: Alter, L: Layout> Session<S, L> {
         ensures unworked { self.new.work ≡ self.old.work }
         ensures caused { HasCleanDisk (state S.Store self.new.connection) → HasCauseOver (LacksRowids 1 databases_tree)
             (state S.Store self.old.connection) (state S.Store self.new.connection) result }
+        // Whatever the tables hold, it goes by the row of the name.
+        ensures tables { HasCleanDisk (state S.Store self.new.connection)
+            → UnlessHidden (version_of L.format) self.old.profile (CreateOver (name_bytes name.now)) (HidesDatabase (name_bytes name.now))
+            (state S.Store self.old.connection) result }
     {
         check_ready::<S, L>(&mut self.connection, &self.profile)?;
         create_database::<S, L>(&mut self.connection, name)
@@ -62,6 +67,9 @@ impl<S: Alter, L: Layout> Session<S, L> {
         ensures unworked { self.new.work ≡ self.old.work }
         ensures caused { HasCleanDisk (state S.Store self.new.connection) → HasCauseOver (λ _. ⊥)
             (state S.Store self.old.connection) (state S.Store self.new.connection) result }
+        ensures tables { HasCleanDisk (state S.Store self.new.connection)
+            → UnlessHidden (version_of L.format) self.old.profile (DropOver (name_bytes name.now)) (HidesDatabase (name_bytes name.now))
+            (state S.Store self.old.connection) result }
     {
         check_ready::<S, L>(&mut self.connection, &self.profile)?;
         drop_database::<S, L>(self.alloc, &mut self.connection, name)

@@ -1,10 +1,11 @@
 //! Statements on one row of `blocks` or `dict`: it is read, put where none was, put in the place of the one that was there, or taken.
 
-ghost use Rattle.std.specs.Prelude.{IsUtf8, ◌≡◌, ◌++◌, [], ◌∷◌};
+ghost use Rattle.std.specs.Prelude.{IsUtf8, ◌≡◌, ◌++◌, [], ◌∷◌, false, OnOk};
 ghost use Rattle.sqlite.specs.declared.types.Value.TheVariants.{Blob, Int};
 ghost use Rattle.sqlite.specs.Held.{state};
 ghost use Rattle.zeb_register.specs.Calls.{Inside};
-ghost use Rattle.zeb_register.specs.Clauses.{IsReasonedErrorInside, TakesInside, Writes};
+ghost use Rattle.zeb_packed.specs.PrivatePackedChanges.{IsTold};
+ghost use Rattle.zeb_register.specs.Clauses.{InStore, IsReasonedErrorInside, TakesInside, Writes};
 ghost use Rattle.zeb_register.specs.PrivateClauses.{IsHinderedErrorInside};
 ghost use Rattle.zeb_register.specs.Hindrances.{Hinders};
 ghost use Rattle.zeb_register.specs.PrivateHindrances.{HindersNew};
@@ -67,6 +68,8 @@ pub(crate) fn block_add<S: Alter>(
     ensures same { tx.new.conn.ghost_name ≡ tx.old.conn.ghost_name }
     ensures call { Writes blocks_tree (Gains (numbered_columns at.entry number ++ Blob bytes.now ∷ []))
         (state S.Store tx.old.conn.now) (state S.Store tx.new.conn.now) result }
+    ensures alone { InStore (state S.Store tx.old.conn.now) (state S.Store tx.new.conn.now) (λ trees. OnOk result
+        (IsTold false (IsOfNumbered at.entry number) blocks_tree trees)) }
     ensures violated { IsUnchangedByViolation (state S.Store tx.old.conn.now) (state S.Store tx.new.conn.now) result }
     ensures refused { IsHinderedErrorInside (state S.Store tx.old.conn.now) (state S.Store tx.new.conn.now) result
         (HindersNew (IsOfNumbered at.entry number) blocks_tree (numbered_columns at.entry number ++ Blob bytes.now ∷ [])) }

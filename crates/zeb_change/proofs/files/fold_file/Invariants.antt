@@ -11,8 +11,7 @@ use Rattle.zeb_change.proofs.FoldsOn.{FoldsOn}
 use Rattle.zeb_change.proofs.FoldCosts.{Spent}
 use Rattle.zeb_change.specs.Asked.{AskSlices}
 use Rattle.zeb_register.specs.Store.{IsStore}
-use Rattle.zeb_change.specs.Elders.{IsWholeBefore}
-use Rattle.zeb_change.specs.PrivateElders.{PassesOn}
+use Rattle.zeb_change.specs.Elders.{IsWholeBefore, PassesOn}
 use Rattle.zeb_change.proofs.ElderSteps.{FileBegun, FileRead}
 use Rattle.zeb_change.proofs.FoldFiles.{Under}
 use Rattle.zeb_change.proofs.FoldRoom.{FileRoom, LeavesRoom}

@@ -24,6 +24,7 @@ use Rattle.zeb_change.proofs.FoldRoom.{room_begun, write_caused}
 use Rattle.zeb_change.proofs.RecordRoom.{not_refused, one_refusal, only_store}
 use Rattle.zeb_change.specs.Elders.{FirstFindsWhole}
 use Rattle.zeb_change.proofs.ElderSteps.{files_find}
+use Rattle.zeb_change.proofs.KeptStill.{passes_same, passes_then}
 use Rattle.zeb_change.proofs.files.fold_files.Given as given
 use Rattle.zeb_change.proofs.files.fold_files.Goals.{After-fold_readers, After-write_pending}
 use Rattle.zeb_change.proofs.files.fold_files.Goals as goal
@@ -211,3 +212,19 @@ pub returns-clause-elders : goal.returns-clause-elders
 returns-clause-elders g c clean mode store texts told =
     let was : HasCleanDisk (state g.S.Store c.fold_readers.new.tx.conn.now) = omega (arith, c.write_pending.ensures.call.crash.clean) in
     c.in_ok-fold_readers.ensures.elders was mode store texts told
+
+-- ---- what is kept still
+
+pub returns-clause-passes : goal.returns-clause-passes
+returns-clause-passes g c clean mode store =
+    let profile = c.args.setting.now.profile.now in
+    let id = c.args.fold.now.progress.database.0 in
+    let first = c.args.fold.now.progress.last in
+    let last = c.fold_readers.new.fold.progress.last in
+    let old = state g.S.Store c.args.tx.now.conn.now in
+    let mid = state g.S.Store c.fold_readers.new.tx.conn.now in
+    let new = state g.S.Store c.write_pending.new.tx.conn.now in
+    let was : HasCleanDisk mid = omega (arith, c.write_pending.ensures.call.crash.clean) in
+    let read = c.in_ok-fold_readers.ensures.passes was mode store in
+    let writes = c.in_ok-write_pending.ensures.call.written clean (c.in_ok-fold_readers.ensures.inside.stays was mode).mode read.store in
+    passes_then profile id first last old mid read last new (passes_same profile id last mid new writes.0 writes.1.2)

@@ -315,3 +315,6 @@ returns-clause-elders g c clean mode store texts told =
     let many = as_many g.R.Source.remaining c.args.readers.now texts told in
     let none : length texts ≤ c.loop-index.index = omega (arith, c.loop-index-test.false, c.loop-index.auto.readers, many) in
     files_read _ c.loop-index.index texts ((c.loop-index.invariant.passes clean mode store).1 texts told) none
+
+pub returns-clause-passes : goal.returns-clause-passes
+returns-clause-passes g c clean mode store = (c.loop-index.invariant.passes clean mode store).0

@@ -8,8 +8,7 @@ use Rattle.zeb_change.specs.UnderWay.{StandsFor, conditions_of}
 use Rattle.zeb_change.specs.Costs.{IsFilesCost}
 use Rattle.zeb_change.specs.Asked.{AskFiles}
 use Rattle.zeb_register.specs.Store.{IsStore}
-use Rattle.zeb_change.specs.Elders.{AreWholeBefore}
-use Rattle.zeb_change.specs.PrivateElders.{PassesOn}
+use Rattle.zeb_change.specs.Elders.{AreWholeBefore, PassesOn}
 use Rattle.zeb_change.proofs.ElderSteps.{FilesBegun, FilesRead}
 use Rattle.zeb_change.proofs.FoldAll.{Over}
 use Rattle.zeb_change.proofs.FoldRoom.{FilesRoom, LeavesRoom}

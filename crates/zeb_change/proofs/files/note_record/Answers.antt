@@ -11,7 +11,6 @@ use Rattle.zeb_change.proofs.FoldSteps.{too_many, folded_err, one_folded}
 use Rattle.zeb_change.proofs.NoDamage.{record_tells, refused_honest, taken_holds}
 use Rattle.zeb_change.proofs.RecordRoom.{refused_for}
 use Rattle.zeb_change.proofs.Elders.{passed_error}
-use Rattle.zeb_change.proofs.KeptStill.{whole_to}
 use Rattle.zeb_change.proofs.files.note_record.Goals as goal
 
 pub returns-then-fold-setting-clause-folded : goal.returns-then-fold-setting-clause-folded
@@ -95,6 +94,5 @@ returns-clause-elder g c clean mode store below ident whole named = (c.in_ok-fat
 pub returns-clause-passes : goal.returns-clause-passes
 returns-clause-passes g c clean mode store = (
   c.in_ok-fate.ensures.passes clean mode store,
-  λ ident whole named. whole_to c.args.setting.now.profile.now c.args.fold.now.progress.database.0 c.args.fold.now.progress.last (state g.S.Store c.args.tx.now.conn.now).now.trees ident
-      (c.in_ok-fate.ensures.elder clean mode store ident whole named).0,
+  λ ident whole named sysno bytes there up. (c.in_ok-fate.ensures.elder clean mode store ident whole named).0 sysno bytes there,
 )

@@ -37,8 +37,8 @@ use Rattle.zeb_change.proofs.TurnLemmas.{passed_on, turned_so, passed_over}
 use Rattle.zeb_change.proofs.UnderWay.{fault_fails, same_way}
 use Rattle.zeb_register.specs.Store.{IsStore}
 use Rattle.zeb_change.specs.declared.refusals.Refusal.TheVariants.{Memory, Unknown}
-use Rattle.zeb_change.specs.Elders.{KeepsWhole}
-use Rattle.zeb_change.specs.PrivateElders.{KeepsOtherRecords, PassesOn}
+use Rattle.zeb_change.specs.Elders.{KeepsWhole, PassesOn}
+use Rattle.zeb_change.specs.PrivateElders.{KeepsOtherRecords}
 use Rattle.zeb_change.proofs.Elders.{alike_whole, by_name, failed_so, fault_so, kept_numbered, never_refused, no_base, so_undamaged}
 use Rattle.sqlite.specs.Effect.{Database}
 use Rattle.sqlite.specs.State.{State}

@@ -5,7 +5,7 @@ use Rattle.zeb_register.specs.Catalog.{PutsDatabase}
 use Rattle.zeb_register.specs.Store.{Changes, databases_tree}
 use Rattle.zeb_change.specs.declared.refusals.Refusal.{Refusal}
 use Rattle.zeb_change.specs.declared.refusals.Refusal.TheVariants.{ReadFault, Store}
-use Rattle.zeb_change.specs.Elders.{AllFindWhole}
+use Rattle.zeb_change.specs.Elders.{AllFindWhole, PassesOn}
 use Rattle.zeb_change.specs.Folding.{at_first, Progress, splits_of}
 use Rattle.zeb_change.specs.Outcomes.{register_refusal}
 use Rattle.zeb_change.specs.UnderWay.{IsFolded}
@@ -23,7 +23,8 @@ use Rattle.zeb_register.proofs.Causes.{may_after}
 use Rattle.zeb_register.proofs.TakenRowids.{has_less}
 use Rattle.zeb_change.specs.UnderWay.{conditions_of}
 use Rattle.zeb_change.proofs.RecordRoom.{not_refused, one_refusal, only_store, rowids_same}
-use Rattle.zeb_engine.proofs.ChangeElders.{few_elder, put_elder, put_elders}
+use Rattle.zeb_engine.proofs.ChangeElders.{few_elder, put_elder, put_elders, put_leaves}
+use Rattle.zeb_engine.proofs.ChangeSteps.{kept_records}
 use Rattle.zeb_engine.proofs.ChangeRoom.{begin_below, room_behind, row_served}
 use Rattle.zeb_engine.proofs.OverTables.{fault_few}
 use Rattle.zeb_engine.proofs.changes.apply.Goals as goal
@@ -312,3 +313,25 @@ returns-clause-elders g c clean inside store found texts told =
     let put = subst₂ (λ n l. Changes databases_tree (PutsDatabase id n (pos l)) old mid) c.as_str-name.ensures c.last-last.ensures (c.in_ok-database.ensures.put first inside store) in
     let whole = subst (λ (l : ℕ). AllFindWhole profile l mid.now.trees id (splits_of texts)) c.last-last.ensures (c.in_ok-fold_files.ensures.elders second on.mode put.layout texts told) in
     put_elders profile name texts {T = Reply} old mid id change.found c.changed.result store put found whole
+
+-- ---- what is kept after
+
+pub returns-clause-loses : goal.returns-clause-loses
+returns-clause-loses g c clean inside store found =
+    let old = state g.S.Store c.args.tx.now.conn.now in
+    let mid = state g.S.Store c.database_put.new.tx.conn.now in
+    let now = state g.S.Store c.fold_files.new.tx.conn.now in
+    let new = state g.S.Store c.database_put-2.new.tx.conn.now in
+    let change = c.args.change.now in
+    let profile = change.setting.profile.now in
+    let name = name_bytes change.name.now in
+    let id = c.in_ok-database.database.0 in
+    let after = c.fold_files.new.fold.progress.last in
+    let second : HasCleanDisk now = omega (arith, c.database_put-2.ensures.call.crash.clean) in
+    let first : HasCleanDisk mid = omega (arith, c.fold_files.ensures.crash.clean) in
+    let on = c.in_ok-database.ensures.call.ok first inside in
+    let put = subst₂ (λ n l. Changes databases_tree (PutsDatabase id n (pos l)) old mid) c.as_str-name.ensures c.last-last.ensures (c.in_ok-database.ensures.put first inside store) in
+    let further = c.in_ok-fold_files.ensures.stays second on.mode in
+    let passes = subst (λ (l : ℕ). PassesOn profile id l after mid now) c.last-last.ensures (c.in_ok-fold_files.ensures.passes second on.mode put.layout) in
+    let kept = c.in_ok-database_put.ensures.put clean further.mode passes.store in
+    put_leaves profile name old mid now new id change.found after store put found passes (kept_records c.in_ok-database_put.field-0.0 c.as_str-name.result.now (pos after) now new kept)

@@ -1,4 +1,4 @@
-use Rattle.std.proofs.Common.{◌≡◌, [], Err, rules, ap, arith, refl, sym, subst, inl, inr, Option, IsTrue}
+use Rattle.std.proofs.Common.{◌≡◌, [], Err, OnOk, rules, ap, arith, refl, sym, subst, inl, inr, Option, IsTrue}
 use Rattle.sqlite.specs.Held.{state}
 use Rattle.sqlite.specs.State.{HasCleanDisk}
 use Rattle.zeb_register.specs.declared.catalog.Database.{Database}
@@ -19,7 +19,7 @@ use Rattle.zeb_register.proofs.Causes.{may_after}
 use Rattle.zeb_change.specs.Refused.{why_of}
 use Rattle.zeb_change.proofs.RecordRoom.{one_refusal}
 use Rattle.zeb_register.specs.Catalog.{IsDatabaseOf}
-use Rattle.zeb_engine.specs.AnyTables.{ElderOver, EldersOver}
+use Rattle.zeb_engine.specs.AnyTables.{ElderOver, EldersOver, LeavesRecords}
 use Rattle.zeb_engine.proofs.ChangeElders.{few_elder, missed_elder, said_after}
 use Rattle.zeb_engine.proofs.ChangeRoom.{room_still, where_open}
 use Rattle.zeb_engine.proofs.changes.change_database.Goals as goal
@@ -170,3 +170,16 @@ returns-clause-elders g c clean store texts told =
     let found = c.in_ok-found.ensures.row first store in
     said_after (λ trees. IsDatabaseOf trees name c.in_ok-found.found → EldersOver profile name texts trees c.transact.result) old mid (c.found_for.ensures.same first) (c.in_ok-found.ensures.found first)
     (λ there known. c.transact.ensures.elders clean there known texts told) store found
+
+-- ---- what is kept after
+
+pub returns-clause-loses : goal.returns-clause-loses
+returns-clause-loses g c clean store =
+    let profile = c.args.setting.profile.now in
+    let name = name_bytes c.args.name.now in
+    let old = state g.S.Store c.args.connection.now in
+    let mid = state g.S.Store c.found_for.new.connection in
+    let new = state g.S.Store c.transact.new.connection in
+    let first : HasCleanDisk mid = omega (arith, c.transact.ensures.survives.clean) in
+    said_after (λ trees. IsDatabaseOf trees name c.in_ok-found.found → OnOk c.transact.result (LeavesRecords profile name trees new.now.trees)) old mid (c.found_for.ensures.same first) (c.in_ok-found.ensures.found first)
+    (λ there known. c.transact.ensures.loses clean there known) store (c.in_ok-found.ensures.row first store)

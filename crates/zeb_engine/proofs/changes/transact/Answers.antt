@@ -1,4 +1,5 @@
 use Rattle.std.proofs.Common.{◌≡◌, ◌≢◌, ◌∙◌, ℕ, List, map, Some, Result, Ok, Err, IsTrue, rules, arith, ap, refl, sym, subst, subst₂}
+use Rattle.sqlite.specs.Effect.{Database}
 use Rattle.sqlite.specs.Held.{Held, state}
 use Rattle.sqlite.specs.State.{HasCleanDisk}
 use Rattle.zeb_change.specs.declared.refusals.Refusal.{Refusal}
@@ -20,7 +21,7 @@ use Rattle.zeb_register.specs.Calls.{MayRefuse}
 use Rattle.zeb_change.proofs.RecordRoom.{not_refused, one_refusal}
 use Rattle.zeb_engine.specs.Causes.{HasRoomToChange}
 use Rattle.zeb_register.specs.Catalog.{IsDatabaseOf}
-use Rattle.zeb_engine.specs.AnyTables.{ElderOver, EldersOver}
+use Rattle.zeb_engine.specs.AnyTables.{ElderOver, EldersOver, LeavesRecords}
 use Rattle.zeb_engine.proofs.ChangeElders.{found_elder}
 use Rattle.zeb_engine.proofs.ChangeRoom.{where_open}
 use Rattle.zeb_engine.proofs.WriteCauses.{may_later}
@@ -198,3 +199,22 @@ returns-clause-elders g c clean store found texts told =
     let known = subst (λ (held : Held _). IsDatabaseOf (state g.S.Store held).now.trees name change.found) (sym begun) found in
     let said = c.in_ok-reply.ensures.elders (omega (arith, c.commit.ensures.survives.clean)) (rw begun refl) there known texts told in
     subst (λ (held : Held _). EldersOver {T = Reply} change.setting.profile.now name texts (state g.S.Store held).now.trees (Ok reply)) begun said
+
+-- ---- what is kept after
+
+pub returns-clause-loses : goal.returns-clause-loses
+returns-clause-loses g c clean store found =
+    let begun = c.transaction-tx.ensures.begun in
+    let change = c.args.change.now in
+    let profile = change.setting.profile.now in
+    let name = name_bytes change.name.now in
+    let mid = state g.S.Store c.apply.new.tx.conn.now in
+    let end = c.commit.new.self.0 in
+    let late : HasCleanDisk (state g.S.Store end) = search rules in
+    let same : end ≡ c.connection-2-1.given.0 = search rules in
+    let there = subst (λ (held : Held _). IsStore (state g.S.Store held)) (sym begun) (record { is = store.is; sound = store.sound; keyed = store.keyed }) in
+    let known = subst (λ (held : Held _). IsDatabaseOf (state g.S.Store held).now.trees name change.found) (sym begun) found in
+    let said = c.in_ok-reply.ensures.loses (omega (arith, c.commit.ensures.survives.clean)) (rw begun refl) there known in
+    let left = subst (λ (held : Held _). LeavesRecords profile name (state g.S.Store held).now.trees mid.now.trees) begun said in
+    let settled = subst (λ (d : Database). LeavesRecords profile name (state g.S.Store c.args.connection.now).now.trees d.trees) (sym (c.in_ok-commit.ensures.ok late).1.now_is) left in
+    subst (λ h. LeavesRecords profile name (state g.S.Store c.args.connection.now).now.trees (state g.S.Store h).now.trees) same settled

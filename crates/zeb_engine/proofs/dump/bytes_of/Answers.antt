@@ -7,8 +7,7 @@ use Rattle.zeb_register.specs.Kept.{AreReadable, IsFirstFrom}
 use Rattle.zeb_change.specs.Outcomes.{register_refusal}
 use Rattle.zeb_engine.proofs.DumpAnswers.{all_readable, bytes_in, read_all, read_few, read_more}
 use Rattle.zeb_engine.proofs.DumpAnswers.{below, none_below}
-use Rattle.zeb_engine.proofs.ListedDatabases.{fault_fails}
-use Rattle.zeb_engine.proofs.OverTables.{fault_few}
+use Rattle.zeb_engine.proofs.ListedDatabases.{fault_fails, fault_or_damage}
 use Rattle.zeb_engine.proofs.ReadingOn.{ReadTo, none_left, read_next, read_none, read_stored, read_whole}
 use Rattle.zeb_engine.proofs.Showing.{still_shows}
 use Rattle.zeb_engine.proofs.StoreCauses.{LeavesAll, fault_after}
@@ -103,11 +102,16 @@ returns-in_err-record-clause-caused g c clean =
     let leaves : LeavesAll old now = record { survives = c.loop-turn.invariant.crash; opened = c.loop-turn.invariant.open_still first; nothing = c.loop-turn.invariant.same first } in
     rw told (fault_after old now (state g.S.Store c.record_from.new.conn) leaves fault clean c.in_err-record.ensures.refused)
 
-pub returns-in_err-record-clause-few : goal.returns-in_err-record-clause-few
-returns-in_err-record-clause-few g c =
+pub returns-in_err-record-clause-honest : goal.returns-in_err-record-clause-honest
+returns-in_err-record-clause-honest g c clean trees shows was =
+    let old = state g.S.Store c.args.connection.now in
+    let now = state g.S.Store c.loop-turn.connection in
+    let first : HasCleanDisk now = omega (arith, c.record_from.ensures.call.crash.clean) in
+    let at = still_shows old now trees (c.loop-turn.invariant.same first) shows (c.loop-turn.invariant.open_still first was) in
     let fault = c.in_err-record.field-0.0 in
     let told : c.from_residual.result ≡ Err (register_refusal fault) = search rules in
-    rw told (fault_few fault)
+    let hides = ¬ AreReadable trees c.args.database.0 in
+    rw told (fault_or_damage hides fault (λ is. subst (λ (t : Trees). ¬ AreReadable t c.args.database.0) at.1 (c.in_err-record.ensures.honest clean at.0 (ap Err is))))
 
 pub returns-clause-read : goal.returns-clause-read
 returns-clause-read g c clean trees shows was =

@@ -7,6 +7,7 @@ use Rattle.zeb_register.specs.Store.{HasDatabase}
 use Rattle.zeb_register.specs.declared.catalog.Database.{Database}
 use Rattle.zeb_engine.specs.declared.replies.Reply.TheVariants.{Dumped}
 use Rattle.zeb_engine.specs.Answers.{dumped}
+use Rattle.zeb_engine.specs.AnyRefusals.{HidesRecords}
 use Rattle.zeb_engine.specs.AnyTables.{DumpOver, DumpTells}
 use Rattle.zeb_change.specs.Conditions.{conditions}
 use Rattle.zeb_image.specs.NameOf.{name_bytes}
@@ -14,7 +15,7 @@ use Rattle.zeb_engine.specs.Steps.{dumped_by, dumped_in}
 use Rattle.zeb_engine.specs.Works.{Always}
 use Rattle.zeb_engine.specs.PrivateWorks.{Serves}
 use Rattle.zeb_engine.proofs.DumpAnswers.{Dumps, base_kept, dump_fails, dump_told, dump_unknown, unready_dumps}
-use Rattle.zeb_engine.proofs.OverTables.{few_over, named_misses, over_after, unready_over}
+use Rattle.zeb_engine.proofs.HiddenRows.{dump_hidden, hidden_after, misses_hidden, unready_hidden}
 use Rattle.zeb_engine.proofs.Showing.{still_shows}
 use Rattle.zeb_engine.proofs.StoreCauses.{look_caused, passed_cause, refusal_after, two_leave}
 use Rattle.zeb_engine.proofs.ReadyBases.{Tells, ready_base, ready_still}
@@ -115,7 +116,8 @@ pub returns-in_err-check_ready-clause-tables : goal.returns-in_err-check_ready-c
 returns-in_err-check_ready-clause-tables g c clean store texts =
     let refusal = c.in_err-check_ready.field-0.0 in
     let told : c.from_residual.result ≡ Err refusal = search rules in
-    rw told (unready_over (version_of g.L.Layout.format) c.args.profile.now (DumpOver (name_bytes c.args.name.now)) (state g.S.Store c.args.connection.now) refusal c.in_err-check_ready.ensures.few (c.in_err-check_ready.ensures.texts clean)
+    let name = name_bytes c.args.name.now in
+    rw told (unready_hidden (DumpOver name) (HidesRecords name) (version_of g.L.Layout.format) c.args.profile.now (state g.S.Store c.args.connection.now) refusal c.in_err-check_ready.ensures.few (c.in_err-check_ready.ensures.texts clean)
     (c.in_err-check_ready.ensures.whole clean) store texts)
 
 pub returns-in_err-database-clause-tables : goal.returns-in_err-database-clause-tables
@@ -126,14 +128,26 @@ returns-in_err-database-clause-tables g c clean store texts =
     let refusal = c.in_err-database.field-0.0 in
     let told : c.from_residual-in_err-database.result ≡ Err refusal = search rules in
     let name = name_bytes c.args.name.now in
-    rw told (over_after (DumpOver name) s0 s1 (Err refusal) (c.check_ready.ensures.same clean1) (c.in_ok-check_ready.ensures.«open» clean1)
-    (λ there. named_misses (DumpTells s1.now.trees) name s1.now.trees refusal (c.in_err-database.ensures.misses clean there)) store)
+    rw told (hidden_after (DumpOver name) (HidesRecords name) s0 s1 (Err refusal) (c.check_ready.ensures.same clean1) (c.in_ok-check_ready.ensures.«open» clean1)
+    (λ there. misses_hidden (DumpTells s1.now.trees) name (HidesRecords name) s1.now.trees (λ hides. inl hides) refusal (c.in_err-database.ensures.misses clean there)) store)
 
 pub returns-in_err-bytes-clause-tables : goal.returns-in_err-bytes-clause-tables
 returns-in_err-bytes-clause-tables g c clean store texts =
+    let s0 = state g.S.Store c.args.connection.now in
+    let s1 = state g.S.Store c.check_ready.new.connection in
+    let s2 = state g.S.Store c.existing_database.new.connection in
+    let clean2 : HasCleanDisk s2 = omega (arith, c.bytes_of.ensures.crash.clean) in
+    let clean1 : HasCleanDisk s1 = omega (arith, clean2, c.existing_database.ensures.crash.clean) in
+    let at1 = still_shows s0 s1 s0.now.trees (c.check_ready.ensures.same clean1) (λ _. (store, refl)) in
+    let at2 = still_shows s1 s2 s0.now.trees (c.existing_database.ensures.same clean2) at1 in
+    let opened = c.in_ok-database.ensures.found clean2 in
+    let first = at1 opened.0 in
+    let database = c.in_ok-database.database in
+    let name = name_bytes c.args.name.now in
+    let row = subst (λ (t : Trees). HasDatabase t database.id.0 name (pos database.last)) first.1 (c.in_ok-database.ensures.row clean2 first.0) in
     let refusal = c.in_err-bytes.field-0.0 in
     let told : c.from_residual-in_err-bytes.result ≡ Err refusal = search rules in
-    rw told (few_over (DumpOver (name_bytes c.args.name.now)) (state g.S.Store c.args.connection.now).now.trees refusal c.in_err-bytes.ensures.few)
+    rw told (dump_hidden (DumpOver name) name s0.now.trees database.id.0 (pos database.last) row refusal (c.in_err-bytes.ensures.honest clean s0.now.trees at2 opened.1))
 
 pub returns-clause-tables : goal.returns-clause-tables
 returns-clause-tables g c clean store texts =

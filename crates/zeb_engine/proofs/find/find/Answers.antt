@@ -6,18 +6,19 @@ use Rattle.zeb_profile.specs.declared.directives.Directive.{Directive}
 use Rattle.zeb_query.specs.Plans.{plan_value}
 use Rattle.zeb_query.specs.Grammar.{query_value}
 use Rattle.zeb_register.specs.Content.{posted}
-use Rattle.zeb_register.specs.Formats.{version_of}
+use Rattle.zeb_register.specs.Formats.{Format, version_of}
 use Rattle.zeb_register.specs.Store.{HasDatabase}
 use Rattle.zeb_register.specs.declared.catalog.Database.{Database}
 use Rattle.zeb_search.specs.Lists.{AreNumbers}
 use Rattle.zeb_search.specs.Registers.{has_ident_in, HoldsIn, NamesReadable}
+use Rattle.zeb_search.specs.SearchRows.{ArePlanRowsSound}
 use Rattle.zeb_engine.specs.declared.find.Question.{Question}
 use Rattle.zeb_engine.specs.declared.replies.Reply.{Reply}
 use Rattle.zeb_change.specs.Base.{Base}
 use Rattle.zeb_change.specs.Conditions.{conditions}
 use Rattle.zeb_engine.specs.Alone.{OfDatabase}
 use Rattle.zeb_engine.specs.Answers.{Answer}
-use Rattle.zeb_engine.specs.AnyTables.{FindOver, FindTells}
+use Rattle.zeb_engine.specs.AnyTables.{FindOver, FindTells, SoundHits}
 use Rattle.zeb_engine.specs.Finding.{asked_of}
 use Rattle.zeb_image.specs.NameOf.{name_bytes}
 use Rattle.zeb_change.specs.Outcomes.{query_refusal, register_refusal}
@@ -39,8 +40,8 @@ abbrev says : List Directive → Question → Base → Answer → Type 0
 says profile asked = FindAnswers profile asked.query.now asked.first asked.count
 
 -- the same on any tables
-abbrev tells : List Directive → Question → Trees → OfDatabase
-tells profile asked = FindTells profile asked.query.now asked.first asked.count
+abbrev tells : Format → List Directive → Question → Trees → OfDatabase
+tells format profile asked = FindTells format profile asked.query.now asked.first asked.count
 
 pub returns-in_err-query-clause-found : goal.returns-in_err-query-clause-found
 returns-in_err-query-clause-found g c clean opened limits before bases is keeps =
@@ -298,14 +299,14 @@ returns-in_err-query-clause-tables g c clean store =
     let fault = c.in_err-query.field-0.0 in
     let told : c.from_residual.result ≡ Err (query_refusal fault) = search rules in
     let trees = (state g.S.Store c.args.connection.now).now.trees in
-    rw told (query_over (tells c.args.profile.now c.args.question trees) (name_bytes c.args.name.now) trees c.args.question.query.now fault c.in_err-query.ensures.faulty)
+    rw told (query_over (tells g.L.Layout.format c.args.profile.now c.args.question trees) (name_bytes c.args.name.now) trees c.args.question.query.now fault c.in_err-query.ensures.faulty)
 
 pub returns-in_err-database-clause-tables : goal.returns-in_err-database-clause-tables
 returns-in_err-database-clause-tables g c clean store =
     let refusal = c.in_err-database.field-0.0 in
     let told : c.from_residual-in_err-database.result ≡ Err refusal = search rules in
     let trees = (state g.S.Store c.args.connection.now).now.trees in
-    let Tells = tells c.args.profile.now c.args.question trees in
+    let Tells = tells g.L.Layout.format c.args.profile.now c.args.question trees in
     let name = name_bytes c.args.name.now in
     rw told (asked_over Tells name trees c.args.question.query.now c.in_ok-query.ensures.readable (Err refusal) (named_misses Tells name trees refusal (c.in_err-database.ensures.misses clean store)))
 
@@ -316,15 +317,15 @@ returns-in_err-plan-clause-tables g c clean store =
     let trees = (state g.S.Store c.args.connection.now).now.trees in
     let database = c.in_ok-database.database in
     let text = c.args.question.query.now in
-    rw told (or_fails (tells c.args.profile.now c.args.question trees) (name_bytes c.args.name.now) trees text c.in_ok-query.ensures.readable database.id.0 (pos database.last) (c.in_ok-database.ensures.row clean store) (query_refusal fault)
-    (plan_found c.args.profile.now text (query_value c.in_ok-query.query) c.in_ok-query.ensures.spelled (has_ident_in trees database.id.0) c.args.question.first c.args.question.count fault c.in_err-plan.ensures.planned))
+    rw told (or_fails (tells g.L.Layout.format c.args.profile.now c.args.question trees) (name_bytes c.args.name.now) trees text c.in_ok-query.ensures.readable database.id.0 (pos database.last) (c.in_ok-database.ensures.row clean store) (query_refusal fault)
+    (plan_found c.args.profile.now text (query_value c.in_ok-query.query) c.in_ok-query.ensures.spelled (has_ident_in trees database.id.0) (SoundHits g.L.Layout.format trees database.id.0) c.args.question.first c.args.question.count fault c.in_err-plan.ensures.planned))
 
 pub returns-in_err-hits-clause-tables : goal.returns-in_err-hits-clause-tables
 returns-in_err-hits-clause-tables g c clean store =
     let fault = c.in_err-hits.field-0.0 in
     let told : c.from_residual-in_err-hits.result ≡ Err (register_refusal fault) = search rules in
     let question = c.args.question in
-    rw told (few_over (FindOver c.args.profile.now (name_bytes c.args.name.now) question.query.now question.first question.count) (state g.S.Store c.args.connection.now).now.trees (register_refusal fault) (fault_few fault))
+    rw told (few_over (FindOver g.L.Layout.format c.args.profile.now (name_bytes c.args.name.now) question.query.now question.first question.count) (state g.S.Store c.args.connection.now).now.trees (register_refusal fault) (fault_few fault))
 
 pub returns-in_err-asked-clause-tables : goal.returns-in_err-asked-clause-tables
 returns-in_err-asked-clause-tables g c clean store =
@@ -332,21 +333,26 @@ returns-in_err-asked-clause-tables g c clean store =
     let clean1 : HasCleanDisk s1 = omega (arith, c.hits.ensures.call.crash.clean) in
     let refusal = c.in_err-asked.field-0.0 in
     let told : c.from_residual-in_err-asked.result ≡ Err refusal = search rules in
-    let trees = (state g.S.Store c.args.connection.now).now.trees in
+    let s0 = state g.S.Store c.args.connection.now in
+    let trees = s0.now.trees in
+    let at = still_shows s0 s1 trees (c.existing_database.ensures.same clean1) (λ _. (store, refl)) (c.in_ok-database.ensures.found clean1).1 in
     let database = c.in_ok-database.database in
+    let plan = plan_value c.in_ok-plan.plan in
+    let Sound = SoundHits g.L.Layout.format trees database.id.0 in
+    let sound = subst (λ (t : Trees). ArePlanRowsSound g.L.Layout.format t database.id.0 plan) at.1 (c.in_ok-hits.ensures.sound clean at.0) in
     let question = c.args.question in
     let Asked = λ (wanted : List ℕ) (asked : Bor (List ℕ)). asked.now ≡ wanted in
     let met = subst (λ (l : List ℕ). Meets Asked (asked_of l question.first question.count) (Err refusal)) c.deref.ensures.value c.in_err-asked.ensures.asked in
-    rw told (or_fails (tells c.args.profile.now question trees) (name_bytes c.args.name.now) trees question.query.now c.in_ok-query.ensures.readable database.id.0 (pos database.last) (c.in_ok-database.ensures.row clean1 store) refusal
-    (past_found c.args.profile.now question.query.now (query_value c.in_ok-query.query) c.in_ok-query.ensures.spelled (has_ident_in trees database.id.0) question.first question.count
-    (plan_value c.in_ok-plan.plan) c.in_ok-plan.ensures.planned c.in_ok-hits.hits.items Asked refusal met))
+    rw told (or_fails (tells g.L.Layout.format c.args.profile.now question trees) (name_bytes c.args.name.now) trees question.query.now c.in_ok-query.ensures.readable database.id.0 (pos database.last) (c.in_ok-database.ensures.row clean1 store) refusal
+    (past_found c.args.profile.now question.query.now (query_value c.in_ok-query.query) c.in_ok-query.ensures.spelled (has_ident_in trees database.id.0) Sound question.first question.count
+    plan c.in_ok-plan.ensures.planned c.in_ok-hits.hits.items sound Asked refusal met))
 
 pub returns-in_err-shown-clause-tables : goal.returns-in_err-shown-clause-tables
 returns-in_err-shown-clause-tables g c clean store =
     let refusal = c.in_err-shown.field-0.0 in
     let told : c.from_residual-in_err-shown.result ≡ Err refusal = search rules in
     let question = c.args.question in
-    rw told (few_over (FindOver c.args.profile.now (name_bytes c.args.name.now) question.query.now question.first question.count) (state g.S.Store c.args.connection.now).now.trees refusal c.in_err-shown.ensures.few)
+    rw told (few_over (FindOver g.L.Layout.format c.args.profile.now (name_bytes c.args.name.now) question.query.now question.first question.count) (state g.S.Store c.args.connection.now).now.trees refusal c.in_err-shown.ensures.few)
 
 pub returns-clause-tables : goal.returns-clause-tables
 returns-clause-tables g c clean store =
@@ -358,7 +364,11 @@ returns-clause-tables g c clean store =
     let trees = s0.now.trees in
     let found = still_shows s0 s1 trees (c.existing_database.ensures.same clean1) (λ _. (store, refl)) in
     let shows = still_shows s1 s2 trees (c.hits.ensures.call.same clean2 c.existing_database.ensures.idle) found in
+    let at = found (c.in_ok-database.ensures.found clean1).1 in
     let database = c.in_ok-database.database in
+    let plan = plan_value c.in_ok-plan.plan in
+    let Sound = SoundHits g.L.Layout.format trees database.id.0 in
+    let sound = subst (λ (t : Trees). ArePlanRowsSound g.L.Layout.format t database.id.0 plan) at.1 (c.in_ok-hits.ensures.sound clean2 at.0) in
     let question = c.args.question in
     let text = question.query.now in
     let numbers = c.in_ok-hits.hits.items in
@@ -373,7 +383,7 @@ returns-clause-tables g c clean store =
         database.id.0,
         pos database.last,
         c.in_ok-database.ensures.row clean1 store,
-        numbers_found c.args.profile.now text (query_value c.in_ok-query.query) c.in_ok-query.ensures.spelled (has_ident_in trees database.id.0) question.first question.count
-            (plan_value c.in_ok-plan.plan) c.in_ok-plan.ensures.planned numbers asked.now said (map (λ hit. (hit.sysno, string_bytes hit.ident)) c.in_ok-shown.shown.items) (c.in_ok-shown.ensures.shown clean trees shows),
+        numbers_found c.args.profile.now text (query_value c.in_ok-query.query) c.in_ok-query.ensures.spelled (has_ident_in trees database.id.0) Sound question.first question.count
+            plan c.in_ok-plan.ensures.planned numbers sound asked.now said (map (λ hit. (hit.sysno, string_bytes hit.ident)) c.in_ok-shown.shown.items) (c.in_ok-shown.ensures.shown clean trees shows),
       ),
     )))

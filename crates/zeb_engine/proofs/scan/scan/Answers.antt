@@ -1,11 +1,12 @@
-use Rattle.std.proofs.Common.{rules, arith, ◌≡◌, pos, List, Err, IsTrue, refl, inl, inr}
+use Rattle.std.proofs.Common.{rules, arith, ◌≡◌, pos, List, Err, IsTrue, refl, subst, inl, inr}
 use Rattle.sqlite.specs.Held.{state}
 use Rattle.sqlite.specs.State.{HasCleanDisk}
+use Rattle.sqlite.specs.Tree.{Trees}
 use Rattle.zeb_profile.specs.declared.directives.Directive.{Directive}
 use Rattle.zeb_query.specs.Plans.{scan_value}
 use Rattle.zeb_query.specs.Grammar.{query_value}
 use Rattle.zeb_register.specs.Content.{posted}
-use Rattle.zeb_register.specs.Formats.{version_of}
+use Rattle.zeb_register.specs.Formats.{Format, version_of}
 use Rattle.zeb_register.specs.Store.{HasDatabase}
 use Rattle.zeb_register.specs.declared.catalog.Database.{Database}
 use Rattle.zeb_change.specs.Base.{Base}
@@ -15,12 +16,13 @@ use Rattle.zeb_image.specs.NameOf.{name_bytes}
 use Rattle.zeb_engine.specs.declared.scan.Around.{Around}
 use Rattle.zeb_engine.specs.Alone.{OfDatabase}
 use Rattle.zeb_engine.specs.Answers.{Answer}
-use Rattle.zeb_engine.specs.AnyTables.{ScanOver, ScanTells}
+use Rattle.zeb_engine.specs.AnyTables.{ScanOver, ScanTells, TellsAround}
 use Rattle.zeb_engine.specs.Steps.{ScanAnswers}
 use Rattle.zeb_engine.proofs.ReadyQueries.{existing_ends, query_ends, refused_ends}
 use Rattle.zeb_engine.proofs.Lookups.{base_found, still_holds}
 use Rattle.zeb_engine.proofs.OverTables.{asked_over, few_over, named_misses, or_fails, plan_scanned, query_over, terms_scanned}
 use Rattle.zeb_engine.proofs.ScanAnswers.{plan_ends, scanned_ends, terms_answered}
+use Rattle.zeb_engine.proofs.Showing.{still_shows}
 use Rattle.zeb_engine.proofs.StoreCauses.{accepted_leaves, passed_cause, query_caused, refusal_after}
 use Rattle.zeb_engine.proofs.scan.scan.Goals as goal
 
@@ -29,8 +31,8 @@ abbrev says : List Directive → Around → Base → Answer → Type 0
 says profile asked = ScanAnswers profile asked.query.now asked.number asked.position
 
 -- the same on any tables
-abbrev tells : List Directive → Around → OfDatabase
-tells profile asked = ScanTells profile asked.query.now asked.number asked.position
+abbrev tells : Format → List Directive → Around → Trees → OfDatabase
+tells format profile asked = ScanTells format profile asked.query.now asked.number asked.position
 
 pub returns-in_err-query-clause-scanned : goal.returns-in_err-query-clause-scanned
 returns-in_err-query-clause-scanned g c clean opened limits before bases is keeps =
@@ -138,14 +140,14 @@ returns-in_err-query-clause-tables g c clean store =
     let fault = c.in_err-query.field-0.0 in
     let told : c.from_residual.result ≡ Err (query_refusal fault) = search rules in
     let trees = (state g.S.Store c.args.connection.now).now.trees in
-    rw told (query_over (tells c.args.profile.now c.args.around) (name_bytes c.args.name.now) trees c.args.around.query.now fault c.in_err-query.ensures.faulty)
+    rw told (query_over (tells g.L.Layout.format c.args.profile.now c.args.around trees) (name_bytes c.args.name.now) trees c.args.around.query.now fault c.in_err-query.ensures.faulty)
 
 pub returns-in_err-database-clause-tables : goal.returns-in_err-database-clause-tables
 returns-in_err-database-clause-tables g c clean store =
     let refusal = c.in_err-database.field-0.0 in
     let told : c.from_residual-in_err-database.result ≡ Err refusal = search rules in
     let trees = (state g.S.Store c.args.connection.now).now.trees in
-    let Tells = tells c.args.profile.now c.args.around in
+    let Tells = tells g.L.Layout.format c.args.profile.now c.args.around trees in
     let name = name_bytes c.args.name.now in
     rw told (asked_over Tells name trees c.args.around.query.now c.in_ok-query.ensures.readable (Err refusal) (named_misses Tells name trees refusal (c.in_err-database.ensures.misses clean store)))
 
@@ -156,28 +158,36 @@ returns-in_err-plan-clause-tables g c clean store =
     let trees = (state g.S.Store c.args.connection.now).now.trees in
     let database = c.in_ok-database.database in
     let text = c.args.around.query.now in
-    rw told (or_fails (tells c.args.profile.now c.args.around) (name_bytes c.args.name.now) trees text c.in_ok-query.ensures.readable database.id.0 (pos database.last) (c.in_ok-database.ensures.row clean store) (query_refusal fault)
-    (plan_scanned c.args.profile.now text (query_value c.in_ok-query.query) c.in_ok-query.ensures.spelled c.args.around.number c.args.around.position fault c.in_err-plan.ensures.planned))
+    rw told (or_fails (tells g.L.Layout.format c.args.profile.now c.args.around trees) (name_bytes c.args.name.now) trees text c.in_ok-query.ensures.readable database.id.0 (pos database.last) (c.in_ok-database.ensures.row clean store) (query_refusal fault)
+    (plan_scanned c.args.profile.now text (query_value c.in_ok-query.query) c.in_ok-query.ensures.spelled (TellsAround g.L.Layout.format trees database.id.0) c.args.around.number c.args.around.position fault c.in_err-plan.ensures.planned))
 
 pub returns-in_err-entries-clause-tables : goal.returns-in_err-entries-clause-tables
 returns-in_err-entries-clause-tables g c clean store =
     let refusal = c.in_err-entries.field-0.0 in
     let told : c.from_residual-in_err-entries.result ≡ Err refusal = search rules in
     let around = c.args.around in
-    rw told (few_over (ScanOver c.args.profile.now (name_bytes c.args.name.now) around.query.now around.number around.position) (state g.S.Store c.args.connection.now).now.trees refusal c.in_err-entries.ensures.few)
+    rw told (few_over (ScanOver g.L.Layout.format c.args.profile.now (name_bytes c.args.name.now) around.query.now around.number around.position) (state g.S.Store c.args.connection.now).now.trees refusal c.in_err-entries.ensures.few)
 
 pub returns-clause-tables : goal.returns-clause-tables
 returns-clause-tables g c clean store =
+    let format = g.L.Layout.format in
+    let s0 = state g.S.Store c.args.connection.now in
     let s1 = state g.S.Store c.existing_database.new.connection in
+    let trees = s0.now.trees in
     let clean1 : HasCleanDisk s1 = omega (arith, c.terms_around.ensures.crash.clean) in
+    let shows = still_shows s0 s1 trees (c.existing_database.ensures.same clean1) (λ _. (store, refl)) in
+    let at = shows (c.in_ok-database.ensures.found clean1).1 in
     let database = c.in_ok-database.database in
     let around = c.args.around in
+    let plan = scan_value c.in_ok-plan.plan in
+    let entries = c.in_ok-entries.entries.items in
+    let told = subst (λ (t : Trees). TellsAround format t database.id.0 plan around.number around.position entries) at.1 (c.in_ok-entries.ensures.told clean at.0) in
     inl (inl (
       c.in_ok-query.ensures.readable,
       inr (
         database.id.0,
         pos database.last,
         c.in_ok-database.ensures.row clean1 store,
-        terms_scanned c.args.profile.now around.query.now (query_value c.in_ok-query.query) c.in_ok-query.ensures.spelled around.number around.position (scan_value c.in_ok-plan.plan) c.in_ok-plan.ensures.planned c.in_ok-entries.entries.items,
+        terms_scanned c.args.profile.now around.query.now (query_value c.in_ok-query.query) c.in_ok-query.ensures.spelled (TellsAround format trees database.id.0) around.number around.position plan c.in_ok-plan.ensures.planned entries told,
       ),
     ))

@@ -1,4 +1,4 @@
-use Rattle.std.proofs.Common.{rules, arith, ◌≡◌, Err, ap}
+use Rattle.std.proofs.Common.{rules, arith, ◌≡◌, Err, ap, refl}
 use Rattle.sqlite.specs.Held.{state}
 use Rattle.sqlite.specs.State.{HasCleanDisk}
 use Rattle.zeb_query.specs.Plans.{scan_value}
@@ -8,7 +8,8 @@ use Rattle.zeb_engine.proofs.ListedDatabases.{fault_fails}
 use Rattle.zeb_engine.proofs.AskedReads.{around_reads}
 use Rattle.zeb_engine.proofs.Lookups.{still_holds}
 use Rattle.zeb_engine.proofs.OverTables.{fault_few}
-use Rattle.zeb_engine.proofs.ScanAnswers.{around_lists}
+use Rattle.zeb_engine.proofs.ScanAnswers.{around_lists, around_told}
+use Rattle.zeb_engine.proofs.Showing.{still_shows}
 use Rattle.zeb_engine.proofs.StoreCauses.{LeavesAll, fault_after, fault_caused}
 use Rattle.zeb_engine.proofs.scan.terms_around.Goals as goal
 
@@ -32,6 +33,17 @@ returns-clause-around g c clean store content format =
     let back = c.in_ok-rest.ensures.value clean still.store content still.held in
     around_lists (posted content c.args.database.0) (scan_value c.args.plan.now) c.args.around.now.number c.args.around.now.position c.as_str-start.result.now c.saturating_sub-below.result c.saturating_sub-from.result
     c.in_ok-first.first.items c.in_ok-rest.rest.items c.in_ok-joined.field-0.items c.as_str-start.ensures.value (search rules) (search rules) front back c.in_ok-joined.ensures
+
+pub returns-clause-told : goal.returns-clause-told
+returns-clause-told g c clean store =
+    let old = state g.S.Store c.args.connection.now in
+    let mid = state g.S.Store c.terms_before.new.conn in
+    let clean1 : HasCleanDisk mid = omega (arith, c.terms_from.ensures.call.crash.clean) in
+    let shows = still_shows old mid old.now.trees (c.terms_before.ensures.call.same clean1 c.requires.idle) (λ _. (store, refl)) in
+    let at = shows (c.in_ok-first.ensures.call.ok clean1).0.is_open in
+    around_told g.L.Layout.format old.now.trees mid.now.trees c.args.database.0 (scan_value c.args.plan.now) c.args.around.now.number c.args.around.now.position c.as_str-start.result.now c.saturating_sub-below.result c.saturating_sub-from.result
+    c.in_ok-first.first.items c.in_ok-rest.rest.items c.in_ok-joined.field-0.items c.as_str-start.ensures.value (search rules) (search rules) at.1
+    (c.in_ok-first.ensures.told clean1 store) (c.in_ok-rest.ensures.told clean at.0) c.in_ok-joined.ensures
 
 pub returns-clause-work : goal.returns-clause-work
 returns-clause-work g c clean store content format least most =

@@ -1,4 +1,4 @@
-use Rattle.std.proofs.Common.{rules, ◌≡◌, ◌∙◌, ◌++◌, ◌∷◌, [], ℕ, List, Err, arith, ap, get_or, subst, sym, take}
+use Rattle.std.proofs.Common.{rules, ◌≡◌, ◌∙◌, ◌++◌, ◌∷◌, [], ℕ, ℤ, List, Err, arith, ap, get_or, subst, sym, take}
 use Rattle.sqlite.specs.Held.{state}
 use Rattle.sqlite.specs.State.{HasCleanDisk}
 use Rattle.sqlite.specs.Tree.{Trees}
@@ -7,10 +7,12 @@ use Rattle.zeb_keys.specs.declared.keys.Occurrence.{Occurrence}
 use Rattle.zeb_profile.specs.declared.directives.Directive.{Directive}
 use Rattle.zeb_register.specs.Content.{posted}
 use Rattle.zeb_register.specs.Occurring.{AreTotals}
+use Rattle.zeb_register.specs.Sound.{AreTermsSound}
 use Rattle.zeb_query.proofs.HoldingLemmas.{take_whole}
 use Rattle.zeb_engine.specs.declared.replies.Holding.{Holding}
 use Rattle.zeb_engine.specs.Answers.{extent_of}
-use Rattle.zeb_engine.specs.Counting.{IsExtent, IsUnder, Paired, Target}
+use Rattle.zeb_engine.specs.AnyTables.{IsSoundUnder}
+use Rattle.zeb_engine.specs.Counting.{IsExtent, Paired, Target}
 use Rattle.zeb_change.specs.Outcomes.{register_refusal}
 use Rattle.std.proofs.lemmas.List.{take_more}
 use Rattle.zeb_engine.proofs.ListedDatabases.{fault_fails}
@@ -19,13 +21,13 @@ use Rattle.zeb_engine.proofs.Showing.{still_shows}
 use Rattle.zeb_engine.proofs.StatAnswers.{paired_more}
 use Rattle.zeb_engine.proofs.StoreCauses.{LeavesAll, fault_after}
 use Rattle.zeb_engine.proofs.stat.holdings_of.Goals as goal
-use Rattle.zeb_register.specs.Formats.{holds_in}
+use Rattle.zeb_register.specs.Formats.{Format, holds_in}
 
 abbrev Fits : (ℕ → Occurrence → Type 0) → List Directive → Target → Holding → Type 0
 Fits O profile target holding = IsExtent O profile target (extent_of holding)
 
-abbrev IsNamedHolding : List Directive → Target → Holding → Type 0
-IsNamedHolding profile target holding = IsUnder profile target (extent_of holding)
+abbrev IsSoundHolding : Format → List Directive → Trees → ℤ → Target → Holding → Type 0
+IsSoundHolding format profile trees db target holding = IsSoundUnder format profile trees db target (extent_of holding)
 
 pub loop-target-preserved : goal.loop-target-preserved
 loop-target-preserved g c =
@@ -52,12 +54,18 @@ loop-target-preserved g c =
           let more = paired_more (Fits (posted content c.args.database.0) c.args.profile.now) (take index c.args.targets.now) c.loop-target.holdings.items target holding (c.loop-target.invariant.held first trees shows was content has) is in
           subst (λ (l : List Target). Paired (Fits (posted content c.args.database.0) c.args.profile.now) l c.push_reserved.new.self.items) (sym (take_more c.args.targets.now index (0, Word) c.loop-target-test.true))
           (subst (Paired (Fits (posted content c.args.database.0) c.args.profile.now) (take index c.args.targets.now ++ target ∷ [])) (sym c.push_reserved.ensures.items) more);
-      named =
+      sound = λ clean trees shows was.
+          let first : HasCleanDisk now = omega (arith, c.totals.ensures.call.crash.clean) in
+          let at = still_shows old now trees (c.loop-target.invariant.same first) shows (c.in_ok-totals.ensures.call.ok clean).0.was_open in
           let target : Target = get_or c.args.targets.now index (0, Word) in
-          let is : IsNamedHolding c.args.profile.now target c.in_ok-holding_of.field-0 = record { name = c.in_ok-holding_of.ensures.name; register = c.in_ok-holding_of.ensures.register } in
-          let more = paired_more (IsNamedHolding c.args.profile.now) (take index c.args.targets.now) c.loop-target.holdings.items target c.in_ok-holding_of.field-0 c.loop-target.invariant.named is in
-          subst (λ (l : List Target). Paired (IsNamedHolding c.args.profile.now) l c.push_reserved.new.self.items) (sym (take_more c.args.targets.now index (0, Word) c.loop-target-test.true))
-          (subst (Paired (IsNamedHolding c.args.profile.now) (take index c.args.targets.now ++ target ∷ [])) (sym c.push_reserved.ensures.items) more);
+          let Sound = IsSoundHolding g.L.Layout.format c.args.profile.now trees c.args.database.0 in
+          let is : Sound target c.in_ok-holding_of.field-0 = record {
+            under = record { name = c.in_ok-holding_of.ensures.name; register = c.in_ok-holding_of.ensures.register };
+            sound = subst (λ (t : Trees). AreTermsSound g.L.Layout.format t c.args.database.0 target.0 target.1) at.1 (c.in_ok-totals.ensures.sound clean at.0);
+          } in
+          let more = paired_more Sound (take index c.args.targets.now) c.loop-target.holdings.items target c.in_ok-holding_of.field-0 (c.loop-target.invariant.sound first trees shows was) is in
+          subst (λ (l : List Target). Paired Sound l c.push_reserved.new.self.items) (sym (take_more c.args.targets.now index (0, Word) c.loop-target-test.true))
+          (subst (Paired Sound (take index c.args.targets.now ++ target ∷ [])) (sym c.push_reserved.ensures.items) more);
       no_work = λ none. c.totals.ensures.no_work none ∙ c.loop-target.invariant.no_work none;
     }
 
@@ -86,10 +94,11 @@ returns-in_err-totals-clause-caused g c clean =
     let leaves : LeavesAll old now = record { survives = c.loop-target.invariant.crash; opened = c.loop-target.invariant.open_still first; nothing = c.loop-target.invariant.same first } in
     rw told (fault_after old now (state g.S.Store c.totals.new.conn) leaves fault clean c.in_err-totals.ensures.refused)
 
-pub returns-clause-named : goal.returns-clause-named
-returns-clause-named g c =
+pub returns-clause-sound : goal.returns-clause-sound
+returns-clause-sound g c clean trees shows was =
     let whole = take_whole c.args.targets.now c.loop-target.target-index (omega (arith, c.loop-target-test.false)) in
-    subst (λ (l : List Target). Paired (IsNamedHolding c.args.profile.now) l c.loop-target.holdings.items) whole c.loop-target.invariant.named
+    let Sound = IsSoundHolding g.L.Layout.format c.args.profile.now trees c.args.database.0 in
+    subst (λ (l : List Target). Paired Sound l c.loop-target.holdings.items) whole (c.loop-target.invariant.sound clean trees shows was)
 
 pub returns-in_err-totals-clause-few : goal.returns-in_err-totals-clause-few
 returns-in_err-totals-clause-few g c =

@@ -5,7 +5,8 @@ use Rattle.sqlite.specs.Tree.{Trees}
 use Rattle.zeb_register.specs.Calls.{ChangesNothing}
 use Rattle.zeb_register.specs.Content.{Content, posted}
 use Rattle.zeb_engine.specs.Answers.{extent_of}
-use Rattle.zeb_engine.specs.Counting.{IsExtent, IsUnder, Paired}
+use Rattle.zeb_engine.specs.AnyTables.{IsSoundUnder}
+use Rattle.zeb_engine.specs.Counting.{IsExtent, Paired}
 use Rattle.zeb_engine.specs.PrivateWorks.{ShowsStore}
 use Rattle.zeb_engine.proofs.stat.holdings_of.Given as goal
 use Rattle.zeb_register.specs.Formats.{holds_in}
@@ -23,6 +24,7 @@ invariant-loop-target g l =
       same : HasCleanDisk now → ChangesNothing old now;
       held : HasCleanDisk now → (trees : Trees) → ShowsStore old trees → IsTrue old.is_open → (content : Content) → holds_in g.L.Layout.format trees content
           → Paired (λ target holding. IsExtent (posted content l.fn.database.0) l.fn.profile target (extent_of holding)) (take l.target-index l.targets) l.holdings.items;
-      named : Paired (λ target holding. IsUnder l.fn.profile target (extent_of holding)) (take l.target-index l.targets) l.holdings.items;
+      sound : HasCleanDisk now → (trees : Trees) → ShowsStore old trees → IsTrue old.is_open
+          → Paired (λ target holding. IsSoundUnder g.L.Layout.format l.fn.profile trees l.fn.database.0 target (extent_of holding)) (take l.target-index l.targets) l.holdings.items;
       no_work : g.L.Layout.row_work ≡ 0 → l.work ≡ l.fn.work;
     }

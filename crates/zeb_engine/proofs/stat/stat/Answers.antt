@@ -10,9 +10,9 @@ use Rattle.zeb_register.specs.declared.catalog.Database.{Database}
 use Rattle.zeb_engine.specs.declared.replies.Reply.{Reply}
 use Rattle.zeb_engine.specs.declared.replies.Reply.TheVariants.{Counted}
 use Rattle.zeb_engine.specs.Answers.{counted, extent_of}
-use Rattle.zeb_engine.specs.AnyTables.{StatOver, StatTells}
+use Rattle.zeb_engine.specs.AnyTables.{IsSoundUnder, StatOver, StatTells}
 use Rattle.zeb_change.specs.Conditions.{conditions}
-use Rattle.zeb_engine.specs.Counting.{IsExtent, IsUnder, Paired, Target}
+use Rattle.zeb_engine.specs.Counting.{IsExtent, Paired, Target}
 use Rattle.zeb_change.specs.Occurs.{occurs}
 use Rattle.zeb_image.specs.NameOf.{name_bytes}
 use Rattle.zeb_change.specs.Outcomes.{register_refusal}
@@ -20,7 +20,7 @@ use Rattle.zeb_engine.proofs.DumpAnswers.{as_many}
 use Rattle.zeb_engine.proofs.ListedDatabases.{fault_fails}
 use Rattle.zeb_engine.proofs.OverTables.{fault_few, few_over, named_misses, over_after, unready_over}
 use Rattle.zeb_engine.proofs.Showing.{still_shows}
-use Rattle.zeb_engine.proofs.StatAnswers.{Counts, count_fails, count_known, count_unknown, extents_as, last_named, unders_as, unready_counts}
+use Rattle.zeb_engine.proofs.StatAnswers.{Counts, count_fails, count_known, count_unknown, extents_as, extents_told, last_named, unready_counts}
 use Rattle.zeb_engine.proofs.StoreCauses.{LeavesAll, fault_after, leaves_then, look_caused, passed_cause, refusal_after, two_leave}
 use Rattle.zeb_engine.proofs.ReadyBases.{Tells, ready_base, ready_still}
 use Rattle.zeb_search.proofs.ReadLemmas.{clean_before}
@@ -204,7 +204,7 @@ pub returns-in_err-check_ready-clause-tables : goal.returns-in_err-check_ready-c
 returns-in_err-check_ready-clause-tables g c clean store texts =
     let refusal = c.in_err-check_ready.field-0.0 in
     let told : c.from_residual.result ≡ Err refusal = search rules in
-    rw told (unready_over (version_of g.L.Layout.format) c.args.profile.now (StatOver c.args.profile.now (name_bytes c.args.name.now)) (state g.S.Store c.args.connection.now) refusal c.in_err-check_ready.ensures.few (c.in_err-check_ready.ensures.texts clean)
+    rw told (unready_over (version_of g.L.Layout.format) c.args.profile.now (StatOver g.L.Layout.format c.args.profile.now (name_bytes c.args.name.now)) (state g.S.Store c.args.connection.now) refusal c.in_err-check_ready.ensures.few (c.in_err-check_ready.ensures.texts clean)
     (c.in_err-check_ready.ensures.whole clean) store texts)
 
 pub returns-in_err-database-clause-tables : goal.returns-in_err-database-clause-tables
@@ -215,20 +215,20 @@ returns-in_err-database-clause-tables g c clean store texts =
     let refusal = c.in_err-database.field-0.0 in
     let told : c.from_residual-in_err-database.result ≡ Err refusal = search rules in
     let name = name_bytes c.args.name.now in
-    rw told (over_after (StatOver c.args.profile.now name) s0 s1 (Err refusal) (c.check_ready.ensures.same clean1) (c.in_ok-check_ready.ensures.«open» clean1)
-    (λ there. named_misses (StatTells c.args.profile.now s1.now.trees) name s1.now.trees refusal (c.in_err-database.ensures.misses clean there)) store)
+    rw told (over_after (StatOver g.L.Layout.format c.args.profile.now name) s0 s1 (Err refusal) (c.check_ready.ensures.same clean1) (c.in_ok-check_ready.ensures.«open» clean1)
+    (λ there. named_misses (StatTells g.L.Layout.format c.args.profile.now s1.now.trees) name s1.now.trees refusal (c.in_err-database.ensures.misses clean there)) store)
 
 pub returns-in_err-kept-clause-tables : goal.returns-in_err-kept-clause-tables
 returns-in_err-kept-clause-tables g c clean store texts =
     let fault = c.in_err-kept.field-0.0 in
     let told : c.from_residual-in_err-kept.result ≡ Err (register_refusal fault) = search rules in
-    rw told (few_over (StatOver c.args.profile.now (name_bytes c.args.name.now)) (state g.S.Store c.args.connection.now).now.trees (register_refusal fault) (fault_few fault))
+    rw told (few_over (StatOver g.L.Layout.format c.args.profile.now (name_bytes c.args.name.now)) (state g.S.Store c.args.connection.now).now.trees (register_refusal fault) (fault_few fault))
 
 pub returns-in_err-holdings-clause-tables : goal.returns-in_err-holdings-clause-tables
 returns-in_err-holdings-clause-tables g c clean store texts =
     let refusal = c.in_err-holdings.field-0.0 in
     let told : c.from_residual-in_err-holdings.result ≡ Err refusal = search rules in
-    rw told (few_over (StatOver c.args.profile.now (name_bytes c.args.name.now)) (state g.S.Store c.args.connection.now).now.trees refusal c.in_err-holdings.ensures.few)
+    rw told (few_over (StatOver g.L.Layout.format c.args.profile.now (name_bytes c.args.name.now)) (state g.S.Store c.args.connection.now).now.trees refusal c.in_err-holdings.ensures.few)
 
 pub returns-clause-tables : goal.returns-clause-tables
 returns-clause-tables g c clean store texts =
@@ -242,13 +242,16 @@ returns-clause-tables g c clean store texts =
     let at1 = still_shows s0 s1 s0.now.trees (c.check_ready.ensures.same clean1) (λ _. (store, refl)) in
     let at2 = still_shows s1 s2 s0.now.trees (c.existing_database.ensures.same clean2) at1 in
     let first = at1 (c.in_ok-database.ensures.found clean2).0 in
-    let second = at2 (c.in_ok-kept.ensures.call.ok clean3).0.was_open in
+    let at3 = still_shows s2 (state g.S.Store c.record_count.new.conn) s0.now.trees (c.record_count.ensures.call.same clean3 c.existing_database.ensures.idle) at2 in
+    let read = (c.in_ok-kept.ensures.call.ok clean3).0 in
+    let second = at2 read.was_open in
     let database = c.in_ok-database.database in
+    let Sound = IsSoundUnder g.L.Layout.format profile s0.now.trees database.id.0 in
     let row = subst (λ (t : Trees). HasDatabase t database.id.0 (name_bytes c.args.name.now) (pos database.last)) first.1 (c.in_ok-database.ensures.row clean2 first.0) in
     let kept = subst (λ (t : Trees). IsRecordCount t database.id.0 c.in_ok-kept.kept) second.1 (c.in_ok-kept.ensures.value clean3 second.0) in
     let holdings = c.in_ok-holdings.holdings in
     let targets = c.deref.ensures.value ∙ c.in_ok-targets.ensures in
-    let paired = subst (λ (l : List Target). Paired (λ target holding. IsUnder profile target (extent_of holding)) l holdings.items) targets c.in_ok-holdings.ensures.named in
+    let paired = subst (λ (l : List Target). Paired (λ target holding. Sound target (extent_of holding)) l holdings.items) targets (c.in_ok-holdings.ensures.sound clean s0.now.trees at3 read.is_open) in
     inl (inr (
       database.id.0,
       pos database.last,
@@ -258,6 +261,6 @@ returns-clause-tables g c clean store texts =
         database.last,
         kept,
         refl,
-        (map extent_of holdings.items, unders_as profile _ holdings.items paired, refl),
+        (map extent_of holdings.items, extents_told Sound _ holdings.items paired, refl),
       ),
     ))

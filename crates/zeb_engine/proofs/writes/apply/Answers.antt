@@ -9,6 +9,7 @@ use Rattle.zeb_engine.specs.Causes.{HasRoomToRenew}
 use Rattle.zeb_engine.specs.Checking.{IsRemade}
 use Rattle.zeb_engine.specs.Steps.{holding}
 use Rattle.zeb_engine.specs.PrivateWriting.{AreOf}
+use Rattle.zeb_engine.proofs.HiddenRows.{work_done}
 use Rattle.zeb_engine.proofs.WriteSteps.{init_works, begun_so, nothing_so}
 use Rattle.zeb_engine.proofs.writes.apply.Goals as goal
 use Rattle.zeb_register.specs.Formats.{version_of}
@@ -59,10 +60,10 @@ pub returns-in-Init-clause-sound : goal.returns-in-Init-clause-sound
 returns-in-Init-clause-sound g c clean inside = rw c.in-Init.is tt
 
 pub returns-in-Create-clause-sound : goal.returns-in-Create-clause-sound
-returns-in-Create-clause-sound g c clean inside = rw c.in-Create.is tt
+returns-in-Create-clause-sound g c clean inside = rw c.in-Create.is (λ store. work_done c.create.result (c.create.ensures.honest clean inside store))
 
 pub returns-in-Drop-clause-sound : goal.returns-in-Drop-clause-sound
-returns-in-Drop-clause-sound g c clean inside = rw c.in-Drop.is tt
+returns-in-Drop-clause-sound g c clean inside = rw c.in-Drop.is (λ store. work_done c.take.result c.take.ensures.honest)
 
 pub returns-in-Reindex-clause-sound : goal.returns-in-Reindex-clause-sound
 returns-in-Reindex-clause-sound g c clean inside = rw c.in-Reindex.is (c.reindex.ensures.sound clean inside)

@@ -7,7 +7,7 @@ use Rattle.zeb_engine.proofs.WriteSteps.{create_leads}
 use Rattle.zeb_engine.proofs.writes.create.Goals as goal
 use Rattle.zeb_register.specs.Hindrances.{IsTooLarge}
 use Rattle.zeb_register.specs.declared.RegFault.{RegFault}
-use Rattle.zeb_register.specs.declared.RegFault.TheVariants.{Store}
+use Rattle.zeb_register.specs.declared.RegFault.TheVariants.{Damaged, Store}
 use Rattle.zeb_register.specs.Store.{database_columns}
 use Rattle.zeb_engine.proofs.WriteCauses.{name_fits}
 
@@ -35,3 +35,11 @@ returns-in_err-database_put-clause-refused g c clean inside store is =
       | inr (inr large) ↦
           absurd (name_fits (name_bytes c.args.name.now) (pos 0) c.args.name.now.named.at_most_64 (subst (λ n. IsTooLarge (database_columns n (pos 0))) c.as_str.ensures large))
     ]
+
+pub returns-in_err-database_put-clause-honest : goal.returns-in_err-database_put-clause-honest
+returns-in_err-database_put-clause-honest g c clean inside store is =
+    let fault = c.in_err-database_put.field-0.0 in
+    let told : c.from_residual.result ≡ Err fault = search rules in
+    let same : ◌≡◌ {A = Result (Unit {0}) RegFault} (Err fault) (Err Damaged) = sym told ∙ is in
+    let damaged : fault ≡ Damaged = cc in
+    c.in_err-database_put.ensures.honest clean inside store (ap Err damaged)

@@ -12,13 +12,15 @@ use Rattle.zeb_engine.specs.Steps.{turned, created}
 use Rattle.zeb_engine.specs.PrivateWorks.{IsReady, Serves}
 use Rattle.zeb_engine.proofs.CommitCrashes.{survives_after}
 use Rattle.zeb_engine.proofs.ListedDatabases.{fault_fails, counted, row_named, row_found}
+use Rattle.zeb_engine.proofs.HiddenRows.{create_free, create_hidden, create_there}
 use Rattle.zeb_engine.proofs.NamedDatabases.{free_there}
 use Rattle.zeb_engine.proofs.ServesLemmas.{keeps_still, early_serves}
 use Rattle.zeb_engine.proofs.TurnedOutcomes.{step_exists}
 use Rattle.zeb_engine.proofs.ReadyImages.{image_some}
 use Rattle.zeb_engine.proofs.writes.create_database.Goals as goal
 use Rattle.zeb_register.specs.Hindrances.{LacksRowids}
-use Rattle.zeb_register.specs.Store.{databases_tree}
+use Rattle.zeb_register.specs.Store.{databases_tree, IsStore}
+use Rattle.zeb_register.proofs.Calls.{store_same}
 use Rattle.zeb_engine.proofs.StoreCauses.{accepted_leaves, fault_caused}
 use Rattle.zeb_engine.proofs.WriteCauses.{over_after}
 
@@ -92,3 +94,26 @@ returns-in-None-clause-caused g c clean =
     let still = (c.in_ok-found.ensures.call.ok first).0 in
     let looked = accepted_leaves old mid c.database_of.ensures.call.crash (still.was_open, still.is_open) (c.database_of.ensures.call.same first c.requires.idle) in
     over_after (LacksRowids 1 databases_tree) old (state g.S.Store c.transact.new.connection) mid looked c.transact.result (c.transact.ensures.caused clean)
+
+-- ---- on any tables
+
+pub returns-in_err-found-clause-tables : goal.returns-in_err-found-clause-tables
+returns-in_err-found-clause-tables g c clean store =
+    let fault = c.in_err-found.field-0.0 in
+    let told : c.from_residual.result ≡ Err (register_refusal fault) = search rules in
+    let trees = (state g.S.Store c.args.connection.now).now.trees in
+    rw told (create_hidden (name_bytes c.args.name.now) c.as_str.result.now c.as_str.ensures trees fault (λ is. c.in_err-found.ensures.honest clean store (ap Err is)))
+
+pub returns-in-Some-clause-tables : goal.returns-in-Some-clause-tables
+returns-in-Some-clause-tables g c clean store =
+    let trees = (state g.S.Store c.args.connection.now).now.trees in
+    create_there (name_bytes c.args.name.now) c.as_str.result.now c.as_str.ensures trees c.in_ok-found.found _ c.in-Some.is (c.in_ok-found.ensures.value clean store)
+
+pub returns-in-None-clause-tables : goal.returns-in-None-clause-tables
+returns-in-None-clause-tables g c clean store =
+    let old = state g.S.Store c.args.connection.now in
+    let mid = state g.S.Store c.database_of.new.conn in
+    let first : HasCleanDisk mid = omega (arith, c.transact.ensures.survives.clean) in
+    let there : IsStore mid = store_same old mid (c.in_ok-found.ensures.call.ok first).0.now_is store in
+    create_free (name_bytes c.args.name.now) c.as_str.result.now c.as_str.ensures old.now.trees c.in_ok-found.found c.in-None.is (c.in_ok-found.ensures.value first store) c.transact.result
+    (c.transact.ensures.sound clean there)

@@ -1,12 +1,17 @@
 use Rattle.std.proofs.Common.{◌≡◌, Err, rules, arith, sym, subst, inl, inr}
 use Rattle.sqlite.specs.State.{HasCleanDisk}
 use Rattle.sqlite.specs.Held.{state}
+use Rattle.zeb_register.specs.Store.{IsStore}
+use Rattle.zeb_register.proofs.Calls.{store_same}
 use Rattle.zeb_change.specs.Refused.{why_of}
 use Rattle.zeb_image.specs.NameOf.{name_bytes}
+use Rattle.zeb_engine.specs.AnyRefusals.{CountedAnswers, HidesDatabase}
+use Rattle.zeb_engine.specs.Answers.{done}
 use Rattle.zeb_engine.specs.Steps.{turned, dropped}
 use Rattle.zeb_engine.specs.PrivateWorks.{IsReady, Serves}
 use Rattle.zeb_engine.proofs.CommitCrashes.{survives_after}
 use Rattle.zeb_engine.proofs.ServesLemmas.{keeps_still, early_serves}
+use Rattle.zeb_engine.proofs.HiddenRows.{drop_there, misses_hidden}
 use Rattle.zeb_engine.proofs.NamedDatabases.{known_there}
 use Rattle.zeb_engine.proofs.TurnedOutcomes.{step_missing}
 use Rattle.zeb_engine.proofs.writes.drop_database.Goals as goal
@@ -68,3 +73,22 @@ returns-clause-caused g c clean =
     let first : HasCleanDisk mid = omega (arith, c.transact.ensures.survives.clean) in
     let looked = accepted_leaves old mid c.existing_database.ensures.crash (c.in_ok-database.ensures.found first) (c.existing_database.ensures.same first) in
     over_after (λ _. ⊥) old (state g.S.Store c.transact.new.connection) mid looked c.transact.result (c.transact.ensures.caused clean)
+
+-- ---- on any tables
+
+pub returns-in_err-database-clause-tables : goal.returns-in_err-database-clause-tables
+returns-in_err-database-clause-tables g c clean store =
+    let name = name_bytes c.args.name.now in
+    let trees = (state g.S.Store c.args.connection.now).now.trees in
+    let refusal = c.in_err-database.field-0.0 in
+    let told : c.from_residual.result ≡ Err refusal = search rules in
+    rw told (misses_hidden (CountedAnswers done) name (HidesDatabase name) trees (λ hides. hides) refusal (c.in_err-database.ensures.misses clean store))
+
+pub returns-clause-tables : goal.returns-clause-tables
+returns-clause-tables g c clean store =
+    let old = state g.S.Store c.args.connection.now in
+    let mid = state g.S.Store c.existing_database.new.connection in
+    let first : HasCleanDisk mid = omega (arith, c.transact.ensures.survives.clean) in
+    let opened = c.in_ok-database.ensures.found first in
+    let there : IsStore mid = store_same old mid (c.existing_database.ensures.same first opened.1).1 store in
+    drop_there (name_bytes c.args.name.now) old.now.trees c.in_ok-database.database (c.in_ok-database.ensures.row first store) c.transact.result (c.transact.ensures.sound clean there)

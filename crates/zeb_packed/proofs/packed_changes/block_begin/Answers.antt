@@ -18,7 +18,7 @@ use Rattle.zeb_register.specs.PlainRows.{key_row}
 use Rattle.zeb_register.specs.PrivateRowStatements.{Gains}
 use Rattle.zeb_register.specs.Store.{blocks_tree}
 use Rattle.zeb_packed.specs.PackedSound.{IsBlockSpelled}
-use Rattle.zeb_register.proofs.Calls.{goes_keeps, on_err, on_ok_both, reads_goes, store_same}
+use Rattle.zeb_register.proofs.Calls.{goes_keeps, on_err, on_ok_both, on_ok_so, reads_goes, store_same}
 use Rattle.zeb_register.proofs.Causes.{may_after}
 use Rattle.zeb_register.proofs.Columns.{column_is}
 use Rattle.zeb_packed.proofs.PackedHindrances.{absent_told, add_hinders, gained_spells, list_one, may_before, no_clash, spells_none}
@@ -168,6 +168,17 @@ returns-then-is_empty-clause-sound g c clean inside store =
       absent_spelled first.now.trees db key c.args.block (absent_told db key c.args.block _ first.now first.now number refl told),
       λ block all. subst (λ (d : Database). IsBlockSpelled d.trees db key block) reads.now_is all,
     )) (c.block_absent.ensures.call.ok clean inside) (c.block_absent.ensures.absent clean inside store)
+
+pub returns-then-is_empty-clause-absent : goal.returns-then-is_empty-clause-absent
+returns-then-is_empty-clause-absent g c clean inside store =
+    let first = state g.S.Store c.args.tx.now.conn.now in
+    let number = column_is c.in_ok-number.ensures.ok.1 c.in_ok-number.ensures.ok.0 in
+    on_ok_so c.block_absent.result _ _ (λ told. absent_told c.args.db.0 c.args.key.now c.args.block _ first.now first.now number refl told) (c.block_absent.ensures.absent clean inside store)
+
+pub returns-in-Ok-clause-absent : goal.returns-in-Ok-clause-absent
+returns-in-Ok-clause-absent g c clean inside store =
+    let first = state g.S.Store c.args.tx.now.conn.now in
+    absent_told c.args.db.0 c.args.key.now c.args.block _ first.now first.now (column_is c.in_ok-number.ensures.ok.1 c.in_ok-number.ensures.ok.0) refl (c.in-Ok.ensures.alone clean inside store)
 
 pub returns-in-Ok-clause-sound : goal.returns-in-Ok-clause-sound
 returns-in-Ok-clause-sound g c clean inside store =

@@ -9,6 +9,7 @@ use Rattle.sqlite_rules.specs.Lists.{Has}
 use Rattle.zeb_blocks.specs.Blocks.{LiesIn}
 use Rattle.zeb_register.proofs.LookUps.{first_is}
 use Rattle.zeb_packed.proofs.PackedHindrances.{none_told, shown_spelled, shown_told}
+use Rattle.zeb_packed.proofs.PackedOld.{absent_whole, shown_whole}
 use Rattle.zeb_packed.proofs.PackedReads.{block_front, empty_lies, no_block, one_in, row_spells}
 use Rattle.zeb_packed.proofs.PackedSound.{absent_spelled, shown_sound}
 use Rattle.zeb_register.proofs.Columns.{column_is, numbered_rows}
@@ -84,6 +85,24 @@ returns-clause-told g c clean inside store =
 
 pub returns-clause-spelled : goal.returns-clause-spelled
 returns-clause-spelled g c clean inside store p here = absurd (subst (λ l. Has l p) c.new.ensures.items here)
+
+pub returns-in-Some-clause-whole : goal.returns-in-Some-clause-whole
+returns-in-Some-clause-whole g c clean inside store =
+    let old = state g.S.Store c.args.tx.now.conn.now in
+    let items = c.in_ok-rows.rows.items in
+    let key = c.args.key.now in
+    let got : slice_get items 0 ≡ Some c.in-Some.row.now = sym (c.first.ensures.value ∙ ap (λ l. slice_get l 0) c.deref.ensures.value) ∙ ap option_copied c.in-Some.is in
+    let held = rows_read g (goal.at.returns-in-Some-clause-whole g c).In_ok-rows clean inside store in
+    IfOk-weaker c.spelled_list.result _ _ (λ list spells. shown_whole old store c.args.db.0 key c.args.block c.in-Some.row.now list.items (first_is _ items c.in-Some.row.now held got) spells) c.spelled_list.ensures.ok
+
+pub returns-clause-whole : goal.returns-clause-whole
+returns-clause-whole g c clean inside store p in_it spelled =
+    let trees = (state g.S.Store c.args.tx.now.conn.now).now.trees in
+    let items = c.in_ok-rows.rows.items in
+    let key = c.args.key.now in
+    let none : slice_get items 0 ≡ None = sym (c.first.ensures.value ∙ ap (λ l. slice_get l 0) c.deref.ensures.value) ∙ ap option_copied c.in-None.is in
+    let held = rows_read g (goal.at.returns-clause-whole g c).In_ok-rows clean inside store in
+    absurd (absent_whole trees c.args.db.0 key c.args.block (none_told c.args.db.0 key c.args.block items [] trees refl held none) p in_it spelled)
 
 pub returns-in-Some-clause-sound : goal.returns-in-Some-clause-sound
 returns-in-Some-clause-sound g c clean inside store =

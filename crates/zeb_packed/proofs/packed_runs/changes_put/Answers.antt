@@ -5,19 +5,20 @@ use Rattle.sqlite.specs.Held.{state}
 use Rattle.sqlite.specs.State.{HasCleanDisk, State}
 use Rattle.zeb_keys.specs.declared.keys.Key.{Key}
 use Rattle.zeb_packed.specs.declared.packed_changes.Known.{Known}
-use Rattle.zeb_packed.specs.PackedSound.{AreKeyRowsSound}
+use Rattle.zeb_packed.specs.PackedSound.{AreKeyRowsSound, AreSpelledIn, IsOfFirsts, had}
 use Rattle.zeb_register.specs.declared.registers.RecordChange.{RecordChange}
 use Rattle.zeb_register.specs.Calls.{GoesOn, OnlyReads}
 use Rattle.zeb_register.specs.PackedBlocks.{HoldsBlocks}
 use Rattle.zeb_packed.specs.PrivatePackedChanges.{HasSoManyRecords, IsKnown, PutsChanges}
 use Rattle.zeb_register.specs.Hindrances.{TakesRowids, placed, rows_of}
-use Rattle.zeb_packed.specs.PrivatePackedHindrances.{AreRunsSpelled, HindersChanges, new_rows}
+use Rattle.zeb_packed.specs.PrivatePackedHindrances.{AreRunsSpelled, HindersChanges, WereClear, new_rows}
 use Rattle.zeb_register.specs.Store.{Changes, IsStore, blocks_tree, dict_tree, postings_tree}
 use Rattle.zeb_register.proofs.Calls.{changes_after, goes_keeps, goes_then, on_err, on_err_so, on_ok_both, reads_goes, store_same}
 use Rattle.zeb_register.proofs.Causes.{hindered_after, may_after}
 use Rattle.zeb_register.proofs.CallsInTurn.{quiet_then}
 use Rattle.zeb_packed.proofs.PackedCauses.{blocks_hinder, count_hinders, new_counts}
 use Rattle.zeb_register.proofs.PackedLemmas.{block_rows}
+use Rattle.zeb_packed.proofs.PackedOld.{rising_counted}
 use Rattle.zeb_packed.proofs.PackedSound.{numbers_sound}
 use Rattle.zeb_packed.proofs.PackedWrites.{all_lists, all_put, dict_told}
 use Rattle.zeb_register.proofs.TakenRowids.{takes_more, takes_none, takes_then}
@@ -182,6 +183,10 @@ returns-clause-sound g c clean inside store =
     let key = c.args.key.now in
     let xs = c.args.changes.now in
     let runs = subst (λ (d : Database). AreRunsSpelled db key xs d.trees) blocks.reads.now_is (c.in_ok-after.ensures.sound clean2 blocks.reads.mode same) in
-    let sound : AreKeyRowsSound first.now.trees db key (map (λ (x : RecordChange). x.sysno) xs) =
-    record { dict = c.in_ok-known.ensures.sound blocks.clean inside store; blocks = numbers_sound db key xs first.now.trees runs } in
+    let old = subst (λ (d : Database). IsOfFirsts (AreSpelledIn d.trees db key) (map had xs)) blocks.reads.now_is (c.in_ok-after.ensures.old clean2 blocks.reads.mode same) in
+    let known = c.in_ok-known.known in
+    let clear = subst (λ (d : Database). WereClear db key known.clear_from xs d.trees) blocks.reads.now_is (c.in_ok-after.ensures.clear clean2 blocks.reads.mode same) in
+    let counted = rising_counted db key known.records known.clear_from xs first.now.trees (c.in_ok-known.ensures.told blocks.clean inside store) c.in_ok-known.ensures.clear clear in
+    let sound : AreKeyRowsSound first.now.trees db key (map had xs) =
+    record { dict = c.in_ok-known.ensures.sound blocks.clean inside store; blocks = numbers_sound db key xs first.now.trees runs; old = old; counted = counted } in
     IfOk-weaker c.dict_write.result _ _ (λ _ _. sound) (c.dict_write.ensures.call.ok clean blocks.goes.mode)

@@ -1,9 +1,9 @@
-use Rattle.std.proofs.Common.{◌∙◌, ◌==◌, List, ap, false, inl, inr, length, map, rules, subst, sym, true}
+use Rattle.std.proofs.Common.{◌≡◌, ◌∙◌, ◌/◌, ◌==◌, List, ap, false, inl, inr, length, map, rules, subst, sym, true}
 use Rattle.sqlite.specs.Held.{state}
 use Rattle.sqlite_rules.specs.Lists.{Has}
 use Rattle.zeb_blocks.specs.Blocks.{LiesIn}
 use Rattle.zeb_blocks.specs.declared.postings.Posting.{Posting}
-use Rattle.zeb_register.specs.Hindrances.{TakesRowids, placed, rows_of}
+use Rattle.zeb_register.specs.Hindrances.{IsSpelledAt, TakesRowids, placed, rows_of}
 use Rattle.zeb_register.specs.PackedBlocks.{part_in}
 use Rattle.zeb_packed.specs.PrivatePackedChanges.{IfTold, IsBlockIn, IsClear, HasSoManyRecords, PutsBlock, PutsChanges}
 use Rattle.zeb_packed.specs.PrivatePackedHindrances.{HindersBlock, IsPut, SpellsMore, new_rows}
@@ -11,6 +11,7 @@ use Rattle.zeb_register.specs.Store.{Changes, blocks_tree}
 use Rattle.zeb_register.proofs.Calls.{changes_so}
 use Rattle.zeb_packed.proofs.PackedCauses.{new_within, row_hinders}
 use Rattle.zeb_packed.proofs.PackedHindrances.{spells_so}
+use Rattle.zeb_packed.proofs.PackedOld.{absent_whole, block_alone, block_found, block_keeps}
 use Rattle.zeb_packed.proofs.PackedReads.{empty_lies}
 use Rattle.zeb_packed.proofs.PackedWrites.{clear_told, puts_run}
 use Rattle.zeb_register.proofs.TakenRowids.{takes_more}
@@ -86,3 +87,28 @@ returns-clause-rowids g c clean inside store =
 
 pub returns-clause-sound : goal.returns-clause-sound
 returns-clause-sound g c clean inside store = c.in_ok-block_begin.ensures.sound clean inside store
+
+pub returns-clause-old : goal.returns-clause-old
+returns-clause-old g c clean inside store =
+    let first = state g.S.Store c.args.tx.now.conn.now in
+    let second = state g.S.Store c.block_begin.new.tx.conn.now in
+    let db = c.args.db.0 in
+    let key = c.args.key.now in
+    let block = c.args.block in
+    let run = c.args.run.now in
+    let held = c.new.result.items in
+    let list = c.in_ok-after.after.list.items in
+    let told = c.in_ok-block_begin.ensures.absent clean inside store in
+    let done = (c.in_ok-block_begin.ensures.call.ok clean inside).rows store in
+    let puts = subst (λ l. Changes blocks_tree (IfTold false (IsBlockIn db key block) (PutsBlock db key block l)) first second) c.deref.ensures.value done in
+    let put = puts.rows told in
+    let shown : (p : Posting) → Has held p → IsSpelledAt db key first.now.trees p = λ p here. absurd (subst (λ l. Has l p) c.new.ensures.items here) in
+    let whole : (p : Posting) → p.sysno / 256 ≡ block → IsSpelledAt db key first.now.trees p → Has held p = λ p in_it spelled. absurd (absent_whole first.now.trees db key block told p in_it spelled) in
+    let lies = c.in_ok-after.ensures.lies in (
+      block_found db key block run c.requires.inside held list first.now.trees second.now.trees lies shown whole c.in_ok-after.ensures.found,
+      block_keeps db key block run c.requires.inside held list first.now.trees second.now.trees lies shown whole put c.in_ok-after.ensures.kept,
+      block_alone db key block run c.requires.inside held list first.now.trees second.now.trees lies shown whole put,
+    )
+
+pub returns-clause-absent : goal.returns-clause-absent
+returns-clause-absent g c clean inside store = c.in_ok-block_begin.ensures.absent clean inside store

@@ -17,6 +17,7 @@ use Rattle.zeb_register.proofs.Calls.{changes_after, changes_so, goes_then, read
 use Rattle.zeb_register.proofs.Causes.{hindered_after}
 use Rattle.zeb_packed.proofs.PackedCauses.{new_within, row_hinders}
 use Rattle.zeb_packed.proofs.PackedHindrances.{not_mistold, put_spells, spells_so}
+use Rattle.zeb_packed.proofs.PackedOld.{block_alone, block_found, block_keeps}
 use Rattle.zeb_packed.proofs.PackedSound.{put_sound}
 use Rattle.zeb_packed.proofs.PackedWrites.{block_told, puts_run}
 use Rattle.zeb_register.proofs.TakenRowids.{takes_more}
@@ -146,3 +147,24 @@ returns-clause-sound g c clean inside store =
     let put = then_put c.args.db.0 c.args.key.now c.args.block (not c.is_empty-is_there.result) list c.deref.result.now first (state g.S.Store c.block_list.new.tx.conn.now) new was.reads was.told c.deref.ensures.value done.rows in
     let spelled = c.in_ok-list.ensures.sound was.clean inside store in
     (spelled, put_sound c.args.db.0 c.args.key.now c.args.block list first.now.trees new put spelled)
+
+pub returns-clause-old : goal.returns-clause-old
+returns-clause-old g c clean inside store =
+    let was = was_read g (goal.at.returns-clause-old g c).After-block_write clean inside store in
+    let first = state g.S.Store c.args.tx.now.conn.now in
+    let new = (state g.S.Store c.block_write.new.tx.conn.now).now.trees in
+    let db = c.args.db.0 in
+    let key = c.args.key.now in
+    let block = c.args.block in
+    let run = c.args.run.now in
+    let held = c.in_ok-list.list.items in
+    let list = c.in_ok-after.after.list.items in
+    let done = (c.in_ok-block_write.ensures.call.ok clean was.reads.mode).rows was.store in
+    let put = then_put db key block (not c.is_empty-is_there.result) list c.deref.result.now first (state g.S.Store c.block_list.new.tx.conn.now) new was.reads was.told c.deref.ensures.value done.rows in
+    let shown = c.in_ok-list.ensures.spelled was.clean inside store in
+    let whole = c.in_ok-list.ensures.whole was.clean inside store in
+    let lies = c.in_ok-after.ensures.lies in (
+      block_found db key block run c.requires.inside held list first.now.trees new lies shown whole c.in_ok-after.ensures.found,
+      block_keeps db key block run c.requires.inside held list first.now.trees new lies shown whole put c.in_ok-after.ensures.kept,
+      block_alone db key block run c.requires.inside held list first.now.trees new lies shown whole put,
+    )

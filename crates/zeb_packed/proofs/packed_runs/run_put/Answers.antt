@@ -3,7 +3,7 @@ use Rattle.sqlite.specs.Held.{state}
 use Rattle.zeb_register.specs.Calls.{Alters}
 use Rattle.zeb_packed.specs.PrivatePackedChanges.{IsClear, HasSoManyRecords, IsKnown, PutsChanges}
 use Rattle.zeb_register.specs.Store.{blocks_tree}
-use Rattle.zeb_register.proofs.Calls.{alters_so, inside_so}
+use Rattle.zeb_register.proofs.Calls.{alters_so, inside_so, on_ok_so}
 use Rattle.zeb_packed.proofs.PackedWrites.{known_clear, puts_so}
 use Rattle.zeb_packed.proofs.packed_runs.run_put.Goals as goal
 
@@ -26,3 +26,6 @@ pub returns-clause-damaged : goal.returns-clause-damaged
 returns-clause-damaged g c clean inside store is rises now holds known new all =
     let clear : c.args.known.clear_from ≤ c.args.block = omega arith in
     c.row_begin.ensures.damaged clean inside store is rises now holds (known_clear c.args.block c.args.known (now c.args.db.0 c.args.key.now) clear known) new all
+
+pub returns-clause-absent : goal.returns-clause-absent
+returns-clause-absent g c clean inside store = on_ok_so c.row_begin.result _ _ (λ told _. told) (c.row_begin.ensures.absent clean inside store)

@@ -1,4 +1,4 @@
-use Rattle.std.proofs.Common.{◌≡◌, ◌+◌, ◌<◌, ◌/◌, arith, drop, get_or, inl, inr, length, map, refl, rules, subst, suc, sym, take}
+use Rattle.std.proofs.Common.{◌≡◌, ◌+◌, ◌<◌, ◌≤◌, ◌/◌, arith, drop, get_or, inl, inr, length, map, refl, rules, subst, suc, sym, take}
 use Rattle.std.proofs.lemmas.List.{take_all}
 use Rattle.sqlite.specs.Held.{state}
 use Rattle.sqlite.specs.State.{HasCleanDisk}
@@ -12,7 +12,9 @@ use Rattle.zeb_register.proofs.Causes.{may_after}
 use Rattle.zeb_packed.proofs.PackedCauses.{rows_run, run_hinders, spells_run}
 use Rattle.zeb_register.proofs.RowCounts.{rows_taken}
 use Rattle.zeb_register.proofs.TakenRowids.{takes_more, takes_then}
-use Rattle.zeb_packed.specs.PrivatePackedHindrances.{AreRunsSpelled}
+use Rattle.zeb_packed.specs.PrivatePackedHindrances.{AreRunsSpelled, LacksBlock, WereClear}
+use Rattle.zeb_packed.specs.PackedSound.{AreSpelledIn, IsOfFirsts, had}
+use Rattle.zeb_packed.proofs.PackedOld.{clear_further, clears_further, keeps_further, no_firsts, no_rising, runs_found}
 use Rattle.zeb_packed.proofs.PackedSound.{run_sound}
 use Rattle.zeb_packed.proofs.PackedWrites.{puts_behind, puts_so, puts_then}
 use Rattle.zeb_packed.proofs.packed_runs.runs_put.Goals as goal
@@ -27,6 +29,26 @@ loop-done-smaller g c =
     let long = run_long xs done n c.run_length.ensures.within in
     omega (arith, some, long, below)
 
+pub loop-done-init : goal.loop-done-init
+loop-done-init g c =
+    let trees = (state g.S.Store c.args.tx.now.conn.now).now.trees in
+    let known = c.args.known in
+    record {
+      same = search rules;
+      within = search rules;
+      crash = search rules;
+      stays = search rules;
+      put = search rules;
+      takes = search rules;
+      spells = search rules;
+      sound = search rules;
+      finds = λ clean inside store. (no_firsts (AreSpelledIn trees c.args.db.0 c.args.key.now), λ p others. (λ h. h, λ h. h));
+      clears = λ block from below. from;
+      keeps = λ clean inside store block from row there in_it. there;
+      clear = λ clean inside store. no_rising (λ it. known.clear_from ≤ it.0 / 256 → LacksBlock c.args.db.0 c.args.key.now (it.0 / 256) trees);
+      grows = omega arith;
+    }
+
 pub loop-done-preserved : goal.loop-done-preserved
 loop-done-preserved g c =
     let first = state g.S.Store c.args.tx.now.conn.now in
@@ -39,6 +61,7 @@ loop-done-preserved g c =
     let n = c.run_length.result in
     let so_far = c.loop-done.invariant in
     let it = c.in_ok-records.ensures in
+    let below : done < length xs = c.loop-done-test.true in
     record {
       same = search rules;
       within = run_within xs done n so_far.within;
@@ -74,6 +97,23 @@ loop-done-preserved g c =
           let next = it.sound clean (so_far.stays was inside).inside (so_far.put was inside store).layout in
           run_sound db key xs done n ((get_or xs done no_change).sysno / 256) (done + length (run xs done n)) first.now.trees mid.now.trees last.now.trees (run_more xs done n) c.run_length.ensures.inside
           (so_far.sound was inside store) next;
+      finds = λ clean inside store.
+          let was : HasCleanDisk mid = omega (arith, c.run_put.ensures.call.crash.clean) in
+          let next = it.old clean (so_far.stays was inside).inside (so_far.put was inside store).layout in
+          runs_found db key xs done n (done + length (run xs done n)) first.now.trees mid.now.trees last.now.trees (run_more xs done n) (so_far.finds was inside store) (next.0, next.1);
+      clears =
+          let some = c.run_length.ensures.some (get_or xs done no_change) (drop (suc done) xs) (run_first xs done n below) refl in
+          clears_further xs done n (done + length (run xs done n)) (run_more xs done n) below some c.args.known.clear_from c.loop-done.known.clear_from c.behind-known.result.clear_from so_far.clears c.behind-known.ensures.most;
+      keeps = λ clean inside store.
+          let was : HasCleanDisk mid = omega (arith, c.run_put.ensures.call.crash.clean) in
+          let next = it.old clean (so_far.stays was inside).inside (so_far.put was inside store).layout in
+          keeps_further db key c.loop-done.known.clear_from c.behind-known.result.clear_from ((get_or xs done no_change).sysno / 256) first.now.trees mid.now.trees last.now.trees (so_far.keeps was inside store) next.2
+          c.behind-known.ensures.keeps c.behind-known.ensures.behind;
+      clear = λ clean inside store.
+          let was : HasCleanDisk mid = omega (arith, c.run_put.ensures.call.crash.clean) in
+          let lacks = it.absent clean (so_far.stays was inside).inside (so_far.put was inside store).layout in
+          clear_further xs done n (done + length (run xs done n)) (run_more xs done n) db key c.args.known.clear_from c.loop-done.known.clear_from ((get_or xs done no_change).sysno / 256) first.now.trees mid.now.trees
+          c.run_length.ensures.inside so_far.clears (so_far.keeps was inside store) (so_far.clear was inside store) lacks;
       grows = let rows = rows_run xs done n in omega (arith, c.behind-known.ensures.records, it.grows, so_far.grows, rows);
     }
 
@@ -138,3 +178,13 @@ pub returns-clause-sound : goal.returns-clause-sound
 returns-clause-sound g c clean inside store =
     let xs = c.args.changes.now in
     subst (λ l. AreRunsSpelled c.args.db.0 c.args.key.now l (state g.S.Store c.args.tx.now.conn.now).now.trees) (take_all c.loop-done.done xs c.loop-done-test.false) (c.loop-done.invariant.sound clean inside store).1
+
+pub returns-clause-old : goal.returns-clause-old
+returns-clause-old g c clean inside store =
+    let xs = c.args.changes.now in
+    subst (λ l. IsOfFirsts (AreSpelledIn (state g.S.Store c.args.tx.now.conn.now).now.trees c.args.db.0 c.args.key.now) (map had l)) (take_all c.loop-done.done xs c.loop-done-test.false) (c.loop-done.invariant.finds clean inside store).0
+
+pub returns-clause-clear : goal.returns-clause-clear
+returns-clause-clear g c clean inside store =
+    let xs = c.args.changes.now in
+    subst (λ l. WereClear c.args.db.0 c.args.key.now c.args.known.clear_from l (state g.S.Store c.args.tx.now.conn.now).now.trees) (take_all c.loop-done.done xs c.loop-done-test.false) (c.loop-done.invariant.clear clean inside store)

@@ -1,11 +1,12 @@
 use Rattle.std.proofs.Common.{◌∙◌, ap, subst, Ok, Some, map, string_bytes}
 use Rattle.zeb_paths.specs.Walks.{paths_left}
-use Rattle.zeb_program.proofs.ReaderLemmas.{GivesNext, Ends, met_start, met_end, met_next, same_contents}
+use Rattle.zeb_program.proofs.ReaderLemmas.{GivesNext, Ends, met_start, met_end, met_next, more_short, none_short, same_contents}
 use Rattle.zeb_program.proofs.files.contents_of.Goals as goal
 
 pub loop-init : goal.loop-init
 loop-init g c =
     record {
+      short = none_short c.new-contents.result.items c.new-contents.ensures.items;
       paths = ap (λ p. p.now) c.in_ok-walk.ensures.paths;
       met = λ files told. met_start (λ content. Some content.items) (g.P.Paths.tells c.args.paths.now) files c.new-contents.result.items _ (map string_bytes c.args.named.now) c.new-contents.ensures.items c.in_ok-walk.ensures.left told;
     }
@@ -25,6 +26,7 @@ loop-preserved g c =
     let tells = g.P.Paths.tells c.args.paths.now in
     let next = subst (λ p. GivesNext (g.P.Paths.tells p) left later (Ok c.in_ok-path.field-0)) c.loop.invariant.paths c.in_ok-path.ensures.told in
     record {
+      short = more_short c.loop.contents.items c.push.new.self.items c.in_ok-content_of.field-0 c.loop.invariant.short c.in_ok-content_of.ensures.short c.in_ok-push.ensures.items;
       paths = ap (λ p. p.now) c.in_ok-path.ensures.paths ∙ c.loop.invariant.paths;
       met = λ files told.
           met_next (λ content. Some content.items) tells files c.loop.contents.items c.push.new.self.items left later c.in-Some.path c.in_ok-content_of.field-0

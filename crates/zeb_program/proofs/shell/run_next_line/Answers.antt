@@ -1,7 +1,9 @@
 use Rattle.sqlite.specs.Held.{state}
 use Rattle.zeb_change.specs.Conditions.{conditions}
 use Rattle.zeb_register.specs.Formats.{version_of}
+use Rattle.zeb_program.specs.PrivateOverTables.{LineOver}
 use Rattle.zeb_program.proofs.ShellLemmas.{next_answer}
+use Rattle.zeb_program.proofs.ShellOverLemmas.{next_over}
 use Rattle.zeb_program.proofs.shell.run_next_line.Goals as goal
 
 pub returns-clause-answer : goal.returns-clause-answer
@@ -10,3 +12,10 @@ returns-clause-answer g c =
     λ sound clean. next_answer (g.P.Paths.tells c.args.paths.now) k c.args.number c.in_ok-status.status c.in_ok-bytes.bytes.items (g.R.Source.remaining c.args.input.now) (state g.S.Store c.args.session.now.connection)
     (state g.S.Store c.run_bytes.new.session.connection) (g.W.Write.contents c.args.output.now.writer) (g.W.Write.contents c.run_bytes.new.output.writer) (g.W.Write.contents c.flush.new.self.writer)
     c.in_ok-bytes.ensures.line (c.in_ok-status.ensures.answer (c.flush.ensures.sound sound) clean) (c.flush.ensures.bytes sound)
+
+pub returns-clause-over : goal.returns-clause-over
+returns-clause-over g c =
+    let k = conditions (version_of g.L.Layout.format) c.args.session.now.profile c.args.session.now.limits in
+    λ sound clean. next_over (LineOver g.S.Store (g.P.Paths.tells c.args.paths.now) g.L.Layout.format k) c.args.number c.in_ok-status.status c.in_ok-bytes.bytes.items (g.R.Source.remaining c.args.input.now)
+    c.args.session.now.connection c.run_bytes.new.session.connection (g.W.Write.contents c.args.output.now.writer) (g.W.Write.contents c.run_bytes.new.output.writer) (g.W.Write.contents c.flush.new.self.writer)
+    c.in_ok-bytes.ensures.line (c.in_ok-status.ensures.over (c.flush.ensures.sound sound) clean) (c.flush.ensures.bytes sound)

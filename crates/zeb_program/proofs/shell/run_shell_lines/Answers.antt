@@ -5,6 +5,10 @@ use Rattle.sqlite.specs.Held.{state}
 use Rattle.sqlite.specs.State.{HasCleanDisk}
 use Rattle.zeb_change.specs.Conditions.{conditions}
 use Rattle.zeb_register.specs.Formats.{version_of}
+use Rattle.zeb_program.specs.Answers.{Writes}
+use Rattle.zeb_program.specs.Lines.{first_line}
+use Rattle.zeb_program.specs.PrivateOverTables.{LineOver}
+use Rattle.zeb_program.proofs.ShellOverLemmas.{goes_start, goes_found, goes_end, over_failure, over_stop}
 use Rattle.zeb_program.proofs.ShellLemmas.{AnswersNext, serves_start, serves_found, serves_end, serves_failure, serves_stop, found_none}
 use Rattle.zeb_program.proofs.shell.run_shell_lines.Goals as goal
 
@@ -17,6 +21,7 @@ loop-lines_before-init g c =
       range = omega arith;
       sound = λ sound. sound;
       under = (refl, refl);
+      over = λ _ _. goes_start (LineOver g.S.Store (g.P.Paths.tells c.args.paths.now) g.L.Layout.format k) (g.W.Write.contents c.args.output.now.writer) (g.R.Source.remaining c.args.input.now) c.args.session.now.connection;
       answers = λ _ _. serves_start (g.P.Paths.tells c.args.paths.now) k old (g.W.Write.contents c.args.output.now.writer) (g.R.Source.remaining c.args.input.now);
     }
 
@@ -38,6 +43,13 @@ loop-lines_before-preserved g c =
       range = search rules;
       sound = λ sound. c.loop-lines_before.invariant.sound (c.run_next_line.ensures.sound sound);
       under = (c.run_next_line.ensures.under.0 ∙ same.0, c.run_next_line.ensures.under.1 ∙ same.1);
+      over = λ sound clean.
+          let step = subst₂ (λ p l. IfSome c.in_ok-status.field-0 (λ s. failed ≡ false → HasCleanDisk next → IfSome left (λ text. Writes mid writes (λ bytes. LineOver g.S.Store tells g.L.Layout.format (conditions (version_of g.L.Layout.format) p l)
+          (n + 1) (first_line text) c.loop-lines_before.session.connection bytes s c.run_next_line.new.session.connection)))) same.0 same.1 c.in_ok-status.ensures.over in
+          goes_found (LineOver g.S.Store tells g.L.Layout.format k) (g.W.Write.contents c.args.output.now.writer) mid writes (g.R.Source.remaining c.args.input.now) left (g.R.Source.remaining c.run_next_line.new.input)
+          n c.loop-lines_before.greatest c.in-Some.status c.max-greatest.result c.args.session.now.connection c.loop-lines_before.session.connection c.run_next_line.new.session.connection failed (HasCleanDisk next) c.in_ok-status.field-0
+          c.in-Some.is c.max-greatest.ensures c.in_ok-status.ensures.some c.in_ok-status.ensures.taken step sound clean
+          (c.loop-lines_before.invariant.over (c.run_next_line.ensures.sound sound) (c.run_next_line.ensures.clean clean));
       answers = λ sound clean.
           let step = subst₂ (λ p l. IfSome c.in_ok-status.field-0 (λ s. failed ≡ false → HasCleanDisk next → IfSome left (AnswersNext tells (conditions (version_of g.L.Layout.format) p l) now next mid writes (n + 1) s)))
           same.0 same.1 c.in_ok-status.ensures.answer in
@@ -75,3 +87,29 @@ returns-clause-stopped g c = λ sound clean.
     serves_stop (g.P.Paths.tells c.args.paths.now) k (state g.S.Store c.args.session.now.connection) (state g.S.Store c.loop-lines_before.session.connection) (g.W.Write.contents c.args.output.now.writer)
     (g.W.Write.contents c.loop-lines_before.output.writer) (g.R.Source.remaining c.args.input.now) left left c.loop-lines_before.lines_before c.loop-lines_before.greatest
     ([], omega arith, Consumes-nil left) (c.loop-lines_before.invariant.answers sound clean)
+
+pub returns-in-None-clause-over : goal.returns-in-None-clause-over
+returns-in-None-clause-over g c =
+    let k = conditions (version_of g.L.Layout.format) c.args.session.now.profile c.args.session.now.limits in
+    let idle = found_none c.in_ok-status.field-0 _ c.in-None.is c.in_ok-status.ensures.idle in
+    rw (idle.1, idle.2)
+    (λ sound clean. goes_end (LineOver g.S.Store (g.P.Paths.tells c.args.paths.now) g.L.Layout.format k) (g.W.Write.contents c.args.output.now.writer)
+    (g.W.Write.contents c.loop-lines_before.output.writer) (g.R.Source.remaining c.args.input.now) (g.R.Source.remaining c.loop-lines_before.input) c.loop-lines_before.lines_before c.loop-lines_before.greatest
+    c.args.session.now.connection c.loop-lines_before.session.connection idle.0 (c.loop-lines_before.invariant.over sound clean))
+
+pub returns-in_err-status-clause-stopped_over : goal.returns-in_err-status-clause-stopped_over
+returns-in_err-status-clause-stopped_over g c =
+    let k = conditions (version_of g.L.Layout.format) c.args.session.now.profile c.args.session.now.limits in
+    let clean = HasCleanDisk (state g.S.Store c.run_next_line.new.session.connection) in
+    rw c.in_err-status.ensures.stopped
+    (over_failure g.S.Store (g.P.Paths.tells c.args.paths.now) g.L.Layout.format k (g.W.Write.contents c.args.output.now.writer) (g.W.Write.contents c.loop-lines_before.output.writer)
+    (g.R.Source.remaining c.args.input.now) (g.R.Source.remaining c.loop-lines_before.input) (g.R.Source.remaining c.run_next_line.new.input) c.loop-lines_before.lines_before c.loop-lines_before.greatest
+    c.args.session.now.connection c.loop-lines_before.session.connection c.from_residual.result c.loop-lines_before.output.failed clean c.in_err-status.ensures.bounded (λ sound clean. c.loop-lines_before.invariant.over sound (c.run_next_line.ensures.clean clean)))
+
+pub returns-clause-stopped_over : goal.returns-clause-stopped_over
+returns-clause-stopped_over g c = λ sound clean.
+    let k = conditions (version_of g.L.Layout.format) c.args.session.now.profile c.args.session.now.limits in
+    let left = g.R.Source.remaining c.loop-lines_before.input in
+    over_stop g.S.Store (g.P.Paths.tells c.args.paths.now) g.L.Layout.format k (g.W.Write.contents c.args.output.now.writer) (g.W.Write.contents c.loop-lines_before.output.writer)
+    (g.R.Source.remaining c.args.input.now) left left c.loop-lines_before.lines_before c.loop-lines_before.greatest c.args.session.now.connection c.loop-lines_before.session.connection
+    ([], omega arith, Consumes-nil left) (c.loop-lines_before.invariant.over sound clean)

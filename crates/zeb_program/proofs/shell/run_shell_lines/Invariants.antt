@@ -3,7 +3,9 @@ use Rattle.sqlite.specs.Held.{state}
 use Rattle.sqlite.specs.State.{HasCleanDisk}
 use Rattle.zeb_change.specs.Conditions.{conditions}
 use Rattle.zeb_register.specs.Formats.{version_of}
+use Rattle.zeb_program.specs.PrivateOverTables.{LineOver}
 use Rattle.zeb_program.proofs.ShellLemmas.{Serves}
+use Rattle.zeb_program.proofs.ShellOverLemmas.{Goes}
 use Rattle.zeb_program.proofs.shell.run_shell_lines.Given as goal
 
 -- What was written answers the lines so far, of an input that tells its bytes.
@@ -15,6 +17,10 @@ invariant-loop-lines_before g l =
       range : l.greatest ≤ 3;
       sound : l.output.failed ≡ false → l.initial.output.failed ≡ false;
       under : (l.session.profile ≡ before.profile) × (l.session.limits ≡ before.limits);
+      over : l.output.failed ≡ false → HasCleanDisk (state g.S.Store l.session.connection)
+          → Goes (LineOver g.S.Store (g.P.Paths.tells l.paths) g.L.Layout.format (conditions (version_of g.L.Layout.format) before.profile before.limits))
+          (g.W.Write.contents l.initial.output.writer) (g.W.Write.contents l.output.writer) (g.R.Source.remaining l.initial.input) (g.R.Source.remaining l.input) l.lines_before l.greatest
+          before.connection l.session.connection;
       answers : l.output.failed ≡ false → HasCleanDisk (state g.S.Store l.session.connection)
           → Serves (g.P.Paths.tells l.paths) (conditions (version_of g.L.Layout.format) before.profile before.limits) (state g.S.Store before.connection)
           (state g.S.Store l.session.connection) (g.W.Write.contents l.initial.output.writer) (g.W.Write.contents l.output.writer)

@@ -1,4 +1,4 @@
-use Rattle.std.proofs.Common.{◌≡◌, ◌⊎◌, Err, inl, rules, subst, sym}
+use Rattle.std.proofs.Common.{◌≡◌, ◌⊎◌, Err, inl, map, refl, rules, string_bytes, subst, sym}
 use Rattle.sqlite.specs.Held.{state}
 use Rattle.zeb_change.specs.Conditions.{conditions}
 use Rattle.zeb_register.specs.Formats.{version_of}
@@ -6,6 +6,8 @@ use Rattle.zeb_program.specs.PrivateFaults.{IsUnreadable}
 use Rattle.zeb_program.specs.PrivateServing.{AnswersFrom, replied}
 use Rattle.zeb_program.specs.PrivateTaskAnswers.{AnalysesFiles}
 use Rattle.zeb_program.specs.declared.faults.Fault.TheVariants.{Memory}
+use Rattle.zeb_program.specs.PrivateOverTables.{AnalysesOver}
+use Rattle.zeb_program.proofs.OverLemmas.{analysed_over, unanalysed_over}
 use Rattle.zeb_program.proofs.TaskLemmas.{analysed_files, unread_files}
 use Rattle.zeb_program.proofs.tasks.analyse_paths.Goals as goal
 
@@ -33,3 +35,34 @@ returns-clause-told g c = λ clean files known.
     let new = state g.S.Store c.ask.new.session.connection in
     inl (subst (λ r. AnswersFrom old new r (AnalysesFiles k files)) (sym c.to_serve.ensures.reply)
     (analysed_files k c.in_ok-files.files files old new c.ask.result (c.in_ok-files.ensures.told files known) (c.ask.ensures.answer clean)))
+
+pub returns-in_err-files-clause-over : goal.returns-in_err-files-clause-over
+returns-in_err-files-clause-over g c =
+    let tells = g.P.Paths.tells c.args.paths.now in
+    let profile = c.args.session.now.profile in
+    let limit = c.args.session.now.limits.records in
+    let paths = map string_bytes c.args.named.now in
+    let why = c.in_err-files.field-0.0 in
+    let is : c.from_residual.result ≡ Err why = search rules in
+    subst (λ r. AnalysesOver tells profile limit paths (replied r)) (sym is) (unanalysed_over tells profile limit paths why c.in_err-files.ensures.unread)
+
+pub returns-in_err-unmarked-clause-over : goal.returns-in_err-unmarked-clause-over
+returns-in_err-unmarked-clause-over g c =
+    let tells = g.P.Paths.tells c.args.paths.now in
+    let profile = c.args.session.now.profile in
+    let limit = c.args.session.now.limits.records in
+    let paths = map string_bytes c.args.named.now in
+    let is : c.from_residual-in_err-unmarked.result ≡ Err Memory = search rules in
+    subst (λ r. AnalysesOver tells profile limit paths (replied r)) (sym is) (unanalysed_over tells profile limit paths Memory tt)
+
+pub returns-clause-over : goal.returns-clause-over
+returns-clause-over g c =
+    let tells = g.P.Paths.tells c.args.paths.now in
+    let profile = c.args.session.now.profile in
+    let limit = c.args.session.now.limits.records in
+    let paths = map string_bytes c.args.named.now in
+    subst (AnalysesOver tells profile limit paths) (sym c.to_serve.ensures.reply)
+    (analysed_over tells profile limit paths c.in_ok-files.files c.ask.result c.in_ok-files.ensures.short c.in_ok-files.ensures.told c.ask.ensures.analysed)
+
+pub returns-clause-still : goal.returns-clause-still
+returns-clause-still g c = c.ask.ensures.still c.in_ok-files.files refl

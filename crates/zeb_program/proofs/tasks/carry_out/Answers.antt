@@ -1,10 +1,10 @@
-use Rattle.std.proofs.Common.{subst, sym}
+use Rattle.std.proofs.Common.{ap, subst, sym}
 use Rattle.sqlite.specs.Held.{state}
 use Rattle.zeb_change.specs.Conditions.{conditions}
 use Rattle.zeb_register.specs.Formats.{version_of}
 use Rattle.zeb_program.specs.PrivateOverTables.{TaskOver}
 use Rattle.zeb_program.specs.PrivateServing.{ServesTask, replied}
-use Rattle.zeb_program.proofs.OverLemmas.{changed_task_over}
+use Rattle.zeb_program.proofs.OverLemmas.{analysed_task_over, asked_task_over, changed_task_over}
 use Rattle.zeb_program.proofs.TaskLemmas.{analysed_task, asked_task, changed_task}
 use Rattle.zeb_program.proofs.tasks.carry_out.Goals as goal
 
@@ -37,22 +37,27 @@ pub returns-in-Ask-clause-over : goal.returns-in-Ask-clause-over
 returns-in-Ask-clause-over g c = λ clean.
     let told = g.P.Paths.tells c.args.paths.now in
     let format = g.L.Layout.format in
-    let profile = c.args.session.now.profile in
+    let k = conditions (version_of g.L.Layout.format) c.args.session.now.profile c.args.session.now.limits in
     let old = state g.S.Store c.args.session.now.connection in
-    subst (TaskOver told format profile c.args.task.now old) (sym c.to_serve.ensures.reply)
-    (subst (λ task. TaskOver told format profile task old c.ask.result) (sym c.in-Ask.is) (c.ask.ensures.over clean))
+    let new = state g.S.Store c.ask.new.session.connection in
+    subst (TaskOver told format k c.args.task.now old new) (sym c.to_serve.ensures.reply)
+    (asked_task_over told format k c.args.task.now old new c.ask.result c.in-Ask.command c.in-Ask.is (c.ask.ensures.over clean) (c.ask.ensures.refused clean))
 
 pub returns-in-Change-clause-over : goal.returns-in-Change-clause-over
 returns-in-Change-clause-over g c = λ clean.
     let told = g.P.Paths.tells c.args.paths.now in
     let format = g.L.Layout.format in
-    let profile = c.args.session.now.profile in
+    let k = conditions (version_of g.L.Layout.format) c.args.session.now.profile c.args.session.now.limits in
     let old = state g.S.Store c.args.session.now.connection in
-    subst (TaskOver told format profile c.args.task.now old) (sym c.to_serve-in-Change.ensures.reply)
-    (changed_task_over told format profile c.args.task.now old c.change_by_paths-reply.result c.in-Change.kind c.in-Change.database c.in-Change.named c.deref.result.now
-    c.in-Change.is c.deref.ensures.value (c.change_by_paths-reply.ensures.over clean))
+    let new = state g.S.Store c.change_by_paths-reply.new.session.connection in
+    subst (TaskOver told format k c.args.task.now old new) (sym c.to_serve-in-Change.ensures.reply)
+    (changed_task_over told format k c.args.task.now old new c.change_by_paths-reply.result c.in-Change.kind c.in-Change.database c.in-Change.named c.deref.result.now
+    c.in-Change.is c.deref.ensures.value (c.change_by_paths-reply.ensures.over clean) (c.change_by_paths-reply.ensures.refused clean))
 
 pub returns-in-Analyse-clause-over : goal.returns-in-Analyse-clause-over
-returns-in-Analyse-clause-over g c = λ clean.
-    let told = g.P.Paths.tells c.args.paths.now in
-    subst (λ task. TaskOver told g.L.Layout.format c.args.session.now.profile task (state g.S.Store c.args.session.now.connection) (replied c.analyse_paths.result)) (sym c.in-Analyse.is) tt
+returns-in-Analyse-clause-over g c = λ _.
+    let k = conditions (version_of g.L.Layout.format) c.args.session.now.profile c.args.session.now.limits in
+    let old = state g.S.Store c.args.session.now.connection in
+    let new = state g.S.Store c.analyse_paths.new.session.connection in
+    analysed_task_over (g.P.Paths.tells c.args.paths.now) g.L.Layout.format k c.args.task.now old new (replied c.analyse_paths.result) c.in-Analyse.named c.deref-in-Analyse.result.now
+    c.in-Analyse.is c.deref-in-Analyse.ensures.value c.analyse_paths.ensures.over (ap (state g.S.Store) c.analyse_paths.ensures.still)

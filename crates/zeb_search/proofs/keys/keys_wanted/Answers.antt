@@ -6,8 +6,10 @@ use Rattle.zeb_register.specs.Occurring.{key_in}
 use Rattle.zeb_search.specs.PrivateSearchCounts.{NoRows}
 use Rattle.zeb_search.specs.DictRows.{EntryDict, RegisterDict}
 use Rattle.zeb_search.specs.ListRows.{AreKeysOf}
+use Rattle.zeb_search.specs.PrivateMet.{AreMet}
 use Rattle.zeb_search.specs.PrivateTerms.{IsWanted, NamesEntry, StandTogether, TermsRise}
 use Rattle.zeb_search.proofs.SearchCountLemmas.{counted_for, counted_still}
+use Rattle.zeb_search.proofs.MetTerms.{keys_met, named_met}
 use Rattle.zeb_search.proofs.NeighbourLemmas.{found_keys, keys_neighbours}
 use Rattle.zeb_search.proofs.TermLemmas.{keys_are, named_key}
 use Rattle.zeb_search.proofs.keys.keys_wanted.Goals as goal
@@ -30,6 +32,20 @@ returns-clause-value g c clean store content has =
     found_keys content c.args.of c.args.wanted (record { keys = keys; are_neighbours = c.stand_together-are_neighbours.result }) are (λ is.
     let together = subst (StandTogether c.args.wanted) c.deref.ensures.value (c.stand_together-are_neighbours.ensures (subst TermsRise (sym c.deref.ensures.value) all.rising) is) in
     keys_neighbours content c.args.of c.args.wanted terms keys.items all together c.in_ok-keys.ensures)
+
+pub returns-in-Some-clause-met : goal.returns-in-Some-clause-met
+returns-in-Some-clause-met g c clean store =
+    let one : (term : List ℕ) → IsWanted c.args.wanted term ↔ (term ≡ c.in-Some.term) = search rules in
+    let named : NamesEntry c.args.wanted = search rules in
+    let key : Key = key_in c.args.of.index c.args.of.register c.in-Some.term in
+    let keys : c.push.new.self.items ≡ key ∷ [] = c.in_ok-push.ensures.items ∙ ap (λ (l : List Key). l ++ key ∷ []) c.new-keys.ensures.items in
+    let trees = (state g.S.Store c.args.connection.now).now.trees in
+    subst (AreMet g.L.Layout.format trees c.args.of c.args.wanted) (sym keys) (named_met c.args.of c.args.wanted g.L.Layout.format trees c.in-Some.term named one)
+
+pub returns-clause-met : goal.returns-clause-met
+returns-clause-met g c clean store =
+    let unnamed : ¬ NamesEntry c.args.wanted = search rules in
+    keys_met c.args.of c.args.wanted g.L.Layout.format (state g.S.Store c.args.connection.now).now.trees c.in_ok-terms.terms.items c.in_ok-keys.keys.items unnamed (c.in_ok-terms.ensures.told clean store) c.in_ok-keys.ensures
 
 pub returns-in-Some-clause-work : goal.returns-in-Some-clause-work
 returns-in-Some-clause-work g c =

@@ -7,7 +7,9 @@ use Rattle.zeb_register.specs.Content.{posted}
 use Rattle.zeb_register.specs.Occurring.{TermIn}
 use Rattle.zeb_search.specs.PrivateSearchCounts.{NoRows}
 use Rattle.zeb_search.specs.DictRows.{RegisterDict}
+use Rattle.zeb_search.specs.PrivateMet.{HasMet}
 use Rattle.zeb_search.specs.PrivateTerms.{HasWanted, LeadsTo, TermsRise}
+use Rattle.zeb_search.proofs.MetTerms.{HasMetUpTo, met_all, met_last, met_next, met_none, page_told}
 use Rattle.zeb_search.proofs.PageLemmas.{HasUpTo, none_so_far, next_page, last_page, more_of, more_rises, pages_told}
 use Rattle.zeb_search.proofs.ReadLemmas.{one_read, read_still, read_then}
 use Rattle.zeb_search.proofs.SearchCountLemmas.{counted_still, counted_within, if_ok_counted}
@@ -22,6 +24,10 @@ pages-init g c = record {
   found = λ clean store content has.
       subst (λ (l : List TermCount). HasUpTo (posted content c.args.of.db.0) c.args.of.index c.args.of.register c.args.wanted l (string_bytes c.in_ok-start.start)) (sym c.new-terms.ensures.items)
       (none_so_far (posted content c.args.of.db.0) c.args.of.index c.args.of.register c.args.wanted (string_bytes c.in_ok-start.start) c.in_ok-start.ensures);
+  met = λ clean store.
+      subst (λ (l : List TermCount). HasMetUpTo g.L.Layout.format (state g.S.Store c.args.connection.now).now.trees c.args.of.db.0 c.args.of.index c.args.of.register c.args.wanted l (string_bytes c.in_ok-start.start))
+      (sym c.new-terms.ensures.items)
+      (met_none g.L.Layout.format (state g.S.Store c.args.connection.now).now.trees c.args.of.db.0 c.args.of.index c.args.of.register c.args.wanted (string_bytes c.in_ok-start.start) c.in_ok-start.ensures);
   counted = counted_still g.L.Layout.format (λ content n. n ≡ g.L.Layout.row_work * length c.new-terms.result.items) NoRows (state g.S.Store c.args.connection.now) c.args.work.now
       (λ content. omega (arith, ap (λ (l : List TermCount). g.L.Layout.row_work * length l) c.new-terms.ensures.items)) (λ content. refl);
   no_work = λ _. refl;
@@ -46,6 +52,11 @@ pages-preserved g c =
           c.pages.page_terms page c.pages.invariant.found c.in_ok-page.ensures.value clean store content has in
           subst (λ (l : List TermCount). HasUpTo O c.args.of.index c.args.of.register c.args.wanted l (string_bytes c.in-Some.next)) (sym c.in_ok-append.ensures.items)
           (next_page O c.args.of.index c.args.of.register c.args.wanted terms start c.pages.page_terms page c.pages.invariant.some told.0 told.1 c.in-Some.next leads);
+      met = λ clean store.
+          let told = page_told g.L.Layout.format c.args.of.db.0 c.args.of.index c.args.of.register c.args.wanted old now new c.pages.invariant.read c.terms_from.ensures.call.crash terms _ start c.as_str.ensures.value
+          c.pages.page_terms page c.pages.invariant.met c.in_ok-page.ensures.told clean store in
+          subst (λ (l : List TermCount). HasMetUpTo g.L.Layout.format old.now.trees c.args.of.db.0 c.args.of.index c.args.of.register c.args.wanted l (string_bytes c.in-Some.next)) (sym c.in_ok-append.ensures.items)
+          (met_next old store c.args.of.db.0 c.args.of.index c.args.of.register c.args.wanted start c.pages.page_terms c.pages.invariant.some terms page g.L.Layout.format told.0 told.1 c.in-Some.next leads);
       counted = pages_counted g.L.Layout.format g.L.Layout.row_work terms page c.append.new.self.items c.in_ok-append.ensures.items old now new c.args.work.now c.pages.work c.terms_from.new.work
           c.pages.invariant.read c.terms_from.ensures.call.crash c.pages.invariant.counted c.in_ok-page.ensures.work;
       no_work = λ none. c.terms_from.ensures.no_work none ∙ c.pages.invariant.no_work none;
@@ -77,6 +88,21 @@ returns-in-None-clause-value g c clean store content has =
     subst (LeadsTo c.args.wanted page) c.in-None.is (subst (λ (l : List TermCount). LeadsTo c.args.wanted l c.in_ok-next.next) c.deref.ensures.value c.in_ok-next.ensures) in
     subst (HasWanted O c.args.of.index c.args.of.register c.args.wanted) (sym c.in_ok-append.ensures.items)
     (last_page O c.args.of.index c.args.of.register c.args.wanted terms start c.pages.page_terms page c.pages.invariant.some told.0 told.1 ends)
+
+pub returns-in-None-clause-told : goal.returns-in-None-clause-told
+returns-in-None-clause-told g c clean store =
+    let old = state g.S.Store c.args.connection.now in
+    let now = state g.S.Store c.pages.connection in
+    let new = state g.S.Store c.terms_from.new.conn in
+    let page = c.in_ok-page.page.items in
+    let terms = c.pages.terms.items in
+    let start = string_bytes c.pages.start in
+    let told = page_told g.L.Layout.format c.args.of.db.0 c.args.of.index c.args.of.register c.args.wanted old now new c.pages.invariant.read c.terms_from.ensures.call.crash terms _ start c.as_str.ensures.value
+    c.pages.page_terms page c.pages.invariant.met c.in_ok-page.ensures.told clean store in
+    let ends : LeadsTo c.args.wanted page None =
+    subst (LeadsTo c.args.wanted page) c.in-None.is (subst (λ (l : List TermCount). LeadsTo c.args.wanted l c.in_ok-next.next) c.deref.ensures.value c.in_ok-next.ensures) in
+    subst (HasMet g.L.Layout.format old.now.trees c.args.of.db.0 c.args.of.index c.args.of.register c.args.wanted) (sym c.in_ok-append.ensures.items)
+    (met_last old store c.args.of.db.0 c.args.of.index c.args.of.register c.args.wanted start c.pages.page_terms c.pages.invariant.some terms page g.L.Layout.format told.0 told.1 ends)
 
 pub returns-in-None-clause-work : goal.returns-in-None-clause-work
 returns-in-None-clause-work g c =
@@ -115,6 +141,11 @@ returns-in_err-page-clause-refused g c =
 pub returns-then-spans_register-clause-value : goal.returns-then-spans_register-clause-value
 returns-then-spans_register-clause-value g c clean store =
     IfOk-weaker c.terms_of.result _ _ (λ terms are content has. all_has_wanted (posted content c.args.of.db.0) c.args.of.index c.args.of.register c.args.wanted terms.items (are content has)) (c.terms_of.ensures.value clean store)
+
+pub returns-then-spans_register-clause-told : goal.returns-then-spans_register-clause-told
+returns-then-spans_register-clause-told g c clean store =
+    IfOk-weaker c.terms_of.result _ _ (λ terms told. met_all (state g.S.Store c.args.connection.now) store c.args.of.db.0 c.args.of.index c.args.of.register c.args.wanted g.L.Layout.format terms.items told)
+    (c.terms_of.ensures.told clean store)
 
 pub returns-then-spans_register-clause-work : goal.returns-then-spans_register-clause-work
 returns-then-spans_register-clause-work g c =

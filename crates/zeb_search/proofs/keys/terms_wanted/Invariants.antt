@@ -1,9 +1,11 @@
 use Rattle.std.proofs.Common.{◌≡◌, ◌≤◌, ◌*◌, ◌-◌, ◌^◌, length, string_bytes}
 use Rattle.sqlite.specs.Held.{state}
 use Rattle.sqlite.specs.State.{HasCleanDisk}
+use Rattle.zeb_register.specs.Clauses.{OnStore}
 use Rattle.zeb_register.specs.Content.{Content, posted}
 use Rattle.zeb_register.specs.Formats.{holds_in}
 use Rattle.zeb_register.specs.Store.{IsStore}
+use Rattle.zeb_search.proofs.MetTerms.{HasMetUpTo}
 use Rattle.zeb_search.proofs.PageLemmas.{HasUpTo}
 use Rattle.zeb_search.proofs.ReadLemmas.{IsRead}
 use Rattle.zeb_search.specs.SearchCounts.{CountsByContent}
@@ -18,6 +20,7 @@ invariant-pages g l =
       read : IsRead old now;
       found : HasCleanDisk now → IsStore old → (content : Content) → holds_in g.L.Layout.format old.now.trees content
           → HasUpTo (posted content l.fn.of.db.0) l.of.index l.of.register l.wanted l.terms.items (string_bytes l.start);
+      met : OnStore old now (λ trees. HasMetUpTo g.L.Layout.format trees l.fn.of.db.0 l.of.index l.of.register l.wanted l.terms.items (string_bytes l.start));
       counted : CountsByContent g.L.Layout.format (λ content n. n ≡ g.L.Layout.row_work * length l.terms.items) NoRows old now l.fn.work l.work;
       no_work : g.L.Layout.row_work ≡ 0 → l.work ≡ l.fn.work;
       some : 1 ≤ l.page_terms;

@@ -1,15 +1,20 @@
 use Rattle.std.proofs.Common.{rules, ◌≡◌, Err, ap, refl, subst, sym}
+use Rattle.std.proofs.lemmas.Result.{on_ok_weaker}
 use Rattle.sqlite.specs.Held.{state}
+use Rattle.sqlite.specs.Tree.{Trees}
+use Rattle.zeb_register.specs.Clauses.{OnStore}
 use Rattle.zeb_register.specs.Formats.{holds_in}
 use Rattle.zeb_register.specs.declared.RegFault.{RegFault}
 use Rattle.zeb_register.specs.declared.RegFault.TheVariants as fault
 use Rattle.zeb_query.specs.declared.plans.PairPlan.{PairPlan}
-use Rattle.zeb_query.specs.Plans.{PairOf, plan_value}
+use Rattle.zeb_query.specs.Plans.{PairOf, PlanValue, plan_value}
 use Rattle.zeb_search.specs.SearchCounts.{CountsByContent}
 use Rattle.zeb_search.specs.DictRows.{PlanDict}
 use Rattle.zeb_search.specs.ListRows.{PlanRows}
 use Rattle.zeb_search.specs.Registers.{NamesReadable}
+use Rattle.zeb_search.specs.SearchRows.{ArePlanRowsSound}
 use Rattle.zeb_search.proofs.SearchCountLemmas.{counted_then}
+use Rattle.zeb_search.proofs.MetRows.{met_earlier, met_later}
 use Rattle.zeb_search.proofs.ReadLemmas.{as_read, clean_before, still_store, still_trees}
 use Rattle.zeb_search.proofs.ReasonedFaults.{reasoned_error}
 use Rattle.zeb_search.proofs.plans.+hits.Goals as goal
@@ -62,3 +67,23 @@ returns-in_err-right-in-Pair-clause-refused g t c =
     let cause = c.in_err-right-in-Pair.field-0.0 in
     let told : c.from_residual-in_err-right-in-Pair.result ≡ Err cause = search rules in
     reasoned_error old mid new (as_read old mid c.in_ok-left-in-Pair.left c.in_ok-left-in-Pair.ensures.call) c.hits-in-Pair.ensures.call.crash cause c.from_residual-in_err-right-in-Pair.result told c.in_err-right-in-Pair.ensures.refused
+
+pub returns-in-Term-clause-sound : goal.returns-in-Term-clause-sound
+returns-in-Term-clause-sound g t c = rw c.in-Term.is c.term_hits.ensures.sound
+
+pub returns-in-Near-clause-sound : goal.returns-in-Near-clause-sound
+returns-in-Near-clause-sound g t c clean store = rw c.in-Near.is (on_ok_weaker c.near_hits.result (λ sound. sound) (c.near_hits.ensures.sound clean store))
+
+pub returns-in_ok-joined-in-Pair-clause-sound : goal.returns-in_ok-joined-in-Pair-clause-sound
+returns-in_ok-joined-in-Pair-clause-sound g t c =
+    let old = state g.S.Store c.args.connection.now in
+    let mid = state g.S.Store c.hits.new.connection in
+    let new = state g.S.Store c.hits-in-Pair.new.connection in
+    let pair : PairPlan = c.in-Pair.pair.value in
+    let sound : PlanValue → Trees → Type 0 = λ plan trees. ArePlanRowsSound g.L.Layout.format trees c.args.database.0 plan in
+    let crash = c.hits-in-Pair.ensures.call.crash in
+    let of_left = subst (λ (p : PairPlan). OnStore old mid (λ trees. ArePlanRowsSound g.L.Layout.format trees c.args.database.0 (plan_value p.left))) c.deref.ensures c.in_ok-left-in-Pair.ensures.sound in
+    let of_right = subst (λ (p : PairPlan). OnStore mid new (λ trees. ArePlanRowsSound g.L.Layout.format trees c.args.database.0 (plan_value p.right))) c.deref-in-Pair.ensures c.in_ok-right-in-Pair.ensures.sound in
+    let left = met_earlier old mid new (sound (plan_value pair.left)) crash of_left in
+    let right = met_later old mid new (sound (plan_value pair.right)) crash (as_read old mid c.in_ok-left-in-Pair.left c.in_ok-left-in-Pair.ensures.call) of_right in
+    rw c.in-Pair.is (λ clean store. (left clean store, right clean store))

@@ -3,6 +3,7 @@ use Rattle.sqlite.specs.Held.{state}
 use Rattle.zeb_register.specs.Content.{posted}
 use Rattle.zeb_search.specs.PrivateLists.{ArePostings}
 use Rattle.zeb_search.proofs.PlanLemmas.{IsWordAt, near_hits}
+use Rattle.zeb_search.proofs.MetRows.{one_word_met, word_met_behind}
 use Rattle.zeb_search.proofs.ReadLemmas.{as_read, clean_before, told_behind}
 use Rattle.zeb_search.proofs.ReasonedFaults.{reasoned_error}
 use Rattle.zeb_search.proofs.WordCounts.{words_behind, one_word_counted}
@@ -43,3 +44,13 @@ returns-in_err-right-clause-refused g c =
     let cause = c.in_err-right.field-0.0 in
     let told : c.from_residual-in_err-right.result ≡ Err cause = search rules in
     reasoned_error old mid new (as_read old mid c.in_ok-left.left c.in_ok-left.ensures.call) c.places_of_words-2.ensures.call.crash cause c.from_residual-in_err-right.result told c.in_err-right.ensures.refused
+
+pub returns-clause-sound : goal.returns-clause-sound
+returns-clause-sound g c =
+    let old = state g.S.Store c.args.connection.now in
+    let mid = state g.S.Store c.places_of_words.new.connection in
+    let plan = c.args.plan.now in
+    let format = g.L.Layout.format in
+    let db = c.args.database.0 in
+    word_met_behind format db plan.index (plan.left ∷ []) plan.right old mid (state g.S.Store c.places_of_words-2.new.connection) (as_read old mid c.in_ok-left.left c.in_ok-left.ensures.call) c.places_of_words-2.ensures.call.crash
+    (one_word_met format db plan.index plan.left old mid c.in_ok-left.ensures.sound) c.in_ok-right.ensures.sound

@@ -7,6 +7,7 @@ use Rattle.zeb_search.specs.DictRows.{EntryDict, RegisterDict}
 use Rattle.zeb_search.specs.ListRows.{EntryRows}
 use Rattle.zeb_search.proofs.SearchCountLemmas.{counted_for, idle_counted}
 use Rattle.zeb_search.proofs.DictCounts.{unnamed}
+use Rattle.zeb_search.proofs.MetRows.{on_ok_anyway}
 use Rattle.zeb_search.proofs.PlanLemmas.{no_pattern, no_start}
 use Rattle.zeb_search.proofs.plans.term_hits.Goals as goal
 
@@ -68,3 +69,33 @@ returns-in-AnyWord-clause-work g c = rw (c.in-AnyWord.is, ← c.as_slice-in-AnyW
 
 pub returns-in-RecordNumber-clause-honest : goal.returns-in-RecordNumber-clause-honest
 returns-in-RecordNumber-clause-honest g c clean store told readable content storable has = c.record_hits.ensures.honest clean store told (rw c.in-RecordNumber.is at readable)
+
+pub returns-in-RecordNumber-clause-sound : goal.returns-in-RecordNumber-clause-sound
+returns-in-RecordNumber-clause-sound g c = rw c.in-RecordNumber.is (λ clean store. on_ok_anyway c.record_hits.result)
+
+pub returns-in-None-clause-sound : goal.returns-in-None-clause-sound
+returns-in-None-clause-sound g c = rw (c.in-Ordered.is, c.in-None.is) (λ clean store. tt)
+
+pub returns-in-None-pattern-clause-sound : goal.returns-in-None-pattern-clause-sound
+returns-in-None-pattern-clause-sound g c = rw (c.in-Complete.is, c.in-None-pattern.is) (λ clean store. tt)
+
+pub returns-in-Always-clause-sound : goal.returns-in-Always-clause-sound
+returns-in-Always-clause-sound g c = rw c.in-Always.is c.numbers_wanted.ensures.sound
+
+pub returns-in-Number-clause-sound : goal.returns-in-Number-clause-sound
+returns-in-Number-clause-sound g c = rw c.in-Number.is c.numbers_wanted-in-Number.ensures.sound
+
+pub returns-in-Some-clause-sound : goal.returns-in-Some-clause-sound
+returns-in-Some-clause-sound g c = rw (c.in-Ordered.is, c.in-Some.is, ← c.as_str.ensures.value) c.numbers_wanted-in-Some.ensures.sound
+
+pub returns-in-Some-pattern-clause-sound : goal.returns-in-Some-pattern-clause-sound
+returns-in-Some-pattern-clause-sound g c = rw (c.in-Complete.is, c.in-Some-pattern.is) c.numbers_wanted-in-Some-pattern.ensures.sound
+
+pub returns-in-Phrase-clause-sound : goal.returns-in-Phrase-clause-sound
+returns-in-Phrase-clause-sound g c = rw (c.in-Phrase.is, ← c.as_slice.ensures.value) c.phrase_hits.ensures.sound
+
+pub returns-in-AllWords-clause-sound : goal.returns-in-AllWords-clause-sound
+returns-in-AllWords-clause-sound g c = rw (c.in-AllWords.is, ← c.as_slice-in-AllWords.ensures.value) c.all_words_hits.ensures.sound
+
+pub returns-in-AnyWord-clause-sound : goal.returns-in-AnyWord-clause-sound
+returns-in-AnyWord-clause-sound g c = rw (c.in-AnyWord.is, ← c.as_slice-in-AnyWord.ensures.value) c.any_word_hits.ensures.sound

@@ -8,8 +8,10 @@ use Rattle.zeb_register.specs.Content.{Posting}
 use Rattle.zeb_register.specs.Formats.{holds_in}
 use Rattle.zeb_search.specs.SearchCounts.{CountsAtMost}
 use Rattle.zeb_search.specs.ListRows.{rows_under}
+use Rattle.zeb_search.specs.PrivateMet.{AreKeyListsSound, AreKeysIn}
 use Rattle.zeb_search.specs.PrivateTerms.{AreRun, IsPostingOf}
 use Rattle.zeb_search.proofs.SearchCountLemmas.{counts_still, counts_then}
+use Rattle.zeb_search.proofs.MetTerms.{more_sound, part_in_order, told_of_store}
 use Rattle.zeb_search.proofs.ReadLemmas.{as_read, clean_before, read_still, read_then, still_store, still_trees, told_behind}
 use Rattle.zeb_search.proofs.ReasonedFaults.{reasoned_error}
 use Rattle.zeb_search.proofs.RunLemmas.{listed_more, part_run}
@@ -23,6 +25,7 @@ loop-left-init g c = record {
     sym c.as_slice-left.ensures.value,
     λ clean store content has are p. subst (λ (l : List Posting). Has l p ↔ IsPostingOf content c.args.of.db.0 [] p) (sym c.new-postings.ensures.items) (λ h. absurd h, λ h. absurd h.1),
     λ clean store content has are. counts_still c.args.work.now,
+    λ clean store are key here. absurd here,
   );
   no_work = λ _. refl;
 }
@@ -62,6 +65,10 @@ loop-left-preserved g c =
             let here = c.in_ok-list.ensures.work clean (still_store old now read first store) content there (part_run content of found done run behind whole joined are) in
             subst (λ n. CountsAtMost 0 n c.args.work.now c.list_of_run.new.work) (sym (sum_by-append (λ (key : Key). rows (content of.db.0 key)) done run))
             (counts_then 0 0 (rows_under rows content of.db.0 done) (rows_under rows content of.db.0 run) c.args.work.now c.loop-left.work c.list_of_run.new.work (c.loop-left.invariant.done.3 first store content has are) here),
+        λ clean store are.
+            let first = clean_before now new crash clean in
+            let here = told_of_store old now new (λ trees. AreKeysIn of run → AreKeyListsSound format trees of.db.0 run) read crash c.in_ok-list.ensures.spelled clean store (part_in_order of found.keys.items done run behind whole are) in
+            more_sound format old.now.trees of.db.0 done run (c.loop-left.invariant.done.4 first store are) here,
       );
       no_work = λ none. c.list_of_run.ensures.no_work none ∙ c.loop-left.invariant.no_work none;
     }
@@ -72,6 +79,13 @@ returns-clause-value g c clean store content has are =
     let none = nil_from_length c.loop-left.left.now (search rules) in
     let whole : c.args.found.now.keys.items ≡ done = c.loop-left.invariant.done.1 ∙ ap (λ (l : List Key). done ++ l) none ∙ append-nil done in
     subst (λ (l : List Key). (p : Posting) → Has c.loop-left.postings.items p ↔ IsPostingOf content c.args.of.db.0 l p) (sym whole) (c.loop-left.invariant.done.2 clean store content has are)
+
+pub returns-clause-spelled : goal.returns-clause-spelled
+returns-clause-spelled g c clean store are =
+    let done = c.loop-left.invariant.done.0 in
+    let none = nil_from_length c.loop-left.left.now (search rules) in
+    let whole : c.args.found.now.keys.items ≡ done = c.loop-left.invariant.done.1 ∙ ap (λ (l : List Key). done ++ l) none ∙ append-nil done in
+    subst (AreKeyListsSound g.L.Layout.format (state g.S.Store c.args.connection.now).now.trees c.args.of.db.0) (sym whole) (c.loop-left.invariant.done.4 clean store are)
 
 pub returns-clause-work : goal.returns-clause-work
 returns-clause-work g c clean store content has are =

@@ -9,6 +9,7 @@ use Rattle.zeb_register.specs.Formats.{holds_in}
 use Rattle.zeb_register.specs.Store.{IsStore}
 use Rattle.zeb_search.specs.SearchCounts.{CountsAtMost}
 use Rattle.zeb_search.specs.ListRows.{rows_under}
+use Rattle.zeb_search.specs.PrivateMet.{AreKeyListsSound, AreKeysIn}
 use Rattle.zeb_search.specs.PrivateTerms.{AreFound, IsPostingOf}
 use Rattle.zeb_search.proofs.ReadLemmas.{IsRead}
 use Rattle.zeb_search.proofs.postings.list_found.Given as goal
@@ -23,7 +24,8 @@ invariant-loop-left g l =
           × (HasCleanDisk now → IsStore old → (content : Content) → holds_in g.L.Layout.format old.now.trees content → AreFound content l.of l.found
           → (p : Posting) → Has l.postings.items p ↔ IsPostingOf content l.of.db.0 done p)
           × OnStore old now (λ trees. (content : Content) → holds_in g.L.Layout.format trees content → AreFound content l.of l.found
-          → CountsAtMost 0 (rows_under g.L.Layout.block_rows content l.of.db.0 done) l.fn.work l.work);
+          → CountsAtMost 0 (rows_under g.L.Layout.block_rows content l.of.db.0 done) l.fn.work l.work)
+          × OnStore old now (λ trees. AreKeysIn l.of l.found.keys.items → AreKeyListsSound g.L.Layout.format trees l.of.db.0 done);
       no_work : g.L.Layout.row_work ≡ 0 → l.work ≡ l.fn.work;
     }
 

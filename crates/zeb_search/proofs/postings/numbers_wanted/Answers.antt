@@ -4,7 +4,9 @@ use Rattle.zeb_search.specs.DictRows.{EntryDict}
 use Rattle.sqlite_rules.specs.Lists.{Has}
 use Rattle.zeb_register.specs.Content.{Posting}
 use Rattle.zeb_search.specs.Lists.{AreNumbers}
+use Rattle.zeb_search.specs.PrivateMet.{AreKeyListsSound, AreKeysIn}
 use Rattle.zeb_search.specs.PrivateTerms.{AreFound, HasPosting, IsPostingOf, IsWanted, NamesEntry}
+use Rattle.zeb_search.proofs.MetTerms.{entries_sound, told_of_store}
 use Rattle.zeb_search.proofs.NeighbourLemmas.{found_counted}
 use Rattle.zeb_search.proofs.PostingLemmas.{entry_numbers}
 use Rattle.zeb_search.proofs.ReadLemmas.{as_read, clean_before, told_behind}
@@ -27,6 +29,19 @@ returns-clause-value g c clean store content has =
     let numbers = c.in_ok-numbers_among.field-0.items in
     let are = subst (λ (l : List Posting). AreNumbers (HasPosting l) numbers) c.deref.ensures.value c.in_ok-numbers_among.ensures in
     entry_numbers content db c.args.of.index c.args.of.register (IsWanted c.args.wanted) keys known.0 postings numbers list are
+
+pub returns-clause-sound : goal.returns-clause-sound
+returns-clause-sound g c clean store =
+    let old = state g.S.Store c.args.connection.now in
+    let mid = state g.S.Store c.keys_wanted.new.connection in
+    let new = state g.S.Store c.list_found.new.connection in
+    let format = g.L.Layout.format in
+    let of = c.args.of in
+    let keys = c.in_ok-found.found.keys.items in
+    let read = as_read old mid c.in_ok-found.found c.in_ok-found.ensures.call in
+    let first = clean_before mid new c.list_found.ensures.call.crash clean in
+    let lists = told_of_store old mid new (λ trees. AreKeysIn of keys → AreKeyListsSound format trees of.db.0 keys) read c.list_found.ensures.call.crash c.in_ok-list.ensures.spelled clean store in
+    entries_sound of c.args.wanted format old.now.trees keys (c.in_ok-found.ensures.met first store) lists
 
 pub returns-clause-work : goal.returns-clause-work
 returns-clause-work g c =

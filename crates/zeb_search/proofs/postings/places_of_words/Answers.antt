@@ -1,17 +1,21 @@
-use Rattle.std.proofs.Common.{rules, ◌≡◌, ◌∙◌, Err, length, sym, subst}
+use Rattle.std.proofs.Common.{rules, ◌≡◌, ◌∙◌, Err, OnOk, length, sym, subst}
 use Rattle.std.proofs.lemmas.Result.{IfOk-weaker, on_ok_weaker}
 use Rattle.sqlite.specs.Held.{state}
 use Rattle.sqlite_rules.specs.Lists.{Has}
 use Rattle.zeb_keys.specs.declared.Register.TheVariants as register
 use Rattle.zeb_register.specs.Formats.{holds_in}
+use Rattle.zeb_register.specs.Sound.{IsListSound}
 use Rattle.zeb_register.specs.declared.registers.RegisterOf.{RegisterOf}
 use Rattle.zeb_search.proofs.JustLemmas.{just_same}
 use Rattle.zeb_search.proofs.OneKey.{one_counted, one_told}
+use Rattle.zeb_search.proofs.MetTerms.{entries_sound, one_sound, told_of_store}
 use Rattle.zeb_search.proofs.PostingLemmas.{word_places}
 use Rattle.zeb_search.proofs.ReadLemmas.{as_read, clean_before, still_store, still_trees}
 use Rattle.zeb_search.specs.SearchCounts.{HasNoStar}
 use Rattle.zeb_search.specs.DictRows.{EntryDict}
 use Rattle.zeb_search.specs.Holds.{Fits}
+use Rattle.zeb_search.specs.declared.terms.Wanted.TheVariants as wanted
+use Rattle.zeb_search.specs.PrivateMet.{AreKeyListsSound, AreKeysIn}
 use Rattle.zeb_search.specs.PrivateTerms.{AreFound, IsPostingOf}
 use Rattle.zeb_search.proofs.NeighbourLemmas.{each_counted, found_counted}
 use Rattle.zeb_search.proofs.ReasonedFaults.{reasoned_behind, reasoned_error}
@@ -46,6 +50,35 @@ returns-clause-value g c clean store content has =
     let has_list = c.in_ok-list.ensures.value clean (still_store old mid read first store) content there known.1 in
     word_places content db c.args.of.index c.args.pattern.now keys known.0 c.postings_in_order.result.items
     (just_same (Has c.in_ok-list.list.items) (IsPostingOf content db keys) c.postings_in_order.result.items has_list c.postings_in_order.ensures)
+
+pub returns-then-len-eq1-clause-sound : goal.returns-then-len-eq1-clause-sound
+returns-then-len-eq1-clause-sound g c clean store =
+    let old = state g.S.Store c.args.connection.now in
+    let mid = state g.S.Store c.keys_wanted.new.connection in
+    let new = state g.S.Store c.key_list.new.conn in
+    let format = g.L.Layout.format in
+    let of : RegisterOf = record { db = c.args.of.db; index = c.args.of.index; register = register.Word } in
+    let keys = c.in_ok-found.found.keys.items in
+    let one : length keys ≡ 1 = sym c.in_ok-found.found.keys.ok.0 ∙ sym c.len.ensures ∙ c.if-len-eq1.true in
+    let read = as_read old mid c.in_ok-found.found c.in_ok-found.ensures.call in
+    let first = clean_before mid new c.key_list.ensures.call.crash clean in
+    on_ok_weaker c.key_list.result
+    (λ sound. entries_sound of (wanted.Matching c.args.pattern) format old.now.trees keys (c.in_ok-found.ensures.met first store)
+    (λ are. one_sound format old.now.trees of.db.0 keys c.index.result.now one c.index.ensures sound))
+    (told_of_store old mid new (λ trees. OnOk c.key_list.result (IsListSound format trees of.db.0 c.index.result.now)) read c.key_list.ensures.call.crash c.key_list.ensures.spelled clean store)
+
+pub returns-clause-sound : goal.returns-clause-sound
+returns-clause-sound g c clean store =
+    let old = state g.S.Store c.args.connection.now in
+    let mid = state g.S.Store c.keys_wanted.new.connection in
+    let new = state g.S.Store c.list_found.new.connection in
+    let format = g.L.Layout.format in
+    let of : RegisterOf = record { db = c.args.of.db; index = c.args.of.index; register = register.Word } in
+    let keys = c.in_ok-found.found.keys.items in
+    let read = as_read old mid c.in_ok-found.found c.in_ok-found.ensures.call in
+    let first = clean_before mid new c.list_found.ensures.call.crash clean in
+    let lists = told_of_store old mid new (λ trees. AreKeysIn of keys → AreKeyListsSound format trees of.db.0 keys) read c.list_found.ensures.call.crash c.in_ok-list.ensures.spelled clean store in
+    entries_sound of (wanted.Matching c.args.pattern) format old.now.trees keys (c.in_ok-found.ensures.met first store) lists
 
 pub returns-then-len-eq1-clause-work : goal.returns-then-len-eq1-clause-work
 returns-then-len-eq1-clause-work g c =

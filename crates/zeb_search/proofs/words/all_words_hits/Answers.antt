@@ -8,7 +8,8 @@ use Rattle.zeb_text.specs.Symbols.{Symbol}
 use Rattle.zeb_search.specs.Holds.{HasMatch}
 use Rattle.zeb_search.specs.Lists.{AreNumbers}
 use Rattle.zeb_search.proofs.JustLemmas.{joined_numbers}
-use Rattle.zeb_search.proofs.PlanLemmas.{EachMatches, each_matches_more, each_matches_none, each_matches_whole, none_found}
+use Rattle.zeb_search.proofs.PlanLemmas.{EachMatches, each_matches_more, each_matches_none, each_matches_whole, no_patterns, none_found}
+use Rattle.zeb_search.proofs.MetRows.{MetWords, no_word_met, one_word_met, word_met_behind}
 use Rattle.zeb_search.proofs.ReadLemmas.{as_read, clean_before, read_then, told_behind}
 use Rattle.zeb_search.proofs.ReasonedFaults.{reasoned_error}
 use Rattle.zeb_search.proofs.WordCounts.{words_behind, one_word_counted}
@@ -35,6 +36,13 @@ loop-other-init g c = record {
       let new = state g.S.Store c.word_hits.new.connection in
       subst (λ (p : List Symbol). CountedWords g.L.Layout.format g.L.Layout.row_work g.L.Layout.block_rows c.args.of.db.0 c.args.of.index (p ∷ []) old new c.args.work.now c.word_hits.new.work) same
       (one_word_counted g.L.Layout.format g.L.Layout.row_work g.L.Layout.block_rows c.args.of.db.0 c.args.of.index pattern old new c.args.work.now c.word_hits.new.work c.in_ok-hits.ensures.work);
+  sound = λ first is.
+      let pattern = c.in-Some.pattern.now in
+      let same : pattern ≡ first = (let e : pattern ∷ c.in-Some.others.now ≡ first ∷ c.in-Some.others.now = sym c.in-Some.ensures.cases.0 ∙ is in cc) in
+      let old = state g.S.Store c.args.connection.now in
+      let new = state g.S.Store c.word_hits.new.connection in
+      subst (λ (p : List Symbol). MetWords g.L.Layout.format c.args.of.db.0 c.args.of.index (p ∷ []) old new) same
+      (one_word_met g.L.Layout.format c.args.of.db.0 c.args.of.index pattern old new c.in_ok-hits.ensures.sound);
   no_work = c.word_hits.ensures.no_work;
 }
 
@@ -68,6 +76,10 @@ loop-other-preserved g c =
           subst (λ (l : List (List Symbol)). CountedWords g.L.Layout.format g.L.Layout.row_work g.L.Layout.block_rows c.args.of.db.0 c.args.of.index (first ∷ l) old new c.args.work.now c.word_hits-in-loop-other.new.work) (sym more)
           (words_behind g.L.Layout.format g.L.Layout.row_work g.L.Layout.block_rows c.args.of.db.0 c.args.of.index (first ∷ take index others) pattern old now new c.args.work.now c.loop-other.work c.word_hits-in-loop-other.new.work
           c.loop-other.invariant.read c.word_hits-in-loop-other.ensures.call.crash (c.loop-other.invariant.counted first is) c.in_ok-found.ensures.work);
+      sound = λ first is.
+          subst (λ (l : List (List Symbol)). MetWords g.L.Layout.format c.args.of.db.0 c.args.of.index (first ∷ l) old new) (sym more)
+          (word_met_behind g.L.Layout.format c.args.of.db.0 c.args.of.index (first ∷ take index others) pattern old now new c.loop-other.invariant.read c.word_hits-in-loop-other.ensures.call.crash
+          (c.loop-other.invariant.sound first is) c.in_ok-found.ensures.sound);
       no_work = λ none. c.word_hits-in-loop-other.ensures.no_work none ∙ c.loop-other.invariant.no_work none;
     }
 
@@ -97,3 +109,18 @@ returns-in_err-found-clause-refused g c =
     let cause = c.in_err-found.field-0.0 in
     let told : c.from_residual-in_err-found.result ≡ Err cause = search rules in
     reasoned_error old now new c.loop-other.invariant.read c.word_hits-in-loop-other.ensures.call.crash cause c.from_residual-in_err-found.result told c.in_err-found.ensures.refused
+
+pub returns-clause-sound : goal.returns-clause-sound
+returns-clause-sound g c =
+    let first = c.loop-other.invariant.found.0 in
+    let others = c.in-Some.others.now in
+    let whole = take_whole others c.loop-other.other-index (omega (arith, c.loop-other-test.false)) in
+    let all : first ∷ take c.loop-other.other-index others ≡ c.args.patterns.now = ap (λ (l : List (List Symbol)). first ∷ l) whole ∙ sym c.loop-other.invariant.found.1 in
+    subst (λ (l : List (List Symbol)). MetWords g.L.Layout.format c.args.of.db.0 c.args.of.index l (state g.S.Store c.args.connection.now) (state g.S.Store c.loop-other.connection))
+    all (c.loop-other.invariant.sound first c.loop-other.invariant.found.1)
+
+pub returns-in_default-clause-sound : goal.returns-in_default-clause-sound
+returns-in_default-clause-sound g c =
+    let old = state g.S.Store c.args.connection.now in
+    subst (λ (l : List (List Symbol)). MetWords g.L.Layout.format c.args.of.db.0 c.args.of.index l old old) (sym (no_patterns c.args.patterns.now c.in_default.ensures.cases))
+    (no_word_met g.L.Layout.format c.args.of.db.0 c.args.of.index old old)

@@ -8,6 +8,7 @@ use Rattle.zeb_text.specs.Symbols.{Symbol}
 use Rattle.zeb_search.specs.Holds.{HasMatch}
 use Rattle.zeb_search.specs.Lists.{AreNumbers}
 use Rattle.zeb_search.proofs.PlanLemmas.{EachMatches}
+use Rattle.zeb_search.proofs.MetRows.{MetWords}
 use Rattle.zeb_search.proofs.ReadLemmas.{IsRead}
 use Rattle.zeb_search.specs.PrivateWordCounts.{CountedWords}
 use Rattle.zeb_search.proofs.words.all_words_hits.Given as goal
@@ -23,5 +24,7 @@ invariant-loop-other g l =
           → AreNumbers (λ n. EachMatches (posted content l.fn.of.db.0) l.of.index (take l.other-index l.others) n × HasMatch (posted content l.fn.of.db.0) l.of.index first n) l.hits.items);
       counted : (first : List Symbol) → l.fn.patterns ≡ first ∷ l.others
           → CountedWords g.L.Layout.format g.L.Layout.row_work g.L.Layout.block_rows l.fn.of.db.0 l.of.index (first ∷ take l.other-index l.others) old now l.fn.work l.work;
+      sound : (first : List Symbol) → l.fn.patterns ≡ first ∷ l.others
+          → MetWords g.L.Layout.format l.fn.of.db.0 l.of.index (first ∷ take l.other-index l.others) old now;
       no_work : g.L.Layout.row_work ≡ 0 → l.work ≡ l.fn.work;
     }

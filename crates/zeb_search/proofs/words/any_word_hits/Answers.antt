@@ -9,6 +9,7 @@ use Rattle.zeb_search.specs.Holds.{HasMatch}
 use Rattle.zeb_search.specs.Lists.{AreNumbers}
 use Rattle.zeb_search.proofs.JustLemmas.{joined_numbers, just_none}
 use Rattle.zeb_search.proofs.PlanLemmas.{SomeMatch, some_match_more}
+use Rattle.zeb_search.proofs.MetRows.{MetWords, no_word_met, word_met_behind}
 use Rattle.zeb_search.proofs.ReadLemmas.{as_read, clean_before, read_still, read_then, told_behind}
 use Rattle.zeb_search.proofs.ReasonedFaults.{reasoned_error}
 use Rattle.zeb_search.proofs.WordCounts.{words_behind, no_words_counted}
@@ -22,6 +23,7 @@ loop-pattern-init g c = record {
       subst (AreNumbers (SomeMatch (posted content c.args.of.db.0) c.args.of.index [])) (sym c.new-hits.ensures.items)
       (just_none (SomeMatch (posted content c.args.of.db.0) c.args.of.index []) (λ n h. h.1));
   counted = no_words_counted g.L.Layout.format g.L.Layout.row_work g.L.Layout.block_rows c.args.of.db.0 c.args.of.index (state g.S.Store c.args.connection.now) c.args.work.now;
+  sound = no_word_met g.L.Layout.format c.args.of.db.0 c.args.of.index (state g.S.Store c.args.connection.now) (state g.S.Store c.args.connection.now);
   no_work = λ _. refl;
 }
 
@@ -49,6 +51,8 @@ loop-pattern-preserved g c =
       counted = subst (λ (l : List (List Symbol)). CountedWords g.L.Layout.format g.L.Layout.row_work g.L.Layout.block_rows c.args.of.db.0 c.args.of.index l old new c.args.work.now c.word_hits.new.work) (sym more)
           (words_behind g.L.Layout.format g.L.Layout.row_work g.L.Layout.block_rows c.args.of.db.0 c.args.of.index (take index patterns) pattern old now new c.args.work.now c.loop-pattern.work c.word_hits.new.work
           c.loop-pattern.invariant.read c.word_hits.ensures.call.crash c.loop-pattern.invariant.counted c.in_ok-found.ensures.work);
+      sound = subst (λ (l : List (List Symbol)). MetWords g.L.Layout.format c.args.of.db.0 c.args.of.index l old new) (sym more)
+          (word_met_behind g.L.Layout.format c.args.of.db.0 c.args.of.index (take index patterns) pattern old now new c.loop-pattern.invariant.read c.word_hits.ensures.call.crash c.loop-pattern.invariant.sound c.in_ok-found.ensures.sound);
       no_work = λ none. c.word_hits.ensures.no_work none ∙ c.loop-pattern.invariant.no_work none;
     }
 
@@ -71,3 +75,8 @@ returns-in_err-found-clause-refused g c =
     let cause = c.in_err-found.field-0.0 in
     let told : c.from_residual.result ≡ Err cause = search rules in
     reasoned_error old now new c.loop-pattern.invariant.read c.word_hits.ensures.call.crash cause c.from_residual.result told c.in_err-found.ensures.refused
+
+pub returns-clause-sound : goal.returns-clause-sound
+returns-clause-sound g c =
+    let whole = take_whole c.args.patterns.now c.loop-pattern.pattern-index (omega (arith, c.loop-pattern-test.false)) in
+    subst (λ (l : List (List Symbol)). MetWords g.L.Layout.format c.args.of.db.0 c.args.of.index l (state g.S.Store c.args.connection.now) (state g.S.Store c.loop-pattern.connection)) whole c.loop-pattern.invariant.sound

@@ -7,9 +7,11 @@ use Rattle.zeb_register.specs.Content.{posted, posting_cmp, Posting}
 use Rattle.zeb_search.specs.Holds.{HasPhrase}
 use Rattle.zeb_search.specs.Lists.{AreNumbers}
 use Rattle.zeb_search.specs.PrivateTerms.{HasPosting}
+use Rattle.zeb_search.specs.SearchRows.{AreWordsSound}
 use Rattle.zeb_search.proofs.PlanLemmas.{IsStart, first_phrase_hits, firsts_rise, one_word_hits, phrase_hits}
 use Rattle.zeb_search.proofs.OneKey.{one_alone}
 use Rattle.zeb_search.proofs.PostingLemmas.{numbers_told}
+use Rattle.zeb_search.proofs.MetRows.{one_word_sound}
 use Rattle.zeb_search.proofs.WordCounts.{one_word_counted}
 use Rattle.zeb_search.specs.PrivateWordCounts.{CountedWords}
 use Rattle.zeb_search.proofs.words.phrase_hits.Goals as goal
@@ -63,3 +65,14 @@ returns-in-len1-false-clause-work g c =
     on_ok_weaker c.word_hits.result (λ counted.
     subst (λ (l : List (List Symbol)). CountedWords g.L.Layout.format g.L.Layout.row_work g.L.Layout.block_rows c.args.of.db.0 c.args.of.index l old new c.args.work.now c.word_hits.new.work) (sym alone)
     (one_word_counted g.L.Layout.format g.L.Layout.row_work g.L.Layout.block_rows c.args.of.db.0 c.args.of.index pattern old new c.args.work.now c.word_hits.new.work counted)) c.word_hits.ensures.work
+
+pub returns-in-len1-false-clause-sound : goal.returns-in-len1-false-clause-sound
+returns-in-len1-false-clause-sound g c clean store =
+    let pattern = c.pattern-item.result in
+    let patterns = c.args.patterns.now in
+    let one : length patterns ≡ 1 = omega (arith, c.in-len1-false.len_at_least, c.in-len1-false.len_below) in
+    let alone = one_alone patterns pattern one c.pattern-item.is in
+    let old = state g.S.Store c.args.connection.now in
+    on_ok_weaker c.word_hits.result (λ sound.
+    subst (λ (l : List (List Symbol)). AreWordsSound g.L.Layout.format old.now.trees c.args.of.db.0 c.args.of.index l) (sym alone)
+    (one_word_sound g.L.Layout.format c.args.of.db.0 c.args.of.index old.now.trees pattern sound)) (c.word_hits.ensures.sound clean store)

@@ -5,6 +5,7 @@ use Rattle.zeb_register.specs.Content.{posted}
 use Rattle.zeb_text.specs.Symbols.{Symbol}
 use Rattle.zeb_search.specs.PrivateLists.{ArePostings}
 use Rattle.zeb_search.proofs.PlanLemmas.{AreWordsAt, IsWordAt, none_found, some_patterns, word_before, IsStart, no_patterns, one_word}
+use Rattle.zeb_search.proofs.MetRows.{MetWords, no_word_met, one_word_met, word_met_before}
 use Rattle.zeb_search.proofs.ReadLemmas.{as_read, clean_before, read_then, told_behind}
 use Rattle.zeb_search.proofs.JustLemmas.{just_same}
 use Rattle.zeb_search.proofs.ReasonedFaults.{reasoned_error}
@@ -46,6 +47,11 @@ loop-pattern-preserved g c =
           subst (λ (l : List (List Symbol)). CountedWords g.L.Layout.format g.L.Layout.row_work g.L.Layout.block_rows c.args.of.db.0 c.args.of.index l old new c.args.work.now c.places_of_words-in-Some-split_last.new.work) same
           (words_before g.L.Layout.format g.L.Layout.row_work g.L.Layout.block_rows c.args.of.db.0 c.args.of.index rest pattern old now new c.args.work.now c.loop-pattern.work c.places_of_words-in-Some-split_last.new.work
           c.loop-pattern.invariant.read c.places_of_words-in-Some-split_last.ensures.call.crash (c.loop-pattern.invariant.counted rest c.loop-pattern.invariant.behind.2) c.in_ok-starts.ensures.work);
+      sound = λ behind is.
+          let same : pattern ∷ rest ≡ behind = append_cancel_left before (pattern ∷ rest) behind (sym joined ∙ is) in
+          subst (λ (l : List (List Symbol)). MetWords g.L.Layout.format c.args.of.db.0 c.args.of.index l old new) same
+          (word_met_before g.L.Layout.format c.args.of.db.0 c.args.of.index rest pattern old now new c.loop-pattern.invariant.read c.places_of_words-in-Some-split_last.ensures.call.crash
+          (c.loop-pattern.invariant.sound rest c.loop-pattern.invariant.behind.2) c.in_ok-starts.ensures.sound);
       no_work = λ none. c.places_of_words-in-Some-split_last.ensures.no_work none ∙ c.loop-pattern.invariant.no_work none;
     }
 
@@ -67,6 +73,10 @@ loop-pattern-init g c =
           let same : last ∷ [] ≡ behind = append_cancel_left others (last ∷ []) behind (sym c.in-Some.ensures.cases.0 ∙ is) in
           subst (λ (l : List (List Symbol)). CountedWords g.L.Layout.format g.L.Layout.row_work g.L.Layout.block_rows c.args.of.db.0 c.args.of.index l old new c.args.work.now c.places_of_words.new.work) same
           (one_word_counted g.L.Layout.format g.L.Layout.row_work g.L.Layout.block_rows c.args.of.db.0 c.args.of.index last old new c.args.work.now c.places_of_words.new.work c.in_ok-places.ensures.work);
+      sound = λ behind is.
+          let same : last ∷ [] ≡ behind = append_cancel_left others (last ∷ []) behind (sym c.in-Some.ensures.cases.0 ∙ is) in
+          subst (λ (l : List (List Symbol)). MetWords g.L.Layout.format c.args.of.db.0 c.args.of.index l old new) same
+          (one_word_met g.L.Layout.format c.args.of.db.0 c.args.of.index last old new c.in_ok-places.ensures.sound);
       no_work = c.places_of_words.ensures.no_work;
     }
 
@@ -96,3 +106,17 @@ returns-in_err-starts-clause-refused g c =
     let cause = c.in_err-starts.field-0.0 in
     let told : c.from_residual-in_err-starts.result ≡ Err cause = search rules in
     reasoned_error old now new c.loop-pattern.invariant.read c.places_of_words-in-Some-split_last.ensures.call.crash cause c.from_residual-in_err-starts.result told c.in_err-starts.ensures.refused
+
+pub returns-clause-sound : goal.returns-clause-sound
+returns-clause-sound g c =
+    let rest = c.loop-pattern.invariant.behind.0 in
+    let whole : c.args.patterns.now ≡ rest =
+    c.loop-pattern.invariant.behind.2 ∙ ap (λ (l : List (List Symbol)). l ++ rest) (no_patterns c.loop-pattern.others.now c.in_default-split_last.ensures.cases) in
+    subst (λ (l : List (List Symbol)). MetWords g.L.Layout.format c.args.of.db.0 c.args.of.index l (state g.S.Store c.args.connection.now) (state g.S.Store c.loop-pattern.connection))
+    (sym whole) (c.loop-pattern.invariant.sound rest c.loop-pattern.invariant.behind.2)
+
+pub returns-in_default-clause-sound : goal.returns-in_default-clause-sound
+returns-in_default-clause-sound g c =
+    let old = state g.S.Store c.args.connection.now in
+    subst (λ (l : List (List Symbol)). MetWords g.L.Layout.format c.args.of.db.0 c.args.of.index l old old) (sym (no_patterns c.args.patterns.now c.in_default.ensures.cases))
+    (no_word_met g.L.Layout.format c.args.of.db.0 c.args.of.index old old)

@@ -7,6 +7,7 @@ use Rattle.zeb_register.specs.Store.{IsStore}
 use Rattle.zeb_text.specs.Symbols.{Symbol}
 use Rattle.zeb_search.specs.PrivateLists.{ArePostings}
 use Rattle.zeb_search.proofs.PlanLemmas.{AreWordsAt}
+use Rattle.zeb_search.proofs.MetRows.{MetWords}
 use Rattle.zeb_search.proofs.ReadLemmas.{IsRead}
 use Rattle.zeb_search.specs.PrivateWordCounts.{CountedWords}
 use Rattle.zeb_search.proofs.words.places_of_phrase.Given as goal
@@ -22,6 +23,7 @@ invariant-loop-pattern g l =
           → ArePostings (AreWordsAt (posted content l.fn.of.db.0) l.of.index rest) l.places.items);
       counted : (rest : List (List Symbol)) → l.fn.patterns ≡ l.others ++ rest
           → CountedWords g.L.Layout.format g.L.Layout.row_work g.L.Layout.block_rows l.fn.of.db.0 l.of.index rest old now l.fn.work l.work;
+      sound : (rest : List (List Symbol)) → l.fn.patterns ≡ l.others ++ rest → MetWords g.L.Layout.format l.fn.of.db.0 l.of.index rest old now;
       no_work : g.L.Layout.row_work ≡ 0 → l.work ≡ l.fn.work;
     }
 

@@ -1,4 +1,4 @@
-use Rattle.std.proofs.Common.{◌≡◌, [], Err, IsErrAnd, ap, inl, inr, refl, rules, arith, sym, subst}
+use Rattle.std.proofs.Common.{◌≡◌, [], Err, OnOk, IsErrAnd, ap, inl, inr, refl, rules, arith, sym, subst}
 use Rattle.sqlite.specs.Held.{state}
 use Rattle.sqlite.specs.State.{HasCleanDisk}
 use Rattle.zeb_change.specs.Conditions.{conditions}
@@ -20,7 +20,7 @@ use Rattle.zeb_engine.specs.Costs.{Costs, no_work}
 use Rattle.zeb_register.proofs.Causes.{may_after}
 use Rattle.zeb_change.specs.declared.refusals.Refusal.TheVariants.{Store}
 use Rattle.zeb_change.proofs.RecordRoom.{one_refusal}
-use Rattle.zeb_engine.specs.AnyTables.{ElderOver, EldersOver}
+use Rattle.zeb_engine.specs.AnyTables.{ElderOver, EldersOver, LeavesRecords}
 use Rattle.zeb_engine.proofs.ChangeElders.{few_elder, refused_elders, said_after}
 use Rattle.zeb_engine.proofs.ChangeRoom.{room_still, where_open}
 use Rattle.zeb_engine.proofs.session.Session.change_from.Goals as goal
@@ -190,3 +190,13 @@ returns-clause-elder g c clean texts told fine store is =
     said_after (λ trees. ElderOver profile name texts trees c.change_database.result × EldersOver profile name texts trees c.change_database.result) (state g.S.Store c.args.self.now.connection) mid
     (c.check_ready.ensures.same first) (c.in_ok-check_ready.ensures.«open» first)
     (λ there. (c.change_database.ensures.elder clean there texts told fine, c.change_database.ensures.elders clean there texts told)) store
+
+-- ---- what is kept after
+
+pub returns-clause-loses : goal.returns-clause-loses
+returns-clause-loses g c clean store =
+    let mid = state g.S.Store c.check_ready.new.connection in
+    let new = state g.S.Store c.change_database.new.connection in
+    let first : HasCleanDisk mid = omega (arith, c.change_database.ensures.survives.clean) in
+    said_after (λ trees. OnOk c.change_database.result (LeavesRecords c.args.self.now.profile (name_bytes c.args.database.now) trees new.now.trees)) (state g.S.Store c.args.self.now.connection) mid
+    (c.check_ready.ensures.same first) (c.in_ok-check_ready.ensures.«open» first) (c.change_database.ensures.loses clean) store

@@ -53,6 +53,9 @@ returns-clause-over g c clean =
       upgrades = done.upgrades clean;
       alone = (done.asked clean).0;
       tables = (done.asked clean).1;
-      changes = (done.asked clean).2;
+      changes = (done.asked clean).2.0;
       honest = λ is before keeps. command_honest k old new c.carry_out-answer.result is before keeps c.args.command.now (done.serves clean);
     }
+
+pub returns-clause-loses : goal.returns-clause-loses
+returns-clause-loses g c clean = (c.carry_out-answer.ensures.asked clean).2.1

@@ -104,7 +104,7 @@ pub returns-in_err-check_ready-clause-tables : goal.returns-in_err-check_ready-c
 returns-in_err-check_ready-clause-tables g c clean store texts =
     let refusal = c.in_err-check_ready.field-0.0 in
     let told : c.from_residual.result ≡ Err refusal = search rules in
-    rw told (unready_over (version_of g.L.Layout.format) c.args.self.now.profile (ScanOver c.args.self.now.profile (name_bytes c.args.database.now) c.args.around.query.now c.args.around.number c.args.around.position) (state g.S.Store c.args.self.now.connection) refusal
+    rw told (unready_over (version_of g.L.Layout.format) c.args.self.now.profile (ScanOver g.L.Layout.format c.args.self.now.profile (name_bytes c.args.database.now) c.args.around.query.now c.args.around.number c.args.around.position) (state g.S.Store c.args.self.now.connection) refusal
     c.in_err-check_ready.ensures.few (c.in_err-check_ready.ensures.texts clean) (c.in_err-check_ready.ensures.whole clean) store texts)
 
 pub returns-clause-tables : goal.returns-clause-tables
@@ -112,5 +112,5 @@ returns-clause-tables g c clean store texts =
     let old = state g.S.Store c.args.self.now.connection in
     let mid = state g.S.Store c.check_ready.new.connection in
     let clean1 : HasCleanDisk mid = omega (arith, c.scan.ensures.crash.clean) in
-    over_after (ScanOver c.args.self.now.profile (name_bytes c.args.database.now) c.args.around.query.now c.args.around.number c.args.around.position) old mid c.scan.result
+    over_after (ScanOver g.L.Layout.format c.args.self.now.profile (name_bytes c.args.database.now) c.args.around.query.now c.args.around.number c.args.around.position) old mid c.scan.result
     (c.check_ready.ensures.same clean1) (c.in_ok-check_ready.ensures.«open» clean1) (c.scan.ensures.tables clean) store

@@ -4,6 +4,8 @@ use Rattle.sqlite.specs.State.{HasCleanDisk}
 use Rattle.zeb_change.specs.Conditions.{conditions}
 use Rattle.zeb_image.specs.NameOf.{name_bytes}
 use Rattle.zeb_engine.specs.Steps.{dropped}
+use Rattle.zeb_engine.specs.AnyRefusals.{DropOver, HidesDatabase}
+use Rattle.zeb_engine.proofs.HiddenRows.{hidden_after, unready_hidden}
 use Rattle.zeb_engine.proofs.ReadyCommands.{ready_kept, unready_serves}
 use Rattle.zeb_engine.proofs.CommitCrashes.{survives_after}
 use Rattle.zeb_engine.proofs.session.Session.take.Goals as goal
@@ -60,3 +62,21 @@ returns-clause-caused g c clean =
     let first : HasCleanDisk mid = omega (arith, c.drop_database.ensures.survives.clean) in
     let looked = accepted_leaves old mid c.check_ready.ensures.crash (c.in_ok-check_ready.ensures.open first) (c.check_ready.ensures.same first) in
     over_after (λ _. ⊥) old (state g.S.Store c.drop_database.new.connection) mid looked c.drop_database.result (c.drop_database.ensures.caused clean)
+
+-- ---- on any tables
+
+pub returns-in_err-check_ready-clause-tables : goal.returns-in_err-check_ready-clause-tables
+returns-in_err-check_ready-clause-tables g c clean =
+    let name = name_bytes c.args.name.now in
+    let why = c.in_err-check_ready.field-0.0 in
+    let told : c.from_residual.result ≡ Err why = search rules in
+    rw told (unready_hidden (DropOver name) (HidesDatabase name) (version_of g.L.Layout.format) c.args.self.now.profile (state g.S.Store c.args.self.now.connection) why c.in_err-check_ready.ensures.few (c.in_err-check_ready.ensures.texts clean)
+    (c.in_err-check_ready.ensures.whole clean))
+
+pub returns-clause-tables : goal.returns-clause-tables
+returns-clause-tables g c clean store texts =
+    let name = name_bytes c.args.name.now in
+    let old = state g.S.Store c.args.self.now.connection in
+    let mid = state g.S.Store c.check_ready.new.connection in
+    let first : HasCleanDisk mid = omega (arith, c.drop_database.ensures.survives.clean) in
+    hidden_after (DropOver name) (HidesDatabase name) old mid c.drop_database.result (c.check_ready.ensures.same first) (c.in_ok-check_ready.ensures.open first) (c.drop_database.ensures.tables clean) store

@@ -2,9 +2,10 @@ use Rattle.std.proofs.Common.{rules, reverse, sym, subst}
 use Rattle.sqlite.specs.Held.{state}
 use Rattle.sqlite_rules.specs.Lists.{Has}
 use Rattle.zeb_register.specs.Content.{posted}
-use Rattle.zeb_register.specs.Occurring.{AreTermsBefore}
+use Rattle.zeb_register.specs.Occurring.{AreTermsBefore, last}
+use Rattle.zeb_register.specs.Sound.{TellTerms}
 use Rattle.zeb_register.proofs.TermLists.{has_taken}
-use Rattle.zeb_packed.proofs.PackedTerms.{before_read, first_taken, has_last, reversed_list, rows_counted}
+use Rattle.zeb_packed.proofs.PackedTerms.{before_read, first_taken, has_last, reversed_list, rows_counted, tell_last}
 use Rattle.zeb_packed.proofs.blocks.BlocksLayout.terms_before.Goals as goal
 
 pub returns-clause-value : goal.returns-clause-value
@@ -32,3 +33,10 @@ returns-in_err-counts-clause-damaged g c clean store is all =
     let first = first_taken c.args.n c.limit_of-limit.result c.in_ok-rows.rows.items c.deref.result.now raw.0 c.limit_of-limit.ensures.fits c.limit_of-limit.ensures.limit raw.2 c.deref.ensures.value c.counts_in.ensures.few in
     let back = reversed_list _ raw.0 raw.1 in
     c.in_err-counts.ensures.honest (search rules) (λ row here. all (reverse raw.0) back row ((has_last _ raw.0 (reverse raw.0) c.args.n row raw.1 back).1 (subst (λ l. Has l row) first here)))
+
+pub returns-clause-told : goal.returns-clause-told
+returns-clause-told g c clean store =
+    let raw = (c.in_ok-rows.ensures.call.ok clean).1 store in
+    let first = first_taken c.args.n c.limit_of-limit.result c.in_ok-rows.rows.items c.deref.result.now raw.0 c.limit_of-limit.ensures.fits c.limit_of-limit.ensures.limit raw.2 c.deref.ensures.value c.counts_in.ensures.few in
+    let told = tell_last c.args.n c.deref.result.now raw.0 c.in_ok-counts.counts.items first c.in_ok-counts.ensures.ok c.in_ok-counts.ensures.sound in
+    (reverse raw.0, reversed_list _ raw.0 raw.1, subst (TellTerms (last c.args.n (reverse raw.0))) (sym c.reverse.ensures.items) told)

@@ -3,7 +3,7 @@ use Rattle.sqlite.specs.Held.{state}
 use Rattle.sqlite_rules.specs.Lists.{Has}
 use Rattle.zeb_register.proofs.ContentLemmas.{one_list}
 use Rattle.zeb_register.proofs.TermLists.{has_taken}
-use Rattle.zeb_packed.proofs.PackedTerms.{first_taken, from_read, rows_counted}
+use Rattle.zeb_packed.proofs.PackedTerms.{first_taken, from_read, rows_counted, tell_first}
 use Rattle.zeb_packed.proofs.blocks.BlocksLayout.terms_from.Goals as goal
 
 pub returns-clause-value : goal.returns-clause-value
@@ -29,3 +29,9 @@ returns-in_err-counts-clause-damaged g c clean store is all =
     let raw = (c.in_ok-rows.ensures.call.ok clean).1 store in
     let first = first_taken c.args.n c.limit_of-limit.result c.in_ok-rows.rows.items c.deref.result.now raw.0 c.limit_of-limit.ensures.fits c.limit_of-limit.ensures.limit raw.2 c.deref.ensures.value c.counts_in.ensures.few in
     c.in_err-counts.ensures.honest (search rules) (λ row here. all raw.0 raw.1 row (subst (λ l. Has l row) first here))
+
+pub returns-clause-told : goal.returns-clause-told
+returns-clause-told g c clean store =
+    let raw = (c.in_ok-rows.ensures.call.ok clean).1 store in
+    let first = first_taken c.args.n c.limit_of-limit.result c.in_ok-rows.rows.items c.deref.result.now raw.0 c.limit_of-limit.ensures.fits c.limit_of-limit.ensures.limit raw.2 c.deref.ensures.value c.counts_in.ensures.few in
+    (raw.0, raw.1, tell_first c.args.n c.deref.result.now raw.0 c.in_ok-counts.counts.items first c.in_ok-counts.ensures.ok c.in_ok-counts.ensures.sound)

@@ -40,7 +40,13 @@ returns-in_err-counts-clause-damaged g c clean store is all =
     let held : IsListOf (IsRest dict_tree (register_front c.args.at.db.0 c.args.at.index c.args.at.register) trees) items = raw in
     c.in_err-counts.ensures.honest (search rules) (λ row here. all row ((held.each row).0 (subst (λ l. Has l row) c.deref.ensures.value here)))
 
-pub returns-clause-shown : goal.returns-clause-shown
-returns-clause-shown g c clean store =
-    let items = c.in_ok-rows.rows.items in
-    (items, (c.in_ok-rows.ensures.call.ok clean).1 store, c.in_ok-counts.ensures.ok ∙ ap (map first_two) c.deref.ensures.value)
+pub returns-clause-told : goal.returns-clause-told
+returns-clause-told g c clean store =
+    let items = c.in_ok-rows.rows.items in (
+      items,
+      (c.in_ok-rows.ensures.call.ok clean).1 store,
+      record {
+        shown = c.in_ok-counts.ensures.ok ∙ ap (map first_two) c.deref.ensures.value;
+        counted = λ row here. c.in_ok-counts.ensures.sound row (subst (λ l. Has l row) (sym c.deref.ensures.value) here);
+      },
+    )

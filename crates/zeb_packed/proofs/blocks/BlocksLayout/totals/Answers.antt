@@ -170,11 +170,11 @@ returns-clause-sound g c clean store =
     let inv = c.loop-term.invariant in
     let trees = (state g.S.Store c.args.conn.now).now.trees in
     let items = c.in_ok-terms.terms.items in
-    let shown = c.in_ok-terms.ensures.shown (inv.clean clean) store in
+    let shown = c.in_ok-terms.ensures.told (inv.clean clean) store in
     let whole : take c.loop-term.term-index c.deref-term-items.result.now ≡ items = take_all _ _ c.loop-term-test.false ∙ c.deref-term-items.ensures.value in (
       c.in_ok-terms.ensures.sound (inv.clean clean) store,
       λ row term there text.
-          let it = row_term items shown.0 shown.2 row ((shown.1.each row).1 there) in
+          let it = row_term items shown.0 shown.2.shown row ((shown.1.each row).1 there) in
           subst (λ (t : List ℕ). AreAllSpelled trees (key_row c.args.at.db.0 (key_in c.args.at.index c.args.at.register t))) (one_text row it.0.term term it.2 text)
           (inv.sound clean store it.0 (subst (λ (l : List TermCount). Has l it.0) (sym whole) it.1)),
     )
@@ -187,9 +187,9 @@ returns-in_err-more-clause-damaged g c clean store is sound =
     let items = c.in_ok-terms.terms.items in
     let all = c.deref-term-items.result.now in
     let item = c.term-item.result in
-    let shown = c.in_ok-terms.ensures.shown (inv.clean clean1) store in
+    let shown = c.in_ok-terms.ensures.told (inv.clean clean1) store in
     let here : Has items item = subst (λ (l : List TermCount). Has l item) c.deref-term-items.ensures.value (has_at all c.loop-term.term-index item c.term-item.is c.loop-term-test.true) in
-    let it = term_row items shown.0 shown.2 item here in
+    let it = term_row items shown.0 shown.2.shown item here in
     let spelled = sound.1 it.0 item.term ((shown.1.each it.0).0 it.1) it.2 in
     c.in_err-more.ensures.damaged clean (store_same _ _ at store) (search rules)
     (subst (λ (term : List ℕ). AreAllSpelled (state g.S.Store c.loop-term.conn).now.trees (key_row c.args.at.db.0 (key_in c.args.at.index c.args.at.register term))) (sym c.as_str.ensures)
@@ -201,11 +201,11 @@ returns-clause-counted g c clean store rows terms blocks listed are_shown each =
     let trees = (state g.S.Store c.args.conn.now).now.trees in
     let items = c.in_ok-terms.terms.items in
     let all = c.deref-term-items.result.now in
-    let shown = c.in_ok-terms.ensures.shown (inv.clean clean) store in
+    let shown = c.in_ok-terms.ensures.told (inv.clean clean) store in
     let first = c.in_ok-terms.ensures.counted in
     let many : TermCount → ℕ = λ t. length (blocks t.term) in
     let same_rows : shown.0 ≡ rows = one_list _ shown.0 rows shown.1 listed in
-    let same : items ≡ terms = same_terms items terms (shown.2 ∙ ap (map first_two) same_rows ∙ sym are_shown) in
+    let same : items ≡ terms = same_terms items terms (shown.2.shown ∙ ap (map first_two) same_rows ∙ sym are_shown) in
     let all_same : all ≡ terms = c.deref-term-items.ensures.value ∙ same in
     let whole = sum_of_all many all terms c.loop-term.term-index all_same c.loop-term-test.false in
     let blocks_read = subst (λ (k : ℕ). Rises k c.terms_of.new.work.block_read c.loop-term.work.block_read) whole

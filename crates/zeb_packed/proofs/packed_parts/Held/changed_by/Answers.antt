@@ -1,15 +1,29 @@
-use Rattle.std.proofs.Common.{◌∙◌, [], arith, get_or, rules, subst, take}
+use Rattle.std.proofs.Common.{◌∙◌, [], arith, get_or, inl, refl, rules, subst, take}
 use Rattle.sqlite_trees.proofs.ListLemmas.{all-get_or}
 use Rattle.sqlite_rules.specs.Lists.{Has}
 use Rattle.zeb_blocks.specs.Blocks.{LiesIn}
+use Rattle.zeb_register.specs.Content.{ArePlacesOf}
 use Rattle.zeb_register.specs.Hindrances.{placed}
 use Rattle.zeb_register.specs.PrivatePackedRows.{IsInBlock}
 use Rattle.zeb_register.proofs.ContentChanges.{at_sysno}
 use Rattle.zeb_register.proofs.ListChanges.{changes_more, changes_rise, list_changed, next_places, no_change}
 use Rattle.zeb_packed.proofs.PackedCauses.{counts_grow, made_more}
 use Rattle.zeb_packed.proofs.PackedChanges.{held_places, next_held}
+use Rattle.zeb_packed.proofs.PackedOld.{found_more, kept_more, no_firsts}
+use Rattle.zeb_packed.proofs.PackedParts.{own_places}
 use Rattle.zeb_register.proofs.RowCounts.{rows_front, rows_more, rows_taken}
 use Rattle.zeb_packed.proofs.packed_parts.Held.changed_by.Goals as goal
+
+pub loop-change-init : goal.loop-change-init
+loop-change-init c = record {
+  lies = search rules;
+  block = refl;
+  held = λ old up was. (old, refl, was);
+  made = λ p here. inl here;
+  found = no_firsts (λ it. ArePlacesOf it.0 it.1 c.args.self.list.items);
+  kept = λ p others. (λ h. h, λ h. h);
+  grows = omega arith;
+}
 
 pub loop-change-preserved : goal.loop-change-preserved
 loop-change-preserved c =
@@ -31,6 +45,8 @@ loop-change-preserved c =
           let next = at_sysno x.sysno x.new.now mid.0 in
           (next, changes_more xs i below old mid.0 next mid.1 found change, next_held x.sysno x.new.now mid.0 next change x.old.now held c.in_ok-held.held inside it.block found mid.2 it.list it.lies it.count);
       made = made_more xs i below (Has c.args.self.list.items) held.list.items c.in_ok-held.held.list.items before.made it.list;
+      found = found_more xs i below c.args.self.list.items held.list.items before.kept before.found (own_places x.sysno held.list.items x.old.now it.own);
+      kept = kept_more xs i below c.args.self.list.items held.list.items c.in_ok-held.held.list.items before.kept it.list;
       grows =
           let more = counts_grow x.old.now x.new.now held.records c.in_ok-held.held.records it.count in
           let rows = rows_more xs i no_change below in

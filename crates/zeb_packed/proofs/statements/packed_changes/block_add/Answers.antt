@@ -3,6 +3,7 @@ use Rattle.std.proofs.Math.Facts.{to_z-of_z}
 use Rattle.zeb_keys.specs.Registers.{register_code}
 use Rattle.zeb_register.proofs.Calls.{alters, refused_keeps}
 use Rattle.zeb_register.proofs.CallsInTurn.{violated}
+use Rattle.zeb_packed.proofs.PackedOld.{alone_where_added}
 use Rattle.zeb_packed.proofs.PackedRowStatements.{add_block_refused, add_block_takes, add_block_unbroken, adds_block}
 use Rattle.zeb_register.proofs.Columns.{column_is}
 use Rattle.zeb_packed.proofs.statements.packed_changes.block_add.Goals as goal
@@ -13,6 +14,9 @@ returns-clause-call g c = record {
   err = λ clean inside. refused_keeps _ _ _ _ c.execute.result (c.execute.ensures.runs clean inside);
   crash = search rules;
 }
+
+pub returns-clause-alone : goal.returns-clause-alone
+returns-clause-alone g c clean inside store = alone_where_added c.args.at.db.0 (pos c.args.at.key.now.index) (pos (register_code c.args.at.key.now.register)) c.args.at.key.now.term c.args.number c.args.bytes.now _ _ c.execute.result store (simp (c.params-to_sql.ensures, c.params-to_sql-2.ensures, c.params-to_sql-3.ensures, c.params-to_sql-4.ensures, c.params-to_sql-5.ensures, c.params-to_sql-6.ensures, to_z-of_z, column_is c.column-db.ensures.fits c.column-db.ensures.value, c.from-reg.ensures, c.code.ensures, c.as_str-term.ensures, c.ranges.number) at (c.execute.ensures.runs clean inside))
 
 pub returns-clause-violated : goal.returns-clause-violated
 returns-clause-violated g c clean inside = violated _ _ _ _ c.execute.result (c.execute.ensures.runs clean inside) inside
