@@ -1,18 +1,20 @@
 -- What the records of a fold found kept under their identifiers.
-use Rattle.std.proofs.Common.{◌≡◌, ◌⊎◌, ◌∙◌, ◌+◌, ◌≤◌, ◌<◌, ℕ, zero, suc, ℤ, List, [], ◌∷◌, Option, None, Some, Result, Ok, Err, Bool, true, false, drop, length, set, length-set, get_or-set_same, inl, inr, arith, refl, ap, sym, subst}
+use Rattle.std.proofs.Common.{◌≡◌, ◌≢◌, ◌⊎◌, ◌∙◌, ◌+◌, ◌≤◌, ◌<◌, ℕ, suc, ℤ, List, [], ◌∷◌, Option, None, Some, Result, Ok, Err, Bool, true, false, drop, length, set, length-set, get_or-set_same, inl, inr, arith, refl, ap, sym, subst}
 use Rattle.std.proofs.lemmas.List.{drop_all}
 use Rattle.sqlite.specs.State.{State}
 use Rattle.sqlite.specs.Effect.{Database}
 use Rattle.sqlite.specs.Tree.{Trees}
 use Rattle.sqlite_rules.specs.Lists.{Has}
+use Rattle.zeb_marc.specs.declared.faults.MarcFault.{MarcFault}
 use Rattle.zeb_marc.specs.Records.{first_fault}
-use Rattle.zeb_marc.specs.Splits.{Split, at_end, a_slice, next_of, split_of}
+use Rattle.zeb_marc.specs.Splits.{Split, at_end, a_fault, a_slice, next_of, split_of}
 use Rattle.zeb_marc.proofs.SplitLaws.{split_of-next}
 use Rattle.zeb_profile.specs.declared.directives.Directive.{Directive}
 use Rattle.zeb_register.specs.Store.{IsStore}
 use Rattle.zeb_change.specs.declared.files.Fold.{Fold}
 use Rattle.zeb_change.specs.declared.refusals.Refusal.{Refusal}
-use Rattle.zeb_change.specs.Elders.{AreWholeBefore, FindsWhole, FirstFindsWhole, IsWholeBefore, KeepsWhole, KeepsWholeTo, OfFirst, PassesOn}
+use Rattle.zeb_change.specs.Elders.{AreWholeBefore, FindsWhole, FirstFindsWhole, IsWholeBefore, KeepsWhole, KeepsWholeTo, PassesOn, first_in, first_record}
+use Rattle.zeb_change.specs.PrivateElders.{OfFirst}
 use Rattle.zeb_change.specs.Folding.{ident_in, splits_of}
 use Rattle.zeb_change.specs.Reading.{NoneFailed}
 use Rattle.zeb_change.specs.PrivateReading.{ReadsNext}
@@ -41,8 +43,8 @@ module _ (profile : List Directive) (trees : Trees) (db : ℤ) where
   pub file_finds : {T : Type 0} (result : Result T Refusal) (slices : List (List ℕ)) → OfFirst FoundWhole slices → OfFirst (λ slice. FindsWhole profile trees db slice result) slices
   file_finds result slices = first_more _ _ slices (finds result)
 
-  pub files_find : {T : Type 0} (result : Result T Refusal) (splits : List Split) → OfFirst (λ split. OfFirst FoundWhole split.slices) splits → FirstFindsWhole profile trees db splits result
-  files_find result splits = first_more _ _ splits (λ split found. file_finds result split.slices found)
+  pub files_find : {T : Type 0} (result : Result T Refusal) (splits : List Split) → ((bytes : List ℕ) → first_record splits ≡ Some bytes → FoundWhole bytes) → FirstFindsWhole profile trees db splits result
+  files_find result splits found bytes is = finds result bytes (found bytes is)
 
 -- it is said of tables, of a fold and of bytes that are the same ones
 pub found_same : {T : Type 0} (profile : List Directive) (old now : State) (first fold : Fold) (one two : List ℕ) (result : Result T Refusal) → now.now ≡ old.now → fold ≡ first → one ≡ two
@@ -76,25 +78,71 @@ module _ (P : List ℕ → Type 0) (text : List ℕ) where
     pub fault_read : (refusal : Refusal) → ReadsNext file nth (next_of text) (Err refusal) kept left → OfFirst P (split_of text).slices
     fault_read refusal read = let it = told_fault file nth (next_of text) refusal kept left read in rw (split_of-next text, it.1) tt
 
+-- it has a record
+abbrev pub HasSlice : (text : List ℕ) → Type 0
+HasSlice text = (split_of text).slices ≢ []
+
+module _ (text : List ℕ) (file nth : ℕ) (kept : List ℕ) (left : Option (List ℕ)) where
+  fault_at : (fault : MarcFault) → next_of text ≡ a_fault fault → (split_of text).fault ≡ Some fault
+  fault_at fault is = rw (split_of-next text, is) refl
+
+  pub slice_read : ReadsNext file nth (next_of text) (Ok true) kept left → (split_of text).slices ≢ []
+  slice_read read = let it = told_slice file nth (next_of text) kept left read in rw (split_of-next text, it.1) (λ none. cc)
+
+  pub fault_there : (refusal : Refusal) → ReadsNext file nth (next_of text) (Err refusal) kept left → (fault : MarcFault) × ((split_of text).fault ≡ Some fault)
+  fault_there refusal read = let it = told_fault file nth (next_of text) refusal kept left read in (it.0, fault_at it.0 it.1)
+
 -- no record of a file is read so far, and nothing is changed; or the first one found what is whole
 abbrev pub FileBegun : List Directive → (old now : State) → (first fold : Fold) → Option (List ℕ) → (text : List ℕ) → Type 0
 FileBegun profile old now first fold remaining text =
     (IsStore now × (now.now ≡ old.now) × (fold ≡ first) × (remaining ≡ Some text))
-    ⊎ OfFirst (FoundWhole profile old.now.trees first.progress.database.0) (split_of text).slices
+    ⊎ (HasSlice text × OfFirst (FoundWhole profile old.now.trees first.progress.database.0) (split_of text).slices)
 
 -- ---- files
 
-module _ (P : Split → Type 0) where
-  -- the first file is read
-  pub first_file : (index : ℕ) (texts : List (List ℕ)) (text : List ℕ) (rest : List (List ℕ)) → index ≡ 0 → drop index texts ≡ text ∷ rest → P (split_of text) → OfFirst P (splits_of texts)
-  first_file (suc n) texts text rest none behind so = absurd (omega (arith, none))
-  first_file zero [] text rest none behind so = tt
-  first_file zero (t ∷ ts) text rest none behind so = let same : text ≡ t = cc in subst (λ t. P (split_of t)) same so
+-- this holds of the first record of these files, where there is one
+abbrev pub OfFirstRecord : (List ℕ → Type 0) → List Split → Type 0
+OfFirstRecord P splits = (bytes : List ℕ) → first_record splits ≡ Some bytes → P bytes
 
-  -- there is none
-  pub no_files : (texts : List (List ℕ)) → length texts ≤ 0 → OfFirst P (splits_of texts)
-  no_files [] none = tt
-  no_files (t ∷ ts) none = absurd (omega (arith, none))
+-- a file is read: it has the first record, or nothing is changed and the first record is that of the files behind it
+begun_in : (P : List ℕ → Type 0) (Same : Type 0) (slices : List (List ℕ)) (fault : Option MarcFault) (later : Option (List ℕ)) → OfFirst P slices → (slices ≡ [] → Same ⊎ ((m : MarcFault) × (fault ≡ Some m)))
+    → (Same × (first_in slices fault later ≡ later)) ⊎ ((bytes : List ℕ) → first_in slices fault later ≡ Some bytes → P bytes)
+begun_in P Same (slice ∷ slices) fault later found empty = inr (λ bytes is. let same : slice ≡ bytes = cc in subst P same found)
+begun_in P Same [] (Some m) later found empty = inr (λ bytes is. absurd (cc))
+begun_in P Same [] None later found empty = elim (empty refl) [
+  | inl same ↦ inl (same, refl)
+  | inr faulty ↦ (let no = faulty.1 in absurd (cc))
+]
+
+module _ (P : List ℕ → Type 0) (index : ℕ) (texts : List (List ℕ)) (so_far : first_record (splits_of texts) ≡ first_record (splits_of (drop index texts))) where
+  module _ (text : List ℕ) (behind : drop index texts ≡ text ∷ drop (suc index) texts) (Same : Type 0) (found : OfFirst P (split_of text).slices)
+      (empty : (split_of text).slices ≡ [] → Same ⊎ ((m : MarcFault) × ((split_of text).fault ≡ Some m))) where
+    begun_here : (Same × (first_record (splits_of texts) ≡ first_record (splits_of (drop (suc index) texts)))) ⊎ OfFirstRecord P (splits_of texts)
+    begun_here =
+        let here : first_record (splits_of texts) ≡ first_in (split_of text).slices (split_of text).fault (first_record (splits_of (drop (suc index) texts))) =
+        so_far ∙ ap (λ (rest : List (List ℕ)). first_record (splits_of rest)) behind in
+        elim (begun_in P Same (split_of text).slices (split_of text).fault (first_record (splits_of (drop (suc index) texts))) found empty) [
+          | inl same ↦ inl (same.0, here ∙ same.1)
+          | inr is ↦ inr (λ bytes there. is bytes (sym here ∙ there))
+        ]
+
+    pub files_begun : (Same × (first_record (splits_of texts) ≡ first_record (splits_of (drop (index + 1) texts)))) ⊎ OfFirstRecord P (splits_of texts)
+    files_begun =
+        let next : suc index ≡ index + 1 = omega arith in
+        subst (λ (n : ℕ). (Same × (first_record (splits_of texts) ≡ first_record (splits_of (drop n texts)))) ⊎ OfFirstRecord P (splits_of texts)) next begun_here
+
+    -- the fold ends with this file
+    pub files_ended : ¬ Same → OfFirstRecord P (splits_of texts)
+    files_ended ended = elim begun_here [
+      | inl same ↦ absurd (ended same.0)
+      | inr is ↦ is
+    ]
+
+  -- no file has a record
+  pub no_record : length texts ≤ index → OfFirstRecord P (splits_of texts)
+  no_record none bytes there =
+      let no : first_record (splits_of texts) ≡ None = so_far ∙ ap (λ (rest : List (List ℕ)). first_record (splits_of rest)) (drop_all index texts none) in
+      absurd (cc)
 
 -- a reader that is put among others hasn't failed where none of them has
 pub fine_set : {R : Type 0} (failed : R → Bool) (readers : List R) (index : ℕ) (reader : R) → index < length readers → NoneFailed failed (set readers index reader) → failed reader ≡ false
@@ -103,10 +151,10 @@ fine_set failed readers index reader within fine =
     ∙ fine_at failed (set readers index reader) index reader fine (subst (λ n. index < n) (sym (length-set readers index reader)) within)
 
 -- the same of files, of which so many are read
-abbrev pub FilesBegun : List Directive → (old now : State) → (first fold : Fold) → ℕ → List Split → Type 0
-FilesBegun profile old now first fold index splits =
-    (IsStore now × (now.now ≡ old.now) × (fold ≡ first) × (index ≡ 0))
-    ⊎ OfFirst (λ split. OfFirst (FoundWhole profile old.now.trees first.progress.database.0) split.slices) splits
+abbrev pub FilesBegun : List Directive → (old now : State) → (first fold : Fold) → ℕ → (texts : List (List ℕ)) → Type 0
+FilesBegun profile old now first fold index texts =
+    (IsStore now × (now.now ≡ old.now) × (fold ≡ first) × (first_record (splits_of texts) ≡ first_record (splits_of (drop index texts))))
+    ⊎ OfFirstRecord (FoundWhole profile old.now.trees first.progress.database.0) (splits_of texts)
 
 -- ---- each record, where the files are accepted
 

@@ -11,9 +11,12 @@ use Rattle.sqlite_rules.specs.Lists.{Has}
 use Rattle.zeb_profile.specs.declared.directives.Directive.{Directive}
 use Rattle.zeb_register.specs.declared.kept.Elder.{Elder}
 use Rattle.zeb_register.specs.Kept.{IsElderOf}
-use Rattle.zeb_register.specs.Sql.{Loses, Replaces}
+use Rattle.zeb_register.specs.Sound.{KeepsMalformed}
+use Rattle.zeb_register.specs.Sql.{KeepsOthers, Loses, Replaces}
 use Rattle.zeb_register.specs.Store.{Changes, HasNumber, HasRecord, IsStore, SharesRecord, record_row, records_tree}
+use Rattle.zeb_register.specs.Tables.{store_schema}
 use Rattle.zeb_register.proofs.Calls.{store_same}
+use Rattle.zeb_register.proofs.Malformed.{malformed_same, malformed_seen, malformed_then}
 use Rattle.zeb_register.proofs.RowsAreLists.{one_number}
 use Rattle.zeb_change.specs.declared.refusals.Refusal.{Refusal}
 use Rattle.zeb_change.specs.Elders.{IsSoOrDamaged, IsUpTo, KeepsAside, KeepsWhole, KeepsWholeTo, PassesOn}
@@ -53,6 +56,10 @@ module _ (db : ℤ) (ident : List ℕ) (number last after : ℕ) (rises : last �
       let first : Int other ≡ Int db = cc in
       other_database other db differs first
 
+  -- the tables of the registers are others
+  beside_records : KeepsOthers store_schema records_tree old.now.trees new.now.trees → KeepsMalformed old.now.trees new.now.trees
+  beside_records others = malformed_same old.now.trees new.now.trees (others.1.1.1.1.0 (λ e. absurd (omega (arith, e)))) (others.1.1.1.1.1.0 (λ e. absurd (omega (arith, e))))
+
   pub put_keeps : (bytes : List ℕ) → Changes records_tree (Replaces (SharesRecord db (pos number) ident) (record_row db (pos number) ident bytes)) old new → KeepsOtherRecords db ident last after old new
   put_keeps row put = record {
     store = put.layout;
@@ -71,6 +78,7 @@ module _ (db : ℤ) (ident : List ℕ) (number last after : ℕ) (rises : last �
       ],
       λ before. (put.rows (record_row other sysno name kept)).1 (inl (before, not_shared other sysno name kept differs)),
     );
+    malformed = beside_records put.others;
   }
 
   pub take_keeps : Changes records_tree (Loses (HasNumber db (pos number))) old new → KeepsOtherRecords db ident last after old new
@@ -82,6 +90,7 @@ module _ (db : ℤ) (ident : List ℕ) (number last after : ℕ) (rises : last �
       λ after. ((take.rows (record_row other sysno name kept)).0 after).0,
       λ before. (take.rows (record_row other sysno name kept)).1 (before, λ numbers. other_database other db differs numbers.0),
     );
+    malformed = beside_records take.others;
   }
 
 -- the row with the elder's number is the elder's
@@ -101,6 +110,7 @@ keeps_from db ident last after old mid new (Ok x) same kept = record {
   rises = kept.rises;
   others = λ other differs. subst (λ (d : Database). KeepsUnder last db other d.trees new.now.trees) same (kept.others other differs);
   aside = subst (λ (d : Database). KeepsAside db d.trees new.now.trees) same kept.aside;
+  malformed = subst (λ (d : Database). KeepsMalformed d.trees new.now.trees) same kept.malformed;
 }
 keeps_from db ident last after old mid new (Err refusal) same kept = tt
 
@@ -124,12 +134,13 @@ module _ (profile : List Directive) (db : ℤ) where
       | inr differs ↦ inr (kept.others other differs sysno bytes there up)
     ];
     aside = kept.aside;
+    malformed = kept.malformed;
   }
   passes_by ident last after old new (Err refusal) whole kept = tt
 
   -- the table of records is as it was
-  pub passes_same : (last : ℕ) (old new : State) → IsStore new → new.now.trees records_tree ≡ old.now.trees records_tree → PassesOn profile db last last old new
-  passes_same last old new store same = record {
+  pub passes_same : (last : ℕ) (old new : State) → IsStore new → new.now.trees records_tree ≡ old.now.trees records_tree → KeepsMalformed old.now.trees new.now.trees → PassesOn profile db last last old new
+  passes_same last old new store same malformed = record {
     store = store;
     rises = omega arith;
     each = λ sysno ident bytes there up. inr (rows_same old.now.trees new.now.trees same db sysno ident bytes there);
@@ -137,11 +148,12 @@ module _ (profile : List Directive) (db : ℤ) where
       rows_same new.now.trees old.now.trees (sym same) other sysno ident bytes,
       rows_same old.now.trees new.now.trees same other sysno ident bytes,
     );
+    malformed = malformed;
   }
 
   -- a look left everything as it was
   pub passes_seen : (last : ℕ) (old new : State) → IsStore old → new.now ≡ old.now → PassesOn profile db last last old new
-  passes_seen last old new store same = passes_same last old new (store_same old new same store) (ap (λ (d : Database). d.trees records_tree) same)
+  passes_seen last old new store same = passes_same last old new (store_same old new same store) (ap (λ (d : Database). d.trees records_tree) same) (malformed_seen old.now new.now same)
 
   module _ (last mid : ℕ) (a b : State) (one : PassesOn profile db last mid a b) where
     pub passes_then : (after : ℕ) (c : State) → PassesOn profile db mid after b c → PassesOn profile db last after a c
@@ -153,6 +165,7 @@ module _ (profile : List Directive) (db : ℤ) where
         | inr kept ↦ two.each sysno ident bytes kept (up_more last mid sysno one.rises up)
       ];
       aside = λ other sysno ident bytes differs. both_ways (two.aside other sysno ident bytes differs) (one.aside other sysno ident bytes differs);
+      malformed = malformed_then a.now.trees b.now.trees c.now.trees one.malformed two.malformed;
     }
 
     -- what is whole now was whole before

@@ -1,11 +1,13 @@
 -- What a change finds kept under a record's identifier, whatever rows the tables of the store have.
-use Rattle.std.specs.Prelude.{◌≡◌, ◌≢◌, ◌↔◌, ◌⊎◌, ◌≤◌, ℕ, ℤ, pos, List, [], ◌∷◌, None, Result, Ok, Err}
+use Rattle.std.specs.Prelude.{◌≡◌, ◌≢◌, ◌↔◌, ◌⊎◌, ◌≤◌, ℕ, ℤ, pos, List, [], ◌∷◌, Option, Some, None, Result, Ok, Err}
 use Rattle.sqlite.specs.State.{State}
 use Rattle.sqlite.specs.Tree.{Trees}
 use Rattle.sqlite_rules.specs.Lists.{Has}
+use Rattle.zeb_marc.specs.declared.faults.MarcFault.{MarcFault}
 use Rattle.zeb_marc.specs.Records.{first_fault}
 use Rattle.zeb_marc.specs.Splits.{Split}
 use Rattle.zeb_profile.specs.declared.directives.Directive.{Directive}
+use Rattle.zeb_register.specs.Sound.{KeepsMalformed}
 use Rattle.zeb_register.specs.Store.{HasRecord, IsStore}
 use Rattle.zeb_change.specs.declared.refusals.Refusal.{Refusal}
 use Rattle.zeb_change.specs.declared.refusals.Refusal.TheVariants.{Damaged}
@@ -31,15 +33,21 @@ abbrev pub FindsWhole : {T : Type 0} → List Directive → Trees → ℤ → Li
 FindsWhole profile trees db bytes result = (ident : List ℕ) → first_fault bytes ≡ None → ident_in profile bytes ≡ Ok ident
     → IsSoOrDamaged (KeepsWhole profile trees db ident) result
 
--- this holds of the first, where there is one
-abbrev pub OfFirst : {A : Type 0} → (A → Type 0) → List A → Type 0
-OfFirst P [] = Unit {0}
-OfFirst P (x ∷ xs) = P x
+-- the first record of a file; a file with no record gives way to what comes later, but where a fault stands in it
+abbrev pub first_in : List (List ℕ) → Option MarcFault → (later : Option (List ℕ)) → Option (List ℕ)
+first_in (slice ∷ slices) fault later = Some slice
+first_in [] None later = later
+first_in [] (Some fault) later = None
 
--- what the database keeps under the identifier of the first record of the first file is whole, or the change is refused so
+-- the first record of all files: that of the first file with one, where no fault stands before it
+abbrev pub first_record : List Split → Option (List ℕ)
+first_record [] = None
+first_record (split ∷ splits) = first_in split.slices split.fault (first_record splits)
+
+-- what the database keeps under the identifier of the first record of all files is whole, or the change is refused so
 abbrev pub FirstFindsWhole : {T : Type 0} → List Directive → Trees → ℤ → List Split → Result T Refusal → Type 0
 FirstFindsWhole profile trees db splits result =
-    OfFirst (λ split. OfFirst (λ slice. FindsWhole profile trees db slice result) split.slices) splits
+    (bytes : List ℕ) → first_record splits ≡ Some bytes → FindsWhole profile trees db bytes result
 
 -- ---- of each record, where the change is accepted
 
@@ -78,10 +86,11 @@ abbrev pub KeepsAside : ℤ → (old new : Trees) → Type 0
 KeepsAside db old new = (other sysno : ℤ) (ident bytes : List ℕ) → other ≢ db
     → HasRecord new other sysno ident bytes ↔ HasRecord old other sysno ident bytes
 
--- What an accepted change of a database does to the records of any tables, and each part of it: only whole ones are lost up to the last
--- number, which doesn't fall, and none is touched of another database.
+-- What an accepted change of a database does to any tables, and each part of it: only whole records are lost up to the last number, which
+-- doesn't fall, none is touched of another database, and no malformed row of the packed registers is taken out or altered.
 pub record PassesOn (profile : List Directive) (db : ℤ) (last after : ℕ) (old new : State) : Type 0 where
   pub store : IsStore new
   pub rises : last ≤ after
   pub each : LosesWholeAlone profile last db old.now.trees new.now.trees
   pub aside : KeepsAside db old.now.trees new.now.trees
+  pub malformed : KeepsMalformed old.now.trees new.now.trees

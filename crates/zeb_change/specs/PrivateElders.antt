@@ -1,9 +1,14 @@
 -- What only the contracts of private functions speak of; no public clause reaches it.
--- What a change leaves kept on its way, whatever rows the tables of the store have.
-use Rattle.std.specs.Prelude.{◌≢◌, ◌≤◌, ℕ, ℤ, List}
+-- What a change finds and leaves kept on its way, whatever rows the tables of the store have.
+use Rattle.std.specs.Prelude.{◌≡◌, ◌≢◌, ◌⊎◌, ◌≤◌, ℕ, ℤ, List, [], ◌∷◌, Some, Result, Ok}
 use Rattle.sqlite.specs.Tree.{Trees}
 use Rattle.sqlite.specs.State.{State}
+use Rattle.zeb_marc.specs.declared.faults.MarcFault.{MarcFault}
+use Rattle.zeb_marc.specs.Splits.{Split}
+use Rattle.zeb_register.specs.Sound.{KeepsMalformed}
 use Rattle.zeb_register.specs.Store.{HasRecord, IsStore}
+use Rattle.zeb_change.specs.declared.files.Fold.{Fold}
+use Rattle.zeb_change.specs.declared.refusals.Refusal.{Refusal}
 use Rattle.zeb_change.specs.Elders.{IsUpTo, KeepsAside}
 
 -- what the database keeps under this identifier, with a number up to the last one, is kept still
@@ -11,10 +16,21 @@ abbrev pub KeepsUnder : (last : ℕ) → ℤ → List ℕ → Trees → Trees �
 KeepsUnder last db ident old new = (sysno : ℤ) (bytes : List ℕ) → HasRecord old db sysno ident bytes → IsUpTo last sysno
     → HasRecord new db sysno ident bytes
 
--- What was done for the record of one identifier: what is kept under each other one is kept still, and so is each other database. The last
--- number never falls.
+-- What was done for the record of one identifier: what is kept under each other one is kept still, and so is each other database and each
+-- malformed row of the packed registers. The last number never falls.
 pub record KeepsOtherRecords (db : ℤ) (ident : List ℕ) (last after : ℕ) (old new : State) : Type 0 where
   pub store : IsStore new
   pub rises : last ≤ after
   pub others : (other : List ℕ) → other ≢ ident → KeepsUnder last db other old.now.trees new.now.trees
   pub aside : KeepsAside db old.now.trees new.now.trees
+  pub malformed : KeepsMalformed old.now.trees new.now.trees
+
+-- this holds of the first, where there is one
+abbrev pub OfFirst : {A : Type 0} → (A → Type 0) → List A → Type 0
+OfFirst P [] = Unit {0}
+OfFirst P (x ∷ xs) = P x
+
+-- a file with no record is folded in and changes nothing, or a fault stands in it
+abbrev pub PassesEmpty : Split → (old new : State) → (first folded : Fold) → Result (Unit {0}) Refusal → Type 0
+PassesEmpty split old new first folded result =
+    split.slices ≡ [] → ((result ≡ Ok tt) × (new.now ≡ old.now) × (folded ≡ first)) ⊎ ((fault : MarcFault) × (split.fault ≡ Some fault))

@@ -13,7 +13,8 @@ ghost use Rattle.zeb_register.specs.Store.{records_tree};
 ghost use Rattle.zeb_change.specs.Asked.{AskFiles, AskSlices, AsksRecord};
 ghost use Rattle.zeb_change.specs.Folding.{Progress as FoldProgress, record_folded, file_folded, files_folded, splits_of};
 ghost use Rattle.zeb_change.specs.Base.{Base, Kept};
-ghost use Rattle.zeb_change.specs.Elders.{AllFindWhole, AreWholeBefore, FindsWhole, FirstFindsWhole, IsWholeBefore, OfFirst, PassesOn};
+ghost use Rattle.zeb_change.specs.Elders.{AllFindWhole, AreWholeBefore, FindsWhole, FirstFindsWhole, IsWholeBefore, PassesOn};
+ghost use Rattle.zeb_change.specs.PrivateElders.{OfFirst, PassesEmpty};
 ghost use Rattle.zeb_change.specs.Costs.{IsCostIn, IsFilesCost, IsSlicesCost, IsWorkFor, newer_of};
 ghost use Rattle.zeb_change.specs.Refused.{NeverUnready, Meets};
 ghost use Rattle.zeb_change.specs.Reading.{NamesFailed, NoneFailed, NoReadFault, TellsFailed, BlamesFailed};
@@ -223,6 +224,10 @@ fn fold_file<S: Alter, L: Layout, R: Source>(
         fold.old.tally.records < setting.now.limits.records
         → (text : List ℕ) → R.remaining reader.old ≡ Some text → R.has_failed reader.new ≡ false
         → OfFirst (λ slice. FindsWhole setting.now.profile.now trees fold.old.progress.database.0 slice result) (split_of text).slices) }
+    ensures empty { InStore (state S.Store tx.old.conn.now) (state S.Store tx.new.conn.now) (λ _.
+        fold.old.tally.records < setting.now.limits.records
+        → (text : List ℕ) → R.remaining reader.old ≡ Some text → R.has_failed reader.new ≡ false
+        → PassesEmpty (split_of text) (state S.Store tx.old.conn.now) (state S.Store tx.new.conn.now) fold.old fold.new result) }
     ensures passes { InStore (state S.Store tx.old.conn.now) (state S.Store tx.new.conn.now) (λ trees. OnOk result
         (PassesOn setting.now.profile.now fold.old.progress.database.0 fold.old.progress.last fold.new.progress.last
         (state S.Store tx.old.conn.now) (state S.Store tx.new.conn.now)
@@ -351,7 +356,7 @@ pub fn fold_files<S: Alter, L: Layout, R: Source>(
         → HasRowids rowids records_tree (state S.Store tx.old.conn.now).now.trees → rowids < 2 ^ 63
         → result ≡ Err Refusal.Store → MayRefuse (state S.Store tx.old.conn.now) (state S.Store tx.new.conn.now) }
     // Whatever rows the tables have: what is kept under the first record's identifier is whole, or the fold is refused as damage or by a
-    // failure.
+    // failure. The first record is that of the first file with one.
     ensures elder { InStore (state S.Store tx.old.conn.now) (state S.Store tx.new.conn.now) (λ trees.
         fold.old.tally.records < setting.now.limits.records
         → (texts : List (List ℕ)) → map R.remaining readers.old ≡ map Some texts → NoneFailed R.has_failed readers.new

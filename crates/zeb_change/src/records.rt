@@ -5,6 +5,7 @@ ghost use Rattle.std.specs.List.{Contains};
 ghost use Rattle.sqlite.specs.Held.{state};
 ghost use Rattle.sqlite.specs.State.{HasCleanDisk};
 ghost use Rattle.zeb_marc.specs.Records.{IsRecord, first_fault};
+ghost use Rattle.zeb_register.specs.Calls.{MayRefuse};
 ghost use Rattle.zeb_register.specs.Clauses.{InStore};
 ghost use Rattle.zeb_register.specs.Formats.{Format};
 ghost use Rattle.zeb_register.specs.Kept.{IsElderOf};
@@ -73,8 +74,10 @@ fn elder_occurrences(
     ensures elder { GoesBy (IsWholeElder setting.now.profile.now ident.now (Some elder.now)) result }
     ensures fails { IfErr result (λ refusal. IsKept setting.now.profile.now
         (record { sysno = 0; ident = ident.now; bytes = elder.now.bytes.items }) → refusal ≡ Refusal.Memory) }
+    ensures damaged { first_fault elder.now.bytes.items ≢ None → result ≡ Err Refusal.Damaged }
     ensures unread { NoReadFault result }
     ensures ready { NeverUnready result }
+    ensures unstored { result ≢ Err Refusal.Store }
 {
     Ok(kept_occurrences(setting.alloc, setting.profile, ident, &elder.bytes)?)
 }
@@ -135,6 +138,7 @@ fn replace<S: Alter>(
         → KeepsInRoom setting.now progress.now.database.0 (Some elder.now) newer.now (standing (state S.Store tx.old.conn.now) pending.old)
         (standing (state S.Store tx.new.conn.now) pending.new) result }
     ensures elder { GoesBy (IsWholeElder setting.now.profile.now newer.now.ident.now (Some elder.now)) result }
+    ensures stored { result ≡ Err Refusal.Store → IsWholeElder setting.now.profile.now newer.now.ident.now (Some elder.now) }
     ensures others { InStore (state S.Store tx.old.conn.now) (state S.Store tx.new.conn.now) (λ trees.
         IsElderOf trees progress.now.database.0 newer.now.ident.now (Some elder.now) → OnOk result
         (KeepsOtherRecords progress.now.database.0 newer.now.ident.now progress.now.last progress.now.last
@@ -171,6 +175,7 @@ fn withdraw<S: Alter>(
         (standing (state S.Store tx.new.conn.now) pending.new)
         (λ base. IsElderAs ident.now base (Some elder.now)) None result }
     ensures elder { GoesBy (IsWholeElder setting.now.profile.now ident.now (Some elder.now)) result }
+    ensures stored { result ≡ Err Refusal.Store → IsWholeElder setting.now.profile.now ident.now (Some elder.now) }
     ensures others { InStore (state S.Store tx.old.conn.now) (state S.Store tx.new.conn.now) (λ trees.
         IsElderOf trees progress.now.database.0 ident.now (Some elder.now) → OnOk result
         (KeepsOtherRecords progress.now.database.0 ident.now progress.now.last progress.now.last
@@ -215,6 +220,7 @@ fn keep<S: Alter>(
         → KeepsInRoom setting.now progress.old.database.0 elder newer.now (standing (state S.Store tx.old.conn.now) pending.old)
         (standing (state S.Store tx.new.conn.now) pending.new) result }
     ensures elder { GoesBy (IsWholeElder setting.now.profile.now newer.now.ident.now elder) result }
+    ensures stored { result ≡ Err Refusal.Store → IsWholeElder setting.now.profile.now newer.now.ident.now elder }
     ensures others { InStore (state S.Store tx.old.conn.now) (state S.Store tx.new.conn.now) (λ trees.
         IsElderOf trees progress.old.database.0 newer.now.ident.now elder → OnOk result
         (KeepsOtherRecords progress.old.database.0 newer.now.ident.now progress.old.last progress.new.last
@@ -295,6 +301,10 @@ pub(crate) fn change_record<S: Alter>(
     ensures elder { InStore (state S.Store tx.old.conn.now) (state S.Store tx.new.conn.now) (λ trees. (ident : List ℕ)
         → first_fault incoming.entry.bytes.now ≡ None → ident_in setting.now.profile.now incoming.entry.bytes.now ≡ Ok ident
         → GoesBy (KeepsWhole setting.now.profile.now trees progress.old.database.0 ident) result) }
+    ensures stored { InStore (state S.Store tx.old.conn.now) (state S.Store tx.new.conn.now) (λ trees. (ident : List ℕ)
+        → first_fault incoming.entry.bytes.now ≡ None → ident_in setting.now.profile.now incoming.entry.bytes.now ≡ Ok ident
+        → result ≡ Err Refusal.Store → KeepsWhole setting.now.profile.now trees progress.old.database.0 ident
+        ⊎ MayRefuse (state S.Store tx.old.conn.now) (state S.Store tx.new.conn.now)) }
     ensures passes { InStore (state S.Store tx.old.conn.now) (state S.Store tx.new.conn.now) (λ _. OnOk result
         (PassesOn setting.now.profile.now progress.old.database.0 progress.old.last progress.new.last
         (state S.Store tx.old.conn.now) (state S.Store tx.new.conn.now))) }

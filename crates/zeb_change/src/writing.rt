@@ -8,6 +8,7 @@ ghost use Rattle.zeb_register.specs.Clauses.{InStore};
 ghost use Rattle.zeb_register.specs.Content.{Content, IsStorable};
 ghost use Rattle.zeb_register.specs.Formats.{holds_in};
 ghost use Rattle.zeb_register.specs.Room.{FitInRow, HasRoom};
+ghost use Rattle.zeb_register.specs.Sound.{KeepsMalformed};
 ghost use Rattle.zeb_register.specs.Store.{IsStore, KeepsLists};
 ghost use Rattle.zeb_change.specs.Asked.{PutsPlaces, WritesInRoom};
 ghost use Rattle.zeb_change.specs.Costs.{IsWorkFor};
@@ -85,6 +86,8 @@ fn write_key<S: Alter, L: Layout>(
         → OnOk result ((content : Content) → holds_in L.format (state S.Store tx.old.conn.now).now.trees content
         → IsWorkFor L.row_work notes.now.count work.old work.new) }
     ensures no_work { L.row_work ≡ 0 → work.new ≡ work.old }
+    ensures malformed { InStore (state S.Store tx.old.conn.now) (state S.Store tx.new.conn.now) (λ trees. OnOk result
+        (KeepsMalformed trees (state S.Store tx.new.conn.now).now.trees)) }
     ensures room { (content : Content) (n left : ℕ) → PutsPlaces notes.now n → FitInRow (n + left) key.now
         → InStore (state S.Store tx.old.conn.now) (state S.Store tx.new.conn.now) (λ trees. holds_in L.format trees content
         → HasRoom L.format (n + left) trees
@@ -115,6 +118,8 @@ pub fn write_pending<S: Alter, L: Layout>(
     ensures all { OnOk result (IsNothingNoted pending.new) }
     ensures room { WritesInRoom L.format db.0 (state S.Store tx.old.conn.now) (state S.Store tx.new.conn.now) pending.old pending.new
         result }
+    ensures malformed { InStore (state S.Store tx.old.conn.now) (state S.Store tx.new.conn.now) (λ trees. OnOk result
+        (KeepsMalformed trees (state S.Store tx.new.conn.now).now.trees)) }
     // Over a layout whose rows count nothing the counts stay, also where it is refused.
     ensures no_work { L.row_work ≡ 0 → work.new ≡ work.old }
 {
@@ -138,6 +143,8 @@ pub fn write_where_full<S: Alter, L: Layout>(
         work.old work.new result }
     ensures room { WritesInRoom L.format db.0 (state S.Store tx.old.conn.now) (state S.Store tx.new.conn.now) pending.old pending.new
         result }
+    ensures malformed { InStore (state S.Store tx.old.conn.now) (state S.Store tx.new.conn.now) (λ trees. OnOk result
+        (KeepsMalformed trees (state S.Store tx.new.conn.now).now.trees)) }
     ensures no_work { L.row_work ≡ 0 → work.new ≡ work.old }
 {
     if pending.is_full() {

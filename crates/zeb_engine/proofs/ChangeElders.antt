@@ -1,5 +1,5 @@
 -- What a change finds kept under the identifiers of its records, and what it leaves, step by step.
-use Rattle.std.proofs.Common.{◌≡◌, ◌⊎◌, ℕ, ℤ, pos, List, [], ◌∷◌, Option, Some, None, Result, Ok, Err, inl, inr, sym, subst, subst₂}
+use Rattle.std.proofs.Common.{◌≡◌, ◌⊎◌, ℕ, ℤ, pos, List, [], ◌∷◌, Option, Some, None, Result, Ok, Err, arith, inl, inr, sym, subst, subst₂}
 use Rattle.sqlite.specs.Effect.{Database}
 use Rattle.sqlite.specs.Order.{Row}
 use Rattle.sqlite.specs.State.{State}
@@ -9,18 +9,20 @@ use Rattle.zeb_profile.specs.declared.directives.Directive.{Directive}
 use Rattle.zeb_register.specs.Calls.{ChangesNothing}
 use Rattle.zeb_register.specs.declared.catalog.Database as catalog
 use Rattle.zeb_register.specs.Catalog.{IsDatabaseOf, PutsDatabase}
+use Rattle.zeb_register.specs.Sound.{KeepsMalformed}
 use Rattle.zeb_register.specs.Store.{Changes, HasDatabase, IsStore, databases_tree}
 use Rattle.zeb_register.proofs.Calls.{store_same}
+use Rattle.zeb_register.proofs.Malformed.{malformed_same, malformed_then}
 use Rattle.zeb_register.proofs.RowsAreLists.{one_last}
 use Rattle.zeb_change.specs.declared.refusals.Refusal.{Refusal}
-use Rattle.zeb_change.specs.Elders.{AllFindWhole, FirstFindsWhole, KeepsAside, KeepsWhole, LosesWholeAlone, OfFirst, PassesOn}
+use Rattle.zeb_change.specs.Elders.{AllFindWhole, FirstFindsWhole, KeepsAside, KeepsWhole, LosesWholeAlone, PassesOn}
 use Rattle.zeb_change.specs.Folding.{splits_of}
 use Rattle.zeb_change.specs.Refused.{why_of}
 use Rattle.zeb_change.proofs.Elders.{passed_error}
 use Rattle.zeb_change.proofs.ElderSteps.{files_find}
 use Rattle.zeb_engine.specs.Adopting.{StaysOpen}
 use Rattle.zeb_engine.specs.Answers.{IsFailure, refused}
-use Rattle.zeb_engine.specs.AnyTables.{ElderOver, EldersOver, KeepsOtherDatabases, LeavesRecords, LosesWholeOver}
+use Rattle.zeb_engine.specs.AnyTables.{ElderOver, EldersOver, KeepsOtherDatabases, LeavesRows, LosesWholeOver}
 use Rattle.zeb_engine.specs.PrivateChanging.{last_of}
 use Rattle.zeb_engine.specs.PrivateLooking.{MissesDatabase}
 use Rattle.zeb_engine.proofs.ChangeSteps.{kept_records}
@@ -32,10 +34,6 @@ said_after Says old mid nothing opened told store =
     let same = nothing opened.1 in
     subst (λ (d : Database). Says d.trees) same.1 (told (store_same old mid same.1 store))
 
-of_first : {A : Type 0} (P : A → Type 0) (xs : List A) → ((x : A) → P x) → OfFirst P xs
-of_first P [] each = tt
-of_first P (x ∷ xs) each = each x
-
 module _ (profile : List Directive) where
   -- what is found goes by the rows of records alone
   same_records : {T : Type 0} (old mid : Trees) (id : ℤ) (splits : List Split) (result : Result T Refusal) → mid 4 ≡ old 4 → FirstFindsWhole profile mid id splits result → FirstFindsWhole profile old id splits result
@@ -45,7 +43,7 @@ module _ (profile : List Directive) where
     -- a refusal as damage or by a failure
     pub few_elder : {T : Type 0} (trees : Trees) (why : Refusal) (result : Result T Refusal) → result ≡ Err why → IsFew why → ElderOver profile name texts trees result
     few_elder trees why result told few id last there =
-        of_first _ (splits_of texts) (λ split. of_first _ split.slices (λ slice ident whole named. passed_error (KeepsWhole profile trees id ident) why result told (inr few)))
+        λ bytes is ident whole named. passed_error (KeepsWhole profile trees id ident) why result told (inr few)
 
     -- a database that is there isn't missed
     pub missed_elder : {T : Type 0} (trees : Trees) (why : Refusal) (result : Result T Refusal) → result ≡ Err why → IsFailure (refused (why_of why)) ⊎ MissesDatabase trees name why → ElderOver profile name texts trees result
@@ -84,6 +82,11 @@ module _ (profile : List Directive) where
 
 -- ---- what is kept after
 
+-- a database's row stands beside those of the registers
+put_malformed : (id : ℤ) (name : List ℕ) (last : ℤ) (old new : State) → Changes databases_tree (PutsDatabase id name last) old new → KeepsMalformed old.now.trees new.now.trees
+put_malformed id name last old new put =
+    malformed_same old.now.trees new.now.trees (put.others.1.1.1.1.0 (λ e. absurd (omega (arith, e)))) (put.others.1.1.1.1.1.0 (λ e. absurd (omega (arith, e))))
+
 module _ (profile : List Directive) (name : List ℕ) (old mid now new : State) (id : ℤ) where
   -- a part of a change goes by the rows of records alone
   rows_pass : (last after : ℕ) → PassesOn profile id last after mid now → mid.now.trees 4 ≡ old.now.trees 4 → now.now.trees 4 ≡ new.now.trees 4
@@ -107,7 +110,10 @@ module _ (profile : List Directive) (name : List ℕ) (old mid now new : State) 
 
   -- the row of its database, which was found, is written before the records and after them
   pub put_leaves : (found : Option catalog.Database) (after : ℕ) → IsStore old → Changes databases_tree (PutsDatabase id name (pos (last_of found))) old mid → IsDatabaseOf old.now.trees name found
-      → PassesOn profile id (last_of found) after mid now → new.now.trees 4 ≡ now.now.trees 4 → LeavesRecords profile name old.now.trees new.now.trees
-  put_leaves found after store put is passes same =
-      let left = rows_pass (last_of found) after passes (kept_records id name (pos (last_of found)) old mid put) (sym same) in
-      (lost found store put is left.0, aside (pos (last_of found)) put left.1)
+      → PassesOn profile id (last_of found) after mid now → (again : ℤ) → Changes databases_tree (PutsDatabase again name (pos after)) now new → LeavesRows profile name old.now.trees new.now.trees
+  put_leaves found after store put is passes again kept =
+      let left = rows_pass (last_of found) after passes (kept_records id name (pos (last_of found)) old mid put) (sym (kept_records again name (pos after) now new kept)) in
+      let begun = put_malformed id name (pos (last_of found)) old mid put in
+      let ended = put_malformed again name (pos after) now new kept in
+      let malformed = malformed_then old.now.trees mid.now.trees new.now.trees begun (malformed_then mid.now.trees now.now.trees new.now.trees passes.malformed ended) in
+      (lost found store put is left.0, aside (pos (last_of found)) put left.1, malformed)

@@ -1,4 +1,4 @@
--- A create, a drop and a dump on any tables of a store, step by step.
+-- A command that asks, a create and a drop on any tables of a store, step by step: which rows they are refused for.
 use Rattle.std.proofs.Common.{◌≡◌, ◌≢◌, ◌⊎◌, ℕ, ℤ, pos, List, Option, Some, None, Result, Ok, Err, refl, ap, subst, inl, inr}
 use Rattle.sqlite.specs.Effect.{Database as Contents}
 use Rattle.sqlite.specs.State.{State}
@@ -9,7 +9,6 @@ use Rattle.zeb_register.specs.declared.RegFault.{RegFault}
 use Rattle.zeb_register.specs.declared.RegFault.TheVariants as register
 use Rattle.zeb_register.specs.Calls.{ChangesNothing}
 use Rattle.zeb_register.specs.Catalog.{AreCountedDatabases, IsDatabaseOf}
-use Rattle.zeb_register.specs.Kept.{AreReadable}
 use Rattle.zeb_register.specs.Store.{HasDatabase, IsStore}
 use Rattle.zeb_register.proofs.Calls.{store_same}
 use Rattle.zeb_change.specs.declared.refusals.Refusal.{Refusal}
@@ -21,7 +20,7 @@ use Rattle.zeb_image.specs.NameOf.{name_bytes}
 use Rattle.zeb_engine.specs.declared.replies.Reply.{Reply}
 use Rattle.zeb_engine.specs.Adopting.{StaysOpen}
 use Rattle.zeb_engine.specs.Alone.{IsSaidOrMissed, OfDatabase}
-use Rattle.zeb_engine.specs.AnyRefusals.{CreateOver, DropOver, HidesDatabase, HidesRecords, TellsUnlessHidden, UnlessHidden}
+use Rattle.zeb_engine.specs.AnyRefusals.{CreateOver, DropOver, HidesDatabase, HidesOf, TellsUnlessHidden, UnlessHidden}
 use Rattle.zeb_engine.specs.Answers.{Answer, refused, IsFailure}
 use Rattle.zeb_engine.specs.PrivateLooking.{IsUnready, MissesDatabase}
 use Rattle.zeb_engine.specs.PrivateWriting.{reply_of_work, DoneOrFails}
@@ -94,13 +93,12 @@ pub drop_there : (name : List ℕ) (trees : Trees) (found : Database) → HasDat
 drop_there name trees found row result (inl told) = inl (inr (found.id.0, pos found.last, row, ((found.last, refl), told)))
 drop_there name trees found row result (inr failed) = inr (inr failed)
 
--- ---- the records of a database
-
-pub dump_hidden : (Over : Trees → Answer → Type 0) (name : List ℕ) (trees : Trees) (id last : ℤ) → HasDatabase trees id name last
-    → (why : Refusal) → IsFailure (refused (why_of why)) ⊎ ((why ≡ refusal.Damaged) × (¬ AreReadable trees id))
-    → TellsUnlessHidden Over (HidesRecords name) trees (Err why)
-dump_hidden Over name trees id last row why (inl failed) = inr (inr failed)
-dump_hidden Over name trees id last row why (inr damaged) = inr (inl (ap Err damaged.0, inr (id, last, row, damaged.1)))
+-- something of a database that has the name can't be read
+pub hidden_of : (Over : Trees → Answer → Type 0) (Hides : Trees → ℤ → Type 0) (name : List ℕ) (trees : Trees) (id last : ℤ)
+    → HasDatabase trees id name last → (why : Refusal) → IsFailure (refused (why_of why)) ⊎ ((why ≡ refusal.Damaged) × Hides trees id)
+    → TellsUnlessHidden Over (λ t. HidesOf (Hides t) name t) trees (Err why)
+hidden_of Over Hides name trees id last row why (inl failed) = inr (inr failed)
+hidden_of Over Hides name trees id last row why (inr damaged) = inr (inl (ap Err damaged.0, inr (id, last, row, damaged.1)))
 
 -- ---- a write that rests on a look
 

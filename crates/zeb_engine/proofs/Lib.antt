@@ -44,6 +44,7 @@ pub mod ReadyBases
 pub mod ScanAnswers
 pub mod StoreCauses
 pub mod WriteCauses
+pub mod MadeTables
 pub mod AdoptingCauses
 pub mod InitCauses
 pub mod DumpAnswers

@@ -1,7 +1,5 @@
 -- A find, a scan and a stat on any tables of a store, step by step.
-use Rattle.std.proofs.Common.{◌≡◌, ◌≢◌, ◌⊎◌, ℕ, ℤ, List, length, map, Result, Ok, Err, string_bytes, refl, sym, ap, subst, inl, inr}
-use Rattle.sqlite.specs.Effect.{Database}
-use Rattle.sqlite.specs.State.{State}
+use Rattle.std.proofs.Common.{◌≡◌, ◌⊎◌, ℕ, ℤ, List, length, map, Result, Ok, Err, string_bytes, refl, sym, ap, subst, inl, inr}
 use Rattle.sqlite.specs.Tree.{Trees}
 use Rattle.zeb_profile.specs.declared.directives.Directive.{Directive}
 use Rattle.zeb_query.specs.declared.faults.QueryFault.{QueryFault}
@@ -13,23 +11,19 @@ use Rattle.zeb_query.specs.Plans.{PlanValue, ScanValue, plan_of, scan_of}
 use Rattle.zeb_register.specs.declared.RegFault.{RegFault}
 use Rattle.zeb_register.specs.declared.RegFault.TheVariants as register
 use Rattle.zeb_register.specs.declared.registers.TermCount.{TermCount}
-use Rattle.zeb_register.specs.Calls.{ChangesNothing}
-use Rattle.zeb_register.specs.Store.{HasDatabase, IsStore}
-use Rattle.zeb_register.proofs.Calls.{store_same}
+use Rattle.zeb_register.specs.Formats.{Format}
+use Rattle.zeb_register.specs.Store.{HasDatabase}
 use Rattle.zeb_change.specs.declared.refusals.Refusal.{Refusal}
 use Rattle.zeb_change.specs.declared.refusals.Refusal.TheVariants as refusal
 use Rattle.zeb_change.specs.Outcomes.{query_refusal, register_refusal}
 use Rattle.zeb_change.specs.Refused.{Why, diagnostic, why_of, Meets}
 use Rattle.zeb_engine.specs.declared.replies.Reply.{Reply}
-use Rattle.zeb_engine.specs.Adopting.{StaysOpen}
 use Rattle.zeb_engine.specs.Alone.{IsAsked, IsSaidOrMissed, OfDatabase}
-use Rattle.zeb_engine.specs.Answers.{Answer, answer_of, found, refused, scanned, IsFailure}
-use Rattle.zeb_engine.specs.AnyTables.{OverReady, TellsOver}
+use Rattle.zeb_engine.specs.Answers.{Answer, found, refused, scanned, IsFailure}
+use Rattle.zeb_engine.specs.AnyRefusals.{HidesAround, HidesPlanned, TellsUnlessHidden}
+use Rattle.zeb_engine.specs.AnyTables.{HidesAny}
 use Rattle.zeb_engine.specs.Finding.{AreShown, IsAnsweredBy, IsPlannedBy, IsShown, asked_of}
-use Rattle.zeb_engine.specs.PrivateLooking.{IsUnready, MissesDatabase}
-use Rattle.zeb_engine.specs.Readiness.{IsReadyFor, IsRefusedOver}
 use Rattle.zeb_engine.specs.Scanning.{IsScannedBy, IsScanPlannedBy}
-use Rattle.zeb_engine.proofs.ReadyTexts.{unready_fails}
 
 -- ---- damage and failures
 
@@ -42,61 +36,35 @@ fault_few register.Damaged = inl refl
 fault_few register.Store = inr (inl refl)
 fault_few register.Memory = inr (inr refl)
 
-pub few_over : (Over : Trees → Answer → Type 0) (trees : Trees) (why : Refusal) → IsFew why → TellsOver Over trees (Err why)
-few_over Over trees why (inl is) = inr (inl (ap Err is))
+pub few_over : (Over : Trees → Answer → Type 0) (trees : Trees) (why : Refusal) → IsFew why → TellsUnlessHidden Over HidesAny trees (Err why)
+few_over Over trees why (inl is) = inr (inl (ap Err is, tt))
 few_over Over trees why (inr failed) = inr (inr failed)
-
--- ---- after a look at whether the register is ready
-
-pub over_after : (Over : Trees → Answer → Type 0) (old mid : State) (result : Result Reply Refusal) → ChangesNothing old mid → StaysOpen old mid
-    → (IsStore mid → TellsOver Over mid.now.trees result) → IsStore old → TellsOver Over old.now.trees result
-over_after Over old mid result nothing opened told store =
-    let same = nothing opened.1 in
-    subst (λ (d : Database). TellsOver Over d.trees result) same.1 (told (store_same old mid same.1 store))
-
--- a register that is ready is refused there by a failure alone
-pub unready_over : (version : List ℕ) (profile : List Directive) (Over : Trees → Answer → Type 0) (s : State) (why : Refusal) → IsUnready why → (IsStore s → IsRefusedOver version profile s.now.trees why)
-    → (IsStore s → IsReadyFor version profile s.now.trees → ◌≢◌ {A = Result (Unit {0}) Refusal} (Err why) (Err refusal.Damaged)) → OverReady version profile Over s (Err why)
-unready_over version profile Over s why few texts whole store is = inr (inr (unready_fails version profile s.now.trees is why few (texts store) (whole store is)))
-
--- ---- the database of a name
-
-module _ (Tells : OfDatabase) (name : List ℕ) (trees : Trees) where
-  abbrev pub NamedEnds : Result Reply Refusal → Type 0
-  NamedEnds result = TellsOver (λ t. IsSaidOrMissed Tells name t) trees result
-
-  pub named_misses : (why : Refusal) → IsFailure (refused (why_of why)) ⊎ MissesDatabase trees name why → NamedEnds (Err why)
-  named_misses why (inl failed) = inr (inr failed)
-  named_misses why (inr (inl none)) = inl (inl (none.0, ap refused none.1))
-  named_misses why (inr (inr damaged)) = inr (inl (ap Err damaged.0))
-
-  module _ (text : List ℕ) where
-    abbrev pub AskedEnds : Result Reply Refusal → Type 0
-    AskedEnds result = TellsOver (λ t. IsAsked Tells name text t) trees result
-
-    pub query_over : (e : QueryFault) → IsFaultOf e text → AskedEnds (Err (query_refusal e))
-    query_over Memory is = inr (inr (inr refl))
-    query_over (Diagnostic number place addinfo) is = inl (inr (number, place, is.0, ap (λ t. refused (diagnostic number place t)) is.1))
-
-    module _ (readable : IsReadable text) where
-      -- what is told of the database is told of the query
-      pub asked_over : (result : Result Reply Refusal) → NamedEnds result → AskedEnds result
-      asked_over result (inl told) = inl (inl (readable, told))
-      asked_over result (inr few) = inr few
-
-      pub said_over : (id last : ℤ) → HasDatabase trees id name last → (result : Result Reply Refusal) → Tells id last (answer_of result) → AskedEnds result
-      said_over id last row result is = inl (inl (readable, inr (id, last, row, is)))
-
--- ---- what a query comes to
 
 -- it is said so, or it failed
 abbrev pub IsOrFails : (Answer → Type 0) → Refusal → Type 0
 IsOrFails Is why = Is (refused (why_of why)) ⊎ IsFailure (refused (why_of why))
 
-pub or_fails : (Tells : OfDatabase) (name : List ℕ) (trees : Trees) (text : List ℕ) → IsReadable text → (id last : ℤ) → HasDatabase trees id name last → (why : Refusal)
-    → IsOrFails (Tells id last) why → TellsOver (λ t. IsAsked Tells name text t) trees (Err why)
-or_fails Tells name trees text readable id last row why (inl is) = said_over Tells name trees text readable id last row (Err why) is
-or_fails Tells name trees text readable id last row why (inr failed) = inr (inr failed)
+-- ---- a query of the database of a name
+
+module _ (Tells : OfDatabase) (name : List ℕ) (Hides : Trees → Type 0) (trees : Trees) (text : List ℕ) where
+  abbrev pub AskedEnds : Result Reply Refusal → Type 0
+  AskedEnds result = TellsUnlessHidden (λ t. IsAsked Tells name text t) Hides trees result
+
+  pub query_over : (e : QueryFault) → IsFaultOf e text → AskedEnds (Err (query_refusal e))
+  query_over Memory is = inr (inr (inr refl))
+  query_over (Diagnostic number place addinfo) is = inl (inr (number, place, is.0, ap (λ t. refused (diagnostic number place t)) is.1))
+
+  module _ (readable : IsReadable text) where
+    -- what is told of the database is told of the query
+    pub asked_over : (result : Result Reply Refusal) → TellsUnlessHidden (λ t. IsSaidOrMissed Tells name t) Hides trees result → AskedEnds result
+    asked_over result (inl told) = inl (inl (readable, told))
+    asked_over result (inr other) = inr other
+
+    pub or_fails : (id last : ℤ) → HasDatabase trees id name last → (why : Refusal) → IsOrFails (Tells id last) why → AskedEnds (Err why)
+    or_fails id last row why (inl is) = inl (inl (readable, inr (id, last, row, is)))
+    or_fails id last row why (inr failed) = inr (inr failed)
+
+-- ---- what a query comes to
 
 module _ (profile : List Directive) (text : List ℕ) (value : QueryValue) (spells : SpellsQuery text value) where
   module _ (Named : ℕ → List ℕ → Type 0) (Hits : PlanValue → List ℕ → Type 0) (first count : ℕ) where
@@ -141,3 +109,10 @@ module _ (profile : List Directive) (text : List ℕ) (value : QueryValue) (spel
     terms_scanned plan planned terms are =
         let answer = scanned plan.register (map (λ t. (t.term, t.records)) terms) in
         (value, spells, subst (λ r. IsScanPlannedBy Terms r number position answer) (sym planned) (terms, are, refl))
+
+  -- rows that a query's plan reads are rows that the query hides
+  pub planned_hides : (format : Format) (number position : ℕ) (trees : Trees) (db : ℤ) (plan : ScanValue) → scan_of profile value ≡ Ok plan
+      → (why : Refusal) → IsFailure (refused (why_of why)) ⊎ ((why ≡ refusal.Damaged) × HidesAround format trees db plan number position)
+      → IsFailure (refused (why_of why)) ⊎ ((why ≡ refusal.Damaged) × HidesPlanned format profile text number position trees db)
+  planned_hides format number position trees db plan planned why (inl failed) = inl failed
+  planned_hides format number position trees db plan planned why (inr met) = inr (met.0, (plan, (value, spells, planned), met.1))

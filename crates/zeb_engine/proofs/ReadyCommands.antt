@@ -17,6 +17,7 @@ use Rattle.zeb_engine.specs.Answers.{Answer, answer_of, refused, IsFailure}
 use Rattle.zeb_change.specs.Refused.{Why, why_of, Meets}
 use Rattle.zeb_change.specs.Conditions.{Conditions}
 use Rattle.zeb_engine.specs.Alone.{Alone, AnswersAlone, FindAlone, FindSays, RefusedAlone, RefusesFind, ScanSays}
+use Rattle.zeb_engine.specs.AnyRefusals.{HidesTerms, UnlessHidden}
 use Rattle.zeb_engine.specs.AnyTables.{AnswersTables, ChangesOver, ChangesReady, FindOver, OverReady, ScanOver}
 use Rattle.zeb_engine.specs.Readiness.{IsReadyFor}
 use Rattle.zeb_image.specs.Holdings.{Holdings}
@@ -129,10 +130,11 @@ find_tables format profile s result database query first count name asked from m
 
 pub scan_tables : (format : Format) (profile : List Directive) (s : State) (result : Result Reply Refusal) (database : DbName) (query : String Global) (number position : ℕ)
     → (name asked : List ℕ) (many at : ℕ) → name ≡ name_bytes database → asked ≡ string_bytes query → many ≡ number → at ≡ position
-    → OverReady (version_of format) profile (ScanOver format profile name asked many at) s result → AnswersTables format profile (Scan database query number position) s result
+    → UnlessHidden (version_of format) profile (ScanOver format profile name asked many at) (HidesTerms format profile name asked many at) s result
+    → AnswersTables format profile (Scan database query number position) s result
 scan_tables format profile s result database query number position name asked many at is_name is_asked is_many is_at told =
-    subst₂ (λ (n q : List ℕ). OverReady (version_of format) profile (ScanOver format profile n q number position) s result) is_name is_asked
-    (subst₂ (λ (m p : ℕ). OverReady (version_of format) profile (ScanOver format profile name asked m p) s result) is_many is_at told)
+    subst₂ (λ (n q : List ℕ). UnlessHidden (version_of format) profile (ScanOver format profile n q number position) (HidesTerms format profile n q number position) s result) is_name is_asked
+    (subst₂ (λ (m p : ℕ). UnlessHidden (version_of format) profile (ScanOver format profile name asked m p) (HidesTerms format profile name asked m p) s result) is_many is_at told)
 
 pub change_over : (version : List ℕ) (profile : List Directive) (s : State) (result : Result Reply Refusal) (kind : Kind) (database : DbName) (files : Vec (Vec ℕ Global) Global) (named : DbName) (given : List (Vec ℕ Global))
     → named ≡ database → given ≡ files.items → ChangesReady version profile (name_bytes named) (map (λ file. file.items) given) s result → ChangesOver version profile (Change kind database files) s result

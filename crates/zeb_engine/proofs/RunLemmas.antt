@@ -2,7 +2,9 @@
 use Rattle.std.proofs.Common.{List, [], ◌∷◌, ◌++◌, Result, Ok, Err, OnOk, OnErr, IsTrue, inl, inr, rules, refl, subst, sym}
 use Rattle.std.specs.List.{AllByRecursion}
 use Rattle.std.specs.Result.{IsErr}
+use Rattle.sqlite.specs.Held.{Held, state}
 use Rattle.sqlite.specs.State.{State, HasCleanDisk}
+use Rattle.sqlite.specs.Store.{Ghosts}
 use Rattle.zeb_register.specs.Calls.{ChangesNothing}
 use Rattle.zeb_register.proofs.Calls.{nothing_then}
 use Rattle.zeb_engine.specs.declared.commands.Command.{Command}
@@ -14,7 +16,7 @@ use Rattle.zeb_change.specs.Conditions.{Conditions}
 use Rattle.zeb_image.specs.Holdings.{Holdings}
 use Rattle.zeb_engine.specs.Steps.{Run}
 use Rattle.zeb_engine.specs.Transactions.{AsksStore, NoneAsks}
-use Rattle.zeb_engine.specs.Works.{FindOpen, Runs, ServesCommand}
+use Rattle.zeb_engine.specs.Works.{FindOpen, InTurn, Runs, ServesCommand}
 use Rattle.zeb_engine.proofs.ServesLemmas.{on_ok}
 use Rattle.zeb_engine.proofs.CommandedConnections.{AsksOrStays}
 
@@ -31,6 +33,16 @@ runs_more c old now next commands answers command result runs serves before keep
     let so_far = runs before keeps in
     let served = serves so_far.0 so_far.2 in
     (served.0, run_more c commands answers before so_far.0 served.0 command (answer_of result) so_far.1 (served.0, served.1, refl), served.2)
+
+-- ---- commands in turn
+
+module _ {S : Type 0} (g : Ghosts S) (Does : Command → Result Reply Refusal → State → State → Type 0) where
+  pub one_turn_more : (old now next : Held S) (command : Command) (result : Result Reply Refusal) → Does command result (state g now) (state g next) → (commands : List Command) (results : List (Result Reply Refusal))
+      → InTurn g Does commands results old now → InTurn g Does (commands ++ command ∷ []) (results ++ result ∷ []) old next
+  one_turn_more old now next command result does [] [] same = (next, subst (λ (h : Held S). Does command result (state g h) (state g next)) same does, refl)
+  one_turn_more old now next command result does (c ∷ commands) (r ∷ results) turns = (turns.0, turns.1, one_turn_more turns.0 now next command result does commands results turns.2)
+  one_turn_more old now next command result does [] (r ∷ results) turns = absurd turns
+  one_turn_more old now next command result does (c ∷ commands) [] turns = absurd turns
 
 -- ---- commands that are all refused
 

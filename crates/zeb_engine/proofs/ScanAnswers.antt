@@ -11,11 +11,14 @@ use Rattle.zeb_query.specs.Plans.{ScanValue, scan_of}
 use Rattle.zeb_keys.specs.declared.keys.Occurrence.{Occurrence}
 use Rattle.zeb_register.specs.declared.registers.TermCount.{TermCount}
 use Rattle.zeb_register.specs.Content.{posted}
-use Rattle.zeb_register.specs.Formats.{Format}
+use Rattle.zeb_register.specs.Formats.{Format, packed_blocks, plain_rows}
 use Rattle.zeb_register.specs.Occurring.{AreTermsBefore, AreTermsFrom, is_before, is_from, last}
-use Rattle.zeb_register.specs.Sound.{TellsBefore, TellsFrom}
+use Rattle.zeb_register.specs.PackedBlocks.{AreBeforeCounted, AreFromCounted}
+use Rattle.zeb_register.specs.PlainRows.{register_front}
+use Rattle.zeb_register.specs.Sound.{InPacked, TellsBefore, TellsFrom}
 use Rattle.zeb_register.proofs.OccurringLemmas.{one_terms, terms_as}
 use Rattle.zeb_engine.specs.Answers.{Answer, scanned, refused}
+use Rattle.zeb_engine.specs.AnyRefusals.{AreAroundCounted, HidesAround}
 use Rattle.zeb_engine.specs.AnyTables.{TellsAround}
 use Rattle.zeb_change.specs.Refused.{diagnostic, why_of}
 use Rattle.zeb_change.specs.Occurs.{occurs}
@@ -50,6 +53,30 @@ around_told format trees mid db plan number position start below from first rest
     let back = subst₂ (λ (s : List ℕ) (n : ℕ). TellsFrom format trees db plan.index plan.register s n rest) is_start is_from_many
     (subst (λ (t : Trees). TellsFrom format t db plan.index plan.register start from rest) same after) in
     record { below = first; rest = rest; before = front; from = back; joined = is }
+
+-- ---- rows that can't be read
+
+-- where less is enough, it is so too
+packed_less : (format : Format) (Enough Less : Type 0) → (Enough → Less) → InPacked format Enough → InPacked format Less
+packed_less plain_rows Enough Less so none = none
+packed_less packed_blocks Enough Less so all = so all
+
+module _ (format : Format) (trees : Trees) (db : ℤ) (plan : ScanValue) (number position : ℕ) (start : List ℕ) (is_start : start ≡ plan.start) where
+  pub before_hides : (below : ℕ) → below ≡ position - 1
+      → (¬ InPacked format (AreBeforeCounted trees (register_front db plan.index plan.register) start below)) → HidesAround format trees db plan number position
+  before_hides below is_many hides all =
+      let front = register_front db plan.index plan.register in
+      let told = subst₂ (λ (s : List ℕ) (n : ℕ). ¬ InPacked format (AreBeforeCounted trees front s n)) is_start is_many hides in
+      told (packed_less format (AreAroundCounted trees db plan number position) (AreBeforeCounted trees front plan.start (position - 1)) (λ both. both.0) all)
+
+  -- on the tables that the first look leaves as they were
+  pub from_hides : (mid : Trees) (from : ℕ) → from ≡ number + 1 - position → mid ≡ trees
+      → (¬ InPacked format (AreFromCounted mid (register_front db plan.index plan.register) start from)) → HidesAround format trees db plan number position
+  from_hides mid from is_many same hides all =
+      let front = register_front db plan.index plan.register in
+      let here = subst (λ (t : Trees). ¬ InPacked format (AreFromCounted t front start from)) same hides in
+      let told = subst₂ (λ (s : List ℕ) (n : ℕ). ¬ InPacked format (AreFromCounted trees front s n)) is_start is_many here in
+      told (packed_less format (AreAroundCounted trees db plan number position) (AreFromCounted trees front plan.start (number + 1 - position)) (λ both. both.1) all)
 
 -- ---- sets of the same occurrences
 

@@ -1,11 +1,18 @@
--- What a create, a drop and a dump go by over a register that is ready, whatever rows its tables have: the rows of the database of the name,
--- and of a dump its records. Each is refused as damage only where such a row can't be read.
-use Rattle.std.specs.Prelude.{◌≡◌, ◌⊎◌, ℕ, ℤ, pos, List, None, Result, Err}
+-- What a create, a drop, a dump, a scan and a stat go by over a register that is ready, whatever rows its tables have: the rows of the database
+-- of the name, of a dump its records, and of a scan and a stat the rows of its registers that these read. Each is refused as damage only where
+-- such a row can't be read.
+use Rattle.std.specs.Prelude.{◌≡◌, ◌⊎◌, ℕ, ℤ, pos, ◌+◌, ◌-◌, List, None, Result, Err}
 use Rattle.sqlite.specs.Tree.{Trees}
 use Rattle.sqlite.specs.State.{State}
+use Rattle.sqlite_rules.specs.Lists.{Has}
 use Rattle.zeb_profile.specs.declared.directives.Directive.{Directive}
+use Rattle.zeb_query.specs.Plans.{ScanValue}
 use Rattle.zeb_register.specs.Catalog.{AreCountedDatabases, IsDatabaseOf}
+use Rattle.zeb_register.specs.Formats.{Format}
 use Rattle.zeb_register.specs.Kept.{AreReadable}
+use Rattle.zeb_register.specs.PackedBlocks.{AreBeforeCounted, AreFromCounted, IsRegisterSound}
+use Rattle.zeb_register.specs.PlainRows.{register_front}
+use Rattle.zeb_register.specs.Sound.{InPacked}
 use Rattle.zeb_register.specs.Store.{HasDatabase, IsStore}
 use Rattle.zeb_change.specs.declared.refusals.Refusal.{Refusal}
 use Rattle.zeb_change.specs.declared.refusals.Refusal.TheVariants.{Damaged}
@@ -13,7 +20,9 @@ use Rattle.zeb_change.specs.Refused.{exists}
 use Rattle.zeb_engine.specs.declared.replies.Reply.{Reply}
 use Rattle.zeb_engine.specs.Alone.{IsSaid, IsSaidOrMissed, OfDatabase}
 use Rattle.zeb_engine.specs.Answers.{Answer, answer_of, done, refused, IsFailure}
+use Rattle.zeb_engine.specs.Counting.{Target, target_list}
 use Rattle.zeb_engine.specs.Readiness.{IsReadyFor}
+use Rattle.zeb_engine.specs.Scanning.{IsScanPlanOf}
 
 -- ---- rows that can't be read
 
@@ -21,9 +30,41 @@ use Rattle.zeb_engine.specs.Readiness.{IsReadyFor}
 abbrev pub HidesDatabase : (name : List ℕ) → Trees → Type 0
 HidesDatabase name trees = ¬ AreCountedDatabases trees name
 
--- That is so, or a record of the database of this name has a number below 0 or an identifier that isn't UTF-8.
+-- that is so, or a database has this name and something of it can't be read
+abbrev pub HidesOf : (Hides : ℤ → Type 0) → (name : List ℕ) → Trees → Type 0
+HidesOf Hides name trees = HidesDatabase name trees ⊎ ((id : ℤ) × (last : ℤ) × HasDatabase trees id name last × Hides id)
+
+-- a record of it: it has a number below 0 or an identifier that isn't UTF-8
 abbrev pub HidesRecords : (name : List ℕ) → Trees → Type 0
-HidesRecords name trees = HidesDatabase name trees ⊎ ((id : ℤ) × (last : ℤ) × HasDatabase trees id name last × (¬ AreReadable trees id))
+HidesRecords name trees = HidesOf (λ id. ¬ AreReadable trees id) name trees
+
+-- Each row of `dict` that a scan reads counts a term: the last of the register below the start, and the first that aren't.
+abbrev pub AreAroundCounted : Trees → (db : ℤ) → ScanValue → (number position : ℕ) → Type 0
+AreAroundCounted trees db plan number position =
+    AreBeforeCounted trees (register_front db plan.index plan.register) plan.start (position - 1)
+    × AreFromCounted trees (register_front db plan.index plan.register) plan.start (number + 1 - position)
+
+-- One of these rows of packed blocks doesn't. Over plain rows damage is free: of those it isn't said which can be read.
+abbrev pub HidesAround : Format → Trees → (db : ℤ) → ScanValue → (number position : ℕ) → Type 0
+HidesAround format trees db plan number position = ¬ InPacked format (AreAroundCounted trees db plan number position)
+
+-- the query has a plan for a scan, and so it is of the rows that this reads
+abbrev pub HidesPlanned : Format → List Directive → (text : List ℕ) → (number position : ℕ) → Trees → (db : ℤ) → Type 0
+HidesPlanned format profile text number position trees db =
+    (plan : ScanValue) × IsScanPlanOf profile text plan × HidesAround format trees db plan number position
+
+abbrev pub HidesTerms : Format → List Directive → (name text : List ℕ) → (number position : ℕ) → Trees → Type 0
+HidesTerms format profile name text number position trees = HidesOf (HidesPlanned format profile text number position trees) name trees
+
+-- Of packed blocks a row of `dict` in one of these registers counts no term, or a row of `blocks` of the terms that these show spells no
+-- postings. Over plain rows damage is free here too.
+abbrev pub HidesOneOf : Format → List Target → Trees → (db : ℤ) → Type 0
+HidesOneOf format targets trees db =
+    (target : Target) × Has targets target × (¬ InPacked format (IsRegisterSound trees db target.0 target.1))
+
+-- so it is of one of the registers that the profile names
+abbrev pub HidesRegisters : Format → List Directive → (name : List ℕ) → Trees → Type 0
+HidesRegisters format profile name trees = HidesOf (HidesOneOf format (target_list profile) trees) name trees
 
 -- ---- of the database of a name
 

@@ -1,9 +1,9 @@
 -- What a find, a scan, a stat and a dump answer over a register that is ready, whatever its other tables hold, also where these hold no
--- content. What the rows of databases and of records tell is said, each refusal but damage, and what the rows of the registers are that are
--- asked for: a find, a scan and a stat are answered only where each of these is sound, and the terms of a scan are those that its rows tell. Which
--- numbers sound rows make hits, and how many terms and occurrences they make, isn't said: of tables that hold a content that is said by
--- Alone. Of a change it is said what it finds kept under the identifiers of its records, and which records it loses.
-use Rattle.std.specs.Prelude.{◌≡◌, ◌≢◌, ◌↔◌, ◌⊎◌, ◌<◌, ◌+◌, ◌-◌, ◌^◌, ℕ, ℤ, pos, List, ◌++◌, map, Result, Err, OnOk, string_bytes}
+-- content. What the rows of databases and of records tell is said, each refusal but a find's damage, and what the rows of the registers are
+-- that are asked for: a find, a scan and a stat are answered only where each of these is sound, and the terms of a scan are those that its rows
+-- tell. Which numbers sound rows make hits, and how many terms and occurrences they make, isn't said: of tables that hold a content that is said
+-- by Alone. Of a change it is said what it finds kept under the identifiers of its records, and which records it loses.
+use Rattle.std.specs.Prelude.{◌≡◌, ◌≢◌, ◌↔◌, ◌<◌, ◌+◌, ◌-◌, ◌^◌, ℕ, ℤ, pos, List, ◌++◌, map, Result, OnOk, string_bytes}
 use Rattle.std.specs.List.{flat_map}
 use Rattle.std.specs.List.Sorted.{IsStrictlySortedBy}
 use Rattle.std.specs.Ordering.{nat_cmp}
@@ -15,7 +15,7 @@ use Rattle.zeb_query.specs.Plans.{PlanValue, ScanValue}
 use Rattle.zeb_register.specs.declared.registers.TermCount.{TermCount}
 use Rattle.zeb_register.specs.Formats.{Format, version_of}
 use Rattle.zeb_register.specs.Kept.{IsNumberOf, IsRecordCount}
-use Rattle.zeb_register.specs.Sound.{AreTermsSound, TellsBefore, TellsFrom}
+use Rattle.zeb_register.specs.Sound.{AreTermsSound, KeepsMalformed, TellsBefore, TellsFrom}
 use Rattle.zeb_register.specs.Store.{HasDatabase, HasRecord, IsStore}
 use Rattle.zeb_search.specs.Registers.{has_ident_in}
 use Rattle.zeb_search.specs.SearchRows.{ArePlanRowsSound}
@@ -23,14 +23,13 @@ use Rattle.zeb_change.specs.Base.{Kept}
 use Rattle.zeb_change.specs.Elders.{AllFindWhole, FirstFindsWhole, LosesWholeAlone}
 use Rattle.zeb_change.specs.Folding.{splits_of}
 use Rattle.zeb_change.specs.declared.refusals.Refusal.{Refusal}
-use Rattle.zeb_change.specs.declared.refusals.Refusal.TheVariants.{Damaged}
 use Rattle.zeb_image.specs.NameOf.{name_bytes}
 use Rattle.zeb_engine.specs.declared.commands.Command.{Command}
 use Rattle.zeb_engine.specs.declared.commands.Command.TheVariants.{Change, Create, Drop, Dump, Find, Scan, Stat}
 use Rattle.zeb_engine.specs.declared.replies.Reply.{Reply}
 use Rattle.zeb_engine.specs.Alone.{IsAsked, IsSaidOrMissed, OfDatabase}
-use Rattle.zeb_engine.specs.Answers.{Answer, Extent, answer_of, dumped, IsFailure}
-use Rattle.zeb_engine.specs.AnyRefusals.{CreateOver, DropOver, HidesDatabase, HidesRecords, UnlessHidden}
+use Rattle.zeb_engine.specs.Answers.{Answer, Extent, dumped}
+use Rattle.zeb_engine.specs.AnyRefusals.{CreateOver, DropOver, HidesDatabase, HidesRecords, HidesRegisters, HidesTerms, UnlessHidden}
 use Rattle.zeb_engine.specs.Counting.{IsCountedBy, IsUnder, Target}
 use Rattle.zeb_engine.specs.Finding.{IsAnsweredBy}
 use Rattle.zeb_engine.specs.Readiness.{IsReadyFor}
@@ -97,23 +96,25 @@ StatOver format profile name trees = IsSaidOrMissed (StatTells format profile tr
 abbrev pub DumpOver : (name : List ℕ) → Trees → Answer → Type 0
 DumpOver name trees = IsSaidOrMissed (DumpTells trees) name trees
 
--- it is answered so, accepted or refused; or damage was met, or the store or the memory failed
-abbrev pub TellsOver : (Trees → Answer → Type 0) → Trees → Result Reply Refusal → Type 0
-TellsOver Over trees result = Over trees (answer_of result) ⊎ ((result ≡ Err Damaged) ⊎ IsFailure (answer_of result))
+-- over any tables: which rows it is that can't be read isn't said
+abbrev pub HidesAny : Trees → Type 0
+HidesAny trees = Unit {0}
 
 -- ---- a command
 
 -- on the tables of a store that keep the session's version and profile
 abbrev pub OverReady : (version : List ℕ) → List Directive → (Trees → Answer → Type 0) → State → Result Reply Refusal → Type 0
-OverReady version profile Over s result = IsStore s → IsReadyFor version profile s.now.trees → TellsOver Over s.now.trees result
+OverReady version profile Over = UnlessHidden version profile Over HidesAny
 
 -- of a command that is a find, a scan, a stat, a dump, a create or a drop
 abbrev pub AnswersTables : Format → List Directive → Command → State → Result Reply Refusal → Type 0
 AnswersTables format profile (Find name query first count) s result =
     OverReady (version_of format) profile (FindOver format profile (name_bytes name) (string_bytes query) first count) s result
 AnswersTables format profile (Scan name query number position) s result =
-    OverReady (version_of format) profile (ScanOver format profile (name_bytes name) (string_bytes query) number position) s result
-AnswersTables format profile (Stat name) s result = OverReady (version_of format) profile (StatOver format profile (name_bytes name)) s result
+    UnlessHidden (version_of format) profile (ScanOver format profile (name_bytes name) (string_bytes query) number position)
+    (HidesTerms format profile (name_bytes name) (string_bytes query) number position) s result
+AnswersTables format profile (Stat name) s result =
+    UnlessHidden (version_of format) profile (StatOver format profile (name_bytes name)) (HidesRegisters format profile (name_bytes name)) s result
 AnswersTables format profile (Dump name) s result =
     UnlessHidden (version_of format) profile (DumpOver (name_bytes name)) (HidesRecords (name_bytes name)) s result
 AnswersTables format profile (Create name) s result =
@@ -124,8 +125,8 @@ AnswersTables format profile other s result = Unit {0}
 
 -- ---- a change
 
--- Of the database that has the name: what it keeps under the identifier of the first record of the first of these files is whole, or the change
--- is refused as damage, or because the store or the memory failed.
+-- Of the database that has the name: what it keeps under the identifier of the first record of all these files is whole, or the change is
+-- refused as damage, or because the store or the memory failed.
 abbrev pub ElderOver : {T : Type 0} → List Directive → (name : List ℕ) → (texts : List (List ℕ)) → Trees → Result T Refusal → Type 0
 ElderOver profile name texts trees result =
     (id last : ℤ) → HasDatabase trees id name last → FirstFindsWhole profile trees id (splits_of texts) result
@@ -161,13 +162,13 @@ abbrev pub KeepsOtherDatabases : (name : List ℕ) → (old new : Trees) → Typ
 KeepsOtherDatabases name old new = (id last : ℤ) (other : List ℕ) → HasDatabase old id other last → other ≢ name
     → (sysno : ℤ) (ident bytes : List ℕ) → HasRecord new id sysno ident bytes ↔ HasRecord old id sysno ident bytes
 
--- both
-abbrev pub LeavesRecords : List Directive → (name : List ℕ) → (old new : Trees) → Type 0
-LeavesRecords profile name old new = LosesWholeOver profile name old new × KeepsOtherDatabases name old new
+-- both, and no malformed row of the packed registers is taken out or altered
+abbrev pub LeavesRows : List Directive → (name : List ℕ) → (old new : Trees) → Type 0
+LeavesRows profile name old new = LosesWholeOver profile name old new × KeepsOtherDatabases name old new × KeepsMalformed old new
 
--- both, of an accepted change on the tables of a store
+-- all this, of an accepted change on the tables of a store
 abbrev pub LeavesWhole : {T : Type 0} → List Directive → (name : List ℕ) → (old new : State) → Result T Refusal → Type 0
-LeavesWhole profile name old new result = IsStore old → OnOk result (LeavesRecords profile name old.now.trees new.now.trees)
+LeavesWhole profile name old new result = IsStore old → OnOk result (LeavesRows profile name old.now.trees new.now.trees)
 
 -- of a command that is a change
 abbrev pub ChangeLeaves : List Directive → Command → (old new : State) → Result Reply Refusal → Type 0

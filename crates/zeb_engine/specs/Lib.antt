@@ -12,6 +12,7 @@ pub mod PrivateSteps
 pub mod Alone
 pub mod AnyRefusals
 pub mod AnyTables
+pub mod AnyMade
 pub mod Works
 pub mod PrivateWorks
 pub mod Costs

@@ -9,6 +9,7 @@ use Rattle.zeb_profile.specs.Indexes.{identifier_pattern}
 use Rattle.zeb_profile.specs.Canonical.{canonical_text, pattern_text}
 use Rattle.zeb_profile.specs.Laws.{IsProfile}
 use Rattle.zeb_register.specs.declared.RegFault.{RegFault}
+use Rattle.zeb_register.specs.Content.{TakesWhole}
 use Rattle.zeb_register.specs.Formats.{Format, version_of}
 use Rattle.zeb_register.specs.Hindrances.{IsTooLarge, LacksRowids}
 use Rattle.zeb_register.specs.Store.{IsStore, HasDatabase, databases_tree, entry}
@@ -17,6 +18,7 @@ use Rattle.zeb_engine.specs.declared.writes.Write.TheVariants as write
 use Rattle.zeb_change.specs.declared.refusals.Refusal.{Refusal}
 use Rattle.zeb_engine.specs.declared.replies.Reply.{Reply}
 use Rattle.zeb_engine.specs.declared.replies.Reply.TheVariants.{Done}
+use Rattle.zeb_engine.specs.AnyMade.{MakesDatabase}
 use Rattle.zeb_engine.specs.Answers.{answer_of, done, refused, IsFailure}
 use Rattle.zeb_engine.specs.Causes.{HasRoomToRenew}
 use Rattle.zeb_change.specs.Refused.{why_of}
@@ -144,6 +146,14 @@ ReadsSound (write.Create name) s result = IsStore s → DoneOrFails result
 ReadsSound (write.Drop name id) s result = IsStore s → DoneOrFails result
 ReadsSound (write.Reindex alloc profile) s result = IsStore s → TellsSound profile.now s.now.trees result
 ReadsSound (write.Upgrade alloc profile) s result = Unit {0}
+
+-- a create makes its database, and a drop takes it whole, whatever rows the tables held
+abbrev pub MakesOrTakes : Write → State → State → Type 0
+MakesOrTakes (write.Init profile pattern) old new = Unit {0}
+MakesOrTakes (write.Create name) old new = IsStore old → MakesDatabase (name_bytes name.now) old new
+MakesOrTakes (write.Drop name id) old new = IsStore old → TakesWhole id.0 old new
+MakesOrTakes (write.Reindex alloc profile) old new = Unit {0}
+MakesOrTakes (write.Upgrade alloc profile) old new = Unit {0}
 
 -- a reindex makes the registers anew, whatever rows the tables held
 abbrev pub Remakes : Format → Write → State → State → Type 0

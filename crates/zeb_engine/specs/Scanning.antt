@@ -23,6 +23,10 @@ pub record AreAround (O : ℕ → Occurrence → Type 0) (plan : ScanValue) (num
   pub are : AreTermsOf O plan.index plan.register all
   pub is : terms ≡ around number position plan.start all
 
+-- the text spells a query that has this plan for a scan
+abbrev pub IsScanPlanOf : List Directive → List ℕ → ScanValue → Type 0
+IsScanPlanOf profile text plan = (query : QueryValue) × SpellsQuery text query × (scan_of profile query ≡ Ok plan)
+
 -- `AreTerms` tells which terms are answered of a plan
 module _ (AreTerms : ScanValue → ℕ → ℕ → List TermCount → Type 0) where
   abbrev pub IsScannedFrom : ScanValue → ℕ → ℕ → Answer → Type 0

@@ -1,7 +1,9 @@
 -- What commands do to a connection, and to what its tables hold.
-use Rattle.std.specs.Prelude.{List, [], ◌∷◌, Result, IsTrue, OnOk}
+use Rattle.std.specs.Prelude.{◌≡◌, List, [], ◌∷◌, Result, IsTrue, OnOk}
 use Rattle.sqlite.specs.Tree.{Trees}
+use Rattle.sqlite.specs.Held.{Held, state}
 use Rattle.sqlite.specs.State.{State}
+use Rattle.sqlite.specs.Store.{Ghosts}
 use Rattle.zeb_engine.specs.declared.commands.Command.{Command}
 use Rattle.zeb_engine.specs.declared.replies.Reply.{Reply}
 use Rattle.zeb_change.specs.declared.refusals.Refusal.{Refusal}
@@ -36,3 +38,11 @@ FindOpen (command ∷ commands) (result ∷ results) old new =
     (AsksStore command → OnOk result (IsTrue old.is_open × (NoneAsks commands → IsTrue new.is_open))) × FindOpen commands results old new
 FindOpen [] (result ∷ results) old new = ⊥
 FindOpen (command ∷ commands) [] old new = ⊥
+
+-- each of the commands does so, one after the other, from one connection to the next
+module _ {S : Type 0} (g : Ghosts S) (Does : Command → Result Reply Refusal → State → State → Type 0) where
+  abbrev pub InTurn : List Command → List (Result Reply Refusal) → Held S → Held S → Type 0
+  InTurn [] [] old new = new ≡ old
+  InTurn (command ∷ commands) (result ∷ results) old new = (mid : Held S) × Does command result (state g old) (state g mid) × InTurn commands results mid new
+  InTurn [] (result ∷ results) old new = ⊥
+  InTurn (command ∷ commands) [] old new = ⊥

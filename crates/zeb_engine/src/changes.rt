@@ -11,7 +11,7 @@ ghost use Rattle.zeb_register.specs.Store.{IsStore};
 ghost use Rattle.zeb_engine.specs.PrivateChanging.{MayBeginUnder, MayBegin, comes_to, last_of};
 ghost use Rattle.zeb_change.specs.Conditions.{Conditions};
 ghost use Rattle.zeb_engine.specs.Answers.{IsFailure, refused};
-ghost use Rattle.zeb_engine.specs.AnyTables.{ElderOver, EldersOver, LeavesRecords, LeavesWhole};
+ghost use Rattle.zeb_engine.specs.AnyTables.{ElderOver, EldersOver, LeavesRows, LeavesWhole};
 ghost use Rattle.zeb_engine.specs.Causes.{ChangesInRoom, HasRoomToChange};
 ghost use Rattle.zeb_engine.specs.PrivateCrashes.{Commits};
 ghost use Rattle.zeb_change.specs.Base.{Base};
@@ -117,7 +117,7 @@ fn apply<S: Alter, L: Layout, R: Source>(
         → EldersOver change.now.setting.profile.now (name_bytes change.now.name.now) texts trees result) }
     ensures loses { InStore (state S.Store tx.old.conn.now) (state S.Store tx.new.conn.now) (λ trees.
         IsDatabaseOf trees (name_bytes change.now.name.now) change.now.found
-        → OnOk result (LeavesRecords change.now.setting.profile.now (name_bytes change.now.name.now) trees
+        → OnOk result (LeavesRows change.now.setting.profile.now (name_bytes change.now.name.now) trees
         (state S.Store tx.new.conn.now).now.trees)) }
 {
     // Its profile is some text's.
@@ -192,7 +192,7 @@ fn transact<S: Alter, L: Layout, R: Source>(
         → EldersOver change.now.setting.profile.now (name_bytes change.now.name.now) texts trees result) }
     ensures loses { OnStore (state S.Store connection.old) (state S.Store connection.new) (λ trees.
         IsDatabaseOf trees (name_bytes change.now.name.now) change.now.found
-        → OnOk result (LeavesRecords change.now.setting.profile.now (name_bytes change.now.name.now) trees
+        → OnOk result (LeavesRows change.now.setting.profile.now (name_bytes change.now.name.now) trees
         (state S.Store connection.new).now.trees)) }
 {
     let _settled = connection.is_autocommit();

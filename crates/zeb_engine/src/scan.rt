@@ -17,7 +17,8 @@ ghost use Rattle.zeb_image.specs.Image.{Keeps};
 ghost use Rattle.zeb_image.specs.NameOf.{name_bytes};
 ghost use Rattle.zeb_change.specs.Reading.{NoReadFault};
 ghost use Rattle.zeb_engine.specs.Alone.{Alone, ScanSays};
-ghost use Rattle.zeb_engine.specs.AnyTables.{ScanOver, TellsAround, TellsOver};
+ghost use Rattle.zeb_engine.specs.AnyRefusals.{HidesAround, HidesTerms, TellsUnlessHidden};
+ghost use Rattle.zeb_engine.specs.AnyTables.{ScanOver, TellsAround};
 ghost use Rattle.zeb_engine.specs.Reads.{ScanReads};
 ghost use Rattle.zeb_engine.specs.Scanning.{AreAround};
 ghost use Rattle.zeb_engine.specs.Steps.{ready, AskedAmong, ScanAnswers};
@@ -76,7 +77,11 @@ fn terms_around<S: Alter, L: Layout>(
     ensures failed { HasCleanDisk (state S.Store connection.new) → IsStore (state S.Store connection.old)
         → (content : Content) → IsStorable content → holds_in L.format (state S.Store connection.old).now.trees content
         → IfErr result (λ refusal. IsFailure (refused (why_of refusal))) }
-    ensures few { IfErr result (λ refusal. (refusal ≡ Refusal.Damaged) ⊎ IsFailure (refused (why_of refusal))) }
+    // Damage is told only of rows that it reads.
+    ensures honest { HasCleanDisk (state S.Store connection.new) → IsStore (state S.Store connection.old)
+        → IfErr result (λ refusal. IsFailure (refused (why_of refusal)) ⊎ ((refusal ≡ Refusal.Damaged)
+        × HidesAround L.format (state S.Store connection.old).now.trees database.0 (scan_value plan.now) around.now.number
+        around.now.position)) }
     ensures unread { NoReadFault result }
     ensures ready { NeverUnready result }
     ensures caused { FailsForCause S.Store connection.old connection.new result }
@@ -118,9 +123,11 @@ pub(crate) fn scan<S: Alter, L: Layout>(
     ensures alone { HasCleanDisk (state S.Store connection.new)
         → Alone L.format (ScanSays profile.now around.entry.query.now around.entry.number around.entry.position) (name_bytes name.now)
         (state S.Store connection.old) result }
-    // Whatever the tables hold, the terms are those that the rows around the start tell, or it is refused by the definition or as damage.
+    // Whatever the tables hold, the terms are those that the rows around the start tell, or it is refused by the definition, or as damage
+    // that these rows or the database's have.
     ensures tables { HasCleanDisk (state S.Store connection.new) → IsStore (state S.Store connection.old)
-        → TellsOver (ScanOver L.format profile.now (name_bytes name.now) around.entry.query.now around.entry.number
+        → TellsUnlessHidden (ScanOver L.format profile.now (name_bytes name.now) around.entry.query.now around.entry.number
+        around.entry.position) (HidesTerms L.format profile.now (name_bytes name.now) around.entry.query.now around.entry.number
         around.entry.position) (state S.Store connection.old).now.trees result }
     ensures idle { connection.new.in_transaction ≡ false }
     ensures open { FindsOpen S.Store connection.old connection.new result }

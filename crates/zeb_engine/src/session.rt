@@ -8,7 +8,8 @@ ghost use Rattle.sqlite.specs.State.{HasCleanDisk, IsLive, Opens, Survives};
 ghost use Rattle.zeb_engine.specs.Costs.{CommandCosts, no_work};
 ghost use Rattle.zeb_engine.specs.Reads.{CommandReads};
 ghost use Rattle.zeb_engine.specs.Alone.{AnswersAlone};
-ghost use Rattle.zeb_engine.specs.AnyAnswers.{IsAnswerOver};
+ghost use Rattle.zeb_engine.specs.AnyAnswers.{DoesOver, IsAnswerOver};
+ghost use Rattle.zeb_engine.specs.AnyMade.{MakesOrDrops};
 ghost use Rattle.zeb_engine.specs.AnyTables.{AnswersTables, ChangeLeaves, ChangesOver};
 ghost use Rattle.zeb_engine.specs.Analysed.{AnswersAnalysis};
 ghost use Rattle.zeb_engine.specs.Answers.{IsFailure, answer_of, refused};
@@ -70,7 +71,7 @@ impl<S: Alter + Drop, L: Layout> Drop for Session<S, L> {
 }
 
 impl<S: Alter, L: Layout> Session<S, L> {
-    ghost use Rattle.zeb_engine.specs.Works.{FindOpen, ServesCommand};
+    ghost use Rattle.zeb_engine.specs.Works.{FindOpen, InTurn, ServesCommand};
     ghost use Rattle.zeb_engine.specs.Crashes.{Bears, CommitsCommand, CommitsAdopted, CommitsOne, CommitsReindex, Endures, EnduresRun, KeepsDisk, Stands};
     ghost use Rattle.zeb_engine.specs.Headline.{Headline};
     ghost use Rattle.zeb_engine.specs.PrivateWriting.{HoldsRemade};
@@ -216,6 +217,9 @@ impl<S: Alter, L: Layout> Session<S, L> {
         // An accepted change loses none of its database's records up to the last number but whole ones, and none of any other database.
         ensures loses { HasCleanDisk (state S.Store self.new.connection) → ChangeLeaves self.old.profile command.now
             (state S.Store self.old.connection) (state S.Store self.new.connection) result }
+        // An accepted create makes its database, and an accepted drop takes its own with all rows of it: no other row is changed.
+        ensures makes { HasCleanDisk (state S.Store self.new.connection) → MakesOrDrops command.now
+            (state S.Store self.old.connection) (state S.Store self.new.connection) result }
         // An analysis is answered by its files, whatever the tables hold, and also where the connection is shut.
         ensures analysed { AnswersAnalysis self.old.profile self.old.limits.records command.now result }
         // A command that only asks changes nothing, whatever it answers and whatever the tables hold.
@@ -284,7 +288,8 @@ impl<S: Alter, L: Layout> Session<S, L> {
             → AnswersAlone L.format self.old.profile command.now (state S.Store self.old.connection) result
             × AnswersTables L.format self.old.profile command.now (state S.Store self.old.connection) result
             × (ChangesOver (version_of L.format) self.old.profile command.now (state S.Store self.old.connection) result
-            × ChangeLeaves self.old.profile command.now (state S.Store self.old.connection) (state S.Store self.new.connection) result) }
+            × ChangeLeaves self.old.profile command.now (state S.Store self.old.connection) (state S.Store self.new.connection) result
+            × MakesOrDrops command.now (state S.Store self.old.connection) (state S.Store self.new.connection) result) }
         ensures analysed { AnswersAnalysis self.old.profile self.old.limits.records command.now result }
         ensures reads { HasCleanDisk (state S.Store self.new.connection) → OnlyAsks command.now
             → ChangesNothing (state S.Store self.old.connection) (state S.Store self.new.connection) }
@@ -382,6 +387,10 @@ impl<S: Alter, L: Layout> Session<S, L> {
         ensures refused { HasCleanDisk (state S.Store self.new.connection)
             → IfOk result (λ answers. AllByRecursion IsErr answers.items
             → ChangesNothing (state S.Store self.old.connection) (state S.Store self.new.connection)) }
+        // Whatever the tables hold, each command in turn does to them what is said of one command, and is answered by them as they are then.
+        ensures turns { HasCleanDisk (state S.Store self.new.connection)
+            → IfOk result (λ answers. InTurn S.Store (DoesOver L.format self.old.profile) commands.now answers.items
+            self.old.connection self.new.connection) }
     {
         let Ok(mut answers) = Vec::with_capacity(self.alloc, commands.len()) else {
             return Err(Refusal::Memory);

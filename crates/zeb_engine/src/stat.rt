@@ -7,7 +7,8 @@ ghost use Rattle.sqlite.specs.Tree.{Trees};
 ghost use Rattle.zeb_register.specs.Formats.{holds_in, version_of};
 ghost use Rattle.zeb_register.specs.Content.{Content, IsStorable, posted};
 ghost use Rattle.zeb_engine.specs.Alone.{Alone, StatSays};
-ghost use Rattle.zeb_engine.specs.AnyTables.{IsSoundUnder, OverReady, StatOver};
+ghost use Rattle.zeb_engine.specs.AnyRefusals.{HidesOneOf, HidesRegisters, UnlessHidden};
+ghost use Rattle.zeb_engine.specs.AnyTables.{IsSoundUnder, StatOver};
 ghost use Rattle.zeb_engine.specs.Answers.{IsFailure, extent_of, refused};
 ghost use Rattle.zeb_change.specs.Refused.{why_of, NeverUnready};
 ghost use Rattle.zeb_change.specs.Conditions.{conditions};
@@ -107,7 +108,10 @@ fn holdings_of<S: Alter, L: Layout>(
         → IsTrue (state S.Store connection.old).is_open
         → (content : Content) → IsStorable content → holds_in L.format trees content
         → IfErr result (λ refusal. IsFailure (refused (why_of refusal))) }
-    ensures few { IfErr result (λ refusal. (refusal ≡ Refusal.Damaged) ⊎ IsFailure (refused (why_of refusal))) }
+    // Damage is told only of a register that has it.
+    ensures honest { HasCleanDisk (state S.Store connection.new) → (trees : Trees) → ShowsStore (state S.Store connection.old) trees
+        → IsTrue (state S.Store connection.old).is_open → IfErr result (λ refusal. IsFailure (refused (why_of refusal))
+        ⊎ ((refusal ≡ Refusal.Damaged) × HidesOneOf L.format targets.now trees database.0)) }
     ensures unread { NoReadFault result }
     ensures ready { NeverUnready result }
     ensures caused { FailsForCause S.Store connection.old connection.new result }
@@ -148,10 +152,10 @@ pub(crate) fn stat<S: Alter, L: Layout>(
     ensures alone { HasCleanDisk (state S.Store connection.new)
         → Alone L.format (StatSays profile.now) (name_bytes name.now) (state S.Store connection.old) result }
     // Whatever the tables hold, the records are counted, the last number is told and the rows of the registers are sound, or it is refused by
-    // the definition or as damage.
+    // the definition, or as damage that these rows or the database's have.
     ensures tables { HasCleanDisk (state S.Store connection.new)
-        → OverReady (version_of L.format) profile.now (StatOver L.format profile.now (name_bytes name.now))
-        (state S.Store connection.old) result }
+        → UnlessHidden (version_of L.format) profile.now (StatOver L.format profile.now (name_bytes name.now))
+        (HidesRegisters L.format profile.now (name_bytes name.now)) (state S.Store connection.old) result }
     ensures unread { NoReadFault result }
     ensures ready { TellsReady S.Store (version_of L.format) profile.now connection.old connection.new result }
     // The store fails for a cause.

@@ -5,11 +5,13 @@ ghost use Rattle.sqlite.specs.Held.{state};
 ghost use Rattle.sqlite.specs.State.{HasCleanDisk, KeepsCommit, Survives};
 ghost use Rattle.zeb_register.specs.Calls.{GoesOn, MayRefuse};
 ghost use Rattle.zeb_register.specs.Clauses.{InStore, IsHinderedInside, IsReasonedInside, OnStore};
+ghost use Rattle.zeb_register.specs.Content.{TakesWhole};
 ghost use Rattle.zeb_register.specs.Formats.{version_of};
 ghost use Rattle.zeb_register.specs.Hindrances.{IsTooLarge, LacksRowids};
 ghost use Rattle.zeb_register.specs.Store.{IsStore, databases_tree, entry, meta_tree};
 ghost use Rattle.zeb_profile.specs.Canonical.{canonical_text};
 ghost use Rattle.zeb_change.specs.declared.settings.Limits.{Limits};
+ghost use Rattle.zeb_engine.specs.AnyMade.{DropsDatabase, LeavesAccepted, MakesDatabase};
 ghost use Rattle.zeb_engine.specs.AnyRefusals.{CreateOver, DropOver, HidesDatabase, TellsUnlessHidden};
 ghost use Rattle.zeb_engine.specs.Answers.{IsFailure, refused};
 ghost use Rattle.zeb_change.specs.Refused.{why_of, NeverUnready};
@@ -26,7 +28,7 @@ ghost use Rattle.zeb_engine.specs.Transactions.{Commanded};
 ghost use Rattle.zeb_change.specs.Inside.{StaysInside};
 ghost use Rattle.zeb_engine.specs.PrivateWorks.{IsReady, Serves, ReachesOutcome};
 ghost use Rattle.zeb_engine.specs.PrivateWriting.{AreOf, Begins, CommitsRemade, IsFree, IsKnown, FailsAlone, Fits, HasLargeText};
-ghost use Rattle.zeb_engine.specs.PrivateWriting.{HasRoomToWrite, HindersWrite, IsReached, IsRuled, IsUpgradable, PutsTexts, ReadsSound};
+ghost use Rattle.zeb_engine.specs.PrivateWriting.{HasRoomToWrite, HindersWrite, IsReached, IsRuled, IsUpgradable, MakesOrTakes, PutsTexts, ReadsSound};
 ghost use Rattle.zeb_engine.specs.PrivateWriting.{Remakes, reply_of_work, written};
 ghost use Rattle.zeb_engine.specs.PrivateConnections.{CommitsNothing, CommitsUnder, ServesUnder};
 
@@ -128,6 +130,8 @@ fn create<S: Alter, L: Layout>(tx: &mut Transaction<'_, S>, name: &DbName) -> Re
     ensures refused { IsHinderedInside (state S.Store tx.old.conn.now) (state S.Store tx.new.conn.now) result
         (LacksRowids 1 databases_tree) }
     ensures honest { InStore (state S.Store tx.old.conn.now) (state S.Store tx.new.conn.now) (λ _. result ≢ Err RegFault.Damaged) }
+    ensures makes { InStore (state S.Store tx.old.conn.now) (state S.Store tx.new.conn.now) (λ _. OnOk result
+        (MakesDatabase (name_bytes name.now) (state S.Store tx.old.conn.now) (state S.Store tx.new.conn.now))) }
     ensures crash { CommitsNothing S.Store tx.old.conn.now tx.new.conn.now }
 {
     database_put(tx, name.as_str(), 0)?;
@@ -149,6 +153,8 @@ fn take<S: Alter, L: Layout>(
         (state S.Store tx.new.conn.now) (reply_of_work result) }
     ensures refused { IsReasonedInside (state S.Store tx.old.conn.now) (state S.Store tx.new.conn.now) result }
     ensures honest { result ≢ Err RegFault.Damaged }
+    ensures takes { InStore (state S.Store tx.old.conn.now) (state S.Store tx.new.conn.now) (λ _. OnOk result
+        (TakesWhole id.0 (state S.Store tx.old.conn.now) (state S.Store tx.new.conn.now))) }
     ensures crash { CommitsNothing S.Store tx.old.conn.now tx.new.conn.now }
 {
     L::database_take(tx, id)?;
@@ -227,6 +233,8 @@ fn apply<S: Alter, L: Layout>(
         → ReadsSound write.now (state S.Store tx.old.conn.now) (reply_of_work result) }
     ensures remade { HasCleanDisk (state S.Store tx.new.conn.now) → IsTrue (state S.Store tx.old.conn.now).in_transaction
         → OnOk result (Remakes L.format write.now (state S.Store tx.old.conn.now) (state S.Store tx.new.conn.now)) }
+    ensures makes { HasCleanDisk (state S.Store tx.new.conn.now) → IsTrue (state S.Store tx.old.conn.now).in_transaction
+        → OnOk result (MakesOrTakes write.now (state S.Store tx.old.conn.now) (state S.Store tx.new.conn.now)) }
     ensures room { InStore (state S.Store tx.old.conn.now) (state S.Store tx.new.conn.now) (λ trees. HasRoomToWrite write.now trees
         → result ≡ Err RegFault.Store → MayRefuse (state S.Store tx.old.conn.now) (state S.Store tx.new.conn.now)) }
 {
@@ -266,6 +274,8 @@ pub(crate) fn transact<S: Alter, L: Layout>(
     ensures sound { HasCleanDisk (state S.Store connection.new) → ReadsSound write.now (state S.Store connection.old) result }
     ensures remade { HasCleanDisk (state S.Store connection.new)
         → OnOk result (Remakes L.format write.now (state S.Store connection.old) (state S.Store connection.new)) }
+    ensures makes { HasCleanDisk (state S.Store connection.new)
+        → OnOk result (MakesOrTakes write.now (state S.Store connection.old) (state S.Store connection.new)) }
     ensures survives_remade { Survives (state S.Store connection.old) (state S.Store connection.new)
         (CommitsRemade L.format write.now (state S.Store connection.old)) }
 {
@@ -328,6 +338,8 @@ pub(crate) fn create_database<S: Alter, L: Layout>(
     // Whatever the tables hold, it goes by the row of the name.
     ensures tables { OnStore (state S.Store connection.old) (state S.Store connection.new) (λ trees.
         TellsUnlessHidden (CreateOver (name_bytes name.now)) (HidesDatabase (name_bytes name.now)) trees result) }
+    ensures makes { HasCleanDisk (state S.Store connection.new) → LeavesAccepted (MakesDatabase (name_bytes name.now))
+        (state S.Store connection.old) (state S.Store connection.new) result }
 {
     let found = database_of(connection, name.as_str())?;
     match found {
@@ -357,6 +369,8 @@ pub(crate) fn drop_database<S: Alter, L: Layout>(
         → HasCauseOver (λ _. ⊥) (state S.Store connection.old) (state S.Store connection.new) result }
     ensures tables { OnStore (state S.Store connection.old) (state S.Store connection.new) (λ trees.
         TellsUnlessHidden (DropOver (name_bytes name.now)) (HidesDatabase (name_bytes name.now)) trees result) }
+    ensures drops { HasCleanDisk (state S.Store connection.new) → LeavesAccepted (DropsDatabase (name_bytes name.now))
+        (state S.Store connection.old) (state S.Store connection.new) result }
 {
     let database = existing_database::<S, L>(alloc, connection, name)?;
     transact::<S, L>(connection, &Write::Drop(name, database.id))

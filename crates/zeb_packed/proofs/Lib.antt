@@ -12,3 +12,4 @@ pub mod PackedHindrances
 pub mod PackedCauses
 pub mod PackedSound
 pub mod PackedOld
+pub mod MalformedRows

@@ -1,8 +1,6 @@
 -- Which rows of the packed tables are sound: those of neighbouring terms, as one statement shows them, and those of a key that is changed.
-use Rattle.std.proofs.Common.{◌≡◌, ◌≢◌, ◌↔◌, ◌∙◌, ◌/◌, ℕ, ℤ, pos, true, false, List, [], ◌∷◌, ◌++◌, drop, map, take, refl, sym, ap, subst, inl, inr, Less, Equal, Greater, Ordering, nat_cmp}
-use Rattle.std.proofs.lemmas.Bool.{cases_Bool}
+use Rattle.std.proofs.Common.{◌≡◌, ◌≢◌, ◌∙◌, ◌/◌, ℕ, ℤ, pos, true, false, List, [], ◌∷◌, ◌++◌, drop, map, take, refl, sym, ap, subst, inl, inr}
 use Rattle.std.specs.Cmp.{nat_cmp_total}
-use Rattle.std.specs.Cmp.Lexicographic.{slice_cmp}
 use Rattle.std.specs.List.{AllByRecursion}
 use Rattle.std.specs.Ordering.{is_lt}
 use Rattle.sqlite.specs.declared.types.Value.{Value}
@@ -34,13 +32,13 @@ use Rattle.zeb_register.specs.PlainRows.{key_row}
 use Rattle.zeb_register.specs.PrivateRowStatements.{Gains}
 use Rattle.zeb_register.specs.Sql.{IsListOf}
 use Rattle.zeb_register.specs.Store.{IsRest, IsStore, blocks_tree, dict_tree}
+use Rattle.zeb_register.proofs.BetweenLemmas.{up_to}
 use Rattle.zeb_register.proofs.ListChanges.{run}
 use Rattle.zeb_register.proofs.PackedLists.{all_spelled, each_spelled}
 use Rattle.zeb_packed.proofs.PackedReads.{block_front}
 use Rattle.zeb_register.proofs.PostingStatements.{blocks, blocks_keys, blocks_static, dict, dict_keys, dict_static}
 use Rattle.zeb_register.proofs.RisingLists.{told_by}
 use Rattle.zeb_register.proofs.SharedKeys.{single}
-use Rattle.zeb_register.proofs.TermLists.{above_least, least_above}
 
 -- a row by its first column
 begins : (row : Row) (v : Value) → column row 0 ≡ v → v ≢ Null → row ≡ v ∷ drop 1 row
@@ -48,24 +46,6 @@ begins [] v is some = absurd (some (sym is))
 begins (w ∷ row) v is some = ap (λ (u : Value). u ∷ row) is
 
 -- ---- rows of neighbouring terms
-
-less_is : (o : Ordering) → is_lt o ≡ true → o ≡ Less
-less_is Less h = refl
-less_is Equal h = absurd (cc)
-less_is Greater h = absurd (cc)
-
--- a text is below the least one above another where it is not above that one
-up_to : (last text : List ℕ) → (is_lt (slice_cmp nat_cmp text (last ++ 0 ∷ [])) ≡ true) ↔ (is_lt (slice_cmp nat_cmp last text) ≡ false)
-up_to last text = (
-  λ below. elim (cases_Bool (is_lt (slice_cmp nat_cmp last text))) [
-    | inl lower ↦ absurd (let e : true ≡ false = sym below ∙ above_least text last (less_is (slice_cmp nat_cmp last text) lower) in cc)
-    | inr other ↦ other
-  ],
-  λ up. elim (cases_Bool (is_lt (slice_cmp nat_cmp text (last ++ 0 ∷ [])))) [
-    | inl is ↦ is
-    | inr other ↦ absurd (let e : true ≡ false = sym (ap is_lt (least_above text last other)) ∙ up in cc)
-  ],
-)
 
 -- between two texts there are but texts
 text_between : (v : Value) (first end : List ℕ) → is_lt (value_cmp v (Text first)) ≡ false → is_lt (value_cmp v (Text end)) ≡ true → (text : List ℕ) × (v ≡ Text text)

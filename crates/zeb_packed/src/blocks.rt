@@ -19,7 +19,7 @@ ghost use Rattle.zeb_register.specs.Formats.{packed_blocks};
 ghost use Rattle.zeb_register.specs.PackedBlocks.{AreAllCounted, AreAllSpelled, AreBeforeCounted, AreFromCounted};
 ghost use Rattle.zeb_register.specs.PackedBlocks.{CountsRegister, HoldsBlocks, IsRegisterSound, blocks_of};
 ghost use Rattle.zeb_register.specs.PlainRows.{key_row, register_front};
-ghost use Rattle.zeb_register.specs.Sound.{AreListsSound, TellsBefore, TellsFrom, TellsRegister};
+ghost use Rattle.zeb_register.specs.Sound.{AreListsSound, KeepsMalformed, TellsBefore, TellsFrom, TellsRegister};
 ghost use Rattle.zeb_register.specs.Tallies.{Works};
 ghost use Rattle.zeb_register.specs.declared.registers.TermCount.{TermCount};
 
@@ -45,6 +45,8 @@ use zeb_register::{
 /// Of the calls that read lists, terms and totals it counts the rows of these tables that are read. Of a change it counts a row of each
 /// table, read and written, for each record and key. That is an upper bound: the records of one block that stand next to each other share
 /// its row, and all records of a call share that of `dict`.
+///
+/// Where a call is never accepted, want of memory or a failed store may be told in the place of `Damaged`.
 #[derive(Clone, Copy, Debug, PartialEq, Eq)]
 pub struct Blocks;
 
@@ -82,6 +84,8 @@ impl Layout for Blocks {
         ensures sound { InStore (state S.Store tx.old.conn.now) (state S.Store tx.new.conn.now) (λ trees. OnOk result
             (AreKeyRowsSound trees db.0 key.now ((sysno, old.now) ∷ []))) }
         ensures text { OnOk result (IsUtf8 key.now.term) }
+        ensures malformed { InStore (state S.Store tx.old.conn.now) (state S.Store tx.new.conn.now) (λ trees. OnOk result
+            (KeepsMalformed trees (state S.Store tx.new.conn.now).now.trees)) }
         ensures refused { IsHinderedInside (state S.Store tx.old.conn.now) (state S.Store tx.new.conn.now) result
             (HindersPlaces db.0 key.now ((sysno, new.now) ∷ [])) }
         ensures rowids { TakesRegistersInside (state S.Store tx.old.conn.now) (state S.Store tx.new.conn.now) result
@@ -114,6 +118,8 @@ impl Layout for Blocks {
         ensures sound { InStore (state S.Store tx.old.conn.now) (state S.Store tx.new.conn.now) (λ trees. OnOk result
             (changes.now ≢ [] → AreKeyRowsSound trees db.0 key.now (map had changes.now))) }
         ensures text { OnOk result (changes.now ≢ [] → IsUtf8 key.now.term) }
+        ensures malformed { InStore (state S.Store tx.old.conn.now) (state S.Store tx.new.conn.now) (λ trees. OnOk result
+            (KeepsMalformed trees (state S.Store tx.new.conn.now).now.trees)) }
         ensures refused { IsHinderedInside (state S.Store tx.old.conn.now) (state S.Store tx.new.conn.now) result
             (HindersPlaces db.0 key.now (map placed changes.now)) }
         ensures rowids { TakesRegistersInside (state S.Store tx.old.conn.now) (state S.Store tx.new.conn.now) result
@@ -140,7 +146,7 @@ impl Layout for Blocks {
         database_drop_whole(tx, db)
     }
 
-    /// The postings of a key, rising. `Damaged` exactly where a row of its blocks spells none.
+    /// The postings of a key, rising. Never accepted where a row of its blocks spells none, and `Damaged` only there.
     fn key_list<S: Alter>(
         alloc: Global,
         conn: &mut Connection<S>,
@@ -171,7 +177,7 @@ impl Layout for Blocks {
         Ok(list)
     }
 
-    /// The postings of the terms from `first` to `last`. `Damaged` exactly where a row of their blocks spells none.
+    /// The postings of the terms from `first` to `last`. Never accepted where a row of their blocks spells none, and `Damaged` only there.
     fn postings_between<S: Alter>(
         alloc: Global,
         conn: &mut Connection<S>,
@@ -196,8 +202,8 @@ impl Layout for Blocks {
         blocks_between(alloc, conn, work, at, first, last)
     }
 
-    /// The terms of a register that have a posting, in the order of their bytes. `Damaged` exactly where one of their rows of `dict` shows
-    /// no term of UTF-8 or doesn't say 1 to 999,999,999.
+    /// The terms of a register that have a posting, in the order of their bytes. Never accepted where one of their rows of `dict` shows no
+    /// term of UTF-8 or doesn't say 1 to 999,999,999, and `Damaged` only there.
     fn terms_of<S: Alter>(
         alloc: Global,
         conn: &mut Connection<S>,
@@ -223,7 +229,8 @@ impl Layout for Blocks {
         Ok(counts)
     }
 
-    /// The first `n` of these terms that are not below `start`. `Damaged` exactly where one of their rows is so damaged.
+    /// The first `n` of these terms that are not below `start`. Never accepted where one of their rows is so damaged, and `Damaged` only
+    /// there.
     fn terms_from<S: Alter>(
         alloc: Global,
         conn: &mut Connection<S>,
@@ -252,7 +259,7 @@ impl Layout for Blocks {
         Ok(counts)
     }
 
-    /// The last `n` of these terms that are below `start`. `Damaged` exactly where one of their rows is so damaged.
+    /// The last `n` of these terms that are below `start`. Never accepted where one of their rows is so damaged, and `Damaged` only there.
     fn terms_before<S: Alter>(
         alloc: Global,
         conn: &mut Connection<S>,
@@ -282,8 +289,8 @@ impl Layout for Blocks {
         Ok(counts)
     }
 
-    /// How many terms and postings a register holds. `Damaged` exactly where one of its rows of `dict` is so damaged, or one of `blocks` of
-    /// the terms that these show spells none. The blocks of one term are held at a time, and no list of postings.
+    /// How many terms and postings a register holds. Never accepted where one of its rows of `dict` is so damaged, or one of `blocks` of the
+    /// terms that these show spells none, and `Damaged` only there. The blocks of one term are held at a time, and no list of postings.
     fn totals<S: Alter>(
         alloc: Global,
         conn: &mut Connection<S>,

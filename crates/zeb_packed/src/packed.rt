@@ -1,6 +1,6 @@
 //! Registers packed in blocks: a row of `blocks` for each block of a key's postings, and a row of `dict` for each key.
 
-ghost use Rattle.std.specs.Prelude.{◌≡◌, ◌≢◌, ◌^◌, ◌<◌, ◌≤◌, ◌++◌, List, length, map, pos, take, IfOk, OnOk, FitsSigned};
+ghost use Rattle.std.specs.Prelude.{◌≡◌, ◌≢◌, ◌^◌, ◌<◌, ◌≤◌, ◌++◌, List, length, map, pos, take, IfOk, IfErr, OnOk, FitsSigned};
 ghost use Rattle.std.specs.Int.{w64};
 ghost use Rattle.sqlite.specs.Order.{Row as Columns, column};
 ghost use Rattle.sqlite.specs.declared.types.Value.TheVariants.{Int};
@@ -15,7 +15,7 @@ use sqlite::{Alter, Connection, Row};
 use std::alloc::Global;
 use zeb_blocks::{Damaged, Posting, push_block};
 use zeb_keys::{Register, Term};
-use zeb_register::for_layouts::{read, read_bytes};
+use zeb_register::for_layouts::{read, read_bytes, read_number};
 use zeb_register::{DatabaseId, RegFault, TermCount};
 
 /// How many records a database has at most, since each has a number of 1 to this.
@@ -48,7 +48,7 @@ fn add_part(postings: &mut Vec<Posting>, row: &Row) -> Result<(), RegFault>
     ensures honest { result ≡ Err RegFault.Damaged → (part : List _) → ¬ SpellsPart row.now part }
     ensures unstored { result ≢ Err RegFault.Store }
 {
-    let block: u64 = read(row, 0)?;
+    let block = read_number(row, 0)?;
     let bytes = read_bytes(row, 1)?;
     add_spelled(postings, block, bytes)
 }
@@ -107,13 +107,13 @@ fn count_of(row: &Row) -> Result<TermCount, RegFault>
     })
 }
 
-/// The number of records at this place of a row. `Damaged` where it isn't 1 to 999,999,999, as every number of records is.
+/// The number of records at this place of a row. It takes no memory: it is refused as `Damaged` alone, where it isn't 1 to 999,999,999, as
+/// every number of records is.
 pub(crate) fn records_at(row: &Row, at: usize) -> Result<u64, RegFault>
     ensures ok { IfOk result (λ records. (column row.now at ≡ Int (pos records)) × (1 ≤ records) × (records ≤ 999999999)) }
-    ensures honest { result ≡ Err RegFault.Damaged → at < length row.now → ¬ IsRecordNumber (column row.now at) }
-    ensures unstored { result ≢ Err RegFault.Store }
+    ensures refused { IfErr result (λ fault. (fault ≡ RegFault.Damaged) × ¬ IsRecordNumber (column row.now at)) }
 {
-    let records: u64 = read(row, at)?;
+    let records = read_number(row, at)?;
     if records == 0 || records > MOST_RECORDS {
         return Err(RegFault::Damaged);
     }

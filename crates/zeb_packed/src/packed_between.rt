@@ -19,10 +19,11 @@ use crate::statements::between::block_rows_between;
 use sqlite::{Alter, Connection, Row};
 use std::alloc::Global;
 use zeb_blocks::Posting;
-use zeb_register::for_layouts::{read, read_bytes, text_above};
+use zeb_register::for_layouts::{read_bytes, read_number, text_above};
 use zeb_register::{RegFault, RegisterOf, Work};
 
-/// The postings of the terms from `first` to `last`. `Damaged` exactly where a row of their blocks spells none. `work` counts these rows.
+/// The postings of the terms from `first` to `last`. Never accepted where a row of their blocks spells none, and `Damaged` only there: want of
+/// memory or a failed store may be told in its place. `work` counts these rows.
 pub(crate) fn blocks_between<S: Alter>(
     alloc: Global,
     conn: &mut Connection<S>,
@@ -70,7 +71,7 @@ fn add_behind(postings: &mut Vec<Posting>, row: &Row) -> Result<(), RegFault>
     ensures honest { result ≡ Err RegFault.Damaged → (part : List _) → ¬ SpellsPart (two_behind row.now) part }
     ensures unstored { result ≢ Err RegFault.Store }
 {
-    let block: u64 = read(row, 1)?;
+    let block = read_number(row, 1)?;
     let bytes = read_bytes(row, 2)?;
     add_spelled(postings, block, bytes)
 }

@@ -1,6 +1,6 @@
 //! One row of a key in packed registers, read and written inside a transaction: that of a block, and that of `dict`.
 
-ghost use Rattle.std.specs.Prelude.{IsUtf8, ◌≡◌, ◌≢◌, ◌⊎◌, ◌<◌, ◌≤◌, ◌==◌, ◌^◌, ◌/◌, ℕ, List, true, false, length, not, pos, IfOk, OnOk};
+ghost use Rattle.std.specs.Prelude.{IsUtf8, ◌≡◌, ◌≢◌, ◌⊎◌, ◌<◌, ◌≤◌, ◌==◌, ◌^◌, ◌/◌, ℕ, List, true, false, length, not, pos, IfOk, IfErr, OnOk};
 ghost use Rattle.sqlite.specs.declared.error.Error.TheVariants.{SqliteFailure};
 ghost use Rattle.sqlite.specs.declared.error.ErrorCode.TheVariants.{ConstraintViolation};
 ghost use Rattle.sqlite.specs.declared.types.Value.TheVariants.{Int};
@@ -142,13 +142,13 @@ pub(crate) fn key_known<S: Alter>(
     }
 }
 
-/// What a row of `dict` tells of its key: how many records have it, and nothing of its blocks.
+/// What a row of `dict` tells of its key: how many records have it, and nothing of its blocks. It takes no memory: it is refused as `Damaged`
+/// alone.
 fn known_at(alloc: Global, row: &Row) -> Result<Known, RegFault>
     ensures ok { IfOk result (λ known. (column row.now 0 ≡ Int (pos known.records)) × (2 ^ 56 ≤ known.clear_from)) }
     ensures number { IfOk result (λ known. (1 ≤ known.records) × (known.records ≤ 999999999)) }
     ensures sound { OnOk result (IsRecordNumber (column row.now 0)) }
-    ensures honest { result ≡ Err RegFault.Damaged → 0 < length row.now → ¬ IsRecordNumber (column row.now 0) }
-    ensures unstored { result ≢ Err RegFault.Store }
+    ensures refused { IfErr result (λ fault. (fault ≡ RegFault.Damaged) × ¬ IsRecordNumber (column row.now 0)) }
 {
     let records = records_at(row, 0)?;
     Ok(Known {

@@ -1,7 +1,7 @@
 //! What the packed tables hold of a key in one block, and what they hold of it after records' places are changed.
 
 ghost use Rattle.std.specs.Prelude.{◌≡◌, ◌≢◌, ◌↔◌, ◌⊎◌, ◌<◌, ◌≤◌, ◌+◌, ◌++◌, ◌^◌, ◌==◌, ◌∷◌, [], ℕ, List};
-ghost use Rattle.std.specs.Prelude.{filter, map, true, false, IfOk, MatchOption, OnOk};
+ghost use Rattle.std.specs.Prelude.{filter, length, map, true, false, IfOk, MatchOption, OnOk};
 ghost use Rattle.std.specs.declared.cmp.Ordering.TheVariants.{Less};
 ghost use Rattle.std.specs.List.{AllByRecursion};
 ghost use Rattle.std.specs.List.Sorted.{IsStrictlySortedBy};
@@ -47,6 +47,7 @@ impl Held {
         ensures found { OnOk result (IsOfFirsts (λ it. ArePlacesOf it.0 it.1 self.list.items) (map had changes.now)) }
         ensures kept { IfOk result (λ held. (p : Posting) → AreOfOthers (map had changes.now) p.sysno
             → Has held.list.items p ↔ Has self.list.items p) }
+        ensures counted { IfOk result (λ held. 1 ≤ length changes.now → held.list.items ≢ [] → 1 ≤ held.records) }
         ensures grows { IfOk result (λ held. held.records ≤ self.records + rows_of (map placed changes.now)) }
         ensures refused { result ≡ Err RegFault.Store → 2 ^ 63 ≤ self.records + rows_of (map placed changes.now) }
     {
@@ -71,6 +72,7 @@ impl Held {
         ensures own { OnOk result (map (posting_at change.now.sysno) change.now.old.now
             ≡ filter (λ p. p.sysno == change.now.sysno) self.now.list.items) }
         ensures count { IfOk result (λ held. CountsOn change.now.old.now change.now.new.now self.now.records held.records) }
+        ensures counted { IfOk result (λ held. held.list.items ≢ [] → 1 ≤ held.records) }
         ensures damaged { result ≡ Err RegFault.Damaged → IsStrictlySortedBy place_cmp change.now.old.now → (list : List Posting)
             → IsStrictlySortedBy posting_cmp list → IsHeld list self.now → ¬ ArePlacesOf change.now.sysno change.now.old.now list }
         ensures refused { result ≡ Err RegFault.Store → 2 ^ 63 ≤ self.now.records }

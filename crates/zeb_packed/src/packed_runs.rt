@@ -16,6 +16,7 @@ ghost use Rattle.zeb_register.specs.PrivatePackedRows.{IsInBlock};
 ghost use Rattle.zeb_packed.specs.PrivatePackedHindrances.{AreRunsSpelled, FindsOld, FindsSpelled, HindersChanges, IsHinderedRun, LacksBlock, SpellsRun};
 ghost use Rattle.zeb_packed.specs.PrivatePackedHindrances.{WereClear};
 ghost use Rattle.zeb_packed.specs.PackedSound.{AreKeyRowsSound, AreSpelledIn, IsOfFirsts, had};
+ghost use Rattle.zeb_register.specs.Sound.{KeepsMalformed};
 ghost use Rattle.zeb_register.specs.Store.{IsStore, KeepsLists, blocks_tree};
 ghost use Rattle.zeb_register.specs.Tallies.{Works};
 
@@ -59,6 +60,8 @@ pub(crate) fn changes_put<S: Alter>(
     ensures text { OnOk result (IsUtf8 key.now.term) }
     ensures sound { InStore (state S.Store tx.old.conn.now) (state S.Store tx.new.conn.now) (λ trees. OnOk result
         (AreKeyRowsSound trees db.0 key.now (map had changes.now))) }
+    ensures malformed { InStore (state S.Store tx.old.conn.now) (state S.Store tx.new.conn.now) (λ trees. OnOk result
+        (KeepsMalformed trees (state S.Store tx.new.conn.now).now.trees)) }
     ensures refused { IsHinderedInside (state S.Store tx.old.conn.now) (state S.Store tx.new.conn.now) result
         (HindersPlaces db.0 key.now (map placed changes.now)) }
     ensures rowids { TakesRegistersInside (state S.Store tx.old.conn.now) (state S.Store tx.new.conn.now) result
@@ -91,6 +94,8 @@ fn runs_put<S: Alter>(
         (IsOfFirsts (AreSpelledIn trees db.0 key.now) (map had changes.now))) }
     ensures clear { InStore (state S.Store tx.old.conn.now) (state S.Store tx.new.conn.now) (λ trees. OnOk result
         (WereClear db.0 key.now known.clear_from changes.now trees)) }
+    ensures malformed { InStore (state S.Store tx.old.conn.now) (state S.Store tx.new.conn.now) (λ trees. OnOk result
+        (KeepsMalformed trees (state S.Store tx.new.conn.now).now.trees)) }
     ensures refused { IsHinderedInside (state S.Store tx.old.conn.now) (state S.Store tx.new.conn.now) result
         (HindersChanges db.0 key.now known.records changes.now) }
     ensures rowids { TakesInside (state S.Store tx.old.conn.now) (state S.Store tx.new.conn.now) result

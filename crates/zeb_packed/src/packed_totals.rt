@@ -1,6 +1,6 @@
 //! How much a packed register holds: its terms by their rows of `dict`, its postings by the blocks of each term.
 
-ghost use Rattle.std.specs.Prelude.{◌≡◌, ◌≢◌, ◌<◌, ◌^◌, List, length, IfOk, OnOk};
+ghost use Rattle.std.specs.Prelude.{◌≡◌, ◌<◌, ◌^◌, List, length, IfOk, IfErr, OnOk};
 ghost use Rattle.sqlite.specs.Held.{state};
 ghost use Rattle.sqlite.specs.Order.{Row as Columns};
 ghost use Rattle.sqlite.specs.State.{IsUnchanged};
@@ -18,7 +18,7 @@ use crate::packed::counted;
 use crate::statements::packed::block_rows;
 use sqlite::{Alter, Connection, Row};
 use zeb_blocks::Postings;
-use zeb_register::for_layouts::{read, read_bytes};
+use zeb_register::for_layouts::{read_bytes, read_number};
 use zeb_register::{RegFault, RegisterOf, Work};
 
 /// How many postings a term has. `Damaged` where a row of its blocks spells none. `work` counts these rows.
@@ -52,11 +52,10 @@ pub(crate) fn term_postings<S: Alter>(
     Ok(count)
 }
 
-/// How many postings blocks spell, one block behind the other.
+/// How many postings blocks spell, one block behind the other. It takes no memory: it is refused as `Damaged` alone, where one spells none.
 fn rows_postings(rows: &[Row]) -> Result<u64, RegFault>
     ensures ok { IfOk result (λ count. (list : List _) × AreSpelled rows.now list × (count ≡ capped (length list))) }
-    ensures honest { result ≡ Err RegFault.Damaged → (list : List _) → ¬ AreSpelled rows.now list }
-    ensures unstored { result ≢ Err RegFault.Store }
+    ensures refused { IfErr result (λ fault. (fault ≡ RegFault.Damaged) × ((list : List _) → ¬ AreSpelled rows.now list)) }
 {
     let mut count: u64 = 0;
     for row in rows {
@@ -65,13 +64,12 @@ fn rows_postings(rows: &[Row]) -> Result<u64, RegFault>
     Ok(count)
 }
 
-/// How many postings a row's block spells.
+/// How many postings a row's block spells. It takes no memory: it is refused as `Damaged` alone, where it spells none.
 fn row_postings(row: &Row) -> Result<u64, RegFault>
     ensures ok { IfOk result (λ count. (part : List _) × SpellsPart row.now part × (count ≡ length part)) }
-    ensures honest { result ≡ Err RegFault.Damaged → (part : List _) → ¬ SpellsPart row.now part }
-    ensures unstored { result ≢ Err RegFault.Store }
+    ensures refused { IfErr result (λ fault. (fault ≡ RegFault.Damaged) × ((part : List _) → ¬ SpellsPart row.now part)) }
 {
-    let block: u64 = read(row, 0)?;
+    let block = read_number(row, 0)?;
     let bytes = read_bytes(row, 1)?;
     let Ok(part) = Postings::read(block, bytes) else {
         return Err(RegFault::Damaged);

@@ -1,6 +1,6 @@
 -- What is written for a command, a change by a path and a line is their answer on any tables.
 use Rattle.std.proofs.Common.{◌≡◌, ◌∙◌, ◌⊎◌, inl, inr, ℕ, Bool, false, List, [], ◌∷◌, ◌++◌, Vec, ap, length, map, refl, subst, sym}
-use Rattle.std.specs.Prelude.{Option, Some, Result, Ok, Err, IfOk, IsErr, IsErrAnd, OnErr, String, string_bytes}
+use Rattle.std.specs.Prelude.{Option, Some, Result, Ok, Err, IfOk, IsErrAnd, OnErr, String, string_bytes}
 use Rattle.std.specs.declared.alloc.AllocError.{AllocError}
 use Rattle.std.specs.declared.alloc.Global.{Global}
 use Rattle.std.specs.Io.KnownBytes.{Appends}
@@ -8,7 +8,6 @@ use Rattle.sqlite.specs.Held.{Held, state}
 use Rattle.sqlite.specs.State.{State, HasCleanDisk}
 use Rattle.sqlite.specs.Store.{Ghosts}
 use Rattle.zeb_profile.specs.declared.directives.Directive.{Directive}
-use Rattle.zeb_profile.specs.declared.faults.ProfileFault.{ProfileFault}
 use Rattle.zeb_register.specs.Calls.{ChangesNothing}
 use Rattle.zeb_register.specs.Formats.{Format, version_of}
 use Rattle.zeb_change.specs.Conditions.{Conditions}
@@ -38,7 +37,8 @@ use Rattle.zeb_program.specs.declared.path_changes.PathChange.{PathChange}
 use Rattle.zeb_program.specs.declared.tasks.Task.{Task}
 use Rattle.zeb_program.specs.declared.tasks.Task.TheVariants.{Ask, Change, Analyse}
 use Rattle.zeb_program.specs.Answers.{ChangesBy, IsReadFaultOf, Writes}
-use Rattle.zeb_program.specs.PrivateFaults.{GivesAnswer, IsUnread, IsUnreadable, unreadable_path}
+use Rattle.zeb_program.specs.FaultLines.{TellsFault}
+use Rattle.zeb_program.specs.PrivateFaults.{GivesAnswer, IsUnread}
 use Rattle.zeb_program.specs.PrivateFiles.{AreShort}
 use Rattle.zeb_program.specs.PrivateOverTables.{AnalysesOver, CommandLeaves, CommandOver, LineOver, PathLeaves, PathOver, PathsOver, SaysOver, ServesOver, TaskOver}
 use Rattle.zeb_program.specs.PrivateServing.{AnswersFrom}
@@ -176,11 +176,6 @@ module _ (told : List ℕ → Option (List ℕ)) (format : Format) (c : Conditio
       → PathsOver told format c.profile (name_bytes change.database) (string_bytes change.path ∷ []) old result
   named_over result is over = subst (λ paths. PathsOver told format c.profile (name_bytes change.database) paths old result) (ap (map string_bytes) is) over
 
-  -- the fault of a profile isn't among its answers
-  no_profile : (file : String Global) (why : ProfileFault) → IsUnreadable (Err (fault.Profile file why)) ⊎ GivesAnswer (GoesByTexts (version_of format) c.profile old) (Err (fault.Profile file why)) → ⊥
-  no_profile file why (inl it) = it
-  no_profile file why (inr it) = it
-
   -- the same of the file at the path
   leaves_path : (result : Result Reply Fault) → named ≡ change.path ∷ [] → OnErr result (ChangesNothing old new)
       → ((files : List (List ℕ)) → AreTold told (map string_bytes named) files → AnswersFrom old new result (ChangesBy c change.kind (name_bytes change.database) files))
@@ -199,20 +194,13 @@ module _ (told : List ℕ → Option (List ℕ)) (format : Format) (c : Conditio
   pub refused_path : (why : Fault) (r : Result ℕ AllocError) → named ≡ change.path ∷ [] → (Clean → PathsOver told format c.profile (name_bytes change.database) (map string_bytes named) old (Err why))
       → (Clean → ChangesNothing old new)
       → (Clean → (files : List (List ℕ)) → AreTold told (map string_bytes named) files → AnswersFrom old new (Err why) (ChangesBy c change.kind (name_bytes change.database) files))
-      → ((refusal : Refusal) → why ≡ fault.Refused refusal → IfOk r (λ status. failed ≡ false → Writes wrote writes (λ bytes. (bytes ≡ refusal_text refusal ++ 10 ∷ []) × (status ≡ status_of refusal))))
-      → ((path : String Global) → why ≡ fault.Unreadable path → failed ≡ false → Appends wrote writes (unreadable_path (string_bytes path)))
-      → (IsUnread why → IfOk r (λ status. status ≡ 3)) → (why ≡ fault.Memory → IsErr r)
+      → IfOk r (λ status. failed ≡ false → Writes wrote writes (λ line. TellsFault why line status))
       → IfOk r (λ status. failed ≡ false → Clean → Writes wrote writes (λ bytes. PathOver told format c change old bytes status new))
-  refused_path why (Err e) one over nothing serves tells shows unread memory = tt
-  refused_path (fault.Refused refusal) (Ok status) one over nothing serves tells shows unread memory = λ sound clean.
-      let w = tells refusal refl sound in
-      let result : Result Reply Fault = Err (fault.Refused refusal) in
-      (w.0, (result, (w.1.0, w.1.1), named_over result one (over clean), leaves_path result one (nothing clean) (serves clean)), w.2)
-  refused_path (fault.Unreadable path) (Ok status) one over nothing serves tells shows unread memory = λ sound clean.
-      let result : Result Reply Fault = Err (fault.Unreadable path) in
-      (unreadable_path (string_bytes path), (result, (refl, unread tt), named_over result one (over clean), leaves_path result one (nothing clean) (serves clean)), shows path refl sound)
-  refused_path fault.Memory (Ok status) one over nothing serves tells shows unread memory = absurd (cc (memory refl))
-  refused_path (fault.Profile file why) (Ok status) one over nothing serves tells shows unread memory = λ sound clean. absurd (no_profile file why (over clean).ready)
+  refused_path why (Err e) one over nothing serves tells = tt
+  refused_path why (Ok status) one over nothing serves tells = λ sound clean.
+      let w = tells sound in
+      let result : Result Reply Fault = Err why in
+      (w.0, (result, w.1, named_over result one (over clean), leaves_path result one (nothing clean) (serves clean)), w.2)
 
 -- ---- a line
 

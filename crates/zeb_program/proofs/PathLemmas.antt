@@ -1,6 +1,6 @@
 -- Changes by a path of which the file's bytes are told.
 use Rattle.std.proofs.Common.{◌≡◌, ◌∙◌, ◌⊎◌, ◌≤◌, inl, inr, ℕ, zero, suc, Bool, false, List, [], ◌∷◌, ◌++◌, length, map, ap, arith, refl, subst, sym}
-use Rattle.std.specs.Prelude.{Option, Some, Result, Ok, Err, IfOk, IsErr, IsErrAnd, OnErr, string_bytes}
+use Rattle.std.specs.Prelude.{Option, Some, Result, Ok, Err, IfOk, IsErrAnd, OnErr, string_bytes}
 use Rattle.std.specs.declared.alloc.AllocError.{AllocError}
 use Rattle.std.specs.Io.KnownBytes.{Appends}
 use Rattle.std.specs.Str.{IsUtf8}
@@ -14,7 +14,6 @@ use Rattle.zeb_change.specs.declared.settings.Kind.{Kind}
 use Rattle.zeb_image.specs.Holdings.{Holdings}
 use Rattle.zeb_image.specs.Image.{Keeps}
 use Rattle.zeb_image.specs.NameOf.{name_bytes}
-use Rattle.zeb_engine.specs.Refusals.{refusal_text, status_of}
 use Rattle.zeb_engine.specs.Replies.{reply_text}
 use Rattle.zeb_engine.specs.Steps.{TakesFiles}
 use Rattle.zeb_engine.specs.Works.{ServesBy}
@@ -25,6 +24,7 @@ use Rattle.zeb_program.specs.declared.faults.Fault.TheVariants as fault
 use Rattle.zeb_program.specs.declared.lines.Line.TheVariants.{Path}
 use Rattle.zeb_program.specs.declared.path_changes.PathChange.{PathChange}
 use Rattle.zeb_program.specs.Answers.{AnswersLine, ChangesBy, IsFileAnswer, IsReadFaultOf, Writes}
+use Rattle.zeb_program.specs.FaultLines.{TellsFault}
 use Rattle.zeb_program.specs.Lines.{first_line, after_first_line}
 use Rattle.zeb_program.specs.PathChanges.{AreFilesTold, IsLineTold, HasPath, NamesPath}
 use Rattle.zeb_program.specs.Says.{SaysText}
@@ -93,17 +93,16 @@ replied_file told c change old new wrote writes reply bytes failed Clean serves 
 -- a fault that is written is the change's refusal
 pub refused_file : (told : List ℕ → Option (List ℕ)) (c : Conditions) (change : PathChange) (old new : State) (wrote writes : Option (List ℕ)) (why : Fault) (failed : Bool) (Clean : Type 0) (r : Result ℕ AllocError)
     → (Clean → OfFile told change (λ file. AnswersFrom old new (Err why) (ChangesBy c change.kind (name_bytes change.database) (file ∷ []))))
-    → ((refusal : Refusal) → why ≡ fault.Refused refusal → IfOk r (λ status. failed ≡ false → Writes wrote writes (λ bytes. (bytes ≡ refusal_text refusal ++ 10 ∷ []) × (status ≡ status_of refusal))))
-    → (why ≡ fault.Memory → IsErr r)
+    → IfOk r (λ status. failed ≡ false → Writes wrote writes (λ line. TellsFault why line status))
     → IfOk r (λ status. failed ≡ false → Clean → OfFile told change (λ file. Leads old new wrote writes (λ before bytes later. IsFileAnswer c change file before bytes status later)))
-refused_file told c change old new wrote writes why failed Clean (Err e) serves tells memory = tt
-refused_file told c change old new wrote writes (fault.Refused refusal) failed Clean (Ok status) serves tells memory = λ sound clean file known before keeps.
-    let w = tells refusal refl sound in
+refused_file told c change old new wrote writes why failed Clean (Err e) serves tells = tt
+refused_file told c change old new wrote writes (fault.Refused refusal) failed Clean (Ok status) serves tells = λ sound clean file known before keeps.
+    let w = tells sound in
     let served = serves clean file known before keeps in
     (served.0, served.2, (w.0, (Err refusal, w.1.0, w.1.1, served.1), w.2))
-refused_file told c change old new wrote writes fault.Memory failed Clean (Ok status) serves tells memory = absurd (cc (memory refl))
-refused_file told c change old new wrote writes (fault.Profile named it) failed Clean (Ok status) serves tells memory = λ sound clean file known before keeps. absurd (serves clean file known before keeps)
-refused_file told c change old new wrote writes (fault.Unreadable path) failed Clean (Ok status) serves tells memory = λ sound clean file known before keeps. absurd (serves clean file known before keeps)
+refused_file told c change old new wrote writes fault.Memory failed Clean (Ok status) serves tells = λ sound. absurd (tells sound).1
+refused_file told c change old new wrote writes (fault.Profile named it) failed Clean (Ok status) serves tells = λ sound clean file known before keeps. absurd (serves clean file known before keeps)
+refused_file told c change old new wrote writes (fault.Unreadable path) failed Clean (Ok status) serves tells = λ sound clean file known before keeps. absurd (serves clean file known before keeps)
 
 -- ---- the line
 

@@ -1,5 +1,5 @@
 -- What is written for words, at each end.
-use Rattle.std.proofs.Common.{◌≡◌, ◌<◌, ◌⊎◌, ℕ, Bool, false, List, inl, inr, refl, arith, subst, sym}
+use Rattle.std.proofs.Common.{◌≡◌, ◌<◌, ◌⊎◌, ℕ, Bool, false, List, inl, inr, refl, subst, sym}
 use Rattle.std.specs.Prelude.{Option, Some, Result, Ok, Err, IfOk, OnErr, String, string_bytes}
 use Rattle.std.specs.Option.{option_map}
 use Rattle.std.specs.declared.alloc.AllocError.{AllocError}
@@ -11,9 +11,12 @@ use Rattle.zeb_change.specs.declared.refusals.Refusal.TheVariants.{NotInitialise
 use Rattle.zeb_engine.specs.Refusals.{status_of}
 use Rattle.zeb_words.specs.declared.words.Usage.{Usage}
 use Rattle.zeb_words.specs.declared.words.Usage.TheVariants as usage
+use Rattle.zeb_program.specs.declared.faults.Fault.{Fault}
 use Rattle.zeb_program.specs.declared.tasks.Task.{Task}
+use Rattle.zeb_program.specs.Answers.{Writes}
+use Rattle.zeb_program.specs.FaultLines.{TellsFault}
 use Rattle.zeb_program.specs.PrivateWarnings.{MayWarn}
-use Rattle.zeb_program.specs.WordAnswers.{AnswersWords, misused, batched, served, named, IsFaultStatus, NamesBatch, NamesShell, NamesTask, TellsApart, TellsUsage, WarnsAtMost}
+use Rattle.zeb_program.specs.WordAnswers.{AnswersWords, misused, batched, served, named, EndsWords, IsFaultStatus, NamesBatch, NamesLines, NamesShell, NamesTask, StopsWords, TellsApart, TellsUsage, WarnsAtMost}
 
 -- a refusal's status is that of a fault
 pub refusal_status : (refusal : Refusal) → IsFaultStatus (status_of refusal)
@@ -54,20 +57,43 @@ WarnsAtMost-kept task fault_old fault_mid fault_new kept (inr warns) =
 TellsApart-kept : (task : Task) (old mid new fault_old fault_mid fault_new : Option (List ℕ)) (status : ℕ) → Keeps mid new → Keeps fault_mid fault_new
     → TellsApart task old mid fault_old fault_mid status → TellsApart task old new fault_old fault_new status
 TellsApart-kept task old mid new fault_old fault_mid fault_new status kept fault_kept (inl t) = inl (t.0, WarnsAtMost-kept task fault_old fault_mid fault_new fault_kept t.1)
-TellsApart-kept task old mid new fault_old fault_mid fault_new status kept fault_kept (inr t) = inr (t.0, Keeps-trans old mid new t.1 kept)
+TellsApart-kept task old mid new fault_old fault_mid fault_new status kept fault_kept (inr t) =
+    let wrote = t.2 in
+    inr (t.0, Keeps-trans old mid new t.1 kept, (wrote.0, wrote.1, Appends-kept fault_old fault_mid fault_new wrote.0 wrote.2 fault_kept))
 
-pub kept_words : (words : List (List ℕ)) (left old mid new fault_old fault_mid fault_new : Option (List ℕ)) (status : ℕ) → Keeps mid new → Keeps fault_mid fault_new
+AnswersWords-kept : (words : List (List ℕ)) (left old mid new fault_old fault_mid fault_new : Option (List ℕ)) (status : ℕ) → Keeps mid new → Keeps fault_mid fault_new
     → AnswersWords words left old mid fault_old fault_mid status → AnswersWords words left old new fault_old fault_new status
-kept_words words left old mid new fault_old fault_mid fault_new status kept fault_kept (misused why none is tells) =
+AnswersWords-kept words left old mid new fault_old fault_mid fault_new status kept fault_kept (misused why none is tells) =
     misused why none is (TellsUsage-kept why old mid new fault_old fault_mid fault_new status kept fault_kept tells)
-kept_words words left old mid new fault_old fault_mid fault_new status kept fault_kept (batched names) = batched names
-kept_words words left old mid new fault_old fault_mid fault_new status kept fault_kept (served names end) = served names (λ less. passed (end less))
+AnswersWords-kept words left old mid new fault_old fault_mid fault_new status kept fault_kept (batched names) = batched names
+AnswersWords-kept words left old mid new fault_old fault_mid fault_new status kept fault_kept (served names end) = served names (λ less. passed (end less))
   where
     passed : IsAtEnd left ⊎ Keeps old mid → IsAtEnd left ⊎ Keeps old new
     passed (inl at) = inl at
     passed (inr same) = inr (Keeps-trans old mid new same kept)
-kept_words words left old mid new fault_old fault_mid fault_new status kept fault_kept (named task names tells) =
+AnswersWords-kept words left old mid new fault_old fault_mid fault_new status kept fault_kept (named task names tells) =
     named task names (TellsApart-kept task old mid new fault_old fault_mid fault_new status kept fault_kept tells)
+
+pub kept_words : (words : List (List ℕ)) (left old mid new fault_old fault_mid fault_new : Option (List ℕ)) (status : ℕ) → Keeps mid new → Keeps fault_mid fault_new
+    → EndsWords words left old mid fault_old fault_mid status → EndsWords words left old new fault_old fault_new status
+kept_words words left old mid new fault_old fault_mid fault_new status kept fault_kept (inl answers) =
+    inl (AnswersWords-kept words left old mid new fault_old fault_mid fault_new status kept fault_kept answers)
+kept_words words left old mid new fault_old fault_mid fault_new status kept fault_kept (inr (inl names, is)) = inr (inl names, is)
+kept_words words left old mid new fault_old fault_mid fault_new status kept fault_kept (inr (inr t, is)) =
+    inr (inr (t.0, t.1, Keeps-trans old mid new t.2 kept, Keeps-trans fault_old fault_mid fault_new t.3 fault_kept), is)
+
+-- both ways in which words end
+pub ended_words : (words : List (List ℕ)) (left old new fault_old fault_new : Option (List ℕ)) (failed fault_failed : Bool) (r : Result ℕ AllocError)
+    → IfOk r (λ status. failed ≡ false → fault_failed ≡ false → AnswersWords words left old new fault_old fault_new status)
+    → IfOk r (λ status. failed ≡ false → fault_failed ≡ false → EndsWords words left old new fault_old fault_new status)
+ended_words words left old new fault_old fault_new failed fault_failed (Err e) h = h
+ended_words words left old new fault_old fault_new failed fault_failed (Ok status) h = λ sound quiet. inl (h sound quiet)
+
+pub early_words : (words : List (List ℕ)) (left old new fault_old fault_new : Option (List ℕ)) (failed fault_failed : Bool) (r : Result ℕ AllocError)
+    → OnErr r (failed ≡ false → fault_failed ≡ false → StopsWords words old new fault_old fault_new)
+    → OnErr r (failed ≡ false → fault_failed ≡ false → EndsWords words left old new fault_old fault_new 3)
+early_words words left old new fault_old fault_new failed fault_failed (Ok status) h = h
+early_words words left old new fault_old fault_new failed fault_failed (Err e) h = λ sound quiet. inr (h sound quiet, refl)
 
 -- a warning's line
 pub warned_once : (task : Task) (warning : Option (String Global)) (line : String Global) (bytes : List ℕ) (fault_old fault_new : Option (List ℕ)) → warning ≡ Some line
@@ -76,6 +102,23 @@ warned_once task warning line bytes fault_old fault_new is may same wrote =
     let one = subst (λ w. MayWarn task (option_map string_bytes w)) is may in
     inr (one.0, (string_bytes line, one.1, subst (Appends fault_old fault_new) same wrote))
 
+-- a sink that is the same keeps what its writer holds
+same_kept : {S : Type 0} (contents : S → Option (List ℕ)) (old new : S) → new ≡ old → Keeps (contents old) (contents new)
+same_kept contents old new same = subst (λ s. Keeps (contents old) (contents s)) (sym same) (Keeps-refl (contents old))
+
+-- a task that has no answer: why goes to the fault output alone, or memory ran out and nothing is written
+pub told_apart : (task : Task) (old fault_old fault_new : Option (List ℕ)) (why : Fault) (failed : Bool) (r : Result ℕ AllocError) → IfOk r IsFaultStatus
+    → IfOk r (λ status. failed ≡ false → Writes fault_old fault_new (λ line. TellsFault why line status))
+    → IfOk r (λ status. failed ≡ false → TellsApart task old old fault_old fault_new status)
+told_apart task old fault_old fault_new why failed (Err e) is tells = tt
+told_apart task old fault_old fault_new why failed (Ok status) is tells = λ sound.
+    let wrote = tells sound in
+    inr (is, Keeps-refl old, (wrote.0, (why, wrote.1), wrote.2))
+
+pub untouched : (r : Result ℕ AllocError) (P Q : Type 0) → P → OnErr r Q → OnErr r (P × Q)
+untouched (Ok status) P Q first second = tt
+untouched (Err e) P Q first second = (first, second)
+
 -- a task
 pub task_words : (words : List (List ℕ)) (left old new fault_old fault_new : Option (List ℕ)) (task : Task) (failed fault_failed : Bool) (r : Result ℕ AllocError) → NamesTask words task
     → IfOk r (λ status. fault_failed ≡ false → TellsApart task old new fault_old fault_new status)
@@ -83,11 +126,12 @@ pub task_words : (words : List (List ℕ)) (left old new fault_old fault_new : O
 task_words words left old new fault_old fault_new task failed fault_failed (Err e) names h = h
 task_words words left old new fault_old fault_new task failed fault_failed (Ok status) names h = λ _ sound. named task names (h sound)
 
-pub stopped_task_words : (words : List (List ℕ)) (left old new fault_old fault_new : Option (List ℕ)) (task : Task) (failed fault_failed : Bool) (r : Result ℕ AllocError) → NamesTask words task
-    → OnErr r (Keeps old new)
-    → OnErr r (failed ≡ false → fault_failed ≡ false → AnswersWords words left old new fault_old fault_new 3)
-stopped_task_words words left old new fault_old fault_new task failed fault_failed (Ok status) names h = h
-stopped_task_words words left old new fault_old fault_new task failed fault_failed (Err e) names h = λ _ _. named task names (inr (inr refl, h))
+pub stopped_task_words : {S T : Type 0} (contents : S → Option (List ℕ)) (fault_contents : T → Option (List ℕ)) (words : List (List ℕ)) (old new : S) (fault_old fault_new : T) (task : Task) (failed fault_failed : Bool) (r : Result ℕ AllocError)
+    → NamesTask words task → OnErr r ((new ≡ old) × (fault_new ≡ fault_old))
+    → OnErr r (failed ≡ false → fault_failed ≡ false → StopsWords words (contents old) (contents new) (fault_contents fault_old) (fault_contents fault_new))
+stopped_task_words contents fault_contents words old new fault_old fault_new task failed fault_failed (Ok status) names h = h
+stopped_task_words contents fault_contents words old new fault_old fault_new task failed fault_failed (Err e) names h =
+    λ _ _. inr (task, names, same_kept contents old new h.0, same_kept fault_contents fault_old fault_new h.1)
 
 -- a batch
 pub batch_words : (words : List (List ℕ)) (left old new fault_old fault_new : Option (List ℕ)) (failed fault_failed : Bool) (r : Result ℕ AllocError) → NamesBatch words
@@ -95,10 +139,11 @@ pub batch_words : (words : List (List ℕ)) (left old new fault_old fault_new : 
 batch_words words left old new fault_old fault_new failed fault_failed (Err e) names = tt
 batch_words words left old new fault_old fault_new failed fault_failed (Ok status) names = λ _ _. batched names
 
-pub stopped_batch_words : (words : List (List ℕ)) (left old new fault_old fault_new : Option (List ℕ)) (failed fault_failed : Bool) (r : Result ℕ AllocError) → NamesBatch words
-    → OnErr r (failed ≡ false → fault_failed ≡ false → AnswersWords words left old new fault_old fault_new 3)
-stopped_batch_words words left old new fault_old fault_new failed fault_failed (Ok status) names = tt
-stopped_batch_words words left old new fault_old fault_new failed fault_failed (Err e) names = λ _ _. batched names
+-- a batch or a shell
+pub stopped_line_words : (words : List (List ℕ)) (old new fault_old fault_new : Option (List ℕ)) (failed fault_failed : Bool) (r : Result ℕ AllocError) → NamesLines words
+    → OnErr r (failed ≡ false → fault_failed ≡ false → StopsWords words old new fault_old fault_new)
+stopped_line_words words old new fault_old fault_new failed fault_failed (Ok status) names = tt
+stopped_line_words words old new fault_old fault_new failed fault_failed (Err e) names = λ _ _. inl names
 
 -- a shell
 pub shell_words : (words : List (List ℕ)) (left old new fault_old fault_new : Option (List ℕ)) (failed fault_failed : Bool) (r : Result ℕ AllocError) → NamesShell words
@@ -106,11 +151,6 @@ pub shell_words : (words : List (List ℕ)) (left old new fault_old fault_new : 
     → IfOk r (λ status. failed ≡ false → fault_failed ≡ false → AnswersWords words left old new fault_old fault_new status)
 shell_words words left old new fault_old fault_new failed fault_failed (Err e) names end = tt
 shell_words words left old new fault_old fault_new failed fault_failed (Ok status) names end = λ _ _. served names end
-
-pub stopped_shell_words : (words : List (List ℕ)) (left old new fault_old fault_new : Option (List ℕ)) (failed fault_failed : Bool) (r : Result ℕ AllocError) → NamesShell words
-    → OnErr r (failed ≡ false → fault_failed ≡ false → AnswersWords words left old new fault_old fault_new 3)
-stopped_shell_words words left old new fault_old fault_new failed fault_failed (Ok status) names = tt
-stopped_shell_words words left old new fault_old fault_new failed fault_failed (Err e) names = λ _ _. served names (λ less. absurd (omega (arith, less)))
 
 -- a shell that read, and one that was refused before it read
 pub shell_read : (r : Result ℕ AllocError) (End Same : Type 0) → IfOk r (λ status. status < 3 → End) → IfOk r (λ status. status < 3 → End ⊎ Same)
@@ -129,4 +169,4 @@ shell_kept contents old new (Ok status) End h = λ less. kept (h less)
   where
     kept : End ⊎ (new ≡ old) → End ⊎ Keeps (contents old) (contents new)
     kept (inl end) = inl end
-    kept (inr same) = inr (subst (λ s. Keeps (contents old) (contents s)) (sym same) (Keeps-refl (contents old)))
+    kept (inr same) = inr (same_kept contents old new same)

@@ -6,6 +6,7 @@ pub mod Batches
 pub mod PrivateBatches
 pub mod BatchRuns
 pub mod Errands
+pub mod FaultLines
 pub mod PrivateErrands
 pub mod PrivateFaults
 pub mod PrivateFiles

@@ -1,6 +1,6 @@
 -- What only the contracts of private functions speak of; no public clause reaches it.
 -- Why a command that words or a line name isn't answered: what couldn't be read, and failures to open a register.
-use Rattle.std.specs.Prelude.{◌≡◌, ◌⊎◌, ⊤, ℕ, List, [], ◌∷◌, ◌++◌, codes, Result, Ok, Err}
+use Rattle.std.specs.Prelude.{◌≡◌, ◌⊎◌, ⊤, Result, Ok, Err}
 use Rattle.zeb_change.specs.declared.refusals.Refusal.{Refusal}
 use Rattle.zeb_change.specs.declared.refusals.Refusal.TheVariants as refusal
 use Rattle.zeb_engine.specs.declared.replies.Reply.{Reply}
@@ -21,10 +21,6 @@ IsUnreadable (Err (Profile file fault)) = ⊥
 IsUnreadable (Err (Unreadable path)) = ⊤
 IsUnreadable (Err (Refused refusal)) = ⊥
 IsUnreadable (Err Memory) = ⊥
-
--- what is written of a path that can't be read
-abbrev pub unreadable_path : List ℕ → List ℕ
-unreadable_path path = codes "zebraidx: cannot read " ++ path ++ 10 ∷ []
 
 -- a failure by which a register isn't opened: of the store, of the commit of its tables or of the memory
 abbrev pub IsOpeningFailure : Refusal → Type 0

@@ -27,7 +27,7 @@ use Rattle.zeb_engine.specs.declared.commands.Command.{Command}
 use Rattle.zeb_engine.specs.declared.commands.Command.TheVariants.{Init, Reindex}
 use Rattle.zeb_engine.specs.declared.replies.Reply.{Reply}
 use Rattle.zeb_program.specs.declared.faults.Fault.{Fault}
-use Rattle.zeb_program.specs.declared.faults.Fault.TheVariants.{Profile, Unreadable, Refused, Memory}
+use Rattle.zeb_program.specs.declared.faults.Fault.TheVariants.{Refused}
 use Rattle.zeb_program.specs.declared.lines.Line.{Line}
 use Rattle.zeb_program.specs.declared.lines.Line.TheVariants.{Remark, Command as Order, Path, Bad}
 use Rattle.zeb_program.specs.declared.path_changes.PathChange.{PathChange}
@@ -35,7 +35,8 @@ use Rattle.zeb_program.specs.declared.tasks.Task.{Task}
 use Rattle.zeb_program.specs.declared.tasks.Task.TheVariants.{Ask, Change, Analyse}
 use Rattle.zeb_program.specs.Answers.{ChangesBy, EachLine, IsReadFaultOf, Writes, answer_status, answer_text, bad_line}
 use Rattle.zeb_program.specs.Inputs.{TakesAtMost}
-use Rattle.zeb_program.specs.PrivateFaults.{GivesAnswer, IsUnreadable, unreadable_path}
+use Rattle.zeb_program.specs.FaultLines.{TellsFault}
+use Rattle.zeb_program.specs.PrivateFaults.{GivesAnswer, IsUnreadable}
 use Rattle.zeb_program.specs.PrivateFiles.{AreShort}
 use Rattle.zeb_program.specs.PrivateServing.{AnswersFrom}
 use Rattle.zeb_program.specs.PrivateTaskAnswers.{AreTold}
@@ -107,13 +108,10 @@ CommandOver format c command old bytes status new =
     (answer : Result Reply Refusal) × (bytes ≡ answer_text answer) × (status ≡ answer_status answer)
     × ServesOver format c command old new answer
 
--- This is written for an answer, or for a path that can't be read, and this is the status. For want of memory nothing is written.
+-- This is written for an answer, or for the fault by which there is none, and this is the status.
 abbrev pub IsTold : Result Reply Fault → List ℕ → ℕ → Type 0
 IsTold (Ok reply) bytes status = (bytes ≡ answer_text (Ok reply)) × (status ≡ answer_status (Ok reply))
-IsTold (Err (Refused refusal)) bytes status = (bytes ≡ answer_text (Err refusal)) × (status ≡ answer_status (Err refusal))
-IsTold (Err (Unreadable path)) bytes status = (bytes ≡ unreadable_path (string_bytes path)) × (status ≡ 3)
-IsTold (Err (Profile file fault)) bytes status = ⊥
-IsTold (Err Memory) bytes status = ⊥
+IsTold (Err fault) bytes status = TellsFault fault bytes status
 
 -- What a change by the file at a path leaves of the tables: nothing changes where it isn't accepted, and where the file's bytes are told, it is
 -- answered from tables that keep what a register holds as a change by these, and they keep what is held then.

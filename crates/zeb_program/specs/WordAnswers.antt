@@ -7,9 +7,11 @@ use Rattle.zeb_words.specs.declared.words.Words.{Words}
 use Rattle.zeb_words.specs.declared.words.Act.TheVariants.{Batch, Shell}
 use Rattle.zeb_words.specs.declared.words.Usage.{Usage}
 use Rattle.zeb_words.specs.declared.words.Usage.TheVariants.{BadUsage, Refused, Help, Memory}
+use Rattle.zeb_program.specs.declared.faults.Fault.{Fault}
 use Rattle.zeb_program.specs.declared.tasks.Task.{Task}
 use Rattle.zeb_program.specs.Answers.{Writes}
 use Rattle.zeb_program.specs.Errands.{IsTaskOf}
+use Rattle.zeb_program.specs.FaultLines.{TellsFault}
 use Rattle.zeb_program.specs.ScriptAnswers.{usage_line}
 use Rattle.zeb_program.specs.TaskAnswers.{ReadsWhole}
 use Rattle.zeb_program.specs.Warnings.{IsWarning}
@@ -49,10 +51,12 @@ IsFaultStatus status = (status ≡ 1) ⊎ (status ≡ 3)
 abbrev pub WarnsAtMost : Task → Option (List ℕ) → Option (List ℕ) → Type 0
 WarnsAtMost task fault_old fault_new = Keeps fault_old fault_new ⊎ (ReadsWhole task × Writes fault_old fault_new IsWarning)
 
--- the answer to a task goes to the output, and only a warning to the fault output; why there is none goes to the fault output alone
+-- the answer to a task goes to the output, and only a warning to the fault output; why there is none goes to the fault output alone, as the
+-- line of a fault, with the status of that fault
 abbrev pub TellsApart : Task → Option (List ℕ) → Option (List ℕ) → Option (List ℕ) → Option (List ℕ) → ℕ → Type 0
 TellsApart task old new fault_old fault_new status =
-    ((status ≡ 0) × WarnsAtMost task fault_old fault_new) ⊎ (IsFaultStatus status × Keeps old new)
+    ((status ≡ 0) × WarnsAtMost task fault_old fault_new)
+    ⊎ (IsFaultStatus status × Keeps old new × Writes fault_old fault_new (λ line. (fault : Fault) × TellsFault fault line status))
 
 -- what is written for words, and the status, where this is left of the input
 pub data AnswersWords : List (List ℕ) → Option (List ℕ) → Option (List ℕ) → Option (List ℕ) → Option (List ℕ) → Option (List ℕ) → ℕ → Type 0 where
@@ -68,3 +72,13 @@ pub data AnswersWords : List (List ℕ) → Option (List ℕ) → Option (List �
   -- words that name a task, so neither a batch nor a shell
   named : {words : List (List ℕ)} {left old new fault_old fault_new : Option (List ℕ)} {status : ℕ} → (task : Task) → NamesTask words task
       → TellsApart task old new fault_old fault_new status → AnswersWords words left old new fault_old fault_new status
+
+-- what is written for them where memory runs out for the program itself: nothing, where they name a task
+abbrev pub StopsWords : List (List ℕ) → Option (List ℕ) → Option (List ℕ) → Option (List ℕ) → Option (List ℕ) → Type 0
+StopsWords words old new fault_old fault_new =
+    NamesLines words ⊎ ((task : Task) × NamesTask words task × Keeps old new × Keeps fault_old fault_new)
+
+-- words are answered, or memory runs out for the program itself, with status 3
+abbrev pub EndsWords : List (List ℕ) → Option (List ℕ) → Option (List ℕ) → Option (List ℕ) → Option (List ℕ) → Option (List ℕ) → ℕ → Type 0
+EndsWords words left old new fault_old fault_new status =
+    AnswersWords words left old new fault_old fault_new status ⊎ (StopsWords words old new fault_old fault_new × (status ≡ 3))

@@ -1,11 +1,11 @@
 //! The words of a command line: what they ask for is done, and its answer or why there is none is written.
 
 ghost use Rattle.std.specs.Prelude.{◌≡◌, ◌⊎◌, ◌≤◌, ◌<◌, ◌+◌, ◌++◌, false, true, map, string_bytes, IfOk, IfSome, OnErr, IsErrAnd};
-ghost use Rattle.std.specs.Io.KnownBytes.{Appends, IsAtEnd, Keeps};
+ghost use Rattle.std.specs.Io.KnownBytes.{Appends, IsAtEnd};
 ghost use Rattle.zeb_program.specs.PrivateFaults.{IsUnread};
 ghost use Rattle.zeb_program.specs.Inputs.{TakesAtMost};
 ghost use Rattle.zeb_program.specs.ScriptAnswers.{usage_line};
-ghost use Rattle.zeb_program.specs.WordAnswers.{AnswersWords, NamesLines, NamesShell, TellsApart, TellsUsage};
+ghost use Rattle.zeb_program.specs.WordAnswers.{AnswersWords, NamesLines, NamesShell, StopsWords, TellsApart, TellsUsage};
 
 use crate::batch::run_lines;
 use crate::faults::{Fault, tell};
@@ -44,8 +44,8 @@ pub fn run_words<R: Source, W: Output, V: Write, P: Paths>(
         AnswersWords (map string_bytes words.now) (R.remaining input.new) (W.contents output.old.writer) (W.contents output.new.writer)
         (V.contents fault_output.old.writer) (V.contents fault_output.new.writer) status) }
     ensures stopped { OnErr result (output.new.failed ≡ false → fault_output.new.failed ≡ false →
-        AnswersWords (map string_bytes words.now) (R.remaining input.new) (W.contents output.old.writer) (W.contents output.new.writer)
-        (V.contents fault_output.old.writer) (V.contents fault_output.new.writer) FAILED) }
+        StopsWords (map string_bytes words.now) (W.contents output.old.writer) (W.contents output.new.writer)
+        (V.contents fault_output.old.writer) (V.contents fault_output.new.writer)) }
 {
     let Words {
         config,
@@ -108,7 +108,8 @@ fn run_task<W: Write, V: Write, P: Paths>(
     ensures apart { IfOk result (λ status. fault_output.new.failed ≡ false →
         TellsApart task.now (W.contents output.old.writer) (W.contents output.new.writer)
         (V.contents fault_output.old.writer) (V.contents fault_output.new.writer) status) }
-    ensures stopped { OnErr result (Keeps (W.contents output.old.writer) (W.contents output.new.writer)) }
+    // Memory that runs out in the program itself is found before anything is written.
+    ensures stopped { OnErr result ((output.new ≡ output.old) × (fault_output.new ≡ fault_output.old)) }
 {
     match perform(alloc, config, task, paths) {
         Ok(Told { text, warning }) => {

@@ -1,13 +1,10 @@
 //! Why a command that words or a line name isn't answered, and what is written of it.
 
-ghost use Rattle.std.specs.Io.KnownBytes.{Appends};
-ghost use Rattle.std.specs.Prelude.{◌≡◌, ◌∷◌, ◌++◌, [], false, string_bytes, String, IfOk, IsErr, OnErr};
-ghost use Rattle.std.specs.declared.alloc.Global.{Global};
-ghost use Rattle.zeb_change.specs.declared.refusals.Refusal.{Refusal};
-ghost use Rattle.zeb_engine.specs.Refusals.{refusal_text, status_of};
+ghost use Rattle.std.specs.Prelude.{◌≡◌, false, IfOk, IsErr, OnErr};
 ghost use Rattle.zeb_program.specs.Answers.{Writes};
-ghost use Rattle.zeb_program.specs.PrivateFaults.{IsUnread, unreadable_path};
-ghost use Rattle.zeb_program.specs.declared.faults.Fault.TheVariants.{Memory, Refused, Unreadable};
+ghost use Rattle.zeb_program.specs.FaultLines.{TellsFault};
+ghost use Rattle.zeb_program.specs.PrivateFaults.{IsUnread};
+ghost use Rattle.zeb_program.specs.declared.faults.Fault.TheVariants.{Memory, Refused};
 ghost use Rattle.zeb_program.specs.WordAnswers.{IsFaultStatus};
 
 use crate::batch::refuse;
@@ -69,11 +66,8 @@ impl From<WalkFault> for Fault {
 
 /// Writes a fault's line, and answers its status. For want of memory nothing is written.
 pub fn tell<W: Write>(alloc: Global, fault: &Fault, output: &mut Sink<W>) -> Result<u8, AllocError>
-    ensures answer { (refusal : Refusal) → fault.now ≡ Refused refusal → IfOk result (λ status. output.new.failed ≡ false →
-        Writes (W.contents output.old.writer) (W.contents output.new.writer) (λ bytes. (bytes ≡ refusal_text refusal ++ 10 ∷ [])
-        × (status ≡ status_of refusal))) }
-    ensures unreadable { (path : String Global) → fault.now ≡ Unreadable path → output.new.failed ≡ false →
-        Appends (W.contents output.old.writer) (W.contents output.new.writer) (unreadable_path (string_bytes path)) }
+    ensures told { IfOk result (λ status. output.new.failed ≡ false →
+        Writes (W.contents output.old.writer) (W.contents output.new.writer) (λ line. TellsFault fault.now line status)) }
     ensures sound { output.new.failed ≡ false → output.old.failed ≡ false }
     ensures memory { fault.now ≡ Memory → IsErr result }
     ensures status { IfOk result IsFaultStatus }

@@ -4,7 +4,7 @@ ghost use Rattle.std.specs.Prelude.{◌≡◌, ◌≢◌, ◌⊎◌, ◌≤◌, 
 ghost use Rattle.std.specs.Io.KnownBytes.{Appends, Keeps};
 ghost use Rattle.zeb_program.specs.Inputs.{TakesAtMost};
 ghost use Rattle.zeb_program.specs.ScriptAnswers.{AnswersScript, EndsEarly, EndsScript, fault_line, fault_status};
-ghost use Rattle.zeb_program.specs.WordAnswers.{AnswersWords, IsFaultStatus, NamesLines, NamesShell};
+ghost use Rattle.zeb_program.specs.WordAnswers.{EndsWords, IsFaultStatus, NamesLines, NamesShell};
 
 use crate::batch::run_batch;
 use crate::command_line::run_words;
@@ -82,7 +82,7 @@ pub fn run<R: Source, W: Output, V: Output, P: Paths>(
 
     // With words.
     ensures words { words.now ≢ [] → output.new.failed ≡ false → fault_output.new.failed ≡ false →
-        AnswersWords (map string_bytes words.now) (R.remaining input.new) (W.contents output.old.writer) (W.contents output.new.writer)
+        EndsWords (map string_bytes words.now) (R.remaining input.new) (W.contents output.old.writer) (W.contents output.new.writer)
         (V.contents fault_output.old.writer) (V.contents fault_output.new.writer) result }
     ensures failed_batch { words.now ≢ [] → R.has_failed input.new ≡ true → result ≡ FAILED }
 {

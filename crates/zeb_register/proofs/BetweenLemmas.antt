@@ -50,7 +50,7 @@ less_is Equal h = absurd (cc)
 less_is Greater h = absurd (cc)
 
 -- a text is below the least one above another where it is not above that one
-up_to : (last text : List ℕ) → (is_lt (slice_cmp nat_cmp text (last ++ 0 ∷ [])) ≡ true) ↔ (is_lt (slice_cmp nat_cmp last text) ≡ false)
+pub up_to : (last text : List ℕ) → (is_lt (slice_cmp nat_cmp text (last ++ 0 ∷ [])) ≡ true) ↔ (is_lt (slice_cmp nat_cmp last text) ≡ false)
 up_to last text = (
   λ below. elim (cases_Bool (is_lt (slice_cmp nat_cmp last text))) [
     | inl lower ↦ absurd (let e : true ≡ false = sym below ∙ above_least text last (less_is (slice_cmp nat_cmp last text) lower) in cc)

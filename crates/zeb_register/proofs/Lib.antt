@@ -71,3 +71,4 @@ pub mod KeyRuns
 pub mod RowReads
 pub mod OwnerStatements
 pub mod OwnersListed
+pub mod Malformed

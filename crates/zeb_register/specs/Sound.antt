@@ -5,16 +5,17 @@ use Rattle.sqlite.specs.declared.types.Value.TheVariants.{Text}
 use Rattle.sqlite.specs.Order.{Row, column}
 use Rattle.sqlite.specs.Tree.{Trees}
 use Rattle.sqlite_rules.specs.Lists.{Has}
+use Rattle.zeb_blocks.specs.declared.postings.Posting.{Posting}
 use Rattle.zeb_keys.specs.declared.keys.Key.{Key}
 use Rattle.zeb_keys.specs.declared.Register.{Register}
 use Rattle.zeb_register.specs.declared.registers.TermCount.{TermCount}
 use Rattle.zeb_register.specs.Between.{IsBetween}
 use Rattle.zeb_register.specs.Formats.{Format, plain_rows, packed_blocks}
 use Rattle.zeb_register.specs.Occurring.{key_in, last}
-use Rattle.zeb_register.specs.PackedBlocks.{AreAllSpelled, AreShown, CountsTerm, IsRegisterSound, IsRestBefore, IsRestFrom}
+use Rattle.zeb_register.specs.PackedBlocks.{AreAllSpelled, AreShown, CountsTerm, IsRecordNumber, IsRegisterSound, IsRestBefore, IsRestFrom, SpellsPart}
 use Rattle.zeb_register.specs.PlainRows.{key_row, register_front}
 use Rattle.zeb_register.specs.Sql.{IsListOf}
-use Rattle.zeb_register.specs.Store.{IsRest, dict_tree}
+use Rattle.zeb_register.specs.Store.{IsRest, blocks_tree, dict_tree}
 
 -- ---- lists
 
@@ -63,3 +64,19 @@ IsTermSound packed_blocks trees db key = (row : Row) → IsRest dict_tree (regis
 abbrev pub AreTermsSound : Format → Trees → ℤ → ℕ → Register → Type 0
 AreTermsSound plain_rows trees db index register = Unit {0}
 AreTermsSound packed_blocks trees db index register = IsRegisterSound trees db index register
+
+-- ---- rows that are read without damage
+
+-- this is so, of packed blocks; of plain rows nothing is known to be enough
+abbrev pub InPacked : Format → Type 0 → Type 0
+InPacked plain_rows Enough = ⊥
+InPacked packed_blocks Enough = Enough
+
+-- ---- malformed rows
+
+-- Each row of `blocks` that spells no postings is there still, and so is each of `dict` that says no number of records.
+pub record KeepsMalformed (old new : Trees) : Type 0 where
+  pub blocks : (db : ℤ) (key : Key) (row : Row) → (¬ ((part : List Posting) × SpellsPart row part)) → IsRest blocks_tree (key_row db key) old row
+      → IsRest blocks_tree (key_row db key) new row
+  pub dict : (db : ℤ) (key : Key) (row : Row) → (¬ IsRecordNumber (column row 0)) → IsRest dict_tree (key_row db key) old row
+      → IsRest dict_tree (key_row db key) new row

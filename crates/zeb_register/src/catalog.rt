@@ -22,7 +22,7 @@ use crate::statements::databases::{
     database_add, database_cut, database_rows, database_rows_inside, last_set, listed_rows,
     listed_rows_inside,
 };
-use crate::values::{read, read_integer, stored};
+use crate::values::{read, read_integer, read_number, stored};
 use sqlite::{Alter, Connection, Row, Transaction};
 use std::alloc::Global;
 
@@ -72,7 +72,7 @@ pub fn database_of<S: Alter>(
     match rows.first() {
         Some(row) => Ok(Some(Database {
             id: DatabaseId(read_integer(row, 0)?),
-            last: read(row, 1)?,
+            last: read_number(row, 1)?,
         })),
         None => Ok(None),
     }
@@ -134,7 +134,7 @@ fn database_in(row: &Row) -> Result<ListedDatabase, RegFault>
     Ok(ListedDatabase {
         name: read(row, 0)?,
         id: DatabaseId(read_integer(row, 1)?),
-        last: read(row, 2)?,
+        last: read_number(row, 2)?,
     })
 }
 

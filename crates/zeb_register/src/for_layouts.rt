@@ -6,4 +6,4 @@ pub use crate::packed_agreeing::blocks_agree;
 pub use crate::statements::inside::nothing_inside;
 pub use crate::statements::keys::KeyOf;
 pub use crate::terms::text_above;
-pub use crate::values::{read, read_bytes, stored};
+pub use crate::values::{read, read_bytes, read_number, stored};

@@ -23,7 +23,7 @@ use crate::statements::records::{
     count_rows, elder_rows, ident_rows, record_keep, record_remove, record_rows, records_clear,
     rows_from,
 };
-use crate::values::{read, stored};
+use crate::values::{read, read_number, stored};
 use crate::{DatabaseId, RegFault};
 use sqlite::{Alter, Connection, Row, Transaction};
 use std::alloc::Global;
@@ -106,7 +106,7 @@ pub fn record_of_ident<S: Alter>(
     let rows = elder_rows(tx, db.column(), ident)?;
     match rows.first() {
         Some(row) => Ok(Some(Elder {
-            sysno: read(row, 0)?,
+            sysno: read_number(row, 0)?,
             bytes: read(row, 1)?,
         })),
         None => Ok(None),
@@ -155,7 +155,7 @@ pub fn record_count<S: Alter>(conn: &mut Connection<S>, db: DatabaseId) -> Resul
 {
     let rows = count_rows(conn, db.column())?;
     match rows.first() {
-        Some(row) => read(row, 0),
+        Some(row) => read_number(row, 0),
         // A count has one row, whatever the tables are.
         None => Err(RegFault::Damaged),
     }
@@ -259,7 +259,7 @@ fn record_of(row: &Row) -> Result<Record, RegFault>
     ensures unstored { result ≢ Err RegFault.Store }
 {
     Ok(Record {
-        sysno: read(row, 0)?,
+        sysno: read_number(row, 0)?,
         ident: read(row, 1)?,
         bytes: read(row, 2)?,
     })

@@ -1,6 +1,6 @@
 //! Registers with one row for each posting.
 
-ghost use Rattle.std.specs.Prelude.{◌≡◌, ◌≢◌, map, IfOk};
+ghost use Rattle.std.specs.Prelude.{◌≡◌, ◌≢◌, map, IfOk, IfErr};
 ghost use Rattle.sqlite_rules.specs.Lists.{Has};
 ghost use Rattle.sqlite.specs.Held.{state};
 ghost use Rattle.sqlite.specs.State.{IsUnchanged};
@@ -18,7 +18,7 @@ use crate::registers::{Layout, Place, RecordChange, RegisterOf, TermCount, Total
 use crate::statements::inside::nothing_inside;
 use crate::statements::postings::{nothing_of, posting_rows, register_rows};
 use crate::terms::{count_terms, term_before, term_count, term_from, text_above};
-use crate::values::read;
+use crate::values::read_number;
 use crate::{DatabaseId, Expected, RegFault};
 use sqlite::{Alter, Connection, Row, Transaction};
 use std::alloc::Global;
@@ -219,12 +219,11 @@ fn postings_of(alloc: Global, rows: &[Row]) -> Result<Vec<Posting>, RegFault>
 /// The posting that a row shows.
 fn posting_of(row: &Row) -> Result<Posting, RegFault>
     ensures ok { IfOk result (λ p. posting_row p ≡ first_three row.now) }
-    ensures honest { result ≡ Err RegFault.Damaged → ¬ IsThreeNumbers row.now }
-    ensures unstored { result ≢ Err RegFault.Store }
+    ensures refused { IfErr result (λ fault. (fault ≡ RegFault.Damaged) × ¬ IsThreeNumbers row.now) }
 {
     Ok(Posting {
-        sysno: read(row, 0)?,
-        seq: read(row, 1)?,
-        pos: read(row, 2)?,
+        sysno: read_number(row, 0)?,
+        seq: read_number(row, 1)?,
+        pos: read_number(row, 2)?,
     })
 }

@@ -1,6 +1,6 @@
 //! The postings of neighbouring terms, by a row for each.
 
-ghost use Rattle.std.specs.Prelude.{◌≡◌, ◌≢◌, ◌↔◌, map, IfOk};
+ghost use Rattle.std.specs.Prelude.{◌≡◌, ◌≢◌, ◌↔◌, map, IfOk, IfErr};
 ghost use Rattle.sqlite.specs.Held.{state};
 ghost use Rattle.sqlite.specs.State.{IsUnchanged};
 ghost use Rattle.sqlite_rules.specs.Lists.{Has};
@@ -15,7 +15,7 @@ use crate::RegFault;
 use crate::registers::RegisterOf;
 use crate::statements::between::posting_rows_between;
 use crate::terms::text_above;
-use crate::values::read;
+use crate::values::read_number;
 use sqlite::{Alter, Connection, Row};
 use std::alloc::Global;
 use zeb_blocks::Posting;
@@ -55,12 +55,11 @@ fn postings_behind(alloc: Global, rows: &[Row]) -> Result<Vec<Posting>, RegFault
 /// The posting that a row shows behind its term.
 fn posting_behind(row: &Row) -> Result<Posting, RegFault>
     ensures ok { IfOk result (λ p. posting_row p ≡ three_behind row.now) }
-    ensures honest { result ≡ Err RegFault.Damaged → ¬ IsThreeNumbers (three_behind row.now) }
-    ensures unstored { result ≢ Err RegFault.Store }
+    ensures refused { IfErr result (λ fault. (fault ≡ RegFault.Damaged) × ¬ IsThreeNumbers (three_behind row.now)) }
 {
     Ok(Posting {
-        sysno: read(row, 1)?,
-        seq: read(row, 2)?,
-        pos: read(row, 3)?,
+        sysno: read_number(row, 1)?,
+        seq: read_number(row, 2)?,
+        pos: read_number(row, 3)?,
     })
 }

@@ -1,6 +1,6 @@
 //! A key's places in records changed, in registers with one row for each posting.
 
-ghost use Rattle.std.specs.Prelude.{IsUtf8, ◌≡◌, ◌≢◌, ◌⊎◌, ◌≤◌, ◌^◌, [], ◌∷◌, length, map, true, false, IsTrue, OnOk};
+ghost use Rattle.std.specs.Prelude.{IsUtf8, ◌≡◌, ◌≢◌, ◌⊎◌, ◌≤◌, ◌^◌, [], ◌∷◌, length, map, true, false, IsTrue, IfErr, OnOk};
 ghost use Rattle.std.specs.List.Sorted.{IsStrictlySortedBy};
 ghost use Rattle.sqlite_rules.specs.Lists.{Has};
 ghost use Rattle.sqlite.specs.Held.{state};
@@ -16,12 +16,13 @@ ghost use Rattle.zeb_register.specs.PrivateRowPlaces.{place_row, IsTwoNumbers, I
 ghost use Rattle.zeb_register.specs.PrivateRowPlaces.{HindersRows};
 ghost use Rattle.zeb_register.specs.PrivateRowStatements.{Gains};
 ghost use Rattle.zeb_register.specs.Sql.{Loses};
+ghost use Rattle.zeb_register.specs.Sound.{KeepsMalformed};
 ghost use Rattle.zeb_register.specs.Store.{postings_tree};
 
 use crate::registers::Place;
 use crate::statements::keys::KeyOf;
 use crate::statements::postings::{place_rows, places_lift, posting_put};
-use crate::values::{read, stored};
+use crate::values::{read_number, stored};
 use crate::{DatabaseId, RegFault};
 use sqlite::{Alter, Row, Transaction};
 use zeb_keys::Key;
@@ -46,6 +47,8 @@ pub(crate) fn key_change_plain<S: Alter>(
         → IsStrictlySortedBy place_cmp old.now → (content : Content) → HoldsRows trees content
         → ¬ ArePlacesOf sysno old.now (content db.0 key.now)) }
     ensures text { OnOk result (IsUtf8 key.now.term) }
+    ensures malformed { InStore (state S.Store tx.old.conn.now) (state S.Store tx.new.conn.now) (λ trees. OnOk result
+        (KeepsMalformed trees (state S.Store tx.new.conn.now).now.trees)) }
     ensures refused { IsHinderedInside (state S.Store tx.old.conn.now) (state S.Store tx.new.conn.now) result
         (HindersRows key.now ((sysno, new.now) ∷ [])) }
     ensures rowids { TakesRegistersInside (state S.Store tx.old.conn.now) (state S.Store tx.new.conn.now) result
@@ -62,8 +65,7 @@ pub(crate) fn key_change_plain<S: Alter>(
 fn are_places(rows: &[Row], places: &[Place]) -> Result<bool, RegFault>
     ensures same { result ≡ Ok true → map first_two rows.now ≡ map place_row places.now }
     ensures other { result ≡ Ok false → map first_two rows.now ≢ map place_row places.now }
-    ensures honest { result ≡ Err RegFault.Damaged → ¬ ((row : _) → Has rows.now row → IsTwoNumbers row) }
-    ensures unstored { result ≢ Err RegFault.Store }
+    ensures refused { IfErr result (λ fault. (fault ≡ RegFault.Damaged) × ¬ ((row : _) → Has rows.now row → IsTwoNumbers row)) }
 {
     if rows.len() != places.len() {
         return Ok(false);
@@ -80,11 +82,10 @@ fn are_places(rows: &[Row], places: &[Place]) -> Result<bool, RegFault>
 fn is_place(row: &Row, place: Place) -> Result<bool, RegFault>
     ensures same { result ≡ Ok true → first_two row.now ≡ place_row place }
     ensures other { result ≡ Ok false → first_two row.now ≢ place_row place }
-    ensures honest { result ≡ Err RegFault.Damaged → ¬ IsTwoNumbers row.now }
-    ensures unstored { result ≢ Err RegFault.Store }
+    ensures refused { IfErr result (λ fault. (fault ≡ RegFault.Damaged) × ¬ IsTwoNumbers row.now) }
 {
-    let seq: u64 = read(row, 0)?;
-    let pos: u64 = read(row, 1)?;
+    let seq = read_number(row, 0)?;
+    let pos = read_number(row, 1)?;
     Ok(seq == place.seq && pos == place.pos)
 }
 

@@ -5,7 +5,7 @@ ghost use Rattle.sqlite.specs.Held.{state};
 ghost use Rattle.sqlite.specs.State.{IsUnchanged};
 ghost use Rattle.sqlite_rules.specs.Lists.{Has};
 ghost use Rattle.zeb_register.specs.Calls.{GoesOn, Inside, Reading};
-ghost use Rattle.zeb_register.specs.Clauses.{ChangesHeld, DamagedHeld, FindsHeld, InStore, IsHonestStorable};
+ghost use Rattle.zeb_register.specs.Clauses.{ChangesHeld, DamagedHeld, FindsHeld, InStore, IsHonest, IsHonestStorable};
 ghost use Rattle.zeb_register.specs.Clauses.{IsHinderedInside, IsReasoned, IsReasonedInside, OnStore, TakesRegistersInside};
 ghost use Rattle.zeb_register.specs.Clauses.{Tells, TellsHeld, TellsWhether};
 ghost use Rattle.sqlite.specs.Tree.{Trees};
@@ -84,7 +84,10 @@ pub trait Layout {
     ghost use Rattle.zeb_register.specs.Tallies.{Works};
     ghost use Rattle.zeb_register.specs.declared.registers.TermCount.{TermCount};
     ghost use Rattle.zeb_register.specs.Between.{AreKeysBetween, IsPostingBetween};
-    ghost use Rattle.zeb_register.specs.Sound.{AreListsSound, AreTermsSound, IsListSound, TellsBefore, TellsFrom, TellsRegister};
+    ghost use Rattle.zeb_register.specs.PackedBlocks.{AreAllCounted, AreAllSpelled, AreBeforeCounted, AreFromCounted, IsRegisterSound};
+    ghost use Rattle.zeb_register.specs.PlainRows.{key_row, register_front};
+    ghost use Rattle.zeb_register.specs.Sound.{AreListsSound, AreTermsSound, InPacked, IsListSound, KeepsMalformed};
+    ghost use Rattle.zeb_register.specs.Sound.{TellsBefore, TellsFrom, TellsRegister};
     ghost use Rattle.zeb_register.specs.Hindrances.{HindersPlaces, placed, rows_of};
     ghost use Rattle.zeb_keys.specs.declared.keys.Key.{Key};
     ghost use Rattle.zeb_blocks.specs.declared.postings.Posting.{Posting};
@@ -124,6 +127,8 @@ pub trait Layout {
         ensures damaged { DamagedHeld (holds_in format) (state S.Store tx.old.conn.now) (state S.Store tx.new.conn.now) result
             (IsStrictlySortedBy place_cmp old.now) (λ content. ¬ ArePlacesOf sysno old.now (content db.0 key.now)) }
         ensures text { OnOk result (IsUtf8 key.now.term) }
+        ensures malformed { InStore (state S.Store tx.old.conn.now) (state S.Store tx.new.conn.now) (λ trees. OnOk result
+            (KeepsMalformed trees (state S.Store tx.new.conn.now).now.trees)) }
         ensures refused { IsHinderedInside (state S.Store tx.old.conn.now) (state S.Store tx.new.conn.now) result
             (HindersPlaces db.0 key.now ((sysno, new.now) ∷ [])) }
         ensures rowids { TakesRegistersInside (state S.Store tx.old.conn.now) (state S.Store tx.new.conn.now) result
@@ -153,6 +158,8 @@ pub trait Layout {
         ensures damaged { DamagedHeld (holds_in format) (state S.Store tx.old.conn.now) (state S.Store tx.new.conn.now) result
             (OldsRise changes.now) (λ content. (after : Content) → ¬ AreChangedAt db.0 key.now changes.now content after) }
         ensures text { OnOk result (changes.now ≢ [] → IsUtf8 key.now.term) }
+        ensures malformed { InStore (state S.Store tx.old.conn.now) (state S.Store tx.new.conn.now) (λ trees. OnOk result
+            (KeepsMalformed trees (state S.Store tx.new.conn.now).now.trees)) }
         ensures refused { IsHinderedInside (state S.Store tx.old.conn.now) (state S.Store tx.new.conn.now) result
             (HindersPlaces db.0 key.now (map placed changes.now)) }
         ensures rowids { TakesRegistersInside (state S.Store tx.old.conn.now) (state S.Store tx.new.conn.now) result
@@ -188,6 +195,8 @@ pub trait Layout {
         ensures refused { IsReasoned (state S.Store conn.old) (state S.Store conn.new) result }
         ensures spelled { OnStore (state S.Store conn.old) (state S.Store conn.new) (λ trees. OnOk result
             (IsListSound format trees db.0 key.now)) }
+        ensures damaged { IsHonest (state S.Store conn.old) (state S.Store conn.new) result (λ trees.
+            InPacked format (AreAllSpelled trees (key_row db.0 key.now))) }
         ensures work { TellsHeld (holds_in format) (state S.Store conn.old) (state S.Store conn.new) result
             (λ _ list. Works 0 0 (block_rows list.items) 0 work.old work.new) }
         ensures no_work { row_work ≡ 0 → work.new ≡ work.old };
@@ -209,6 +218,8 @@ pub trait Layout {
         ensures refused { IsReasoned (state S.Store conn.old) (state S.Store conn.new) result }
         ensures spelled { OnStore (state S.Store conn.old) (state S.Store conn.new) (λ trees. OnOk result
             (AreListsSound format trees at.db.0 at.index at.register first.now last.now)) }
+        ensures damaged { IsHonest (state S.Store conn.old) (state S.Store conn.new) result (λ trees.
+            InPacked format (AreListsSound format trees at.db.0 at.index at.register first.now last.now)) }
         ensures work { TellsHeld (holds_in format) (state S.Store conn.old) (state S.Store conn.new) result
             (λ content _. (keys : List Key) → AreKeysBetween content at first.now last.now keys → Works 0 0
             (sum_by (λ key. block_rows (content at.db.0 key)) keys) 0 work.old work.new) }
@@ -228,6 +239,8 @@ pub trait Layout {
         ensures refused { IsReasoned (state S.Store conn.old) (state S.Store conn.new) result }
         ensures told { Tells (state S.Store conn.old) (state S.Store conn.new) result (λ trees list.
             TellsRegister format trees at.db.0 at.index at.register list.items) }
+        ensures damaged { IsHonest (state S.Store conn.old) (state S.Store conn.new) result (λ trees.
+            InPacked format (AreAllCounted trees (register_front at.db.0 at.index at.register))) }
         ensures work { TellsHeld (holds_in format) (state S.Store conn.old) (state S.Store conn.new) result
             (λ _ list. Works (row_work * length list.items) 0 0 0 work.old work.new) }
         ensures no_work { row_work ≡ 0 → work.new ≡ work.old };
@@ -248,6 +261,8 @@ pub trait Layout {
         ensures refused { IsReasoned (state S.Store conn.old) (state S.Store conn.new) result }
         ensures told { Tells (state S.Store conn.old) (state S.Store conn.new) result (λ trees list.
             TellsFrom format trees at.db.0 at.index at.register start.now n list.items) }
+        ensures damaged { IsHonest (state S.Store conn.old) (state S.Store conn.new) result (λ trees.
+            InPacked format (AreFromCounted trees (register_front at.db.0 at.index at.register) start.now n)) }
         ensures work { TellsHeld (holds_in format) (state S.Store conn.old) (state S.Store conn.new) result
             (λ _ list. Works (row_work * length list.items) 0 0 0 work.old work.new) }
         ensures no_work { row_work ≡ 0 → work.new ≡ work.old };
@@ -268,6 +283,8 @@ pub trait Layout {
         ensures refused { IsReasoned (state S.Store conn.old) (state S.Store conn.new) result }
         ensures told { Tells (state S.Store conn.old) (state S.Store conn.new) result (λ trees list.
             TellsBefore format trees at.db.0 at.index at.register start.now n list.items) }
+        ensures damaged { IsHonest (state S.Store conn.old) (state S.Store conn.new) result (λ trees.
+            InPacked format (AreBeforeCounted trees (register_front at.db.0 at.index at.register) start.now n)) }
         ensures work { TellsHeld (holds_in format) (state S.Store conn.old) (state S.Store conn.new) result
             (λ _ list. Works (row_work * length list.items) 0 0 0 work.old work.new) }
         ensures no_work { row_work ≡ 0 → work.new ≡ work.old };
@@ -286,6 +303,8 @@ pub trait Layout {
         ensures refused { IsReasoned (state S.Store conn.old) (state S.Store conn.new) result }
         ensures sound { OnStore (state S.Store conn.old) (state S.Store conn.new) (λ trees. OnOk result
             (AreTermsSound format trees at.db.0 at.index at.register)) }
+        ensures damaged { IsHonest (state S.Store conn.old) (state S.Store conn.new) result (λ trees.
+            InPacked format (IsRegisterSound trees at.db.0 at.index at.register)) }
         ensures work { TellsHeld (holds_in format) (state S.Store conn.old) (state S.Store conn.new) result
             (λ content _. (all : List TermCount) → AreTermsOf (posted content at.db.0) at.index at.register all
             → Works (row_work * length all) 0 (sum_by (λ t. block_rows (content at.db.0 (key_in at.index at.register t.term))) all) 0

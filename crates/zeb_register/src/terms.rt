@@ -18,7 +18,7 @@ use crate::RegFault;
 use crate::plain::postings_under;
 use crate::registers::{RegisterOf, TermCount};
 use crate::statements::postings::{rows_before, rows_from};
-use crate::values::read;
+use crate::values::{read, read_number};
 use sqlite::{Alter, Connection, Row};
 use std::alloc::{AllocError, Global};
 use zeb_blocks::Posting;
@@ -47,7 +47,7 @@ fn occurrence_of(row: &Row) -> Result<(Term, u64), RegFault>
     ensures unstored { result ≢ Err RegFault.Store }
 {
     let term: String = read(row, 0)?;
-    let sysno: u64 = read(row, 1)?;
+    let sysno = read_number(row, 1)?;
     Ok((Term::new(term), sysno))
 }
 

@@ -20,16 +20,11 @@ use Rattle.zeb_search.specs.PrivateMet.{AreKeyListsSound, AreKeysIn, AreMet, Has
 use Rattle.zeb_search.specs.PrivateTerms.{AreTaken, BeginsAt, IsWanted, LeadsTo, NamesEntry}
 use Rattle.zeb_search.specs.SearchRows.{AreEntriesSound}
 use Rattle.zeb_search.proofs.MetPages.{MetUpTo, all_met, last_met, next_met, none_met, one_row}
+use Rattle.zeb_search.proofs.MetRows.{met_later}
 use Rattle.zeb_search.proofs.NeighbourLemmas.{HaveEnds, from_first, not_lower, up_to_last}
 use Rattle.zeb_search.proofs.OneKey.{one_alone}
-use Rattle.zeb_search.proofs.ReadLemmas.{IsRead, clean_before, still_store, still_trees}
+use Rattle.zeb_search.proofs.ReadLemmas.{IsRead, clean_before}
 use Rattle.zeb_search.proofs.RisingTexts.{back_rise, front_rise, one_rises}
-
--- what a call behind accepted ones tells of the tables, is told of those before them
-pub told_of_store : (a b c : State) (Said : Trees → Type 0) → IsRead a b → Survives b c (λ _. ⊥) → OnStore b c Said → OnStore a c Said
-told_of_store a b c Said read crash told clean store =
-    let first = clean_before b c crash clean in
-    subst Said (still_trees a b read first) (told clean (still_store a b read first store))
 
 -- ---- terms
 
@@ -51,7 +46,7 @@ pub page_told : (format : Format) (db : ℤ) (index : ℕ) (register : Register)
     → OnStore a c (λ trees. TellsFrom format trees db index register start n page × HasMetUpTo format trees db index register wanted terms start)
 page_told format db index register wanted a b c read crash terms text start same n page met told clean store = (
   subst (λ (t : List ℕ). TellsFrom format a.now.trees db index register t n page) same
-      (told_of_store a b c (λ trees. TellsFrom format trees db index register text n page) read crash told clean store),
+      (met_later a b c (λ trees. TellsFrom format trees db index register text n page) crash read told clean store),
   met (clean_before b c crash clean) store,
 )
 

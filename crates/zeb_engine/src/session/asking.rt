@@ -5,6 +5,7 @@ ghost use Rattle.sqlite.specs.Held.{state};
 ghost use Rattle.sqlite.specs.State.{HasCleanDisk};
 ghost use Rattle.zeb_register.specs.Formats.{version_of};
 ghost use Rattle.zeb_engine.specs.Alone.{Alone, FindSays, RefusedAlone, RefusesFind, ScanSays};
+ghost use Rattle.zeb_engine.specs.AnyRefusals.{HidesTerms, UnlessHidden};
 ghost use Rattle.zeb_engine.specs.AnyTables.{FindOver, OverReady, ScanOver};
 ghost use Rattle.zeb_change.specs.Conditions.{conditions};
 ghost use Rattle.zeb_image.specs.NameOf.{name_bytes};
@@ -89,9 +90,10 @@ impl<S: Alter, L: Layout> Session<S, L> {
             → Alone L.format (ScanSays self.old.profile around.entry.query.now around.entry.number around.entry.position)
             (name_bytes database.now) (state S.Store self.old.connection) result }
         ensures tables { HasCleanDisk (state S.Store self.new.connection)
-            → OverReady (version_of L.format) self.old.profile
+            → UnlessHidden (version_of L.format) self.old.profile
             (ScanOver L.format self.old.profile (name_bytes database.now) around.entry.query.now around.entry.number
-            around.entry.position) (state S.Store self.old.connection) result }
+            around.entry.position) (HidesTerms L.format self.old.profile (name_bytes database.now) around.entry.query.now
+            around.entry.number around.entry.position) (state S.Store self.old.connection) result }
         ensures caused { FailsForCause S.Store self.old.connection self.new.connection result }
         ensures work { HasCleanDisk (state S.Store self.new.connection)
             → OnOk result (ScanReads L.format L.row_work around.entry.number around.entry.position

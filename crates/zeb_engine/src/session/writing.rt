@@ -9,6 +9,7 @@ ghost use Rattle.zeb_register.specs.Store.{databases_tree};
 ghost use Rattle.zeb_change.specs.Conditions.{conditions};
 ghost use Rattle.zeb_change.specs.Reading.{NoReadFault};
 ghost use Rattle.zeb_image.specs.NameOf.{name_bytes};
+ghost use Rattle.zeb_engine.specs.AnyMade.{DropsDatabase, LeavesAccepted, MakesDatabase};
 ghost use Rattle.zeb_engine.specs.AnyRefusals.{CreateOver, DropOver, HidesDatabase, UnlessHidden};
 ghost use Rattle.zeb_engine.specs.PrivateCauses.{HasCauseOver};
 ghost use Rattle.zeb_engine.specs.PrivateCrashes.{Commits};
@@ -47,6 +48,8 @@ impl<S: Alter, L: Layout> Session<S, L> {
         ensures tables { HasCleanDisk (state S.Store self.new.connection)
             → UnlessHidden (version_of L.format) self.old.profile (CreateOver (name_bytes name.now)) (HidesDatabase (name_bytes name.now))
             (state S.Store self.old.connection) result }
+        ensures makes { HasCleanDisk (state S.Store self.new.connection) → LeavesAccepted (MakesDatabase (name_bytes name.now))
+            (state S.Store self.old.connection) (state S.Store self.new.connection) result }
     {
         check_ready::<S, L>(&mut self.connection, &self.profile)?;
         create_database::<S, L>(&mut self.connection, name)
@@ -70,6 +73,8 @@ impl<S: Alter, L: Layout> Session<S, L> {
         ensures tables { HasCleanDisk (state S.Store self.new.connection)
             → UnlessHidden (version_of L.format) self.old.profile (DropOver (name_bytes name.now)) (HidesDatabase (name_bytes name.now))
             (state S.Store self.old.connection) result }
+        ensures drops { HasCleanDisk (state S.Store self.new.connection) → LeavesAccepted (DropsDatabase (name_bytes name.now))
+            (state S.Store self.old.connection) (state S.Store self.new.connection) result }
     {
         check_ready::<S, L>(&mut self.connection, &self.profile)?;
         drop_database::<S, L>(self.alloc, &mut self.connection, name)

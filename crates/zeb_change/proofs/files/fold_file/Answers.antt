@@ -23,7 +23,7 @@ use Rattle.zeb_change.proofs.RecordRoom.{not_refused, refused_for, room_enough}
 use Rattle.zeb_register.specs.Store.{IsStore}
 use Rattle.zeb_change.specs.declared.files.Fold.{Fold}
 use Rattle.zeb_change.specs.Elders.{FindsWhole, IsWholeBefore}
-use Rattle.zeb_change.proofs.ElderSteps.{all_read, fault_read, file_finds, first_read, found_same, none_read, one_more, passes_more, record_before}
+use Rattle.zeb_change.proofs.ElderSteps.{all_read, fault_read, fault_there, file_finds, first_read, found_same, none_read, one_more, passes_more, record_before, slice_read}
 use Rattle.zeb_change.proofs.KeptStill.{passes_seen}
 use Rattle.zeb_change.proofs.files.fold_file.Given as given
 use Rattle.zeb_change.proofs.files.fold_file.Goals.{After-take_record}
@@ -223,11 +223,14 @@ loop-nth-preserved g c =
           );
       elder = λ clean mode store below text told.
           let was : HasCleanDisk now.tables = omega (arith, c.take_record.ensures.inside.crash.clean) in
+          let at = (goal.at.loop-nth-preserved g c).After-take_record in
           inr (elim (c.loop-nth.invariant.elder was mode store below text told) [
             | inl begun ↦ (let took = subst (λ (r : Result (Unit {0}) Refusal). FindsWhole setting.profile.now old.tables.now.trees id c.read_record.new.buffer r) c.in_ok-take_record.was
-                (first_found g (goal.at.loop-nth-preserved g c).After-take_record clean mode below text begun) in
-                first_read _ text c.args.file c.loop-nth.nth c.read_record.new.buffer (g.R.Source.remaining c.read_record.new.reader)
-                (record_read g (goal.at.loop-nth-preserved g c).After-take_record text begun.3) took)
+                (first_found g at clean mode below text begun) in
+                let read = record_read g at text begun.3 in (
+                  slice_read text c.args.file c.loop-nth.nth c.read_record.new.buffer (g.R.Source.remaining c.read_record.new.reader) read,
+                  first_read _ text c.args.file c.loop-nth.nth c.read_record.new.buffer (g.R.Source.remaining c.read_record.new.reader) read took,
+                ))
             | inr found ↦ found
           ]);
       passes = λ clean mode store.
@@ -282,7 +285,7 @@ returns-in_err-read_record-clause-elder g c clean mode store below text told fin
     elim (c.loop-nth.invariant.elder clean mode store below text told) [
       | inl begun ↦ fault_read _ text c.args.file c.loop-nth.nth c.read_record.new.buffer (g.R.Source.remaining c.read_record.new.reader) c.in_err-read_record.field-0.0
           (c.in_err-read_record.ensures.told text begun.3 fine)
-      | inr found ↦ file_finds c.args.setting.now.profile.now trees c.args.fold.now.progress.database.0 c.from_residual.result (split_of text).slices found
+      | inr found ↦ file_finds c.args.setting.now.profile.now trees c.args.fold.now.progress.database.0 c.from_residual.result (split_of text).slices found.1
     ]
 
 pub returns-then-not-branch-clause-elder : goal.returns-then-not-branch-clause-elder
@@ -292,7 +295,7 @@ returns-then-not-branch-clause-elder g c clean mode store below text told fine =
     elim (c.loop-nth.invariant.elder clean mode store below text told) [
       | inl begun ↦ none_read _ text c.args.file c.loop-nth.nth c.read_record.new.buffer (g.R.Source.remaining c.read_record.new.reader)
           (subst (λ b. ReadsNext c.args.file c.loop-nth.nth (next_of text) (Ok b) c.read_record.new.buffer (g.R.Source.remaining c.read_record.new.reader)) none (c.in_ok-read_record.ensures.told text begun.3 fine))
-      | inr found ↦ file_finds c.args.setting.now.profile.now trees c.args.fold.now.progress.database.0 (Ok (tt {0})) (split_of text).slices found
+      | inr found ↦ file_finds c.args.setting.now.profile.now trees c.args.fold.now.progress.database.0 (Ok (tt {0})) (split_of text).slices found.1
     ]
 
 pub returns-in_err-take_record-clause-elder : goal.returns-in_err-take_record-clause-elder
@@ -307,7 +310,33 @@ returns-in_err-take_record-clause-elder g c clean mode store below text told fin
     elim (c.loop-nth.invariant.elder was mode store below text told) [
       | inl begun ↦ first_read _ text c.args.file c.loop-nth.nth c.read_record.new.buffer (g.R.Source.remaining c.read_record.new.reader) (record_read g at text begun.3)
           (subst (λ (r : Result (Unit {0}) Refusal). FindsWhole profile trees id c.read_record.new.buffer r) same (first_found g at clean mode below text begun))
-      | inr found ↦ file_finds profile trees id c.from_residual-in_err-take_record.result (split_of text).slices found
+      | inr found ↦ file_finds profile trees id c.from_residual-in_err-take_record.result (split_of text).slices found.1
+    ]
+
+-- ---- a file with no record
+
+pub returns-in_err-read_record-clause-empty : goal.returns-in_err-read_record-clause-empty
+returns-in_err-read_record-clause-empty g c clean mode store below text told fine none =
+    elim (c.loop-nth.invariant.elder clean mode store below text told) [
+      | inl begun ↦ inr (fault_there text c.args.file c.loop-nth.nth c.read_record.new.buffer (g.R.Source.remaining c.read_record.new.reader) c.in_err-read_record.field-0.0
+          (c.in_err-read_record.ensures.told text begun.3 fine))
+      | inr found ↦ absurd (found.0 none)
+    ]
+
+pub returns-then-not-branch-clause-empty : goal.returns-then-not-branch-clause-empty
+returns-then-not-branch-clause-empty g c clean mode store below text told fine none =
+    elim (c.loop-nth.invariant.elder clean mode store below text told) [
+      | inl begun ↦ inl (refl, begun.1, begun.2)
+      | inr found ↦ absurd (found.0 none)
+    ]
+
+pub returns-in_err-take_record-clause-empty : goal.returns-in_err-take_record-clause-empty
+returns-in_err-take_record-clause-empty g c clean mode store below text told fine none =
+    let at = (goal.at.returns-in_err-take_record-clause-empty g c).After-take_record in
+    let was : HasCleanDisk (state g.S.Store c.loop-nth.tx.conn.now) = omega (arith, c.take_record.ensures.inside.crash.clean) in
+    elim (c.loop-nth.invariant.elder was mode store below text told) [
+      | inl begun ↦ absurd (slice_read text c.args.file c.loop-nth.nth c.read_record.new.buffer (g.R.Source.remaining c.read_record.new.reader) (record_read g at text begun.3) none)
+      | inr found ↦ absurd (found.0 none)
     ]
 
 -- ---- what each record finds kept under its identifier

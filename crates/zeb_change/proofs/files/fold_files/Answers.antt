@@ -227,4 +227,5 @@ returns-clause-passes g c clean mode store =
     let was : HasCleanDisk mid = omega (arith, c.write_pending.ensures.call.crash.clean) in
     let read = c.in_ok-fold_readers.ensures.passes was mode store in
     let writes = c.in_ok-write_pending.ensures.call.written clean (c.in_ok-fold_readers.ensures.inside.stays was mode).mode read.store in
-    passes_then profile id first last old mid read last new (passes_same profile id last mid new writes.0 writes.1.2)
+    let malformed = c.in_ok-write_pending.ensures.malformed clean (c.in_ok-fold_readers.ensures.inside.stays was mode).mode read.store in
+    passes_then profile id first last old mid read last new (passes_same profile id last mid new writes.0 writes.1.2 malformed)

@@ -15,6 +15,7 @@ use Rattle.zeb_change.proofs.FoldAll.{text_at, as_many, fine_at, fine_more, fail
 use Rattle.zeb_change.specs.Costs.{IsFilesCost}
 use Rattle.zeb_change.proofs.FoldCosts.{RestCost, none_spent, spent_more, all_spent, file_cost, no_file_cost}
 use Rattle.zeb_register.specs.Calls.{MayRefuse}
+use Rattle.zeb_register.proofs.Calls.{store_same}
 use Rattle.zeb_register.proofs.Causes.{may_after}
 use Rattle.zeb_change.specs.Asked.{AskFiles}
 use Rattle.zeb_change.specs.Base.{Kept}
@@ -23,8 +24,9 @@ use Rattle.zeb_change.proofs.FoldRoom.{NextFileRoom, next_file_room}
 use Rattle.zeb_change.proofs.RecordRoom.{not_refused, refused_for, room_enough}
 use Rattle.zeb_register.specs.Store.{IsStore}
 use Rattle.zeb_change.specs.declared.files.Fold.{Fold}
-use Rattle.zeb_change.specs.Elders.{FindsWhole, OfFirst}
-use Rattle.zeb_change.proofs.ElderSteps.{file_more, file_same, files_find, files_read, fine_set, first_file, no_files, passes_more, records_before}
+use Rattle.zeb_change.specs.Elders.{FindsWhole}
+use Rattle.zeb_change.specs.PrivateElders.{OfFirst, PassesEmpty}
+use Rattle.zeb_change.proofs.ElderSteps.{FoundWhole, file_more, file_same, files_begun, files_ended, files_find, files_read, fine_set, no_record, passes_more, records_before}
 use Rattle.zeb_change.proofs.KeptStill.{passes_seen}
 use Rattle.zeb_change.proofs.files.fold_readers.Given as given
 use Rattle.zeb_change.proofs.files.fold_readers.Goals.{After-fold_file}
@@ -164,6 +166,20 @@ first_found g c clean mode below store at is text told fine =
     file_same profile old now c.args.fold.now c.loop-index.fold c.fold_file.result (split_of text).slices at is
     (c.fold_file.ensures.elder clean (c.loop-index.invariant.on.stays was mode).mode store few text told fine)
 
+-- where it has no record, all is as it was at first, or a fault stands in it
+empty_file : (g : given.Over) (c : After-fold_file g) → HasCleanDisk (state g.S.Store c.fold_file.new.tx.conn.now) → IsTrue (state g.S.Store c.args.tx.now.conn.now).in_transaction
+    → c.args.fold.now.tally.records < c.args.setting.now.limits.records
+    → IsStore (state g.S.Store c.loop-index.tx.conn.now) → (state g.S.Store c.loop-index.tx.conn.now).now ≡ (state g.S.Store c.args.tx.now.conn.now).now → c.loop-index.fold ≡ c.args.fold.now
+    → (text : List ℕ) → g.R.Source.remaining (get_or c.loop-index.readers c.loop-index.index c.index-readers-index.result) ≡ Some text → g.R.Source.has_failed c.fold_file.new.reader ≡ false
+    → PassesEmpty (split_of text) (state g.S.Store c.args.tx.now.conn.now) (state g.S.Store c.fold_file.new.tx.conn.now) c.args.fold.now c.fold_file.new.fold c.fold_file.result
+empty_file g c clean mode below store at is text told fine none =
+    let was : HasCleanDisk (state g.S.Store c.loop-index.tx.conn.now) = omega (arith, c.fold_file.ensures.inside.crash.clean) in
+    let few = subst (λ (f : Fold). f.tally.records < c.args.setting.now.limits.records) (sym is) below in
+    elim (c.fold_file.ensures.empty clean (c.loop-index.invariant.on.stays was mode).mode store few text told fine none) [
+      | inl same ↦ inl (same.0, same.1 ∙ at, same.2 ∙ is)
+      | inr faulty ↦ inr faulty
+    ]
+
 pub loop-index-preserved : goal.loop-index-preserved
 loop-index-preserved g c =
     let setting = c.args.setting.now in
@@ -212,14 +228,17 @@ loop-index-preserved g c =
           let was : HasCleanDisk now.tables = omega (arith, c.fold_file.ensures.inside.crash.clean) in
           let at = (goal.at.loop-index-preserved g c).After-fold_file in
           let fine : g.R.Source.has_failed c.fold_file.new.reader ≡ false = sound (g.R.Source.has_failed c.fold_file.new.reader) (λ failed. let no = c.in_ok-fold_file.ensures.failed failed in absurd (cc)) in
-          inr (elim (c.loop-index.invariant.elder was mode store below texts told) [
+          elim (c.loop-index.invariant.elder was mode store below texts told) [
             | inl begun ↦
                 let text = text_here g at texts told in
-                first_file _ index texts text.0 (drop (suc index) texts) begun.3 text.2 (subst (λ (r : Result (Unit {0}) Refusal).
-                OfFirst (λ slice. FindsWhole setting.profile.now old.tables.now.trees id slice r) (split_of text.0).slices) c.in_ok-fold_file.was
-                (first_found g at clean mode below begun.0 begun.1 begun.2 text.0 text.1 fine))
-            | inr found ↦ found
-          ]);
+                let first = subst (λ (r : Result (Unit {0}) Refusal). OfFirst (λ slice. FindsWhole setting.profile.now old.tables.now.trees id slice r) (split_of text.0).slices) c.in_ok-fold_file.was
+                (first_found g at clean mode below begun.0 begun.1 begun.2 text.0 text.1 fine) in
+                elim (files_begun (FoundWhole setting.profile.now old.tables.now.trees id) index texts begun.3 text.0 text.2 _ first (empty_file g at clean mode below begun.0 begun.1 begun.2 text.0 text.1 fine)) [
+                  | inl same ↦ inl (store_same old.tables next.tables same.0.1 store, same.0.1, same.0.2, same.1)
+                  | inr found ↦ inr found
+                ]
+            | inr found ↦ inr found
+          ];
       passes = λ clean mode store.
           let was : HasCleanDisk now.tables = omega (arith, c.fold_file.ensures.inside.crash.clean) in
           let same = same_id c.loop-index.invariant.on in
@@ -282,7 +301,7 @@ returns-clause-elder g c clean mode store below texts told fine =
     let trees = (state g.S.Store c.args.tx.now.conn.now).now.trees in
     let many = as_many g.R.Source.remaining c.args.readers.now texts told in
     elim (c.loop-index.invariant.elder clean mode store below texts told) [
-      | inl begun ↦ no_files _ texts (omega (arith, c.loop-index-test.false, c.loop-index.auto.readers, many, begun.3))
+      | inl begun ↦ no_record (λ slice. FindsWhole c.args.setting.now.profile.now trees c.args.fold.now.progress.database.0 slice (Ok (tt {0}))) c.loop-index.index texts begun.3 (omega (arith, c.loop-index-test.false, c.loop-index.auto.readers, many))
       | inr found ↦ files_find c.args.setting.now.profile.now trees c.args.fold.now.progress.database.0 (Ok (tt {0})) (splits_of texts) found
     ]
 
@@ -302,9 +321,10 @@ returns-in_err-fold_file-clause-elder g c clean mode store below texts told fine
     elim (c.loop-index.invariant.elder was mode store below texts told) [
       | inl begun ↦
           let text = text_here g at texts told in
-          first_file _ index texts text.0 (drop (suc index) texts) begun.3 text.2 (subst (λ (r : Result (Unit {0}) Refusal).
-          OfFirst (λ slice. FindsWhole profile trees id slice r) (split_of text.0).slices) same
-          (first_found g at clean mode below begun.0 begun.1 begun.2 text.0 text.1 sound_one))
+          let first = subst (λ (r : Result (Unit {0}) Refusal). OfFirst (λ slice. FindsWhole profile trees id slice r) (split_of text.0).slices) same
+          (first_found g at clean mode below begun.0 begun.1 begun.2 text.0 text.1 sound_one) in
+          files_ended (λ slice. FindsWhole profile trees id slice c.from_residual.result) index texts begun.3 text.0 text.2 _ first (empty_file g at clean mode below begun.0 begun.1 begun.2 text.0 text.1 sound_one)
+          (λ ok. let both = sym c.in_err-fold_file.was ∙ ok.0 in cc)
       | inr found ↦ files_find profile trees id c.from_residual.result (splits_of texts) found
     ]
 

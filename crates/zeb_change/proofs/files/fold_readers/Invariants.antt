@@ -36,7 +36,7 @@ invariant-loop-index g l =
           (FilesRoom g.L.Layout.format l.setting.profile.now l.setting.kind l.index texts now);
       elder : HasCleanDisk now.tables → IsTrue old.tables.in_transaction → IsStore old.tables → l.fn.fold.tally.records < l.setting.limits.records
           → (texts : List (List ℕ)) → map g.R.Source.remaining l.fn.readers ≡ map Some texts
-          → FilesBegun l.setting.profile.now old.tables now.tables l.fn.fold l.fold l.index (splits_of texts);
+          → FilesBegun l.setting.profile.now old.tables now.tables l.fn.fold l.fold l.index texts;
       passes : HasCleanDisk now.tables → IsTrue old.tables.in_transaction → IsStore old.tables
           → PassesOn l.setting.profile.now l.fn.fold.progress.database.0 l.fn.fold.progress.last l.fold.progress.last old.tables now.tables
           × ((texts : List (List ℕ)) → map g.R.Source.remaining l.fn.readers ≡ map Some texts

@@ -189,4 +189,5 @@ returns-clause-passes g c clean mode store =
     let was : HasCleanDisk mid = omega (arith, c.write_where_full.ensures.call.crash.clean) in
     let took = c.in_ok-note_record.ensures.passes was mode store in
     let writes = c.in_ok-write_where_full.ensures.call.written clean (c.in_ok-note_record.ensures.inside.stays was mode).mode took.0.store in
-    (passes_then profile id first last old mid took.0 last new (passes_same profile id last mid new writes.0 writes.1.2), took.1)
+    let malformed = c.in_ok-write_where_full.ensures.malformed clean (c.in_ok-note_record.ensures.inside.stays was mode).mode took.0.store in
+    (passes_then profile id first last old mid took.0 last new (passes_same profile id last mid new writes.0 writes.1.2 malformed), took.1)

@@ -36,7 +36,7 @@ use Rattle.zeb_change.proofs.StoredLemmas.{elder_is, are_numbered}
 use Rattle.zeb_change.proofs.TurnLemmas.{passed_on, turned_so, passed_over}
 use Rattle.zeb_change.proofs.UnderWay.{fault_fails, same_way}
 use Rattle.zeb_register.specs.Store.{IsStore}
-use Rattle.zeb_change.specs.declared.refusals.Refusal.TheVariants.{Memory, Unknown}
+use Rattle.zeb_change.specs.declared.refusals.Refusal.TheVariants.{Memory, Store, Unknown}
 use Rattle.zeb_change.specs.Elders.{KeepsWhole, PassesOn}
 use Rattle.zeb_change.specs.PrivateElders.{KeepsOtherRecords}
 use Rattle.zeb_change.proofs.Elders.{alike_whole, by_name, failed_so, fault_so, kept_numbered, never_refused, no_base, so_undamaged}
@@ -405,6 +405,40 @@ returns-in-Delete-None-clause-elder g c clean mode store ident whole named_so =
 pub returns-clause-elder : goal.returns-clause-elder
 returns-clause-elder g c clean mode store ident whole named_so =
     goes_by g (goal.at.returns-clause-elder g c).In_ok-elder clean mode store ident named_so None c.in-Adelete-None.is-1 (Ok PassedOver) (so_undamaged (Unit {0}) _ tt (λ is. cc))
+
+-- a failed store is told where it is whole, or for a cause
+pub returns-in_err-record-clause-stored : goal.returns-in_err-record-clause-stored
+returns-in_err-record-clause-stored g c clean mode store ident whole named is =
+    let told : c.from_residual.result ≡ Err c.in_err-record.field-0.0 = search rules in
+    let both = sym told ∙ is in
+    let failed : c.in_err-record.field-0.0 ≡ Store = cc in
+    absurd (c.in_err-record.ensures.unstored (ap Err failed))
+
+pub returns-in_err-elder-clause-stored : goal.returns-in_err-elder-clause-stored
+returns-in_err-elder-clause-stored g c clean mode store ident whole named is =
+    let fault = c.in_err-elder.field-0.0 in
+    let told : c.from_residual-in_err-elder.result ≡ Err (register_refusal fault) = search rules in
+    let both = sym told ∙ is in
+    let failed : register_refusal fault ≡ Store = cc in
+    inr (c.in_err-elder.ensures.refused clean mode store (ap Err (only_store fault failed)))
+
+stands : (g : given.Over) (c : In_ok-elder g) → HasCleanDisk (state g.S.Store c.record_of_ident.new.tx.conn.now) → IsTrue (state g.S.Store c.args.tx.now.conn.now).in_transaction
+    → IsStore (state g.S.Store c.args.tx.now.conn.now) → (ident : List ℕ) → ident_in c.args.setting.now.profile.now c.args.incoming.bytes.now ≡ Ok ident
+    → (found : Option Elder) → c.in_ok-elder.elder ≡ found → IsWholeElder c.args.setting.now.profile.now c.as_str-ident.result.now found
+    → KeepsWhole c.args.setting.now.profile.now (state g.S.Store c.args.tx.now.conn.now).now.trees c.args.progress.now.database.0 ident
+stands g c clean mode store ident named_so found is whole = (goes_by g c clean mode store ident named_so found is (Ok Updated) (so_undamaged _ _ whole (λ is. cc))).0
+
+pub returns-in-Update-default-clause-stored : goal.returns-in-Update-default-clause-stored
+returns-in-Update-default-clause-stored g c clean mode store ident whole named_so is =
+    inl (stands g (goal.at.returns-in-Update-default-clause-stored g c).In_ok-elder (omega (arith, c.keep.ensures.inside.crash.clean)) mode store ident named_so c.in_ok-elder.elder refl (c.keep.ensures.stored is))
+
+pub returns-in-Delete-Some-clause-stored : goal.returns-in-Delete-Some-clause-stored
+returns-in-Delete-Some-clause-stored g c clean mode store ident whole named_so is =
+    inl (stands g (goal.at.returns-in-Delete-Some-clause-stored g c).In_ok-elder (omega (arith, c.withdraw.ensures.inside.crash.clean)) mode store ident named_so (Some c.in-Delete-Some.elder) c.in-Delete-Some.is-1 (c.withdraw.ensures.stored is))
+
+pub returns-in-Adelete-Some-clause-stored : goal.returns-in-Adelete-Some-clause-stored
+returns-in-Adelete-Some-clause-stored g c clean mode store ident whole named_so is =
+    inl (stands g (goal.at.returns-in-Adelete-Some-clause-stored g c).In_ok-elder (omega (arith, c.withdraw-in-Adelete-Some.ensures.inside.crash.clean)) mode store ident named_so (Some c.in-Adelete-Some.elder) c.in-Adelete-Some.is-1 (c.withdraw-in-Adelete-Some.ensures.stored is))
 
 -- ---- what is kept still, whatever the tables' rows are
 

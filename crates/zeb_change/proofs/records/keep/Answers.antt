@@ -41,6 +41,14 @@ returns-in-None-clause-elder g c =
     subst (λ (found : Option Elder). GoesBy (IsWholeElder c.args.setting.now.profile.now c.args.newer.now.ident.now found) c.insert.result) (sym c.in-None.is)
     (so_undamaged (Unit {0}) c.insert.result tt c.insert.ensures.honest)
 
+pub returns-in-Some-clause-stored : goal.returns-in-Some-clause-stored
+returns-in-Some-clause-stored g c is =
+    subst (λ (found : Option Elder). IsWholeElder c.args.setting.now.profile.now c.args.newer.now.ident.now found) (sym c.in-Some.is) (c.replace.ensures.stored is)
+
+pub returns-in-None-clause-stored : goal.returns-in-None-clause-stored
+returns-in-None-clause-stored g c is =
+    subst (λ (found : Option Elder). IsWholeElder c.args.setting.now.profile.now c.args.newer.now.ident.now found) (sym c.in-None.is) (tt {0})
+
 pub returns-in-Some-clause-others : goal.returns-in-Some-clause-others
 returns-in-Some-clause-others g c clean mode store is =
     c.replace.ensures.others clean mode store

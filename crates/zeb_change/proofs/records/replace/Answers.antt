@@ -1,4 +1,4 @@
-use Rattle.std.proofs.Common.{◌≡◌, ◌+◌, arith, rules, Err, inl, inr, length, pos, refl, ap, sym, subst}
+use Rattle.std.proofs.Common.{◌≡◌, ◌∙◌, ◌+◌, arith, rules, Err, inl, inr, length, pos, refl, ap, sym, subst}
 use Rattle.sqlite.specs.Held.{state}
 use Rattle.zeb_change.specs.Outcomes.{register_refusal}
 use Rattle.zeb_change.specs.Refused.{why_of}
@@ -12,7 +12,7 @@ use Rattle.zeb_change.proofs.TurnLemmas.{passed_on, elder_kept, replaced}
 use Rattle.zeb_change.proofs.CostLemmas.{put_cost}
 use Rattle.zeb_change.proofs.RecordRoom.{elder_numbered, found_fits, newer_few, newer_fits, newer_storable, only_store, put_served, refused_for, room_after}
 use Rattle.zeb_change.proofs.UnderWay.{registers_still}
-use Rattle.zeb_change.specs.declared.refusals.Refusal.TheVariants.{Memory}
+use Rattle.zeb_change.specs.declared.refusals.Refusal.TheVariants.{Memory, Store}
 use Rattle.zeb_change.proofs.Elders.{error_so, failed_so, fault_so}
 use Rattle.zeb_change.proofs.KeptStill.{elder_owns, put_keeps}
 use Rattle.zeb_change.proofs.records.replace.Goals as goal
@@ -116,6 +116,24 @@ returns-in_err-note_keys-clause-elder g c =
 
 pub returns-clause-elder : goal.returns-clause-elder
 returns-clause-elder g c = (c.in_ok-old.ensures.elder.0, λ is. absurd (cc))
+
+-- a failed store is told only once it was found whole
+
+pub returns-in_err-old-clause-stored : goal.returns-in_err-old-clause-stored
+returns-in_err-old-clause-stored g c is =
+    let told : c.from_residual.result ≡ Err c.in_err-old.field-0.0 = search rules in
+    let both = sym told ∙ is in
+    let store : c.in_err-old.field-0.0 ≡ Store = cc in
+    absurd (c.in_err-old.ensures.unstored (ap Err store))
+
+pub returns-in_err-record_put-clause-stored : goal.returns-in_err-record_put-clause-stored
+returns-in_err-record_put-clause-stored g c is = c.in_ok-old.ensures.elder.0
+
+pub returns-in_err-note_keys-clause-stored : goal.returns-in_err-note_keys-clause-stored
+returns-in_err-note_keys-clause-stored g c is = c.in_ok-old.ensures.elder.0
+
+pub returns-clause-stored : goal.returns-clause-stored
+returns-clause-stored g c is = c.in_ok-old.ensures.elder.0
 
 -- ---- what is kept under other identifiers, whatever the tables' rows are
 

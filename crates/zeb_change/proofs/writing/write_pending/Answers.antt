@@ -4,6 +4,7 @@ use Rattle.sqlite.specs.State.{HasCleanDisk}
 use Rattle.zeb_register.specs.declared.faults.RegFault.{RegFault}
 use Rattle.zeb_register.specs.declared.faults.RegFault.TheVariants.{Damaged, Store}
 use Rattle.zeb_register.proofs.Causes.{may_after}
+use Rattle.zeb_register.proofs.Malformed.{malformed_seen, malformed_then}
 use Rattle.zeb_change.proofs.Asked.{first_known, none_known}
 use Rattle.zeb_change.proofs.ChangeKeysContent.{keeps_then}
 use Rattle.zeb_change.proofs.CostLemmas.{due_nothing, due_written}
@@ -22,6 +23,7 @@ loop-key-init g c = record {
   crash = search rules;
   stays = search rules;
   written = λ clean mode store. still_settled g.L.Layout.format g.L.Layout.row_work c.args.db.0 (state g.S.Store c.args.tx.now.conn.now) c.args.pending.now c.args.work.now store;
+  malformed = λ clean mode store. malformed_seen (state g.S.Store c.args.tx.now.conn.now).now (state g.S.Store c.args.tx.now.conn.now).now refl;
   no_work = λ none. refl;
   room = λ clean mode store ahead most spare storable holds has. has;
 }
@@ -54,6 +56,10 @@ loop-key-preserved g c =
                       c.args.pending.now c.loop-key.pending c.take_first.new.self c.counts_are_numbers.ensures held.1 worked out.count,
                 ),
           );
+      malformed = λ clean mode store.
+          let was : HasCleanDisk now = omega (arith, c.write_key.ensures.call.crash.clean) in
+          malformed_then old.now.trees now.now.trees next.now.trees (c.loop-key.invariant.malformed was mode store)
+          (c.in_ok-write_key.ensures.malformed clean (c.loop-key.invariant.stays was mode).mode (c.loop-key.invariant.written was mode store).0);
       no_work = λ none. c.write_key.ensures.no_work none ∙ c.loop-key.invariant.no_work none;
       room = λ clean mode store ahead most spare storable holds has.
           let was : HasCleanDisk now = omega (arith, c.write_key.ensures.call.crash.clean) in
@@ -141,3 +147,6 @@ returns-clause-call g c = record {
   honest = λ clean mode store told. absurd (accepted_only (Ok tt) refl told);
   crash = search rules;
 }
+
+pub returns-clause-malformed : goal.returns-clause-malformed
+returns-clause-malformed g c clean mode store = c.loop-key.invariant.malformed clean mode store

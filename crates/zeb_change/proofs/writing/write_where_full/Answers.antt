@@ -1,5 +1,6 @@
-use Rattle.std.proofs.Common.{rules}
+use Rattle.std.proofs.Common.{refl, rules}
 use Rattle.sqlite.specs.Held.{state}
+use Rattle.zeb_register.proofs.Malformed.{malformed_seen}
 use Rattle.zeb_change.proofs.SettledChanges.{still_settled}
 use Rattle.zeb_change.proofs.writing.write_where_full.Goals as goal
 
@@ -13,3 +14,6 @@ returns-clause-call g c = record {
   honest = λ clean mode store told. absurd (cc);
   crash = search rules;
 }
+
+pub returns-clause-malformed : goal.returns-clause-malformed
+returns-clause-malformed g c clean mode store = malformed_seen (state g.S.Store c.args.tx.now.conn.now).now (state g.S.Store c.args.tx.now.conn.now).now refl

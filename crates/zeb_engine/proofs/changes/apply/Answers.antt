@@ -334,4 +334,5 @@ returns-clause-loses g c clean inside store found =
     let further = c.in_ok-fold_files.ensures.stays second on.mode in
     let passes = subst (λ (l : ℕ). PassesOn profile id l after mid now) c.last-last.ensures (c.in_ok-fold_files.ensures.passes second on.mode put.layout) in
     let kept = c.in_ok-database_put.ensures.put clean further.mode passes.store in
-    put_leaves profile name old mid now new id change.found after store put found passes (kept_records c.in_ok-database_put.field-0.0 c.as_str-name.result.now (pos after) now new kept)
+    let again = c.in_ok-database_put.field-0.0 in
+    put_leaves profile name old mid now new id change.found after store put found passes again (subst (λ n. Changes databases_tree (PutsDatabase again n (pos after)) now new) c.as_str-name.ensures kept)

@@ -19,7 +19,7 @@ use Rattle.zeb_register.proofs.Causes.{may_after}
 use Rattle.zeb_change.specs.Refused.{why_of}
 use Rattle.zeb_change.proofs.RecordRoom.{one_refusal}
 use Rattle.zeb_register.specs.Catalog.{IsDatabaseOf}
-use Rattle.zeb_engine.specs.AnyTables.{ElderOver, EldersOver, LeavesRecords}
+use Rattle.zeb_engine.specs.AnyTables.{ElderOver, EldersOver, LeavesRows}
 use Rattle.zeb_engine.proofs.ChangeElders.{few_elder, missed_elder, said_after}
 use Rattle.zeb_engine.proofs.ChangeRoom.{room_still, where_open}
 use Rattle.zeb_engine.proofs.changes.change_database.Goals as goal
@@ -181,5 +181,5 @@ returns-clause-loses g c clean store =
     let mid = state g.S.Store c.found_for.new.connection in
     let new = state g.S.Store c.transact.new.connection in
     let first : HasCleanDisk mid = omega (arith, c.transact.ensures.survives.clean) in
-    said_after (λ trees. IsDatabaseOf trees name c.in_ok-found.found → OnOk c.transact.result (LeavesRecords profile name trees new.now.trees)) old mid (c.found_for.ensures.same first) (c.in_ok-found.ensures.found first)
+    said_after (λ trees. IsDatabaseOf trees name c.in_ok-found.found → OnOk c.transact.result (LeavesRows profile name trees new.now.trees)) old mid (c.found_for.ensures.same first) (c.in_ok-found.ensures.found first)
     (λ there known. c.transact.ensures.loses clean there known) store (c.in_ok-found.ensures.row first store)

@@ -21,7 +21,7 @@ use Rattle.zeb_register.specs.Calls.{MayRefuse}
 use Rattle.zeb_change.proofs.RecordRoom.{not_refused, one_refusal}
 use Rattle.zeb_engine.specs.Causes.{HasRoomToChange}
 use Rattle.zeb_register.specs.Catalog.{IsDatabaseOf}
-use Rattle.zeb_engine.specs.AnyTables.{ElderOver, EldersOver, LeavesRecords}
+use Rattle.zeb_engine.specs.AnyTables.{ElderOver, EldersOver, LeavesRows}
 use Rattle.zeb_engine.proofs.ChangeElders.{found_elder}
 use Rattle.zeb_engine.proofs.ChangeRoom.{where_open}
 use Rattle.zeb_engine.proofs.WriteCauses.{may_later}
@@ -215,6 +215,6 @@ returns-clause-loses g c clean store found =
     let there = subst (λ (held : Held _). IsStore (state g.S.Store held)) (sym begun) (record { is = store.is; sound = store.sound; keyed = store.keyed }) in
     let known = subst (λ (held : Held _). IsDatabaseOf (state g.S.Store held).now.trees name change.found) (sym begun) found in
     let said = c.in_ok-reply.ensures.loses (omega (arith, c.commit.ensures.survives.clean)) (rw begun refl) there known in
-    let left = subst (λ (held : Held _). LeavesRecords profile name (state g.S.Store held).now.trees mid.now.trees) begun said in
-    let settled = subst (λ (d : Database). LeavesRecords profile name (state g.S.Store c.args.connection.now).now.trees d.trees) (sym (c.in_ok-commit.ensures.ok late).1.now_is) left in
-    subst (λ h. LeavesRecords profile name (state g.S.Store c.args.connection.now).now.trees (state g.S.Store h).now.trees) same settled
+    let left = subst (λ (held : Held _). LeavesRows profile name (state g.S.Store held).now.trees mid.now.trees) begun said in
+    let settled = subst (λ (d : Database). LeavesRows profile name (state g.S.Store c.args.connection.now).now.trees d.trees) (sym (c.in_ok-commit.ensures.ok late).1.now_is) left in
+    subst (λ h. LeavesRows profile name (state g.S.Store c.args.connection.now).now.trees (state g.S.Store h).now.trees) same settled

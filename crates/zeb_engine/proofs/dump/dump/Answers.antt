@@ -3,6 +3,7 @@ use Rattle.sqlite.specs.Held.{state}
 use Rattle.sqlite.specs.State.{HasCleanDisk}
 use Rattle.sqlite.specs.Tree.{Trees}
 use Rattle.zeb_register.proofs.Calls.{nothing_then}
+use Rattle.zeb_register.specs.Kept.{AreReadable}
 use Rattle.zeb_register.specs.Store.{HasDatabase}
 use Rattle.zeb_register.specs.declared.catalog.Database.{Database}
 use Rattle.zeb_engine.specs.declared.replies.Reply.TheVariants.{Dumped}
@@ -15,7 +16,7 @@ use Rattle.zeb_engine.specs.Steps.{dumped_by, dumped_in}
 use Rattle.zeb_engine.specs.Works.{Always}
 use Rattle.zeb_engine.specs.PrivateWorks.{Serves}
 use Rattle.zeb_engine.proofs.DumpAnswers.{Dumps, base_kept, dump_fails, dump_told, dump_unknown, unready_dumps}
-use Rattle.zeb_engine.proofs.HiddenRows.{dump_hidden, hidden_after, misses_hidden, unready_hidden}
+use Rattle.zeb_engine.proofs.HiddenRows.{hidden_after, hidden_of, misses_hidden, unready_hidden}
 use Rattle.zeb_engine.proofs.Showing.{still_shows}
 use Rattle.zeb_engine.proofs.StoreCauses.{look_caused, passed_cause, refusal_after, two_leave}
 use Rattle.zeb_engine.proofs.ReadyBases.{Tells, ready_base, ready_still}
@@ -147,7 +148,7 @@ returns-in_err-bytes-clause-tables g c clean store texts =
     let row = subst (λ (t : Trees). HasDatabase t database.id.0 name (pos database.last)) first.1 (c.in_ok-database.ensures.row clean2 first.0) in
     let refusal = c.in_err-bytes.field-0.0 in
     let told : c.from_residual-in_err-bytes.result ≡ Err refusal = search rules in
-    rw told (dump_hidden (DumpOver name) name s0.now.trees database.id.0 (pos database.last) row refusal (c.in_err-bytes.ensures.honest clean s0.now.trees at2 opened.1))
+    rw told (hidden_of (DumpOver name) (λ t id. ¬ AreReadable t id) name s0.now.trees database.id.0 (pos database.last) row refusal (c.in_err-bytes.ensures.honest clean s0.now.trees at2 opened.1))
 
 pub returns-clause-tables : goal.returns-clause-tables
 returns-clause-tables g c clean store texts =

@@ -1,4 +1,4 @@
-use Rattle.std.proofs.Common.{rules, arith, ◌≡◌, pos, List, Err, IsTrue, refl, subst, inl, inr}
+use Rattle.std.proofs.Common.{rules, arith, ◌≡◌, ◌⊎◌, ℕ, pos, List, Err, IsTrue, refl, subst, inl, inr}
 use Rattle.sqlite.specs.Held.{state}
 use Rattle.sqlite.specs.State.{HasCleanDisk}
 use Rattle.sqlite.specs.Tree.{Trees}
@@ -11,16 +11,20 @@ use Rattle.zeb_register.specs.Store.{HasDatabase}
 use Rattle.zeb_register.specs.declared.catalog.Database.{Database}
 use Rattle.zeb_change.specs.Base.{Base}
 use Rattle.zeb_change.specs.Conditions.{conditions}
+use Rattle.zeb_change.specs.declared.refusals.Refusal.TheVariants.{Damaged}
 use Rattle.zeb_change.specs.Outcomes.{query_refusal}
+use Rattle.zeb_change.specs.Refused.{why_of}
 use Rattle.zeb_image.specs.NameOf.{name_bytes}
 use Rattle.zeb_engine.specs.declared.scan.Around.{Around}
 use Rattle.zeb_engine.specs.Alone.{OfDatabase}
-use Rattle.zeb_engine.specs.Answers.{Answer}
+use Rattle.zeb_engine.specs.Answers.{Answer, refused, IsFailure}
+use Rattle.zeb_engine.specs.AnyRefusals.{HidesAround, HidesPlanned, HidesTerms}
 use Rattle.zeb_engine.specs.AnyTables.{ScanOver, ScanTells, TellsAround}
 use Rattle.zeb_engine.specs.Steps.{ScanAnswers}
 use Rattle.zeb_engine.proofs.ReadyQueries.{existing_ends, query_ends, refused_ends}
 use Rattle.zeb_engine.proofs.Lookups.{base_found, still_holds}
-use Rattle.zeb_engine.proofs.OverTables.{asked_over, few_over, named_misses, or_fails, plan_scanned, query_over, terms_scanned}
+use Rattle.zeb_engine.proofs.HiddenRows.{hidden_of, misses_hidden}
+use Rattle.zeb_engine.proofs.OverTables.{asked_over, or_fails, plan_scanned, planned_hides, query_over, terms_scanned}
 use Rattle.zeb_engine.proofs.ScanAnswers.{plan_ends, scanned_ends, terms_answered}
 use Rattle.zeb_engine.proofs.Showing.{still_shows}
 use Rattle.zeb_engine.proofs.StoreCauses.{accepted_leaves, passed_cause, query_caused, refusal_after}
@@ -33,6 +37,10 @@ says profile asked = ScanAnswers profile asked.query.now asked.number asked.posi
 -- the same on any tables
 abbrev tells : Format → List Directive → Around → Trees → OfDatabase
 tells format profile asked = ScanTells format profile asked.query.now asked.number asked.position
+
+-- which rows can't be read there where it is damage
+abbrev hides : Format → List Directive → (name : List ℕ) → Around → Trees → Type 0
+hides format profile name asked = HidesTerms format profile name asked.query.now asked.number asked.position
 
 pub returns-in_err-query-clause-scanned : goal.returns-in_err-query-clause-scanned
 returns-in_err-query-clause-scanned g c clean opened limits before bases is keeps =
@@ -140,7 +148,9 @@ returns-in_err-query-clause-tables g c clean store =
     let fault = c.in_err-query.field-0.0 in
     let told : c.from_residual.result ≡ Err (query_refusal fault) = search rules in
     let trees = (state g.S.Store c.args.connection.now).now.trees in
-    rw told (query_over (tells g.L.Layout.format c.args.profile.now c.args.around trees) (name_bytes c.args.name.now) trees c.args.around.query.now fault c.in_err-query.ensures.faulty)
+    let name = name_bytes c.args.name.now in
+    let Hides = hides g.L.Layout.format c.args.profile.now name c.args.around in
+    rw told (query_over (tells g.L.Layout.format c.args.profile.now c.args.around trees) name Hides trees c.args.around.query.now fault c.in_err-query.ensures.faulty)
 
 pub returns-in_err-database-clause-tables : goal.returns-in_err-database-clause-tables
 returns-in_err-database-clause-tables g c clean store =
@@ -149,7 +159,8 @@ returns-in_err-database-clause-tables g c clean store =
     let trees = (state g.S.Store c.args.connection.now).now.trees in
     let Tells = tells g.L.Layout.format c.args.profile.now c.args.around trees in
     let name = name_bytes c.args.name.now in
-    rw told (asked_over Tells name trees c.args.around.query.now c.in_ok-query.ensures.readable (Err refusal) (named_misses Tells name trees refusal (c.in_err-database.ensures.misses clean store)))
+    let Hides = hides g.L.Layout.format c.args.profile.now name c.args.around in
+    rw told (asked_over Tells name Hides trees c.args.around.query.now c.in_ok-query.ensures.readable (Err refusal) (misses_hidden Tells name Hides trees (λ is. inl is) refusal (c.in_err-database.ensures.misses clean store)))
 
 pub returns-in_err-plan-clause-tables : goal.returns-in_err-plan-clause-tables
 returns-in_err-plan-clause-tables g c clean store =
@@ -157,16 +168,30 @@ returns-in_err-plan-clause-tables g c clean store =
     let told : c.from_residual-in_err-plan.result ≡ Err (query_refusal fault) = search rules in
     let trees = (state g.S.Store c.args.connection.now).now.trees in
     let database = c.in_ok-database.database in
+    let name = name_bytes c.args.name.now in
     let text = c.args.around.query.now in
-    rw told (or_fails (tells g.L.Layout.format c.args.profile.now c.args.around trees) (name_bytes c.args.name.now) trees text c.in_ok-query.ensures.readable database.id.0 (pos database.last) (c.in_ok-database.ensures.row clean store) (query_refusal fault)
+    let Hides = hides g.L.Layout.format c.args.profile.now name c.args.around in
+    rw told (or_fails (tells g.L.Layout.format c.args.profile.now c.args.around trees) name Hides trees text c.in_ok-query.ensures.readable database.id.0 (pos database.last) (c.in_ok-database.ensures.row clean store) (query_refusal fault)
     (plan_scanned c.args.profile.now text (query_value c.in_ok-query.query) c.in_ok-query.ensures.spelled (TellsAround g.L.Layout.format trees database.id.0) c.args.around.number c.args.around.position fault c.in_err-plan.ensures.planned))
 
 pub returns-in_err-entries-clause-tables : goal.returns-in_err-entries-clause-tables
 returns-in_err-entries-clause-tables g c clean store =
+    let format = g.L.Layout.format in
+    let profile = c.args.profile.now in
+    let s0 = state g.S.Store c.args.connection.now in
+    let s1 = state g.S.Store c.existing_database.new.connection in
+    let trees = s0.now.trees in
+    let clean1 : HasCleanDisk s1 = omega (arith, c.terms_around.ensures.crash.clean) in
+    let at = still_shows s0 s1 trees (c.existing_database.ensures.same clean1) (λ _. (store, refl)) (c.in_ok-database.ensures.found clean1).1 in
     let refusal = c.in_err-entries.field-0.0 in
     let told : c.from_residual-in_err-entries.result ≡ Err refusal = search rules in
+    let name = name_bytes c.args.name.now in
     let around = c.args.around in
-    rw told (few_over (ScanOver g.L.Layout.format c.args.profile.now (name_bytes c.args.name.now) around.query.now around.number around.position) (state g.S.Store c.args.connection.now).now.trees refusal c.in_err-entries.ensures.few)
+    let database = c.in_ok-database.database in
+    let plan = scan_value c.in_ok-plan.plan in
+    let met = subst (λ (t : Trees). IsFailure (refused (why_of refusal)) ⊎ ((refusal ≡ Damaged) × HidesAround format t database.id.0 plan around.number around.position)) at.1 (c.in_err-entries.ensures.honest clean at.0) in
+    rw told (hidden_of (ScanOver format profile name around.query.now around.number around.position) (λ t id. HidesPlanned format profile around.query.now around.number around.position t id) name trees database.id.0 (pos database.last) (c.in_ok-database.ensures.row clean1 store) refusal
+    (planned_hides profile around.query.now (query_value c.in_ok-query.query) c.in_ok-query.ensures.spelled format around.number around.position trees database.id.0 plan c.in_ok-plan.ensures.planned refusal met))
 
 pub returns-clause-tables : goal.returns-clause-tables
 returns-clause-tables g c clean store =

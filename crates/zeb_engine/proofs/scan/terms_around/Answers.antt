@@ -4,11 +4,11 @@ use Rattle.sqlite.specs.State.{HasCleanDisk}
 use Rattle.zeb_query.specs.Plans.{scan_value}
 use Rattle.zeb_register.specs.Content.{posted}
 use Rattle.zeb_change.specs.Outcomes.{register_refusal}
-use Rattle.zeb_engine.proofs.ListedDatabases.{fault_fails}
+use Rattle.zeb_engine.specs.AnyRefusals.{HidesAround}
+use Rattle.zeb_engine.proofs.ListedDatabases.{fault_fails, fault_or_damage}
 use Rattle.zeb_engine.proofs.AskedReads.{around_reads}
 use Rattle.zeb_engine.proofs.Lookups.{still_holds}
-use Rattle.zeb_engine.proofs.OverTables.{fault_few}
-use Rattle.zeb_engine.proofs.ScanAnswers.{around_lists, around_told}
+use Rattle.zeb_engine.proofs.ScanAnswers.{around_lists, around_told, before_hides, from_hides}
 use Rattle.zeb_engine.proofs.Showing.{still_shows}
 use Rattle.zeb_engine.proofs.StoreCauses.{LeavesAll, fault_after, fault_caused}
 use Rattle.zeb_engine.proofs.scan.terms_around.Goals as goal
@@ -72,14 +72,28 @@ returns-in_err-rest-clause-caused g c clean =
     let leaves : LeavesAll old mid = record { survives = c.terms_before.ensures.call.crash; opened = λ _. (c.in_ok-first.ensures.call.ok clean1).0.is_open; nothing = c.terms_before.ensures.call.same clean1 c.requires.idle } in
     rw told (fault_after old mid (state g.S.Store c.terms_from.new.conn) leaves fault clean c.in_err-rest.ensures.refused)
 
-pub returns-in_err-first-clause-few : goal.returns-in_err-first-clause-few
-returns-in_err-first-clause-few g c =
+pub returns-in_err-first-clause-honest : goal.returns-in_err-first-clause-honest
+returns-in_err-first-clause-honest g c clean store =
+    let trees = (state g.S.Store c.args.connection.now).now.trees in
+    let plan = scan_value c.args.plan.now in
+    let number = c.args.around.now.number in
+    let position = c.args.around.now.position in
     let fault = c.in_err-first.field-0.0 in
     let told : c.from_residual.result ≡ Err (register_refusal fault) = search rules in
-    rw told (fault_few fault)
+    rw told (fault_or_damage (HidesAround g.L.Layout.format trees c.args.database.0 plan number position) fault (λ is. before_hides g.L.Layout.format trees c.args.database.0 plan number position c.as_str-start.result.now c.as_str-start.ensures.value c.saturating_sub-below.result (search rules)
+    (c.in_err-first.ensures.damaged clean store (ap Err is))))
 
-pub returns-in_err-rest-clause-few : goal.returns-in_err-rest-clause-few
-returns-in_err-rest-clause-few g c =
+pub returns-in_err-rest-clause-honest : goal.returns-in_err-rest-clause-honest
+returns-in_err-rest-clause-honest g c clean store =
+    let old = state g.S.Store c.args.connection.now in
+    let mid = state g.S.Store c.terms_before.new.conn in
+    let clean1 : HasCleanDisk mid = omega (arith, c.terms_from.ensures.call.crash.clean) in
+    let shows = still_shows old mid old.now.trees (c.terms_before.ensures.call.same clean1 c.requires.idle) (λ _. (store, refl)) in
+    let at = shows (c.in_ok-first.ensures.call.ok clean1).0.is_open in
+    let plan = scan_value c.args.plan.now in
+    let number = c.args.around.now.number in
+    let position = c.args.around.now.position in
     let fault = c.in_err-rest.field-0.0 in
     let told : c.from_residual-in_err-rest.result ≡ Err (register_refusal fault) = search rules in
-    rw told (fault_few fault)
+    rw told (fault_or_damage (HidesAround g.L.Layout.format old.now.trees c.args.database.0 plan number position) fault (λ is. from_hides g.L.Layout.format old.now.trees c.args.database.0 plan number position c.as_str-start.result.now c.as_str-start.ensures.value mid.now.trees c.saturating_sub-from.result (search rules) at.1
+    (c.in_err-rest.ensures.damaged clean at.0 (ap Err is))))

@@ -7,16 +7,18 @@ use Rattle.zeb_keys.specs.declared.keys.Occurrence.{Occurrence}
 use Rattle.zeb_profile.specs.declared.directives.Directive.{Directive}
 use Rattle.zeb_register.specs.Content.{posted}
 use Rattle.zeb_register.specs.Occurring.{AreTotals}
-use Rattle.zeb_register.specs.Sound.{AreTermsSound}
+use Rattle.zeb_register.specs.PackedBlocks.{IsRegisterSound}
+use Rattle.zeb_register.specs.Sound.{AreTermsSound, InPacked}
 use Rattle.zeb_query.proofs.HoldingLemmas.{take_whole}
 use Rattle.zeb_engine.specs.declared.replies.Holding.{Holding}
 use Rattle.zeb_engine.specs.Answers.{extent_of}
+use Rattle.zeb_engine.specs.AnyRefusals.{HidesOneOf}
 use Rattle.zeb_engine.specs.AnyTables.{IsSoundUnder}
 use Rattle.zeb_engine.specs.Counting.{IsExtent, Paired, Target}
 use Rattle.zeb_change.specs.Outcomes.{register_refusal}
-use Rattle.std.proofs.lemmas.List.{take_more}
-use Rattle.zeb_engine.proofs.ListedDatabases.{fault_fails}
-use Rattle.zeb_engine.proofs.OverTables.{fault_few}
+use Rattle.sqlite_rules.proofs.ListLemmas.{has_at}
+use Rattle.std.proofs.lemmas.List.{get_or_default, take_more}
+use Rattle.zeb_engine.proofs.ListedDatabases.{fault_fails, fault_or_damage}
 use Rattle.zeb_engine.proofs.Showing.{still_shows}
 use Rattle.zeb_engine.proofs.StatAnswers.{paired_more}
 use Rattle.zeb_engine.proofs.StoreCauses.{LeavesAll, fault_after}
@@ -100,8 +102,17 @@ returns-clause-sound g c clean trees shows was =
     let Sound = IsSoundHolding g.L.Layout.format c.args.profile.now trees c.args.database.0 in
     subst (λ (l : List Target). Paired Sound l c.loop-target.holdings.items) whole (c.loop-target.invariant.sound clean trees shows was)
 
-pub returns-in_err-totals-clause-few : goal.returns-in_err-totals-clause-few
-returns-in_err-totals-clause-few g c =
+pub returns-in_err-totals-clause-honest : goal.returns-in_err-totals-clause-honest
+returns-in_err-totals-clause-honest g c clean trees shows was =
+    let old = state g.S.Store c.args.connection.now in
+    let now = state g.S.Store c.loop-target.connection in
+    let first : HasCleanDisk now = omega (arith, c.totals.ensures.call.crash.clean) in
+    let at = still_shows old now trees (c.loop-target.invariant.same first) shows (c.loop-target.invariant.open_still first was) in
+    let targets = c.args.targets.now in
+    let index = c.loop-target.target-index in
+    let target : Target = get_or targets index (0, Word) in
+    let there = has_at targets index target c.loop-target-test.true (get_or_default targets index (0, Word) target c.loop-target-test.true) in
     let fault = c.in_err-totals.field-0.0 in
     let told : c.from_residual-in_err-totals.result ≡ Err (register_refusal fault) = search rules in
-    rw told (fault_few fault)
+    rw told (fault_or_damage (HidesOneOf g.L.Layout.format targets trees c.args.database.0) fault
+    (λ is. (target, there, subst (λ (t : Trees). ¬ InPacked g.L.Layout.format (IsRegisterSound t c.args.database.0 target.0 target.1)) at.1 (c.in_err-totals.ensures.damaged clean at.0 (ap Err is)))))

@@ -1,4 +1,4 @@
-use Rattle.std.proofs.Common.{rules, ◌≡◌, ◌∙◌, ℕ, pos, List, map, Err, Ok, IsTrue, arith, refl, sym, ap, ap₂, subst, inl, inr}
+use Rattle.std.proofs.Common.{rules, ◌≡◌, ◌∙◌, ◌⊎◌, ℕ, pos, List, map, Err, Ok, IsTrue, arith, refl, sym, ap, ap₂, subst, inl, inr}
 use Rattle.sqlite.specs.Held.{state}
 use Rattle.sqlite.specs.State.{HasCleanDisk}
 use Rattle.sqlite.specs.Tree.{Trees}
@@ -9,16 +9,19 @@ use Rattle.zeb_register.specs.Store.{HasDatabase}
 use Rattle.zeb_register.specs.declared.catalog.Database.{Database}
 use Rattle.zeb_engine.specs.declared.replies.Reply.{Reply}
 use Rattle.zeb_engine.specs.declared.replies.Reply.TheVariants.{Counted}
-use Rattle.zeb_engine.specs.Answers.{counted, extent_of}
+use Rattle.zeb_engine.specs.Answers.{counted, extent_of, refused, IsFailure}
+use Rattle.zeb_engine.specs.AnyRefusals.{HidesOneOf, HidesRegisters}
 use Rattle.zeb_engine.specs.AnyTables.{IsSoundUnder, StatOver, StatTells}
 use Rattle.zeb_change.specs.Conditions.{conditions}
-use Rattle.zeb_engine.specs.Counting.{IsExtent, Paired, Target}
+use Rattle.zeb_change.specs.declared.refusals.Refusal.TheVariants.{Damaged}
+use Rattle.zeb_change.specs.Refused.{why_of}
+use Rattle.zeb_engine.specs.Counting.{IsExtent, Paired, Target, target_list}
 use Rattle.zeb_change.specs.Occurs.{occurs}
 use Rattle.zeb_image.specs.NameOf.{name_bytes}
 use Rattle.zeb_change.specs.Outcomes.{register_refusal}
 use Rattle.zeb_engine.proofs.DumpAnswers.{as_many}
 use Rattle.zeb_engine.proofs.ListedDatabases.{fault_fails}
-use Rattle.zeb_engine.proofs.OverTables.{fault_few, few_over, named_misses, over_after, unready_over}
+use Rattle.zeb_engine.proofs.HiddenRows.{hidden_after, hidden_of, misses_hidden, unready_hidden}
 use Rattle.zeb_engine.proofs.Showing.{still_shows}
 use Rattle.zeb_engine.proofs.StatAnswers.{Counts, count_fails, count_known, count_unknown, extents_as, extents_told, last_named, unready_counts}
 use Rattle.zeb_engine.proofs.StoreCauses.{LeavesAll, fault_after, leaves_then, look_caused, passed_cause, refusal_after, two_leave}
@@ -204,8 +207,9 @@ pub returns-in_err-check_ready-clause-tables : goal.returns-in_err-check_ready-c
 returns-in_err-check_ready-clause-tables g c clean store texts =
     let refusal = c.in_err-check_ready.field-0.0 in
     let told : c.from_residual.result ≡ Err refusal = search rules in
-    rw told (unready_over (version_of g.L.Layout.format) c.args.profile.now (StatOver g.L.Layout.format c.args.profile.now (name_bytes c.args.name.now)) (state g.S.Store c.args.connection.now) refusal c.in_err-check_ready.ensures.few (c.in_err-check_ready.ensures.texts clean)
-    (c.in_err-check_ready.ensures.whole clean) store texts)
+    let name = name_bytes c.args.name.now in
+    rw told (unready_hidden (StatOver g.L.Layout.format c.args.profile.now name) (HidesRegisters g.L.Layout.format c.args.profile.now name) (version_of g.L.Layout.format) c.args.profile.now (state g.S.Store c.args.connection.now) refusal c.in_err-check_ready.ensures.few
+    (c.in_err-check_ready.ensures.texts clean) (c.in_err-check_ready.ensures.whole clean) store texts)
 
 pub returns-in_err-database-clause-tables : goal.returns-in_err-database-clause-tables
 returns-in_err-database-clause-tables g c clean store texts =
@@ -215,20 +219,46 @@ returns-in_err-database-clause-tables g c clean store texts =
     let refusal = c.in_err-database.field-0.0 in
     let told : c.from_residual-in_err-database.result ≡ Err refusal = search rules in
     let name = name_bytes c.args.name.now in
-    rw told (over_after (StatOver g.L.Layout.format c.args.profile.now name) s0 s1 (Err refusal) (c.check_ready.ensures.same clean1) (c.in_ok-check_ready.ensures.«open» clean1)
-    (λ there. named_misses (StatTells g.L.Layout.format c.args.profile.now s1.now.trees) name s1.now.trees refusal (c.in_err-database.ensures.misses clean there)) store)
+    let Hides = HidesRegisters g.L.Layout.format c.args.profile.now name in
+    rw told (hidden_after (StatOver g.L.Layout.format c.args.profile.now name) Hides s0 s1 (Err refusal) (c.check_ready.ensures.same clean1) (c.in_ok-check_ready.ensures.«open» clean1)
+    (λ there. misses_hidden (StatTells g.L.Layout.format c.args.profile.now s1.now.trees) name Hides s1.now.trees (λ hides. inl hides) refusal (c.in_err-database.ensures.misses clean there)) store)
 
 pub returns-in_err-kept-clause-tables : goal.returns-in_err-kept-clause-tables
 returns-in_err-kept-clause-tables g c clean store texts =
+    let s0 = state g.S.Store c.args.connection.now in
+    let s1 = state g.S.Store c.check_ready.new.connection in
+    let s2 = state g.S.Store c.existing_database.new.connection in
+    let clean2 : HasCleanDisk s2 = omega (arith, c.record_count.ensures.call.crash.clean) in
+    let clean1 : HasCleanDisk s1 = omega (arith, clean2, c.existing_database.ensures.crash.clean) in
+    let at1 = still_shows s0 s1 s0.now.trees (c.check_ready.ensures.same clean1) (λ _. (store, refl)) in
+    let second = still_shows s1 s2 s0.now.trees (c.existing_database.ensures.same clean2) at1 (c.in_ok-database.ensures.found clean2).1 in
     let fault = c.in_err-kept.field-0.0 in
     let told : c.from_residual-in_err-kept.result ≡ Err (register_refusal fault) = search rules in
-    rw told (few_over (StatOver g.L.Layout.format c.args.profile.now (name_bytes c.args.name.now)) (state g.S.Store c.args.connection.now).now.trees (register_refusal fault) (fault_few fault))
+    rw told (inr (inr (fault_fails fault (λ is. c.in_err-kept.ensures.honest clean second.0 (ap Err is)))))
 
 pub returns-in_err-holdings-clause-tables : goal.returns-in_err-holdings-clause-tables
 returns-in_err-holdings-clause-tables g c clean store texts =
+    let format = g.L.Layout.format in
+    let profile = c.args.profile.now in
+    let s0 = state g.S.Store c.args.connection.now in
+    let s1 = state g.S.Store c.check_ready.new.connection in
+    let s2 = state g.S.Store c.existing_database.new.connection in
+    let clean3 : HasCleanDisk (state g.S.Store c.record_count.new.conn) = omega (arith, c.holdings_of.ensures.crash.clean) in
+    let clean2 : HasCleanDisk s2 = omega (arith, clean3, c.record_count.ensures.call.crash.clean) in
+    let clean1 : HasCleanDisk s1 = omega (arith, clean2, c.existing_database.ensures.crash.clean) in
+    let at1 = still_shows s0 s1 s0.now.trees (c.check_ready.ensures.same clean1) (λ _. (store, refl)) in
+    let at2 = still_shows s1 s2 s0.now.trees (c.existing_database.ensures.same clean2) at1 in
+    let first = at1 (c.in_ok-database.ensures.found clean2).0 in
+    let at3 = still_shows s2 (state g.S.Store c.record_count.new.conn) s0.now.trees (c.record_count.ensures.call.same clean3 c.existing_database.ensures.idle) at2 in
+    let read = (c.in_ok-kept.ensures.call.ok clean3).0 in
+    let database = c.in_ok-database.database in
+    let name = name_bytes c.args.name.now in
+    let row = subst (λ (t : Trees). HasDatabase t database.id.0 name (pos database.last)) first.1 (c.in_ok-database.ensures.row clean2 first.0) in
     let refusal = c.in_err-holdings.field-0.0 in
     let told : c.from_residual-in_err-holdings.result ≡ Err refusal = search rules in
-    rw told (few_over (StatOver g.L.Layout.format c.args.profile.now (name_bytes c.args.name.now)) (state g.S.Store c.args.connection.now).now.trees refusal c.in_err-holdings.ensures.few)
+    let targets = c.deref.ensures.value ∙ c.in_ok-targets.ensures in
+    let met = subst (λ (l : List Target). IsFailure (refused (why_of refusal)) ⊎ ((refusal ≡ Damaged) × HidesOneOf format l s0.now.trees database.id.0)) targets (c.in_err-holdings.ensures.honest clean s0.now.trees at3 read.is_open) in
+    rw told (hidden_of (StatOver format profile name) (λ t id. HidesOneOf format (target_list profile) t id) name s0.now.trees database.id.0 (pos database.last) row refusal met)
 
 pub returns-clause-tables : goal.returns-clause-tables
 returns-clause-tables g c clean store texts =

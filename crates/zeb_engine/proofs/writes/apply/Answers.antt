@@ -1,10 +1,13 @@
 use Rattle.std.proofs.Common.{[], IsTrue, codes, inl, inr}
 use Rattle.sqlite.specs.Held.{state}
 use Rattle.zeb_profile.specs.Canonical.{canonical_text}
+use Rattle.zeb_register.specs.Content.{TakesWhole}
 use Rattle.zeb_register.specs.Hindrances.{IsTooLarge}
 use Rattle.zeb_register.specs.Store.{IsStore, entry}
 use Rattle.zeb_change.specs.Conditions.{Conditions}
 use Rattle.zeb_image.specs.Image.{IsImage}
+use Rattle.zeb_image.specs.NameOf.{name_bytes}
+use Rattle.zeb_engine.specs.AnyMade.{MakesDatabase}
 use Rattle.zeb_engine.specs.Causes.{HasRoomToRenew}
 use Rattle.zeb_engine.specs.Checking.{IsRemade}
 use Rattle.zeb_engine.specs.Steps.{holding}
@@ -124,3 +127,24 @@ pub returns-in-Upgrade-clause-room : goal.returns-in-Upgrade-clause-room
 returns-in-Upgrade-clause-room g c clean inside store room failed =
     let has : HasRoomToRenew c.in-Upgrade.profile.now (state g.S.Store c.args.tx.now.conn.now).now.trees = rw c.in-Upgrade.is at room in
     c.upgrade.ensures.room clean inside store has failed
+
+pub returns-in-Init-clause-makes : goal.returns-in-Init-clause-makes
+returns-in-Init-clause-makes g c clean inside = rw c.in-Init.is (nothing_so c.init.result)
+
+pub returns-in-Create-clause-makes : goal.returns-in-Create-clause-makes
+returns-in-Create-clause-makes g c clean inside =
+    let old = state g.S.Store c.args.tx.now.conn.now in
+    let new = state g.S.Store c.create.new.tx.conn.now in
+    rw c.in-Create.is (begun_so c.create.result (IsStore old) (MakesDatabase (name_bytes c.in-Create.name.now) old new) (c.create.ensures.makes clean inside))
+
+pub returns-in-Drop-clause-makes : goal.returns-in-Drop-clause-makes
+returns-in-Drop-clause-makes g c clean inside =
+    let old = state g.S.Store c.args.tx.now.conn.now in
+    let new = state g.S.Store c.take.new.tx.conn.now in
+    rw c.in-Drop.is (begun_so c.take.result (IsStore old) (TakesWhole c.in-Drop.id.0 old new) (c.take.ensures.takes clean inside))
+
+pub returns-in-Reindex-clause-makes : goal.returns-in-Reindex-clause-makes
+returns-in-Reindex-clause-makes g c clean inside = rw c.in-Reindex.is (nothing_so c.reindex.result)
+
+pub returns-in-Upgrade-clause-makes : goal.returns-in-Upgrade-clause-makes
+returns-in-Upgrade-clause-makes g c clean inside = rw c.in-Upgrade.is (nothing_so c.upgrade.result)

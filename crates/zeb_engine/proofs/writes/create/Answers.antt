@@ -3,6 +3,7 @@ use Rattle.sqlite.specs.Held.{state}
 use Rattle.zeb_register.specs.Catalog.{PutsDatabase}
 use Rattle.zeb_register.specs.Store.{Changes, databases_tree}
 use Rattle.zeb_image.specs.NameOf.{name_bytes}
+use Rattle.zeb_engine.proofs.MadeTables.{made_by_row}
 use Rattle.zeb_engine.proofs.WriteSteps.{create_leads}
 use Rattle.zeb_engine.proofs.writes.create.Goals as goal
 use Rattle.zeb_register.specs.Hindrances.{IsTooLarge}
@@ -43,3 +44,11 @@ returns-in_err-database_put-clause-honest g c clean inside store is =
     let same : ◌≡◌ {A = Result (Unit {0}) RegFault} (Err fault) (Err Damaged) = sym told ∙ is in
     let damaged : fault ≡ Damaged = cc in
     c.in_err-database_put.ensures.honest clean inside store (ap Err damaged)
+
+pub returns-clause-makes : goal.returns-clause-makes
+returns-clause-makes g c clean inside store =
+    let old = state g.S.Store c.args.tx.now.conn.now in
+    let new = state g.S.Store c.database_put.new.tx.conn.now in
+    let id = c.in_ok-database_put.field-0.0 in
+    let put = subst (λ n. Changes databases_tree (PutsDatabase id n (pos 0)) old new) c.as_str.ensures (c.in_ok-database_put.ensures.put clean inside store) in
+    made_by_row (name_bytes c.args.name.now) id old new put

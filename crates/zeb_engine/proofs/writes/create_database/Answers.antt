@@ -12,6 +12,7 @@ use Rattle.zeb_engine.specs.Steps.{turned, created}
 use Rattle.zeb_engine.specs.PrivateWorks.{IsReady, Serves}
 use Rattle.zeb_engine.proofs.CommitCrashes.{survives_after}
 use Rattle.zeb_engine.proofs.ListedDatabases.{fault_fails, counted, row_named, row_found}
+use Rattle.zeb_engine.proofs.MadeTables.{made_after}
 use Rattle.zeb_engine.proofs.HiddenRows.{create_free, create_hidden, create_there}
 use Rattle.zeb_engine.proofs.NamedDatabases.{free_there}
 use Rattle.zeb_engine.proofs.ServesLemmas.{keeps_still, early_serves}
@@ -117,3 +118,10 @@ returns-in-None-clause-tables g c clean store =
     let there : IsStore mid = store_same old mid (c.in_ok-found.ensures.call.ok first).0.now_is store in
     create_free (name_bytes c.args.name.now) c.as_str.result.now c.as_str.ensures old.now.trees c.in_ok-found.found c.in-None.is (c.in_ok-found.ensures.value first store) c.transact.result
     (c.transact.ensures.sound clean there)
+
+pub returns-in-None-clause-makes : goal.returns-in-None-clause-makes
+returns-in-None-clause-makes g c clean =
+    let old = state g.S.Store c.args.connection.now in
+    let mid = state g.S.Store c.database_of.new.conn in
+    let first : HasCleanDisk mid = omega (arith, c.transact.ensures.survives.clean) in
+    made_after (name_bytes c.args.name.now) old mid (state g.S.Store c.transact.new.connection) (c.in_ok-found.ensures.call.ok first).0.now_is c.transact.result (c.transact.ensures.makes clean)

@@ -1,4 +1,4 @@
-use Rattle.std.proofs.Common.{◌≡◌, Err, rules, arith, sym, subst, inl, inr}
+use Rattle.std.proofs.Common.{◌≡◌, Err, rules, arith, pos, sym, subst, inl, inr}
 use Rattle.sqlite.specs.State.{HasCleanDisk}
 use Rattle.sqlite.specs.Held.{state}
 use Rattle.zeb_register.specs.Store.{IsStore}
@@ -11,6 +11,7 @@ use Rattle.zeb_engine.specs.Steps.{turned, dropped}
 use Rattle.zeb_engine.specs.PrivateWorks.{IsReady, Serves}
 use Rattle.zeb_engine.proofs.CommitCrashes.{survives_after}
 use Rattle.zeb_engine.proofs.ServesLemmas.{keeps_still, early_serves}
+use Rattle.zeb_engine.proofs.MadeTables.{dropped_after}
 use Rattle.zeb_engine.proofs.HiddenRows.{drop_there, misses_hidden}
 use Rattle.zeb_engine.proofs.NamedDatabases.{known_there}
 use Rattle.zeb_engine.proofs.TurnedOutcomes.{step_missing}
@@ -92,3 +93,12 @@ returns-clause-tables g c clean store =
     let opened = c.in_ok-database.ensures.found first in
     let there : IsStore mid = store_same old mid (c.existing_database.ensures.same first opened.1).1 store in
     drop_there (name_bytes c.args.name.now) old.now.trees c.in_ok-database.database (c.in_ok-database.ensures.row first store) c.transact.result (c.transact.ensures.sound clean there)
+
+pub returns-clause-drops : goal.returns-clause-drops
+returns-clause-drops g c clean store =
+    let old = state g.S.Store c.args.connection.now in
+    let mid = state g.S.Store c.existing_database.new.connection in
+    let found = c.in_ok-database.database in
+    let first : HasCleanDisk mid = omega (arith, c.transact.ensures.survives.clean) in
+    let still = (c.existing_database.ensures.same first (c.in_ok-database.ensures.found first).1).1 in
+    dropped_after (name_bytes c.args.name.now) old mid (state g.S.Store c.transact.new.connection) still found.id.0 (pos found.last) (c.in_ok-database.ensures.row first store) c.transact.result (c.transact.ensures.makes clean) store

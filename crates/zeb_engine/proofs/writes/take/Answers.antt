@@ -12,3 +12,6 @@ returns-clause-works g c clean inside k =
           let taken = c.in_ok-database_take.ensures.taken clean inside store in
           drop_leads k old new (name_bytes c.args.name.now) before image g.L.Layout.format c.args.id.0 known.0 known.1 taken.0 taken.1,
     )
+
+pub returns-clause-takes : goal.returns-clause-takes
+returns-clause-takes g c clean inside store = (c.in_ok-database_take.ensures.taken clean inside store).0

@@ -7,8 +7,9 @@ use Rattle.zeb_change.specs.Outcomes.{register_refusal}
 use Rattle.zeb_engine.specs.declared.replies.Reply.{Reply}
 use Rattle.zeb_engine.specs.declared.replies.Reply.TheVariants.{Done}
 use Rattle.zeb_engine.specs.PrivateWorks.{Serves}
-use Rattle.zeb_engine.specs.PrivateWriting.{Begins, Fits, Remakes, written, HindersWrite}
+use Rattle.zeb_engine.specs.PrivateWriting.{Begins, Fits, MakesOrTakes, Remakes, written, HindersWrite}
 use Rattle.zeb_engine.proofs.CommitCrashes.{write_survives}
+use Rattle.zeb_engine.proofs.MadeTables.{makes_over}
 use Rattle.zeb_engine.proofs.ReindexedTables.{remade_survives, remakes_over}
 use Rattle.zeb_engine.proofs.ServesLemmas.{begins_over, early_serves, refusal_serves, reply_serves, reached_inside, sound_failed, sound_over}
 use Rattle.zeb_engine.proofs.writes.transact.Goals as goal
@@ -109,6 +110,17 @@ returns-clause-remade g c clean =
     let did = c.in_ok-apply.ensures.remade (omega (arith, c.commit.ensures.survives.clean)) (rw begun refl) in
     subst (λ h. Remakes g.L.Layout.format write (state g.S.Store c.args.connection.now) (state g.S.Store h)) same
     (remakes_over g.L.Layout.format g.S.Store c.args.connection.now c.transaction-tx.result.conn.now (state g.S.Store c.apply.new.tx.conn.now) begun write (state g.S.Store end) (c.in_ok-commit.ensures.ok late).1 did)
+
+pub returns-clause-makes : goal.returns-clause-makes
+returns-clause-makes g c clean =
+    let begun = c.transaction-tx.ensures.begun in
+    let write = c.args.write.now in
+    let end = c.commit.new.self.0 in
+    let late : HasCleanDisk (state g.S.Store end) = search rules in
+    let same : end ≡ c.connection-2-1.given.0 = search rules in
+    let did = c.in_ok-apply.ensures.makes (omega (arith, c.commit.ensures.survives.clean)) (rw begun refl) in
+    subst (λ h. MakesOrTakes write (state g.S.Store c.args.connection.now) (state g.S.Store h)) same
+    (makes_over g.S.Store write c.args.connection.now c.transaction-tx.result.conn.now (state g.S.Store c.apply.new.tx.conn.now) (state g.S.Store end) begun (c.in_ok-commit.ensures.ok late).1 did)
 
 pub returns-in_err-commit-clause-survives_remade : goal.returns-in_err-commit-clause-survives_remade
 returns-in_err-commit-clause-survives_remade g c =

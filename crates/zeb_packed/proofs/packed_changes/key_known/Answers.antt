@@ -1,9 +1,12 @@
 use Rattle.std.proofs.Common.{◌≡◌, ◌∙◌, Some, None, ap, refl, slice_get, sym}
-use Rattle.std.proofs.lemmas.Result.{IfOk-weaker}
+use Rattle.std.proofs.lemmas.Result.{IfErr-at_err, IfOk-weaker}
 use Rattle.std.specs.Option.{option_copied}
 use Rattle.sqlite.specs.Held.{state}
+use Rattle.sqlite.specs.Order.{column}
+use Rattle.zeb_register.specs.declared.faults.RegFault.TheVariants.{Damaged}
 use Rattle.zeb_register.specs.Content.{posted}
 use Rattle.zeb_register.specs.Occurring.{HasKey}
+use Rattle.zeb_register.specs.PackedBlocks.{IsRecordNumber}
 use Rattle.zeb_register.specs.PlainRows.{key_row}
 use Rattle.zeb_register.specs.PrivateRowTerms.{IsInRecord}
 use Rattle.zeb_register.specs.Sql.{IsListOf}
@@ -36,7 +39,7 @@ returns-in-Some-clause-honest g c clean inside store is content storable holds =
     let got : slice_get c.in_ok-rows.rows.items 0 ≡ Some c.in-Some.row.now = sym (c.first.ensures.value ∙ ap (λ l. slice_get l 0) c.deref.ensures.value) ∙ ap option_copied c.in-Some.is in
     let held : IsListOf (IsRest dict_tree (key_row c.args.db.0 key) trees) c.in_ok-rows.rows.items = (c.in_ok-rows.ensures.call.ok clean inside).1 store in
     let able = row_number trees content c.args.db.0 key holds c.in-Some.row.now storable (first_is _ c.in_ok-rows.rows.items c.in-Some.row.now held got) in
-    c.known_at.ensures.honest is able.0 able.1
+    (IfErr-at_err (λ fault. (fault ≡ Damaged) × ¬ IsRecordNumber (column c.in-Some.row.now 0)) is c.known_at.ensures.refused).1 able.1
 
 pub returns-clause-value : goal.returns-clause-value
 returns-clause-value g c clean inside store content holds =

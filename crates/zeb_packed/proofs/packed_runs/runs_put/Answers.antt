@@ -14,6 +14,8 @@ use Rattle.zeb_register.proofs.RowCounts.{rows_taken}
 use Rattle.zeb_register.proofs.TakenRowids.{takes_more, takes_then}
 use Rattle.zeb_packed.specs.PrivatePackedHindrances.{AreRunsSpelled, LacksBlock, WereClear}
 use Rattle.zeb_packed.specs.PackedSound.{AreSpelledIn, IsOfFirsts, had}
+use Rattle.zeb_register.proofs.Malformed.{malformed_same, malformed_then}
+use Rattle.zeb_packed.proofs.MalformedRows.{run_malformed}
 use Rattle.zeb_packed.proofs.PackedOld.{clear_further, clears_further, keeps_further, no_firsts, no_rising, runs_found}
 use Rattle.zeb_packed.proofs.PackedSound.{run_sound}
 use Rattle.zeb_packed.proofs.PackedWrites.{puts_behind, puts_so, puts_then}
@@ -46,6 +48,7 @@ loop-done-init g c =
       clears = λ block from below. from;
       keeps = λ clean inside store block from row there in_it. there;
       clear = λ clean inside store. no_rising (λ it. known.clear_from ≤ it.0 / 256 → LacksBlock c.args.db.0 c.args.key.now (it.0 / 256) trees);
+      malformed = λ clean inside store. malformed_same trees trees refl refl;
       grows = omega arith;
     }
 
@@ -114,6 +117,14 @@ loop-done-preserved g c =
           let lacks = it.absent clean (so_far.stays was inside).inside (so_far.put was inside store).layout in
           clear_further xs done n (done + length (run xs done n)) (run_more xs done n) db key c.args.known.clear_from c.loop-done.known.clear_from ((get_or xs done no_change).sysno / 256) first.now.trees mid.now.trees
           c.run_length.ensures.inside so_far.clears (so_far.keeps was inside store) (so_far.clear was inside store) lacks;
+      malformed = λ clean inside store.
+          let was : HasCleanDisk mid = omega (arith, c.run_put.ensures.call.crash.clean) in
+          let before = so_far.put was inside store in
+          let inside_still = (so_far.stays was inside).inside in
+          let block = (get_or xs done no_change).sysno / 256 in
+          let written = (it.call.ok clean inside_still).rows before.layout in
+          malformed_then first.now.trees mid.now.trees last.now.trees (so_far.malformed was inside store)
+          (run_malformed db key block mid.now.trees last.now.trees (it.sound clean inside_still before.layout).0 (it.old clean inside_still before.layout).2 (written.others.1.1.1.1.1.0 (λ e. absurd (omega (arith, e)))));
       grows = let rows = rows_run xs done n in omega (arith, c.behind-known.ensures.records, it.grows, so_far.grows, rows);
     }
 
@@ -188,3 +199,6 @@ pub returns-clause-clear : goal.returns-clause-clear
 returns-clause-clear g c clean inside store =
     let xs = c.args.changes.now in
     subst (λ l. WereClear c.args.db.0 c.args.key.now c.args.known.clear_from l (state g.S.Store c.args.tx.now.conn.now).now.trees) (take_all c.loop-done.done xs c.loop-done-test.false) (c.loop-done.invariant.clear clean inside store)
+
+pub returns-clause-malformed : goal.returns-clause-malformed
+returns-clause-malformed g c clean inside store = c.loop-done.invariant.malformed clean inside store

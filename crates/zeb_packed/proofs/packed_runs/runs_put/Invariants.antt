@@ -5,6 +5,7 @@ use Rattle.zeb_register.specs.Hindrances.{TakesRowids, placed, rows_of}
 use Rattle.zeb_packed.specs.PackedSound.{AreSpelledIn, IsOfFirsts, had}
 use Rattle.zeb_packed.specs.PrivatePackedChanges.{IsKnown, PutsChanges}
 use Rattle.zeb_packed.specs.PrivatePackedHindrances.{AreRunsSpelled, IsPut, KeepsRecords, SpellsMore, WereClear, WereSpelled}
+use Rattle.zeb_register.specs.Sound.{KeepsMalformed}
 use Rattle.zeb_register.specs.Store.{Changes, IsStore, blocks_tree}
 use Rattle.zeb_register.proofs.Calls.{Stays}
 use Rattle.zeb_packed.proofs.PackedOld.{ClearsFrom, KeepsFrom}
@@ -28,6 +29,7 @@ invariant-loop-done g l =
       clears : ClearsFrom l.fn.known.clear_from l.known.clear_from (take l.done l.changes);
       keeps : HasCleanDisk now → IsTrue old.in_transaction → IsStore old → KeepsFrom l.db.0 l.key l.known.clear_from old.now.trees now.now.trees;
       clear : HasCleanDisk now → IsTrue old.in_transaction → IsStore old → WereClear l.db.0 l.key l.fn.known.clear_from (take l.done l.changes) old.now.trees;
+      malformed : HasCleanDisk now → IsTrue old.in_transaction → IsStore old → KeepsMalformed old.now.trees now.now.trees;
       grows : l.known.records ≤ l.fn.known.records + rows_of (map placed (take l.done l.changes));
     }
 

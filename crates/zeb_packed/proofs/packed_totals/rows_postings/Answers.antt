@@ -1,12 +1,14 @@
-use Rattle.std.proofs.Common.{rules, ◌++◌, arith, length-append}
+use Rattle.std.proofs.Common.{rules, ◌≡◌, ◌++◌, Err, arith, length-append}
 use Rattle.zeb_register.proofs.ContentLemmas.{has_at}
 use Rattle.zeb_register.proofs.PackedLists.{each_spelled, spelled_more}
 use Rattle.zeb_packed.proofs.packed_totals.rows_postings.Goals as goal
 
-pub returns-in_err-row_postings-clause-honest : goal.returns-in_err-row_postings-clause-honest
-returns-in_err-row_postings-clause-honest c is list are =
-    let spells = each_spelled c.args.rows.now list are c.row-item.result (has_at _ _ _ c.row-item.is c.loop-row-test.true) in
-    c.in_err-row_postings.ensures.honest (search rules) spells.0 spells.1
+pub returns-in_err-row_postings-clause-refused : goal.returns-in_err-row_postings-clause-refused
+returns-in_err-row_postings-clause-refused c =
+    let told : c.from_residual.result ≡ Err c.in_err-row_postings.field-0.0 = search rules in
+    let fault = c.in_err-row_postings.ensures.refused in
+    let here = has_at _ _ _ c.row-item.is c.loop-row-test.true in
+    rw told (fault.0, λ list are. let spells = each_spelled c.args.rows.now list are c.row-item.result here in fault.1 spells.0 spells.1)
 
 pub loop-row-preserved : goal.loop-row-preserved
 loop-row-preserved c =

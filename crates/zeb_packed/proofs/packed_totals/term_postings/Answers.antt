@@ -1,4 +1,4 @@
-use Rattle.std.proofs.Common.{◌≡◌, ◌∙◌, List, length, ap, rules, subst, sym}
+use Rattle.std.proofs.Common.{◌≡◌, ◌∙◌, List, length, ap, subst, sym}
 use Rattle.sqlite.specs.Held.{state}
 use Rattle.zeb_blocks.specs.declared.postings.Posting.{Posting}
 use Rattle.zeb_register.specs.Occurring.{capped, key_in}
@@ -34,7 +34,7 @@ returns-in_err-count-clause-honest g c clean store is content holds =
     let key = key_in c.args.at.index c.args.at.register c.args.term.now in
     let list = content c.args.at.db.0 key in
     let spelled = key_spelled trees content c.args.at.db.0 key holds c.in_ok-rows.rows.items ((c.in_ok-rows.ensures.call.ok clean).1 store) in
-    c.in_err-count.ensures.honest (search rules) list (subst (λ rows. AreSpelled rows list) (sym c.deref.ensures.value) spelled)
+    c.in_err-count.ensures.refused.1 list (subst (λ rows. AreSpelled rows list) (sym c.deref.ensures.value) spelled)
 
 pub returns-clause-sound : goal.returns-clause-sound
 returns-clause-sound g c clean store row there =
@@ -53,4 +53,4 @@ pub returns-in_err-count-clause-damaged : goal.returns-in_err-count-clause-damag
 returns-in_err-count-clause-damaged g c clean store is all =
     let are = (c.in_ok-rows.ensures.call.ok clean).1 store in
     let spelled = all_spelled c.in_ok-rows.rows.items (λ row here. all row ((are.each row).0 here)) in
-    c.in_err-count.ensures.honest (search rules) spelled.0 (subst (λ rows. AreSpelled rows spelled.0) (sym c.deref.ensures.value) spelled.1)
+    c.in_err-count.ensures.refused.1 spelled.0 (subst (λ rows. AreSpelled rows spelled.0) (sym c.deref.ensures.value) spelled.1)

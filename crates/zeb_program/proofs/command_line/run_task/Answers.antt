@@ -1,6 +1,6 @@
 use Rattle.std.proofs.Common.{◌≡◌, false, inl, refl, subst}
 use Rattle.std.proofs.KnownBytes.{Keeps-refl}
-use Rattle.zeb_program.proofs.WordAnswerLemmas.{warned_once}
+use Rattle.zeb_program.proofs.WordAnswerLemmas.{told_apart, untouched, warned_once}
 use Rattle.zeb_program.proofs.command_line.run_task.Goals as goal
 use Rattle.zeb_program.proofs.command_line.run_task.Goals.{in-Some, in_default}
 
@@ -14,3 +14,9 @@ returns-after-warning-clause-apart g c = λ sound.
         | in_default w ↦ rw w.fault_output-is (inl (Keeps-refl (g.V.Write.contents c.args.fault_output.now.writer)))
       ],
     )
+
+pub returns-in-Err-clause-apart : goal.returns-in-Err-clause-apart
+returns-in-Err-clause-apart g c = told_apart _ _ _ _ c.in-Err.fault _ c.tell.result c.tell.ensures.status c.tell.ensures.told
+
+pub returns-in-Err-clause-stopped : goal.returns-in-Err-clause-stopped
+returns-in-Err-clause-stopped g c = untouched c.tell.result _ _ refl c.tell.ensures.silent

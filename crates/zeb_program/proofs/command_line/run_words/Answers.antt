@@ -1,7 +1,7 @@
 use Rattle.std.proofs.Common.{[], map, string_bytes, inl, inr, arith}
 use Rattle.std.proofs.KnownBytes.{Consumes-nil}
 use Rattle.zeb_program.specs.WordAnswers.{misused}
-use Rattle.zeb_program.proofs.WordAnswerLemmas.{batch_words, shell_kept, shell_words, stopped_batch_words, stopped_shell_words, stopped_task_words, task_words}
+use Rattle.zeb_program.proofs.WordAnswerLemmas.{batch_words, shell_kept, shell_words, stopped_line_words, stopped_task_words, task_words}
 use Rattle.zeb_program.proofs.command_line.run_words.Goals as goal
 
 pub returns-in-Err-clause-answer : goal.returns-in-Err-clause-answer
@@ -17,7 +17,8 @@ returns-in-Task-clause-answer g c =
 
 pub returns-in-Task-clause-stopped : goal.returns-in-Task-clause-stopped
 returns-in-Task-clause-stopped g c =
-    stopped_task_words (map string_bytes c.args.words.now) _ _ _ _ _ c.in-Task.task _ _ c.run_task.result (c.in-Ok.words, c.in-Ok.ensures.named, c.in-Task.ensures) c.run_task.ensures.stopped
+    stopped_task_words (λ sink. g.W.Write.contents sink.writer) (λ sink. g.V.Write.contents sink.writer) (map string_bytes c.args.words.now) c.args.output.now c.run_task.new.output
+    c.args.fault_output.now c.run_task.new.fault_output c.in-Task.task _ _ c.run_task.result (c.in-Ok.words, c.in-Ok.ensures.named, c.in-Task.ensures) c.run_task.ensures.stopped
 
 pub returns-in-Batch-clause-unread : goal.returns-in-Batch-clause-unread
 returns-in-Batch-clause-unread g c = λ other.
@@ -29,7 +30,7 @@ returns-in-Batch-clause-answer g c =
 
 pub returns-in-Batch-clause-stopped : goal.returns-in-Batch-clause-stopped
 returns-in-Batch-clause-stopped g c =
-    stopped_batch_words (map string_bytes c.args.words.now) _ _ _ _ _ _ _ c.run_batch.result (c.in-Ok.words, c.in-Ok.ensures.named, c.in-Batch.ensures)
+    stopped_line_words (map string_bytes c.args.words.now) _ _ _ _ _ _ c.run_batch.result (inl (c.in-Ok.words, c.in-Ok.ensures.named, c.in-Batch.ensures))
 
 pub returns-in-Shell-clause-bounded : goal.returns-in-Shell-clause-bounded
 returns-in-Shell-clause-bounded g c = λ other.
@@ -46,4 +47,4 @@ returns-in-Shell-clause-answer g c =
 
 pub returns-in-Shell-clause-stopped : goal.returns-in-Shell-clause-stopped
 returns-in-Shell-clause-stopped g c =
-    stopped_shell_words (map string_bytes c.args.words.now) _ _ _ _ _ _ _ c.run_shell.result (c.in-Ok.words, c.in-Ok.ensures.named, c.in-Shell.ensures)
+    stopped_line_words (map string_bytes c.args.words.now) _ _ _ _ _ _ c.run_shell.result (inr (c.in-Ok.words, c.in-Ok.ensures.named, c.in-Shell.ensures))

@@ -27,7 +27,7 @@ returns-in-Err-clause-answer g c =
     refused_file tells k c.args.change.now old new (g.W.Write.contents c.args.output.now.writer) (g.W.Write.contents c.tell.new.output.writer)
     c.in-Err.fault c.tell.new.output.failed (HasCleanDisk new) c.tell.result
     (λ clean file known. c.in-Err.ensures.told clean (file ∷ []) (ap (map tells) (ap (map string_bytes) c.from_ref-named.ensures.value) ∙ ap (λ told. told ∷ []) known))
-    c.tell.ensures.answer c.tell.ensures.memory
+    c.tell.ensures.told
 
 pub returns-in_ok-render-in-Ok-clause-over : goal.returns-in_ok-render-in-Ok-clause-over
 returns-in_ok-render-in-Ok-clause-over g c =
@@ -42,4 +42,4 @@ returns-in-Err-clause-over g c =
     refused_path (g.P.Paths.tells c.args.paths.now) g.L.Layout.format (conditions (version_of g.L.Layout.format) c.args.session.now.profile c.args.session.now.limits) c.args.change.now (state g.S.Store c.args.session.now.connection) new
     (g.W.Write.contents c.args.output.now.writer) (g.W.Write.contents c.tell.new.output.writer) c.tell.new.output.failed (HasCleanDisk new) c.from_ref-named.result.now
     c.in-Err.fault c.tell.result c.from_ref-named.ensures.value c.in-Err.ensures.over c.in-Err.ensures.refused c.in-Err.ensures.told
-    c.tell.ensures.answer c.tell.ensures.unreadable c.tell.ensures.unread c.tell.ensures.memory
+    c.tell.ensures.told

@@ -1,10 +1,10 @@
 use Rattle.std.proofs.Common.{◌≡◌, false, map, string_bytes}
 use Rattle.std.specs.Prelude.{IfSome}
 use Rattle.zeb_program.specs.ScriptAnswers.{EndsScript}
-use Rattle.zeb_program.specs.WordAnswers.{AnswersWords}
+use Rattle.zeb_program.specs.WordAnswers.{EndsWords}
 use Rattle.zeb_program.proofs.ResultValues.{unwrapped}
 use Rattle.zeb_program.proofs.ScriptAnswerLemmas.{early_script, ended_script, kept_script}
-use Rattle.zeb_program.proofs.WordAnswerLemmas.{kept_words}
+use Rattle.zeb_program.proofs.WordAnswerLemmas.{early_words, ended_words, kept_words}
 use Rattle.zeb_program.proofs.program.run.Goals as goal
 
 pub returns-then-is_empty-clause-script : goal.returns-then-is_empty-clause-script
@@ -28,8 +28,9 @@ returns-clause-words g c = λ some sound quiet.
     let fault_old = g.V.Write.contents c.args.fault_output.now.writer in
     let fault_mid = g.V.Write.contents c.run_words.new.fault_output.writer in
     let told = unwrapped c.run_words.result
-    (λ status. c.run_words.new.output.failed ≡ false → c.run_words.new.fault_output.failed ≡ false → AnswersWords words left old mid fault_old fault_mid status) 3
-    c.run_words.ensures.answer c.run_words.ensures.stopped (c.finish-2.ensures.sound sound) (c.finish-2.ensures.sound_fault quiet) in
+    (λ status. c.run_words.new.output.failed ≡ false → c.run_words.new.fault_output.failed ≡ false → EndsWords words left old mid fault_old fault_mid status) 3
+    (ended_words words left old mid fault_old fault_mid _ _ c.run_words.result c.run_words.ensures.answer)
+    (early_words words left old mid fault_old fault_mid _ _ c.run_words.result c.run_words.ensures.stopped) (c.finish-2.ensures.sound sound) (c.finish-2.ensures.sound_fault quiet) in
     rw (c.finish-2.ensures.status sound quiet, c.unwrap_or-status-2.ensures)
     (kept_words words left old mid (g.W.Write.contents c.finish-2.new.output.writer) fault_old fault_mid (g.V.Write.contents c.finish-2.new.fault_output.writer) _
     (c.finish-2.ensures.bytes sound) (c.finish-2.ensures.bytes_fault quiet) told)

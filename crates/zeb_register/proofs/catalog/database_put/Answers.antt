@@ -57,7 +57,7 @@ pub returns-in_err-id-in-Some-clause-honest : goal.returns-in_err-id-in-Some-cla
 returns-in_err-id-in-Some-clause-honest g c clean inside store is =
     let got : slice_get c.in_ok-rows.rows.items 0 ≡ Some c.in-Some.row.now = sym (c.first.ensures.value ∙ ap (λ l. slice_get l 0) c.deref.ensures.value) ∙ ap option_copied c.in-Some.is in
     let able = id_readable (state g.S.Store c.args.tx.now.conn.now).now.trees c.args.name.now c.in_ok-rows.rows.items c.in-Some.row.now ((c.in_ok-rows.ensures.call.ok clean inside).1 store) got in
-    c.in_err-id-in-Some.ensures.honest (search rules) able.0 able.1
+    c.in_err-id-in-Some.ensures.refused.1 able.1
 
 pub returns-in_err-last_set-in-Some-clause-call : goal.returns-in_err-last_set-in-Some-clause-call
 returns-in_err-last_set-in-Some-clause-call g c = record {

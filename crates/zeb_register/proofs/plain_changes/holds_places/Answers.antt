@@ -1,9 +1,13 @@
-use Rattle.std.proofs.Common.{Result, Ok, Err, OnOk, sym, ◌∙◌, map, ap, subst}
+use Rattle.std.proofs.Common.{◌≡◌, Result, Ok, Err, OnOk, sym, ◌∙◌, map, ap, subst}
+use Rattle.std.proofs.lemmas.Result.{IfErr-at_err}
 use Rattle.sqlite.specs.Held.{state}
+use Rattle.sqlite.specs.Order.{Row}
 use Rattle.sqlite_rules.specs.Lists.{Has}
 use Rattle.zeb_register.specs.Sql.{IsListOf}
 use Rattle.zeb_register.specs.Store.{IsRest, postings_tree}
+use Rattle.zeb_register.specs.declared.faults.RegFault.TheVariants.{Damaged}
 use Rattle.zeb_register.specs.PackedBlocks.{first_two}
+use Rattle.zeb_register.specs.PrivateRowPlaces.{IsTwoNumbers}
 use Rattle.zeb_register.proofs.PlaceLemmas.{place_front}
 use Rattle.zeb_register.proofs.PlaceLemmas.{places_held, places_lost, two_numbers}
 use Rattle.zeb_register.proofs.Columns.{column_is, numbered_rows}
@@ -31,7 +35,7 @@ returns-clause-honest g c clean inside store content holds is =
     let items = c.in_ok-rows.rows.items in
     let key = c.args.key.now in
     let held : IsListOf (IsRest postings_tree (place_front c.args.db.0 key c.args.sysno) trees) items = numbered_rows trees postings_tree c.args.db.0 key _ c.args.sysno (column_is c.in_ok-number.ensures.ok.1 c.in_ok-number.ensures.ok.0) items ((c.in_ok-rows.ensures.call.ok clean inside).1 store) in
-    c.are_places.ensures.honest is (λ row here. two_numbers trees content c.args.db.0 key c.args.sysno holds items held row (subst (λ l. Has l row) c.deref.ensures.value here))
+    (IfErr-at_err (λ fault. (fault ≡ Damaged) × ¬ ((row : Row) → Has c.deref.result.now row → IsTwoNumbers row)) is c.are_places.ensures.refused).1 (λ row here. two_numbers trees content c.args.db.0 key c.args.sysno holds items held row (subst (λ l. Has l row) c.deref.ensures.value here))
 
 pub returns-clause-text : goal.returns-clause-text
 returns-clause-text g c = IfOk-anyway c.are_places.result c.place_rows.ensures.text

@@ -5,9 +5,10 @@ use Rattle.sqlite.specs.Held.{state}
 use Rattle.sqlite.specs.State.{HasCleanDisk}
 use Rattle.zeb_register.specs.Hindrances.{TakesRowids}
 use Rattle.zeb_register.specs.Store.{postings_tree}
-use Rattle.zeb_register.proofs.Calls.{store_same, changes_after, on_ok_both}
+use Rattle.zeb_register.proofs.Calls.{store_same, changes_after, on_ok_both, on_ok_so}
 use Rattle.zeb_register.proofs.CallsInTurn.{quiet_then}
 use Rattle.zeb_register.proofs.Causes.{hindered_after, may_after}
+use Rattle.zeb_register.proofs.Malformed.{malformed_same}
 use Rattle.zeb_register.proofs.PlaceLemmas.{beside, beside_then, rows_changed}
 use Rattle.zeb_register.proofs.PlaceRefusals.{cleared_hinders, placed_rowids}
 use Rattle.zeb_register.proofs.plain_changes.key_change_plain.Goals as goal
@@ -83,3 +84,20 @@ returns-clause-rowids g c clean inside store =
     let left = beside first.now.trees third.now.trees done.others in
     on_ok_both c.places_put.result _ _ _ (λ put' more. placed_rowids c.args.sysno c.args.new.now first.now.trees third.now.trees last.now.trees none left more put'.others)
     (c.places_put.ensures.put clean taken.on.mode done.layout) (c.places_put.ensures.rowids clean taken.on.mode done.layout)
+
+pub returns-clause-malformed : goal.returns-clause-malformed
+returns-clause-malformed g c clean inside store =
+    let first = state g.S.Store c.args.tx.now.conn.now in
+    let second = state g.S.Store c.holds_places.new.tx.conn.now in
+    let third = state g.S.Store c.places_take.new.tx.conn.now in
+    let last = state g.S.Store c.places_put.new.tx.conn.now in
+    let clean2 : HasCleanDisk third = omega (arith, clean, c.places_put.ensures.call.crash.clean) in
+    let clean1 : HasCleanDisk second = omega (arith, clean2, c.places_take.ensures.call.crash.clean) in
+    let reads = c.in_ok-holds_places.ensures.call.ok clean1 inside in
+    let same = store_same _ _ reads.now_is store in
+    let taken = c.in_ok-places_take.ensures.call.ok clean2 reads.mode in
+    let done = changes_after _ _ _ _ _ reads inside (taken.rows same) in
+    let left = beside first.now.trees third.now.trees done.others in
+    on_ok_so c.places_put.result _ _ (λ put'.
+    let all = beside_then first.now.trees third.now.trees last.now.trees left put'.others in
+    malformed_same first.now.trees last.now.trees all.1 all.2) (c.places_put.ensures.put clean taken.on.mode done.layout)

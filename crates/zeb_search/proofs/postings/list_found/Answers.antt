@@ -11,7 +11,8 @@ use Rattle.zeb_search.specs.ListRows.{rows_under}
 use Rattle.zeb_search.specs.PrivateMet.{AreKeyListsSound, AreKeysIn}
 use Rattle.zeb_search.specs.PrivateTerms.{AreRun, IsPostingOf}
 use Rattle.zeb_search.proofs.SearchCountLemmas.{counts_still, counts_then}
-use Rattle.zeb_search.proofs.MetTerms.{more_sound, part_in_order, told_of_store}
+use Rattle.zeb_search.proofs.MetRows.{met_later}
+use Rattle.zeb_search.proofs.MetTerms.{more_sound, part_in_order}
 use Rattle.zeb_search.proofs.ReadLemmas.{as_read, clean_before, read_still, read_then, still_store, still_trees, told_behind}
 use Rattle.zeb_search.proofs.ReasonedFaults.{reasoned_error}
 use Rattle.zeb_search.proofs.RunLemmas.{listed_more, part_run}
@@ -67,7 +68,7 @@ loop-left-preserved g c =
             (counts_then 0 0 (rows_under rows content of.db.0 done) (rows_under rows content of.db.0 run) c.args.work.now c.loop-left.work c.list_of_run.new.work (c.loop-left.invariant.done.3 first store content has are) here),
         λ clean store are.
             let first = clean_before now new crash clean in
-            let here = told_of_store old now new (λ trees. AreKeysIn of run → AreKeyListsSound format trees of.db.0 run) read crash c.in_ok-list.ensures.spelled clean store (part_in_order of found.keys.items done run behind whole are) in
+            let here = met_later old now new (λ trees. AreKeysIn of run → AreKeyListsSound format trees of.db.0 run) crash read c.in_ok-list.ensures.spelled clean store (part_in_order of found.keys.items done run behind whole are) in
             more_sound format old.now.trees of.db.0 done run (c.loop-left.invariant.done.4 first store are) here,
       );
       no_work = λ none. c.list_of_run.ensures.no_work none ∙ c.loop-left.invariant.no_work none;

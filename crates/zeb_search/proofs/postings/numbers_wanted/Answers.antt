@@ -6,7 +6,8 @@ use Rattle.zeb_register.specs.Content.{Posting}
 use Rattle.zeb_search.specs.Lists.{AreNumbers}
 use Rattle.zeb_search.specs.PrivateMet.{AreKeyListsSound, AreKeysIn}
 use Rattle.zeb_search.specs.PrivateTerms.{AreFound, HasPosting, IsPostingOf, IsWanted, NamesEntry}
-use Rattle.zeb_search.proofs.MetTerms.{entries_sound, told_of_store}
+use Rattle.zeb_search.proofs.MetRows.{met_later}
+use Rattle.zeb_search.proofs.MetTerms.{entries_sound}
 use Rattle.zeb_search.proofs.NeighbourLemmas.{found_counted}
 use Rattle.zeb_search.proofs.PostingLemmas.{entry_numbers}
 use Rattle.zeb_search.proofs.ReadLemmas.{as_read, clean_before, told_behind}
@@ -40,7 +41,7 @@ returns-clause-sound g c clean store =
     let keys = c.in_ok-found.found.keys.items in
     let read = as_read old mid c.in_ok-found.found c.in_ok-found.ensures.call in
     let first = clean_before mid new c.list_found.ensures.call.crash clean in
-    let lists = told_of_store old mid new (λ trees. AreKeysIn of keys → AreKeyListsSound format trees of.db.0 keys) read c.list_found.ensures.call.crash c.in_ok-list.ensures.spelled clean store in
+    let lists = met_later old mid new (λ trees. AreKeysIn of keys → AreKeyListsSound format trees of.db.0 keys) c.list_found.ensures.call.crash read c.in_ok-list.ensures.spelled clean store in
     entries_sound of c.args.wanted format old.now.trees keys (c.in_ok-found.ensures.met first store) lists
 
 pub returns-clause-work : goal.returns-clause-work

@@ -8,7 +8,8 @@ use Rattle.zeb_register.specs.Sound.{IsListSound}
 use Rattle.zeb_register.specs.declared.registers.RegisterOf.{RegisterOf}
 use Rattle.zeb_search.proofs.JustLemmas.{just_same}
 use Rattle.zeb_search.proofs.OneKey.{one_counted, one_told}
-use Rattle.zeb_search.proofs.MetTerms.{entries_sound, one_sound, told_of_store}
+use Rattle.zeb_search.proofs.MetRows.{met_later}
+use Rattle.zeb_search.proofs.MetTerms.{entries_sound, one_sound}
 use Rattle.zeb_search.proofs.PostingLemmas.{word_places}
 use Rattle.zeb_search.proofs.ReadLemmas.{as_read, clean_before, still_store, still_trees}
 use Rattle.zeb_search.specs.SearchCounts.{HasNoStar}
@@ -65,7 +66,7 @@ returns-then-len-eq1-clause-sound g c clean store =
     on_ok_weaker c.key_list.result
     (λ sound. entries_sound of (wanted.Matching c.args.pattern) format old.now.trees keys (c.in_ok-found.ensures.met first store)
     (λ are. one_sound format old.now.trees of.db.0 keys c.index.result.now one c.index.ensures sound))
-    (told_of_store old mid new (λ trees. OnOk c.key_list.result (IsListSound format trees of.db.0 c.index.result.now)) read c.key_list.ensures.call.crash c.key_list.ensures.spelled clean store)
+    (met_later old mid new (λ trees. OnOk c.key_list.result (IsListSound format trees of.db.0 c.index.result.now)) c.key_list.ensures.call.crash read c.key_list.ensures.spelled clean store)
 
 pub returns-clause-sound : goal.returns-clause-sound
 returns-clause-sound g c clean store =
@@ -77,7 +78,7 @@ returns-clause-sound g c clean store =
     let keys = c.in_ok-found.found.keys.items in
     let read = as_read old mid c.in_ok-found.found c.in_ok-found.ensures.call in
     let first = clean_before mid new c.list_found.ensures.call.crash clean in
-    let lists = told_of_store old mid new (λ trees. AreKeysIn of keys → AreKeyListsSound format trees of.db.0 keys) read c.list_found.ensures.call.crash c.in_ok-list.ensures.spelled clean store in
+    let lists = met_later old mid new (λ trees. AreKeysIn of keys → AreKeyListsSound format trees of.db.0 keys) c.list_found.ensures.call.crash read c.in_ok-list.ensures.spelled clean store in
     entries_sound of (wanted.Matching c.args.pattern) format old.now.trees keys (c.in_ok-found.ensures.met first store) lists
 
 pub returns-then-len-eq1-clause-work : goal.returns-then-len-eq1-clause-work

@@ -4,8 +4,8 @@ use Rattle.sqlite.specs.State.{Survives}
 use Rattle.zeb_register.specs.Store.{IsStore}
 use Rattle.zeb_change.specs.declared.settings.Limits.{Limits}
 use Rattle.zeb_engine.specs.Alone.{Alone, StatSays}
-use Rattle.zeb_engine.specs.AnyRefusals.{CreateOver, DropOver, HidesDatabase, HidesRecords}
-use Rattle.zeb_engine.specs.AnyTables.{DumpOver, LeavesWhole, OverReady, StatOver}
+use Rattle.zeb_engine.specs.AnyRefusals.{CreateOver, DropOver, HidesDatabase, HidesRecords, HidesRegisters, UnlessHidden}
+use Rattle.zeb_engine.specs.AnyTables.{DumpOver, LeavesWhole, StatOver}
 use Rattle.zeb_change.specs.Conditions.{conditions}
 use Rattle.zeb_engine.specs.Crashes.{CommitsBy}
 use Rattle.zeb_image.specs.Image.{IsImage}
@@ -17,6 +17,7 @@ use Rattle.zeb_engine.specs.Readiness.{LooksFirst}
 use Rattle.zeb_engine.specs.Works.{Always, ServesBy}
 use Rattle.zeb_engine.specs.PrivateWorks.{Asks, Serves}
 use Rattle.zeb_engine.proofs.HiddenRows.{hidden_named}
+use Rattle.zeb_engine.proofs.MadeTables.{dropped_named, made_named}
 use Rattle.zeb_engine.proofs.ReadyCommands.{analysis_answers, analysis_serves, asks_serve, change_over, each_so, ends_serve, find_alone, find_serves, find_tables, scan_alone, scan_serves, scan_tables}
 use Rattle.zeb_engine.proofs.CommitCrashes.{ends_commit, none_commits, survives_as}
 use Rattle.zeb_engine.proofs.AskedReads.{find_command_reads, scan_command_reads}
@@ -65,11 +66,10 @@ returns-in-Find-clause-serves g c clean =
     let old = state g.S.Store c.args.self.now.connection in
     let new = state g.S.Store c.find.new.self.connection in
     let of = c.in-Find.database-in-Find-1-own.given.0.0 in
-    let from = c.in-Find.first-1-own.given.0.1.1.0 in
     let many = c.in-Find.count-1-own.given.0.1.1.1.0 in
     let same_name : of ≡ c.in-Find.database = search rules in
     let same_query : c.in-Find.query-1-own.given.0.1.0 ≡ c.in-Find.query = search rules in
-    rw c.in-Find.is (find_serves k old new c.find.result c.in-Find.database c.in-Find.query c.in-Find.first c.in-Find.count (name_bytes of) c.as_str.result.now from many
+    rw c.in-Find.is (find_serves k old new c.find.result c.in-Find.database c.in-Find.query c.in-Find.first c.in-Find.count (name_bytes of) c.as_str.result.now c.in-Find.first-1-own.given.0.1.1.0 many
     (ap name_bytes same_name) (c.as_str.ensures.value ∙ ap string_bytes same_query) (search rules) (search rules) (c.find.ensures.serves clean))
 
 pub returns-in-Check-clause-serves : goal.returns-in-Check-clause-serves
@@ -128,7 +128,7 @@ returns-in-Scan-clause-asked g c clean =
           (ap name_bytes same_name) (c.as_str-in-Scan.ensures.value ∙ ap string_bytes same_query) (search rules) (search rules) (c.scan.ensures.alone clean),
       scan_tables g.L.Layout.format c.args.self.now.profile old c.scan.result c.in-Scan.database c.in-Scan.query c.in-Scan.number c.in-Scan.position (name_bytes of) c.as_str-in-Scan.result.now many at
           (ap name_bytes same_name) (c.as_str-in-Scan.ensures.value ∙ ap string_bytes same_query) (search rules) (search rules) (c.scan.ensures.tables clean),
-      (tt, tt),
+      (tt, tt, tt),
     )
 
 pub returns-in-Init-clause-begun : goal.returns-in-Init-clause-begun
@@ -153,43 +153,43 @@ returns-in-Find-clause-asked g c clean =
           (ap name_bytes same_name) (c.as_str.ensures.value ∙ ap string_bytes same_query) (search rules) (search rules) (c.find.ensures.alone clean) (c.find.ensures.refused clean),
       find_tables g.L.Layout.format c.args.self.now.profile old c.find.result c.in-Find.database c.in-Find.query c.in-Find.first c.in-Find.count (name_bytes of) c.as_str.result.now from many
           (ap name_bytes same_name) (c.as_str.ensures.value ∙ ap string_bytes same_query) (search rules) (search rules) (c.find.ensures.tables clean),
-      (tt, tt),
+      (tt, tt, tt),
     )
 
 pub returns-in-Init-clause-asked : goal.returns-in-Init-clause-asked
-returns-in-Init-clause-asked g c clean = rw c.in-Init.is (tt, tt, (tt, tt))
+returns-in-Init-clause-asked g c clean = rw c.in-Init.is (tt, tt, (tt, tt, tt))
 
 pub returns-in-Create-clause-asked : goal.returns-in-Create-clause-asked
-returns-in-Create-clause-asked g c clean = rw c.in-Create.is (tt, hidden_named (version_of g.L.Layout.format) c.args.self.now.profile CreateOver HidesDatabase (state g.S.Store c.args.self.now.connection) c.create.result c.in-Create.name-1-own.given.0.0 c.in-Create.name (search rules) (c.create.ensures.tables clean), (tt, tt))
+returns-in-Create-clause-asked g c clean = rw c.in-Create.is (tt, hidden_named (version_of g.L.Layout.format) c.args.self.now.profile CreateOver HidesDatabase (state g.S.Store c.args.self.now.connection) c.create.result c.in-Create.name-1-own.given.0.0 c.in-Create.name (search rules) (c.create.ensures.tables clean), (tt, tt, made_named (state g.S.Store c.args.self.now.connection) (state g.S.Store c.create.new.self.connection) c.create.result c.in-Create.name-1-own.given.0.0 c.in-Create.name (search rules) (c.create.ensures.makes clean)))
 
 pub returns-in-Drop-clause-asked : goal.returns-in-Drop-clause-asked
-returns-in-Drop-clause-asked g c clean = rw c.in-Drop.is (tt, hidden_named (version_of g.L.Layout.format) c.args.self.now.profile DropOver HidesDatabase (state g.S.Store c.args.self.now.connection) c.take.result c.in-Drop.name-in-Drop-1-own.given.0.0 c.in-Drop.name (search rules) (c.take.ensures.tables clean), (tt, tt))
+returns-in-Drop-clause-asked g c clean = rw c.in-Drop.is (tt, hidden_named (version_of g.L.Layout.format) c.args.self.now.profile DropOver HidesDatabase (state g.S.Store c.args.self.now.connection) c.take.result c.in-Drop.name-in-Drop-1-own.given.0.0 c.in-Drop.name (search rules) (c.take.ensures.tables clean), (tt, tt, dropped_named (state g.S.Store c.args.self.now.connection) (state g.S.Store c.take.new.self.connection) c.take.result c.in-Drop.name-in-Drop-1-own.given.0.0 c.in-Drop.name (search rules) (c.take.ensures.drops clean)))
 
 pub returns-in-Change-clause-asked : goal.returns-in-Change-clause-asked
 returns-in-Change-clause-asked g c clean =
-    let same : c.in-Change.database-1-own.given.0.1.0 ≡ c.in-Change.database = search rules in rw c.in-Change.is (tt, tt, (change_over (version_of g.L.Layout.format) c.args.self.now.profile (state g.S.Store c.args.self.now.connection) c.change.result c.in-Change.kind c.in-Change.database c.in-Change.files c.in-Change.database-1-own.given.0.1.0 c.deref.result.now (search rules) (search rules) (c.change.ensures.elder clean), subst (λ (named : DbName). LeavesWhole c.args.self.now.profile (name_bytes named) (state g.S.Store c.args.self.now.connection) (state g.S.Store c.change.new.self.connection) c.change.result) same (c.change.ensures.loses clean)))
+    let same : c.in-Change.database-1-own.given.0.1.0 ≡ c.in-Change.database = search rules in rw c.in-Change.is (tt, tt, (change_over (version_of g.L.Layout.format) c.args.self.now.profile (state g.S.Store c.args.self.now.connection) c.change.result c.in-Change.kind c.in-Change.database c.in-Change.files c.in-Change.database-1-own.given.0.1.0 c.deref.result.now (search rules) (search rules) (c.change.ensures.elder clean), subst (λ (named : DbName). LeavesWhole c.args.self.now.profile (name_bytes named) (state g.S.Store c.args.self.now.connection) (state g.S.Store c.change.new.self.connection) c.change.result) same (c.change.ensures.loses clean), tt))
 
 pub returns-in-Check-clause-asked : goal.returns-in-Check-clause-asked
-returns-in-Check-clause-asked g c clean = rw c.in-Check.is (tt, tt, (tt, tt))
+returns-in-Check-clause-asked g c clean = rw c.in-Check.is (tt, tt, (tt, tt, tt))
 
 pub returns-in-Upgrade-clause-asked : goal.returns-in-Upgrade-clause-asked
-returns-in-Upgrade-clause-asked g c clean = rw c.in-Upgrade.is (tt, tt, (tt, tt))
+returns-in-Upgrade-clause-asked g c clean = rw c.in-Upgrade.is (tt, tt, (tt, tt, tt))
 
 pub returns-in-Reindex-clause-asked : goal.returns-in-Reindex-clause-asked
-returns-in-Reindex-clause-asked g c clean = rw c.in-Reindex.is (tt, tt, (tt, tt))
+returns-in-Reindex-clause-asked g c clean = rw c.in-Reindex.is (tt, tt, (tt, tt, tt))
 
 pub returns-in-Stat-clause-asked : goal.returns-in-Stat-clause-asked
 returns-in-Stat-clause-asked g c clean =
     let old = state g.S.Store c.args.self.now.connection in
     let alone : Alone g.L.Layout.format (StatSays c.args.self.now.profile) (name_bytes c.in-Stat.name) old c.stat.result = c.stat.ensures.alone clean in
-    let told : OverReady (version_of g.L.Layout.format) c.args.self.now.profile (StatOver g.L.Layout.format c.args.self.now.profile (name_bytes c.in-Stat.name)) old c.stat.result = c.stat.ensures.tables clean in
-    rw c.in-Stat.is (alone, told, (tt, tt))
+    let told : UnlessHidden (version_of g.L.Layout.format) c.args.self.now.profile (StatOver g.L.Layout.format c.args.self.now.profile (name_bytes c.in-Stat.name)) (HidesRegisters g.L.Layout.format c.args.self.now.profile (name_bytes c.in-Stat.name)) old c.stat.result = c.stat.ensures.tables clean in
+    rw c.in-Stat.is (alone, told, (tt, tt, tt))
 
 pub returns-in-Dump-clause-asked : goal.returns-in-Dump-clause-asked
-returns-in-Dump-clause-asked g c clean = rw c.in-Dump.is (tt, hidden_named (version_of g.L.Layout.format) c.args.self.now.profile DumpOver HidesRecords (state g.S.Store c.args.self.now.connection) c.dump.result c.in-Dump.name c.in-Dump.name refl (c.dump.ensures.tables clean), (tt, tt))
+returns-in-Dump-clause-asked g c clean = rw c.in-Dump.is (tt, hidden_named (version_of g.L.Layout.format) c.args.self.now.profile DumpOver HidesRecords (state g.S.Store c.args.self.now.connection) c.dump.result c.in-Dump.name c.in-Dump.name refl (c.dump.ensures.tables clean), (tt, tt, tt))
 
 pub returns-in-Analyse-clause-asked : goal.returns-in-Analyse-clause-asked
-returns-in-Analyse-clause-asked g c clean = rw c.in-Analyse.is (tt, tt, (tt, tt))
+returns-in-Analyse-clause-asked g c clean = rw c.in-Analyse.is (tt, tt, (tt, tt, tt))
 
 pub returns-in-Init-clause-survives : goal.returns-in-Init-clause-survives
 returns-in-Init-clause-survives g c =

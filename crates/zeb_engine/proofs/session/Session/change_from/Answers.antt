@@ -20,7 +20,7 @@ use Rattle.zeb_engine.specs.Costs.{Costs, no_work}
 use Rattle.zeb_register.proofs.Causes.{may_after}
 use Rattle.zeb_change.specs.declared.refusals.Refusal.TheVariants.{Store}
 use Rattle.zeb_change.proofs.RecordRoom.{one_refusal}
-use Rattle.zeb_engine.specs.AnyTables.{ElderOver, EldersOver, LeavesRecords}
+use Rattle.zeb_engine.specs.AnyTables.{ElderOver, EldersOver, LeavesRows}
 use Rattle.zeb_engine.proofs.ChangeElders.{few_elder, refused_elders, said_after}
 use Rattle.zeb_engine.proofs.ChangeRoom.{room_still, where_open}
 use Rattle.zeb_engine.proofs.session.Session.change_from.Goals as goal
@@ -198,5 +198,5 @@ returns-clause-loses g c clean store =
     let mid = state g.S.Store c.check_ready.new.connection in
     let new = state g.S.Store c.change_database.new.connection in
     let first : HasCleanDisk mid = omega (arith, c.change_database.ensures.survives.clean) in
-    said_after (λ trees. OnOk c.change_database.result (LeavesRecords c.args.self.now.profile (name_bytes c.args.database.now) trees new.now.trees)) (state g.S.Store c.args.self.now.connection) mid
+    said_after (λ trees. OnOk c.change_database.result (LeavesRows c.args.self.now.profile (name_bytes c.args.database.now) trees new.now.trees)) (state g.S.Store c.args.self.now.connection) mid
     (c.check_ready.ensures.same first) (c.in_ok-check_ready.ensures.«open» first) (c.change_database.ensures.loses clean) store

@@ -59,3 +59,6 @@ returns-clause-over g c clean =
 
 pub returns-clause-loses : goal.returns-clause-loses
 returns-clause-loses g c clean = (c.carry_out-answer.ensures.asked clean).2.1
+
+pub returns-clause-makes : goal.returns-clause-makes
+returns-clause-makes g c clean = (c.carry_out-answer.ensures.asked clean).2.2

@@ -5,6 +5,7 @@ use Rattle.zeb_change.specs.Conditions.{conditions}
 use Rattle.zeb_image.specs.NameOf.{name_bytes}
 use Rattle.zeb_engine.specs.Steps.{created}
 use Rattle.zeb_engine.specs.AnyRefusals.{CreateOver, HidesDatabase}
+use Rattle.zeb_engine.proofs.MadeTables.{makes_ready}
 use Rattle.zeb_engine.proofs.HiddenRows.{hidden_after, unready_hidden}
 use Rattle.zeb_engine.proofs.ReadyCommands.{ready_kept, unready_serves}
 use Rattle.zeb_engine.proofs.CommitCrashes.{survives_after}
@@ -83,3 +84,10 @@ returns-clause-tables g c clean store texts =
     let mid = state g.S.Store c.check_ready.new.connection in
     let first : HasCleanDisk mid = omega (arith, c.create_database.ensures.survives.clean) in
     hidden_after (CreateOver name) (HidesDatabase name) old mid c.create_database.result (c.check_ready.ensures.same first) (c.in_ok-check_ready.ensures.open first) (c.create_database.ensures.tables clean) store
+
+pub returns-clause-makes : goal.returns-clause-makes
+returns-clause-makes g c clean =
+    let old = state g.S.Store c.args.self.now.connection in
+    let mid = state g.S.Store c.check_ready.new.connection in
+    let first : HasCleanDisk mid = omega (arith, c.create_database.ensures.survives.clean) in
+    makes_ready (name_bytes c.args.name.now) old mid (state g.S.Store c.create_database.new.connection) (c.check_ready.ensures.same first) (c.in_ok-check_ready.ensures.open first) c.create_database.result (c.create_database.ensures.makes clean)

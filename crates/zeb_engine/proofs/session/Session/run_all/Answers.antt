@@ -9,10 +9,12 @@ use Rattle.zeb_query.proofs.HoldingLemmas.{take_whole}
 use Rattle.zeb_engine.specs.Answers.{answer_of}
 use Rattle.zeb_change.specs.Conditions.{conditions}
 use Rattle.zeb_engine.specs.Crashes.{CommitsCommand, CommitsOne, EnduresRun}
-use Rattle.zeb_engine.specs.Works.{FindOpen, Runs, ServesCommand}
+use Rattle.zeb_engine.specs.AnyAnswers.{DoesOver, IsAnswerOver}
+use Rattle.zeb_engine.specs.AnyTables.{ChangeLeaves}
+use Rattle.zeb_engine.specs.Works.{FindOpen, InTurn, Runs, ServesCommand}
 use Rattle.zeb_engine.proofs.RunCommits.{carries, commits_earlier, commits_latest}
 use Rattle.zeb_engine.proofs.RunCrashes.{crash_more}
-use Rattle.zeb_engine.proofs.RunLemmas.{open_before, open_more, refused_more, runs_more}
+use Rattle.zeb_engine.proofs.RunLemmas.{one_turn_more, open_before, open_more, refused_more, runs_more}
 use Rattle.zeb_engine.proofs.CommandedConnections.{did, did_endure, did_refuse}
 use Rattle.zeb_engine.proofs.session.Session.run_all.Goals as goal
 use Rattle.zeb_register.specs.Formats.{version_of}
@@ -45,6 +47,18 @@ loop-command-preserved g c =
       refused = λ clean all.
           let was = c.loop-command.invariant.refused (omega (arith, c.command.ensures.survives.clean)) in
           refused_more old now next c.loop-command.answers.items c.command.result was (did_refuse item now next c.command.result clean it) (subst (AllByRecursion IsErr) c.push_reserved.ensures.items all);
+      turns = λ clean.
+          let was = c.loop-command.invariant.turns (omega (arith, c.command.ensures.survives.clean)) in
+          let does : DoesOver g.L.Layout.format c.args.self.now.profile item c.command.result now next = record {
+            refused = did_refuse item now next c.command.result clean it;
+            reads = c.command.ensures.reads clean;
+            loses = subst (λ p. ChangeLeaves p item now next c.command.result) same.0 (c.command.ensures.loses clean);
+            makes = c.command.ensures.makes clean;
+            over = subst (λ p. IsAnswerOver g.L.Layout.format p item now c.command.result) same.0 (c.command.ensures.over clean);
+          } in
+          let Does = DoesOver g.L.Layout.format c.args.self.now.profile in
+          subst₂ (λ commands results. InTurn g.S.Store Does commands results c.args.self.now.connection c.command.new.self.connection) (sym last) (sym c.push_reserved.ensures.items)
+          (one_turn_more g.S.Store Does c.args.self.now.connection c.loop-command.self.connection c.command.new.self.connection item c.command.result does (take index all) c.loop-command.answers.items was);
       was_open = λ clean.
           open_before old now next item c.command.result clean (c.loop-command.invariant.was_open (omega (arith, c.command.ensures.survives.clean))) it;
       «open» = λ clean.
@@ -93,3 +107,9 @@ returns-clause-open g c clean =
     let whole : take c.loop-command.command-index c.args.commands.now ≡ c.args.commands.now = take_whole c.args.commands.now c.loop-command.command-index (omega arith) in
     subst (λ commands. FindOpen commands c.loop-command.answers.items (state g.S.Store c.args.self.now.connection) (state g.S.Store c.loop-command.self.connection)) whole
     (c.loop-command.invariant.«open» clean)
+
+pub returns-clause-turns : goal.returns-clause-turns
+returns-clause-turns g c clean =
+    let whole : take c.loop-command.command-index c.args.commands.now ≡ c.args.commands.now = take_whole c.args.commands.now c.loop-command.command-index (omega arith) in
+    subst (λ commands. InTurn g.S.Store (DoesOver g.L.Layout.format c.args.self.now.profile) commands c.loop-command.answers.items c.args.self.now.connection c.loop-command.self.connection) whole
+    (c.loop-command.invariant.turns clean)

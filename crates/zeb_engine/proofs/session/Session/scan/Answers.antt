@@ -1,13 +1,17 @@
-use Rattle.std.proofs.Common.{◌≡◌, ◌≤◌, ◌*◌, ◌+◌, Err, IsTrue, List, rules, arith, sym, subst}
+use Rattle.std.proofs.Common.{◌≡◌, ◌≤◌, ◌*◌, ◌+◌, ℕ, Err, IsTrue, List, rules, arith, sym, subst}
 use Rattle.sqlite.specs.Held.{state}
 use Rattle.sqlite.specs.State.{HasCleanDisk}
+use Rattle.sqlite.specs.Tree.{Trees}
+use Rattle.zeb_profile.specs.declared.directives.Directive.{Directive}
 use Rattle.zeb_register.proofs.Calls.{nothing_then}
-use Rattle.zeb_engine.specs.Answers.{answer_of}
+use Rattle.zeb_engine.specs.declared.scan.Around.{Around}
+use Rattle.zeb_engine.specs.Answers.{Answer, answer_of}
 use Rattle.zeb_change.specs.Conditions.{conditions}
 use Rattle.zeb_change.specs.Base.{Base}
 use Rattle.zeb_image.specs.Image.{Keeps}
 use Rattle.zeb_image.specs.NameOf.{name_bytes}
 use Rattle.zeb_engine.specs.Alone.{ScanSays}
+use Rattle.zeb_engine.specs.AnyRefusals.{HidesTerms}
 use Rattle.zeb_engine.specs.AnyTables.{ScanOver}
 use Rattle.zeb_engine.specs.Steps.{ScanAnswers}
 use Rattle.zeb_engine.specs.Steps.{ready}
@@ -15,13 +19,20 @@ use Rattle.zeb_engine.specs.PrivateWorks.{ScansFrom}
 use Rattle.zeb_engine.proofs.ReadyCommands.{ready_met}
 use Rattle.zeb_engine.proofs.ReadyQueries.{alone_after, ready_asked, unready_asked}
 use Rattle.zeb_engine.proofs.AskedReads.{told_after}
-use Rattle.zeb_engine.proofs.OverTables.{over_after, unready_over}
+use Rattle.zeb_engine.proofs.HiddenRows.{hidden_after, unready_hidden}
 use Rattle.zeb_engine.proofs.ServesLemmas.{keeps_still}
 use Rattle.zeb_engine.proofs.StoreCauses.{accepted_leaves, cause_after, passed_cause}
 use Rattle.zeb_engine.proofs.session.Session.scan.Goals as goal
-use Rattle.zeb_register.specs.Formats.{version_of}
+use Rattle.zeb_register.specs.Formats.{Format, version_of}
 use Rattle.zeb_search.specs.SearchCounts.{CountsAtMost}
 use Rattle.zeb_engine.proofs.ReadyTexts.{passed_texts, ready_then}
+
+-- what is answered on any tables, and which rows can't be read where it is damage
+abbrev Tells : Format → List Directive → (name : List ℕ) → Around → Trees → Answer → Type 0
+Tells format profile name asked = ScanOver format profile name asked.query.now asked.number asked.position
+
+abbrev Hides : Format → List Directive → (name : List ℕ) → Around → Trees → Type 0
+Hides format profile name asked = HidesTerms format profile name asked.query.now asked.number asked.position
 
 pub returns-in_err-check_ready-clause-serves : goal.returns-in_err-check_ready-clause-serves
 returns-in_err-check_ready-clause-serves g c clean =
@@ -104,7 +115,7 @@ pub returns-in_err-check_ready-clause-tables : goal.returns-in_err-check_ready-c
 returns-in_err-check_ready-clause-tables g c clean store texts =
     let refusal = c.in_err-check_ready.field-0.0 in
     let told : c.from_residual.result ≡ Err refusal = search rules in
-    rw told (unready_over (version_of g.L.Layout.format) c.args.self.now.profile (ScanOver g.L.Layout.format c.args.self.now.profile (name_bytes c.args.database.now) c.args.around.query.now c.args.around.number c.args.around.position) (state g.S.Store c.args.self.now.connection) refusal
+    rw told (unready_hidden (Tells g.L.Layout.format c.args.self.now.profile (name_bytes c.args.database.now) c.args.around) (Hides g.L.Layout.format c.args.self.now.profile (name_bytes c.args.database.now) c.args.around) (version_of g.L.Layout.format) c.args.self.now.profile (state g.S.Store c.args.self.now.connection) refusal
     c.in_err-check_ready.ensures.few (c.in_err-check_ready.ensures.texts clean) (c.in_err-check_ready.ensures.whole clean) store texts)
 
 pub returns-clause-tables : goal.returns-clause-tables
@@ -112,5 +123,5 @@ returns-clause-tables g c clean store texts =
     let old = state g.S.Store c.args.self.now.connection in
     let mid = state g.S.Store c.check_ready.new.connection in
     let clean1 : HasCleanDisk mid = omega (arith, c.scan.ensures.crash.clean) in
-    over_after (ScanOver g.L.Layout.format c.args.self.now.profile (name_bytes c.args.database.now) c.args.around.query.now c.args.around.number c.args.around.position) old mid c.scan.result
+    hidden_after (Tells g.L.Layout.format c.args.self.now.profile (name_bytes c.args.database.now) c.args.around) (Hides g.L.Layout.format c.args.self.now.profile (name_bytes c.args.database.now) c.args.around) old mid c.scan.result
     (c.check_ready.ensures.same clean1) (c.in_ok-check_ready.ensures.«open» clean1) (c.scan.ensures.tables clean) store

@@ -5,6 +5,7 @@ use Rattle.zeb_change.specs.Conditions.{conditions}
 use Rattle.zeb_image.specs.NameOf.{name_bytes}
 use Rattle.zeb_engine.specs.Steps.{dropped}
 use Rattle.zeb_engine.specs.AnyRefusals.{DropOver, HidesDatabase}
+use Rattle.zeb_engine.proofs.MadeTables.{drops_ready}
 use Rattle.zeb_engine.proofs.HiddenRows.{hidden_after, unready_hidden}
 use Rattle.zeb_engine.proofs.ReadyCommands.{ready_kept, unready_serves}
 use Rattle.zeb_engine.proofs.CommitCrashes.{survives_after}
@@ -80,3 +81,10 @@ returns-clause-tables g c clean store texts =
     let mid = state g.S.Store c.check_ready.new.connection in
     let first : HasCleanDisk mid = omega (arith, c.drop_database.ensures.survives.clean) in
     hidden_after (DropOver name) (HidesDatabase name) old mid c.drop_database.result (c.check_ready.ensures.same first) (c.in_ok-check_ready.ensures.open first) (c.drop_database.ensures.tables clean) store
+
+pub returns-clause-drops : goal.returns-clause-drops
+returns-clause-drops g c clean =
+    let old = state g.S.Store c.args.self.now.connection in
+    let mid = state g.S.Store c.check_ready.new.connection in
+    let first : HasCleanDisk mid = omega (arith, c.drop_database.ensures.survives.clean) in
+    drops_ready (name_bytes c.args.name.now) old mid (state g.S.Store c.drop_database.new.connection) (c.check_ready.ensures.same first) (c.in_ok-check_ready.ensures.open first) c.drop_database.result (c.drop_database.ensures.drops clean)

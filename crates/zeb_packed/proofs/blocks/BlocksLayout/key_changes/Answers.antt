@@ -7,6 +7,7 @@ use Rattle.zeb_register.specs.PackedBlocks.{HoldsBlocks}
 use Rattle.zeb_register.specs.Store.{blocks_tree, dict_tree, postings_tree}
 use Rattle.zeb_register.proofs.Calls.{store_same}
 use Rattle.zeb_register.proofs.ListChanges.{content_none, one_content_changed}
+use Rattle.zeb_register.proofs.Malformed.{malformed_seen}
 use Rattle.zeb_packed.proofs.PackedWrites.{none_of}
 use Rattle.zeb_register.proofs.TakenRowids.{takes_more, takes_none}
 use Rattle.zeb_packed.proofs.blocks.BlocksLayout.key_changes.Goals as goal
@@ -71,3 +72,7 @@ returns-then-is_empty-clause-sound g c clean inside store some = absurd (some (n
 
 pub returns-clause-sound : goal.returns-clause-sound
 returns-clause-sound g c clean inside store some = c.in_ok-changes_put.ensures.sound clean inside store
+
+pub returns-then-is_empty-clause-malformed : goal.returns-then-is_empty-clause-malformed
+returns-then-is_empty-clause-malformed g c clean inside store =
+    malformed_seen (state g.S.Store c.args.tx.now.conn.now).now (state g.S.Store c.nothing_inside.new.tx.conn.now).now (c.in_ok-nothing_inside.ensures.call.ok clean inside).now_is

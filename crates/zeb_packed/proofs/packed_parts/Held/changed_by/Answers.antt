@@ -22,6 +22,7 @@ loop-change-init c = record {
   made = λ p here. inl here;
   found = no_firsts (λ it. ArePlacesOf it.0 it.1 c.args.self.list.items);
   kept = λ p others. (λ h. h, λ h. h);
+  counted = λ some. absurd (omega (arith, some));
   grows = omega arith;
 }
 
@@ -47,12 +48,16 @@ loop-change-preserved c =
       made = made_more xs i below (Has c.args.self.list.items) held.list.items c.in_ok-held.held.list.items before.made it.list;
       found = found_more xs i below c.args.self.list.items held.list.items before.kept before.found (own_places x.sysno held.list.items x.old.now it.own);
       kept = kept_more xs i below c.args.self.list.items held.list.items c.in_ok-held.held.list.items before.kept it.list;
+      counted = λ some. it.counted;
       grows =
           let more = counts_grow x.old.now x.new.now held.records c.in_ok-held.held.records it.count in
           let rows = rows_more xs i no_change below in
           let own = rows_front (placed x) [] in
           omega (arith, before.grows, more, rows, own);
     }
+
+pub returns-clause-counted : goal.returns-clause-counted
+returns-clause-counted c some = c.loop-change.invariant.counted (omega (arith, some, c.loop-change-test.false))
 
 pub returns-in_err-held-clause-damaged : goal.returns-in_err-held-clause-damaged
 returns-in_err-held-clause-damaged c is rises old new up was all =

@@ -1,4 +1,4 @@
-use Rattle.std.proofs.Common.{◌≡◌, ◌↔◌, ◌⊎◌, ◌+◌, ◌≤◌, List, map, take}
+use Rattle.std.proofs.Common.{◌≡◌, ◌≢◌, ◌↔◌, ◌⊎◌, ◌+◌, ◌≤◌, List, [], map, take}
 use Rattle.std.specs.List.Sorted.{IsStrictlySortedBy}
 use Rattle.sqlite_rules.specs.Lists.{Has}
 use Rattle.zeb_blocks.specs.Blocks.{LiesIn}
@@ -18,5 +18,6 @@ invariant-loop-change l = record {
   made : (p : Posting) → Has l.held.list.items p → Has l.initial.held.list.items p ⊎ IsPut (take l.change-index l.changes) p;
   found : IsOfFirsts (λ it. ArePlacesOf it.0 it.1 l.initial.held.list.items) (map had (take l.change-index l.changes));
   kept : (p : Posting) → AreOfOthers (map had (take l.change-index l.changes)) p.sysno → Has l.held.list.items p ↔ Has l.initial.held.list.items p;
+  counted : 1 ≤ l.change-index → l.held.list.items ≢ [] → 1 ≤ l.held.records;
   grows : l.held.records ≤ l.initial.held.records + rows_of (map placed (take l.change-index l.changes));
 }

@@ -12,6 +12,7 @@ use Rattle.zeb_register.proofs.Calls.{goes_then, reads_goes, store_same}
 use Rattle.zeb_register.proofs.Causes.{may_after}
 use Rattle.zeb_register.proofs.ContentChanges.{change_is, changed_at}
 use Rattle.zeb_register.proofs.ListChanges.{changed_alone, content_more, content_none, next_places, no_change, one_content_changed}
+use Rattle.zeb_register.proofs.Malformed.{malformed_seen, malformed_then}
 use Rattle.zeb_register.proofs.PlaceRefusals.{change_hinders, registers_same, registers_then, rows_hinder}
 use Rattle.zeb_register.proofs.RowCounts.{rows_more}
 use Rattle.zeb_register.proofs.plain.RowsLayout.key_changes.Goals as goal
@@ -31,6 +32,7 @@ loop-change-init g c =
           let same = (c.in_ok-nothing_inside.ensures.call.ok clean inside).now_is in
           (before, content_none c.args.db.0 c.args.key.now before, subst (λ (d : Database). HoldsRows d.trees before) (sym same) holds);
       rowids = λ clean inside store. registers_same first.now second.now (c.in_ok-nothing_inside.ensures.call.ok clean inside).now_is;
+      malformed = λ clean inside store. malformed_seen first.now second.now (c.in_ok-nothing_inside.ensures.call.ok clean inside).now_is;
       text = λ some. absurd (omega (arith, some));
     }
 
@@ -73,6 +75,9 @@ loop-change-preserved g c =
           let kept = so_far.kept was inside store in
           subst (λ n. TakesRegisterRowids n first.now.trees last.now.trees) (sym (rows_more xs i no_change c.loop-change-test.true))
           (registers_then _ _ first.now.trees mid.now.trees last.now.trees (so_far.rowids was inside store) (it.rowids clean (so_far.on was inside).mode kept.0));
+      malformed = λ clean inside store.
+          let was : HasCleanDisk mid = omega (arith, c.key_change_plain.ensures.call.crash.clean) in
+          malformed_then first.now.trees mid.now.trees last.now.trees (so_far.malformed was inside store) (it.malformed clean (so_far.on was inside).mode (so_far.kept was inside store).0);
       text = λ some. it.text;
     }
 
@@ -149,3 +154,6 @@ pub returns-clause-text : goal.returns-clause-text
 returns-clause-text g c some =
     let more = some_more c.args.changes.now some in
     c.loop-change.invariant.text (omega (arith, more, c.loop-change-test.false))
+
+pub returns-clause-malformed : goal.returns-clause-malformed
+returns-clause-malformed g c clean inside store = c.loop-change.invariant.malformed clean inside store

@@ -5,6 +5,7 @@ use Rattle.zeb_register.specs.Calls.{GoesOn}
 use Rattle.zeb_register.specs.Content.{AreChangedAt, Content}
 use Rattle.zeb_register.specs.Hindrances.{TakesRegisterRowids, placed, rows_of}
 use Rattle.zeb_register.specs.PlainRows.{HoldsRows}
+use Rattle.zeb_register.specs.Sound.{KeepsMalformed}
 use Rattle.zeb_register.specs.Store.{IsStore, KeepsLists}
 use Rattle.zeb_register.proofs.plain.RowsLayout.key_changes.Given as goal
 
@@ -21,5 +22,6 @@ invariant-loop-change g l =
           → (next : Content) × AreChangedAt l.db.0 l.key (take l.change-index l.changes) before next × HoldsRows now.now.trees next;
       rowids : HasCleanDisk now → IsTrue old.in_transaction → IsStore old
           → TakesRegisterRowids (rows_of (map placed (take l.change-index l.changes))) old.now.trees now.now.trees;
+      malformed : HasCleanDisk now → IsTrue old.in_transaction → IsStore old → KeepsMalformed old.now.trees now.now.trees;
       text : 0 < l.change-index → IsUtf8 l.key.term;
     }

@@ -1,0 +1,23 @@
+-- What is written where a command that words or a line name isn't answered, and the status that goes with it (this program's own).
+use Rattle.std.specs.Prelude.{◌≡◌, ℕ, List, [], ◌∷◌, ◌++◌, codes, string_bytes}
+use Rattle.zeb_engine.specs.Refusals.{status_of}
+use Rattle.zeb_profile.specs.declared.faults.ProfileFault.{ProfileFault}
+use Rattle.zeb_profile.specs.Faults.{fault_text}
+use Rattle.zeb_program.specs.declared.faults.Fault.{Fault}
+use Rattle.zeb_program.specs.declared.faults.Fault.TheVariants.{Profile, Unreadable, Refused, Memory}
+use Rattle.zeb_program.specs.ScriptAnswers.{fault_status, refusal_line}
+
+-- of a path that can't be read
+abbrev pub unreadable_path : List ℕ → List ℕ
+unreadable_path path = codes "zebraidx: cannot read " ++ path ++ 10 ∷ []
+
+-- of the fault of the profile in this file
+abbrev pub profile_line : List ℕ → ProfileFault → List ℕ
+profile_line file fault = codes "zebraidx: " ++ file ++ codes " " ++ fault_text fault ++ 10 ∷ []
+
+-- This line is written of a fault, and this is the status. For want of memory in the program itself there is no line.
+abbrev pub TellsFault : Fault → List ℕ → ℕ → Type 0
+TellsFault (Profile file fault) line status = (line ≡ profile_line (string_bytes file) fault) × (status ≡ fault_status fault.kind)
+TellsFault (Unreadable path) line status = (line ≡ unreadable_path (string_bytes path)) × (status ≡ 3)
+TellsFault (Refused refusal) line status = (line ≡ refusal_line refusal) × (status ≡ status_of refusal)
+TellsFault Memory line status = ⊥
