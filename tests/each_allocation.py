@@ -73,7 +73,6 @@ ALL = {
         "queries::memory::requests_for_memory_may_be_refused",
         "queries::memory::requests_of_plans_may_be_refused",
         "queries::memory::requests_of_attributes_may_be_refused",
-        "queries::limits::limits_of_texts_and_terms",
         "extraction::memory_or_the_ordinary_answer",
         "analyses::memory_or_the_ordinary_answer",
     ],
