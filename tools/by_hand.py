@@ -1,4 +1,4 @@
-"""Failures of the memory or of the store that code makes by hand, which tools/quick refuses.
+"""Failures of the memory, of the store or of a read that code makes by hand, which tools/quick refuses.
 
 Contracts allow such a failure wherever a call takes memory or reaches the store, so a body that answers one for no reason meets any of
 them. It has to come from a call that failed: by `?`, by a conversion of what only such a call gives, or by an arm that passes it on.
@@ -13,7 +13,7 @@ import re
 
 # What a failure is called, and of what it is one: variants of the crates' and the kit's faults, and the values without a path.
 VARIANTS = {"Memory": "memory", "OutOfMemory": "memory", "Store": "store", "Commit": "store"}
-VALUES = {"AllocError": "memory", "AllocFailed": "memory", "OpenFailed": "store", "FAILED": "status"}
+VALUES = {"AllocError": "memory", "AllocFailed": "memory", "OpenFailed": "store", "ReadFailed": "read", "FAILED": "status"}
 # What only a call that failed gives, by what its conversion may make of it.
 OF_CALLS = {"AllocError": "memory", "AllocFailed<T>": "memory", "Error": "store", "sqlite::Error": "store"}
 # What is called so and is no failure: a line of a profile.
@@ -21,6 +21,7 @@ NO_FAILURE = "Directive::Store"
 # Where one is made by hand, by file: in which functions and constants, each once for each time, and why. Behind each name stands what its
 # text without clauses and spaces adds up to. Where that differs, look again at what it fails for, and write the new sum.
 MADE_BY_HAND = {
+    "crates/zeb_marc/src/sources.rt": (["passed_on d701f525"], "a read that failed for a reader, as a clause says"),
     "crates/zeb_marc/src/stream.rt": (["make_room 044e00c2"], "no failure: as many bytes as the longest record has"),
     "crates/zeb_profile/src/faults.rt": (["MEMORY 1437066d"], "the one value that all conversions give"),
     "crates/zeb_query/src/faults.rt": (["about 0d9868b6"], "an addinfo that there is no memory for"),
@@ -33,7 +34,7 @@ MADE_BY_HAND = {
     "crates/zeb_words/src/words.rt": (["usage_of c0e9217c", "usage_of c0e9217c"], "the want of memory that the parser names, and of its text"),
     "crates/zeb_paths/src/walk.rt": (["next_file e0a517fc"], "more folders than could be held"),
     "crates/zeb_paths/src/disk.rt": (["store 4b5e5bda"], "whatever fails as a store is opened"),
-    "crates/zeb_paths/src/shelf.rt": (["store ad5a252e", "store ad5a252e"], "a shelf without a store under the path, or one that fails"),
+    "crates/zeb_paths/src/shelf.rt": (["read 15b5fccb", "store ad5a252e", "store ad5a252e"], "a file that fails when it is read, and a shelf without a store under the path, or one that fails"),
     "crates/zeb_program/src/command_line.rt": (["refuse_words 14383364"], "the status of words that memory ran out for"),
     "crates/zeb_program/src/faults.rt": (["tell 1777e2de"], "the status of a path that can't be read, as a clause says"),
     "crates/zeb_program/src/files.rt": (["readers_of 4729b173", "contents_of 89790e8e"], "more files than could be held"),

@@ -46,6 +46,7 @@ MADE = [
     ("by what a growth fails with", "fn f() -> Result<(), RegFault> { Err(AllocFailed { value: 1 })? }"),
     ("by what a growth fails with, and its type", "fn f() -> Result<(), RegFault> { Err(AllocFailed::<u8> { value: 1 })? }"),
     ("by what an open fails with", "fn f() -> Result<(), OpenFailed> { Err(OpenFailed) }"),
+    ("by what a read fails with", "fn f() -> Result<usize, ReadFailed> { Err(ReadFailed) }"),
     ("by a macro", "macro_rules! gone { ($fault:ident, $kind:ident) => { Err($fault::$kind) } }"),
     ("by a derived conversion", "enum Fault { Memory(#[from] Gone) }"),
     ("by a default", "#[derive(Default)]\nenum Fault { #[default] Memory, Other }"),

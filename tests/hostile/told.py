@@ -240,6 +240,8 @@ class Tables:
         """The same of a command over one database, whatever the tables hold."""
         name = command.name.encode()
         is_there, (last, kept) = name in self.held, self.held.get(name, (0, {}))
+        if command.records and not all(sysno < 0 or 1 <= sysno <= last for sysno in kept):
+            return answer == DAMAGED
         if answer == DAMAGED or answer in refusals(command, is_there, last):
             return True
         is_accepted = command.kind == "update" or is_there == (command.kind != "create")

@@ -7,14 +7,14 @@ use Rattle.std.proofs.lemmas.List.Sums.{sum_by-append}
 use Rattle.sqlite.specs.Tree.{Trees}
 use Rattle.zeb_keys.specs.declared.keys.Key.{Key}
 use Rattle.zeb_register.specs.declared.registers.RecordChange.{RecordChange}
-use Rattle.zeb_register.specs.Content.{AreChangedAt, Content}
-use Rattle.zeb_register.specs.Formats.{Format, holds_in}
-use Rattle.zeb_register.specs.Hindrances.{HindersPlaces, FitsEachLayout, Placed, TakesRegisterRowids, placed, rows_of}
-use Rattle.zeb_register.specs.Room.{FitInRow, HasRoom}
+use Rattle.zeb_register.specs.Hindrances.{HindersPlaces, FitsEachLayout, IsPlacedAt, Placed, SpellsMore, TakesRegisterRowids, placed, rows_of}
+use Rattle.zeb_register.specs.PlainRows.{key_row}
+use Rattle.zeb_register.specs.Room.{HasRoom}
+use Rattle.zeb_register.specs.Sound.{KeepsRowsBeside}
 use Rattle.zeb_register.proofs.Room.{room_left, room_serves}
 use Rattle.zeb_change.specs.declared.key_notes.KeyNotes.{KeyNotes}
 use Rattle.zeb_change.specs.declared.pending.Pending.{Pending}
-use Rattle.zeb_change.specs.Asked.{HasRoomFor, PutAmong, PutsPlaces, placed_by}
+use Rattle.zeb_change.specs.Asked.{FitsPut, HasRoomFor, PutAmong, PutsPlaces, placed_by}
 use Rattle.zeb_change.specs.NoteWords.{KeyChange}
 use Rattle.zeb_change.specs.Noted.{IsNothingNoted}
 use Rattle.zeb_change.specs.PrivatePending.{AreGivenAs, AreGivenInOrder, number_in}
@@ -57,30 +57,29 @@ module _ (changes : List KeyChange) (given : List RecordChange) (is : AreGivenIn
       let noted = all_behind FitsEachLayout is.noted (subst (AllByRecursion FitsEachLayout) (sym (same_placed changes is.noted is.same)) all) in
       all_mapped FitsEachLayout given (all_of number_in (λ g. FitsEachLayout (placed g)) is.noted given is.stable noted)
 
-  module _ (format : Format) (n left : ℕ) (db : ℤ) (key : Key) (old : Trees) (content : Content) (held : holds_in format old content) (room : HasRoom format (n + left) old) (fits : FitInRow (n + left) key)
-      (many : n ≡ rows_of (map placed_by changes)) where
+  module _ (n left : ℕ) (db : ℤ) (key : Key) (old : Trees) (room : HasRoom (n + left) old) (fits : FitsPut (n + left) n key) (many : n ≡ rows_of (map placed_by changes)) where
     -- nothing hinders the changes of a key
     pub key_served : AllByRecursion FitsEachLayout (map placed_by changes) → HindersPlaces db key (map placed given) old → ⊥
-    key_served storable = room_serves format (n + left) (λ k. n + left) db key (map placed given) old content held room fits (storable_given storable) few few
+    key_served storable = room_serves (n + left) (λ k. n + left) db key (map placed given) old room fits.0 (λ some. fits.1 (omega (arith, some, rows_given, many))) (storable_given storable) few few
       where
         few : rows_of (map placed given) ≤ n + left
         few = omega (arith, rows_given, many)
 
     -- they leave what was there beside them
-    pub key_leaves : (new : Trees) (after : Content) → TakesRegisterRowids (rows_of (map placed given)) old new → holds_in format new after → AreChangedAt db key given content after → HasRoom format left new
-    key_leaves new after takes holds changed =
+    pub key_leaves : (new : Trees) → TakesRegisterRowids (rows_of (map placed given)) old new → SpellsMore db key (IsPlacedAt (map placed given)) old new → KeepsRowsBeside (key_row db key) old new
+        → HasRoom left new
+    key_leaves new takes spells kept =
         let more = rows_of (map placed given) in
         let all : n + left ≡ left + more = omega (arith, rows_given, many) in
-        let there : HasRoom format (left + more) old = subst (λ m. HasRoom format m old) all room in
-        let fit : FitInRow (left + more) key = omega (arith, fits, all) in
-        room_left format left more (λ k. left + more) (λ k. left) db key given old new content after there fit (omega arith) (omega arith) (λ k. omega arith) takes held holds changed
+        let there : HasRoom (left + more) old = subst (λ m. HasRoom m old) all room in
+        room_left left more (λ k. left + more) (λ k. left) db key (map placed given) old new there
+        (λ some. let fit = fits.1 (omega (arith, some, rows_given, many)) in omega (arith, fit, all)) (omega arith) (λ k. omega arith) takes spells kept
 
 -- ---- a key is taken out of what is noted
 
 -- where nothing is noted there is as much room beside another that notes nothing
-pub none_known : (format : Format) (most : ℕ) (trees : Trees) (before after : Pending) (spare : ℕ) → IsNothingNoted before → IsNothingNoted after → HasRoomFor format most trees before spare
-    → HasRoomFor format most trees after spare
-none_known format most trees before after spare none none' has = record {
+pub none_known : (most : ℕ) (trees : Trees) (before after : Pending) (spare : ℕ) → IsNothingNoted before → IsNothingNoted after → HasRoomFor most trees before spare → HasRoomFor most trees after spare
+none_known most trees before after spare none none' has = record {
   noted = has.noted;
   few = has.few;
   among = subst (λ (es : List (Key × KeyNotes)). PutAmong (has.noted + spare) es has.noted) (none ∙ sym none') has.among;
@@ -88,27 +87,26 @@ none_known format most trees before after spare none none' has = record {
 }
 
 -- what is known where the first key's changes are to be written
-pub record IsFirst (format : Format) (most : ℕ) (notes : KeyNotes) (key : Key) (trees : Trees) (after : Pending) (spare : ℕ) : Type 0 where
+pub record IsFirst (most : ℕ) (notes : KeyNotes) (key : Key) (trees : Trees) (after : Pending) (spare : ℕ) : Type 0 where
   pub own : ℕ
   pub rest : ℕ
   pub puts : PutsPlaces notes own
-  pub fits : FitInRow (own + (rest + spare)) key
-  pub room : HasRoom format (own + (rest + spare)) trees
-  pub leaves : (new : Trees) → HasRoom format (rest + spare) new → HasRoomFor format most new after spare
+  pub fits : FitsPut (own + (rest + spare)) own key
+  pub room : HasRoom (own + (rest + spare)) trees
+  pub leaves : (new : Trees) → HasRoom (rest + spare) new → HasRoomFor most new after spare
 
-pub first_known : (format : Format) (most : ℕ) (notes : KeyNotes) (key : Key) (trees : Trees) (before after : Pending) (spare : ℕ) → before.notes.entries ≡ (key, notes) ∷ after.notes.entries
-    → HasRoomFor format most trees before spare → IsFirst format most notes key trees after spare
-first_known format most notes key trees before after spare entries has =
+pub first_known : (most : ℕ) (notes : KeyNotes) (key : Key) (trees : Trees) (before after : Pending) (spare : ℕ) → before.notes.entries ≡ (key, notes) ∷ after.notes.entries
+    → HasRoomFor most trees before spare → IsFirst most notes key trees after spare
+first_known most notes key trees before after spare entries has =
     let among : PutAmong (has.noted + spare) ((key, notes) ∷ after.notes.entries) has.noted = subst (λ (es : List (Key × KeyNotes)). PutAmong (has.noted + spare) es has.noted) entries has.among in
     let few = has.few in
     let sum : has.noted ≡ among.0 + among.1 = among.5 in
     let all : has.noted + spare ≡ among.0 + (among.1 + spare) = omega (arith, sum) in
-    let fit = among.3 in
     record {
       own = among.0;
       rest = among.1;
       puts = among.2;
-      fits = omega (arith, fit, sum);
-      room = subst (λ m. HasRoom format m trees) all has.room;
+      fits = (among.3.0, λ some. let fit = among.3.1 some in omega (arith, fit, sum));
+      room = subst (λ m. HasRoom m trees) all has.room;
       leaves = λ new room. record { noted = among.1; few = omega (arith, few, sum); among = among_less (among.1 + spare) (has.noted + spare) after.notes.entries among.1 (omega (arith, sum)) among.4; room = room };
     }

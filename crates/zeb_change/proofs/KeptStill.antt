@@ -1,5 +1,5 @@
 -- What is kept still while records of a change are taken, whatever rows the tables have.
-use Rattle.std.proofs.Common.{◌≡◌, ◌≢◌, ◌↔◌, ◌⊎◌, ◌∙◌, ◌≤◌, ◌+◌, ◌∷◌, ℕ, ℤ, pos, true, false, List, Some, Result, Ok, Err, OnOk, inl, inr, sym, ap, subst, arith}
+use Rattle.std.proofs.Common.{◌≡◌, ◌≢◌, ◌↔◌, ◌⊎◌, ◌∙◌, ◌≤◌, ◌+◌, ◌∷◌, ℕ, ℤ, pos, true, false, List, [], Some, Result, Ok, Err, OnOk, inl, inr, sym, ap, subst, arith}
 use Rattle.std.specs.Str.{bytes_eq}
 use Rattle.std.proofs.lemmas.Slice.Eq.{bytes_eq-Decides}
 use Rattle.sqlite.specs.declared.types.Value.TheVariants.{Int, Text}
@@ -11,25 +11,26 @@ use Rattle.sqlite_rules.specs.Lists.{Has}
 use Rattle.zeb_profile.specs.declared.directives.Directive.{Directive}
 use Rattle.zeb_register.specs.declared.kept.Elder.{Elder}
 use Rattle.zeb_register.specs.Kept.{IsElderOf}
-use Rattle.zeb_register.specs.Sound.{KeepsMalformed}
+use Rattle.zeb_register.specs.Sound.{KeepsMalformed, KeepsRowsBeside}
 use Rattle.zeb_register.specs.Sql.{KeepsOthers, Loses, Replaces}
-use Rattle.zeb_register.specs.Store.{Changes, HasNumber, HasRecord, IsStore, SharesRecord, record_row, records_tree}
+use Rattle.zeb_register.specs.Store.{Changes, HasNumber, HasRecord, IsStore, KeepsLists, SharesRecord, databases_tree, meta_tree, record_row, records_tree}
 use Rattle.zeb_register.specs.Tables.{store_schema}
 use Rattle.zeb_register.proofs.Calls.{store_same}
-use Rattle.zeb_register.proofs.Malformed.{malformed_same, malformed_seen, malformed_then}
+use Rattle.zeb_register.proofs.Malformed.{beside_same, beside_seen, beside_then, malformed_same, malformed_seen, malformed_then}
 use Rattle.zeb_register.proofs.RowsAreLists.{one_number}
 use Rattle.zeb_change.specs.declared.refusals.Refusal.{Refusal}
 use Rattle.zeb_change.specs.Elders.{IsSoOrDamaged, IsUpTo, KeepsAside, KeepsWhole, KeepsWholeTo, PassesOn}
 use Rattle.zeb_change.specs.PrivateElders.{KeepsOtherRecords, KeepsUnder}
+use Rattle.zeb_change.specs.UnderWay.{KeepsNames}
 use Rattle.zeb_change.proofs.KeptLemmas.{tests}
 
-same_ident : (one two : List ℕ) → (one ≡ two) ⊎ (one ≢ two)
+pub same_ident : (one two : List ℕ) → (one ≡ two) ⊎ (one ≢ two)
 same_ident one two = elim (tests (bytes_eq one two)) [
   | inl is ↦ inl ((bytes_eq-Decides one two).0 is)
   | inr differs ↦ inr (λ same. let e : true ≡ false = sym ((bytes_eq-Decides one two).1 same) ∙ differs in cc)
 ]
 
-up_more : (last after : ℕ) (sysno : ℤ) → last ≤ after → IsUpTo last sysno → IsUpTo after sysno
+pub up_more : (last after : ℕ) (sysno : ℤ) → last ≤ after → IsUpTo last sysno → IsUpTo after sysno
 up_more last after sysno rises up n is = let below = up n is in omega (arith, rises, below)
 
 -- ---- the table of records is written
@@ -56,9 +57,20 @@ module _ (db : ℤ) (ident : List ℕ) (number last after : ℕ) (rises : last �
       let first : Int other ≡ Int db = cc in
       other_database other db differs first
 
-  -- the tables of the registers are others
-  beside_records : KeepsOthers store_schema records_tree old.now.trees new.now.trees → KeepsMalformed old.now.trees new.now.trees
-  beside_records others = malformed_same old.now.trees new.now.trees (others.1.1.1.1.0 (λ e. absurd (omega (arith, e)))) (others.1.1.1.1.1.0 (λ e. absurd (omega (arith, e))))
+  -- each other table is as it was
+  module _ (others : KeepsOthers store_schema records_tree old.now.trees new.now.trees) where
+    names_stay : KeepsNames old new
+    names_stay = (others.0 (λ e. absurd (omega (arith, e))), others.1.0 (λ e. absurd (omega (arith, e))))
+
+    malformed_stay : KeepsMalformed old.now.trees new.now.trees
+    malformed_stay = malformed_same old.now.trees new.now.trees (others.1.1.1.1.0 (λ e. absurd (omega (arith, e)))) (others.1.1.1.1.1.0 (λ e. absurd (omega (arith, e))))
+
+    rows_stay : KeepsRowsBeside (Int db ∷ []) old.now.trees new.now.trees
+    rows_stay = beside_same (Int db ∷ []) old.now.trees new.now.trees (
+      others.1.1.1.0 (λ e. absurd (omega (arith, e))),
+      others.1.1.1.1.0 (λ e. absurd (omega (arith, e))),
+      others.1.1.1.1.1.0 (λ e. absurd (omega (arith, e))),
+    )
 
   pub put_keeps : (bytes : List ℕ) → Changes records_tree (Replaces (SharesRecord db (pos number) ident) (record_row db (pos number) ident bytes)) old new → KeepsOtherRecords db ident last after old new
   put_keeps row put = record {
@@ -78,7 +90,9 @@ module _ (db : ℤ) (ident : List ℕ) (number last after : ℕ) (rises : last �
       ],
       λ before. (put.rows (record_row other sysno name kept)).1 (inl (before, not_shared other sysno name kept differs)),
     );
-    malformed = beside_records put.others;
+    beside = rows_stay put.others;
+    names = names_stay put.others;
+    malformed = malformed_stay put.others;
   }
 
   pub take_keeps : Changes records_tree (Loses (HasNumber db (pos number))) old new → KeepsOtherRecords db ident last after old new
@@ -90,7 +104,9 @@ module _ (db : ℤ) (ident : List ℕ) (number last after : ℕ) (rises : last �
       λ after. ((take.rows (record_row other sysno name kept)).0 after).0,
       λ before. (take.rows (record_row other sysno name kept)).1 (before, λ numbers. other_database other db differs numbers.0),
     );
-    malformed = beside_records take.others;
+    beside = rows_stay take.others;
+    names = names_stay take.others;
+    malformed = malformed_stay take.others;
   }
 
 -- the row with the elder's number is the elder's
@@ -102,6 +118,10 @@ elder_owns s store db ident elder is last other bytes there below = (one_number 
 pub none_owns : (trees : Trees) (db : ℤ) (ident : List ℕ) (last : ℕ) (other bytes : List ℕ) → HasRecord trees db (pos (last + 1)) other bytes → last + 1 ≤ last → other ≡ ident
 none_owns trees db ident last other bytes there below = absurd (omega (arith, below))
 
+names_from : (old mid new : State) → mid.now ≡ old.now → KeepsNames mid new → KeepsNames old new
+names_from old mid new same kept =
+    (kept.0 ∙ ap (λ (d : Database). d.trees meta_tree) same, kept.1 ∙ ap (λ (d : Database). d.trees databases_tree) same)
+
 -- it is said of the tables that a look left as they were
 pub keeps_from : (db : ℤ) (ident : List ℕ) (last after : ℕ) (old mid new : State) {T : Type 0} (result : Result T Refusal) → mid.now ≡ old.now → OnOk result (KeepsOtherRecords db ident last after mid new)
     → OnOk result (KeepsOtherRecords db ident last after old new)
@@ -110,17 +130,23 @@ keeps_from db ident last after old mid new (Ok x) same kept = record {
   rises = kept.rises;
   others = λ other differs. subst (λ (d : Database). KeepsUnder last db other d.trees new.now.trees) same (kept.others other differs);
   aside = subst (λ (d : Database). KeepsAside db d.trees new.now.trees) same kept.aside;
+  beside = subst (λ (d : Database). KeepsRowsBeside (Int db ∷ []) d.trees new.now.trees) same kept.beside;
+  names = names_from old mid new same kept.names;
   malformed = subst (λ (d : Database). KeepsMalformed d.trees new.now.trees) same kept.malformed;
 }
 keeps_from db ident last after old mid new (Err refusal) same kept = tt
 
 -- ---- records are passed on
 
-rows_same : (old new : Trees) → new records_tree ≡ old records_tree → (db sysno : ℤ) (ident bytes : List ℕ) → HasRecord old db sysno ident bytes → HasRecord new db sysno ident bytes
+pub rows_same : (old new : Trees) → new records_tree ≡ old records_tree → (db sysno : ℤ) (ident bytes : List ℕ) → HasRecord old db sysno ident bytes → HasRecord new db sysno ident bytes
 rows_same old new same db sysno ident bytes there = (there.0, subst (λ (rows : List Row). Has rows (Int there.0 ∷ record_row db sysno ident bytes)) (sym same) there.1)
 
 both_ways : {A B C : Type 0} → A ↔ B → B ↔ C → A ↔ C
 both_ways one two = (λ a. two.0 (one.0 a), λ c. one.1 (two.1 c))
+
+-- the one database is the other
+pub beside_id : (one two : ℤ) (old new : Trees) → one ≡ two → KeepsRowsBeside (Int one ∷ []) old new → KeepsRowsBeside (Int two ∷ []) old new
+beside_id one two old new same kept = subst (λ (db : ℤ). KeepsRowsBeside (Int db ∷ []) old new) same kept
 
 module _ (profile : List Directive) (db : ℤ) where
   -- what is kept under the one identifier was found whole
@@ -134,26 +160,34 @@ module _ (profile : List Directive) (db : ℤ) where
       | inr differs ↦ inr (kept.others other differs sysno bytes there up)
     ];
     aside = kept.aside;
+    beside = kept.beside;
+    names = kept.names;
     malformed = kept.malformed;
   }
   passes_by ident last after old new (Err refusal) whole kept = tt
 
-  -- the table of records is as it was
-  pub passes_same : (last : ℕ) (old new : State) → IsStore new → new.now.trees records_tree ≡ old.now.trees records_tree → KeepsMalformed old.now.trees new.now.trees → PassesOn profile db last last old new
-  passes_same last old new store same malformed = record {
+  -- the lists are as they were
+  pub passes_same : (last : ℕ) (old new : State) → IsStore new → KeepsLists old.now.trees new.now.trees → KeepsRowsBeside (Int db ∷ []) old.now.trees new.now.trees
+      → KeepsMalformed old.now.trees new.now.trees → PassesOn profile db last last old new
+  passes_same last old new store lists beside malformed = record {
     store = store;
     rises = omega arith;
-    each = λ sysno ident bytes there up. inr (rows_same old.now.trees new.now.trees same db sysno ident bytes there);
+    each = λ sysno ident bytes there up. inr (rows_same old.now.trees new.now.trees lists.2 db sysno ident bytes there);
     aside = λ other sysno ident bytes differs. (
-      rows_same new.now.trees old.now.trees (sym same) other sysno ident bytes,
-      rows_same old.now.trees new.now.trees same other sysno ident bytes,
+      rows_same new.now.trees old.now.trees (sym lists.2) other sysno ident bytes,
+      rows_same old.now.trees new.now.trees lists.2 other sysno ident bytes,
     );
+    beside = beside;
+    names = (lists.0, lists.1);
     malformed = malformed;
   }
 
   -- a look left everything as it was
   pub passes_seen : (last : ℕ) (old new : State) → IsStore old → new.now ≡ old.now → PassesOn profile db last last old new
-  passes_seen last old new store same = passes_same last old new (store_same old new same store) (ap (λ (d : Database). d.trees records_tree) same) (malformed_seen old.now new.now same)
+  passes_seen last old new store same =
+      passes_same last old new (store_same old new same store)
+      (ap (λ (d : Database). d.trees meta_tree) same, ap (λ (d : Database). d.trees databases_tree) same, ap (λ (d : Database). d.trees records_tree) same)
+      (beside_seen (Int db ∷ []) old.now new.now same) (malformed_seen old.now new.now same)
 
   module _ (last mid : ℕ) (a b : State) (one : PassesOn profile db last mid a b) where
     pub passes_then : (after : ℕ) (c : State) → PassesOn profile db mid after b c → PassesOn profile db last after a c
@@ -165,6 +199,8 @@ module _ (profile : List Directive) (db : ℤ) where
         | inr kept ↦ two.each sysno ident bytes kept (up_more last mid sysno one.rises up)
       ];
       aside = λ other sysno ident bytes differs. both_ways (two.aside other sysno ident bytes differs) (one.aside other sysno ident bytes differs);
+      beside = beside_then (Int db ∷ []) a.now.trees b.now.trees c.now.trees one.beside two.beside;
+      names = (two.names.0 ∙ one.names.0, two.names.1 ∙ one.names.1);
       malformed = malformed_then a.now.trees b.now.trees c.now.trees one.malformed two.malformed;
     }
 

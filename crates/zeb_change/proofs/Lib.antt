@@ -28,6 +28,8 @@ pub mod FoldsOn
 pub mod FoldFiles
 pub mod FoldAll
 pub mod ElderSteps
+pub mod Reasons
+pub mod ReasonSteps
 pub mod NoDamage
 pub mod FoldCosts
 pub mod ReadFaults
@@ -35,5 +37,6 @@ pub mod CostLemmas
 pub mod PutKeys
 pub mod TermTexts
 pub mod RecordSizes
+pub mod TermSizes
 pub mod RecordRoom
 pub mod FoldRoom

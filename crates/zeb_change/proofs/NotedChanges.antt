@@ -11,12 +11,21 @@ use Rattle.zeb_keys.proofs.Rising.{keys_apart}
 use Rattle.zeb_change.specs.declared.key_notes.KeyNotes.{KeyNotes}
 use Rattle.zeb_change.specs.declared.pending.Pending.{Pending}
 use Rattle.zeb_register.specs.Hindrances.{rows_of}
-use Rattle.zeb_change.specs.Asked.{PutAmong, placed_by}
+use Rattle.zeb_change.specs.Asked.{FitsPut, PutAmong, placed_by}
 use Rattle.zeb_change.specs.NoteWords.{KeyChange, change_words}
 use Rattle.zeb_change.specs.Noted.{AreNoted, IsNotedIn, IsNothingNoted, changes_among, notes_at, noted_count}
 use Rattle.zeb_change.specs.PrivatePending.{IsNotNoted, IsNotedAlso, IsTakenOut}
 use Rattle.zeb_change.proofs.NoteWords.{noted_more, one_noted}
 use Rattle.zeb_change.proofs.PutNotes.{insert_puts, set_puts}
+
+-- what stands at a key is the key's
+at_same : (key k : Key) → is_at (key_order key) k ≡ true → key ≡ k
+at_same key k at = from (key_order key k) refl at
+  where
+    from : (o : Ordering) → key_order key k ≡ o → is_eq (key_order key k) ≡ true → key ≡ k
+    from Less is told = let no : is_eq Less ≡ true = sym (ap is_eq is) ∙ told in absurd (cc)
+    from Equal is told = keys_apart key k is
+    from Greater is told = let no : is_eq Greater ≡ true = sym (ap is_eq is) ∙ told in absurd (cc)
 
 -- ---- how many
 
@@ -71,7 +80,8 @@ noted_behind key change v w old new found more words writes =
       others = λ k differs. updates.2 k (apart_at key k differs);
       count = ap changes_among writes.0 ∙ set_more (is_at (key_order key)) old.notes.entries v w found more;
       puts = λ bound n storable fit among. subst (λ es. PutAmong bound es (n + rows_of (placed_by change ∷ []))) (sym writes.0)
-          (set_puts change storable bound (is_at (key_order key)) old.notes.entries v w n found more words among);
+          (set_puts change storable bound (is_at (key_order key)) old.notes.entries v w n found more words
+          (λ k at. subst (FitsPut bound (rows_of (placed_by change ∷ []))) (at_same key k at) fit) among);
     }
 
 -- what is noted is told by the map

@@ -1,5 +1,5 @@
 -- How many places the changed keys of a record put: no more than the newer record has occurrences.
-use Rattle.std.proofs.Common.{◌≡◌, ◌⊎◌, ◌∙◌, ℕ, ◌<◌, ◌≤◌, ◌^◌, List, [], ◌∷◌, ◌++◌, length, map, inl, inr, refl, sym, ap, subst, subst₂, Less, arith}
+use Rattle.std.proofs.Common.{◌≡◌, ◌∙◌, ℕ, ◌<◌, ◌≤◌, ◌^◌, List, [], ◌∷◌, ◌++◌, length, map, inl, inr, refl, sym, ap, subst, subst₂, Less, arith}
 use Rattle.std.specs.List.{Contains, sum_by}
 use Rattle.std.specs.List.Sorted.{IsStrictlySortedBy}
 use Rattle.std.specs.Ordering.{ordering_then}
@@ -15,12 +15,12 @@ use Rattle.zeb_keys.specs.Order.{key_order, occurrence_order}
 use Rattle.zeb_keys.proofs.Rising.{key_total, occurrence_total}
 use Rattle.zeb_register.specs.declared.registers.Place.{Place}
 use Rattle.zeb_register.specs.Content.{IsStorablePlace, place_cmp}
-use Rattle.zeb_register.specs.Hindrances.{FitsEachLayout}
+use Rattle.zeb_register.specs.Hindrances.{FitsEachLayout, rows_of}
 use Rattle.zeb_register.specs.Room.{FitInRow}
 use Rattle.zeb_register.proofs.RisingLists.{joined_rises}
 use Rattle.zeb_register.proofs.Room.{rising_few}
 use Rattle.zeb_change.specs.declared.changed_keys.ChangedKey.{ChangedKey}
-use Rattle.zeb_change.specs.Asked.{IsStorableOccurrence}
+use Rattle.zeb_change.specs.Asked.{FitsPut, IsStorableOccurrence}
 use Rattle.zeb_change.specs.PrivateChangedKeys.{AreChangedKeys, key_in}
 use Rattle.zeb_change.specs.Reposted.{occurrence_at}
 
@@ -93,11 +93,15 @@ module _ (elder newer : List Occurrence) (changed : List ChangedKey) (are : AreC
           ),
         )
 
-    -- a changed key has a place in either record
-    pub fits_put : (bound : ℕ) → ((o : Occurrence) → Contains elder o ⊎ Contains newer o → FitInRow bound o.key) → FitInRow bound (key_in c)
-    fits_put bound fits = from c.old.items c.new.items refl refl
+    -- a changed key has a place in either record, and where it is put, in the newer one
+    pub fits_put : (bound sysno : ℕ) → ((o : Occurrence) → Contains elder o → FitInRow 0 o.key) → ((o : Occurrence) → Contains newer o → FitInRow bound o.key)
+        → FitsPut bound (rows_of ((sysno, c.new.items) ∷ [])) (key_in c)
+    fits_put bound sysno fit fits = let it = from c.old.items c.new.items refl refl in (it.0, λ some. it.1 (omega (arith, some)))
       where
-        from : (old new : List Place) → c.old.items ≡ old → c.new.items ≡ new → FitInRow bound (key_in c)
+        from : (old new : List Place) → c.old.items ≡ old → c.new.items ≡ new → FitInRow 0 (key_in c) × (1 ≤ length c.new.items → FitInRow bound (key_in c))
         from [] [] none none' = absurd (are.differ c here (none ∙ sym none'))
-        from (p ∷ old) new is is' = fits (occurrence_at (key_in c) p) (inl (((are.old c here).each p).0 (subst (λ l. Has l p) (sym is) (inl refl))))
-        from [] (p ∷ new) is is' = fits (occurrence_at (key_in c) p) (inr (((are.new c here).each p).0 (subst (λ l. Has l p) (sym is') (inl refl))))
+        from (p ∷ old) [] is is' =
+            (fit (occurrence_at (key_in c) p) (((are.old c here).each p).0 (subst (λ l. Has l p) (sym is) (inl refl))), λ some. absurd (omega (arith, some, ap length is')))
+        from old (p ∷ new) is is' =
+            let all = fits (occurrence_at (key_in c) p) (((are.new c here).each p).0 (subst (λ l. Has l p) (sym is') (inl refl))) in
+            (omega (arith, all), λ some. all)

@@ -1,5 +1,5 @@
 -- How many places the noted changes put, as one more is noted.
-use Rattle.std.proofs.Common.{◌≡◌, ◌∙◌, ℕ, ◌+◌, ◌≤◌, Bool, true, false, List, [], ◌∷◌, ◌++◌, map, Some, None, refl, sym, ap, subst, arith}
+use Rattle.std.proofs.Common.{◌≡◌, ◌∙◌, ℕ, zero, suc, ◌+◌, ◌≤◌, Bool, true, false, List, [], ◌∷◌, ◌++◌, map, Some, None, refl, sym, ap, subst, arith}
 use Rattle.std.specs.declared.cmp.Ordering.{Ordering}
 use Rattle.std.specs.declared.cmp.Ordering.TheVariants.{Less, Equal, Greater}
 use Rattle.std.specs.List.{AllByRecursion}
@@ -12,14 +12,15 @@ use Rattle.zeb_keys.specs.Order.{key_order}
 use Rattle.zeb_register.specs.Hindrances.{FitsEachLayout, Placed, rows_of}
 use Rattle.zeb_register.specs.Room.{FitInRow}
 use Rattle.zeb_change.specs.declared.key_notes.KeyNotes.{KeyNotes}
-use Rattle.zeb_change.specs.Asked.{PutAmong, PutsPlaces, placed_by}
+use Rattle.zeb_change.specs.Asked.{FitsPut, PutAmong, PutsPlaces, placed_by}
 use Rattle.zeb_change.specs.NoteWords.{KeyChange, change_words}
 use Rattle.zeb_change.proofs.NoteWords.{noted_more, one_noted}
 
 -- a row that holds more places holds fewer
 pub among_less : (few many : ℕ) (es : List (Key × KeyNotes)) (n : ℕ) → few ≤ many → PutAmong many es n → PutAmong few es n
 among_less few many [] n less none = none
-among_less few many (e ∷ es) n less (first, rest, puts, fits, among, is) = (first, rest, puts, omega (arith, fits, less), among_less few many es rest less among, is)
+among_less few many (e ∷ es) n less (first, rest, puts, fits, among, is) =
+    (first, rest, puts, (fits.0, λ some. let fit = fits.1 some in omega (arith, fit, less)), among_less few many es rest less among, is)
 
 all_then : (P : Placed → Type 0) (xs : List Placed) (x : Placed) → AllByRecursion P xs → P x → AllByRecursion P (xs ++ x ∷ [])
 all_then P [] x all last = (last, tt)
@@ -44,24 +45,32 @@ module _ (change : KeyChange) (storable : FitsEachLayout (placed_by change)) whe
   puts_one : (v : KeyNotes) → v.count ≡ 1 → v.words.items ≡ change_words change → PutsPlaces v own
   puts_one v one words = record { changes = change ∷ []; noted = record { count = one; words = words ∙ sym (one_noted change) }; storable = (storable, tt); many = refl }
 
+  -- where either puts some
+  fits_both : (bound first : ℕ) (key : Key) → FitsPut bound first key → FitsPut bound own key → FitsPut bound (first + own) key
+  fits_both bound first key fits fit = (fits.0, λ some. from first refl some)
+    where
+      from : (m : ℕ) → first ≡ m → 1 ≤ first + own → FitInRow bound key
+      from zero is some = fit.1 (omega (arith, is, some))
+      from (suc m) is some = fits.1 (omega (arith, is))
+
   pub set_puts : (bound : ℕ) (test : Key → Bool) (es : List (Key × KeyNotes)) (v w : KeyNotes) (n : ℕ) → lookup test es ≡ Some v → w.count ≡ v.count + 1
-      → w.words.items ≡ v.words.items ++ change_words change → PutAmong bound es n → PutAmong bound (set_value test es w) (n + own)
-  set_puts bound test [] v w n found more words among = absurd (cc)
-  set_puts bound test (e ∷ es) v w n found more words (first, rest, puts, fits, among, is) = by (test e.0) refl (λ later. set_puts bound test es v w rest later more words among)
+      → w.words.items ≡ v.words.items ++ change_words change → ((k : Key) → test k ≡ true → FitsPut bound own k) → PutAmong bound es n → PutAmong bound (set_value test es w) (n + own)
+  set_puts bound test [] v w n found more words fit among = absurd (cc)
+  set_puts bound test (e ∷ es) v w n found more words fit (first, rest, puts, fits, among, is) = by (test e.0) refl (λ later. set_puts bound test es v w rest later more words fit among)
     where
       by : (b : Bool) → test e.0 ≡ b → (lookup test es ≡ Some v → PutAmong bound (set_value test es w) (rest + own)) → PutAmong bound (set_value test (e ∷ es) w) (n + own)
       by true at later =
           let here : Some e.1 ≡ Some v = sym (rw at refl) ∙ found in
           let same : e.1 ≡ v = cc in
           let all : n + own ≡ first + own + rest = omega (arith, is) in
-          rw at (first + own, rest, puts_more v w first more words (subst (λ u. PutsPlaces u first) same puts), fits, among, all)
+          rw at (first + own, rest, puts_more v w first more words (subst (λ u. PutsPlaces u first) same puts), fits_both bound first e.0 fits (fit e.0 at), among, all)
       by false at later =
           let there : lookup test es ≡ Some v = sym (rw at refl) ∙ found in
           let all : n + own ≡ first + (rest + own) = omega (arith, is) in
           rw at (first, rest + own, puts, fits, later there, all)
 
   pub insert_puts : (bound : ℕ) (es : List (Key × KeyNotes)) (key : Key) (v : KeyNotes) (n : ℕ) → lookup (is_at (key_order key)) es ≡ None → v.count ≡ 1 → v.words.items ≡ change_words change
-      → FitInRow bound key → PutAmong bound es n → PutAmong bound (insert_entry key_order es key v) (n + own)
+      → FitsPut bound own key → PutAmong bound es n → PutAmong bound (insert_entry key_order es key v) (n + own)
   insert_puts bound [] key v n none one words fit among = (own, 0, puts_one v one words, fit, refl, omega (arith, among))
   insert_puts bound (e ∷ es) key v n none one words fit (first, rest, puts, fits, among, is) = by (key_order key e.0) refl (λ later. insert_puts bound es key v rest later one words fit among)
     where

@@ -20,7 +20,7 @@ use Rattle.zeb_register.specs.Store.{record_row}
 use Rattle.zeb_change.specs.Folding.{ident_in}
 
 -- a record is no longer than five digits say
-record_short : (text : List ℕ) → first_fault text ≡ None → length text ≤ 99999
+pub record_short : (text : List ℕ) → first_fault text ≡ None → length text ≤ 99999
 unfolding first_fault
 record_short text sound =
     let leader = (first_failing-append_none (leader_checks text) (directory_checks (data_area text) (directory_of text)) sound).0 in

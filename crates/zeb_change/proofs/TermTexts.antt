@@ -111,7 +111,7 @@ each_text [] all text there = absurd there
 each_text (first ∷ texts) all text (inl same) = subst IsUtf8 (sym same) all.0
 each_text (first ∷ texts) all text (inr later) = each_text texts all.1 text later
 
-numbered : {X : Type 0} (n : ℕ) (xs : List X) → map (λ (p : ℕ × X). p.1) (enumerate_from n xs) ≡ xs
+pub numbered : {X : Type 0} (n : ℕ) (xs : List X) → map (λ (p : ℕ × X). p.1) (enumerate_from n xs) ≡ xs
 numbered n [] = refl
 numbered n (x ∷ xs) = ap (λ rest. x ∷ rest) (numbered (n + 1) xs)
 

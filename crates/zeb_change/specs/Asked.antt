@@ -1,5 +1,5 @@
 -- What a change asks of the tables of the registers, and whether they have the room for it.
-use Rattle.std.specs.Prelude.{◌≡◌, ◌↔◌, ◌+◌, ◌<◌, ◌≤◌, ◌^◌, ℕ, ℤ, List, [], ◌∷◌, length, map, Option, Some, None, Result, Err, OnOk}
+use Rattle.std.specs.Prelude.{◌≡◌, ◌↔◌, ◌+◌, ◌<◌, ◌≤◌, ◌^◌, ℕ, ℤ, pos, List, [], ◌∷◌, length, map, Option, Some, None, Result, Err, OnOk}
 use Rattle.std.specs.List.{AllByRecursion, Contains}
 use Rattle.sqlite.specs.State.{State}
 use Rattle.sqlite.specs.Tree.{Trees}
@@ -12,16 +12,15 @@ use Rattle.zeb_register.specs.declared.faults.RegFault.{RegFault}
 use Rattle.zeb_register.specs.declared.faults.RegFault.TheVariants.{Store}
 use Rattle.zeb_register.specs.Calls.{MayRefuse}
 use Rattle.zeb_register.specs.Clauses.{InStore}
-use Rattle.zeb_register.specs.Content.{Content, IsStorable}
-use Rattle.zeb_register.specs.Formats.{Format}
 use Rattle.zeb_register.specs.Hindrances.{FitsEachLayout, Placed, rows_of}
 use Rattle.zeb_register.specs.Room.{FitInRow, HasRoom}
+use Rattle.zeb_register.specs.Store.{HasRecord}
 use Rattle.zeb_change.specs.declared.key_notes.KeyNotes.{KeyNotes}
 use Rattle.zeb_change.specs.declared.pending.Pending.{Pending}
 use Rattle.zeb_change.specs.declared.settings.Kind.{Kind}
 use Rattle.zeb_change.specs.Costs.{newer_of, occurs_by}
 use Rattle.zeb_change.specs.NoteWords.{KeyChange}
-use Rattle.zeb_change.specs.Noted.{IsNotedIn, WillHold}
+use Rattle.zeb_change.specs.Noted.{IsNotedIn}
 
 -- ---- places that are noted
 
@@ -35,32 +34,42 @@ pub record PutsPlaces (notes : KeyNotes) (n : ℕ) : Type 0 where
   pub storable : AllByRecursion FitsEachLayout (map placed_by changes)
   pub many : n ≡ rows_of (map placed_by changes)
 
--- the notes put so many places in all, and a row of each of their keys holds as many as this bound says
+-- a row holds the key's term, and where some places of the key are put, as many as this bound says
+abbrev pub FitsPut : (bound put : ℕ) → Key → Type 0
+FitsPut bound put key = FitInRow 0 key × (1 ≤ put → FitInRow bound key)
+
+-- the notes put so many places in all, and a row of each of their keys holds its term, and as many places as this bound says where some are
+-- put
 abbrev pub PutAmong : (bound : ℕ) → List (Key × KeyNotes) → ℕ → Type 0
 PutAmong bound [] n = n ≡ 0
 PutAmong bound (entry ∷ entries) n =
-    (first : ℕ) × (rest : ℕ) × PutsPlaces entry.1 first × FitInRow bound entry.0 × PutAmong bound entries rest × (n ≡ first + rest)
+    (first : ℕ) × (rest : ℕ) × PutsPlaces entry.1 first × FitsPut bound first entry.0 × PutAmong bound entries rest × (n ≡ first + rest)
 
 -- the tables have room for the places that are noted and for so many more, of the most that are ever put
-pub record HasRoomFor (format : Format) (most : ℕ) (trees : Trees) (pending : Pending) (spare : ℕ) : Type 0 where
+pub record HasRoomFor (most : ℕ) (trees : Trees) (pending : Pending) (spare : ℕ) : Type 0 where
   pub noted : ℕ
   pub few : noted + spare ≤ most
   pub among : PutAmong (noted + spare) pending.notes.entries noted
-  pub room : HasRoom format (noted + spare) trees
+  pub room : HasRoom (noted + spare) trees
 
--- What a call does that writes what is noted. Let the registers hold a content that each layout can store once all is written, and let
--- there be room for it and for more: then the store fails for a cause alone, and what an accepted call leaves is room for the rest.
-abbrev pub WritesInRoom : {T : Type 0} → Format → ℤ → (old new : State) → (before after : Pending) → Result T RegFault → Type 0
-WritesInRoom format db old new before after result =
-    (ahead : Content) (most spare : ℕ) → IsStorable ahead → InStore old new (λ trees. WillHold format trees db before ahead
-    → HasRoomFor format most trees before spare
-    → (result ≡ Err Store → MayRefuse old new) × OnOk result (HasRoomFor format most new.now.trees after spare))
+-- What a call does that writes what is noted, whatever rows the tables have. Let there be room for what is noted and for more: then the store
+-- fails for a cause alone, and what an accepted call leaves is room for the rest.
+abbrev pub WritesInRoom : {T : Type 0} → (old new : State) → (before after : Pending) → Result T RegFault → Type 0
+WritesInRoom old new before after result =
+    (most spare : ℕ) → InStore old new (λ trees. HasRoomFor most trees before spare
+    → (result ≡ Err Store → MayRefuse old new) × OnOk result (HasRoomFor most new.now.trees after spare))
 
 -- ---- places of occurrences
 
 -- numbers of an occurrence that each layout stores
 abbrev pub IsStorableOccurrence : Occurrence → Type 0
 IsStorableOccurrence o = ((1 ≤ o.seq) × (o.seq < 2 ^ 63)) × ((1 ≤ o.pos) × (o.pos < 2 ^ 63))
+
+-- ---- what is asked of the records that are kept
+
+-- each record of the database whose number isn't below 0 has a system number that a register can give
+abbrev pub HasSystemNumbers : Trees → ℤ → Type 0
+HasSystemNumbers trees db = (n : ℕ) (ident bytes : List ℕ) → HasRecord trees db (pos n) ident bytes → (1 ≤ n) × (n ≤ 999999999)
 
 -- ---- what records ask for
 

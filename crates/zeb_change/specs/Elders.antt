@@ -1,5 +1,6 @@
 -- What a change finds kept under a record's identifier, whatever rows the tables of the store have.
 use Rattle.std.specs.Prelude.{◌≡◌, ◌≢◌, ◌↔◌, ◌⊎◌, ◌≤◌, ℕ, ℤ, pos, List, [], ◌∷◌, Option, Some, None, Result, Ok, Err}
+use Rattle.sqlite.specs.declared.types.Value.TheVariants.{Int}
 use Rattle.sqlite.specs.State.{State}
 use Rattle.sqlite.specs.Tree.{Trees}
 use Rattle.sqlite_rules.specs.Lists.{Has}
@@ -7,13 +8,14 @@ use Rattle.zeb_marc.specs.declared.faults.MarcFault.{MarcFault}
 use Rattle.zeb_marc.specs.Records.{first_fault}
 use Rattle.zeb_marc.specs.Splits.{Split}
 use Rattle.zeb_profile.specs.declared.directives.Directive.{Directive}
-use Rattle.zeb_register.specs.Sound.{KeepsMalformed}
+use Rattle.zeb_register.specs.Sound.{KeepsMalformed, KeepsRowsBeside}
 use Rattle.zeb_register.specs.Store.{HasRecord, IsStore}
 use Rattle.zeb_change.specs.declared.refusals.Refusal.{Refusal}
 use Rattle.zeb_change.specs.declared.refusals.Refusal.TheVariants.{Damaged}
 use Rattle.zeb_change.specs.Refused.{why_of, IsFailing}
 use Rattle.zeb_change.specs.Folding.{ident_in}
 use Rattle.zeb_change.specs.Stored.{IsKept}
+use Rattle.zeb_change.specs.UnderWay.{KeepsNames}
 
 -- This has a number of 0 or more, and is a record of ISO 2709 in which the profile finds that identifier.
 abbrev pub IsWhole : List Directive → (sysno : ℤ) → (ident bytes : List ℕ) → Type 0
@@ -87,10 +89,13 @@ KeepsAside db old new = (other sysno : ℤ) (ident bytes : List ℕ) → other �
     → HasRecord new other sysno ident bytes ↔ HasRecord old other sysno ident bytes
 
 -- What an accepted change of a database does to any tables, and each part of it: only whole records are lost up to the last number, which
--- doesn't fall, none is touched of another database, and no malformed row of the packed registers is taken out or altered.
+-- doesn't fall; no record and no row of the registers is touched of another database, and no text and no row of the databases; and no
+-- malformed row of the packed registers is taken out or altered.
 pub record PassesOn (profile : List Directive) (db : ℤ) (last after : ℕ) (old new : State) : Type 0 where
   pub store : IsStore new
   pub rises : last ≤ after
   pub each : LosesWholeAlone profile last db old.now.trees new.now.trees
   pub aside : KeepsAside db old.now.trees new.now.trees
+  pub beside : KeepsRowsBeside (Int db ∷ []) old.now.trees new.now.trees
+  pub names : KeepsNames old new
   pub malformed : KeepsMalformed old.now.trees new.now.trees

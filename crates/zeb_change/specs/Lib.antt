@@ -16,6 +16,7 @@ pub mod UnderWay
 pub mod Holding
 pub mod Elders
 pub mod PrivateElders
+pub mod Reasons
 pub mod Reposted
 pub mod NoteWords
 pub mod Noted
@@ -28,3 +29,4 @@ pub mod PrivatePending
 pub mod PrivateStanding
 pub mod PrivateRecords
 pub mod PrivateAsked
+pub mod PrivateReasons

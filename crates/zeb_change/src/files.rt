@@ -1,20 +1,24 @@
 //! The records of files, folded into a database inside a transaction.
 
-ghost use Rattle.std.specs.Prelude.{◌≡◌, ◌≢◌, ◌+◌, ◌<◌, ◌^◌, ℕ, ℤ, List, map, Some, Ok, Err, true, false, IsTrue, IfErr, OnOk};
+ghost use Rattle.std.specs.Prelude.{◌≡◌, ◌≢◌, ◌⊎◌, ◌+◌, ◌<◌, ◌≤◌, ◌^◌, ℕ, ℤ, List, [], ◌∷◌, length, map, Some, None, Ok, Err, true, false};
+ghost use Rattle.std.specs.Prelude.{IsTrue, IfErr, OnOk};
+ghost use Rattle.std.specs.List.{flat_map};
 ghost use Rattle.sqlite.specs.Held.{state};
 ghost use Rattle.sqlite.specs.State.{HasCleanDisk, Survives};
-ghost use Rattle.zeb_marc.specs.Splits.{next_of, split_of};
+ghost use Rattle.zeb_marc.specs.Splits.{Split, next_of, split_of};
 ghost use Rattle.zeb_register.specs.Calls.{MayRefuse};
 ghost use Rattle.zeb_register.specs.Clauses.{InStore};
 ghost use Rattle.zeb_register.specs.Formats.{Format};
 ghost use Rattle.zeb_register.specs.Hindrances.{HasRowids};
 ghost use Rattle.zeb_register.specs.Room.{HasRoom};
 ghost use Rattle.zeb_register.specs.Store.{records_tree};
-ghost use Rattle.zeb_change.specs.Asked.{AskFiles, AskSlices, AsksRecord};
+ghost use Rattle.zeb_change.specs.Asked.{AskFiles, AskSlices, AsksRecord, HasSystemNumbers};
 ghost use Rattle.zeb_change.specs.Folding.{Progress as FoldProgress, record_folded, file_folded, files_folded, splits_of};
 ghost use Rattle.zeb_change.specs.Base.{Base, Kept};
 ghost use Rattle.zeb_change.specs.Elders.{AllFindWhole, AreWholeBefore, FindsWhole, FirstFindsWhole, IsWholeBefore, PassesOn};
 ghost use Rattle.zeb_change.specs.PrivateElders.{OfFirst, PassesEmpty};
+ghost use Rattle.zeb_change.specs.Reasons.{IsRefusedFor, LosesNamedAlone};
+ghost use Rattle.zeb_change.specs.PrivateReasons.{IsDamageOrFailure, IsRecordRefused, IsRefusedIn, TakesNamed};
 ghost use Rattle.zeb_change.specs.Costs.{IsCostIn, IsFilesCost, IsSlicesCost, IsWorkFor, newer_of};
 ghost use Rattle.zeb_change.specs.Refused.{NeverUnready, Meets};
 ghost use Rattle.zeb_change.specs.Reading.{NamesFailed, NoneFailed, NoReadFault, TellsFailed, BlamesFailed};
@@ -99,6 +103,7 @@ fn note_record<S: Alter>(
     ensures same { tx.new.conn.ghost_name ≡ tx.old.conn.ghost_name }
     ensures inside { WorksInside (state S.Store tx.old.conn.now) (state S.Store tx.new.conn.now) result }
     ensures place { (fold.new.progress.database ≡ fold.old.progress.database) × (fold.new.progress.work ≡ fold.old.progress.work) }
+    ensures lasts { (most : ℕ) → fold.old.progress.last ≤ most → setting.now.limits.numbers ≤ most → fold.new.progress.last ≤ most }
     ensures counted { OnOk result (fold.new.tally.records ≡ fold.old.tally.records + 1) }
     ensures folded { HasCleanDisk (state S.Store tx.new.conn.now) → IsTrue (state S.Store tx.old.conn.now).in_transaction
         → (format : Format) → Folds format setting.now fold.old fold.new (standing (state S.Store tx.old.conn.now) pending.old)
@@ -116,7 +121,7 @@ fn note_record<S: Alter>(
         → OnOk result ((n : ℕ) × IsCostIn setting.now.profile.now setting.now.kind incoming.entry.bytes.now base n
         × (noted_count pending.new ≡ noted_count pending.old + n)) }
     ensures room { HasCleanDisk (state S.Store tx.new.conn.now) → IsTrue (state S.Store tx.old.conn.now).in_transaction
-        → (format : Format) → FoldsInRoom format setting.now.profile.now fold.old (standing (state S.Store tx.old.conn.now) pending.old)
+        → FoldsInRoom fold.old.progress.database.0 (standing (state S.Store tx.old.conn.now) pending.old)
         (standing (state S.Store tx.new.conn.now) pending.new)
         (λ most. AsksRecord setting.now.profile.now most (newer_of setting.now.kind incoming.entry.bytes.now)) result }
     ensures elder { InStore (state S.Store tx.old.conn.now) (state S.Store tx.new.conn.now) (λ trees.
@@ -126,6 +131,13 @@ fn note_record<S: Alter>(
         (PassesOn setting.now.profile.now fold.old.progress.database.0 fold.old.progress.last fold.new.progress.last
         (state S.Store tx.old.conn.now) (state S.Store tx.new.conn.now)
         × IsWholeBefore setting.now.profile.now fold.old.progress.last trees fold.old.progress.database.0 incoming.entry.bytes.now)) }
+    ensures reasons { InStore (state S.Store tx.old.conn.now) (state S.Store tx.new.conn.now) (λ trees. IfErr result
+        (IsRecordRefused setting.now.profile.now setting.now.kind setting.now.limits fold.old.progress.last fold.old.tally.records trees
+        fold.old.progress.database.0 incoming.entry.file incoming.entry.nth incoming.entry.bytes.now)) }
+    ensures named { InStore (state S.Store tx.old.conn.now) (state S.Store tx.new.conn.now) (λ trees. OnOk result
+        (TakesNamed setting.now.profile.now fold.old.progress.database.0 (incoming.entry.bytes.now ∷ []) fold.old.progress.last
+        fold.old.tally.records trees fold.new.progress.last fold.new.tally.records (state S.Store tx.new.conn.now).now.trees)) }
+    ensures most { OnOk result (fold.new.tally.records ≤ setting.now.limits.records) }
 {
     if fold.tally.records >= setting.limits.records {
         return Err(Refusal::TooManyRecords);
@@ -146,6 +158,7 @@ fn take_record<S: Alter, L: Layout>(
     ensures same { tx.new.conn.ghost_name ≡ tx.old.conn.ghost_name }
     ensures inside { WorksInside (state S.Store tx.old.conn.now) (state S.Store tx.new.conn.now) result }
     ensures database { fold.new.progress.database ≡ fold.old.progress.database }
+    ensures lasts { (most : ℕ) → fold.old.progress.last ≤ most → setting.now.limits.numbers ≤ most → fold.new.progress.last ≤ most }
     ensures counted { OnOk result (fold.new.tally.records ≡ fold.old.tally.records + 1) }
     ensures folded { HasCleanDisk (state S.Store tx.new.conn.now) → IsTrue (state S.Store tx.old.conn.now).in_transaction
         → Folds L.format setting.now fold.old fold.new (standing (state S.Store tx.old.conn.now) pending.old)
@@ -162,7 +175,7 @@ fn take_record<S: Alter, L: Layout>(
         (λ c p. IsCostIn c.profile setting.now.kind incoming.entry.bytes.now p.base) result }
     ensures no_work { L.row_work ≡ 0 → fold.new.progress.work ≡ fold.old.progress.work }
     ensures room { HasCleanDisk (state S.Store tx.new.conn.now) → IsTrue (state S.Store tx.old.conn.now).in_transaction
-        → FoldsInRoom L.format setting.now.profile.now fold.old (standing (state S.Store tx.old.conn.now) pending.old)
+        → FoldsInRoom fold.old.progress.database.0 (standing (state S.Store tx.old.conn.now) pending.old)
         (standing (state S.Store tx.new.conn.now) pending.new)
         (λ most. AsksRecord setting.now.profile.now most (newer_of setting.now.kind incoming.entry.bytes.now)) result }
     ensures elder { InStore (state S.Store tx.old.conn.now) (state S.Store tx.new.conn.now) (λ trees.
@@ -172,6 +185,13 @@ fn take_record<S: Alter, L: Layout>(
         (PassesOn setting.now.profile.now fold.old.progress.database.0 fold.old.progress.last fold.new.progress.last
         (state S.Store tx.old.conn.now) (state S.Store tx.new.conn.now)
         × IsWholeBefore setting.now.profile.now fold.old.progress.last trees fold.old.progress.database.0 incoming.entry.bytes.now)) }
+    ensures reasons { InStore (state S.Store tx.old.conn.now) (state S.Store tx.new.conn.now) (λ trees. IfErr result
+        (IsRecordRefused setting.now.profile.now setting.now.kind setting.now.limits fold.old.progress.last fold.old.tally.records trees
+        fold.old.progress.database.0 incoming.entry.file incoming.entry.nth incoming.entry.bytes.now)) }
+    ensures named { InStore (state S.Store tx.old.conn.now) (state S.Store tx.new.conn.now) (λ trees. OnOk result
+        (TakesNamed setting.now.profile.now fold.old.progress.database.0 (incoming.entry.bytes.now ∷ []) fold.old.progress.last
+        fold.old.tally.records trees fold.new.progress.last fold.new.tally.records (state S.Store tx.new.conn.now).now.trees)) }
+    ensures most { OnOk result (fold.new.tally.records ≤ setting.now.limits.records) }
 {
     note_record(tx, setting, fold, pending, incoming)?;
     let database = fold.progress.database;
@@ -198,6 +218,7 @@ fn fold_file<S: Alter, L: Layout, R: Source>(
     ensures same { tx.new.conn.ghost_name ≡ tx.old.conn.ghost_name }
     ensures inside { WorksInside (state S.Store tx.old.conn.now) (state S.Store tx.new.conn.now) result }
     ensures database { fold.new.progress.database ≡ fold.old.progress.database }
+    ensures lasts { (most : ℕ) → fold.old.progress.last ≤ most → setting.now.limits.numbers ≤ most → fold.new.progress.last ≤ most }
     ensures folded { HasCleanDisk (state S.Store tx.new.conn.now) → IsTrue (state S.Store tx.old.conn.now).in_transaction
         → (text : List ℕ) → R.remaining reader.old ≡ Some text → R.has_failed reader.new ≡ false
         → Folds L.format setting.now fold.old fold.new (standing (state S.Store tx.old.conn.now) pending.old)
@@ -217,7 +238,7 @@ fn fold_file<S: Alter, L: Layout, R: Source>(
     ensures no_work { L.row_work ≡ 0 → fold.new.progress.work ≡ fold.old.progress.work }
     ensures room { HasCleanDisk (state S.Store tx.new.conn.now) → IsTrue (state S.Store tx.old.conn.now).in_transaction
         → (text : List ℕ) → R.remaining reader.old ≡ Some text
-        → FoldsInRoom L.format setting.now.profile.now fold.old (standing (state S.Store tx.old.conn.now) pending.old)
+        → FoldsInRoom fold.old.progress.database.0 (standing (state S.Store tx.old.conn.now) pending.old)
         (standing (state S.Store tx.new.conn.now) pending.new)
         (λ most. AskSlices setting.now.profile.now setting.now.kind most (split_of text).slices) result }
     ensures elder { InStore (state S.Store tx.old.conn.now) (state S.Store tx.new.conn.now) (λ trees.
@@ -233,6 +254,17 @@ fn fold_file<S: Alter, L: Layout, R: Source>(
         (state S.Store tx.old.conn.now) (state S.Store tx.new.conn.now)
         × ((text : List ℕ) → R.remaining reader.old ≡ Some text
         → AreWholeBefore setting.now.profile.now fold.old.progress.last trees fold.old.progress.database.0 (split_of text).slices))) }
+    ensures reasons { InStore (state S.Store tx.old.conn.now) (state S.Store tx.new.conn.now) (λ trees. (text : List ℕ)
+        → R.remaining reader.old ≡ Some text → R.has_failed reader.new ≡ false → IfErr result (λ refusal. IsDamageOrFailure refusal
+        ⊎ IsRefusedIn setting.now.profile.now setting.now.kind setting.now.limits fold.old.progress.last fold.old.tally.records trees
+        fold.old.progress.database.0 file (split_of text) refusal)) }
+    ensures named { InStore (state S.Store tx.old.conn.now) (state S.Store tx.new.conn.now) (λ trees. (text : List ℕ)
+        → R.remaining reader.old ≡ Some text → OnOk result
+        (TakesNamed setting.now.profile.now fold.old.progress.database.0 (split_of text).slices fold.old.progress.last
+        fold.old.tally.records trees fold.new.progress.last fold.new.tally.records (state S.Store tx.new.conn.now).now.trees
+        × ((split_of text).fault ≡ None))) }
+    ensures most { OnOk result (fold.old.tally.records ≤ setting.now.limits.records
+        → fold.new.tally.records ≤ setting.now.limits.records) }
 {
     for nth in 1..u64::MAX {
         if !read_record(reader, buffer, file, nth)? {
@@ -261,6 +293,7 @@ fn fold_readers<S: Alter, L: Layout, R: Source>(
     ensures same { tx.new.conn.ghost_name ≡ tx.old.conn.ghost_name }
     ensures inside { WorksInside (state S.Store tx.old.conn.now) (state S.Store tx.new.conn.now) result }
     ensures database { fold.new.progress.database ≡ fold.old.progress.database }
+    ensures lasts { (most : ℕ) → fold.old.progress.last ≤ most → setting.now.limits.numbers ≤ most → fold.new.progress.last ≤ most }
     ensures folded { HasCleanDisk (state S.Store tx.new.conn.now) → IsTrue (state S.Store tx.old.conn.now).in_transaction
         → (texts : List (List ℕ)) → map R.remaining readers.old ≡ map Some texts → NoneFailed R.has_failed readers.new
         → Folds L.format setting.now fold.old fold.new (standing (state S.Store tx.old.conn.now) pending.old)
@@ -280,7 +313,7 @@ fn fold_readers<S: Alter, L: Layout, R: Source>(
     ensures no_work { L.row_work ≡ 0 → fold.new.progress.work ≡ fold.old.progress.work }
     ensures room { HasCleanDisk (state S.Store tx.new.conn.now) → IsTrue (state S.Store tx.old.conn.now).in_transaction
         → (texts : List (List ℕ)) → map R.remaining readers.old ≡ map Some texts
-        → FoldsInRoom L.format setting.now.profile.now fold.old (standing (state S.Store tx.old.conn.now) pending.old)
+        → FoldsInRoom fold.old.progress.database.0 (standing (state S.Store tx.old.conn.now) pending.old)
         (standing (state S.Store tx.new.conn.now) pending.new)
         (λ most. AskFiles setting.now.profile.now setting.now.kind most (splits_of texts)) result }
     ensures elder { InStore (state S.Store tx.old.conn.now) (state S.Store tx.new.conn.now) (λ trees.
@@ -293,6 +326,17 @@ fn fold_readers<S: Alter, L: Layout, R: Source>(
     ensures passes { InStore (state S.Store tx.old.conn.now) (state S.Store tx.new.conn.now) (λ _. OnOk result
         (PassesOn setting.now.profile.now fold.old.progress.database.0 fold.old.progress.last fold.new.progress.last
         (state S.Store tx.old.conn.now) (state S.Store tx.new.conn.now))) }
+    ensures reasons { InStore (state S.Store tx.old.conn.now) (state S.Store tx.new.conn.now) (λ trees. (texts : List (List ℕ))
+        → map R.remaining readers.old ≡ map Some texts → NoneFailed R.has_failed readers.new
+        → IfErr result (IsRefusedFor setting.now.profile.now setting.now.kind setting.now.limits fold.old.progress.last
+        fold.old.tally.records trees fold.old.progress.database.0 (splits_of texts))) }
+    ensures named { InStore (state S.Store tx.old.conn.now) (state S.Store tx.new.conn.now) (λ trees. (texts : List (List ℕ))
+        → map R.remaining readers.old ≡ map Some texts
+        → OnOk result (TakesNamed setting.now.profile.now fold.old.progress.database.0
+        (flat_map (λ (split : Split). split.slices) (splits_of texts)) fold.old.progress.last fold.old.tally.records trees
+        fold.new.progress.last fold.new.tally.records (state S.Store tx.new.conn.now).now.trees)) }
+    ensures most { OnOk result (fold.old.tally.records ≤ setting.now.limits.records
+        → fold.new.tally.records ≤ setting.now.limits.records) }
 {
     for (index, reader) in readers.iter_mut().enumerate() {
         let file = index as u64 + 1;
@@ -345,16 +389,31 @@ pub fn fold_files<S: Alter, L: Layout, R: Source>(
         × IsWorkFor L.row_work n fold.old.progress.work fold.new.progress.work) }
     // Over a layout whose rows count nothing the counts stay, whatever is answered, and whatever the tables and the readers are.
     ensures no_work { L.row_work ≡ 0 → fold.new.progress.work ≡ fold.old.progress.work }
-    // Where the tables have room for what the files ask for, a failed store has a cause.
-    ensures room { HasCleanDisk (state S.Store tx.new.conn.now) → IsTrue (state S.Store tx.old.conn.now).in_transaction
-        → (texts : List (List ℕ)) → map R.remaining readers.old ≡ map Some texts
-        → (records_of : ℤ → List Kept)
-        → HoldsSome L.format setting.now.profile.now fold.old.progress.database.0 records_of (state S.Store tx.old.conn.now)
-        fold.old.progress.last
-        → (places rowids : ℕ) → AskFiles setting.now.profile.now setting.now.kind places (splits_of texts) places rowids
-        → HasRoom L.format places (state S.Store tx.old.conn.now).now.trees
-        → HasRowids rowids records_tree (state S.Store tx.old.conn.now).now.trees → rowids < 2 ^ 63
-        → result ≡ Err Refusal.Store → MayRefuse (state S.Store tx.old.conn.now) (state S.Store tx.new.conn.now) }
+    // The last number rises no further than the limit, whatever is answered.
+    ensures lasts { (most : ℕ) → fold.old.progress.last ≤ most → setting.now.limits.numbers ≤ most → fold.new.progress.last ≤ most }
+    // Whatever rows the tables have: where they have room for what the files ask for, a failed store has a cause.
+    ensures room { InStore (state S.Store tx.old.conn.now) (state S.Store tx.new.conn.now) (λ trees. (texts : List (List ℕ))
+        → map R.remaining readers.old ≡ map Some texts → (places rowids : ℕ)
+        → AskFiles setting.now.profile.now setting.now.kind places (splits_of texts) places rowids
+        → HasRoom places trees → HasRowids rowids records_tree trees → rowids < 2 ^ 63
+        → HasSystemNumbers trees fold.old.progress.database.0
+        → result ≡ Err Refusal.Store → MayRefuse (state S.Store tx.old.conn.now) (state S.Store tx.new.conn.now)) }
+    // And whatever rows they have: refused, but for damage and a failure, it is so for the reason at the first place of the files that has
+    // one, by what stands there and by the limits.
+    ensures reasons { InStore (state S.Store tx.old.conn.now) (state S.Store tx.new.conn.now) (λ trees. (texts : List (List ℕ))
+        → map R.remaining readers.old ≡ map Some texts → NoneFailed R.has_failed readers.new
+        → IfErr result (IsRefusedFor setting.now.profile.now setting.now.kind setting.now.limits fold.old.progress.last
+        fold.old.tally.records trees fold.old.progress.database.0 (splits_of texts))) }
+    // Accepted, it has lost no record up to the last number but under identifiers that records of the files have.
+    ensures named { InStore (state S.Store tx.old.conn.now) (state S.Store tx.new.conn.now) (λ trees. (texts : List (List ℕ))
+        → map R.remaining readers.old ≡ map Some texts
+        → OnOk result (LosesNamedAlone setting.now.profile.now fold.old.progress.last fold.old.progress.database.0 (splits_of texts)
+        trees (state S.Store tx.new.conn.now).now.trees)) }
+    // And it has taken no more records than the limit allows.
+    ensures most { InStore (state S.Store tx.old.conn.now) (state S.Store tx.new.conn.now) (λ _. (texts : List (List ℕ))
+        → map R.remaining readers.old ≡ map Some texts → fold.old.tally.records ≤ setting.now.limits.records
+        → OnOk result (fold.old.tally.records + length (flat_map (λ (split : Split). split.slices) (splits_of texts))
+        ≤ setting.now.limits.records)) }
     // Whatever rows the tables have: what is kept under the first record's identifier is whole, or the fold is refused as damage or by a
     // failure. The first record is that of the first file with one.
     ensures elder { InStore (state S.Store tx.old.conn.now) (state S.Store tx.new.conn.now) (λ trees.
@@ -367,7 +426,8 @@ pub fn fold_files<S: Alter, L: Layout, R: Source>(
         → map R.remaining readers.old ≡ map Some texts
         → OnOk result (AllFindWhole setting.now.profile.now fold.old.progress.last trees fold.old.progress.database.0 (splits_of texts))) }
     // Whatever the readers tell, too: where it is accepted, each record kept before that isn't kept after just as it was, with a number up
-    // to the database's last one, was whole; and each other database keeps just what it kept.
+    // to the database's last one, was whole; and each other database keeps just what it kept, in the registers too, with the texts and
+    // the databases as they were.
     ensures passes { InStore (state S.Store tx.old.conn.now) (state S.Store tx.new.conn.now) (λ _. OnOk result
         (PassesOn setting.now.profile.now fold.old.progress.database.0 fold.old.progress.last fold.new.progress.last
         (state S.Store tx.old.conn.now) (state S.Store tx.new.conn.now))) }

@@ -1,6 +1,6 @@
 //! What becomes of the keys of one record, noted to be written later.
 
-ghost use Rattle.std.specs.Prelude.{◌≡◌, ◌⊎◌, ◌+◌, ◌<◌, ◌≤◌, ◌^◌, ℕ, ℤ, length, OnOk};
+ghost use Rattle.std.specs.Prelude.{◌≡◌, ◌+◌, ◌<◌, ◌≤◌, ◌^◌, ℕ, ℤ, length, OnOk};
 ghost use Rattle.std.specs.List.{Contains};
 ghost use Rattle.zeb_keys.specs.Order.{IsRising};
 ghost use Rattle.zeb_register.specs.Content.{Content, HasRisingLists};
@@ -40,7 +40,7 @@ pub fn note_keys(
         × (noted_count pending.new ≡ noted_count pending.old + n)) }
     ensures room { (bound n : ℕ) → IsRising elder.now → IsRising newer.now → 1 ≤ sysno → sysno < 2 ^ 63
         → ((o : Occurrence) → Contains newer.now o → IsStorableOccurrence o)
-        → ((o : Occurrence) → Contains elder.now o ⊎ Contains newer.now o → FitInRow bound o.key)
+        → ((o : Occurrence) → Contains elder.now o → FitInRow 0 o.key) → ((o : Occurrence) → Contains newer.now o → FitInRow bound o.key)
         → PutAmong bound pending.old.notes.entries n
         → OnOk result ((more : ℕ) × (more ≤ length newer.now) × PutAmong bound pending.new.notes.entries (n + more)) }
 {

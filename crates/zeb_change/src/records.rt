@@ -1,6 +1,7 @@
 //! One record of a change: it is added, replaces a kept one, or takes it away.
 
-ghost use Rattle.std.specs.Prelude.{◌≡◌, ◌≢◌, ◌⊎◌, ◌↔◌, ◌+◌, ℕ, ℤ, List, Some, None, Result, Ok, Err, string_bytes, IsTrue, OnOk, IfOk, IfErr};
+ghost use Rattle.std.specs.Prelude.{◌≡◌, ◌≢◌, ◌⊎◌, ◌↔◌, ◌+◌, ◌<◌, ◌≤◌, ℕ, ℤ, List, [], ◌∷◌, Some, None, Result, Ok, Err};
+ghost use Rattle.std.specs.Prelude.{string_bytes, IsTrue, OnOk, IfOk, IfErr};
 ghost use Rattle.std.specs.List.{Contains};
 ghost use Rattle.sqlite.specs.Held.{state};
 ghost use Rattle.sqlite.specs.State.{HasCleanDisk};
@@ -23,6 +24,8 @@ ghost use Rattle.zeb_change.specs.PrivateRecords.{elder_bytes};
 ghost use Rattle.zeb_change.specs.Costs.{IsCostIn, newer_of};
 ghost use Rattle.zeb_change.specs.PrivateAsked.{KeepsInRoom, TakesRoom};
 ghost use Rattle.zeb_change.specs.PrivateInside.{WorksInside};
+ghost use Rattle.zeb_change.specs.PrivateReasons.{IsDamageOrFailure, IsFullOrFails, IsRecordRefused, LosesJustNamed};
+ghost use Rattle.zeb_change.specs.Reasons.{IsAtFault, IsNamed};
 ghost use Rattle.zeb_change.specs.Stored.{IsKept};
 ghost use Rattle.zeb_change.specs.UnderWay.{conditions_of};
 
@@ -78,6 +81,7 @@ fn elder_occurrences(
     ensures unread { NoReadFault result }
     ensures ready { NeverUnready result }
     ensures unstored { result ≢ Err Refusal.Store }
+    ensures reasons { IfErr result IsDamageOrFailure }
 {
     Ok(kept_occurrences(setting.alloc, setting.profile, ident, &elder.bytes)?)
 }
@@ -93,6 +97,7 @@ fn insert<S: Alter>(
     ensures same { tx.new.conn.ghost_name ≡ tx.old.conn.ghost_name }
     ensures inside { WorksInside (state S.Store tx.old.conn.now) (state S.Store tx.new.conn.now) result }
     ensures place { (progress.new.database ≡ progress.old.database) × (progress.new.work ≡ progress.old.work) }
+    ensures lasts { (most : ℕ) → progress.old.last ≤ most → setting.now.limits.numbers ≤ most → progress.new.last ≤ most }
     ensures taken { HasCleanDisk (state S.Store tx.new.conn.now) → IsTrue (state S.Store tx.old.conn.now).in_transaction
         → KeepsNewer setting.now progress.old.database.0 None newer.now (standing (state S.Store tx.old.conn.now) pending.old)
         (standing (state S.Store tx.new.conn.now) pending.new) progress.old.last progress.new.last result }
@@ -106,6 +111,8 @@ fn insert<S: Alter>(
     ensures others { InStore (state S.Store tx.old.conn.now) (state S.Store tx.new.conn.now) (λ _. OnOk result
         (KeepsOtherRecords progress.old.database.0 newer.now.ident.now progress.old.last progress.new.last
         (state S.Store tx.old.conn.now) (state S.Store tx.new.conn.now))) }
+    ensures next { progress.new.last ≤ progress.old.last + 1 }
+    ensures reasons { IfErr result (IsFullOrFails setting.now.limits progress.old.last) }
 {
     if progress.last >= setting.limits.numbers {
         return Err(Refusal::DatabaseFull);
@@ -143,6 +150,7 @@ fn replace<S: Alter>(
         IsElderOf trees progress.now.database.0 newer.now.ident.now (Some elder.now) → OnOk result
         (KeepsOtherRecords progress.now.database.0 newer.now.ident.now progress.now.last progress.now.last
         (state S.Store tx.old.conn.now) (state S.Store tx.new.conn.now))) }
+    ensures reasons { IfErr result IsDamageOrFailure }
 {
     let old = elder_occurrences(setting, newer.ident, elder)?;
     let sysno = elder.sysno;
@@ -171,15 +179,16 @@ fn withdraw<S: Alter>(
     ensures ready { NeverUnready result }
     ensures cost { OnOk result (NotesAs setting.now.profile.now (Some elder.now.bytes.items) None pending.old pending.new) }
     ensures room { HasCleanDisk (state S.Store tx.new.conn.now) → IsTrue (state S.Store tx.old.conn.now).in_transaction
+        → IsElderOf (state S.Store tx.old.conn.now).now.trees progress.now.database.0 ident.now (Some elder.now)
         → TakesRoom setting.now.profile.now progress.now.database.0 (standing (state S.Store tx.old.conn.now) pending.old)
-        (standing (state S.Store tx.new.conn.now) pending.new)
-        (λ base. IsElderAs ident.now base (Some elder.now)) None result }
+        (standing (state S.Store tx.new.conn.now) pending.new) None result }
     ensures elder { GoesBy (IsWholeElder setting.now.profile.now ident.now (Some elder.now)) result }
     ensures stored { result ≡ Err Refusal.Store → IsWholeElder setting.now.profile.now ident.now (Some elder.now) }
     ensures others { InStore (state S.Store tx.old.conn.now) (state S.Store tx.new.conn.now) (λ trees.
         IsElderOf trees progress.now.database.0 ident.now (Some elder.now) → OnOk result
         (KeepsOtherRecords progress.now.database.0 ident.now progress.now.last progress.now.last
         (state S.Store tx.old.conn.now) (state S.Store tx.new.conn.now))) }
+    ensures reasons { IfErr result IsDamageOrFailure }
 {
     let old = elder_occurrences(setting, ident, elder)?;
     let sysno = elder.sysno;
@@ -210,6 +219,7 @@ fn keep<S: Alter>(
     ensures same { tx.new.conn.ghost_name ≡ tx.old.conn.ghost_name }
     ensures inside { WorksInside (state S.Store tx.old.conn.now) (state S.Store tx.new.conn.now) result }
     ensures place { (progress.new.database ≡ progress.old.database) × (progress.new.work ≡ progress.old.work) }
+    ensures lasts { (most : ℕ) → progress.old.last ≤ most → setting.now.limits.numbers ≤ most → progress.new.last ≤ most }
     ensures taken { HasCleanDisk (state S.Store tx.new.conn.now) → IsTrue (state S.Store tx.old.conn.now).in_transaction
         → KeepsNewer setting.now progress.old.database.0 elder newer.now (standing (state S.Store tx.old.conn.now) pending.old)
         (standing (state S.Store tx.new.conn.now) pending.new) progress.old.last progress.new.last result }
@@ -225,6 +235,9 @@ fn keep<S: Alter>(
         IsElderOf trees progress.old.database.0 newer.now.ident.now elder → OnOk result
         (KeepsOtherRecords progress.old.database.0 newer.now.ident.now progress.old.last progress.new.last
         (state S.Store tx.old.conn.now) (state S.Store tx.new.conn.now))) }
+    ensures next { progress.new.last ≤ progress.old.last + 1 }
+    ensures reasons { IfErr result (λ refusal. ((elder ≡ None) × IsFullOrFails setting.now.limits progress.old.last refusal)
+        ⊎ IsDamageOrFailure refusal) }
 {
     match elder {
         Some(elder) => replace(tx, setting, progress, pending, &elder, newer),
@@ -246,6 +259,8 @@ fn sound_record<'a>(
     ensures unread { NoReadFault result }
     ensures ready { NeverUnready result }
     ensures unstored { result ≢ Err Refusal.Store }
+    ensures faults { IfErr result (λ refusal. IsFailing (why_of refusal)
+        ⊎ IsAtFault setting.now.profile.now incoming.entry.file incoming.entry.nth (incoming.entry.bytes.now ∷ []) None refusal) }
 {
     let Incoming { bytes, file, nth } = incoming;
     let record = match Marc::read(bytes) {
@@ -269,6 +284,7 @@ pub(crate) fn change_record<S: Alter>(
     ensures same { tx.new.conn.ghost_name ≡ tx.old.conn.ghost_name }
     ensures inside { WorksInside (state S.Store tx.old.conn.now) (state S.Store tx.new.conn.now) result }
     ensures place { (progress.new.database ≡ progress.old.database) × (progress.new.work ≡ progress.old.work) }
+    ensures lasts { (most : ℕ) → progress.old.last ≤ most → setting.now.limits.numbers ≤ most → progress.new.last ≤ most }
     ensures taken { HasCleanDisk (state S.Store tx.new.conn.now) → IsTrue (state S.Store tx.old.conn.now).in_transaction
         → (version : List ℕ) (format : Format) (records_of : ℤ → List Kept) (base : Base) → progress.old.last ≡ base.last
         → WillBe format setting.now.profile.now progress.old.database.0 records_of
@@ -295,7 +311,7 @@ pub(crate) fn change_record<S: Alter>(
         × (noted_count pending.new ≡ noted_count pending.old + n)) }
     ensures room { HasCleanDisk (state S.Store tx.new.conn.now) → IsTrue (state S.Store tx.old.conn.now).in_transaction
         → TakesRoom setting.now.profile.now progress.old.database.0 (standing (state S.Store tx.old.conn.now) pending.old)
-        (standing (state S.Store tx.new.conn.now) pending.new) (λ _. Unit {0})
+        (standing (state S.Store tx.new.conn.now) pending.new)
         (newer_of setting.now.kind incoming.entry.bytes.now) result }
     // Whatever rows the tables have.
     ensures elder { InStore (state S.Store tx.old.conn.now) (state S.Store tx.new.conn.now) (λ trees. (ident : List ℕ)
@@ -308,6 +324,15 @@ pub(crate) fn change_record<S: Alter>(
     ensures passes { InStore (state S.Store tx.old.conn.now) (state S.Store tx.new.conn.now) (λ _. OnOk result
         (PassesOn setting.now.profile.now progress.old.database.0 progress.old.last progress.new.last
         (state S.Store tx.old.conn.now) (state S.Store tx.new.conn.now))) }
+    ensures next { progress.new.last ≤ progress.old.last + 1 }
+    ensures reasons { InStore (state S.Store tx.old.conn.now) (state S.Store tx.new.conn.now) (λ trees. (taken : ℕ)
+        → taken < setting.now.limits.records → IfErr result
+        (IsRecordRefused setting.now.profile.now setting.now.kind setting.now.limits progress.old.last taken trees
+        progress.old.database.0 incoming.entry.file incoming.entry.nth incoming.entry.bytes.now)) }
+    ensures sound { OnOk result ((ident : List ℕ) × IsNamed setting.now.profile.now incoming.entry.bytes.now ident) }
+    ensures named { InStore (state S.Store tx.old.conn.now) (state S.Store tx.new.conn.now) (λ trees. OnOk result
+        (LosesJustNamed setting.now.profile.now progress.old.last progress.old.database.0 (incoming.entry.bytes.now ∷ []) trees
+        (state S.Store tx.new.conn.now).now.trees)) }
 {
     let Incoming { bytes, file, nth } = incoming;
     let (record, named) = sound_record(setting, incoming)?;

@@ -1,16 +1,17 @@
 //! Noted changes of keys, written into the registers key by key.
 
-ghost use Rattle.std.specs.Prelude.{◌≡◌, ◌+◌, ℕ, List, Err, IsTrue, OnOk, IfOk, length, map};
+ghost use Rattle.std.specs.Prelude.{◌≡◌, ◌+◌, ℕ, List, [], ◌∷◌, Err, IsTrue, OnOk, IfOk, length, map};
+ghost use Rattle.sqlite.specs.declared.types.Value.TheVariants.{Int};
 ghost use Rattle.sqlite.specs.Held.{state};
 ghost use Rattle.sqlite.specs.State.{HasCleanDisk};
 ghost use Rattle.zeb_register.specs.Calls.{GoesOn, Inside, MayRefuse};
 ghost use Rattle.zeb_register.specs.Clauses.{InStore};
 ghost use Rattle.zeb_register.specs.Content.{Content, IsStorable};
 ghost use Rattle.zeb_register.specs.Formats.{holds_in};
-ghost use Rattle.zeb_register.specs.Room.{FitInRow, HasRoom};
-ghost use Rattle.zeb_register.specs.Sound.{KeepsMalformed};
+ghost use Rattle.zeb_register.specs.Room.{HasRoom};
+ghost use Rattle.zeb_register.specs.Sound.{KeepsMalformed, KeepsRowsBeside};
 ghost use Rattle.zeb_register.specs.Store.{IsStore, KeepsLists};
-ghost use Rattle.zeb_change.specs.Asked.{PutsPlaces, WritesInRoom};
+ghost use Rattle.zeb_change.specs.Asked.{FitsPut, PutsPlaces, WritesInRoom};
 ghost use Rattle.zeb_change.specs.Costs.{IsWorkFor};
 ghost use Rattle.zeb_change.specs.NoteWords.{KeyChange};
 ghost use Rattle.zeb_change.specs.Noted.{IsNothingNoted, Settles};
@@ -88,11 +89,12 @@ fn write_key<S: Alter, L: Layout>(
     ensures no_work { L.row_work ≡ 0 → work.new ≡ work.old }
     ensures malformed { InStore (state S.Store tx.old.conn.now) (state S.Store tx.new.conn.now) (λ trees. OnOk result
         (KeepsMalformed trees (state S.Store tx.new.conn.now).now.trees)) }
-    ensures room { (content : Content) (n left : ℕ) → PutsPlaces notes.now n → FitInRow (n + left) key.now
-        → InStore (state S.Store tx.old.conn.now) (state S.Store tx.new.conn.now) (λ trees. holds_in L.format trees content
-        → HasRoom L.format (n + left) trees
+    ensures beside { InStore (state S.Store tx.old.conn.now) (state S.Store tx.new.conn.now) (λ trees. OnOk result
+        (KeepsRowsBeside (Int db.0 ∷ []) trees (state S.Store tx.new.conn.now).now.trees)) }
+    ensures room { (n left : ℕ) → PutsPlaces notes.now n → FitsPut (n + left) n key.now
+        → InStore (state S.Store tx.old.conn.now) (state S.Store tx.new.conn.now) (λ trees. HasRoom (n + left) trees
         → (result ≡ Err RegFault.Store → MayRefuse (state S.Store tx.old.conn.now) (state S.Store tx.new.conn.now))
-        × OnOk result (HasRoom L.format left (state S.Store tx.new.conn.now).now.trees)) }
+        × OnOk result (HasRoom left (state S.Store tx.new.conn.now).now.trees)) }
 {
     let (counts, places) = notes.read(alloc)?;
     let given = given(alloc, &counts, &places)?;
@@ -116,10 +118,11 @@ pub fn write_pending<S: Alter, L: Layout>(
     ensures call { Settles L.format L.row_work db.0 (state S.Store tx.old.conn.now) (state S.Store tx.new.conn.now) pending.old pending.new
         work.old work.new result }
     ensures all { OnOk result (IsNothingNoted pending.new) }
-    ensures room { WritesInRoom L.format db.0 (state S.Store tx.old.conn.now) (state S.Store tx.new.conn.now) pending.old pending.new
-        result }
+    ensures room { WritesInRoom (state S.Store tx.old.conn.now) (state S.Store tx.new.conn.now) pending.old pending.new result }
     ensures malformed { InStore (state S.Store tx.old.conn.now) (state S.Store tx.new.conn.now) (λ trees. OnOk result
         (KeepsMalformed trees (state S.Store tx.new.conn.now).now.trees)) }
+    ensures beside { InStore (state S.Store tx.old.conn.now) (state S.Store tx.new.conn.now) (λ trees. OnOk result
+        (KeepsRowsBeside (Int db.0 ∷ []) trees (state S.Store tx.new.conn.now).now.trees)) }
     // Over a layout whose rows count nothing the counts stay, also where it is refused.
     ensures no_work { L.row_work ≡ 0 → work.new ≡ work.old }
 {
@@ -141,10 +144,11 @@ pub fn write_where_full<S: Alter, L: Layout>(
     ensures same { tx.new.conn.ghost_name ≡ tx.old.conn.ghost_name }
     ensures call { Settles L.format L.row_work db.0 (state S.Store tx.old.conn.now) (state S.Store tx.new.conn.now) pending.old pending.new
         work.old work.new result }
-    ensures room { WritesInRoom L.format db.0 (state S.Store tx.old.conn.now) (state S.Store tx.new.conn.now) pending.old pending.new
-        result }
+    ensures room { WritesInRoom (state S.Store tx.old.conn.now) (state S.Store tx.new.conn.now) pending.old pending.new result }
     ensures malformed { InStore (state S.Store tx.old.conn.now) (state S.Store tx.new.conn.now) (λ trees. OnOk result
         (KeepsMalformed trees (state S.Store tx.new.conn.now).now.trees)) }
+    ensures beside { InStore (state S.Store tx.old.conn.now) (state S.Store tx.new.conn.now) (λ trees. OnOk result
+        (KeepsRowsBeside (Int db.0 ∷ []) trees (state S.Store tx.new.conn.now).now.trees)) }
     ensures no_work { L.row_work ≡ 0 → work.new ≡ work.old }
 {
     if pending.is_full() {

@@ -51,7 +51,7 @@ kept_registers id name last old new put =
 pub kept_records : (id : ℤ) (name : List ℕ) (last : ℤ) (old new : State) → Changes databases_tree (PutsDatabase id name last) old new → new.now.trees 4 ≡ old.now.trees 4
 kept_records id name last old new put = put.others.1.1.0 (λ e. absurd (omega (arith, e)))
 
-kept_texts : (id : ℤ) (name : List ℕ) (last : ℤ) (old new : State) → Changes databases_tree (PutsDatabase id name last) old new → new.now.trees 0 ≡ old.now.trees 0
+pub kept_texts : (id : ℤ) (name : List ℕ) (last : ℤ) (old new : State) → Changes databases_tree (PutsDatabase id name last) old new → new.now.trees 0 ≡ old.now.trees 0
 kept_texts id name last old new put = put.others.0 (λ e. absurd (omega (arith, e)))
 
 -- the register as the records begin to be folded in: the database is there, under this id and with this last number

@@ -21,8 +21,7 @@ use Rattle.zeb_engine.specs.Checking.{IsSomeImage, TellsImage}
 use Rattle.zeb_engine.specs.PrivateLooking.{IsUnready}
 use Rattle.zeb_engine.specs.Readiness.{IsReadyFor, IsRefusedOver}
 use Rattle.zeb_engine.specs.Steps.{checked, checked_from, ready}
-use Rattle.zeb_engine.specs.Works.{Always}
-use Rattle.zeb_engine.specs.PrivateWorks.{Serves}
+use Rattle.zeb_engine.specs.PrivateWorks.{Always, Serves}
 use Rattle.zeb_engine.proofs.ListedDatabases.{fault_fails}
 use Rattle.zeb_engine.proofs.Ready.{ready_good, ready_is}
 use Rattle.zeb_engine.proofs.RenewalTexts.{ready_held}

@@ -27,8 +27,8 @@ use Rattle.zeb_engine.specs.Steps.{Ends, Outcome}
 use Rattle.zeb_engine.specs.Transactions.{EnduresRefusal, IsDurable, LeavesNoMore}
 use Rattle.zeb_engine.specs.declared.writes.Write.{Write}
 use Rattle.zeb_engine.specs.PrivateWriting.{Fits, IsReached, written}
-use Rattle.zeb_engine.specs.Works.{Always, ServesBy}
-use Rattle.zeb_engine.specs.PrivateWorks.{ReachesOutcome}
+use Rattle.zeb_engine.specs.Works.{ServesBy}
+use Rattle.zeb_engine.specs.PrivateWorks.{Always, ReachesOutcome}
 use Rattle.zeb_engine.proofs.ServesLemmas.{keeps_still, reached_inside}
 use Rattle.zeb_register.specs.Formats.{Format}
 

@@ -37,8 +37,7 @@ use Rattle.zeb_image.specs.Image.{Keeps}
 use Rattle.zeb_engine.specs.PrivateDumping.{KeepsBase}
 use Rattle.zeb_engine.specs.Steps.{dumped_by, dumped_from, dumped_in, no_database, ready}
 use Rattle.zeb_engine.specs.PrivateSteps.{existing, found_or}
-use Rattle.zeb_engine.specs.Works.{Always}
-use Rattle.zeb_engine.specs.PrivateWorks.{Serves}
+use Rattle.zeb_engine.specs.PrivateWorks.{Always, Serves}
 use Rattle.zeb_change.specs.Refused.{Meets}
 use Rattle.zeb_engine.proofs.DatabasesOfImages.{IsHeld}
 use Rattle.zeb_change.proofs.KeptLemmas.{AreRisingKept, one_number}

@@ -4,6 +4,7 @@ use Rattle.sqlite.specs.Effect.{Database as Contents}
 use Rattle.sqlite.specs.State.{State}
 use Rattle.sqlite.specs.Tree.{Trees}
 use Rattle.zeb_profile.specs.declared.directives.Directive.{Directive}
+use Rattle.zeb_query.specs.Places.{IsReadable}
 use Rattle.zeb_register.specs.declared.catalog.Database.{Database}
 use Rattle.zeb_register.specs.declared.RegFault.{RegFault}
 use Rattle.zeb_register.specs.declared.RegFault.TheVariants as register
@@ -99,6 +100,13 @@ pub hidden_of : (Over : Trees → Answer → Type 0) (Hides : Trees → ℤ → 
     → TellsUnlessHidden Over (λ t. HidesOf (Hides t) name t) trees (Err why)
 hidden_of Over Hides name trees id last row why (inl failed) = inr (inr failed)
 hidden_of Over Hides name trees id last row why (inr damaged) = inr (inl (ap Err damaged.0, inr (id, last, row, damaged.1)))
+
+-- the same of a query that is read
+pub hidden_read : (text : List ℕ) → IsReadable text → (Over : Trees → Answer → Type 0) (Hides : Trees → ℤ → Type 0) (name : List ℕ) (trees : Trees) (id last : ℤ)
+    → HasDatabase trees id name last → (why : Refusal) → IsFailure (refused (why_of why)) ⊎ ((why ≡ refusal.Damaged) × Hides trees id)
+    → TellsUnlessHidden Over (λ t. IsReadable text × HidesOf (Hides t) name t) trees (Err why)
+hidden_read text readable Over Hides name trees id last row why (inl failed) = inr (inr failed)
+hidden_read text readable Over Hides name trees id last row why (inr damaged) = inr (inl (ap Err damaged.0, (readable, inr (id, last, row, damaged.1))))
 
 -- ---- a write that rests on a look
 

@@ -61,3 +61,5 @@ pub mod RunCommits
 pub mod AskedReads
 pub mod ChangeRoom
 pub mod ChangeElders
+pub mod ChangeReasons
+pub mod ChangeNumbers

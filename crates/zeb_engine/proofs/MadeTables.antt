@@ -19,7 +19,7 @@ use Rattle.zeb_image.specs.NameOf.{name_bytes}
 use Rattle.zeb_engine.specs.declared.writes.Write.{Write}
 use Rattle.zeb_engine.specs.declared.writes.Write.TheVariants as write
 use Rattle.zeb_engine.specs.Adopting.{StaysOpen}
-use Rattle.zeb_engine.specs.AnyMade.{DropsDatabase, LeavesAccepted, MakesDatabase}
+use Rattle.zeb_engine.specs.AnyMade.{DropsDatabase, OnAccepted, MakesDatabase}
 use Rattle.zeb_engine.specs.PrivateWriting.{MakesOrTakes}
 use Rattle.zeb_engine.proofs.ServesLemmas.{on_ok}
 
@@ -79,7 +79,7 @@ makes_over g (write.Upgrade alloc profile) old inside mid new begins commits did
 -- ---- after a look at the tables
 
 module _ {T : Type 0} (name : List ℕ) (old mid new : State) (still : mid.now ≡ old.now) where
-  pub made_after : (result : Result T Refusal) → OnOk result (IsStore mid → MakesDatabase name mid new) → LeavesAccepted (MakesDatabase name) old new result
+  pub made_after : (result : Result T Refusal) → OnOk result (IsStore mid → MakesDatabase name mid new) → OnAccepted (MakesDatabase name) old new result
   made_after (Ok x) did store = made_between old mid new new still refl name (did (store_same old mid still store))
   made_after (Err why) did store = tt
 
@@ -99,12 +99,12 @@ module _ {T : Type 0} (name : List ℕ) (old mid new : State) (still : mid.now �
 
 -- after a look at whether the register is ready
 module _ {T : Type 0} (name : List ℕ) (old mid new : State) (nothing : ChangesNothing old mid) (opened : StaysOpen old mid) (result : Result T Refusal) where
-  pub makes_ready : LeavesAccepted (MakesDatabase name) mid new result → LeavesAccepted (MakesDatabase name) old new result
+  pub makes_ready : OnAccepted (MakesDatabase name) mid new result → OnAccepted (MakesDatabase name) old new result
   makes_ready did store =
       let still = (nothing opened.1).1 in
       on_ok result (MakesDatabase name mid new) (MakesDatabase name old new) (made_between old mid new new still refl name) (did (store_same old mid still store))
 
-  pub drops_ready : LeavesAccepted (DropsDatabase name) mid new result → LeavesAccepted (DropsDatabase name) old new result
+  pub drops_ready : OnAccepted (DropsDatabase name) mid new result → OnAccepted (DropsDatabase name) old new result
   drops_ready did store =
       let still = (nothing opened.1).1 in
       on_ok result (DropsDatabase name mid new) (DropsDatabase name old new) (dropped_between old mid new new still refl name) (did (store_same old mid still store))
@@ -112,8 +112,8 @@ module _ {T : Type 0} (name : List ℕ) (old mid new : State) (nothing : Changes
 -- ---- what is said of a name is said of the same name
 
 module _ {T : Type 0} (old new : State) (result : Result T Refusal) (given named : DbName) (same : given ≡ named) where
-  pub made_named : LeavesAccepted (MakesDatabase (name_bytes given)) old new result → LeavesAccepted (MakesDatabase (name_bytes named)) old new result
-  made_named said = subst (λ (n : DbName). LeavesAccepted (MakesDatabase (name_bytes n)) old new result) same said
+  pub made_named : OnAccepted (MakesDatabase (name_bytes given)) old new result → OnAccepted (MakesDatabase (name_bytes named)) old new result
+  made_named said = subst (λ (n : DbName). OnAccepted (MakesDatabase (name_bytes n)) old new result) same said
 
-  pub dropped_named : LeavesAccepted (DropsDatabase (name_bytes given)) old new result → LeavesAccepted (DropsDatabase (name_bytes named)) old new result
-  dropped_named said = subst (λ (n : DbName). LeavesAccepted (DropsDatabase (name_bytes n)) old new result) same said
+  pub dropped_named : OnAccepted (DropsDatabase (name_bytes given)) old new result → OnAccepted (DropsDatabase (name_bytes named)) old new result
+  dropped_named said = subst (λ (n : DbName). OnAccepted (DropsDatabase (name_bytes n)) old new result) same said

@@ -21,7 +21,7 @@ use Rattle.zeb_engine.specs.declared.replies.Reply.{Reply}
 use Rattle.zeb_engine.specs.Alone.{IsAsked, IsSaidOrMissed, OfDatabase}
 use Rattle.zeb_engine.specs.Answers.{Answer, found, refused, scanned, IsFailure}
 use Rattle.zeb_engine.specs.AnyRefusals.{HidesAround, HidesPlanned, TellsUnlessHidden}
-use Rattle.zeb_engine.specs.AnyTables.{HidesAny}
+use Rattle.zeb_engine.specs.AnyTables.{HidesUnsaid}
 use Rattle.zeb_engine.specs.Finding.{AreShown, IsAnsweredBy, IsPlannedBy, IsShown, asked_of}
 use Rattle.zeb_engine.specs.Scanning.{IsScannedBy, IsScanPlannedBy}
 
@@ -36,7 +36,7 @@ fault_few register.Damaged = inl refl
 fault_few register.Store = inr (inl refl)
 fault_few register.Memory = inr (inr refl)
 
-pub few_over : (Over : Trees → Answer → Type 0) (trees : Trees) (why : Refusal) → IsFew why → TellsUnlessHidden Over HidesAny trees (Err why)
+pub few_over : (Over : Trees → Answer → Type 0) (trees : Trees) (why : Refusal) → IsFew why → TellsUnlessHidden Over HidesUnsaid trees (Err why)
 few_over Over trees why (inl is) = inr (inl (ap Err is, tt))
 few_over Over trees why (inr failed) = inr (inr failed)
 

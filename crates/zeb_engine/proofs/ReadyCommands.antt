@@ -18,14 +18,14 @@ use Rattle.zeb_change.specs.Refused.{Why, why_of, Meets}
 use Rattle.zeb_change.specs.Conditions.{Conditions}
 use Rattle.zeb_engine.specs.Alone.{Alone, AnswersAlone, FindAlone, FindSays, RefusedAlone, RefusesFind, ScanSays}
 use Rattle.zeb_engine.specs.AnyRefusals.{HidesTerms, UnlessHidden}
-use Rattle.zeb_engine.specs.AnyTables.{AnswersTables, ChangesOver, ChangesReady, FindOver, OverReady, ScanOver}
+use Rattle.zeb_engine.specs.AnyTables.{AnswersTables, ChangeLeaves, ChangesOver, ChangesReady, FindOver, LeavesWhole, LosesNamed, OverReady, ScanOver}
 use Rattle.zeb_engine.specs.Readiness.{IsReadyFor}
 use Rattle.zeb_image.specs.Holdings.{Holdings}
 use Rattle.zeb_change.specs.Base.{Base}
 use Rattle.zeb_image.specs.Image.{Keeps}
 use Rattle.zeb_engine.specs.Steps.{Turn, Outcome, Ends, OnlyAnswers, FoundFrom, ScannedFrom, ready, turned, checked, checked_from}
-use Rattle.zeb_engine.specs.Works.{Always, ServesBy, ServesCommand}
-use Rattle.zeb_engine.specs.PrivateWorks.{Asks, Finds, ScansFrom, Serves}
+use Rattle.zeb_engine.specs.Works.{ServesBy, ServesCommand}
+use Rattle.zeb_engine.specs.PrivateWorks.{Always, Asks, Finds, ScansFrom, Serves}
 use Rattle.zeb_engine.proofs.ServesLemmas.{early_serves, keeps_still}
 use Rattle.zeb_engine.proofs.TurnedOutcomes.{turn_refused}
 use Rattle.zeb_register.specs.Formats.{Format, version_of}
@@ -136,11 +136,16 @@ scan_tables format profile s result database query number position name asked ma
     subst₂ (λ (n q : List ℕ). UnlessHidden (version_of format) profile (ScanOver format profile n q number position) (HidesTerms format profile n q number position) s result) is_name is_asked
     (subst₂ (λ (m p : ℕ). UnlessHidden (version_of format) profile (ScanOver format profile name asked m p) (HidesTerms format profile name asked m p) s result) is_many is_at told)
 
-pub change_over : (version : List ℕ) (profile : List Directive) (s : State) (result : Result Reply Refusal) (kind : Kind) (database : DbName) (files : Vec (Vec ℕ Global) Global) (named : DbName) (given : List (Vec ℕ Global))
-    → named ≡ database → given ≡ files.items → ChangesReady version profile (name_bytes named) (map (λ file. file.items) given) s result → ChangesOver version profile (Change kind database files) s result
-change_over version profile s result kind database files named given is_name are_files told =
-    subst₂ (λ (n : DbName) (l : List (Vec ℕ Global)). ChangesReady version profile (name_bytes n) (map (λ file. file.items) l) s result) is_name are_files told
-
 -- what is said of three things is said of those that they are
 pub each_so : {A B C : Type 0} (a a' : A) (b b' : B) (d d' : C) → a ≡ a' → b ≡ b' → d ≡ d' → (Says : A → B → C → Type 0) → Says a b d → Says a' b' d'
 each_so a a' b b' d d' one two three Says said = subst (λ x. Says a' b' x) three (subst₂ (λ x y. Says x y d) one two said)
+
+pub change_over : (version : List ℕ) (profile : List Directive) (limits : Limits) (s : State) (result : Result Reply Refusal) (kind : Kind) (database : DbName) (files : Vec (Vec ℕ Global) Global) (chosen : Kind) (named : DbName) (given : List (Vec ℕ Global))
+    → chosen ≡ kind → named ≡ database → given ≡ files.items → ChangesReady version profile chosen limits (name_bytes named) (map (λ file. file.items) given) s result → ChangesOver version profile limits (Change kind database files) s result
+change_over version profile limits s result kind database files chosen named given is_kind is_name are_files =
+    each_so chosen kind named database given files.items is_kind is_name are_files (λ k n l. ChangesReady version profile k limits (name_bytes n) (map (λ file. file.items) l) s result)
+
+pub change_leaves : (profile : List Directive) (old new : State) (result : Result Reply Refusal) (kind : Kind) (database : DbName) (files : Vec (Vec ℕ Global) Global) (chosen : Kind) (named : DbName) (given : List (Vec ℕ Global))
+    → chosen ≡ kind → named ≡ database → given ≡ files.items → LeavesWhole profile chosen (name_bytes named) old new result × LosesNamed profile (name_bytes named) (map (λ file. file.items) given) old new result → ChangeLeaves profile (Change kind database files) old new result
+change_leaves profile old new result kind database files chosen named given is_kind is_name are_files =
+    each_so chosen kind named database given files.items is_kind is_name are_files (λ k n l. LeavesWhole profile k (name_bytes n) old new result × LosesNamed profile (name_bytes n) (map (λ file. file.items) l) old new result)

@@ -127,5 +127,5 @@ module _ (format : Format) (profile : List Directive) (readable : IsUtf8 (versio
 pub leaves_settled : {A E : Type 0} (format : Format) (profile : List Directive) (result : Result A E) (old new : State) → (IsTrue new.is_open → new.committed ≡ new.now) → OnOk result (HoldsRemade format profile old new)
     → OnOk result (ReindexLeaves format profile old new)
 leaves_settled format profile (Ok x) old new settled did = λ store.
-    let left = did store in (left.1, λ bases can is_open. ((left.0, left.2 bases can), settled is_open))
+    let left = did store in (left.0, left.1, λ bases can is_open. ((left.0, left.2 bases can), settled is_open))
 leaves_settled format profile (Err e) old new settled did = tt

@@ -25,8 +25,7 @@ use Rattle.zeb_engine.specs.Checking.{TellsImage}
 use Rattle.zeb_engine.specs.PrivateLooking.{FindsStanding, IsLook}
 use Rattle.zeb_engine.specs.Readiness.{IsReadyFor, IsReadyToReindex, RefusesReindex, RefusesUpgrade}
 use Rattle.zeb_engine.specs.Steps.{Outcome, reindexed, ruled, upgradable, upgraded}
-use Rattle.zeb_engine.specs.Works.{Always}
-use Rattle.zeb_engine.specs.PrivateWorks.{Serves}
+use Rattle.zeb_engine.specs.PrivateWorks.{Always, Serves}
 use Rattle.zeb_engine.proofs.CheckAnswers.{IsImageFor}
 use Rattle.zeb_engine.proofs.TextLooks.{kept_readable}
 use Rattle.zeb_engine.proofs.RenewalSteps.{reindex_refused, upgradable_good, upgrade_done, upgrade_refused}
@@ -102,6 +101,15 @@ module _ (c : Conditions) (old : State) (store : IsStore old) where
       elim (serves before (λ _. tt) (λ is_open. ((store, image.1), settled is_open))) [
         | inl step ↦ inl ((before, image.1), answer_done result (sym step.0 ∙ ap (λ (o : Outcome). o.0) told))
         | inr failed ↦ inr (inr failed.0)
+      ]
+
+  -- what is held has its image in the tables of a store then, and so it has where the store or the memory failed
+  pub first_leaves : (IsTrue old.is_open → old.committed ≡ old.now) → IsImageFor c (version_of plain_rows) old.now.trees → (new : State) (result : Result Reply Refusal) → IsTrue new.is_open → Serves Always (upgraded c) old new result → IsStore new
+  first_leaves settled image new result is_open serves =
+      let before = under (version_of plain_rows) (canonical_text c.profile) image.0 in
+      elim (serves before (λ _. tt) (λ was_open. ((store, image.1), settled was_open))) [
+        | inl step ↦ (step.1 is_open).0.0
+        | inr failed ↦ (failed.1 is_open).0.0
       ]
 
 -- ---- texts of a register that has nothing to upgrade

@@ -11,7 +11,8 @@ use Rattle.zeb_change.specs.declared.refusals.Refusal.TheVariants.{Store}
 abbrev pub StaysOpen : State → State → Type 0
 StaysOpen old new = IsTrue old.is_open × IsTrue new.is_open
 
--- the store has tables or views, and not just this store's six tables
+-- The store has tables, views or triggers, and not just this store's six tables. Triggers count among the views of a schema, and so do tables
+-- that can't be read.
 abbrev pub HasOtherTables : State → Type 0
 HasOtherTables s = (s.now.schema ≢ no_schema) × (s.now.schema ≢ store_schema)
 

@@ -1,24 +1,30 @@
 -- What is said of the answer to a command on any tables, whatever these hold: all of it together, as the program passes it on.
-use Rattle.std.specs.Prelude.{◌≡◌, List, Result, Err, OnErr}
+use Rattle.std.specs.Prelude.{◌≡◌, List, [], Result, Err, OnErr, OnOk}
 use Rattle.sqlite.specs.State.{State}
 use Rattle.zeb_profile.specs.declared.directives.Directive.{Directive}
 use Rattle.zeb_register.specs.Calls.{ChangesNothing}
 use Rattle.zeb_register.specs.Formats.{Format, version_of}
+use Rattle.zeb_register.specs.Store.{IsStore}
+use Rattle.zeb_change.specs.Conditions.{Conditions}
 use Rattle.zeb_change.specs.declared.refusals.Refusal.{Refusal}
+use Rattle.zeb_change.specs.declared.settings.Limits.{Limits}
 use Rattle.zeb_change.specs.declared.refusals.Refusal.TheVariants.{Damaged}
 use Rattle.zeb_image.specs.Holdings.{Holdings}
 use Rattle.zeb_image.specs.Image.{Keeps}
 use Rattle.zeb_engine.specs.declared.commands.Command.{Command}
-use Rattle.zeb_engine.specs.declared.commands.Command.TheVariants.{Check, Reindex, Upgrade}
+use Rattle.zeb_engine.specs.declared.commands.Command.TheVariants.{Check, Init, Reindex, Upgrade}
 use Rattle.zeb_engine.specs.declared.replies.Reply.{Reply}
 use Rattle.zeb_engine.specs.Alone.{AnswersAlone}
+use Rattle.zeb_engine.specs.Analysed.{AnswersAnalysis}
 use Rattle.zeb_engine.specs.AnyMade.{MakesOrDrops}
 use Rattle.zeb_engine.specs.AnyTables.{AnswersTables, ChangeLeaves, ChangesOver}
-use Rattle.zeb_engine.specs.Checking.{ChecksTables, ReindexesTables, UpgradesTables}
+use Rattle.zeb_engine.specs.Causes.{CommandInRoom, HasCommandCause}
+use Rattle.zeb_engine.specs.Checking.{ChecksTables, ReindexLeaves, ReindexesTables, StaysUpgraded, UpgradeLeaves, UpgradesTables}
 use Rattle.zeb_engine.specs.Readiness.{GoesByTexts, LooksFirst}
-use Rattle.zeb_engine.specs.Steps.{OnlyAsks}
+use Rattle.zeb_engine.specs.Steps.{OnlyAsks, holding}
+use Rattle.zeb_engine.specs.Works.{ServesCommand}
 
-pub record IsAnswerOver (format : Format) (profile : List Directive) (command : Command) (s : State) (result : Result Reply Refusal) : Type 0 where
+pub record IsAnswerOver (format : Format) (profile : List Directive) (limits : Limits) (command : Command) (s : State) (result : Result Reply Refusal) : Type 0 where
   -- the texts of the store tell whether the register was ready
   pub ready : LooksFirst command → GoesByTexts (version_of format) profile s result
   -- a check tells of all tables whether they are an image
@@ -36,16 +42,40 @@ pub record IsAnswerOver (format : Format) (profile : List Directive) (command : 
   -- where this or a record of the database can't be, and a scan and a stat only where this or a row of packed registers can't be that they read.
   pub tables : AnswersTables format profile command s result
   -- A change finds what is kept under its first record's identifier whole, or is refused as damage or by a failure. An accepted one has found
-  -- so what is kept under each record's.
-  pub changes : ChangesOver (version_of format) profile command s result
+  -- so what is kept under each record's, of no more records than it may have; and one that is refused, but for damage and a failure, has a
+  -- reason that its files and the limits give.
+  pub changes : ChangesOver (version_of format) profile limits command s result
   -- damage is told only of the image of nothing that can be held
   pub honest : result ≡ Err Damaged → (before : Holdings) → ¬ Keeps s before
 
--- What a command does to any tables: refused, or one that only asks, it changes nothing; an accepted change loses no row but whole ones; and an
--- accepted create or drop makes or takes its database. What it answers is what is said of its answer there.
-pub record DoesOver (format : Format) (profile : List Directive) (command : Command) (result : Result Reply Refusal) (old new : State) : Type 0 where
-  pub refused : OnErr result (ChangesNothing old new)
-  pub reads : OnlyAsks command → ChangesNothing old new
-  pub loses : ChangeLeaves profile command old new result
-  pub makes : MakesOrDrops command old new result
-  pub over : IsAnswerOver format profile command old result
+-- an accepted init leaves a register without a database, whatever rows the tables of the store had
+abbrev pub InitLeaves : Conditions → (old new : State) → Type 0
+InitLeaves c old new = IsStore old → Keeps new (holding c [])
+
+-- what a command leaves of any tables, and why its store failed
+pub record CommandLeaves (format : Format) (c : Conditions) (command : Command) (old new : State) (answer : Result Reply Refusal) : Type 0 where
+  -- nothing changes where it is refused, nor where it only asks
+  pub refused : OnErr answer (ChangesNothing old new)
+  pub asks : OnlyAsks command → ChangesNothing old new
+  -- from tables that keep what a register holds it is answered as a run of it, and they keep what is held then
+  pub serves : ServesCommand c command old new answer
+  pub begun : command ≡ Init → OnOk answer (InitLeaves c old new)
+  -- an accepted reindex leaves the lists, and registers of these, whatever the registers held
+  pub remade : command ≡ Reindex → OnOk answer (ReindexLeaves format c.profile old new)
+  -- an accepted upgrade leaves the tables of a store
+  pub upgraded : command ≡ Upgrade → OnOk answer (UpgradeLeaves old new)
+  -- An accepted change loses no record but whole ones of its database, and those under identifiers that records of its files have, and changes
+  -- nothing else; and an accepted create or drop makes or takes its database.
+  pub loses : ChangeLeaves c.profile command old new answer
+  pub makes : MakesOrDrops command old new answer
+  -- a failed store has a cause, but for a change, a reindex and an upgrade; of one that only asks a failed commit has one too
+  pub caused : HasCommandCause c.profile command old new answer
+  -- it has one of these three too, where the tables have room for what the records ask for
+  pub room : CommandInRoom c.profile command old new answer
+
+-- That, and how it is answered: by the tables that it found, and an analysis by its files alone. An upgrade of the session's version does nothing.
+pub record CommandOverTables (format : Format) (c : Conditions) (command : Command) (answer : Result Reply Refusal) (old new : State) : Type 0 where
+  pub leaves : CommandLeaves format c command old new answer
+  pub stays : command ≡ Upgrade → StaysUpgraded (version_of format) c.profile old new answer
+  pub analysed : AnswersAnalysis c.profile c.limits.records command answer
+  pub over : IsAnswerOver format c.profile c.limits command old answer

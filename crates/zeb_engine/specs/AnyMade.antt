@@ -30,11 +30,11 @@ pub record DropsDatabase (name : List ℕ) (old new : State) : Type 0 where
   pub taken : TakesWhole id old new
 
 -- on the tables of a store, where it is accepted
-abbrev pub LeavesAccepted : {T : Type 0} → (Leaves : State → State → Type 0) → (old new : State) → Result T Refusal → Type 0
-LeavesAccepted Leaves old new result = IsStore old → OnOk result (Leaves old new)
+abbrev pub OnAccepted : {T : Type 0} → (Leaves : State → State → Type 0) → (old new : State) → Result T Refusal → Type 0
+OnAccepted Leaves old new result = IsStore old → OnOk result (Leaves old new)
 
 -- of a command that is a create or a drop
 abbrev pub MakesOrDrops : Command → (old new : State) → Result Reply Refusal → Type 0
-MakesOrDrops (Create name) old new result = LeavesAccepted (MakesDatabase (name_bytes name)) old new result
-MakesOrDrops (Drop name) old new result = LeavesAccepted (DropsDatabase (name_bytes name)) old new result
+MakesOrDrops (Create name) old new result = OnAccepted (MakesDatabase (name_bytes name)) old new result
+MakesOrDrops (Drop name) old new result = OnAccepted (DropsDatabase (name_bytes name)) old new result
 MakesOrDrops other old new result = Unit {0}

@@ -6,6 +6,7 @@ use Rattle.sqlite.specs.Tree.{Trees}
 use Rattle.sqlite.specs.State.{State}
 use Rattle.sqlite_rules.specs.Lists.{Has}
 use Rattle.zeb_profile.specs.declared.directives.Directive.{Directive}
+use Rattle.zeb_query.specs.Places.{IsReadable}
 use Rattle.zeb_query.specs.Plans.{ScanValue}
 use Rattle.zeb_register.specs.Catalog.{AreCountedDatabases, IsDatabaseOf}
 use Rattle.zeb_register.specs.Formats.{Format}
@@ -53,18 +54,19 @@ abbrev pub HidesPlanned : Format → List Directive → (text : List ℕ) → (n
 HidesPlanned format profile text number position trees db =
     (plan : ScanValue) × IsScanPlanOf profile text plan × HidesAround format trees db plan number position
 
+-- the query is read, and then the database or such rows of it can't be
 abbrev pub HidesTerms : Format → List Directive → (name text : List ℕ) → (number position : ℕ) → Trees → Type 0
-HidesTerms format profile name text number position trees = HidesOf (HidesPlanned format profile text number position trees) name trees
+HidesTerms format profile name text number position trees = IsReadable text × HidesOf (HidesPlanned format profile text number position trees) name trees
 
 -- Of packed blocks a row of `dict` in one of these registers counts no term, or a row of `blocks` of the terms that these show spells no
 -- postings. Over plain rows damage is free here too.
-abbrev pub HidesOneOf : Format → List Target → Trees → (db : ℤ) → Type 0
-HidesOneOf format targets trees db =
+abbrev pub HidesRegister : Format → List Target → Trees → (db : ℤ) → Type 0
+HidesRegister format targets trees db =
     (target : Target) × Has targets target × (¬ InPacked format (IsRegisterSound trees db target.0 target.1))
 
 -- so it is of one of the registers that the profile names
 abbrev pub HidesRegisters : Format → List Directive → (name : List ℕ) → Trees → Type 0
-HidesRegisters format profile name trees = HidesOf (HidesOneOf format (target_list profile) trees) name trees
+HidesRegisters format profile name trees = HidesOf (HidesRegister format (target_list profile) trees) name trees
 
 -- ---- of the database of a name
 

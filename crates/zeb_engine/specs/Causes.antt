@@ -1,14 +1,13 @@
 -- Why a command answers that the store failed.
-use Rattle.std.specs.Prelude.{◌≡◌, ◌⊎◌, ◌<◌, ◌^◌, ℕ, List, map, Result, Err, IfErr, codes}
+use Rattle.std.specs.Prelude.{◌≡◌, ◌⊎◌, ◌<◌, ◌≤◌, ◌^◌, ℕ, ℤ, pos, List, map, Result, Err, IfErr, codes}
 use Rattle.sqlite.specs.State.{State}
 use Rattle.sqlite.specs.Tree.{Trees}
 use Rattle.zeb_profile.specs.declared.directives.Directive.{Directive}
 use Rattle.zeb_profile.specs.Canonical.{canonical_text}
 use Rattle.zeb_register.specs.Calls.{MayRefuse}
-use Rattle.zeb_register.specs.Formats.{Format}
 use Rattle.zeb_register.specs.Hindrances.{HasRowids, IsTooLarge, LacksRowids}
 use Rattle.zeb_register.specs.Room.{HasRoom}
-use Rattle.zeb_register.specs.Store.{IsStore, databases_tree, entry, meta_tree, records_tree}
+use Rattle.zeb_register.specs.Store.{HasDatabase, IsStore, databases_tree, entry, meta_tree, records_tree}
 use Rattle.zeb_change.specs.Asked.{AskFiles}
 use Rattle.zeb_change.specs.Base.{Base}
 use Rattle.zeb_change.specs.Folding.{splits_of}
@@ -16,11 +15,10 @@ use Rattle.zeb_change.specs.declared.settings.Kind.{Kind}
 use Rattle.zeb_change.specs.declared.refusals.Refusal.{Refusal}
 use Rattle.zeb_change.specs.Refused.{store_failed, why_of}
 use Rattle.zeb_change.specs.declared.refusals.Refusal.TheVariants.{Store}
-use Rattle.zeb_image.specs.Holdings.{Holdings}
-use Rattle.zeb_image.specs.Image.{AreListsOf, Keeps}
+use Rattle.zeb_image.specs.Image.{AreListsOf}
+use Rattle.zeb_image.specs.NameOf.{name_bytes}
 use Rattle.zeb_image.specs.Rebuilding.{AskBases}
 use Rattle.zeb_engine.specs.declared.commands.Command.{Command}
-use Rattle.zeb_engine.specs.Works.{Always}
 use Rattle.zeb_engine.specs.declared.commands.Command.TheVariants.{Init, Create, Drop, Change, Reindex, Upgrade}
 
 -- What may hinder a command of a session under this profile, beside a connection that was shut, a disk that failed during the call and a
@@ -53,21 +51,22 @@ HasCommandCause profile command old new result =
 -- ---- a change that has room
 
 -- The tables have room for a change by these files: in the registers for the places that their records ask for, each of whose keys has a
--- row for them all, rowids for the records, and two for the row of the database, which is written before the records and after them.
-pub record HasRoomToChange (format : Format) (profile : List Directive) (kind : Kind) (texts : List (List ℕ)) (trees : Trees) : Type 0 where
+-- row for them all, rowids for the records, and two for the row of the database, which is written before the records and after them. The
+-- last number of the database of this name is one that a register can give.
+pub record HasRoomToChange (profile : List Directive) (kind : Kind) (name : List ℕ) (texts : List (List ℕ)) (trees : Trees) : Type 0 where
   pub places : ℕ
   pub rowids : ℕ
   pub asks : AskFiles profile kind places (splits_of texts) places rowids
   pub few : rowids < 2 ^ 63
-  pub registers : HasRoom format places trees
+  pub registers : HasRoom places trees
   pub records : HasRowids rowids records_tree trees
   pub databases : HasRowids 2 databases_tree trees
+  pub last : (id : ℤ) (given : ℕ) → HasDatabase trees id name (pos given) → given ≤ 999999999
 
--- Of tables that are the image of holdings which fit: where they have such room, the store fails for a cause alone.
-abbrev pub ChangesInRoom : {T : Type 0} → Format → List Directive → Kind → List (List ℕ) → (Trees → Holdings → Type 0) → State → State → Result T Refusal → Type 0
-ChangesInRoom format profile kind texts Fits old new result =
-    (before : Holdings) → Fits old.now.trees before → Keeps old before → HasRoomToChange format profile kind texts old.now.trees
-    → result ≡ Err Store → MayRefuse old new
+-- Of the tables of a store, whatever rows they have: where they have such room, the store fails for a cause alone.
+abbrev pub ChangesInRoom : {T : Type 0} → List Directive → Kind → (name : List ℕ) → List (List ℕ) → State → State → Result T Refusal → Type 0
+ChangesInRoom profile kind name texts old new result =
+    IsStore old → HasRoomToChange profile kind name texts old.now.trees → result ≡ Err Store → MayRefuse old new
 
 -- ---- a renewal that has room
 
@@ -89,9 +88,8 @@ RenewsInRoom profile old new result = IsStore old → HasRoomToRenew profile old
 -- ---- commands that have room
 
 -- one of these of a command that is a change or a renewal; a reindex puts the profile's text too, which a row has to hold
-abbrev pub CommandInRoom : {T : Type 0} → Format → List Directive → Command → State → State → Result T Refusal → Type 0
-CommandInRoom format profile (Change kind name files) old new result =
-    ChangesInRoom format profile kind (map (λ file. file.items) files.items) Always old new result
-CommandInRoom format profile Reindex old new result = ¬ IsTooLarge (entry (codes "profile") (canonical_text profile)) → RenewsInRoom profile old new result
-CommandInRoom format profile Upgrade old new result = RenewsInRoom profile old new result
-CommandInRoom format profile other old new result = Unit {0}
+abbrev pub CommandInRoom : {T : Type 0} → List Directive → Command → State → State → Result T Refusal → Type 0
+CommandInRoom profile (Change kind name files) old new result = ChangesInRoom profile kind (name_bytes name) (map (λ file. file.items) files.items) old new result
+CommandInRoom profile Reindex old new result = ¬ IsTooLarge (entry (codes "profile") (canonical_text profile)) → RenewsInRoom profile old new result
+CommandInRoom profile Upgrade old new result = RenewsInRoom profile old new result
+CommandInRoom profile other old new result = Unit {0}

@@ -63,7 +63,7 @@ pub record CanBeRemade (profile : List Directive) (trees : Trees) (bases : List 
 -- of an accepted reindex, on the tables of a store, whatever the registers held
 abbrev pub ReindexLeaves : Format → List Directive → State → State → Type 0
 ReindexLeaves format profile old new = IsStore old →
-    IsRemade format profile old.now.trees new.now.trees
+    IsStore new × IsRemade format profile old.now.trees new.now.trees
     × ((bases : List Base) → CanBeRemade profile old.now.trees bases → Keeps new (under (version_of format) (canonical_text profile) bases))
 
 -- Of an upgrade, on the tables of a store: their texts refuse it, or they keep the session's version, and nothing is to do, or they keep
@@ -79,3 +79,7 @@ UpgradesTables version profile s result = IsStore s →
 abbrev pub StaysUpgraded : List ℕ → List Directive → State → State → Result Reply Refusal → Type 0
 StaysUpgraded version profile old new result = IsStore old → IsReadyFor version profile old.now.trees →
     ChangesNothing old new × ((result ≡ Ok Done) ⊎ IsFailure (answer_of result))
+
+-- of an accepted upgrade: the tables of a store are a store's still
+abbrev pub UpgradeLeaves : State → State → Type 0
+UpgradeLeaves old new = IsStore old → IsStore new

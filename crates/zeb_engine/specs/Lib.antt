@@ -22,6 +22,7 @@ pub mod AnyAnswers
 pub mod PrivateLooking
 pub mod PrivateWriting
 pub mod PrivateChanging
+pub mod PrivateNumbers
 pub mod PrivateDumping
 pub mod PrivateConnections
 pub mod Headline

@@ -15,8 +15,7 @@ use Rattle.zeb_engine.specs.declared.replies.Reply.{Reply}
 use Rattle.zeb_engine.specs.PrivateCauses.{HasStoreCause}
 use Rattle.zeb_engine.specs.PrivateCrashes.{Commits}
 use Rattle.zeb_engine.specs.Steps.{Outcome}
-use Rattle.zeb_engine.specs.Works.{Always}
-use Rattle.zeb_engine.specs.PrivateWorks.{Serves}
+use Rattle.zeb_engine.specs.PrivateWorks.{Always, Serves}
 
 -- nothing changes
 abbrev pub LeavesAsIs : {S : Type 0} → Ghosts S → Held S → Held S → Type 0

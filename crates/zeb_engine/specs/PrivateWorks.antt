@@ -16,6 +16,10 @@ use Rattle.zeb_image.specs.Image.{IsImage, Keeps}
 use Rattle.zeb_image.specs.PrivateImage.{Sees}
 use Rattle.zeb_engine.specs.Steps.{Outcome, TellsOrFails, FoundFrom, ScannedFrom, ready}
 
+-- nothing had to be found out
+abbrev pub Always : Trees → Holdings → Type 0
+Always trees before = Unit {0}
+
 -- the register is ready
 abbrev pub IsReady : Conditions → Trees → Holdings → Type 0
 IsReady c trees before = (bases : List Base) × (ready c before ≡ Ok bases)

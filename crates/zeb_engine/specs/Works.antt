@@ -1,6 +1,5 @@
 -- What commands do to a connection, and to what its tables hold.
 use Rattle.std.specs.Prelude.{◌≡◌, List, [], ◌∷◌, Result, IsTrue, OnOk}
-use Rattle.sqlite.specs.Tree.{Trees}
 use Rattle.sqlite.specs.Held.{Held, state}
 use Rattle.sqlite.specs.State.{State}
 use Rattle.sqlite.specs.Store.{Ghosts}
@@ -13,10 +12,6 @@ use Rattle.zeb_image.specs.Holdings.{Holdings}
 use Rattle.zeb_image.specs.Image.{Keeps}
 use Rattle.zeb_engine.specs.Steps.{TellsOrFails, Run, Step}
 use Rattle.zeb_engine.specs.Transactions.{AsksStore, NoneAsks}
-
--- nothing had to be found out
-abbrev pub Always : Trees → Holdings → Type 0
-Always trees before = Unit {0}
 
 -- a command that is carried out: it answers what it may, and the tables hold what is held then
 abbrev pub ServesBy : (Told : Holdings → Answer → Holdings → Type 0) → State → State → Result Reply Refusal → Type 0

@@ -1,17 +1,19 @@
 //! Updates and deletes: the records of files are folded into a database in one transaction.
 
-ghost use Rattle.std.specs.Prelude.{◌≡◌, ◌≢◌, ◌⊎◌, ℕ, List, map, Some, Ok, Err, OnOk, IfOk, IfErr, false, IsTrue};
+ghost use Rattle.std.specs.Prelude.{◌≡◌, ◌≢◌, ◌⊎◌, ◌+◌, ◌≤◌, ◌<◌, ◌^◌, ℕ, pos, List, map, Some, Ok, Err, OnOk, IfOk, IfErr, false, IsTrue};
 ghost use Rattle.sqlite.specs.Held.{state};
 ghost use Rattle.sqlite.specs.State.{HasCleanDisk, Survives};
 ghost use Rattle.zeb_register.specs.Formats.{version_of};
-ghost use Rattle.zeb_register.specs.Calls.{MayRefuse};
-ghost use Rattle.zeb_register.specs.Catalog.{IsDatabaseOf};
-ghost use Rattle.zeb_register.specs.Clauses.{InStore, OnStore};
-ghost use Rattle.zeb_register.specs.Store.{IsStore};
-ghost use Rattle.zeb_engine.specs.PrivateChanging.{MayBeginUnder, MayBegin, comes_to, last_of};
+ghost use Rattle.zeb_register.specs.Calls.{GoesOn, Inside, MayRefuse, OnlyReads};
+ghost use Rattle.zeb_register.specs.Catalog.{PutsDatabase};
+ghost use Rattle.zeb_register.specs.Clauses.{ChangesTable, InStore, OnStore, TakesInside};
+ghost use Rattle.zeb_register.specs.Hindrances.{Hinders};
+ghost use Rattle.zeb_register.specs.Store.{IsStore, database_columns, databases_tree};
+ghost use Rattle.zeb_engine.specs.PrivateChanging.{BeginsWith, IsMissedFor, MayBeginUnder, MayBegin, comes_to, last_of};
+ghost use Rattle.zeb_engine.specs.PrivateNumbers.{AreGiven, AreWellNumbered, IsDamageOrFailing, IsMisnumbered};
 ghost use Rattle.zeb_change.specs.Conditions.{Conditions};
 ghost use Rattle.zeb_engine.specs.Answers.{IsFailure, refused};
-ghost use Rattle.zeb_engine.specs.AnyTables.{ElderOver, EldersOver, LeavesRows, LeavesWhole};
+ghost use Rattle.zeb_engine.specs.AnyTables.{ElderOver, EldersOver, HasNumbersTo, LeavesRows, LeavesWhole, LosesNamed, LosesNamedOver, ReasonsOver};
 ghost use Rattle.zeb_engine.specs.Causes.{ChangesInRoom, HasRoomToChange};
 ghost use Rattle.zeb_engine.specs.PrivateCrashes.{Commits};
 ghost use Rattle.zeb_change.specs.Base.{Base};
@@ -35,7 +37,12 @@ use sqlite::{Alter, Connection, Transaction};
 use zeb_change::{Fold, Kind, Progress, Refusal, Setting, Tally, fold_files};
 use zeb_image::DbName;
 use zeb_marc::{RecordBuf, Source};
-use zeb_register::{Database, Layout, Work, database_of, database_put};
+use zeb_register::{
+    Database, DatabaseId, Layout, Record, Work, database_of, database_put, record_from_inside,
+};
+
+/// The greatest number that a column stores: `2^63 - 1`.
+const MOST_STORED: u64 = 9_223_372_036_854_775_807;
 
 /// A change of one database, which is made where it is absent.
 #[derive(Clone, Copy)]
@@ -65,7 +72,80 @@ fn changed(tally: Tally) -> Reply
     }
 }
 
-/// Makes the database where it is absent, folds in the records, and keeps the last number.
+/// The number above the last one, which has to be one that a column stores: `Damaged` where it isn't.
+fn number_above(last: u64) -> Result<u64, Refusal>
+    ensures above { IfOk result (λ next. (next ≡ last + 1) × (next < 2 ^ 63)) }
+    ensures damaged { IfErr result (λ refusal. (refusal ≡ Refusal.Damaged) × (2 ^ 63 ≤ last + 1)) }
+{
+    if last >= MOST_STORED {
+        return Err(Refusal::Damaged);
+    }
+    Ok(last + 1)
+}
+
+/// `Damaged` where the first record of a database has number 0, or one was found above its last number.
+fn check_found(first: Option<Record>, above: Option<Record>) -> Result<(), Refusal>
+    ensures given { OnOk result (AreGiven first above) }
+    ensures damaged { IfErr result (λ refusal. (refusal ≡ Refusal.Damaged) × ¬ AreGiven first above) }
+{
+    match above {
+        Some(_) => Err(Refusal::Damaged),
+        None => match first {
+            Some(found) if found.sysno < 1 => Err(Refusal::Damaged),
+            _ => Ok(()),
+        },
+    }
+}
+
+/// `Damaged` where a record of the database has a number that this can't have given: 0, or one above its last.
+fn check_numbers<S: Alter>(
+    tx: &mut Transaction<'_, S>,
+    database: DatabaseId,
+    last: u64,
+) -> Result<(), Refusal>
+    ensures same { tx.new.conn.ghost_name ≡ tx.old.conn.ghost_name }
+    ensures call { Inside (state S.Store tx.old.conn.now) (state S.Store tx.new.conn.now) result (λ _. OnlyReads) }
+    ensures numbers { InStore (state S.Store tx.old.conn.now) (state S.Store tx.new.conn.now) (λ trees.
+        OnOk result (HasNumbersTo last trees database.0)) }
+    ensures honest { InStore (state S.Store tx.old.conn.now) (state S.Store tx.new.conn.now) (λ trees.
+        result ≡ Err Refusal.Damaged → ¬ AreWellNumbered last trees database.0) }
+    ensures refused { InStore (state S.Store tx.old.conn.now) (state S.Store tx.new.conn.now) (λ _.
+        result ≡ Err Refusal.Store → MayRefuse (state S.Store tx.old.conn.now) (state S.Store tx.new.conn.now)) }
+    ensures few { IfErr result IsDamageOrFailing }
+{
+    let next = number_above(last)?;
+    let first = record_from_inside(tx, database, 0)?;
+    let above = record_from_inside(tx, database, next)?;
+    check_found(first, above)
+}
+
+/// Makes the database where it is absent, with its last number as it is, and looks at the numbers of its records: what a database can't
+/// have given isn't replaced unread.
+fn begin_change<S: Alter>(
+    tx: &mut Transaction<'_, S>,
+    name: &str,
+    last: u64,
+) -> Result<DatabaseId, Refusal>
+    ensures same { tx.new.conn.ghost_name ≡ tx.old.conn.ghost_name }
+    ensures call { Inside (state S.Store tx.old.conn.now) (state S.Store tx.new.conn.now) result (λ _. GoesOn) }
+    ensures put { ChangesTable databases_tree (state S.Store tx.old.conn.now) (state S.Store tx.new.conn.now) result
+        (λ id. PutsDatabase id.0 name.now (pos last)) }
+    ensures numbers { InStore (state S.Store tx.old.conn.now) (state S.Store tx.new.conn.now) (λ trees.
+        IfOk result (λ id. HasNumbersTo last trees id.0)) }
+    ensures honest { InStore (state S.Store tx.old.conn.now) (state S.Store tx.new.conn.now) (λ _.
+        result ≡ Err Refusal.Damaged → IsMisnumbered name.now last (state S.Store tx.old.conn.now)) }
+    ensures refused { last < 2 ^ 63 → InStore (state S.Store tx.old.conn.now) (state S.Store tx.new.conn.now) (λ trees.
+        result ≡ Err Refusal.Store → MayRefuse (state S.Store tx.old.conn.now) (state S.Store tx.new.conn.now)
+        ⊎ Hinders 1 databases_tree (database_columns name.now (pos last)) trees) }
+    ensures rowids { TakesInside (state S.Store tx.old.conn.now) (state S.Store tx.new.conn.now) result 1 databases_tree }
+    ensures few { IfErr result IsDamageOrFailing }
+{
+    let database = database_put(tx, name, last)?;
+    check_numbers(tx, database, last)?;
+    Ok(database)
+}
+
+/// Makes the database where it is absent, looks at the numbers of its records, folds in those of the files, and keeps the last number.
 fn apply<S: Alter, L: Layout, R: Source>(
     tx: &mut Transaction<'_, S>,
     work: &mut Work,
@@ -103,28 +183,38 @@ fn apply<S: Alter, L: Layout, R: Source>(
     ensures no_work { L.row_work ≡ 0 → work.new ≡ work.old }
     ensures room { HasCleanDisk (state S.Store tx.new.conn.now) → IsTrue (state S.Store tx.old.conn.now).in_transaction
         → (texts : List (List ℕ)) → map R.remaining readers.old ≡ map Some texts → NoneFailed R.has_failed readers.new
-        → (before : Holdings) → MayBegin (version_of L.format) change.now.setting (name_bytes change.now.name.now) change.now.found
-        (state S.Store tx.old.conn.now).now.trees before
-        → IsStore (state S.Store tx.old.conn.now) → IsImage (state S.Store tx.old.conn.now).now.trees before
-        → HasRoomToChange L.format change.now.setting.profile.now change.now.setting.kind texts (state S.Store tx.old.conn.now).now.trees
+        → IsStore (state S.Store tx.old.conn.now)
+        → BeginsWith change.now.setting.kind (state S.Store tx.old.conn.now).now.trees (name_bytes change.now.name.now) change.now.found
+        → HasRoomToChange change.now.setting.profile.now change.now.setting.kind (name_bytes change.now.name.now) texts
+        (state S.Store tx.old.conn.now).now.trees
         → result ≡ Err Refusal.Store → MayRefuse (state S.Store tx.old.conn.now) (state S.Store tx.new.conn.now) }
     ensures elder { InStore (state S.Store tx.old.conn.now) (state S.Store tx.new.conn.now) (λ trees. (texts : List (List ℕ))
         → map R.remaining readers.old ≡ map Some texts → NoneFailed R.has_failed readers.new
         → ElderOver change.now.setting.profile.now (name_bytes change.now.name.now) texts trees result) }
     ensures elders { InStore (state S.Store tx.old.conn.now) (state S.Store tx.new.conn.now) (λ trees.
-        IsDatabaseOf trees (name_bytes change.now.name.now) change.now.found
+        BeginsWith change.now.setting.kind trees (name_bytes change.now.name.now) change.now.found
         → (texts : List (List ℕ)) → map R.remaining readers.old ≡ map Some texts
-        → EldersOver change.now.setting.profile.now (name_bytes change.now.name.now) texts trees result) }
+        → EldersOver change.now.setting.profile.now change.now.setting.limits (name_bytes change.now.name.now) texts trees result) }
     ensures loses { InStore (state S.Store tx.old.conn.now) (state S.Store tx.new.conn.now) (λ trees.
-        IsDatabaseOf trees (name_bytes change.now.name.now) change.now.found
-        → OnOk result (LeavesRows change.now.setting.profile.now (name_bytes change.now.name.now) trees
+        BeginsWith change.now.setting.kind trees (name_bytes change.now.name.now) change.now.found
+        → OnOk result (LeavesRows change.now.setting.profile.now change.now.setting.kind (name_bytes change.now.name.now) trees
+        (state S.Store tx.new.conn.now))) }
+    ensures named { InStore (state S.Store tx.old.conn.now) (state S.Store tx.new.conn.now) (λ trees.
+        BeginsWith change.now.setting.kind trees (name_bytes change.now.name.now) change.now.found
+        → (texts : List (List ℕ)) → map R.remaining readers.old ≡ map Some texts
+        → OnOk result (LosesNamedOver change.now.setting.profile.now (name_bytes change.now.name.now) texts trees
         (state S.Store tx.new.conn.now).now.trees)) }
+    ensures reasons { InStore (state S.Store tx.old.conn.now) (state S.Store tx.new.conn.now) (λ trees.
+        BeginsWith change.now.setting.kind trees (name_bytes change.now.name.now) change.now.found
+        → (texts : List (List ℕ)) → map R.remaining readers.old ≡ map Some texts → NoneFailed R.has_failed readers.new
+        → ReasonsOver change.now.setting.profile.now change.now.setting.kind change.now.setting.limits
+        (name_bytes change.now.name.now) texts trees result) }
 {
     // Its profile is some text's.
     change.setting.profile.is_of_some_text();
     let name = change.name.as_str();
     let last = change.last();
-    let database = database_put(tx, name, last)?;
+    let database = begin_change(tx, name, last)?;
     let mut fold = Fold {
         progress: Progress {
             database,
@@ -180,20 +270,30 @@ fn transact<S: Alter, L: Layout, R: Source>(
     ensures no_work { L.row_work ≡ 0 → work.new ≡ work.old }
     ensures room { HasCleanDisk (state S.Store connection.new)
         → (texts : List (List ℕ)) → map R.remaining readers.old ≡ map Some texts → NoneFailed R.has_failed readers.new
-        → ChangesInRoom L.format change.now.setting.profile.now change.now.setting.kind texts
-        (MayBegin (version_of L.format) change.now.setting (name_bytes change.now.name.now) change.now.found)
+        → BeginsWith change.now.setting.kind (state S.Store connection.old).now.trees (name_bytes change.now.name.now) change.now.found
+        → ChangesInRoom change.now.setting.profile.now change.now.setting.kind (name_bytes change.now.name.now) texts
         (state S.Store connection.old) (state S.Store connection.new) result }
     ensures elder { OnStore (state S.Store connection.old) (state S.Store connection.new) (λ trees. (texts : List (List ℕ))
         → map R.remaining readers.old ≡ map Some texts → NoneFailed R.has_failed readers.new
         → ElderOver change.now.setting.profile.now (name_bytes change.now.name.now) texts trees result) }
     ensures elders { OnStore (state S.Store connection.old) (state S.Store connection.new) (λ trees.
-        IsDatabaseOf trees (name_bytes change.now.name.now) change.now.found
+        BeginsWith change.now.setting.kind trees (name_bytes change.now.name.now) change.now.found
         → (texts : List (List ℕ)) → map R.remaining readers.old ≡ map Some texts
-        → EldersOver change.now.setting.profile.now (name_bytes change.now.name.now) texts trees result) }
+        → EldersOver change.now.setting.profile.now change.now.setting.limits (name_bytes change.now.name.now) texts trees result) }
     ensures loses { OnStore (state S.Store connection.old) (state S.Store connection.new) (λ trees.
-        IsDatabaseOf trees (name_bytes change.now.name.now) change.now.found
-        → OnOk result (LeavesRows change.now.setting.profile.now (name_bytes change.now.name.now) trees
+        BeginsWith change.now.setting.kind trees (name_bytes change.now.name.now) change.now.found
+        → OnOk result (LeavesRows change.now.setting.profile.now change.now.setting.kind (name_bytes change.now.name.now) trees
+        (state S.Store connection.new))) }
+    ensures named { OnStore (state S.Store connection.old) (state S.Store connection.new) (λ trees.
+        BeginsWith change.now.setting.kind trees (name_bytes change.now.name.now) change.now.found
+        → (texts : List (List ℕ)) → map R.remaining readers.old ≡ map Some texts
+        → OnOk result (LosesNamedOver change.now.setting.profile.now (name_bytes change.now.name.now) texts trees
         (state S.Store connection.new).now.trees)) }
+    ensures reasons { OnStore (state S.Store connection.old) (state S.Store connection.new) (λ trees.
+        BeginsWith change.now.setting.kind trees (name_bytes change.now.name.now) change.now.found
+        → (texts : List (List ℕ)) → map R.remaining readers.old ≡ map Some texts → NoneFailed R.has_failed readers.new
+        → ReasonsOver change.now.setting.profile.now change.now.setting.kind change.now.setting.limits
+        (name_bytes change.now.name.now) texts trees result) }
 {
     let _settled = connection.is_autocommit();
     let mut tx = connection.transaction();
@@ -223,8 +323,10 @@ fn found_for<S: Alter, L: Layout>(
     ensures found { FindsOpen S.Store connection.old connection.new result }
     ensures misses { OnStore (state S.Store connection.old) (state S.Store connection.new) (λ trees.
         IfErr result (λ refusal. IsFailure (refused (why_of refusal)) ⊎ MissesDatabase trees (name_bytes name.now) refusal)) }
+    ensures missed { OnStore (state S.Store connection.old) (state S.Store connection.new) (λ trees.
+        IfErr result (IsMissedFor setting.now.kind trees (name_bytes name.now))) }
     ensures row { OnStore (state S.Store connection.old) (state S.Store connection.new) (λ trees.
-        IfOk result (IsDatabaseOf trees (name_bytes name.now))) }
+        IfOk result (BeginsWith setting.now.kind trees (name_bytes name.now))) }
 {
     match setting.kind {
         Kind::Update => Ok(database_of(connection, name.as_str())?),
@@ -275,17 +377,23 @@ pub(crate) fn change_database<S: Alter, L: Layout, R: Source>(
     ensures no_work { L.row_work ≡ 0 → work.new ≡ work.old }
     ensures room { HasCleanDisk (state S.Store connection.new)
         → (texts : List (List ℕ)) → map R.remaining readers.old ≡ map Some texts → NoneFailed R.has_failed readers.new
-        → ChangesInRoom L.format setting.entry.profile.now setting.entry.kind texts
-        (IsReady (conditions_of (version_of L.format) setting.entry))
+        → ChangesInRoom setting.entry.profile.now setting.entry.kind (name_bytes name.now) texts
         (state S.Store connection.old) (state S.Store connection.new) result }
     ensures elder { OnStore (state S.Store connection.old) (state S.Store connection.new) (λ trees. (texts : List (List ℕ))
         → map R.remaining readers.old ≡ map Some texts → NoneFailed R.has_failed readers.new
         → ElderOver setting.entry.profile.now (name_bytes name.now) texts trees result) }
     ensures elders { OnStore (state S.Store connection.old) (state S.Store connection.new) (λ trees. (texts : List (List ℕ))
         → map R.remaining readers.old ≡ map Some texts
-        → EldersOver setting.entry.profile.now (name_bytes name.now) texts trees result) }
+        → EldersOver setting.entry.profile.now setting.entry.limits (name_bytes name.now) texts trees result) }
     ensures loses { HasCleanDisk (state S.Store connection.new)
-        → LeavesWhole setting.entry.profile.now (name_bytes name.now) (state S.Store connection.old) (state S.Store connection.new) result }
+        → LeavesWhole setting.entry.profile.now setting.entry.kind (name_bytes name.now) (state S.Store connection.old)
+        (state S.Store connection.new) result }
+    ensures named { HasCleanDisk (state S.Store connection.new) → (texts : List (List ℕ)) → map R.remaining readers.old ≡ map Some texts
+        → LosesNamed setting.entry.profile.now (name_bytes name.now) texts (state S.Store connection.old) (state S.Store connection.new)
+        result }
+    ensures reasons { OnStore (state S.Store connection.old) (state S.Store connection.new) (λ trees. (texts : List (List ℕ))
+        → map R.remaining readers.old ≡ map Some texts → NoneFailed R.has_failed readers.new
+        → ReasonsOver setting.entry.profile.now setting.entry.kind setting.entry.limits (name_bytes name.now) texts trees result) }
 {
     let found = found_for::<S, L>(connection, &setting, name)?;
     let mut buffer = RecordBuf::new(setting.alloc)?;

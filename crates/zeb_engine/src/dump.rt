@@ -19,8 +19,7 @@ ghost use Rattle.zeb_engine.specs.PrivateDumping.{KeepsBase};
 ghost use Rattle.zeb_change.specs.Refused.{NeverUnready};
 ghost use Rattle.zeb_change.specs.Reading.{NoReadFault};
 ghost use Rattle.zeb_engine.specs.Steps.{dumped_by};
-ghost use Rattle.zeb_engine.specs.Works.{Always};
-ghost use Rattle.zeb_engine.specs.PrivateWorks.{Serves, ShowsStore};
+ghost use Rattle.zeb_engine.specs.PrivateWorks.{Always, Serves, ShowsStore};
 ghost use Rattle.zeb_engine.specs.PrivateConnections.{CommitsNothing, FailsForCause, FindsOpen, LeavesAsIs, LeavesOpen};
 ghost use Rattle.zeb_engine.specs.Readiness.{TellsReady};
 

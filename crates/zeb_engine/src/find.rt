@@ -14,7 +14,7 @@ ghost use Rattle.zeb_change.specs.Refused.{why_of, store_failed, NeverUnready, M
 ghost use Rattle.zeb_change.specs.Conditions.{conditions};
 ghost use Rattle.zeb_engine.specs.Alone.{Alone, FindSays, HidesOne, RefusedAlone, RefusesFind};
 ghost use Rattle.zeb_engine.specs.AnyRefusals.{TellsUnlessHidden};
-ghost use Rattle.zeb_engine.specs.AnyTables.{FindOver, HidesAny};
+ghost use Rattle.zeb_engine.specs.AnyTables.{FindOver, HidesUnsaid};
 ghost use Rattle.zeb_engine.specs.Finding.{AreShown, asked_of};
 ghost use Rattle.zeb_engine.specs.Reads.{FindReads};
 ghost use Rattle.zeb_image.specs.Holdings.{Holdings};
@@ -137,7 +137,7 @@ pub(crate) fn find<S: Alter, L: Layout>(
     // Whatever the tables hold, each row of an entry that the query asks for is sound, and a hit is shown only as a record that is kept.
     ensures tables { HasCleanDisk (state S.Store connection.new) → IsStore (state S.Store connection.old)
         → TellsUnlessHidden (FindOver L.format profile.now (name_bytes name.now) question.entry.query.now question.entry.first
-        question.entry.count) HidesAny (state S.Store connection.old).now.trees result }
+        question.entry.count) HidesUnsaid (state S.Store connection.old).now.trees result }
     ensures idle { connection.new.in_transaction ≡ false }
     ensures open { FindsOpen S.Store connection.old connection.new result }
     ensures same { LeavesAsIs S.Store connection.old connection.new }

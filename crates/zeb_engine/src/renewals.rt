@@ -9,7 +9,7 @@ ghost use Rattle.zeb_register.specs.Hindrances.{IsTooLarge};
 ghost use Rattle.zeb_register.specs.Store.{entry};
 ghost use Rattle.zeb_change.specs.Reading.{NoReadFault};
 ghost use Rattle.zeb_engine.specs.Causes.{RenewsInRoom};
-ghost use Rattle.zeb_engine.specs.Checking.{ReindexesTables, StaysUpgraded, UpgradesTables};
+ghost use Rattle.zeb_engine.specs.Checking.{ReindexesTables, StaysUpgraded, UpgradeLeaves, UpgradesTables};
 ghost use Rattle.zeb_engine.specs.Crashes.{CommitsReindex};
 ghost use Rattle.zeb_engine.specs.PrivateWriting.{HoldsRemade};
 ghost use Rattle.zeb_engine.specs.Steps.{reindexed, upgraded};
@@ -71,6 +71,8 @@ pub(crate) fn upgrade<S: Alter, L: Layout>(
         → UpgradesTables (version_of L.format) profile.now (state S.Store connection.old) result }
     ensures stays { HasCleanDisk (state S.Store connection.new)
         → StaysUpgraded (version_of L.format) profile.now (state S.Store connection.old) (state S.Store connection.new) result }
+    ensures leaves { HasCleanDisk (state S.Store connection.new)
+        → OnOk result (UpgradeLeaves (state S.Store connection.old) (state S.Store connection.new)) }
     ensures idle { connection.new.in_transaction ≡ false }
     ensures call { Commanded (state S.Store connection.old) (state S.Store connection.new) result }
     ensures survives { CommitsUnder S.Store upgraded (version_of L.format) profile.now connection.old connection.new }

@@ -8,7 +8,7 @@ ghost use Rattle.sqlite.specs.State.{HasCleanDisk, IsLive, Opens, Survives};
 ghost use Rattle.zeb_engine.specs.Costs.{CommandCosts, no_work};
 ghost use Rattle.zeb_engine.specs.Reads.{CommandReads};
 ghost use Rattle.zeb_engine.specs.Alone.{AnswersAlone};
-ghost use Rattle.zeb_engine.specs.AnyAnswers.{DoesOver, IsAnswerOver};
+ghost use Rattle.zeb_engine.specs.AnyAnswers.{CommandOverTables, InitLeaves, IsAnswerOver};
 ghost use Rattle.zeb_engine.specs.AnyMade.{MakesOrDrops};
 ghost use Rattle.zeb_engine.specs.AnyTables.{AnswersTables, ChangeLeaves, ChangesOver};
 ghost use Rattle.zeb_engine.specs.Analysed.{AnswersAnalysis};
@@ -16,7 +16,7 @@ ghost use Rattle.zeb_engine.specs.Answers.{IsFailure, answer_of, refused};
 ghost use Rattle.zeb_change.specs.Refused.{why_of};
 ghost use Rattle.zeb_change.specs.Conditions.{conditions};
 ghost use Rattle.zeb_engine.specs.Causes.{CommandInRoom, HasCommandCause};
-ghost use Rattle.zeb_engine.specs.Checking.{ChecksTables, ReindexLeaves, ReindexesTables, StaysUpgraded, UpgradesTables};
+ghost use Rattle.zeb_engine.specs.Checking.{ChecksTables, ReindexLeaves, ReindexesTables, StaysUpgraded, UpgradeLeaves, UpgradesTables};
 ghost use Rattle.zeb_engine.specs.Readiness.{GoesByTexts, LooksFirst};
 ghost use Rattle.zeb_change.specs.Reading.{NoReadFault};
 ghost use Rattle.zeb_engine.specs.Steps.{Step, holding, OnlyAsks};
@@ -195,8 +195,8 @@ impl<S: Alter, L: Layout> Session<S, L> {
         ensures unread { NoReadFault result }
         // An accepted `init` leaves a register without a database, whatever rows the tables held.
         ensures begun { HasCleanDisk (state S.Store self.new.connection) → command.now ≡ Command.Init
-            → OnOk result (IsStore (state S.Store self.old.connection)
-            → Keeps (state S.Store self.new.connection) (holding (conditions (version_of L.format) self.old.profile self.old.limits) [])) }
+            → OnOk result (InitLeaves (conditions (version_of L.format) self.old.profile self.old.limits)
+            (state S.Store self.old.connection) (state S.Store self.new.connection)) }
         // Only a failure refuses an `init`, whatever the tables hold.
         ensures failed { command.now ≡ Command.Init → IfErr result (λ refusal. IsFailure (refused (why_of refusal))) }
         // An accepted reindex leaves the lists and each text but the profile's, and registers of these lists, whatever the registers held.
@@ -207,14 +207,19 @@ impl<S: Alter, L: Layout> Session<S, L> {
         ensures survives_remade { command.now ≡ Command.Reindex
             → Survives (state S.Store self.old.connection) (state S.Store self.new.connection)
             (CommitsReindex L.format self.old.profile (state S.Store self.old.connection)) }
+        // An accepted upgrade leaves the tables of a store.
+        ensures upgraded { HasCleanDisk (state S.Store self.new.connection) → command.now ≡ Command.Upgrade
+            → OnOk result (UpgradeLeaves (state S.Store self.old.connection) (state S.Store self.new.connection)) }
         // A register of the session's version has nothing to upgrade, whatever its other tables hold.
         ensures stays { HasCleanDisk (state S.Store self.new.connection) → command.now ≡ Command.Upgrade
             → StaysUpgraded (version_of L.format) self.old.profile (state S.Store self.old.connection)
             (state S.Store self.new.connection) result }
         // All that is said of an answer on any tables, as the program passes it on.
         ensures over { HasCleanDisk (state S.Store self.new.connection)
-            → IsAnswerOver L.format self.old.profile command.now (state S.Store self.old.connection) result }
-        // An accepted change loses none of its database's records up to the last number but whole ones, and none of any other database.
+            → IsAnswerOver L.format self.old.profile self.old.limits command.now (state S.Store self.old.connection) result }
+        // An accepted change loses none of its database's records but whole ones, and these only under identifiers that records of its
+        // files have. The records that were kept had numbers that the database can have given, and its last number doesn't fall. Each
+        // text is as it was, and so are all rows of other databases and under other ids, and each malformed row of the packed registers.
         ensures loses { HasCleanDisk (state S.Store self.new.connection) → ChangeLeaves self.old.profile command.now
             (state S.Store self.old.connection) (state S.Store self.new.connection) result }
         // An accepted create makes its database, and an accepted drop takes its own with all rows of it: no other row is changed.
@@ -240,7 +245,7 @@ impl<S: Alter, L: Layout> Session<S, L> {
             → HasCommandCause self.old.profile command.now (state S.Store self.old.connection) (state S.Store self.new.connection) result }
         // So does a change, but for its commit, where the tables have room for what its files ask for, and a reindex and an upgrade, where
         // they have room for what the kept records ask for.
-        ensures room { HasCleanDisk (state S.Store self.new.connection) → CommandInRoom L.format self.old.profile command.now
+        ensures room { HasCleanDisk (state S.Store self.new.connection) → CommandInRoom self.old.profile command.now
             (state S.Store self.old.connection) (state S.Store self.new.connection) result }
         // Over a layout whose rows count nothing no work is counted, whatever is answered and whatever the tables hold.
         ensures no_work { L.row_work ≡ 0 → self.new.work ≡ no_work }
@@ -283,11 +288,13 @@ impl<S: Alter, L: Layout> Session<S, L> {
         ensures stays { HasCleanDisk (state S.Store self.new.connection) → command.now ≡ Command.Upgrade
             → StaysUpgraded (version_of L.format) self.old.profile (state S.Store self.old.connection)
             (state S.Store self.new.connection) result }
+        ensures upgraded { HasCleanDisk (state S.Store self.new.connection) → command.now ≡ Command.Upgrade
+            → OnOk result (UpgradeLeaves (state S.Store self.old.connection) (state S.Store self.new.connection)) }
         ensures failed { command.now ≡ Command.Init → IfErr result (λ refusal. IsFailure (refused (why_of refusal))) }
         ensures asked { HasCleanDisk (state S.Store self.new.connection)
             → AnswersAlone L.format self.old.profile command.now (state S.Store self.old.connection) result
             × AnswersTables L.format self.old.profile command.now (state S.Store self.old.connection) result
-            × (ChangesOver (version_of L.format) self.old.profile command.now (state S.Store self.old.connection) result
+            × (ChangesOver (version_of L.format) self.old.profile self.old.limits command.now (state S.Store self.old.connection) result
             × ChangeLeaves self.old.profile command.now (state S.Store self.old.connection) (state S.Store self.new.connection) result
             × MakesOrDrops command.now (state S.Store self.old.connection) (state S.Store self.new.connection) result) }
         ensures analysed { AnswersAnalysis self.old.profile self.old.limits.records command.now result }
@@ -302,7 +309,7 @@ impl<S: Alter, L: Layout> Session<S, L> {
         ensures caused { HasCleanDisk (state S.Store self.new.connection)
             → HasCommandCause self.old.profile command.now (state S.Store self.old.connection) (state S.Store self.new.connection) result }
         ensures no_work { L.row_work ≡ 0 → self.new.work ≡ no_work }
-        ensures room { HasCleanDisk (state S.Store self.new.connection) → CommandInRoom L.format self.old.profile command.now
+        ensures room { HasCleanDisk (state S.Store self.new.connection) → CommandInRoom self.old.profile command.now
             (state S.Store self.old.connection) (state S.Store self.new.connection) result }
     {
         self.work = Work::default();
@@ -389,8 +396,8 @@ impl<S: Alter, L: Layout> Session<S, L> {
             → ChangesNothing (state S.Store self.old.connection) (state S.Store self.new.connection)) }
         // Whatever the tables hold, each command in turn does to them what is said of one command, and is answered by them as they are then.
         ensures turns { HasCleanDisk (state S.Store self.new.connection)
-            → IfOk result (λ answers. InTurn S.Store (DoesOver L.format self.old.profile) commands.now answers.items
-            self.old.connection self.new.connection) }
+            → IfOk result (λ answers. InTurn S.Store (CommandOverTables L.format (conditions (version_of L.format) self.old.profile
+            self.old.limits)) commands.now answers.items self.old.connection self.new.connection) }
     {
         let Ok(mut answers) = Vec::with_capacity(self.alloc, commands.len()) else {
             return Err(Refusal::Memory);

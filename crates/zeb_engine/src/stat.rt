@@ -7,7 +7,7 @@ ghost use Rattle.sqlite.specs.Tree.{Trees};
 ghost use Rattle.zeb_register.specs.Formats.{holds_in, version_of};
 ghost use Rattle.zeb_register.specs.Content.{Content, IsStorable, posted};
 ghost use Rattle.zeb_engine.specs.Alone.{Alone, StatSays};
-ghost use Rattle.zeb_engine.specs.AnyRefusals.{HidesOneOf, HidesRegisters, UnlessHidden};
+ghost use Rattle.zeb_engine.specs.AnyRefusals.{HidesRegister, HidesRegisters, UnlessHidden};
 ghost use Rattle.zeb_engine.specs.AnyTables.{IsSoundUnder, StatOver};
 ghost use Rattle.zeb_engine.specs.Answers.{IsFailure, extent_of, refused};
 ghost use Rattle.zeb_change.specs.Refused.{why_of, NeverUnready};
@@ -111,7 +111,7 @@ fn holdings_of<S: Alter, L: Layout>(
     // Damage is told only of a register that has it.
     ensures honest { HasCleanDisk (state S.Store connection.new) → (trees : Trees) → ShowsStore (state S.Store connection.old) trees
         → IsTrue (state S.Store connection.old).is_open → IfErr result (λ refusal. IsFailure (refused (why_of refusal))
-        ⊎ ((refusal ≡ Refusal.Damaged) × HidesOneOf L.format targets.now trees database.0)) }
+        ⊎ ((refusal ≡ Refusal.Damaged) × HidesRegister L.format targets.now trees database.0)) }
     ensures unread { NoReadFault result }
     ensures ready { NeverUnready result }
     ensures caused { FailsForCause S.Store connection.old connection.new result }

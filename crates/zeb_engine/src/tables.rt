@@ -15,7 +15,8 @@ use sqlite::{Alter, Connection};
 use zeb_change::Refusal;
 use zeb_register::{is_bare_schema, is_store_schema, make_tables};
 
-/// Refuses a store (`Store`) that has tables or views, and not just this store's six tables.
+/// Refuses a store (`Store`) that has tables, views or triggers, and not just this store's six tables. Triggers count among the
+/// views of a schema, and so do tables that can't be read.
 fn check_tables<S: Alter>(connection: &Connection<S>) -> Result<(), Refusal>
     ensures ok { OnOk result (MayBeTaken (state S.Store connection.now)) }
     ensures other { IfErr result (λ refusal. (refusal ≡ Refusal.Store) × HasOtherTables (state S.Store connection.now)) }

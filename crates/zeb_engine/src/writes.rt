@@ -11,7 +11,7 @@ ghost use Rattle.zeb_register.specs.Hindrances.{IsTooLarge, LacksRowids};
 ghost use Rattle.zeb_register.specs.Store.{IsStore, databases_tree, entry, meta_tree};
 ghost use Rattle.zeb_profile.specs.Canonical.{canonical_text};
 ghost use Rattle.zeb_change.specs.declared.settings.Limits.{Limits};
-ghost use Rattle.zeb_engine.specs.AnyMade.{DropsDatabase, LeavesAccepted, MakesDatabase};
+ghost use Rattle.zeb_engine.specs.AnyMade.{DropsDatabase, OnAccepted, MakesDatabase};
 ghost use Rattle.zeb_engine.specs.AnyRefusals.{CreateOver, DropOver, HidesDatabase, TellsUnlessHidden};
 ghost use Rattle.zeb_engine.specs.Answers.{IsFailure, refused};
 ghost use Rattle.zeb_change.specs.Refused.{why_of, NeverUnready};
@@ -338,7 +338,7 @@ pub(crate) fn create_database<S: Alter, L: Layout>(
     // Whatever the tables hold, it goes by the row of the name.
     ensures tables { OnStore (state S.Store connection.old) (state S.Store connection.new) (λ trees.
         TellsUnlessHidden (CreateOver (name_bytes name.now)) (HidesDatabase (name_bytes name.now)) trees result) }
-    ensures makes { HasCleanDisk (state S.Store connection.new) → LeavesAccepted (MakesDatabase (name_bytes name.now))
+    ensures makes { HasCleanDisk (state S.Store connection.new) → OnAccepted (MakesDatabase (name_bytes name.now))
         (state S.Store connection.old) (state S.Store connection.new) result }
 {
     let found = database_of(connection, name.as_str())?;
@@ -369,7 +369,7 @@ pub(crate) fn drop_database<S: Alter, L: Layout>(
         → HasCauseOver (λ _. ⊥) (state S.Store connection.old) (state S.Store connection.new) result }
     ensures tables { OnStore (state S.Store connection.old) (state S.Store connection.new) (λ trees.
         TellsUnlessHidden (DropOver (name_bytes name.now)) (HidesDatabase (name_bytes name.now)) trees result) }
-    ensures drops { HasCleanDisk (state S.Store connection.new) → LeavesAccepted (DropsDatabase (name_bytes name.now))
+    ensures drops { HasCleanDisk (state S.Store connection.new) → OnAccepted (DropsDatabase (name_bytes name.now))
         (state S.Store connection.old) (state S.Store connection.new) result }
 {
     let database = existing_database::<S, L>(alloc, connection, name)?;

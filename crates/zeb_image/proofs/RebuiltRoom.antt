@@ -10,7 +10,6 @@ use Rattle.zeb_keys.specs.declared.keys.Occurrence.{Occurrence}
 use Rattle.zeb_register.specs.declared.faults.RegFault.{RegFault}
 use Rattle.zeb_register.specs.declared.faults.RegFault.TheVariants.{Store}
 use Rattle.zeb_register.specs.declared.kept.Record.{Record}
-use Rattle.zeb_register.specs.Formats.{Format}
 use Rattle.zeb_register.specs.Kept.{IsFirstFrom}
 use Rattle.zeb_register.specs.Room.{HasRoom}
 use Rattle.zeb_register.specs.Store.{HasDatabase, HasRecord, KeepsLists}
@@ -103,18 +102,18 @@ asked_few profile bases places rowids asks =
 -- ---- the records of one database
 
 -- there is room for the places that the records from this number on ask for, and for more
-pub record RecordsRoom (format : Format) (profile : List Directive) (lists : Trees) (id : ℤ) (next : ℕ) (trees : Trees) (pending : Pending) (most spare : ℕ) : Type 0 where
+pub record RecordsRoom (profile : List Directive) (lists : Trees) (id : ℤ) (next : ℕ) (trees : Trees) (pending : Pending) (most spare : ℕ) : Type 0 where
   pub rest : List Kept
   pub among : (n : ℕ) (ident bytes : List ℕ) → next ≤ n → HasRecord lists id (pos n) ident bytes → Has rest (record { sysno = n; ident = ident; bytes = bytes })
   pub places : ℕ
   pub rowids : ℕ
   pub asks : AskKept profile most rest places rowids
-  pub room : HasRoomFor format most trees pending (places + spare)
+  pub room : HasRoomFor most trees pending (places + spare)
 
 -- nothing is noted yet
-pub records_begun : (format : Format) (profile : List Directive) (lists : Trees) (id : ℤ) (pending : Pending) (records : List Kept) (most places rowids spare : ℕ) → IsNothingNoted pending
-    → AskKept profile most records places rowids → places + spare ≤ most → AreAmong lists id records → HasRoom format (places + spare) lists → RecordsRoom format profile lists id 0 lists pending most spare
-records_begun format profile lists id pending records most places rowids spare none asks few among room =
+pub records_begun : (profile : List Directive) (lists : Trees) (id : ℤ) (pending : Pending) (records : List Kept) (most places rowids spare : ℕ) → IsNothingNoted pending
+    → AskKept profile most records places rowids → places + spare ≤ most → AreAmong lists id records → HasRoom (places + spare) lists → RecordsRoom profile lists id 0 lists pending most spare
+records_begun profile lists id pending records most places rowids spare none asks few among room =
     let all : places + spare ≡ 0 + (places + spare) = omega arith in
     record {
       rest = records;
@@ -126,22 +125,22 @@ records_begun format profile lists id pending records most places rowids spare n
         noted = 0;
         few = omega (arith, few);
         among = subst (λ (es : List (Key × KeyNotes)). PutAmong (0 + (places + spare)) es 0) (sym none) refl;
-        room = subst (λ n. HasRoom format n lists) all room;
+        room = subst (λ n. HasRoom n lists) all room;
       };
     }
 
 -- there is room for what the next record asks for, for what those behind it do, and for more
-pub record NextRecordRoom (format : Format) (profile : List Directive) (lists : Trees) (id : ℤ) (found : Record) (trees : Trees) (pending : Pending) (most spare : ℕ) : Type 0 where
+pub record NextRecordRoom (profile : List Directive) (lists : Trees) (id : ℤ) (found : Record) (trees : Trees) (pending : Pending) (most spare : ℕ) : Type 0 where
   pub place : ℕ
   pub rowid : ℕ
   pub others : ℕ
   pub asks : AsksRecord profile most (Some found.bytes.items) place rowid
-  pub room : HasRoomFor format most trees pending (place + (others + spare))
-  pub leaves : (new : Trees) (after : Pending) → HasRoomFor format most new after (others + spare) → RecordsRoom format profile lists id (found.sysno + 1) new after most spare
+  pub room : HasRoomFor most trees pending (place + (others + spare))
+  pub leaves : (new : Trees) (after : Pending) → HasRoomFor most new after (others + spare) → RecordsRoom profile lists id (found.sysno + 1) new after most spare
 
-pub next_record : (format : Format) (profile : List Directive) (lists : Trees) (id : ℤ) (next : ℕ) (trees : Trees) (pending : Pending) (most spare : ℕ) → RecordsRoom format profile lists id next trees pending most spare
-    → (found : Record) → IsFirstFrom lists id next (Some found) → NextRecordRoom format profile lists id found trees pending most spare
-next_record format profile lists id next trees pending most spare has found first =
+pub next_record : (profile : List Directive) (lists : Trees) (id : ℤ) (next : ℕ) (trees : Trees) (pending : Pending) (most spare : ℕ) → RecordsRoom profile lists id next trees pending most spare
+    → (found : Record) → IsFirstFrom lists id next (Some found) → NextRecordRoom profile lists id found trees pending most spare
+next_record profile lists id next trees pending most spare has found first =
     let it = ask_beside (λ (kept : Kept). AsksRecord profile most (Some kept.bytes)) has.rest (kept_of found) has.places has.rowids
     (has.among found.sysno (string_bytes found.ident) found.bytes.items first.1 first.0) has.asks in
     let sum = it.sum in
@@ -151,7 +150,7 @@ next_record format profile lists id next trees pending most spare has found firs
       rowid = it.rowid;
       others = it.others;
       asks = it.asks;
-      room = subst (λ n. HasRoomFor format most trees pending n) all has.room;
+      room = subst (λ n. HasRoomFor most trees pending n) all has.room;
       leaves = λ new after room. record {
         rest = it.rest;
         among = λ n ident bytes behind there. elim (it.each _ (has.among n ident bytes (omega (arith, behind, first.1)) there)) [
@@ -166,11 +165,11 @@ next_record format profile lists id next trees pending most spare has found firs
     }
 
 -- all that is noted is written: there is room for more
-pub records_ended : (format : Format) (trees : Trees) (pending : Pending) (most places spare : ℕ) → IsNothingNoted pending → HasRoomFor format most trees pending (places + spare) → HasRoom format spare trees
-records_ended format trees pending most places spare none has =
+pub records_ended : (trees : Trees) (pending : Pending) (most places spare : ℕ) → IsNothingNoted pending → HasRoomFor most trees pending (places + spare) → HasRoom spare trees
+records_ended trees pending most places spare none has =
     let all = has.noted + (places + spare) in
     let less : spare ≤ all = omega arith in
-    room_less format spare all (λ _. spare) (λ _. all) trees less (λ _. less) has.room
+    room_less spare all (λ _. spare) (λ _. all) trees less (λ _. less) has.room
 
 -- a call that is refused leaves nothing to be said of more room
 pub failed_for : {T : Type 0} (Cause Left : Type 0) (result : Result T RegFault) (fault : RegFault) → result ≡ Err fault → (result ≡ Err Store → Cause) → (result ≡ Err Store → Cause) × OnOk result Left
@@ -181,7 +180,7 @@ failed_for {T} Cause Left result fault told caused = (caused, subst (λ (r : Res
 pub among_still : (old new : Trees) → KeepsLists old new → (id : ℤ) (records : List Kept) → AreAmong old id records → AreAmong new id records
 among_still old new keeps id records among n ident bytes there = among n ident bytes ((record_still old new keeps id (pos n) ident bytes).1 there)
 
-module _ (format : Format) (profile : List Directive) (lists : Trees) (bases : List Base) (these : AreListsOf lists bases) where
+module _ (profile : List Directive) (lists : Trees) (bases : List Base) (these : AreListsOf lists bases) where
   -- there is room for the places that databases of other ids than these ask for
   pub record BasesRoom (ids : List ℤ) (trees : Trees) (most : ℕ) : Type 0 where
     pub rest : List Base
@@ -190,9 +189,9 @@ module _ (format : Format) (profile : List Directive) (lists : Trees) (bases : L
     pub rowids : ℕ
     pub asks : AskBases profile most rest places rowids
     pub few : places ≤ most
-    pub room : HasRoom format places trees
+    pub room : HasRoom places trees
 
-  pub bases_begun : (trees : Trees) (places rowids : ℕ) → AskBases profile places bases places rowids → HasRoom format places trees → BasesRoom [] trees places
+  pub bases_begun : (trees : Trees) (places rowids : ℕ) → AskBases profile places bases places rowids → HasRoom places trees → BasesRoom [] trees places
   bases_begun trees places rowids asks room = record {
     rest = bases;
     among = λ id name last there none. let it = (these.listed id name last).0 there in (it.0, has_contained bases it.0 it.1, it.1, it.2);
@@ -220,8 +219,8 @@ module _ (format : Format) (profile : List Directive) (lists : Trees) (bases : L
     pub others : ℕ
     pub asks : AskKept profile most records place rowid
     pub few : place + others ≤ most
-    pub room : HasRoom format (place + others) trees
-    pub leaves : (new : Trees) → HasRoom format others new → BasesRoom (ids ++ id ∷ []) new most
+    pub room : HasRoom (place + others) trees
+    pub leaves : (new : Trees) → HasRoom others new → BasesRoom (ids ++ id ∷ []) new most
 
   pub next_base : (ids : List ℤ) (trees : Trees) (most : ℕ) → BasesRoom ids trees most → (id : ℤ) (name : List ℕ) (last : ℤ) → HasDatabase lists id name last → ¬ Has ids id → NextBaseRoom ids id trees most
   next_base ids trees most has id name last there new =
@@ -238,7 +237,7 @@ module _ (format : Format) (profile : List Directive) (lists : Trees) (bases : L
         others = it.others;
         asks = it.asks;
         few = omega (arith, sum, few);
-        room = subst (λ n. HasRoom format n trees) sum has.room;
+        room = subst (λ n. HasRoom n trees) sum has.room;
         leaves = λ new' room. record {
           rest = it.rest;
           among = λ i name' last' there' none.

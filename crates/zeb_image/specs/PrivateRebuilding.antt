@@ -73,11 +73,10 @@ abbrev pub AreAmong : Trees → ℤ → List Kept → Type 0
 AreAmong trees id records = (n : ℕ) (ident bytes : List ℕ) → HasRecord trees id (pos n) ident bytes
     → Contains records (record { sysno = n; ident = ident; bytes = bytes })
 
--- The records of a database that has no posting are posted where there is room for what these ask for and for more, of the most that are
--- ever put: then the store fails for a cause alone, and what an accepted call leaves is room for the rest.
-abbrev pub PostsInRoom : {T : Type 0} → Format → List Directive → ℤ → State → State → Result T RegFault → Type 0
-PostsInRoom format profile id old new result =
+-- The records of a database are posted where there is room for what these ask for and for more, of the most that are ever put: then the
+-- store fails for a cause alone, and what an accepted call leaves is room for the rest.
+abbrev pub PostsInRoom : {T : Type 0} → List Directive → ℤ → State → State → Result T RegFault → Type 0
+PostsInRoom profile id old new result =
     (records : List Kept) (most places rowids spare : ℕ) → AskKept profile most records places rowids → places + spare ≤ most
-    → InStore old new (λ trees. AreAmong trees id records → HasRoom format (places + spare) trees
-    → (before : Content) → holds_in format trees before → IsStorable before → LacksDatabase id before
-    → (result ≡ Err Store → MayRefuse old new) × OnOk result (HasRoom format spare new.now.trees))
+    → InStore old new (λ trees. AreAmong trees id records → HasRoom (places + spare) trees
+    → (result ≡ Err Store → MayRefuse old new) × OnOk result (HasRoom spare new.now.trees))

@@ -102,7 +102,7 @@ fn database_post<S: Alter, L: Layout>(
         → (before : Content) → holds_in L.format (state S.Store tx.old.conn.now).now.trees before → IsStorable before
         → LacksDatabase db.0 before → AreReadable (state S.Store tx.old.conn.now).now.trees db.0
         → ¬ AreSoundIn profile.now (state S.Store tx.old.conn.now).now.trees db.0 }
-    ensures room { PostsInRoom L.format profile.now db.0 (state S.Store tx.old.conn.now) (state S.Store tx.new.conn.now) result }
+    ensures room { PostsInRoom profile.now db.0 (state S.Store tx.old.conn.now) (state S.Store tx.new.conn.now) result }
 {
     let mut work = Work::default();
     let mut pending = Pending::new(alloc, MOST_NOTED);

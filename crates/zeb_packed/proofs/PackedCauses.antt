@@ -14,10 +14,10 @@ use Rattle.zeb_keys.proofs.Rising.{numbers_apart}
 use Rattle.zeb_register.specs.declared.registers.Place.{Place}
 use Rattle.zeb_register.specs.declared.registers.RecordChange.{RecordChange}
 use Rattle.zeb_register.specs.Content.{IsListChanged}
-use Rattle.zeb_register.specs.Hindrances.{HindersPlaces, IsSpelledAt, LacksRowids, TakesRowids, placed, rows_of}
+use Rattle.zeb_register.specs.Hindrances.{HindersPlaces, IsSpelledAt, LacksRowids, SpellsMore, TakesRowids, placed, rows_of}
 use Rattle.zeb_packed.specs.PrivatePackedChanges.{CountsOn, IsTold}
 use Rattle.zeb_register.specs.PrivateKeyColumns.{IsDictIn}
-use Rattle.zeb_packed.specs.PrivatePackedHindrances.{HindersBlock, HindersChanges, HindersCount, IsPut, SpellsMore, new_rows}
+use Rattle.zeb_packed.specs.PrivatePackedHindrances.{HindersBlock, HindersChanges, HindersCount, IsPut, new_rows}
 use Rattle.zeb_register.specs.Store.{blocks_tree, dict_tree}
 use Rattle.zeb_register.proofs.ListChanges.{no_change, run, run_all, run_more, place_of, posting_is}
 use Rattle.zeb_packed.proofs.PackedHindrances.{list_one, new_few}

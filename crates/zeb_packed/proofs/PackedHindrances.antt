@@ -13,18 +13,19 @@ use Rattle.zeb_keys.specs.declared.keys.Key.{Key}
 use Rattle.zeb_keys.specs.Registers.{register_code}
 use Rattle.zeb_register.specs.declared.statements.keys.KeyOf.{KeyOf}
 use Rattle.zeb_register.specs.Calls.{MayRefuse}
-use Rattle.zeb_register.specs.Hindrances.{Hinders, IsSpelledAt, IsTooLarge, LacksRowids}
+use Rattle.zeb_register.specs.Hindrances.{Hinders, IsSpelledAt, IsTooLarge, LacksRowids, SpellsMore}
 use Rattle.zeb_register.specs.PrivateHindrances.{HindersNew}
-use Rattle.zeb_register.specs.PrivateKeyColumns.{IsOfNumbered, numbered_columns, IsBlockOf, IsDictIn, IsRowOf}
+use Rattle.zeb_register.specs.PrivateKeyColumns.{IsOfNumbered, numbered_columns, IsBlockOf, IsDictIn}
 use Rattle.zeb_register.specs.PackedBlocks.{block_row, dict_row}
 use Rattle.zeb_packed.specs.PrivatePackedChanges.{IsBlockIn, IsTold, PutsBlock, SpellsIn, block_key}
-use Rattle.zeb_packed.specs.PrivatePackedHindrances.{HindersBlock, HindersCount, IsMistold, SpellsMore, new_rows}
+use Rattle.zeb_packed.specs.PrivatePackedHindrances.{HindersBlock, HindersCount, IsMistold, new_rows}
 use Rattle.zeb_register.specs.PlainRows.{key_row}
 use Rattle.zeb_register.specs.PrivateRowStatements.{Gains}
 use Rattle.zeb_register.specs.Sql.{HasRow, IsListOf}
-use Rattle.zeb_register.specs.Store.{IsRest, IsStore, blocks_tree, dict_tree, key_of}
+use Rattle.zeb_register.specs.Store.{IsRest, IsStore, blocks_tree, dict_tree}
 use Rattle.zeb_register.specs.Tables.{store_schema}
 use Rattle.zeb_register.proofs.LookUps.{none_is}
+use Rattle.zeb_register.proofs.Malformed.{key_begins}
 use Rattle.zeb_register.proofs.PackedLemmas.{one_spelled}
 use Rattle.zeb_packed.proofs.PackedReads.{block_front}
 use Rattle.zeb_packed.proofs.PackedWrites.{none_of}
@@ -55,17 +56,6 @@ after_block db idx reg term block (a ∷ b ∷ c ∷ d ∷ e ∷ rest) is = (res
   where
     same : a ≡ Int db → b ≡ Int idx → c ≡ Int reg → d ≡ Text term → e ≡ Int block → a ∷ b ∷ c ∷ d ∷ e ∷ rest ≡ block_key db idx reg term block ++ rest
     same one two three four five = cc
-
--- a row of `dict` follows the key
-pub after_key : (db idx reg : ℤ) (term : List ℕ) (row : Row) → IsRowOf db idx reg term row → (rest : Row) × (row ≡ key_of db idx reg term ++ rest)
-after_key db idx reg term [] is = absurd (let e = is.0 in cc)
-after_key db idx reg term (a ∷ []) is = absurd (let e = is.1 in cc)
-after_key db idx reg term (a ∷ b ∷ []) is = absurd (let e = is.2 in cc)
-after_key db idx reg term (a ∷ b ∷ c ∷ []) is = absurd (let e = is.3 in cc)
-after_key db idx reg term (a ∷ b ∷ c ∷ d ∷ rest) is = (rest, same is.0 is.1 is.2 is.3)
-  where
-    same : a ≡ Int db → b ≡ Int idx → c ≡ Int reg → d ≡ Text term → a ∷ b ∷ c ∷ d ∷ rest ≡ key_of db idx reg term ++ rest
-    same one two three four = cc
 
 -- what follows is bytes
 bytes_follow : (s : State) → IsStore s → (db : ℤ) (key : Key) (block : ℕ) (row : Row) → IsRest blocks_tree (block_front db key block) s.now.trees row → (bytes : List ℕ) × (row ≡ Blob bytes ∷ [])
@@ -124,7 +114,7 @@ count_told db key row records trees there some = elim (cases_Bool (records == 0)
 
 pub no_count_told : (db : ℤ) (key : Key) (rows : List Row) (trees : Trees) → IsListOf (IsRest dict_tree (key_row db key) trees) rows → slice_get rows 0 ≡ None → IsTold false (IsDictIn db key) dict_tree trees
 no_count_told db key rows trees listed none = λ row here in_it.
-    let it = after_key db (pos key.index) (pos (register_code key.register)) key.term row in_it in
+    let it = key_begins db key row in_it.0 in_it.1 in_it.2 in_it.3 in
     none_is (IsRest dict_tree (key_row db key) trees) rows it.0 listed none (subst (HasRow trees dict_tree) it.1 here)
 
 -- where none is there behind a call that changes nothing, none was before

@@ -21,11 +21,10 @@ use Rattle.sqlite_value.proofs.OrderLemmas.{value_cmp_total}
 use Rattle.zeb_blocks.specs.declared.postings.Posting.{Posting}
 use Rattle.zeb_blocks.specs.Blocks.{BlockSpells, LiesIn, spelled_from, start_of}
 use Rattle.zeb_keys.specs.declared.keys.Key.{Key}
-use Rattle.zeb_keys.specs.Registers.{register_code}
 use Rattle.zeb_keys.proofs.Rising.{numbers_apart}
 use Rattle.zeb_register.specs.declared.registers.RecordChange.{RecordChange}
 use Rattle.zeb_register.specs.Content.{ArePlacesOf, IsListChanged, posting_at}
-use Rattle.zeb_register.specs.Hindrances.{IsSpelledAt}
+use Rattle.zeb_register.specs.Hindrances.{AreOfOthers, IsSpelledAt, KeepsSpelled, placed}
 use Rattle.zeb_register.specs.PackedBlocks.{block_row}
 use Rattle.zeb_register.specs.PlainRows.{key_row}
 use Rattle.zeb_register.specs.Sql.{HasRow}
@@ -33,15 +32,16 @@ use Rattle.zeb_register.specs.PrivateKeyColumns.{IsBlockOf, IsDictIn}
 use Rattle.zeb_register.specs.PrivatePackedRows.{IsInBlock}
 use Rattle.zeb_register.specs.Store.{IsRest, IsStore, blocks_tree, dict_tree}
 use Rattle.zeb_register.specs.Tables.{store_schema}
-use Rattle.zeb_packed.specs.PackedSound.{AreInBlocksBelow, AreOfOthers, AreSpelledIn, IsBlockCounted, IsOfFirsts, IsOfRising, PlacesIn, had}
+use Rattle.zeb_packed.specs.PackedSound.{AreInBlocksBelow, AreSpelledIn, IsBlockCounted, IsOfFirsts, IsOfRising, PlacesIn, had}
 use Rattle.zeb_packed.specs.PrivatePackedChanges.{IsBlockIn, IsTold, PutsBlock, SpellsIn, block_columns}
-use Rattle.zeb_packed.specs.PrivatePackedHindrances.{KeepsOutside, KeepsRecords, LacksBlock, WereClear}
+use Rattle.zeb_packed.specs.PrivatePackedHindrances.{KeepsOutside, LacksBlock, WereClear}
 use Rattle.zeb_register.proofs.ListChanges.{no_change, run, run_first}
+use Rattle.zeb_register.proofs.Malformed.{key_begins}
 use Rattle.zeb_register.proofs.PostingStatements.{blocks, blocks_keys, blocks_static}
 use Rattle.zeb_register.proofs.RisingLists.{told_by}
 use Rattle.zeb_register.proofs.SharedKeys.{single}
 use Rattle.zeb_register.proofs.Writes.{inserts, keyed_there}
-use Rattle.zeb_packed.proofs.PackedHindrances.{after_key, one_row}
+use Rattle.zeb_packed.proofs.PackedHindrances.{one_row}
 use Rattle.zeb_packed.proofs.PackedReads.{block_front, one_in}
 use Rattle.zeb_packed.proofs.PackedRowStatements.{add_block_is, add_block_plain, add_block_terms, add_block_text}
 use Rattle.zeb_packed.proofs.PackedSound.{one_block}
@@ -163,7 +163,7 @@ module _ (db : ℤ) (key : Key) (block : ℕ) (run : List RecordChange) (inside 
       let in_it : it.0 / 256 ≡ block = ap (λ (x : PlacesIn). x.0 / 256) from.2 ∙ all_has (IsInBlock block) run from.0 inside from.1 in
       (λ h. shown (posting_at it.0 place) ((are place).0 h), λ h. (are place).1 (whole (posting_at it.0 place) in_it h)))
 
-  pub block_keeps : PutsBlock db key block after blocks_tree old new → ((p : Posting) → AreOfOthers (map had run) p.sysno → Has after p ↔ Has list p) → KeepsRecords db key (map had run) old new
+  pub block_keeps : PutsBlock db key block after blocks_tree old new → ((p : Posting) → AreOfOthers (map had run) p.sysno → Has after p ↔ Has list p) → KeepsSpelled db key (map had run) old new
   block_keeps put kept p others = (
     λ it. elim ((put (block_row db key it.0 it.1)).0 it.3) [
       | inl was ↦ (it.0, it.1, it.2, was.0, it.4, it.5)
@@ -180,7 +180,13 @@ module _ (db : ℤ) (key : Key) (block : ℕ) (run : List RecordChange) (inside 
   )
 
   pub block_alone : PutsBlock db key block after blocks_tree old new → KeepsOutside db key block old new
-  block_alone put row there outside = (put row).1 (inl (there, outside))
+  block_alone put row outside = (
+    λ here. elim ((put row).0 here) [
+      | inl was ↦ was.0
+      | inr made ↦ absurd (outside (subst (IsBlockIn db key block) (sym made.2) (refl, refl, refl, refl, refl)))
+    ],
+    λ there. (put row).1 (inl (there, outside)),
+  )
 
 -- ---- changes in blocks that rise
 
@@ -207,9 +213,10 @@ KeepsFrom db key from old new = (block : ℕ) → from ≤ block → (row : Row)
 pub keeps_further : (db : ℤ) (key : Key) (from next block : ℕ) (old mid last : Trees) → KeepsFrom db key from old mid → KeepsOutside db key block mid last → from ≤ next → block < next → KeepsFrom db key next old last
 keeps_further db key from next block old mid last keeps outside further behind b above row there in_it =
     let low : from ≤ b = omega (arith, further, above) in
-    outside row (keeps b low row there in_it) (λ also.
+    let differs : ¬ IsBlockIn db key block row = λ also.
     let same : b ≡ block = one_number b block (sym in_it.4 ∙ also.4) in
-    absurd (omega (arith, same, above, behind)))
+    absurd (omega (arith, same, above, behind)) in
+    (outside row differs).1 (keeps b low row there in_it)
 
 -- all of these lie in blocks below one from which on nothing is known
 abbrev pub ClearsFrom : ℕ → ℕ → List RecordChange → Type 0
@@ -252,7 +259,7 @@ rising_counted db key records clear_from changes trees told clear were before be
       absurd (were before behind it is below from (key_row db key ++ row) there (refl, refl, refl, refl, at))
   | inr some ↦
       let it : IsTold true (IsDictIn db key) dict_tree trees = subst (λ b. IsTold (not b) (IsDictIn db key) dict_tree trees) some told in
-      let rest = after_key db (pos key.index) (pos (register_code key.register)) key.term it.0 it.2 in
+      let rest = key_begins db key it.0 it.2.0 it.2.1 it.2.2 it.2.3 in
       (rest.0, subst (HasRow trees dict_tree) rest.1 it.1)
 ]
 
@@ -268,14 +275,23 @@ module _ (db : ℤ) (key : Key) (xs : List RecordChange) (d n done : ℕ) (old m
   both : map had (take done xs) ≡ first ++ second
   both = ap (map had) is ∙ map-append had (take d xs) (run xs d n)
 
-  pub runs_found : IsOfFirsts (AreSpelledIn old db key) first × KeepsRecords db key first old mid → IsOfFirsts (AreSpelledIn mid db key) second × KeepsRecords db key second mid last
-      → IsOfFirsts (AreSpelledIn old db key) (map had (take done xs)) × KeepsRecords db key (map had (take done xs)) old last
+  pub runs_found : IsOfFirsts (AreSpelledIn old db key) first × KeepsSpelled db key first old mid → IsOfFirsts (AreSpelledIn mid db key) second × KeepsSpelled db key second mid last
+      → IsOfFirsts (AreSpelledIn old db key) (map had (take done xs)) × KeepsSpelled db key (map had (take done xs)) old last
   runs_found so_far next =
       let found : IsOfFirsts (λ it. AreOfOthers first it.0 → AreSpelledIn old db key it) second = firsts_so (AreSpelledIn mid db key) (λ it. AreOfOthers first it.0 → AreSpelledIn old db key it) second (λ it here are others place.
       let same = so_far.1 (posting_at it.0 place) others in
       (λ h. same.0 ((are place).0 h), λ h. (are place).1 (same.1 h))) next.0 in
-      let keeps : KeepsRecords db key (first ++ second) old last = λ p others.
+      let keeps : KeepsSpelled db key (first ++ second) old last = λ p others.
       let before = so_far.1 p (λ y here. others y (has_left first second y here)) in
       let behind = next.1 p (λ y here. others y (has_right first second y here)) in
       (λ h. before.0 (behind.0 h), λ h. behind.1 (before.1 h)) in
-      (subst (IsOfFirsts (AreSpelledIn old db key)) (sym both) (firsts_then (AreSpelledIn old db key) first second so_far.0 found), subst (λ l. KeepsRecords db key l old last) (sym both) keeps)
+      (subst (IsOfFirsts (AreSpelledIn old db key)) (sym both) (firsts_then (AreSpelledIn old db key) first second so_far.0 found), subst (λ l. KeepsSpelled db key l old last) (sym both) keeps)
+
+-- the numbers alone tell it: those of what is put are those of what was there
+pub others_put : (xs : List RecordChange) (sysno : ℕ) → AreOfOthers (map placed xs) sysno → AreOfOthers (map had xs) sysno
+others_put xs sysno others it here same =
+    let from = has_mapped had xs it here in
+    others (placed from.0) (mapped_has placed xs from.0 from.1) (ap (λ (x : PlacesIn). x.0) (sym from.2) ∙ same)
+
+pub put_keeps : (db : ℤ) (key : Key) (xs : List RecordChange) (old new : Trees) → KeepsSpelled db key (map had xs) old new → KeepsSpelled db key (map placed xs) old new
+put_keeps db key xs old new keeps p others = keeps p (others_put xs p.sysno others)

@@ -1,5 +1,5 @@
 -- Which rows of the packed tables are sound that a change of a key's places reads, whatever the others hold.
-use Rattle.std.specs.Prelude.{◌≡◌, ◌≢◌, ◌↔◌, ◌/◌, ◌<◌, ℕ, ℤ, pos, List, ◌∷◌, ◌++◌}
+use Rattle.std.specs.Prelude.{◌≡◌, ◌↔◌, ◌/◌, ◌<◌, ℕ, ℤ, pos, List, ◌∷◌, ◌++◌}
 use Rattle.sqlite.specs.declared.types.Value.TheVariants.{Int}
 use Rattle.sqlite.specs.Order.{Row, column}
 use Rattle.sqlite.specs.Tree.{Trees}
@@ -9,7 +9,7 @@ use Rattle.zeb_keys.specs.declared.keys.Key.{Key}
 use Rattle.zeb_register.specs.declared.registers.Place.{Place}
 use Rattle.zeb_register.specs.declared.registers.RecordChange.{RecordChange}
 use Rattle.zeb_register.specs.Content.{posting_at}
-use Rattle.zeb_register.specs.Hindrances.{IsSpelledAt}
+use Rattle.zeb_register.specs.Hindrances.{AreOfOthers, IsSpelledAt}
 use Rattle.zeb_register.specs.PackedBlocks.{IsRecordNumber, SpellsPart}
 use Rattle.zeb_register.specs.PlainRows.{key_row}
 use Rattle.zeb_register.specs.Store.{IsRest, blocks_tree, dict_tree}
@@ -32,10 +32,6 @@ PlacesIn = ℕ × List Place
 -- what a change says stood there
 abbrev pub had : RecordChange → PlacesIn
 had change = (change.sysno, change.old.now)
-
--- none of these is of the record
-abbrev pub AreOfOthers : List PlacesIn → ℕ → Type 0
-AreOfOthers changes sysno = (it : PlacesIn) → Has changes it → it.0 ≢ sysno
 
 -- P of the first change of each record
 abbrev pub IsOfFirsts : (PlacesIn → Type 0) → List PlacesIn → Type 0

@@ -11,9 +11,9 @@ use Rattle.zeb_keys.specs.declared.keys.Key.{Key}
 use Rattle.zeb_register.specs.declared.registers.RecordChange.{RecordChange}
 use Rattle.zeb_register.specs.declared.faults.RegFault.{RegFault}
 use Rattle.zeb_register.specs.Clauses.{InStore, IsHinderedInside}
-use Rattle.zeb_register.specs.Hindrances.{HasLargeRow, IsPlacedAt, IsSpelledAt, LacksRowids, placed, rows_of}
+use Rattle.zeb_register.specs.Hindrances.{HasLargeRow, IsPlacedAt, KeepsSpelled, LacksRowids, SpellsMore, placed, rows_of}
 use Rattle.zeb_register.specs.PrivateKeyColumns.{IsDictIn}
-use Rattle.zeb_packed.specs.PackedSound.{AreOfOthers, AreSpelledIn, IsBlockSpelled, IsOfFirsts, IsOfRising, PlacesIn, had}
+use Rattle.zeb_packed.specs.PackedSound.{AreSpelledIn, IsBlockSpelled, IsOfFirsts, IsOfRising, had}
 use Rattle.zeb_packed.specs.PrivatePackedChanges.{IsBlockIn, IsTold}
 use Rattle.zeb_register.specs.Sql.{HasRow}
 use Rattle.zeb_register.specs.Store.{blocks_tree, dict_tree}
@@ -43,10 +43,6 @@ HindersCount is_there db key records trees =
     (2 ^ 63 ≤ records)
     ⊎ (IsMistold is_there (IsDictIn db key) dict_tree trees
     ⊎ (LacksRowids (new_rows is_there records) dict_tree trees ⊎ (10 ^ 9 < 300 + length key.term)))
-
--- each posting that the rows of the key spell then was spelled before, or is P
-abbrev pub SpellsMore : ℤ → Key → (Posting → Type 0) → Trees → Trees → Type 0
-SpellsMore db key P old new = (p : Posting) → IsSpelledAt db key new p → IsSpelledAt db key old p ⊎ P p
 
 -- ---- rows of many changes
 
@@ -85,20 +81,16 @@ AreRunsSpelled db key changes trees = (change : RecordChange) → Has changes ch
 
 -- ---- what the rows of a key have of the records
 
--- what they spell of the records that none of the changes is of is the same before and behind
-abbrev pub KeepsRecords : ℤ → Key → List PlacesIn → Trees → Trees → Type 0
-KeepsRecords db key changes old new = (p : Posting) → AreOfOthers changes p.sysno → IsSpelledAt db key new p ↔ IsSpelledAt db key old p
-
--- the rows that are none of the key and the block stay
+-- the rows that are none of the key and the block are just those that were there
 abbrev pub KeepsOutside : ℤ → Key → ℕ → Trees → Trees → Type 0
-KeepsOutside db key block old new = (row : Row) → HasRow old blocks_tree row → ¬ IsBlockIn db key block row → HasRow new blocks_tree row
+KeepsOutside db key block old new = (row : Row) → ¬ IsBlockIn db key block row → HasRow new blocks_tree row ↔ HasRow old blocks_tree row
 
 -- a call with these changes in the block is accepted only where the first one of each record says its places; it keeps the other records,
 -- and the rows outside of the block
 abbrev pub FindsOld : {A : Type 0} → ℤ → Key → ℕ → List RecordChange → State → State → Result A RegFault → Type 0
 FindsOld db key block run old new result =
     InStore old new (λ trees. OnOk result (IsOfFirsts (AreSpelledIn trees db key) (map had run)
-    × KeepsRecords db key (map had run) trees new.now.trees × KeepsOutside db key block trees new.now.trees))
+    × KeepsSpelled db key (map had run) trees new.now.trees × KeepsOutside db key block trees new.now.trees))
 
 -- the key has no row of the block
 abbrev pub LacksBlock : ℤ → Key → ℕ → Trees → Type 0

@@ -13,13 +13,13 @@ ghost use Rattle.zeb_register.specs.Calls.{GoesOn, Inside, Reading};
 ghost use Rattle.zeb_register.specs.Clauses.{ChangesHeld, DamagedHeld, FindsHeld, InStore, IsHinderedInside, IsHonest};
 ghost use Rattle.zeb_register.specs.Clauses.{IsHonestStorable, IsReasoned, OnStore, TakesRegistersInside, Tells, TellsHeld};
 ghost use Rattle.zeb_register.specs.Content.{AreChangedAt, ArePlacesOf, Content, IsChangedAt, OldsRise, place_cmp, posted};
-ghost use Rattle.zeb_register.specs.Hindrances.{HindersPlaces, placed, rows_of};
+ghost use Rattle.zeb_register.specs.Hindrances.{HindersPlaces, IsPlacedAt, KeepsPlaces, KeepsSpelled, SpellsMore, placed, rows_of};
 ghost use Rattle.zeb_register.specs.Occurring.{AreTermsBefore, AreTermsFrom, AreTermsOf, AreTotals, key_in};
 ghost use Rattle.zeb_register.specs.Formats.{packed_blocks};
 ghost use Rattle.zeb_register.specs.PackedBlocks.{AreAllCounted, AreAllSpelled, AreBeforeCounted, AreFromCounted};
 ghost use Rattle.zeb_register.specs.PackedBlocks.{CountsRegister, HoldsBlocks, IsRegisterSound, blocks_of};
 ghost use Rattle.zeb_register.specs.PlainRows.{key_row, register_front};
-ghost use Rattle.zeb_register.specs.Sound.{AreListsSound, KeepsMalformed, TellsBefore, TellsFrom, TellsRegister};
+ghost use Rattle.zeb_register.specs.Sound.{AreListsSound, KeepsMalformed, KeepsRowsBeside, TellsBefore, TellsFrom, TellsRegister};
 ghost use Rattle.zeb_register.specs.Tallies.{Works};
 ghost use Rattle.zeb_register.specs.declared.registers.TermCount.{TermCount};
 
@@ -86,6 +86,14 @@ impl Layout for Blocks {
         ensures text { OnOk result (IsUtf8 key.now.term) }
         ensures malformed { InStore (state S.Store tx.old.conn.now) (state S.Store tx.new.conn.now) (λ trees. OnOk result
             (KeepsMalformed trees (state S.Store tx.new.conn.now).now.trees)) }
+        ensures others { InStore (state S.Store tx.old.conn.now) (state S.Store tx.new.conn.now) (λ trees. OnOk result
+            (KeepsRowsBeside (key_row db.0 key.now) trees (state S.Store tx.new.conn.now).now.trees)) }
+        ensures spelled { InStore (state S.Store tx.old.conn.now) (state S.Store tx.new.conn.now) (λ trees. OnOk result
+            (SpellsMore db.0 key.now (IsPlacedAt ((sysno, new.now) ∷ [])) trees (state S.Store tx.new.conn.now).now.trees)) }
+        ensures still { InStore (state S.Store tx.old.conn.now) (state S.Store tx.new.conn.now) (λ trees. OnOk result
+            (KeepsSpelled db.0 key.now ((sysno, new.now) ∷ []) trees (state S.Store tx.new.conn.now).now.trees)) }
+        ensures places { InStore (state S.Store tx.old.conn.now) (state S.Store tx.new.conn.now) (λ trees. OnOk result
+            (KeepsPlaces db.0 key.now ((sysno, new.now) ∷ []) trees (state S.Store tx.new.conn.now).now.trees)) }
         ensures refused { IsHinderedInside (state S.Store tx.old.conn.now) (state S.Store tx.new.conn.now) result
             (HindersPlaces db.0 key.now ((sysno, new.now) ∷ [])) }
         ensures rowids { TakesRegistersInside (state S.Store tx.old.conn.now) (state S.Store tx.new.conn.now) result
@@ -120,6 +128,14 @@ impl Layout for Blocks {
         ensures text { OnOk result (changes.now ≢ [] → IsUtf8 key.now.term) }
         ensures malformed { InStore (state S.Store tx.old.conn.now) (state S.Store tx.new.conn.now) (λ trees. OnOk result
             (KeepsMalformed trees (state S.Store tx.new.conn.now).now.trees)) }
+        ensures others { InStore (state S.Store tx.old.conn.now) (state S.Store tx.new.conn.now) (λ trees. OnOk result
+            (KeepsRowsBeside (key_row db.0 key.now) trees (state S.Store tx.new.conn.now).now.trees)) }
+        ensures spelled { InStore (state S.Store tx.old.conn.now) (state S.Store tx.new.conn.now) (λ trees. OnOk result
+            (SpellsMore db.0 key.now (IsPlacedAt (map placed changes.now)) trees (state S.Store tx.new.conn.now).now.trees)) }
+        ensures still { InStore (state S.Store tx.old.conn.now) (state S.Store tx.new.conn.now) (λ trees. OnOk result
+            (KeepsSpelled db.0 key.now (map placed changes.now) trees (state S.Store tx.new.conn.now).now.trees)) }
+        ensures places { InStore (state S.Store tx.old.conn.now) (state S.Store tx.new.conn.now) (λ trees. OnOk result
+            (KeepsPlaces db.0 key.now (map placed changes.now) trees (state S.Store tx.new.conn.now).now.trees)) }
         ensures refused { IsHinderedInside (state S.Store tx.old.conn.now) (state S.Store tx.new.conn.now) result
             (HindersPlaces db.0 key.now (map placed changes.now)) }
         ensures rowids { TakesRegistersInside (state S.Store tx.old.conn.now) (state S.Store tx.new.conn.now) result

@@ -14,12 +14,12 @@ ghost use Rattle.zeb_register.specs.Calls.{Inside, OnlyReads};
 ghost use Rattle.zeb_register.specs.Clauses.{InStore, IsHinderedInside, IsReasonedInside, TakesInside, TellsHeldInside, TellsInside};
 ghost use Rattle.zeb_register.specs.Clauses.{Writes};
 ghost use Rattle.zeb_register.specs.Content.{Content, IsStorable};
-ghost use Rattle.zeb_register.specs.Hindrances.{IsSpelledAt};
+ghost use Rattle.zeb_register.specs.Hindrances.{IsSpelledAt, SpellsMore};
 ghost use Rattle.zeb_register.specs.PrivateKeyColumns.{IsOfNumbered, IsDictIn};
 ghost use Rattle.zeb_register.specs.PackedBlocks.{HoldsBlocks, IsRecordNumber, part_in};
 ghost use Rattle.zeb_packed.specs.PrivatePackedChanges.{IfTold, IsBlockIn, IsKnown, IsTold, PutsBlock, PutsCount, SpellsIn};
 ghost use Rattle.zeb_register.specs.PrivatePackedRows.{HoldsBlockRows};
-ghost use Rattle.zeb_packed.specs.PrivatePackedHindrances.{FindsSpelled, HindersBlock, HindersCount, IsMistold, SpellsMore, new_rows};
+ghost use Rattle.zeb_packed.specs.PrivatePackedHindrances.{FindsSpelled, HindersBlock, HindersCount, IsMistold, new_rows};
 ghost use Rattle.zeb_packed.specs.PackedSound.{IsBlockSpelled, IsKeyCounted};
 ghost use Rattle.zeb_register.specs.Store.{blocks_tree, dict_tree};
 

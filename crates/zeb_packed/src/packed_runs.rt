@@ -8,15 +8,16 @@ ghost use Rattle.zeb_blocks.specs.declared.postings.Posting.{Posting};
 ghost use Rattle.zeb_register.specs.Calls.{GoesOn, Inside};
 ghost use Rattle.zeb_register.specs.Clauses.{ChangesTable, DamagedHeld, InStore, IsHinderedInside, TakesInside, TakesRegistersInside};
 ghost use Rattle.zeb_register.specs.Content.{AreChangedAt, AreListChanges, Content, OldsRise};
-ghost use Rattle.zeb_register.specs.Hindrances.{HindersPlaces, placed, rows_of};
+ghost use Rattle.zeb_register.specs.Hindrances.{HindersPlaces, IsPlacedAt, KeepsPlaces, KeepsSpelled, SpellsMore, placed, rows_of};
 ghost use Rattle.zeb_register.specs.PackedBlocks.{HoldsBlocks};
+ghost use Rattle.zeb_register.specs.PlainRows.{key_row};
 ghost use Rattle.zeb_packed.specs.PrivatePackedChanges.{IsClear, HasSoManyRecords, IsHonestRun, IsKnown, IsStorableChange, PutsChanges};
 ghost use Rattle.zeb_packed.specs.PrivatePackedChanges.{PutsRun};
 ghost use Rattle.zeb_register.specs.PrivatePackedRows.{IsInBlock};
 ghost use Rattle.zeb_packed.specs.PrivatePackedHindrances.{AreRunsSpelled, FindsOld, FindsSpelled, HindersChanges, IsHinderedRun, LacksBlock, SpellsRun};
 ghost use Rattle.zeb_packed.specs.PrivatePackedHindrances.{WereClear};
 ghost use Rattle.zeb_packed.specs.PackedSound.{AreKeyRowsSound, AreSpelledIn, IsOfFirsts, had};
-ghost use Rattle.zeb_register.specs.Sound.{KeepsMalformed};
+ghost use Rattle.zeb_register.specs.Sound.{KeepsMalformed, KeepsRowsBeside};
 ghost use Rattle.zeb_register.specs.Store.{IsStore, KeepsLists, blocks_tree};
 ghost use Rattle.zeb_register.specs.Tallies.{Works};
 
@@ -62,6 +63,14 @@ pub(crate) fn changes_put<S: Alter>(
         (AreKeyRowsSound trees db.0 key.now (map had changes.now))) }
     ensures malformed { InStore (state S.Store tx.old.conn.now) (state S.Store tx.new.conn.now) (λ trees. OnOk result
         (KeepsMalformed trees (state S.Store tx.new.conn.now).now.trees)) }
+    ensures others { InStore (state S.Store tx.old.conn.now) (state S.Store tx.new.conn.now) (λ trees. OnOk result
+        (KeepsRowsBeside (key_row db.0 key.now) trees (state S.Store tx.new.conn.now).now.trees)) }
+    ensures spelled { InStore (state S.Store tx.old.conn.now) (state S.Store tx.new.conn.now) (λ trees. OnOk result
+        (SpellsMore db.0 key.now (IsPlacedAt (map placed changes.now)) trees (state S.Store tx.new.conn.now).now.trees)) }
+    ensures still { InStore (state S.Store tx.old.conn.now) (state S.Store tx.new.conn.now) (λ trees. OnOk result
+        (KeepsSpelled db.0 key.now (map placed changes.now) trees (state S.Store tx.new.conn.now).now.trees)) }
+    ensures places { InStore (state S.Store tx.old.conn.now) (state S.Store tx.new.conn.now) (λ trees. OnOk result
+        (KeepsPlaces db.0 key.now (map placed changes.now) trees (state S.Store tx.new.conn.now).now.trees)) }
     ensures refused { IsHinderedInside (state S.Store tx.old.conn.now) (state S.Store tx.new.conn.now) result
         (HindersPlaces db.0 key.now (map placed changes.now)) }
     ensures rowids { TakesRegistersInside (state S.Store tx.old.conn.now) (state S.Store tx.new.conn.now) result
@@ -95,7 +104,12 @@ fn runs_put<S: Alter>(
     ensures clear { InStore (state S.Store tx.old.conn.now) (state S.Store tx.new.conn.now) (λ trees. OnOk result
         (WereClear db.0 key.now known.clear_from changes.now trees)) }
     ensures malformed { InStore (state S.Store tx.old.conn.now) (state S.Store tx.new.conn.now) (λ trees. OnOk result
-        (KeepsMalformed trees (state S.Store tx.new.conn.now).now.trees)) }
+        (IsUtf8 key.now.term → KeepsMalformed trees (state S.Store tx.new.conn.now).now.trees)) }
+    ensures others { InStore (state S.Store tx.old.conn.now) (state S.Store tx.new.conn.now) (λ trees. OnOk result
+        (KeepsRowsBeside (key_row db.0 key.now) trees (state S.Store tx.new.conn.now).now.trees)) }
+    ensures spelled { SpellsRun db.0 key.now changes.now (state S.Store tx.old.conn.now) (state S.Store tx.new.conn.now) result }
+    ensures still { InStore (state S.Store tx.old.conn.now) (state S.Store tx.new.conn.now) (λ trees. OnOk result
+        (KeepsSpelled db.0 key.now (map placed changes.now) trees (state S.Store tx.new.conn.now).now.trees)) }
     ensures refused { IsHinderedInside (state S.Store tx.old.conn.now) (state S.Store tx.new.conn.now) result
         (HindersChanges db.0 key.now known.records changes.now) }
     ensures rowids { TakesInside (state S.Store tx.old.conn.now) (state S.Store tx.new.conn.now) result

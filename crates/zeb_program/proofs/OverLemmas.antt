@@ -13,19 +13,23 @@ use Rattle.zeb_register.specs.Formats.{Format, version_of}
 use Rattle.zeb_change.specs.Conditions.{Conditions}
 use Rattle.zeb_change.specs.Reading.{NamesFailed, NoneFailed}
 use Rattle.zeb_change.specs.declared.refusals.Refusal.{Refusal}
-use Rattle.zeb_change.specs.declared.refusals.Refusal.TheVariants.{Damaged}
+use Rattle.zeb_change.specs.declared.refusals.Refusal.TheVariants.{Damaged, Store}
 use Rattle.zeb_change.specs.declared.settings.Kind.{Kind}
+use Rattle.zeb_change.specs.declared.settings.Limits.{Limits}
 use Rattle.zeb_image.specs.Holdings.{Holdings}
 use Rattle.zeb_image.specs.Image.{Keeps}
 use Rattle.zeb_image.specs.NameOf.{name_bytes}
 use Rattle.zeb_image.specs.declared.names.DbName.{DbName}
 use Rattle.zeb_engine.specs.Analysed.{AnswersAnalysis}
-use Rattle.zeb_engine.specs.AnyAnswers.{IsAnswerOver}
-use Rattle.zeb_engine.specs.AnyTables.{ChangesReady}
+use Rattle.zeb_engine.specs.AnyAnswers.{CommandLeaves, IsAnswerOver}
+use Rattle.zeb_engine.specs.AnyTables.{ChangesReady, LeavesWhole, LosesNamed}
+use Rattle.zeb_engine.specs.Causes.{ChangesInRoom}
 use Rattle.zeb_engine.specs.Readiness.{GoesByTexts}
 use Rattle.zeb_engine.specs.Refusals.{refusal_text, status_of}
 use Rattle.zeb_engine.specs.Replies.{reply_text}
+use Rattle.zeb_engine.specs.Steps.{TakesFiles}
 use Rattle.zeb_engine.specs.Transactions.{CommandedBy}
+use Rattle.zeb_engine.specs.Works.{ServesBy}
 use Rattle.zeb_engine.specs.declared.commands.Command.{Command}
 use Rattle.zeb_engine.specs.declared.commands.Command.TheVariants.{Analyse as Analysis}
 use Rattle.zeb_engine.specs.declared.replies.Reply.{Reply}
@@ -40,11 +44,10 @@ use Rattle.zeb_program.specs.Answers.{ChangesBy, IsReadFaultOf, Writes}
 use Rattle.zeb_program.specs.FaultLines.{TellsFault}
 use Rattle.zeb_program.specs.PrivateFaults.{GivesAnswer, IsUnread}
 use Rattle.zeb_program.specs.PrivateFiles.{AreShort}
-use Rattle.zeb_program.specs.PrivateOverTables.{AnalysesOver, CommandLeaves, CommandOver, LineOver, PathLeaves, PathOver, PathsOver, SaysOver, ServesOver, TaskOver}
-use Rattle.zeb_program.specs.PrivateServing.{AnswersFrom}
+use Rattle.zeb_program.specs.PrivateOverTables.{AnalysesOver, CommandOver, LineOver, PathOver, PathsLeave, PathsOver, SaysOver, ServesOver, TaskOver}
 use Rattle.zeb_program.specs.PrivateTaskAnswers.{AreTold}
 use Rattle.zeb_program.specs.Says.{Says}
-use Rattle.zeb_program.proofs.PathLemmas.{as_many, named_fault}
+use Rattle.zeb_program.proofs.PathLemmas.{as_many, named_fault, served_files}
 
 -- where nothing is done nothing changes
 pub still : (s : State) → ChangesNothing s s
@@ -58,7 +61,7 @@ pub refused_still : {S T : Type 0} (g : Ghosts S) (command : Command) (old new :
 refused_still g command old new result call clean = did_refuse command (state g old) (state g new) result clean (did g command old new result call)
 
 module _ (format : Format) (c : Conditions) (command : Command) (old new : State) (wrote writes : Option (List ℕ)) (failed : Bool) (Clean : Type 0) where
-  pub refused_over : (refusal : Refusal) (r : Result ℕ AllocError) → (Clean → IsAnswerOver format c.profile command old (Err refusal))
+  pub refused_over : (refusal : Refusal) (r : Result ℕ AllocError) → (Clean → IsAnswerOver format c.profile c.limits command old (Err refusal))
       → (Clean → CommandLeaves format c command old new (Err refusal))
       → IfOk r (λ status. failed ≡ false → Writes wrote writes (λ bytes. (bytes ≡ refusal_text refusal ++ 10 ∷ []) × (status ≡ status_of refusal)))
       → IfOk r (λ status. failed ≡ false → Clean → Writes wrote writes (λ bytes. CommandOver format c command old bytes status new))
@@ -67,7 +70,7 @@ module _ (format : Format) (c : Conditions) (command : Command) (old new : State
       let w = h sound in
       (w.0, (Err refusal, w.1.0, w.1.1, (over clean, leaves clean)), w.2)
 
-  pub replied_over : (reply : Reply) (bytes : List ℕ) → (Clean → IsAnswerOver format c.profile command old (Ok reply)) → (Clean → CommandLeaves format c command old new (Ok reply))
+  pub replied_over : (reply : Reply) (bytes : List ℕ) → (Clean → IsAnswerOver format c.profile c.limits command old (Ok reply)) → (Clean → CommandLeaves format c command old new (Ok reply))
       → bytes ≡ reply_text reply → (failed ≡ false → Appends wrote writes bytes)
       → failed ≡ false → Clean → Writes wrote writes (λ given. CommandOver format c command old given 0 new)
   replied_over reply bytes over leaves is grew sound clean = (bytes, (Ok reply, is, refl, (over clean, leaves clean)), grew sound)
@@ -83,36 +86,91 @@ gives : (P : Result Reply Refusal → Type 0) (r : Result Reply Refusal) → P r
 gives P (Ok reply) p = p
 gives P (Err refusal) p = p
 
+given_refused : (P : Type 0) (r : Result Reply Refusal) → OnErr r P → OnErr (given r) P
+given_refused P (Ok reply) p = p
+given_refused P (Err refusal) p = p
+
+-- a refusal for a reader that failed isn't that the store did
+not_store : {R : Type 0} (has_failed : R → Bool) (readers : List R) (r : Result Reply Refusal) → IsErrAnd r (NamesFailed has_failed readers) → r ≡ Err Store → ⊥
+not_store has_failed readers (Ok reply) failed is = absurd failed
+not_store has_failed readers (Err refusal) failed is = absurd (cc (failed.3, is))
+
 damaged : (r : Result Reply Refusal) → given r ≡ Err (fault.Refused Damaged) → r ≡ Err Damaged
 damaged (Ok reply) is = absurd (cc is)
 damaged (Err refusal) is = cc is
 
-module _ (told : List ℕ → Option (List ℕ)) (format : Format) (profile : List Directive) (name : List ℕ) (paths : List (List ℕ)) (s : State) where
+module _ (told : List ℕ → Option (List ℕ)) (format : Format) (profile : List Directive) (kind : Kind) (limits : Limits) (name : List ℕ) (paths : List (List ℕ)) (s : State) where
   -- the readers of the files were given to the register
   pub changed_over : {R : Type 0} (remaining : R → Option (List ℕ)) (has_failed : R → Bool) (before after : List R) (r : Result Reply Refusal)
       → ((files : List (List ℕ)) → AreTold told paths files → map remaining before ≡ map Some files) → length after ≡ length before
       → GoesByTexts (version_of format) profile s r
-      → ((texts : List (List ℕ)) → map remaining before ≡ map Some texts → NoneFailed has_failed after → ChangesReady (version_of format) profile name texts s r)
+      → ((texts : List (List ℕ)) → map remaining before ≡ map Some texts → NoneFailed has_failed after → ChangesReady (version_of format) profile kind limits name texts s r)
       → NoneFailed has_failed after ⊎ IsErrAnd r (NamesFailed has_failed after)
       → (r ≡ Err Damaged → (held : Holdings) → ¬ Keeps s held)
-      → PathsOver told format profile name paths s (given r)
+      → PathsOver told format profile kind limits name paths s (given r)
   changed_over remaining has_failed before after r all same ready elder sound honest = record {
     ready = inr (gives (GoesByTexts (version_of format) profile s) r ready);
-    changes = λ files known. gives (λ answer. ChangesReady (version_of format) profile name files s answer ⊎ IsReadFaultOf (length files) answer) r (which files (all files known) sound);
+    changes = λ files known. gives (λ answer. ChangesReady (version_of format) profile kind limits name files s answer ⊎ IsReadFaultOf (length files) answer) r (which files (all files known) sound);
     honest = λ is. honest (damaged r is);
   }
     where
       which : (files : List (List ℕ)) → map remaining before ≡ map Some files → NoneFailed has_failed after ⊎ IsErrAnd r (NamesFailed has_failed after)
-          → ChangesReady (version_of format) profile name files s r ⊎ IsReadFaultOf (length files) r
+          → ChangesReady (version_of format) profile kind limits name files s r ⊎ IsReadFaultOf (length files) r
       which files met (inl fine) = inl (elder files met fine)
       which files met (inr failed) = inr (named_fault has_failed after (length files) r (as_many remaining files before after met same) failed)
 
   -- a path couldn't be read, or memory ran out in the program itself
-  pub unread_over : (why : Fault) → IsUnread why → ((files : List (List ℕ)) → AreTold told paths files → why ≡ fault.Memory) → PathsOver told format profile name paths s (Err why)
+  pub unread_over : (why : Fault) → IsUnread why → ((files : List (List ℕ)) → AreTold told paths files → why ≡ fault.Memory) → PathsOver told format profile kind limits name paths s (Err why)
   unread_over (fault.Unreadable path) unread memory = record { ready = inl tt; changes = λ files known. absurd (cc (memory files known)); honest = λ is. absurd (cc is) }
   unread_over fault.Memory unread memory = record { ready = inr tt; changes = λ files known. tt; honest = λ is. absurd (cc is) }
   unread_over (fault.Profile file why) unread memory = absurd unread
   unread_over (fault.Refused refusal) unread memory = absurd unread
+
+-- what is left of the tables
+module _ (told : List ℕ → Option (List ℕ)) (c : Conditions) (kind : Kind) (name : List ℕ) (paths : List (List ℕ)) (old new : State) where
+  -- the readers of the files were given to the register
+  pub changed_leaves : {R : Type 0} (remaining : R → Option (List ℕ)) (has_failed : R → Bool) (before after : List R) (r : Result Reply Refusal)
+      → ((files : List (List ℕ)) → AreTold told paths files → map remaining before ≡ map Some files) → length after ≡ length before
+      → NoneFailed has_failed after ⊎ IsErrAnd r (NamesFailed has_failed after)
+      → OnErr r (ChangesNothing old new)
+      → ((texts : List (List ℕ)) → map remaining before ≡ map Some texts → NoneFailed has_failed after → ServesBy (TakesFiles c kind name texts) old new r)
+      → LeavesWhole c.profile kind name old new r
+      → ((texts : List (List ℕ)) → map remaining before ≡ map Some texts → LosesNamed c.profile name texts old new r)
+      → ((texts : List (List ℕ)) → map remaining before ≡ map Some texts → NoneFailed has_failed after → ChangesInRoom c.profile kind name texts old new r)
+      → PathsLeave told c kind name paths old new (given r)
+  changed_leaves remaining has_failed before after r all same sound nothing serves loses named room = record {
+    refused = given_refused (ChangesNothing old new) r nothing;
+    loses = inr (gives (LeavesWhole c.profile kind name old new) r loses);
+    serves = λ files known held keeps. gives (λ answer. (later : Holdings) × ChangesBy c kind name files held answer later × Keeps new later) r
+        (served_files remaining has_failed c kind name files old new before after r (all files known) same serves sound nothing held keeps);
+    named = λ files known. gives (LosesNamed c.profile name files old new) r (named files (all files known));
+    room = λ files known. gives (ChangesInRoom c.profile kind name files old new) r (for_cause files (all files known) sound);
+  }
+    where
+      for_cause : (files : List (List ℕ)) → map remaining before ≡ map Some files → NoneFailed has_failed after ⊎ IsErrAnd r (NamesFailed has_failed after)
+          → ChangesInRoom c.profile kind name files old new r
+      for_cause files met (inl fine) = room files met fine
+      for_cause files met (inr failed) = λ store has is. absurd (not_store has_failed after r failed is)
+
+  -- a path couldn't be read, or memory ran out in the program itself
+  pub unread_leaves : (why : Fault) → IsUnread why → ((files : List (List ℕ)) → AreTold told paths files → why ≡ fault.Memory) → ChangesNothing old new
+      → PathsLeave told c kind name paths old new (Err why)
+  unread_leaves (fault.Unreadable path) unread memory nothing = record {
+    refused = nothing;
+    loses = inl tt;
+    serves = λ files known. absurd (cc (memory files known));
+    named = λ files known. absurd (cc (memory files known));
+    room = λ files known. absurd (cc (memory files known));
+  }
+  unread_leaves fault.Memory unread memory nothing = record {
+    refused = nothing;
+    loses = inr tt;
+    serves = λ files known held keeps. tt;
+    named = λ files known. tt;
+    room = λ files known. tt;
+  }
+  unread_leaves (fault.Profile file why) unread memory nothing = absurd unread
+  unread_leaves (fault.Refused refusal) unread memory nothing = absurd unread
 
 -- ---- an analysis by paths
 
@@ -147,10 +205,14 @@ module _ (told : List ℕ → Option (List ℕ)) (format : Format) (c : Conditio
 
   -- the paths as a slice are those of the task
   pub changed_task_over : (kind : Kind) (database : DbName) (paths : Vec (String Global) Global) (named : List (String Global)) → task ≡ Change kind database paths → named ≡ paths.items
-      → PathsOver told format c.profile (name_bytes database) (map string_bytes named) old r → OnErr r (ChangesNothing old new) → TaskOver told format c task old new r
-  changed_task_over kind database paths named is same over nothing = subst (λ t. TaskOver told format c t old new r) (sym is) (record {
-    answer = subst (λ items. PathsOver told format c.profile (name_bytes database) (map string_bytes items) old r) same over;
-    refused = nothing;
+      → PathsOver told format c.profile kind c.limits (name_bytes database) (map string_bytes named) old r
+      → PathsLeave told c kind (name_bytes database) (map string_bytes named) old new r → TaskOver told format c task old new r
+  changed_task_over kind database paths named is same over leaves = subst (λ t. TaskOver told format c t old new r) (sym is) (record {
+    answer = (
+      subst (λ items. PathsOver told format c.profile kind c.limits (name_bytes database) (map string_bytes items) old r) same over,
+      subst (λ items. PathsLeave told c kind (name_bytes database) (map string_bytes items) old new r) same leaves,
+    );
+    refused = leaves.refused;
     reads = λ reads. absurd reads;
   })
 
@@ -172,35 +234,29 @@ module _ (told : List ℕ → Option (List ℕ)) (format : Format) (c : Conditio
 -- ---- a change by one path
 
 module _ (told : List ℕ → Option (List ℕ)) (format : Format) (c : Conditions) (change : PathChange) (old new : State) (wrote writes : Option (List ℕ)) (failed : Bool) (Clean : Type 0) (named : List (String Global)) where
-  named_over : (result : Result Reply Fault) → named ≡ change.path ∷ [] → PathsOver told format c.profile (name_bytes change.database) (map string_bytes named) old result
-      → PathsOver told format c.profile (name_bytes change.database) (string_bytes change.path ∷ []) old result
-  named_over result is over = subst (λ paths. PathsOver told format c.profile (name_bytes change.database) paths old result) (ap (map string_bytes) is) over
+  named_over : (result : Result Reply Fault) → named ≡ change.path ∷ [] → PathsOver told format c.profile change.kind c.limits (name_bytes change.database) (map string_bytes named) old result
+      → PathsOver told format c.profile change.kind c.limits (name_bytes change.database) (string_bytes change.path ∷ []) old result
+  named_over result is over = subst (λ paths. PathsOver told format c.profile change.kind c.limits (name_bytes change.database) paths old result) (ap (map string_bytes) is) over
 
-  -- the same of the file at the path
-  leaves_path : (result : Result Reply Fault) → named ≡ change.path ∷ [] → OnErr result (ChangesNothing old new)
-      → ((files : List (List ℕ)) → AreTold told (map string_bytes named) files → AnswersFrom old new result (ChangesBy c change.kind (name_bytes change.database) files))
-      → PathLeaves told c change old new result
-  leaves_path result is nothing serves = record {
-    refused = nothing;
-    serves = λ file known. serves (file ∷ []) (ap (map told) (ap (map string_bytes) is) ∙ ap (λ bytes. bytes ∷ []) known);
-  }
+  leaves_path : (result : Result Reply Fault) → named ≡ change.path ∷ [] → PathsLeave told c change.kind (name_bytes change.database) (map string_bytes named) old new result
+      → PathsLeave told c change.kind (name_bytes change.database) (string_bytes change.path ∷ []) old new result
+  leaves_path result is leaves = subst (λ paths. PathsLeave told c change.kind (name_bytes change.database) paths old new result) (ap (map string_bytes) is) leaves
 
-  pub replied_path : (reply : Reply) (bytes : List ℕ) → named ≡ change.path ∷ [] → (Clean → PathsOver told format c.profile (name_bytes change.database) (map string_bytes named) old (Ok reply))
-      → (Clean → (files : List (List ℕ)) → AreTold told (map string_bytes named) files → AnswersFrom old new (Ok reply) (ChangesBy c change.kind (name_bytes change.database) files))
+  pub replied_path : (reply : Reply) (bytes : List ℕ) → named ≡ change.path ∷ [] → (Clean → PathsOver told format c.profile change.kind c.limits (name_bytes change.database) (map string_bytes named) old (Ok reply))
+      → (Clean → PathsLeave told c change.kind (name_bytes change.database) (map string_bytes named) old new (Ok reply))
       → bytes ≡ reply_text reply → (failed ≡ false → Appends wrote writes bytes)
       → failed ≡ false → Clean → Writes wrote writes (λ given. PathOver told format c change old given 0 new)
-  replied_path reply bytes one over serves is grew sound clean = (bytes, (Ok reply, (is, refl), named_over (Ok reply) one (over clean), leaves_path (Ok reply) one tt (serves clean)), grew sound)
+  replied_path reply bytes one over leaves is grew sound clean = (bytes, (Ok reply, (is, refl), named_over (Ok reply) one (over clean), leaves_path (Ok reply) one (leaves clean)), grew sound)
 
-  pub refused_path : (why : Fault) (r : Result ℕ AllocError) → named ≡ change.path ∷ [] → (Clean → PathsOver told format c.profile (name_bytes change.database) (map string_bytes named) old (Err why))
-      → (Clean → ChangesNothing old new)
-      → (Clean → (files : List (List ℕ)) → AreTold told (map string_bytes named) files → AnswersFrom old new (Err why) (ChangesBy c change.kind (name_bytes change.database) files))
+  pub refused_path : (why : Fault) (r : Result ℕ AllocError) → named ≡ change.path ∷ [] → (Clean → PathsOver told format c.profile change.kind c.limits (name_bytes change.database) (map string_bytes named) old (Err why))
+      → (Clean → PathsLeave told c change.kind (name_bytes change.database) (map string_bytes named) old new (Err why))
       → IfOk r (λ status. failed ≡ false → Writes wrote writes (λ line. TellsFault why line status))
       → IfOk r (λ status. failed ≡ false → Clean → Writes wrote writes (λ bytes. PathOver told format c change old bytes status new))
-  refused_path why (Err e) one over nothing serves tells = tt
-  refused_path why (Ok status) one over nothing serves tells = λ sound clean.
+  refused_path why (Err e) one over leaves tells = tt
+  refused_path why (Ok status) one over leaves tells = λ sound clean.
       let w = tells sound in
       let result : Result Reply Fault = Err why in
-      (w.0, (result, w.1, named_over result one (over clean), leaves_path result one (nothing clean) (serves clean)), w.2)
+      (w.0, (result, w.1, named_over result one (over clean), leaves_path result one (leaves clean)), w.2)
 
 -- ---- a line
 

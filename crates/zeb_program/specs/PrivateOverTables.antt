@@ -1,6 +1,6 @@
 -- What only the contracts of private functions speak of; no public clause reaches it.
 -- What a command or a change by paths is answered on any tables, whatever these hold, where words or a line name it (this program's own).
-use Rattle.std.specs.Prelude.{◌≡◌, ◌⊎◌, ℕ, Option, Some, Result, Ok, Err, OnErr, OnOk, List, [], ◌∷◌, length, map, string_bytes}
+use Rattle.std.specs.Prelude.{◌≡◌, ◌⊎◌, ℕ, Option, Some, Result, Ok, Err, OnErr, List, [], ◌∷◌, length, map, string_bytes}
 use Rattle.std.specs.Io.KnownBytes.{Appends, Keeps as Stays}
 use Rattle.sqlite.specs.Held.{Held, state}
 use Rattle.sqlite.specs.State.{State}
@@ -8,8 +8,9 @@ use Rattle.sqlite.specs.Store.{Ghosts}
 use Rattle.zeb_profile.specs.declared.directives.Directive.{Directive}
 use Rattle.zeb_register.specs.Calls.{ChangesNothing}
 use Rattle.zeb_register.specs.Formats.{Format, version_of}
-use Rattle.zeb_register.specs.Store.{IsStore}
 use Rattle.zeb_change.specs.Conditions.{Conditions}
+use Rattle.zeb_change.specs.declared.settings.Kind.{Kind}
+use Rattle.zeb_change.specs.declared.settings.Limits.{Limits}
 use Rattle.zeb_change.specs.declared.refusals.Refusal.{Refusal}
 use Rattle.zeb_change.specs.declared.refusals.Refusal.TheVariants.{Damaged, Memory as OutOfMemory}
 use Rattle.zeb_image.specs.Holdings.{Holdings}
@@ -17,14 +18,11 @@ use Rattle.zeb_image.specs.Image.{Keeps}
 use Rattle.zeb_image.specs.NameOf.{name_bytes}
 use Rattle.zeb_engine.specs.Analysed.{IsAnalysed}
 use Rattle.zeb_engine.specs.Answers.{answer_of}
-use Rattle.zeb_engine.specs.AnyAnswers.{IsAnswerOver}
-use Rattle.zeb_engine.specs.AnyTables.{ChangesReady}
-use Rattle.zeb_engine.specs.Checking.{ReindexLeaves}
+use Rattle.zeb_engine.specs.AnyAnswers.{CommandLeaves, IsAnswerOver}
+use Rattle.zeb_engine.specs.AnyTables.{ChangesReady, LeavesWhole, LosesNamed}
+use Rattle.zeb_engine.specs.Causes.{ChangesInRoom}
 use Rattle.zeb_engine.specs.Readiness.{GoesByTexts}
-use Rattle.zeb_engine.specs.Steps.{OnlyAsks, holding}
-use Rattle.zeb_engine.specs.Works.{ServesCommand}
 use Rattle.zeb_engine.specs.declared.commands.Command.{Command}
-use Rattle.zeb_engine.specs.declared.commands.Command.TheVariants.{Init, Reindex}
 use Rattle.zeb_engine.specs.declared.replies.Reply.{Reply}
 use Rattle.zeb_program.specs.declared.faults.Fault.{Fault}
 use Rattle.zeb_program.specs.declared.faults.Fault.TheVariants.{Refused}
@@ -47,27 +45,15 @@ use Rattle.zeb_program.specs.TaskAnswers.{ReadsWhole}
 -- ---- a task
 
 -- what is said of the answer to a change of the database of this name by the files at these paths
-pub record PathsOver (told : List ℕ → Option (List ℕ)) (format : Format) (profile : List Directive) (name : List ℕ) (paths : List (List ℕ)) (s : State) (result : Result Reply Fault) : Type 0 where
+pub record PathsOver (told : List ℕ → Option (List ℕ)) (format : Format) (profile : List Directive) (kind : Kind) (limits : Limits) (name : List ℕ) (paths : List (List ℕ)) (s : State) (result : Result Reply Fault) : Type 0 where
   -- a path can't be read, or the texts of the store tell whether the register was ready
   pub ready : IsUnreadable result ⊎ GivesAnswer (GoesByTexts (version_of format) profile s) result
   -- Where the bytes of a file at each path are told: one of the files couldn't be read to its end, or what is kept under the first record's
-  -- identifier is whole, or the change is refused as damage or by a failure.
+  -- identifier is whole, or the change is refused as damage or by a failure; and any other refusal has a reason that the files and the limits give.
   pub changes : (files : List (List ℕ)) → AreTold told paths files
-      → GivesAnswer (λ answer. ChangesReady (version_of format) profile name files s answer ⊎ IsReadFaultOf (length files) answer) result
+      → GivesAnswer (λ answer. ChangesReady (version_of format) profile kind limits name files s answer ⊎ IsReadFaultOf (length files) answer) result
   -- damage is told only of the image of nothing that can be held
   pub honest : result ≡ Err (Refused Damaged) → (before : Holdings) → ¬ Keeps s before
-
--- what a command leaves of the tables
-pub record CommandLeaves (format : Format) (c : Conditions) (command : Command) (old new : State) (answer : Result Reply Refusal) : Type 0 where
-  -- nothing changes where it is refused, nor where it only asks
-  pub refused : OnErr answer (ChangesNothing old new)
-  pub asks : OnlyAsks command → ChangesNothing old new
-  -- from tables that keep what a register holds it is answered as a run of it, and they keep what is held then
-  pub serves : ServesCommand c command old new answer
-  -- an accepted init leaves a register without a database, whatever rows the tables had
-  pub begun : command ≡ Init → OnOk answer (IsStore old → Keeps new (holding c []))
-  -- an accepted reindex leaves the lists, and registers of these, whatever the registers held
-  pub remade : command ≡ Reindex → OnOk answer (ReindexLeaves format c.profile old new)
 
 -- What is said of the answer to an analysis of the files at these paths, of at most so many records.
 pub record IsAnalysisOver (told : List ℕ → Option (List ℕ)) (profile : List Directive) (limit : ℕ) (paths : List (List ℕ)) (answer : Result Reply Refusal) : Type 0 where
@@ -78,19 +64,35 @@ pub record IsAnalysisOver (told : List ℕ → Option (List ℕ)) (profile : Lis
   pub short : AreShort texts
   pub these : (files : List (List ℕ)) → AreTold told paths files → texts ≡ files
 
+-- what a change of the database of this name by the files at these paths leaves of any tables, and why its store failed
+pub record PathsLeave (told : List ℕ → Option (List ℕ)) (c : Conditions) (kind : Kind) (name : List ℕ) (paths : List (List ℕ)) (old new : State) (result : Result Reply Fault) : Type 0 where
+  -- nothing changes where it isn't accepted
+  pub refused : OnErr result (ChangesNothing old new)
+  -- a path can't be read, or of an accepted one the engine says what the tables have lost and kept
+  pub loses : IsUnreadable result ⊎ GivesAnswer (LeavesWhole c.profile kind name old new) result
+  -- Where the bytes of a file at each path are told, it is answered from tables that keep what a register holds as a change by these, and they
+  -- keep what is held then.
+  pub serves : (files : List (List ℕ)) → AreTold told paths files → AnswersFrom old new result (ChangesBy c kind name files)
+  -- Then it has lost no record but under identifiers that records of the files have; and a failed store has a cause, where the tables have room
+  -- for what these records ask for.
+  pub named : (files : List (List ℕ)) → AreTold told paths files → GivesAnswer (LosesNamed c.profile name files old new) result
+  pub room : (files : List (List ℕ)) → AreTold told paths files → GivesAnswer (ChangesInRoom c.profile kind name files old new) result
+
 -- a path of an analysis can't be read, or it is answered so
 abbrev pub AnalysesOver : (List ℕ → Option (List ℕ)) → List Directive → ℕ → List (List ℕ) → Result Reply Fault → Type 0
 AnalysesOver told profile limit paths result = IsUnreadable result ⊎ GivesAnswer (IsAnalysisOver told profile limit paths) result
 
 -- A command is answered as the engine says of it on any tables, and this is what it leaves of them.
 abbrev pub ServesOver : Format → Conditions → Command → State → State → Result Reply Refusal → Type 0
-ServesOver format c command old new answer = IsAnswerOver format c.profile command old answer × CommandLeaves format c command old new answer
+ServesOver format c command old new answer = IsAnswerOver format c.profile c.limits command old answer × CommandLeaves format c command old new answer
 
--- A task of one command is answered as the engine says of it on any tables, and so are a change and an analysis by paths.
+-- A task of one command is answered as the engine says of it on any tables, and this is what it leaves of them; so it is of a change by paths. An
+-- analysis by paths is answered as above.
 abbrev pub AnswersOver : (List ℕ → Option (List ℕ)) → Format → Conditions → Task → State → State → Result Reply Fault → Type 0
 AnswersOver told format c (Ask command) old new result = GivesAnswer (ServesOver format c command old new) result
 AnswersOver told format c (Change kind database paths) old new result =
-    PathsOver told format c.profile (name_bytes database) (map string_bytes paths.items) old result
+    PathsOver told format c.profile kind c.limits (name_bytes database) (map string_bytes paths.items) old result
+    × PathsLeave told c kind (name_bytes database) (map string_bytes paths.items) old new result
 AnswersOver told format c (Analyse paths) old new result = AnalysesOver told c.profile c.limits.records (map string_bytes paths.items) result
 
 -- what is said of a task, from these tables to those
@@ -113,19 +115,12 @@ abbrev pub IsTold : Result Reply Fault → List ℕ → ℕ → Type 0
 IsTold (Ok reply) bytes status = (bytes ≡ answer_text (Ok reply)) × (status ≡ answer_status (Ok reply))
 IsTold (Err fault) bytes status = TellsFault fault bytes status
 
--- What a change by the file at a path leaves of the tables: nothing changes where it isn't accepted, and where the file's bytes are told, it is
--- answered from tables that keep what a register holds as a change by these, and they keep what is held then.
-pub record PathLeaves (told : List ℕ → Option (List ℕ)) (c : Conditions) (change : PathChange) (old new : State) (result : Result Reply Fault) : Type 0 where
-  pub refused : OnErr result (ChangesNothing old new)
-  pub serves : (file : List ℕ) → told (string_bytes change.path) ≡ Some file
-      → AnswersFrom old new result (ChangesBy c change.kind (name_bytes change.database) (file ∷ []))
-
 -- the same of a change by a path
 abbrev pub PathOver : (List ℕ → Option (List ℕ)) → Format → Conditions → PathChange → State → List ℕ → ℕ → State → Type 0
 PathOver told format c change old bytes status new =
     (result : Result Reply Fault) × IsTold result bytes status
-    × PathsOver told format c.profile (name_bytes change.database) (string_bytes change.path ∷ []) old result
-    × PathLeaves told c change old new result
+    × PathsOver told format c.profile change.kind c.limits (name_bytes change.database) (string_bytes change.path ∷ []) old result
+    × PathsLeave told c change.kind (name_bytes change.database) (string_bytes change.path ∷ []) old new result
 
 -- of a line that says this
 abbrev pub SaysOver : (List ℕ → Option (List ℕ)) → Format → Conditions → ℕ → Line → State → List ℕ → ℕ → State → Type 0

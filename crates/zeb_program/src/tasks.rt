@@ -9,11 +9,10 @@ ghost use Rattle.zeb_change.specs.Conditions.{conditions};
 ghost use Rattle.zeb_image.specs.NameOf.{name_bytes};
 ghost use Rattle.zeb_register.specs.Calls.{ChangesNothing};
 ghost use Rattle.zeb_register.specs.Formats.{packed_blocks, version_of};
-ghost use Rattle.zeb_program.specs.Answers.{ChangesBy};
 ghost use Rattle.zeb_engine.specs.Analysed.{AnswersAnalysis};
 ghost use Rattle.zeb_program.specs.PrivateFaults.{GivesAnswer, IsOpeningFault, IsUnread, IsUnreadable};
 ghost use Rattle.zeb_program.specs.ScriptAnswers.{AreScriptConditions};
-ghost use Rattle.zeb_program.specs.PrivateOverTables.{AnalysesOver, PathsOver, ServesOver, TaskOver};
+ghost use Rattle.zeb_program.specs.PrivateOverTables.{AnalysesOver, PathsLeave, PathsOver, ServesOver, TaskOver};
 ghost use Rattle.zeb_program.specs.PrivateServing.{AnswersFrom, ServesTask, replied};
 ghost use Rattle.zeb_program.specs.TaskAnswers.{ReadsWhole};
 ghost use Rattle.zeb_program.specs.PrivateTaskAnswers.{AnalysesFiles, AnswersCommand, AreTold, paths_of};
@@ -254,17 +253,15 @@ pub fn change_by_paths<S: Alter, L: Layout, P: Paths>(
 ) -> Result<Reply, Fault>
     ensures clean { HasCleanDisk (state S.Store session.new.connection) → HasCleanDisk (state S.Store session.old.connection) }
     ensures under { (session.new.profile ≡ session.old.profile) × (session.new.limits ≡ session.old.limits) }
-    // Where the bytes of a file at each path are told.
-    ensures told { HasCleanDisk (state S.Store session.new.connection)
-        → (files : List (List ℕ)) → AreTold (P.tells paths.now) (map string_bytes named.now) files
-        → AnswersFrom (state S.Store session.old.connection) (state S.Store session.new.connection) result
-        (ChangesBy (conditions (version_of L.format) session.old.profile session.old.limits) kind (name_bytes database.now) files) }
     // On any tables, and whatever the paths tell.
     ensures over { HasCleanDisk (state S.Store session.new.connection)
-        → PathsOver (P.tells paths.now) L.format session.old.profile (name_bytes database.now) (map string_bytes named.now)
-        (state S.Store session.old.connection) result }
-    ensures refused { HasCleanDisk (state S.Store session.new.connection)
-        → OnErr result (ChangesNothing (state S.Store session.old.connection) (state S.Store session.new.connection)) }
+        → PathsOver (P.tells paths.now) L.format session.old.profile kind session.old.limits (name_bytes database.now)
+        (map string_bytes named.now) (state S.Store session.old.connection) result }
+    // Also what it does to them, and, where the bytes of a file at each path are told, that it is the change by these.
+    ensures leaves { HasCleanDisk (state S.Store session.new.connection)
+        → PathsLeave (P.tells paths.now) (conditions (version_of L.format) session.old.profile session.old.limits) kind
+        (name_bytes database.now) (map string_bytes named.now) (state S.Store session.old.connection)
+        (state S.Store session.new.connection) result }
     ensures unread { IfErr result (λ fault. IsUnread fault → session.new ≡ session.old) }
 {
     let mut readers = readers_of(alloc, paths, named)?;

@@ -134,6 +134,11 @@ pub list_read : (trees : Trees) (content : Content) (db : ℤ) (key : Key) (rows
 list_read trees content db key rows list holds are shown =
     same_postings list (content db key) (shown ∙ first_three_same rows (rows_known trees content db key rows holds are) ∙ one_list _ rows (map posting_row (content db key)) are (list_held trees content db key holds))
 
+pub has_get : {X : Type 0} (xs : List X) (i : ℕ) (d : X) → i < length xs → Has xs (get_or xs i d)
+has_get [] i d below = absurd (omega (arith, below))
+has_get (x ∷ xs) zero d below = inl refl
+has_get (x ∷ xs) (suc i) d below = inr (has_get xs i d (omega (arith, below)))
+
 pub has_at : {X : Type 0} (xs : List X) (i : ℕ) (x : X) → x ≡ get_or xs i x → i < length xs → Has xs x
 has_at [] i x is below = absurd (omega arith)
 has_at (y ∷ ys) zero x is below = inl is

@@ -1,30 +1,117 @@
--- Malformed rows of the registers that are there still.
-use Rattle.std.proofs.Common.{◌≡◌, ◌∷◌, ℕ, List, ap, sym, subst}
-use Rattle.sqlite.specs.declared.types.Value.TheVariants.{Int}
+-- Rows of the registers that are there still: malformed ones, those beside the rows of one key, and those that spell postings.
+use Rattle.std.proofs.Common.{◌≡◌, ◌≢◌, ◌∷◌, ◌++◌, [], ℕ, ℤ, pos, List, ap, sym, subst, inl, inr}
+use Rattle.sqlite.specs.declared.types.Value.TheVariants.{Int, Null, Text}
 use Rattle.sqlite.specs.Effect.{Database}
-use Rattle.sqlite.specs.Order.{Row}
+use Rattle.sqlite.specs.Order.{Row, column}
 use Rattle.sqlite.specs.Tree.{Trees}
 use Rattle.sqlite_rules.specs.Lists.{Has}
-use Rattle.zeb_register.specs.Sound.{KeepsMalformed}
+use Rattle.zeb_blocks.specs.declared.postings.Posting.{Posting}
+use Rattle.zeb_keys.specs.declared.keys.Key.{Key}
+use Rattle.zeb_keys.specs.Registers.{register_code}
+use Rattle.zeb_register.specs.Hindrances.{IsSpelledAt, KeepsPlaces, KeepsSpelled, Placed, SpellsMore}
+use Rattle.zeb_register.specs.PackedBlocks.{block_row}
+use Rattle.zeb_register.specs.PlainRows.{key_row}
+use Rattle.zeb_register.specs.Sound.{KeepsBeside, KeepsMalformed, KeepsRowsBeside}
 use Rattle.zeb_register.specs.Sql.{HasRow}
-use Rattle.zeb_register.specs.Store.{blocks_tree, dict_tree}
+use Rattle.zeb_register.specs.Store.{KeepsRegisters, blocks_tree, dict_tree, postings_tree}
 
 pub row_same : (tree : ℕ) (old new : Trees) → new tree ≡ old tree → (row : Row) → HasRow old tree row → HasRow new tree row
 row_same tree old new same row there = (there.0, subst (λ (rows : List Row). Has rows (Int there.0 ∷ row)) (sym same) there.1)
 
+-- ---- malformed rows
+
 -- the tables of the packed registers are as they were
 pub malformed_same : (old new : Trees) → new blocks_tree ≡ old blocks_tree → new dict_tree ≡ old dict_tree → KeepsMalformed old new
 malformed_same old new blocks dict = record {
-  blocks = λ db key row bad there. row_same blocks_tree old new blocks _ there;
-  dict = λ db key row bad there. row_same dict_tree old new dict _ there;
+  blocks = λ row bad there. row_same blocks_tree old new blocks row there;
+  dict = λ row bad there. row_same dict_tree old new dict row there;
 }
 
 pub malformed_then : (a b c : Trees) → KeepsMalformed a b → KeepsMalformed b c → KeepsMalformed a c
 malformed_then a b c one two = record {
-  blocks = λ db key row bad there. two.blocks db key row bad (one.blocks db key row bad there);
-  dict = λ db key row bad there. two.dict db key row bad (one.dict db key row bad there);
+  blocks = λ row bad there. two.blocks row bad (one.blocks row bad there);
+  dict = λ row bad there. two.dict row bad (one.dict row bad there);
 }
 
 -- of a store that a call only read
 pub malformed_seen : (old new : Database) → new ≡ old → KeepsMalformed old.trees new.trees
 malformed_seen old new same = malformed_same old.trees new.trees (ap (λ (d : Database). d.trees blocks_tree) same) (ap (λ (d : Database). d.trees dict_tree) same)
+
+-- ---- rows beside those that begin with some columns
+
+-- the table is as it was
+pub table_same : (front : Row) (tree : ℕ) (old new : Trees) → new tree ≡ old tree → KeepsBeside front tree old new
+table_same front tree old new same row other = (row_same tree new old (sym same) row, row_same tree old new same row)
+
+pub table_then : (front : Row) (tree : ℕ) (a b c : Trees) → KeepsBeside front tree a b → KeepsBeside front tree b c → KeepsBeside front tree a c
+table_then front tree a b c one two row other = (λ there. (one row other).0 ((two row other).0 there), λ there. (two row other).1 ((one row other).1 there))
+
+-- the tables of the registers are as they were
+pub beside_same : (front : Row) (old new : Trees) → KeepsRegisters old new → KeepsRowsBeside front old new
+beside_same front old new same = record {
+  postings = table_same front postings_tree old new same.0;
+  blocks = table_same front blocks_tree old new same.1;
+  dict = table_same front dict_tree old new same.2;
+}
+
+pub beside_then : (front : Row) (a b c : Trees) → KeepsRowsBeside front a b → KeepsRowsBeside front b c → KeepsRowsBeside front a c
+beside_then front a b c one two = record {
+  postings = table_then front postings_tree a b c one.postings two.postings;
+  blocks = table_then front blocks_tree a b c one.blocks two.blocks;
+  dict = table_then front dict_tree a b c one.dict two.dict;
+}
+
+-- of a store that a call only read
+pub beside_seen : (front : Row) (old new : Database) → new ≡ old → KeepsRowsBeside front old.trees new.trees
+beside_seen front old new same = beside_same front old.trees new.trees (
+  ap (λ (d : Database). d.trees postings_tree) same,
+  ap (λ (d : Database). d.trees blocks_tree) same,
+  ap (λ (d : Database). d.trees dict_tree) same,
+)
+
+-- what is beside the rows of a database is beside those of each of its keys
+pub beside_database : (db : ℤ) (key : Key) (old new : Trees) → KeepsRowsBeside (key_row db key) old new → KeepsRowsBeside (Int db ∷ []) old new
+beside_database db key old new kept = record {
+  postings = λ row other. kept.postings row (apart row other);
+  blocks = λ row other. kept.blocks row (apart row other);
+  dict = λ row other. kept.dict row (apart row other);
+}
+  where
+    apart : (row : Row) → ((rest : Row) → row ≢ (Int db ∷ []) ++ rest) → (rest : Row) → row ≢ key_row db key ++ rest
+    apart row other rest = other (Int (pos key.index) ∷ Int (pos (register_code key.register)) ∷ Text key.term ∷ rest)
+
+-- a row with the key's first columns begins with them
+pub key_begins : (db : ℤ) (key : Key) (row : Row) → column row 0 ≡ Int db → column row 1 ≡ Int (pos key.index) → column row 2 ≡ Int (pos (register_code key.register)) → column row 3 ≡ Text key.term
+    → (rest : Row) × (row ≡ key_row db key ++ rest)
+key_begins db key [] one two three four = absurd (let e : Null ≡ Int db = one in cc)
+key_begins db key (a ∷ []) one two three four = absurd (let e : Null ≡ Int (pos key.index) = two in cc)
+key_begins db key (a ∷ b ∷ []) one two three four = absurd (let e : Null ≡ Int (pos (register_code key.register)) = three in cc)
+key_begins db key (a ∷ b ∷ c ∷ []) one two three four = absurd (let e : Null ≡ Text key.term = four in cc)
+key_begins db key (a ∷ b ∷ c ∷ d ∷ rest) one two three four = (rest, λ i. one i ∷ two i ∷ three i ∷ four i ∷ rest)
+
+-- ---- rows of other records of the key
+
+pub places_same : (db : ℤ) (key : Key) (given : List Placed) (old new : Trees) → new postings_tree ≡ old postings_tree → KeepsPlaces db key given old new
+places_same db key given old new same row other = (row_same postings_tree new old (sym same) row, row_same postings_tree old new same row)
+
+pub places_then : (db : ℤ) (key : Key) (given : List Placed) (a b c : Trees) → KeepsPlaces db key given a b → KeepsPlaces db key given b c → KeepsPlaces db key given a c
+places_then db key given a b c one two row other = (λ there. (one row other).0 ((two row other).0 there), λ there. (two row other).1 ((one row other).1 there))
+
+-- what stays but for one of some records stays but for all of them
+pub places_among : (db : ℤ) (key : Key) (x : Placed) (given : List Placed) (old new : Trees) → Has given x → KeepsPlaces db key (x ∷ []) old new → KeepsPlaces db key given old new
+places_among db key x given old new among keeps row other = keeps row (λ it. elim it.2 [
+  | inl same ↦ other (it.0, it.1, subst (Has given) (sym same) among, it.3)
+  | inr none ↦ none
+])
+
+-- ---- what rows spell
+
+-- the table of blocks tells it
+pub spelled_stays : (old new : Trees) → new blocks_tree ≡ old blocks_tree → (db : ℤ) (key : Key) (p : Posting) → IsSpelledAt db key new p → IsSpelledAt db key old p
+spelled_stays old new same db key p it = (it.0, it.1, it.2, row_same blocks_tree new old (sym same) (block_row db key it.0 it.1) it.3, it.4, it.5)
+
+pub spells_same : (db : ℤ) (key : Key) (P : Posting → Type 0) (old new : Trees) → new blocks_tree ≡ old blocks_tree → SpellsMore db key P old new
+spells_same db key P old new same p it = inl (spelled_stays old new same db key p it)
+
+pub spelled_same : (db : ℤ) (key : Key) (given : List Placed) (old new : Trees) → new blocks_tree ≡ old blocks_tree → KeepsSpelled db key given old new
+spelled_same db key given old new same p others = (spelled_stays old new same db key p, spelled_stays new old (sym same) db key p)

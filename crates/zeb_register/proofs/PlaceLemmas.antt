@@ -20,6 +20,7 @@ use Rattle.zeb_blocks.specs.declared.postings.Posting.{Posting}
 use Rattle.zeb_register.specs.Sql.{HasRow, KeepsOthers, IsKeyed, Loses, IsListOf}
 use Rattle.zeb_register.specs.PrivateRowStatements.{Gains, place_key}
 use Rattle.zeb_register.specs.Store.{postings_tree, IsRest, Changes, blocks_tree, dict_tree, databases_tree, records_tree, TakesDatabase, IsRecordIn, IsPostingIn}
+use Rattle.zeb_register.specs.Hindrances.{KeepsPlaces}
 use Rattle.zeb_register.specs.Content.{Content, ArePlacesOf, posting_at, place_cmp, IsWithout, TakesWhole, IsChangedAt}
 use Rattle.zeb_register.specs.PlainRows.{HoldsRows, posting_row, key_row}
 use Rattle.zeb_register.specs.PackedBlocks.{first_two}
@@ -32,7 +33,9 @@ use Rattle.std.proofs.lemmas.Cmp.{tied_itself}
 use Rattle.zeb_register.specs.Tables.{store_schema}
 use Rattle.zeb_register.proofs.ValueKinds.{code, is_exact}
 use Rattle.zeb_register.proofs.RowLemmas.{tied_is}
+use Rattle.zeb_register.specs.Sound.{KeepsRowsBeside}
 use Rattle.zeb_register.proofs.ContentLemmas.{told_apart, one_list, ints_order, same_key}
+use Rattle.zeb_register.proofs.Malformed.{key_begins, table_same}
 
 -- the rows of the key in the record, shown by their places
 abbrev pub place_front : ℤ → Key → ℕ → Row
@@ -251,6 +254,41 @@ rows_changed old mid new db key sysno places before after holds lost left gained
   );
   alone = (kept.1 ∙ left.1 ∙ holds.alone.0, kept.2 ∙ left.2 ∙ holds.alone.1);
 }
+
+-- no row but those of the key is taken or put
+pub rows_beside : (old mid new : Trees) (db : ℤ) (key : Key) (sysno : ℕ) (places : List Place) → Loses (IsPlaceIn db key sysno) postings_tree old mid → KeepsBesidePostings old mid → GainsPlaces db key sysno places mid new
+    → KeepsBesidePostings mid new → KeepsRowsBeside (key_row db key) old new
+rows_beside old mid new db key sysno places lost left gained kept = record {
+  postings = λ row other. (
+    λ there. elim ((gained row).0 there) [ inl was ↦ ((lost row).0 was).0 | inr put ↦ absurd (other (posting_row (posting_at sysno put.0)) put.2) ],
+    λ there. (gained row).1 (inl ((lost row).1 (there, λ in_it. let begins = key_begins db key row in_it.0 in_it.1 in_it.2 in_it.3 in other begins.0 begins.1))),
+  );
+  blocks = table_same (key_row db key) blocks_tree old new (kept.1 ∙ left.1);
+  dict = table_same (key_row db key) dict_tree old new (kept.2 ∙ left.2);
+}
+
+begun_with : (rest : Row) (v : Value) → v ≢ Null → column rest 0 ≡ v → (more : Row) × (rest ≡ v ∷ more)
+begun_with [] v some is = absurd (some (sym is))
+begun_with (a ∷ more) v some is = (more, ap (λ x. x ∷ more) is)
+
+-- a posting of the key in the record begins with them
+place_begins : (db : ℤ) (key : Key) (sysno : ℕ) (row : Row) → IsPlaceIn db key sysno row → (rest : Row) × (row ≡ key_row db key ++ Int (pos sysno) ∷ rest)
+place_begins db key sysno row in_it =
+    let begins = key_begins db key row in_it.0 in_it.1 in_it.2 in_it.3 in
+    let at : column begins.0 0 ≡ Int (pos sysno) = subst (λ (r : Row). column r 4 ≡ Int (pos sysno)) begins.1 in_it.4 in
+    let more = begun_with begins.0 (Int (pos sysno)) (λ none. cc) at in
+    (more.0, begins.1 ∙ ap (λ (r : Row). key_row db key ++ r) more.1)
+
+-- no row but those of the record is taken or put
+pub places_beside : (old mid new : Trees) (db : ℤ) (key : Key) (sysno : ℕ) (places : List Place) → Loses (IsPlaceIn db key sysno) postings_tree old mid → GainsPlaces db key sysno places mid new
+    → KeepsPlaces db key ((sysno, places) ∷ []) old new
+places_beside old mid new db key sysno places lost gained row other = (
+  λ there. elim ((gained row).0 there) [
+    | inl was ↦ ((lost row).0 was).0
+    | inr put ↦ absurd (other ((sysno, places), Int (pos put.0.seq) ∷ Int (pos put.0.pos) ∷ [], inl refl, put.2))
+  ],
+  λ there. (gained row).1 (inl ((lost row).1 (there, λ in_it. let begins = place_begins db key sysno row in_it in other ((sysno, places), begins.0, inl refl, begins.1)))),
+)
 
 -- ---- rows of the registers taken
 

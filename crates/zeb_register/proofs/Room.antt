@@ -1,31 +1,32 @@
 -- Room in the tables of the registers: where there is enough, nothing hinders places, and places that are put use up as much as they are.
-use Rattle.std.proofs.Common.{◌≡◌, ◌⊎◌, ◌+◌, ◌/◌, ◌<◌, ◌≤◌, ◌==◌, ◌^◌, ℕ, ℤ, List, [], ◌∷◌, ◌++◌, length, map, refl, sym, ap, subst, inl, inr, Ordering, Less, arith}
-use Rattle.std.specs.Cmp.{IsTotalOrder, nat_cmp_total}
+use Rattle.std.proofs.Common.{◌≡◌, ◌≢◌, ◌⊎◌, ◌+◌, ◌/◌, ◌<◌, ◌≤◌, ◌^◌, ℕ, ℤ, pos, List, [], ◌∷◌, ◌++◌, length, map, refl, sym, ap, subst, inl, inr, Ordering, Less, arith}
+use Rattle.std.specs.Cmp.{IsTotalOrder}
 use Rattle.std.specs.List.{AllByRecursion}
 use Rattle.std.specs.List.Sorted.{IsStrictlySortedBy}
+use Rattle.std.proofs.lemmas.Bool.{cases_lt}
 use Rattle.std.proofs.lemmas.List.{length-append, length-map}
 use Rattle.std.proofs.lemmas.List.Sums.{sum_by-append}
-use Rattle.sqlite.specs.declared.types.Value.TheVariants.{Int}
+use Rattle.sqlite.specs.declared.types.Value.TheVariants.{Blob, Int}
+use Rattle.sqlite.specs.Order.{Row}
 use Rattle.sqlite.specs.Tree.{Trees}
 use Rattle.sqlite_rules.specs.Lists.{Has}
-use Rattle.sqlite_rules.proofs.ListLemmas.{all_has, has_either, has_left, has_right}
+use Rattle.sqlite_rules.proofs.ListLemmas.{all_from, all_has, has_either, has_left, has_right}
 use Rattle.sqlite_rules.proofs.ProbeLemmas.{mapped_has}
+use Rattle.zeb_blocks.specs.Blocks.{IsNumbered, LiesIn}
 use Rattle.zeb_blocks.specs.declared.postings.Posting.{Posting}
 use Rattle.zeb_blocks.proofs.Sizes.{length-block}
 use Rattle.zeb_keys.specs.declared.keys.Key.{Key}
-use Rattle.zeb_keys.proofs.Rising.{numbers_apart}
-use Rattle.zeb_register.specs.declared.registers.Place.{Place}
-use Rattle.zeb_register.specs.declared.registers.RecordChange.{RecordChange}
-use Rattle.zeb_register.specs.Content.{AreChangedAt, AreListChanges, Content, posting_at, posting_cmp}
-use Rattle.zeb_register.specs.Formats.{Format, holds_in, packed_blocks, plain_rows}
-use Rattle.zeb_register.specs.Hindrances.{HasRowids, HindersPlaces, IsPlacedAt, IsSpelledAt, FitsEachLayout, LacksRowids, Placed, TakesRegisterRowids, placed, rows_of}
-use Rattle.zeb_register.specs.PackedBlocks.{block_row, part_in}
-use Rattle.zeb_register.specs.Room.{FitInRow, HasRoomBy}
+use Rattle.zeb_register.specs.Content.{posting_at, posting_cmp}
+use Rattle.zeb_register.specs.Hindrances.{HasRowids, HindersPlaces, IsPlacedAt, IsSpelledAt, FitsEachLayout, LacksRowids, Placed, SpellsMore, TakesRegisterRowids, rows_of}
+use Rattle.zeb_register.specs.PackedBlocks.{block_row}
+use Rattle.zeb_register.specs.PlainRows.{key_row}
+use Rattle.zeb_register.specs.Room.{AreSpelledAt, FitInRow, HasRoomBy}
+use Rattle.zeb_register.specs.Sound.{KeepsRowsBeside}
 use Rattle.zeb_register.specs.Store.{KeepsRegisters, LacksRegisters, blocks_tree, dict_tree, postings_tree}
 use Rattle.zeb_register.proofs.ContentChanges.{posting_total, told_spot}
-use Rattle.zeb_register.proofs.FormatLemmas.{registers_empty, registers_hold_one, registers_rise, registers_stay}
-use Rattle.zeb_register.proofs.PackedLemmas.{block_rows, block_spells, in_part, one_spelled, part_in_block, part_in_list}
-use Rattle.zeb_register.proofs.RisingLists.{kept_rises, never_itself, told_by}
+use Rattle.zeb_register.proofs.ContentLemmas.{told_apart}
+use Rattle.zeb_register.proofs.Malformed.{spelled_stays}
+use Rattle.zeb_register.proofs.RisingLists.{never_itself}
 use Rattle.zeb_register.proofs.TakenRowids.{has_less, lacks_more, not_both}
 
 -- ---- a rising list among the values of another
@@ -76,62 +77,97 @@ put_has (it ∷ given) p put = elim put.2 [
   | inr later ↦ has_right (map (posting_at it.0) it.1) (postings_put given) p (put_has given p (put.0, put.1, later, put.3, put.4))
 ]
 
--- what stands in a list once it is changed stood there, or is put
-list_made : (changes : List RecordChange) (old new : List Posting) → AreListChanges changes old new → (p : Posting) → Has new p → Has old p ⊎ IsPlacedAt (map placed changes) p
-list_made [] old new is p here = inl (subst (λ l. Has l p) is here)
-list_made (change ∷ changes) old new is p here = elim (list_made changes is.0 new is.3 p here) [
-  | inr put ↦ inr (put.0, put.1, inr put.2, put.3, put.4)
-  | inl next ↦ elim (told_by nat_cmp_total numbers_apart p.sysno change.sysno) [
-    | inl same ↦
-        let place : Place = record { seq = p.seq; pos = p.pos } in
-        let at : p ≡ posting_at change.sysno place = λ i. record { sysno = same i; seq = p.seq; pos = p.pos } in
-        inr (placed change, place, inl refl, (is.2.part place).1 (subst (Has is.0) at next), at)
-    | inr differs ↦ inl ((is.2.others p differs).0 next)
-  ]
-]
+-- ---- a rising list parted in two
 
--- a rising list of one block whose postings stand in another list or are put
-part_few : (block : ℕ) (list whole : List Posting) (given : List Placed) → IsStrictlySortedBy posting_cmp list → ((p : Posting) → Has list p → p.sysno / 256 ≡ block)
-    → ((p : Posting) → Has list p → Has whole p ⊎ IsPlacedAt given p) → length list ≤ length (part_in block whole) + rows_of given
-part_few block list whole given up inside made =
-    let there : (p : Posting) → Has list p → Has (part_in block whole ++ postings_put given) p = λ p here. elim (made p here) [
-      | inl was ↦ has_left (part_in block whole) (postings_put given) p (in_part block whole p was (inside p here))
-      | inr put ↦ has_right (part_in block whole) (postings_put given) p (put_has given p put)
-    ] in
-    omega (arith, rising_few posting_total list (part_in block whole ++ postings_put given) up there, length-append (part_in block whole) (postings_put given), put_few given)
+-- the postings of a list that are P, and the others, which are Q
+record Parted (P Q : Posting → Type 0) (list : List Posting) : Type 0 where
+  some : List Posting
+  others : List Posting
+  count : length list ≡ length some + length others
+  some_rise : IsStrictlySortedBy posting_cmp some
+  others_rise : IsStrictlySortedBy posting_cmp others
+  some_are : (p : Posting) → Has some p → Has list p × P p
+  others_are : (p : Posting) → Has others p → Has list p × Q p
+
+part_two : (P Q : Posting → Type 0) (list : List Posting) → IsStrictlySortedBy posting_cmp list → ((p : Posting) → Has list p → P p ⊎ Q p) → Parted P Q list
+unfolding IsStrictlySortedBy
+part_two P Q [] up each = record {
+  some = [];
+  others = [];
+  count = refl;
+  some_rise = tt;
+  others_rise = tt;
+  some_are = λ p here. absurd here;
+  others_are = λ p here. absurd here;
+}
+part_two P Q (x ∷ list) up each = by (part_two P Q list up.1 (λ p here. each p (inr here))) (each x (inl refl))
+  where
+    above : (part : List Posting) → ((p : Posting) → Has part p → Has list p) → AllByRecursion (λ q. posting_cmp x q ≡ Less) part
+    above part there = all_from (λ q. posting_cmp x q ≡ Less) part (λ q here. all_has (λ q. posting_cmp x q ≡ Less) list q up.0 (there q here))
+
+    by : Parted P Q list → P x ⊎ Q x → Parted P Q (x ∷ list)
+    by it (inl is) = record {
+      some = x ∷ it.some;
+      others = it.others;
+      count = omega (arith, it.count);
+      some_rise = (above it.some (λ p here. (it.some_are p here).0), it.some_rise);
+      others_rise = it.others_rise;
+      some_are = λ p here. elim here [
+        | inl same ↦ (inl same, subst P (sym same) is)
+        | inr later ↦ let at = it.some_are p later in (inr at.0, at.1)
+      ];
+      others_are = λ p here. let at = it.others_are p here in (inr at.0, at.1);
+    }
+    by it (inr is) = record {
+      some = it.some;
+      others = x ∷ it.others;
+      count = omega (arith, it.count);
+      some_rise = it.some_rise;
+      others_rise = (above it.others (λ p here. (it.others_are p here).0), it.others_rise);
+      some_are = λ p here. let at = it.some_are p here in (inr at.0, at.1);
+      others_are = λ p here. elim here [
+        | inl same ↦ (inl same, subst Q (sym same) is)
+        | inr later ↦ let at = it.others_are p later in (inr at.0, at.1)
+      ];
+    }
 
 -- ---- where there is room
 
-module _ (format : Format) (count : ℕ) (asked : Key → ℕ) (db : ℤ) (key : Key) (trees : Trees) (content : Content) (holds : holds_in format trees content) (room : HasRoomBy format count asked trees) where
-  -- where a key has a posting, its term leaves room for the places
-  pub held_fits : (p : Posting) → Has (content db key) p → FitInRow (asked key) key
-  held_fits p here = omega (arith, room.sizes content holds db key p here)
-
-  -- each block of a key fits, also one in which the key has no posting
-  block_fits : (block : ℕ) → FitInRow (asked key) key → FitInRow (length (part_in block (content db key)) + asked key) key
-  block_fits block fits = from (part_in block (content db key)) refl
+module _ (count : ℕ) (asked : Key → ℕ) (db : ℤ) (key : Key) (trees : Trees) (room : HasRoomBy count asked trees) where
+  -- one row holds postings of a block that are spelled or given, with as many more as are asked for beside these
+  pub row_fits : (block : ℕ) (list : List Posting) (given : List Placed) (more : ℕ) → LiesIn block list → ((p : Posting) → Has list p → IsSpelledAt db key trees p ⊎ IsPlacedAt given p)
+      → (1 ≤ rows_of given → FitInRow (asked key) key) → rows_of given + more ≤ asked key → 1 ≤ length list → FitInRow (length list + more) key
+  row_fits block list given more lies each fits own some = by parts.some refl
     where
-      from : (part : List Posting) → part_in block (content db key) ≡ part → FitInRow (length part + asked key) key
-      from [] is = omega (arith, fits)
-      from (p ∷ part) is =
-          let here : Has (part_in block (content db key)) p = subst (λ l. Has l p) (sym is) (inl refl) in
-          let at : p.sysno / 256 ≡ block = part_in_block block (content db key) p here in
-          let all = room.sizes content holds db key p (part_in_list block (content db key) p here) in
-          let moved : FitInRow (length (part_in block (content db key)) + asked key) key = subst (λ b. FitInRow (length (part_in b (content db key)) + asked key) key) at all in
-          omega (arith, moved, ap length is)
+      parts : Parted (IsSpelledAt db key trees) (IsPlacedAt given) list
+      parts = part_two (IsSpelledAt db key trees) (IsPlacedAt given) list lies.rising each
 
--- what the rows of `blocks` spell for the key is in the content
-spelled_held : (format : Format) (db : ℤ) (key : Key) (trees : Trees) (content : Content) → holds_in format trees content → (p : Posting) → IsSpelledAt db key trees p → Has (content db key) p
-spelled_held plain_rows db key trees content holds p it = absurd (subst (λ rows. Has rows (Int it.3.0 ∷ block_row db key it.0 it.1)) holds.alone.0 it.3.1)
-spelled_held packed_blocks db key trees content holds p it =
-    let spells = block_spells trees content db key it.0 it.1 (block_rows trees content holds) it.3 in
-    let same : it.2 ≡ part_in it.0 (content db key) = one_spelled it.0 it.1 it.2 (part_in it.0 (content db key)) it.4 spells in
-    part_in_list it.0 (content db key) p (subst (λ l. Has l p) same it.5)
+      few : length parts.others ≤ rows_of given
+      few = omega (arith, rising_few posting_total parts.others (postings_put given) parts.others_rise (λ p here. put_has given p (parts.others_are p here).1), put_few given)
+
+      spelled : AreSpelledAt trees db key parts.some
+      spelled = record {
+        block = block;
+        lies = record {
+          rising = parts.some_rise;
+          numbered = all_from IsNumbered parts.some (λ p here. all_has IsNumbered list p lies.numbered (parts.some_are p here).0);
+          inside = all_from (λ p. p.sysno / 256 ≡ block) parts.some (λ p here. all_has (λ p. p.sysno / 256 ≡ block) list p lies.inside (parts.some_are p here).0);
+        };
+        each = λ p here. (parts.some_are p here).1;
+      }
+
+      by : (some : List Posting) → parts.some ≡ some → FitInRow (length list + more) key
+      by [] is = let fit = fits (omega (arith, some, parts.count, few, ap length is)) in omega (arith, parts.count, few, fit, own, ap length is)
+      by (p ∷ some) is =
+          let filled : parts.some ≢ [] = λ none. absurd (omega (arith, ap length is, ap length none)) in
+          let all = room.sizes db key parts.some filled spelled in
+          omega (arith, parts.count, few, all, own)
 
 -- nothing hinders places that are so many, where each layout stores their numbers
-pub room_serves : (format : Format) (count : ℕ) (asked : Key → ℕ) (db : ℤ) (key : Key) (given : List Placed) (trees : Trees) (content : Content) → holds_in format trees content → HasRoomBy format count asked trees
-    → FitInRow (asked key) key → AllByRecursion FitsEachLayout given → rows_of given ≤ count → rows_of given ≤ asked key → HindersPlaces db key given trees → ⊥
-room_serves format count asked db key given trees content holds room fits storable few own = from
+pub room_serves : (count : ℕ) (asked : Key → ℕ) (db : ℤ) (key : Key) (given : List Placed) (trees : Trees) → HasRoomBy count asked trees
+    → FitInRow 0 key → (1 ≤ rows_of given → FitInRow (asked key) key)
+    → AllByRecursion FitsEachLayout given → rows_of given ≤ count → rows_of given ≤ asked key → HindersPlaces db key given trees → ⊥
+room_serves count asked db key given trees room term fits storable few own = from
   where
     lacks_none : (tree : ℕ) → HasRowids count tree trees → LacksRowids (rows_of given) tree trees → ⊥
     lacks_none tree has lacks = not_both count tree trees has (lacks_more (rows_of given) count tree trees few lacks)
@@ -142,96 +178,108 @@ room_serves format count asked db key given trees content holds room fits storab
     from (inr (inl (inr (inl lacks)))) = lacks_none postings_tree room.postings lacks
     from (inr (inl (inr (inr (inl lacks))))) = lacks_none blocks_tree room.blocks lacks
     from (inr (inl (inr (inr (inr lacks))))) = lacks_none dict_tree room.dict lacks
-    from (inr (inr (inl long))) = omega (arith, long, fits)
+    from (inr (inr (inl long))) = omega (arith, long, term)
     from (inr (inr (inr large))) =
-        let made : (p : Posting) → Has large.2 p → Has (content db key) p ⊎ IsPlacedAt given p = λ p here. elim (large.4 p here) [
-          | inl spelled ↦ inl (spelled_held format db key trees content holds p spelled)
-          | inr put ↦ inr put
-        ] in
-        let inside = λ (p : Posting) (here : Has large.2 p). all_has (λ q. q.sysno / 256 ≡ large.0) large.2 p large.3.lies.inside here in
-        let many = part_few large.0 large.2 (content db key) given large.3.lies.rising inside made in
-        let fit = block_fits format count asked db key trees content holds room large.0 fits in
         let bytes = length-block large.0 large.2 large.1 large.3 in
         let over = large.5 in
-        omega (arith, many, fit, bytes, over, own)
+        elim (cases_lt 0 (length large.2)) [
+          | inl some ↦
+              let fit = row_fits count asked db key trees room large.0 large.2 given 0 large.3.lies large.4 fits (omega (arith, own)) (omega (arith, some)) in
+              omega (arith, fit, bytes, over)
+          | inr none ↦ omega (arith, none, term, bytes, over)
+        ]
 
 -- ---- what uses room up
 
+some_filled : {X : Type 0} (xs : List X) → xs ≢ [] → 1 ≤ length xs
+some_filled [] some = absurd (some refl)
+some_filled (x ∷ xs) some = omega arith
+
+-- a change of a key leaves what the rows of another one spell
+pub spelled_beside : (db d : ℤ) (key k : Key) (old new : Trees) → KeepsRowsBeside (key_row db key) old new → ¬ ((d ≡ db) × (k ≡ key)) → (p : Posting) → IsSpelledAt d k new p → IsSpelledAt d k old p
+spelled_beside db d key k old new kept other p it =
+    let rest : Row = Int (pos it.0) ∷ Blob it.1 ∷ [] in
+    let apart : (more : Row) → key_row d k ++ rest ≢ key_row db key ++ more = λ more same. let at = told_apart db d key k rest more same in other (sym at.0, sym at.1) in
+    (it.0, it.1, it.2, (kept.blocks (block_row d k it.0 it.1) apart).0 it.3, it.4, it.5)
+
 -- Places that are put use up as much as they are: as much is left as was there beside them. Of other keys nothing is used up.
-pub room_left : (format : Format) (count more : ℕ) (asked left : Key → ℕ) (db : ℤ) (key : Key) (changes : List RecordChange) (old new : Trees) (before after : Content)
-    → HasRoomBy format (count + more) asked old → FitInRow (asked key) key → rows_of (map placed changes) ≤ more → left key + rows_of (map placed changes) ≤ asked key → ((k : Key) → left k ≤ asked k)
-    → TakesRegisterRowids more old new → holds_in format old before → holds_in format new after → AreChangedAt db key changes before after → HasRoomBy format count left new
-room_left format count more asked left db key changes old new before after room fits few own others takes held holds changed = record {
+pub room_left : (count more : ℕ) (asked left : Key → ℕ) (db : ℤ) (key : Key) (given : List Placed) (old new : Trees) → HasRoomBy (count + more) asked old
+    → (1 ≤ rows_of given → FitInRow (asked key) key) → left key + rows_of given ≤ asked key → ((k : Key) → left k ≤ asked k) → TakesRegisterRowids more old new → SpellsMore db key (IsPlacedAt given) old new
+    → KeepsRowsBeside (key_row db key) old new → HasRoomBy count left new
+room_left count more asked left db key given old new room fits own others takes spells kept = record {
   few = omega (arith, room.few);
   postings = takes.0 count below room.postings;
   blocks = takes.1 count below room.blocks;
   dict = takes.2 count below room.dict;
-  sizes = λ content is d k p here.
-      let same : content ≡ after = registers_hold_one format new content after is holds in
-      let there : Has (after d k) p = subst (λ (c : Content). Has (c d k) p) same here in
-      subst (λ (c : Content). FitInRow (length (part_in (p.sysno / 256) (c d k)) + left k) k) (sym same) (size d k p there (told_spot d db k key));
+  sizes = λ d k list some spelled. size d k list some spelled (told_spot d db k key);
 }
   where
     below : count + more < 2 ^ 63
     below = omega (arith, room.few)
 
-    -- the key's own blocks
-    here_fits : (block : ℕ) → FitInRow (length (part_in block (after db key)) + left key) key
-    here_fits block =
-        let list = after db key in
-        let rising = kept_rises posting_total (λ q. q.sysno / 256 == block) list (registers_rise format new after holds db key) in
-        let made = λ (q : Posting) (inside : Has (part_in block list) q). list_made changes (before db key) list changed.list q (part_in_list block list q inside) in
-        let many = part_few block (part_in block list) (before db key) (map placed changes) rising (part_in_block block list) made in
-        let fit = block_fits format (count + more) asked db key old before held room block fits in
-        omega (arith, many, fit, own)
+    -- the key's own rows
+    here_fits : (list : List Posting) → list ≢ [] → AreSpelledAt new db key list → FitInRow (length list + left key) key
+    here_fits list some spelled =
+        row_fits (count + more) asked db key old room spelled.block list given (left key) spelled.lies (λ p here. spells p (spelled.each p here)) fits (omega (arith, own)) (some_filled list some)
 
-    size : (d : ℤ) (k : Key) (p : Posting) → Has (after d k) p → ((d ≡ db) × (k ≡ key)) ⊎ ¬ ((d ≡ db) × (k ≡ key)) → FitInRow (length (part_in (p.sysno / 256) (after d k)) + left k) k
-    size d k p here (inl same) =
-        let block = p.sysno / 256 in
-        let at : FitInRow (length (part_in block (after db k)) + left k) k = subst (λ l. FitInRow (length (part_in block (after db l)) + left l) l) (sym same.1) (here_fits block) in
-        subst (λ e. FitInRow (length (part_in block (after e k)) + left k) k) (sym same.0) at
-    size d k p here (inr other) =
-        let stays : after d k ≡ before d k = changed.others d k other in
-        let was = room.sizes before held d k p (subst (λ l. Has l p) stays here) in
-        let moved : FitInRow (length (part_in (p.sysno / 256) (after d k)) + asked k) k = subst (λ l. FitInRow (length (part_in (p.sysno / 256) l) + asked k) k) (sym stays) was in
-        omega (arith, moved, others k)
+    size : (d : ℤ) (k : Key) (list : List Posting) → list ≢ [] → AreSpelledAt new d k list → ((d ≡ db) × (k ≡ key)) ⊎ ¬ ((d ≡ db) × (k ≡ key)) → FitInRow (length list + left k) k
+    size d k list some spelled (inl same) =
+        let of_key : AreSpelledAt new d key list = subst (λ l. AreSpelledAt new d l list) same.1 spelled in
+        subst (λ l. FitInRow (length list + left l) l) (sym same.1) (here_fits list some (subst (λ e. AreSpelledAt new e key list) same.0 of_key))
+    size d k list some spelled (inr other) =
+        let was = room.sizes d k list some (record {
+          block = spelled.block;
+          lies = spelled.lies;
+          each = λ p here. spelled_beside db d key k old new kept other p (spelled.each p here);
+        }) in
+        omega (arith, was, others k)
 
 -- ---- tables that have room
 
 -- where there is room for many places, there is for fewer
-pub room_less : (format : Format) (few many : ℕ) (left asked : Key → ℕ) (trees : Trees) → few ≤ many → ((k : Key) → left k ≤ asked k) → HasRoomBy format many asked trees → HasRoomBy format few left trees
-room_less format few many left asked trees less each room = record {
+pub room_less : (few many : ℕ) (left asked : Key → ℕ) (trees : Trees) → few ≤ many → ((k : Key) → left k ≤ asked k) → HasRoomBy many asked trees → HasRoomBy few left trees
+room_less few many left asked trees less each room = record {
   few = omega (arith, less, room.few);
   postings = has_less few many postings_tree trees less room.postings;
   blocks = has_less few many blocks_tree trees less room.blocks;
   dict = has_less few many dict_tree trees less room.dict;
-  sizes = λ content holds db key p here. omega (arith, each key, room.sizes content holds db key p here);
+  sizes = λ db key list some spelled. let all = room.sizes db key list some spelled in omega (arith, each key, all);
 }
 
 rowids_stay : (count tree : ℕ) (old new : Trees) → new tree ≡ old tree → HasRowids count tree old → HasRowids count tree new
 rowids_stay count tree old new same has = λ id columns here. has id columns (subst (λ rows. Has rows (Int id ∷ columns)) same here)
 
 -- it is told by the tables of the registers alone
-pub room_stays : (format : Format) (count : ℕ) (asked : Key → ℕ) (old new : Trees) → KeepsRegisters old new → HasRoomBy format count asked old → HasRoomBy format count asked new
-room_stays format count asked old new kept room = record {
+pub room_stays : (count : ℕ) (asked : Key → ℕ) (old new : Trees) → KeepsRegisters old new → HasRoomBy count asked old → HasRoomBy count asked new
+room_stays count asked old new kept room = record {
   few = room.few;
   postings = rowids_stay count postings_tree old new kept.0 room.postings;
   blocks = rowids_stay count blocks_tree old new kept.1 room.blocks;
   dict = rowids_stay count dict_tree old new kept.2 room.dict;
-  sizes = λ content holds. room.sizes content (registers_stay format new old content (sym kept.0, sym kept.1, sym kept.2) holds);
+  sizes = λ db key list some spelled. room.sizes db key list some (record {
+    block = spelled.block;
+    lies = spelled.lies;
+    each = λ p here. spelled_stays old new kept.1 db key p (spelled.each p here);
+  });
 }
 
+-- where no row of `blocks` is, none spells any posting
+pub none_spelled : (trees : Trees) → trees blocks_tree ≡ [] → (db : ℤ) (key : Key) (p : Posting) → IsSpelledAt db key trees p → ⊥
+none_spelled trees none db key p it = subst (λ rows. Has rows (Int it.3.0 ∷ block_row db key it.0 it.1)) none it.3.1
+
 -- tables without a row have room for as many as are ever asked for
-pub room_empty : (format : Format) (count : ℕ) (asked : Key → ℕ) (trees : Trees) → count < 2 ^ 62 → LacksRegisters trees → HasRoomBy format count asked trees
-room_empty format count asked trees few none = record {
+pub room_empty : (count : ℕ) (asked : Key → ℕ) (trees : Trees) → count < 2 ^ 62 → LacksRegisters trees → HasRoomBy count asked trees
+room_empty count asked trees few none = record {
   few = few;
   postings = free postings_tree none.0;
   blocks = free blocks_tree none.1;
   dict = free dict_tree none.2;
-  sizes = λ content holds db key p here.
-      let same : content ≡ (λ d k. []) = registers_hold_one format trees content (λ d k. []) holds (registers_empty format trees none) in
-      absurd (subst (λ (c : Content). Has (c db key) p) same here);
+  sizes = λ db key list some spelled. size db key list some spelled;
 }
   where
     free : (tree : ℕ) → trees tree ≡ [] → HasRowids count tree trees
     free tree is = λ id columns here. absurd (subst (λ rows. Has rows (Int id ∷ columns)) is here)
+
+    size : (db : ℤ) (key : Key) (list : List Posting) → list ≢ [] → AreSpelledAt trees db key list → FitInRow (length list + asked key) key
+    size db key [] some spelled = absurd (some refl)
+    size db key (p ∷ list) some spelled = absurd (none_spelled trees none.1 db key p (spelled.each p (inl refl)))

@@ -1,5 +1,5 @@
 -- What may hinder a table of the store from taking a row, beside the causes that each call has. Each of these unfolds by itself.
-use Rattle.std.specs.Prelude.{◌≡◌, ◌⊎◌, ◌+◌, ◌+ℤ◌, ◌<◌, ◌≤◌, ◌^◌, ◌&&◌, ℕ, ℤ, pos, false, List, ◌∷◌, length, sum_by, IsTrue}
+use Rattle.std.specs.Prelude.{◌≡◌, ◌≢◌, ◌↔◌, ◌⊎◌, ◌+◌, ◌+ℤ◌, ◌<◌, ◌≤◌, ◌^◌, ◌&&◌, ℕ, ℤ, pos, false, List, ◌∷◌, ◌++◌, length, sum_by, IsTrue}
 use Rattle.std.specs.List.{AllByRecursion}
 use Rattle.sqlite.specs.declared.types.Value.TheVariants.{Int}
 use Rattle.sqlite.specs.Ops.{fits_i64}
@@ -13,6 +13,7 @@ use Rattle.zeb_register.specs.declared.registers.Place.{Place}
 use Rattle.zeb_register.specs.declared.registers.RecordChange.{RecordChange}
 use Rattle.zeb_register.specs.Content.{AreStorablePlaces, posting_at}
 use Rattle.zeb_register.specs.PackedBlocks.{block_row}
+use Rattle.zeb_register.specs.PlainRows.{key_row}
 use Rattle.zeb_register.specs.Sql.{HasRow}
 use Rattle.zeb_register.specs.Store.{blocks_tree, dict_tree, postings_tree}
 
@@ -75,6 +76,26 @@ IsPlacedAt given p = (it : Placed) × (place : Place) × Has given it × Has it.
 abbrev pub IsSpelledAt : ℤ → Key → Trees → Posting → Type 0
 IsSpelledAt db key trees p =
     (block : ℕ) × (bytes : List ℕ) × (list : List Posting) × HasRow trees blocks_tree (block_row db key block bytes) × BlockSpells block list bytes × Has list p
+
+-- each posting that the rows of the key spell then was spelled before, or is P
+abbrev pub SpellsMore : ℤ → Key → (Posting → Type 0) → (old new : Trees) → Type 0
+SpellsMore db key P old new = (p : Posting) → IsSpelledAt db key new p → IsSpelledAt db key old p ⊎ P p
+
+-- none of these is of the record
+abbrev pub AreOfOthers : List Placed → ℕ → Type 0
+AreOfOthers given sysno = (it : Placed) → Has given it → it.0 ≢ sysno
+
+-- what the rows of the key spell of the records that none of these is of is the same before and behind
+abbrev pub KeepsSpelled : ℤ → Key → List Placed → (old new : Trees) → Type 0
+KeepsSpelled db key given old new = (p : Posting) → AreOfOthers given p.sysno → IsSpelledAt db key new p ↔ IsSpelledAt db key old p
+
+-- the row begins with the key, and the number of a record that one of these is of
+abbrev pub IsOfKeyIn : ℤ → Key → List Placed → Row → Type 0
+IsOfKeyIn db key given row = (it : Placed) × (rest : Row) × Has given it × (row ≡ key_row db key ++ Int (pos it.0) ∷ rest)
+
+-- but for such rows, `postings` has just those that it had
+abbrev pub KeepsPlaces : ℤ → Key → List Placed → (old new : Trees) → Type 0
+KeepsPlaces db key given old new = (row : Row) → ¬ IsOfKeyIn db key given row → HasRow new postings_tree row ↔ HasRow old postings_tree row
 
 -- A row of the key may be larger than a store takes: its text, with the bytes that spell postings of one block which stand there or are
 -- new, and 300 for its other columns, which take less. A row without such bytes has but its text.

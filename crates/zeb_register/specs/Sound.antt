@@ -1,6 +1,6 @@
 -- What the rows of the registers have to be that a call reads, whatever the others hold, and which terms it tells of them. Of a row of
 -- `postings` nothing is asked.
-use Rattle.std.specs.Prelude.{◌≡◌, ℕ, ℤ, List, take}
+use Rattle.std.specs.Prelude.{◌≡◌, ◌≢◌, ◌↔◌, ℕ, ℤ, List, ◌++◌, take, IsUtf8}
 use Rattle.sqlite.specs.declared.types.Value.TheVariants.{Text}
 use Rattle.sqlite.specs.Order.{Row, column}
 use Rattle.sqlite.specs.Tree.{Trees}
@@ -14,8 +14,8 @@ use Rattle.zeb_register.specs.Formats.{Format, plain_rows, packed_blocks}
 use Rattle.zeb_register.specs.Occurring.{key_in, last}
 use Rattle.zeb_register.specs.PackedBlocks.{AreAllSpelled, AreShown, CountsTerm, IsRecordNumber, IsRegisterSound, IsRestBefore, IsRestFrom, SpellsPart}
 use Rattle.zeb_register.specs.PlainRows.{key_row, register_front}
-use Rattle.zeb_register.specs.Sql.{IsListOf}
-use Rattle.zeb_register.specs.Store.{IsRest, blocks_tree, dict_tree}
+use Rattle.zeb_register.specs.Sql.{HasRow, IsListOf}
+use Rattle.zeb_register.specs.Store.{IsRest, blocks_tree, dict_tree, postings_tree}
 
 -- ---- lists
 
@@ -72,11 +72,27 @@ abbrev pub InPacked : Format → Type 0 → Type 0
 InPacked plain_rows Enough = ⊥
 InPacked packed_blocks Enough = Enough
 
--- ---- malformed rows
+-- ---- rows that a change of a key leaves
+
+-- the row spells some postings of a key
+abbrev pub SpellsSome : Row → Type 0
+SpellsSome row = (db : ℤ) × (key : Key) × (rest : Row) × (part : List Posting) × (row ≡ key_row db key ++ rest) × IsUtf8 key.term × SpellsPart rest part
+
+-- the row says how many records have a key
+abbrev pub CountsSome : Row → Type 0
+CountsSome row = (db : ℤ) × (key : Key) × (rest : Row) × (row ≡ key_row db key ++ rest) × IsUtf8 key.term × IsRecordNumber (column rest 0)
 
 -- Each row of `blocks` that spells no postings is there still, and so is each of `dict` that says no number of records.
 pub record KeepsMalformed (old new : Trees) : Type 0 where
-  pub blocks : (db : ℤ) (key : Key) (row : Row) → (¬ ((part : List Posting) × SpellsPart row part)) → IsRest blocks_tree (key_row db key) old row
-      → IsRest blocks_tree (key_row db key) new row
-  pub dict : (db : ℤ) (key : Key) (row : Row) → (¬ IsRecordNumber (column row 0)) → IsRest dict_tree (key_row db key) old row
-      → IsRest dict_tree (key_row db key) new row
+  pub blocks : (row : Row) → ¬ SpellsSome row → HasRow old blocks_tree row → HasRow new blocks_tree row
+  pub dict : (row : Row) → ¬ CountsSome row → HasRow old dict_tree row → HasRow new dict_tree row
+
+-- the table has just the rows that it had, but those that begin with these columns
+abbrev pub KeepsBeside : (front : Row) → ℕ → (old new : Trees) → Type 0
+KeepsBeside front tree old new = (row : Row) → ((rest : Row) → row ≢ front ++ rest) → HasRow new tree row ↔ HasRow old tree row
+
+-- the same of each table of the registers
+pub record KeepsRowsBeside (front : Row) (old new : Trees) : Type 0 where
+  pub postings : KeepsBeside front postings_tree old new
+  pub blocks : KeepsBeside front blocks_tree old new
+  pub dict : KeepsBeside front dict_tree old new

@@ -9,15 +9,15 @@ ghost use Rattle.zeb_register.specs.Clauses.{Writes};
 ghost use Rattle.zeb_register.specs.Clauses.{ChangesHeld, FindsHeld, InStore};
 ghost use Rattle.zeb_register.specs.Clauses.{IsHinderedInside, TakesInside, TakesRegistersInside};
 ghost use Rattle.zeb_register.specs.Content.{ArePlacesOf, Content, IsChangedAt, place_cmp};
-ghost use Rattle.zeb_register.specs.Hindrances.{rows_of};
-ghost use Rattle.zeb_register.specs.PlainRows.{HoldsRows};
+ghost use Rattle.zeb_register.specs.Hindrances.{KeepsPlaces, rows_of};
+ghost use Rattle.zeb_register.specs.PlainRows.{HoldsRows, key_row};
 ghost use Rattle.zeb_register.specs.PackedBlocks.{first_two};
 ghost use Rattle.zeb_register.specs.PrivateRowPlaces.{place_row, IsTwoNumbers, IsPlaceIn, posting_columns, Puts, HasPlaceIn, HindersPut};
 ghost use Rattle.zeb_register.specs.PrivateRowPlaces.{HindersRows};
 ghost use Rattle.zeb_register.specs.PrivateRowStatements.{Gains};
 ghost use Rattle.zeb_register.specs.Sql.{Loses};
-ghost use Rattle.zeb_register.specs.Sound.{KeepsMalformed};
-ghost use Rattle.zeb_register.specs.Store.{postings_tree};
+ghost use Rattle.zeb_register.specs.Sound.{KeepsMalformed, KeepsRowsBeside};
+ghost use Rattle.zeb_register.specs.Store.{blocks_tree, postings_tree};
 
 use crate::registers::Place;
 use crate::statements::keys::KeyOf;
@@ -49,6 +49,12 @@ pub(crate) fn key_change_plain<S: Alter>(
     ensures text { OnOk result (IsUtf8 key.now.term) }
     ensures malformed { InStore (state S.Store tx.old.conn.now) (state S.Store tx.new.conn.now) (λ trees. OnOk result
         (KeepsMalformed trees (state S.Store tx.new.conn.now).now.trees)) }
+    ensures others { InStore (state S.Store tx.old.conn.now) (state S.Store tx.new.conn.now) (λ trees. OnOk result
+        (KeepsRowsBeside (key_row db.0 key.now) trees (state S.Store tx.new.conn.now).now.trees)) }
+    ensures blocks { InStore (state S.Store tx.old.conn.now) (state S.Store tx.new.conn.now) (λ trees. OnOk result
+        ((state S.Store tx.new.conn.now).now.trees blocks_tree ≡ trees blocks_tree)) }
+    ensures places { InStore (state S.Store tx.old.conn.now) (state S.Store tx.new.conn.now) (λ trees. OnOk result
+        (KeepsPlaces db.0 key.now ((sysno, new.now) ∷ []) trees (state S.Store tx.new.conn.now).now.trees)) }
     ensures refused { IsHinderedInside (state S.Store tx.old.conn.now) (state S.Store tx.new.conn.now) result
         (HindersRows key.now ((sysno, new.now) ∷ [])) }
     ensures rowids { TakesRegistersInside (state S.Store tx.old.conn.now) (state S.Store tx.new.conn.now) result

@@ -86,9 +86,9 @@ pub trait Layout {
     ghost use Rattle.zeb_register.specs.Between.{AreKeysBetween, IsPostingBetween};
     ghost use Rattle.zeb_register.specs.PackedBlocks.{AreAllCounted, AreAllSpelled, AreBeforeCounted, AreFromCounted, IsRegisterSound};
     ghost use Rattle.zeb_register.specs.PlainRows.{key_row, register_front};
-    ghost use Rattle.zeb_register.specs.Sound.{AreListsSound, AreTermsSound, InPacked, IsListSound, KeepsMalformed};
+    ghost use Rattle.zeb_register.specs.Sound.{AreListsSound, AreTermsSound, InPacked, IsListSound, KeepsMalformed, KeepsRowsBeside};
     ghost use Rattle.zeb_register.specs.Sound.{TellsBefore, TellsFrom, TellsRegister};
-    ghost use Rattle.zeb_register.specs.Hindrances.{HindersPlaces, placed, rows_of};
+    ghost use Rattle.zeb_register.specs.Hindrances.{HindersPlaces, IsPlacedAt, KeepsPlaces, KeepsSpelled, SpellsMore, placed, rows_of};
     ghost use Rattle.zeb_keys.specs.declared.keys.Key.{Key};
     ghost use Rattle.zeb_blocks.specs.declared.postings.Posting.{Posting};
 
@@ -129,6 +129,14 @@ pub trait Layout {
         ensures text { OnOk result (IsUtf8 key.now.term) }
         ensures malformed { InStore (state S.Store tx.old.conn.now) (state S.Store tx.new.conn.now) (λ trees. OnOk result
             (KeepsMalformed trees (state S.Store tx.new.conn.now).now.trees)) }
+        ensures others { InStore (state S.Store tx.old.conn.now) (state S.Store tx.new.conn.now) (λ trees. OnOk result
+            (KeepsRowsBeside (key_row db.0 key.now) trees (state S.Store tx.new.conn.now).now.trees)) }
+        ensures spelled { InStore (state S.Store tx.old.conn.now) (state S.Store tx.new.conn.now) (λ trees. OnOk result
+            (SpellsMore db.0 key.now (IsPlacedAt ((sysno, new.now) ∷ [])) trees (state S.Store tx.new.conn.now).now.trees)) }
+        ensures still { InStore (state S.Store tx.old.conn.now) (state S.Store tx.new.conn.now) (λ trees. OnOk result
+            (KeepsSpelled db.0 key.now ((sysno, new.now) ∷ []) trees (state S.Store tx.new.conn.now).now.trees)) }
+        ensures places { InStore (state S.Store tx.old.conn.now) (state S.Store tx.new.conn.now) (λ trees. OnOk result
+            (KeepsPlaces db.0 key.now ((sysno, new.now) ∷ []) trees (state S.Store tx.new.conn.now).now.trees)) }
         ensures refused { IsHinderedInside (state S.Store tx.old.conn.now) (state S.Store tx.new.conn.now) result
             (HindersPlaces db.0 key.now ((sysno, new.now) ∷ [])) }
         ensures rowids { TakesRegistersInside (state S.Store tx.old.conn.now) (state S.Store tx.new.conn.now) result
@@ -160,6 +168,14 @@ pub trait Layout {
         ensures text { OnOk result (changes.now ≢ [] → IsUtf8 key.now.term) }
         ensures malformed { InStore (state S.Store tx.old.conn.now) (state S.Store tx.new.conn.now) (λ trees. OnOk result
             (KeepsMalformed trees (state S.Store tx.new.conn.now).now.trees)) }
+        ensures others { InStore (state S.Store tx.old.conn.now) (state S.Store tx.new.conn.now) (λ trees. OnOk result
+            (KeepsRowsBeside (key_row db.0 key.now) trees (state S.Store tx.new.conn.now).now.trees)) }
+        ensures spelled { InStore (state S.Store tx.old.conn.now) (state S.Store tx.new.conn.now) (λ trees. OnOk result
+            (SpellsMore db.0 key.now (IsPlacedAt (map placed changes.now)) trees (state S.Store tx.new.conn.now).now.trees)) }
+        ensures still { InStore (state S.Store tx.old.conn.now) (state S.Store tx.new.conn.now) (λ trees. OnOk result
+            (KeepsSpelled db.0 key.now (map placed changes.now) trees (state S.Store tx.new.conn.now).now.trees)) }
+        ensures places { InStore (state S.Store tx.old.conn.now) (state S.Store tx.new.conn.now) (λ trees. OnOk result
+            (KeepsPlaces db.0 key.now (map placed changes.now) trees (state S.Store tx.new.conn.now).now.trees)) }
         ensures refused { IsHinderedInside (state S.Store tx.old.conn.now) (state S.Store tx.new.conn.now) result
             (HindersPlaces db.0 key.now (map placed changes.now)) }
         ensures rowids { TakesRegistersInside (state S.Store tx.old.conn.now) (state S.Store tx.new.conn.now) result

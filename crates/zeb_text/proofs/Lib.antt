@@ -10,3 +10,4 @@ pub mod KeyLemmas
 pub mod MaximalRuns
 pub mod FoldingLemmas
 pub mod NumberBounds
+pub mod FoldedSizes

@@ -15,8 +15,7 @@ ghost use Rattle.zeb_engine.specs.Reads.{FindReads, ScanReads};
 ghost use Rattle.zeb_change.specs.Reading.{NoReadFault};
 ghost use Rattle.zeb_engine.specs.Transactions.{Commanded};
 ghost use Rattle.zeb_engine.specs.Steps.{checked};
-ghost use Rattle.zeb_engine.specs.Works.{Always};
-ghost use Rattle.zeb_engine.specs.PrivateWorks.{Finds, ScansFrom, Serves};
+ghost use Rattle.zeb_engine.specs.PrivateWorks.{Always, Finds, ScansFrom, Serves};
 ghost use Rattle.zeb_engine.specs.PrivateConnections.{CommitsNothing, FailsForCause, LeavesAsIs};
 
 use crate::find::{Question, find};

@@ -9,13 +9,13 @@ ghost use Rattle.zeb_change.specs.Reading.{HasFailedAt, NamesFailed, NoneFailed,
 ghost use Rattle.zeb_image.specs.Holdings.{Holdings};
 ghost use Rattle.zeb_image.specs.Image.{Keeps};
 ghost use Rattle.zeb_image.specs.NameOf.{name_bytes};
-ghost use Rattle.zeb_engine.specs.AnyTables.{ChangesReady, LeavesWhole};
+ghost use Rattle.zeb_engine.specs.AnyTables.{ChangesReady, LeavesWhole, LosesNamed};
 ghost use Rattle.zeb_engine.specs.Causes.{ChangesInRoom};
 ghost use Rattle.zeb_engine.specs.Costs.{CostsAlone, no_work};
 ghost use Rattle.zeb_engine.specs.Crashes.{CommitsBy, Endures};
 ghost use Rattle.zeb_engine.specs.Steps.{TakesFiles};
 ghost use Rattle.zeb_engine.specs.Transactions.{Commanded, IsDurable};
-ghost use Rattle.zeb_engine.specs.Works.{Always, ServesBy};
+ghost use Rattle.zeb_engine.specs.Works.{ServesBy};
 ghost use Rattle.zeb_engine.specs.Readiness.{TellsReady};
 
 use crate::changes::change_database;
@@ -51,14 +51,17 @@ impl<S: Alter, L: Layout> Session<S, L> {
             (map (λ file. file.items) files.now) (state S.Store self.old.connection) result self.new.work }
         ensures no_work { L.row_work ≡ 0 → self.old.work ≡ no_work → self.new.work ≡ no_work }
         ensures room { HasCleanDisk (state S.Store self.new.connection)
-            → ChangesInRoom L.format self.old.profile kind (map (λ file. file.items) files.now) Always
+            → ChangesInRoom self.old.profile kind (name_bytes database.now) (map (λ file. file.items) files.now)
             (state S.Store self.old.connection) (state S.Store self.new.connection) result }
         ensures elder { HasCleanDisk (state S.Store self.new.connection)
-            → ChangesReady (version_of L.format) self.old.profile (name_bytes database.now) (map (λ file. file.items) files.now)
+            → ChangesReady (version_of L.format) self.old.profile kind self.old.limits (name_bytes database.now) (map (λ file. file.items) files.now)
             (state S.Store self.old.connection) result }
         ensures loses { HasCleanDisk (state S.Store self.new.connection)
-            → LeavesWhole self.old.profile (name_bytes database.now) (state S.Store self.old.connection)
+            → LeavesWhole self.old.profile kind (name_bytes database.now) (state S.Store self.old.connection)
             (state S.Store self.new.connection) result }
+        ensures named { HasCleanDisk (state S.Store self.new.connection)
+            → LosesNamed self.old.profile (name_bytes database.now) (map (λ file. file.items) files.now)
+            (state S.Store self.old.connection) (state S.Store self.new.connection) result }
     {
         let mut readers = Vec::with_capacity(self.alloc, files.len())?;
         for file in files {
@@ -109,19 +112,25 @@ impl<S: Alter, L: Layout> Session<S, L> {
         // Where the tables have room for what the files ask for, a failed store has a cause, but for the commit.
         ensures room { HasCleanDisk (state S.Store self.new.connection) → (texts : List (List ℕ))
             → map R.remaining readers.old ≡ map Some texts → NoneFailed R.has_failed readers.new
-            → ChangesInRoom L.format self.old.profile kind texts Always
+            → ChangesInRoom self.old.profile kind (name_bytes database.now) texts
             (state S.Store self.old.connection) (state S.Store self.new.connection) result }
         // Whatever rows the tables of a ready register have: what is kept under the first record's identifier is whole, or the change is
-        // refused as damage or by a failure; and where the change is accepted, so is what is kept under each record's identifier, with a
-        // number up to the database's last one.
+        // refused as damage or by a failure; and where the change is accepted, so is what is kept under each record's identifier, and the
+        // files have no more records than a command may have. Any other refusal has a reason that the files and the limits give.
         ensures elder { HasCleanDisk (state S.Store self.new.connection) → (texts : List (List ℕ))
             → map R.remaining readers.old ≡ map Some texts → NoneFailed R.has_failed readers.new
-            → ChangesReady (version_of L.format) self.old.profile (name_bytes database.now) texts
+            → ChangesReady (version_of L.format) self.old.profile kind self.old.limits (name_bytes database.now) texts
             (state S.Store self.old.connection) result }
-        // Of any store and whatever the readers tell, too: where the change is accepted, each record that the database kept, with a number up
-        // to its last one, was whole or is kept after just as it was; and each other database keeps just the records that it kept.
+        // Of any store and whatever the readers tell, too: where the change is accepted, the database is there, with a last number that
+        // hasn't fallen; each record that it kept had a number that it can have given, and was whole or is kept after just as it was;
+        // and nothing else is changed, of other databases or under other ids.
         ensures loses { HasCleanDisk (state S.Store self.new.connection)
-            → LeavesWhole self.old.profile (name_bytes database.now) (state S.Store self.old.connection)
+            → LeavesWhole self.old.profile kind (name_bytes database.now) (state S.Store self.old.connection)
+            (state S.Store self.new.connection) result }
+        // Where the readers tell their bytes, it has lost no record but under identifiers that records of the files have.
+        ensures named { HasCleanDisk (state S.Store self.new.connection) → (texts : List (List ℕ))
+            → map R.remaining readers.old ≡ map Some texts
+            → LosesNamed self.old.profile (name_bytes database.now) texts (state S.Store self.old.connection)
             (state S.Store self.new.connection) result }
     {
         let answer = self.change_from(database, kind, readers);
@@ -158,14 +167,18 @@ impl<S: Alter, L: Layout> Session<S, L> {
         ensures no_work { L.row_work ≡ 0 → self.new.work ≡ no_work }
         ensures room { HasCleanDisk (state S.Store self.new.connection) → (texts : List (List ℕ))
             → map R.remaining readers.old ≡ map Some texts → NoneFailed R.has_failed readers.new
-            → ChangesInRoom L.format self.old.profile kind texts Always
+            → ChangesInRoom self.old.profile kind (name_bytes database.now) texts
             (state S.Store self.old.connection) (state S.Store self.new.connection) result }
         ensures elder { HasCleanDisk (state S.Store self.new.connection) → (texts : List (List ℕ))
             → map R.remaining readers.old ≡ map Some texts → NoneFailed R.has_failed readers.new
-            → ChangesReady (version_of L.format) self.old.profile (name_bytes database.now) texts
+            → ChangesReady (version_of L.format) self.old.profile kind self.old.limits (name_bytes database.now) texts
             (state S.Store self.old.connection) result }
         ensures loses { HasCleanDisk (state S.Store self.new.connection)
-            → LeavesWhole self.old.profile (name_bytes database.now) (state S.Store self.old.connection)
+            → LeavesWhole self.old.profile kind (name_bytes database.now) (state S.Store self.old.connection)
+            (state S.Store self.new.connection) result }
+        ensures named { HasCleanDisk (state S.Store self.new.connection) → (texts : List (List ℕ))
+            → map R.remaining readers.old ≡ map Some texts
+            → LosesNamed self.old.profile (name_bytes database.now) texts (state S.Store self.old.connection)
             (state S.Store self.new.connection) result }
     {
         self.work = Work::default();

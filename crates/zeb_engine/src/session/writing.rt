@@ -9,14 +9,13 @@ ghost use Rattle.zeb_register.specs.Store.{databases_tree};
 ghost use Rattle.zeb_change.specs.Conditions.{conditions};
 ghost use Rattle.zeb_change.specs.Reading.{NoReadFault};
 ghost use Rattle.zeb_image.specs.NameOf.{name_bytes};
-ghost use Rattle.zeb_engine.specs.AnyMade.{DropsDatabase, LeavesAccepted, MakesDatabase};
+ghost use Rattle.zeb_engine.specs.AnyMade.{DropsDatabase, OnAccepted, MakesDatabase};
 ghost use Rattle.zeb_engine.specs.AnyRefusals.{CreateOver, DropOver, HidesDatabase, UnlessHidden};
 ghost use Rattle.zeb_engine.specs.PrivateCauses.{HasCauseOver};
 ghost use Rattle.zeb_engine.specs.PrivateCrashes.{Commits};
 ghost use Rattle.zeb_engine.specs.Steps.{created, dropped, turned};
 ghost use Rattle.zeb_engine.specs.Transactions.{Commanded};
-ghost use Rattle.zeb_engine.specs.Works.{Always};
-ghost use Rattle.zeb_engine.specs.PrivateWorks.{Serves};
+ghost use Rattle.zeb_engine.specs.PrivateWorks.{Always, Serves};
 ghost use Rattle.zeb_engine.specs.Readiness.{TellsReady};
 
 use crate::readiness::check_ready;
@@ -48,7 +47,7 @@ impl<S: Alter, L: Layout> Session<S, L> {
         ensures tables { HasCleanDisk (state S.Store self.new.connection)
             → UnlessHidden (version_of L.format) self.old.profile (CreateOver (name_bytes name.now)) (HidesDatabase (name_bytes name.now))
             (state S.Store self.old.connection) result }
-        ensures makes { HasCleanDisk (state S.Store self.new.connection) → LeavesAccepted (MakesDatabase (name_bytes name.now))
+        ensures makes { HasCleanDisk (state S.Store self.new.connection) → OnAccepted (MakesDatabase (name_bytes name.now))
             (state S.Store self.old.connection) (state S.Store self.new.connection) result }
     {
         check_ready::<S, L>(&mut self.connection, &self.profile)?;
@@ -73,7 +72,7 @@ impl<S: Alter, L: Layout> Session<S, L> {
         ensures tables { HasCleanDisk (state S.Store self.new.connection)
             → UnlessHidden (version_of L.format) self.old.profile (DropOver (name_bytes name.now)) (HidesDatabase (name_bytes name.now))
             (state S.Store self.old.connection) result }
-        ensures drops { HasCleanDisk (state S.Store self.new.connection) → LeavesAccepted (DropsDatabase (name_bytes name.now))
+        ensures drops { HasCleanDisk (state S.Store self.new.connection) → OnAccepted (DropsDatabase (name_bytes name.now))
             (state S.Store self.old.connection) (state S.Store self.new.connection) result }
     {
         check_ready::<S, L>(&mut self.connection, &self.profile)?;

@@ -1,11 +1,11 @@
-use Rattle.std.proofs.Common.{rules, arith, ◌≡◌, ◌∙◌, ◌+◌, ◌<◌, ℕ, ℤ, IsTrue, List, true, false, inl, inr, refl, sym, Some, Result, Ok, Err, OnOk, ap, subst, subst₂}
+use Rattle.std.proofs.Common.{rules, arith, ◌≡◌, ◌∙◌, ◌+◌, ◌<◌, ℕ, IsTrue, List, [], ◌∷◌, true, false, inl, inr, refl, sym, Some, Result, Ok, Err, OnOk, ap, subst, subst₂}
 use Rattle.sqlite.specs.Held.{state}
 use Rattle.sqlite.specs.State.{HasCleanDisk}
 use Rattle.zeb_marc.specs.Splits.{next_of, split_of}
 use Rattle.zeb_change.specs.Refused.{why_of, Meets}
 use Rattle.zeb_change.specs.Folding.{Progress, record_folded, file_folded}
 use Rattle.zeb_change.specs.PrivateReading.{ReadsNext}
-use Rattle.zeb_change.specs.PrivateStanding.{WillBeFolded, WillHoldSome, standing}
+use Rattle.zeb_change.specs.PrivateStanding.{WillBeFolded, standing}
 use Rattle.zeb_change.specs.UnderWay.{conditions_of}
 use Rattle.zeb_change.proofs.FoldsOn.{folds_on, same_id, still_some, still_way}
 use Rattle.zeb_change.proofs.FoldFiles.{Good, before_first, ended, faulty, record_refused, record_taken, sound, told_end}
@@ -16,8 +16,7 @@ use Rattle.zeb_register.proofs.Causes.{may_after}
 use Rattle.zeb_change.specs.declared.refusals.Refusal.{Refusal}
 use Rattle.zeb_change.specs.declared.refusals.Refusal.TheVariants.{Store}
 use Rattle.zeb_change.specs.Asked.{AskSlices, AsksRecord}
-use Rattle.zeb_change.specs.Base.{Kept}
-use Rattle.zeb_change.specs.PrivateAsked.{HasRoomAt}
+use Rattle.zeb_change.specs.PrivateAsked.{HasRoomAt, KeepsRoom}
 use Rattle.zeb_change.proofs.FoldRoom.{NextRoom, next_room}
 use Rattle.zeb_change.proofs.RecordRoom.{not_refused, refused_for, room_enough}
 use Rattle.zeb_register.specs.Store.{IsStore}
@@ -25,6 +24,9 @@ use Rattle.zeb_change.specs.declared.files.Fold.{Fold}
 use Rattle.zeb_change.specs.Elders.{FindsWhole, IsWholeBefore}
 use Rattle.zeb_change.proofs.ElderSteps.{all_read, fault_read, fault_there, file_finds, first_read, found_same, none_read, one_more, passes_more, record_before, slice_read}
 use Rattle.zeb_change.proofs.KeptStill.{passes_seen}
+use Rattle.zeb_change.specs.PrivateReasons.{IsRecordRefused, TakesNamed}
+use Rattle.zeb_change.proofs.Reasons.{err_so}
+use Rattle.zeb_change.proofs.ReasonSteps.{fault_refused, file_begun, file_ended, file_further, record_refused as record_refused_in}
 use Rattle.zeb_change.proofs.files.fold_file.Given as given
 use Rattle.zeb_change.proofs.files.fold_file.Goals.{After-take_record}
 use Rattle.zeb_change.proofs.files.fold_file.Goals as goal
@@ -35,13 +37,18 @@ loop-nth-init g c = record {
   same = refl;
   on = record { crash = search rules; stays = search rules; database = refl; honest = λ clean mode records_of some. some };
   counted = refl;
+  lasts = λ most below limit. below;
   no_work = λ none. refl;
-  room = λ clean mode text told records_of some most places rowids asks spare more has. record { left = text; remains = told; places = places; rowids = rowids; asks = asks; room = has };
+  room = λ clean mode text told most places rowids asks spare more has. record { left = text; remains = told; places = places; rowids = rowids; asks = asks; room = has };
   elder = λ clean mode store below text told. inl (store, refl, refl, told);
   passes = λ clean mode store. (
     passes_seen c.args.setting.now.profile.now c.args.fold.now.progress.database.0 c.args.fold.now.progress.last (state g.S.Store c.args.tx.now.conn.now) (state g.S.Store c.args.tx.now.conn.now) store refl,
     λ text told. (text, told, λ slice there. inl there),
   );
+  named = λ clean mode store text told.
+      file_begun c.args.setting.now.profile.now c.args.fold.now.progress.database.0 c.args.fold.now.progress.last c.args.fold.now.tally.records (state g.S.Store c.args.tx.now.conn.now).now.trees
+      (g.R.Source.remaining c.args.reader.now) text told;
+  most = λ few. few;
   under = λ clean mode text told version records_of p stands under_way. (
     before_first g.L.Layout.format (conditions_of version c.args.setting.now) c.args.setting.now.kind c.args.file c.args.fold.now.progress.database.0 records_of text
         (g.R.Source.remaining c.args.reader.now) (standing (state g.S.Store c.args.tx.now.conn.now) c.args.pending.now) c.args.fold.now p told stands under_way,
@@ -99,59 +106,59 @@ returns-in_err-take_record-clause-folded g c = λ clean mode text told sound ver
 
 -- the record that was read asks for room that is there
 next_of_file : (g : given.Over) (c : After-take_record g) → HasCleanDisk (state g.S.Store c.loop-nth.tx.conn.now) → IsTrue (state g.S.Store c.args.tx.now.conn.now).in_transaction
-    → (text : List ℕ) → g.R.Source.remaining c.args.reader.now ≡ Some text → (records_of : ℤ → List Kept)
-    → WillHoldSome g.L.Layout.format c.args.setting.now.profile.now c.args.fold.now.progress.database.0 records_of (standing (state g.S.Store c.args.tx.now.conn.now) c.args.pending.now) c.args.fold.now.progress.last
+    → (text : List ℕ) → g.R.Source.remaining c.args.reader.now ≡ Some text
     → (most places rowids : ℕ) → AskSlices c.args.setting.now.profile.now c.args.setting.now.kind most (split_of text).slices places rowids
-    → (spare more : ℕ) → HasRoomAt g.L.Layout.format most (standing (state g.S.Store c.args.tx.now.conn.now) c.args.pending.now) (places + spare) (rowids + more)
-    → NextRoom g.L.Layout.format c.args.setting.now.profile.now c.args.setting.now.kind c.read_record.new.buffer (g.R.Source.remaining c.read_record.new.reader)
-    (standing (state g.S.Store c.loop-nth.tx.conn.now) c.loop-nth.pending) most spare more
-next_of_file g c clean mode text told records_of some most places rowids asks spare more has =
+    → (spare more : ℕ) → HasRoomAt most c.args.fold.now.progress.database.0 (standing (state g.S.Store c.args.tx.now.conn.now) c.args.pending.now) (places + spare) (rowids + more)
+    → NextRoom c.args.setting.now.profile.now c.args.setting.now.kind c.read_record.new.buffer (g.R.Source.remaining c.read_record.new.reader)
+    (standing (state g.S.Store c.loop-nth.tx.conn.now) c.loop-nth.pending) most c.args.fold.now.progress.database.0 spare more
+next_of_file g c clean mode text told most places rowids asks spare more has =
     let kind = c.args.setting.now.kind in
-    let room = c.loop-nth.invariant.room clean mode text told records_of some most places rowids asks spare more has in
+    let room = c.loop-nth.invariant.room clean mode text told most places rowids asks spare more has in
     let found : c.in_ok-read_record.field-0 ≡ true = search rules in
     let fine : g.R.Source.has_failed c.read_record.new.reader ≡ false = sound (g.R.Source.has_failed c.read_record.new.reader) (λ failed. let no = c.in_ok-read_record.ensures.failed failed in absurd (cc)) in
     let read = subst (λ b. ReadsNext c.args.file c.loop-nth.nth (next_of room.left) (Ok b) c.read_record.new.buffer (g.R.Source.remaining c.read_record.new.reader)) found (c.in_ok-read_record.ensures.told room.left room.remains fine) in
-    next_room g.L.Layout.format c.args.setting.now.profile.now kind c.args.file c.loop-nth.nth (g.R.Source.remaining c.loop-nth.reader) (standing (state g.S.Store c.loop-nth.tx.conn.now) c.loop-nth.pending)
-    most spare more room c.read_record.new.buffer (g.R.Source.remaining c.read_record.new.reader) read
+    next_room c.args.setting.now.profile.now kind c.args.file c.loop-nth.nth (g.R.Source.remaining c.loop-nth.reader) (standing (state g.S.Store c.loop-nth.tx.conn.now) c.loop-nth.pending)
+    most c.args.fold.now.progress.database.0 spare more room c.read_record.new.buffer (g.R.Source.remaining c.read_record.new.reader) read
 
 -- it is folded in
 taken_room : (g : given.Over) (c : After-take_record g) → HasCleanDisk (state g.S.Store c.take_record.new.tx.conn.now) → IsTrue (state g.S.Store c.args.tx.now.conn.now).in_transaction
-    → (records_of : ℤ → List Kept)
-    → WillHoldSome g.L.Layout.format c.args.setting.now.profile.now c.args.fold.now.progress.database.0 records_of (standing (state g.S.Store c.args.tx.now.conn.now) c.args.pending.now) c.args.fold.now.progress.last
     → (most spare more : ℕ)
-    → (room : NextRoom g.L.Layout.format c.args.setting.now.profile.now c.args.setting.now.kind c.read_record.new.buffer (g.R.Source.remaining c.read_record.new.reader)
-    (standing (state g.S.Store c.loop-nth.tx.conn.now) c.loop-nth.pending) most spare more)
+    → (room : NextRoom c.args.setting.now.profile.now c.args.setting.now.kind c.read_record.new.buffer (g.R.Source.remaining c.read_record.new.reader)
+    (standing (state g.S.Store c.loop-nth.tx.conn.now) c.loop-nth.pending) most c.args.fold.now.progress.database.0 spare more)
     → (c.take_record.result ≡ Err Store → MayRefuse (state g.S.Store c.loop-nth.tx.conn.now) (state g.S.Store c.take_record.new.tx.conn.now))
-    × OnOk c.take_record.result (HasRoomAt g.L.Layout.format most (standing (state g.S.Store c.take_record.new.tx.conn.now) c.take_record.new.pending) (room.others + spare) (room.rest + more))
-taken_room g c clean mode records_of some most spare more room =
+    × OnOk c.take_record.result (HasRoomAt most c.args.fold.now.progress.database.0 (standing (state g.S.Store c.take_record.new.tx.conn.now) c.take_record.new.pending) (room.others + spare) (room.rest + more))
+taken_room g c clean mode most spare more room =
     let profile = c.args.setting.now.profile.now in
     let on = c.loop-nth.invariant.on in
-    let was : HasCleanDisk (state g.S.Store c.loop-nth.tx.conn.now) = omega (arith, c.take_record.ensures.inside.crash.clean) in
+    let now = standing (state g.S.Store c.loop-nth.tx.conn.now) c.loop-nth.pending in
+    let next = standing (state g.S.Store c.take_record.new.tx.conn.now) c.take_record.new.pending in
+    let was : HasCleanDisk now.tables = omega (arith, c.take_record.ensures.inside.crash.clean) in
     let asked = subst (λ (bytes : List ℕ). AsksRecord profile most (newer_of c.args.setting.now.kind bytes) room.place room.rowid) (sym c.bytes.ensures) room.asks in
-    c.take_record.ensures.room clean (on.stays was mode).mode records_of (still_some on was mode records_of some) most room.place room.rowid asked (room.others + spare) (room.rest + more) room.room
+    subst (λ d. KeepsRoom d most room.place room.rowid now next c.take_record.result) (same_id on) (c.take_record.ensures.room clean (on.stays was mode).mode most room.place room.rowid asked)
+    (room.others + spare) (room.rest + more) room.room
 
 pub returns-in_err-read_record-clause-room : goal.returns-in_err-read_record-clause-room
-returns-in_err-read_record-clause-room g c clean mode text told records_of some most places rowids asks spare more has =
+returns-in_err-read_record-clause-room g c clean mode text told most places rowids asks spare more has =
     let result : c.from_residual.result ≡ Err c.in_err-read_record.field-0.0 = search rules in
     let other = c.in_err-read_record.ensures.unstored in
     refused_for _ _ c.from_residual.result c.in_err-read_record.field-0.0 result (λ store. absurd (other (ap Err store)))
 
 pub returns-then-not-branch-clause-room : goal.returns-then-not-branch-clause-room
-returns-then-not-branch-clause-room g c clean mode text told records_of some most places rowids asks spare more has =
-    let room = c.loop-nth.invariant.room clean mode text told records_of some most places rowids asks spare more has in
+returns-then-not-branch-clause-room g c clean mode text told most places rowids asks spare more has =
+    let room = c.loop-nth.invariant.room clean mode text told most places rowids asks spare more has in
     let now = standing (state g.S.Store c.loop-nth.tx.conn.now) c.loop-nth.pending in
-    (λ store. absurd (not_refused tt Store store), room_enough g.L.Layout.format most now room.places room.rowids spare more room.room)
+    (λ store. absurd (not_refused tt Store store), room_enough most c.args.fold.now.progress.database.0 now room.places room.rowids spare more room.room)
 
 pub returns-in_err-take_record-clause-room : goal.returns-in_err-take_record-clause-room
-returns-in_err-take_record-clause-room g c clean mode text told records_of some most places rowids asks spare more has =
+returns-in_err-take_record-clause-room g c clean mode text told most places rowids asks spare more has =
     let old = state g.S.Store c.args.tx.now.conn.now in
     let now = state g.S.Store c.loop-nth.tx.conn.now in
     let next = state g.S.Store c.take_record.new.tx.conn.now in
     let on = c.loop-nth.invariant.on in
     let at = (goal.at.returns-in_err-take_record-clause-room g c).After-take_record in
     let was : HasCleanDisk now = omega (arith, c.take_record.ensures.inside.crash.clean) in
-    let room = next_of_file g at was mode text told records_of some most places rowids asks spare more has in
-    let took = taken_room g at clean mode records_of some most spare more room in
+    let room = next_of_file g at was mode text told most places rowids asks spare more has in
+    let took = taken_room g at clean mode most spare more room in
     let result : c.from_residual-in_err-take_record.result ≡ Err c.in_err-take_record.field-0.0 = search rules in
     refused_for _ _ c.from_residual-in_err-take_record.result c.in_err-take_record.field-0.0 result (λ store.
     may_after old now next on.crash (on.stays was mode).stays_open (λ _. took.0 (c.in_err-take_record.was ∙ ap Err store)))
@@ -192,13 +199,14 @@ loop-nth-preserved g c =
       same = search rules;
       on = folds_on c.loop-nth.invariant.on next c.take_record.new.fold c.in_ok-take_record.ensures.inside c.in_ok-take_record.ensures.database c.in_ok-take_record.ensures.honest;
       counted = omega (arith, c.loop-nth.invariant.counted, c.in_ok-take_record.ensures.counted);
+      lasts = λ most below limit. c.take_record.ensures.lasts most (c.loop-nth.invariant.lasts most below limit) limit;
       no_work = λ none. c.take_record.ensures.no_work none ∙ c.loop-nth.invariant.no_work none;
-      room = λ clean mode text told records_of some most places rowids asks spare more has.
+      room = λ clean mode text told most places rowids asks spare more has.
           let next_up = (goal.at.loop-nth-preserved g c).After-take_record in
           let was : HasCleanDisk now.tables = omega (arith, c.take_record.ensures.inside.crash.clean) in
-          let room = next_of_file g next_up was mode text told records_of some most places rowids asks spare more has in
-          let took = taken_room g next_up clean mode records_of some most spare more room in
-          room.leaves next (subst (λ (r : Result (Unit {0}) Refusal). OnOk r (HasRoomAt g.L.Layout.format most next (room.others + spare) (room.rest + more))) c.in_ok-take_record.was took.1);
+          let room = next_of_file g next_up was mode text told most places rowids asks spare more has in
+          let took = taken_room g next_up clean mode most spare more room in
+          room.leaves next (subst (λ (r : Result (Unit {0}) Refusal). OnOk r (HasRoomAt most id next (room.others + spare) (room.rest + more))) c.in_ok-take_record.was took.1);
       under = λ clean mode text told version records_of p stands under_way.
           let conditions = conditions_of version setting in
           let was : HasCleanDisk now.tables = omega (arith, c.take_record.ensures.inside.crash.clean) in
@@ -246,6 +254,17 @@ loop-nth-preserved g c =
                 one_more _ c.args.file c.loop-nth.nth c.read_record.new.buffer (g.R.Source.remaining c.read_record.new.reader) (g.R.Source.remaining c.loop-nth.reader) text read
                 (record_read g (goal.at.loop-nth-preserved g c).After-take_record read.0 read.1) found,
           );
+      named = λ clean mode store text told.
+          let was : HasCleanDisk now.tables = omega (arith, c.take_record.ensures.inside.crash.clean) in
+          let passed = (c.loop-nth.invariant.passes was mode store).0 in
+          let so_far = c.loop-nth.invariant.named was mode store text told in
+          let folded = c.take_record.new.fold in
+          let took = subst₂ (λ i bytes. TakesNamed setting.profile.now i (bytes ∷ []) c.loop-nth.fold.progress.last c.loop-nth.fold.tally.records now.tables.now.trees folded.progress.last folded.tally.records next.tables.now.trees)
+          (same_id c.loop-nth.invariant.on) c.bytes.ensures (c.in_ok-take_record.ensures.named clean (c.loop-nth.invariant.on.stays was mode).mode passed.store) in
+          file_further setting.profile.now id c.args.fold.now.progress.last c.args.fold.now.tally.records old.tables c.loop-nth.fold.progress.last c.loop-nth.fold.tally.records now.tables
+          c.loop-nth.nth (g.R.Source.remaining c.loop-nth.reader) text so_far c.args.file c.read_record.new.buffer (g.R.Source.remaining c.read_record.new.reader) passed
+          (record_read g (goal.at.loop-nth-preserved g c).After-take_record so_far.left so_far.remains) folded.progress.last folded.tally.records next.tables.now.trees took;
+      most = λ few. c.in_ok-take_record.ensures.most;
     }
 
 pub returns-then-not-branch-clause-work : goal.returns-then-not-branch-clause-work
@@ -352,3 +371,59 @@ returns-then-not-branch-clause-passes g c clean mode store =
           all_read _ c.args.file c.loop-nth.nth c.read_record.new.buffer (g.R.Source.remaining c.read_record.new.reader) (g.R.Source.remaining c.loop-nth.reader) text read
           (subst (λ b. ReadsNext c.args.file c.loop-nth.nth (next_of read.0) (Ok b) c.read_record.new.buffer (g.R.Source.remaining c.read_record.new.reader)) none (c.in_ok-read_record.ensures.told read.0 read.1 fine)),
     )
+
+-- ---- why it is refused
+
+pub returns-in_err-read_record-clause-reasons : goal.returns-in_err-read_record-clause-reasons
+returns-in_err-read_record-clause-reasons g c clean mode store text told fine =
+    let first = c.args.fold.now in
+    let fold = c.loop-nth.fold in
+    let refusal = c.in_err-read_record.field-0.0 in
+    let result : c.from_residual.result ≡ Err refusal = search rules in
+    let so_far = c.loop-nth.invariant.named clean mode store text told in
+    err_so _ refusal c.from_residual.result result (inr (fault_refused c.args.setting.now.profile.now first.progress.database.0 first.progress.last first.tally.records (state g.S.Store c.args.tx.now.conn.now)
+    fold.progress.last fold.tally.records (state g.S.Store c.loop-nth.tx.conn.now) c.loop-nth.nth (g.R.Source.remaining c.loop-nth.reader) text so_far c.args.file c.read_record.new.buffer
+    (g.R.Source.remaining c.read_record.new.reader) c.args.setting.now.kind c.args.setting.now.limits refusal (c.in_err-read_record.ensures.told so_far.left so_far.remains fine)))
+
+pub returns-in_err-take_record-clause-reasons : goal.returns-in_err-take_record-clause-reasons
+returns-in_err-take_record-clause-reasons g c clean mode store text told fine =
+    let setting = c.args.setting.now in
+    let first = c.args.fold.now in
+    let fold = c.loop-nth.fold in
+    let now = state g.S.Store c.loop-nth.tx.conn.now in
+    let was : HasCleanDisk now = omega (arith, c.take_record.ensures.inside.crash.clean) in
+    let refusal = c.in_err-take_record.field-0.0 in
+    let result : c.from_residual-in_err-take_record.result ≡ Err refusal = search rules in
+    let passed = (c.loop-nth.invariant.passes was mode store).0 in
+    let so_far = c.loop-nth.invariant.named was mode store text told in
+    let refused = subst₂ (λ i bytes. IsRecordRefused setting.profile.now setting.kind setting.limits fold.progress.last fold.tally.records now.now.trees i c.args.file c.loop-nth.nth bytes refusal)
+    (same_id c.loop-nth.invariant.on) c.bytes.ensures (c.in_err-take_record.ensures.reasons clean (c.loop-nth.invariant.on.stays was mode).mode passed.store) in
+    err_so _ refusal c.from_residual-in_err-take_record.result result (elim refused [
+      | inl reason ↦ inr (record_refused_in setting.profile.now first.progress.database.0 first.progress.last first.tally.records (state g.S.Store c.args.tx.now.conn.now)
+          fold.progress.last fold.tally.records now c.loop-nth.nth (g.R.Source.remaining c.loop-nth.reader) text so_far c.args.file c.read_record.new.buffer (g.R.Source.remaining c.read_record.new.reader)
+          passed (record_read g (goal.at.returns-in_err-take_record-clause-reasons g c).After-take_record so_far.left so_far.remains) setting.kind setting.limits refusal reason)
+      | inr failing ↦ inl failing
+    ])
+
+-- ---- what is lost
+
+pub returns-then-not-branch-clause-named : goal.returns-then-not-branch-clause-named
+returns-then-not-branch-clause-named g c clean mode store text told =
+    let first = c.args.fold.now in
+    let fold = c.loop-nth.fold in
+    let none : c.in_ok-read_record.field-0 ≡ false = search rules in
+    let fine : g.R.Source.has_failed c.read_record.new.reader ≡ false = sound (g.R.Source.has_failed c.read_record.new.reader) (λ failed. let no = c.in_ok-read_record.ensures.failed failed in absurd (cc)) in
+    let so_far = c.loop-nth.invariant.named clean mode store text told in
+    file_ended c.args.setting.now.profile.now first.progress.database.0 first.progress.last first.tally.records (state g.S.Store c.args.tx.now.conn.now) fold.progress.last fold.tally.records
+    (state g.S.Store c.loop-nth.tx.conn.now) c.loop-nth.nth (g.R.Source.remaining c.loop-nth.reader) text so_far c.args.file c.read_record.new.buffer (g.R.Source.remaining c.read_record.new.reader)
+    (subst (λ b. ReadsNext c.args.file c.loop-nth.nth (next_of so_far.left) (Ok b) c.read_record.new.buffer (g.R.Source.remaining c.read_record.new.reader)) none (c.in_ok-read_record.ensures.told so_far.left so_far.remains fine))
+
+-- ---- no more than the limit are taken
+
+pub returns-then-not-branch-clause-most : goal.returns-then-not-branch-clause-most
+returns-then-not-branch-clause-most g c = c.loop-nth.invariant.most
+
+-- ---- the last number
+
+pub returns-in_err-take_record-clause-lasts : goal.returns-in_err-take_record-clause-lasts
+returns-in_err-take_record-clause-lasts g c most below limit = c.take_record.ensures.lasts most (c.loop-nth.invariant.lasts most below limit) limit

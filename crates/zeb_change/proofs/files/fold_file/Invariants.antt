@@ -1,4 +1,4 @@
-use Rattle.std.proofs.Common.{◌≡◌, ◌+◌, ◌<◌, ℕ, ℤ, List, Some, IsTrue}
+use Rattle.std.proofs.Common.{◌≡◌, ◌+◌, ◌<◌, ◌≤◌, ℕ, ℤ, List, Some, IsTrue}
 use Rattle.sqlite.specs.Held.{state}
 use Rattle.sqlite.specs.State.{HasCleanDisk}
 use Rattle.zeb_marc.specs.Splits.{split_of}
@@ -15,6 +15,7 @@ use Rattle.zeb_change.specs.Elders.{IsWholeBefore, PassesOn}
 use Rattle.zeb_change.proofs.ElderSteps.{FileBegun, FileRead}
 use Rattle.zeb_change.proofs.FoldFiles.{Under}
 use Rattle.zeb_change.proofs.FoldRoom.{FileRoom, LeavesRoom}
+use Rattle.zeb_change.proofs.ReasonSteps.{FileTaken}
 use Rattle.zeb_change.proofs.files.fold_file.Given as goal
 
 abbrev pub invariant-loop-nth : goal.invariant-loop-nth
@@ -31,10 +32,11 @@ invariant-loop-nth g l =
           (g.R.Source.remaining l.reader) old now l.fold)
           × Spent g.L.Layout.row_work (IsSlicesCost (conditions_of version l.setting) l.setting.kind l.file l.nth (split_of under.left).slices under.progress)
           (IsSlicesCost (conditions_of version l.setting) l.setting.kind l.file 1 (split_of text).slices p) l.fn.fold.progress.work l.fold.progress.work l.fn.pending l.pending;
+      lasts : (most : ℕ) → l.fn.fold.progress.last ≤ most → l.setting.limits.numbers ≤ most → l.fold.progress.last ≤ most;
       no_work : g.L.Layout.row_work ≡ 0 → l.fold.progress.work ≡ l.fn.fold.progress.work;
       room : HasCleanDisk now.tables → IsTrue old.tables.in_transaction → (text : List ℕ) → g.R.Source.remaining l.fn.reader ≡ Some text
-          → LeavesRoom g.L.Layout.format l.setting.profile.now l.fn.fold old (λ most. AskSlices l.setting.profile.now l.setting.kind most (split_of text).slices)
-          (FileRoom g.L.Layout.format l.setting.profile.now l.setting.kind (g.R.Source.remaining l.reader) now);
+          → LeavesRoom l.fn.fold.progress.database.0 old (λ most. AskSlices l.setting.profile.now l.setting.kind most (split_of text).slices)
+          (λ most. FileRoom l.setting.profile.now l.setting.kind (g.R.Source.remaining l.reader) now most l.fn.fold.progress.database.0);
       elder : HasCleanDisk now.tables → IsTrue old.tables.in_transaction → IsStore old.tables → l.fn.fold.tally.records < l.setting.limits.records
           → (text : List ℕ) → g.R.Source.remaining l.fn.reader ≡ Some text
           → FileBegun l.setting.profile.now old.tables now.tables l.fn.fold l.fold (g.R.Source.remaining l.reader) text;
@@ -42,4 +44,8 @@ invariant-loop-nth g l =
           → PassesOn l.setting.profile.now l.fn.fold.progress.database.0 l.fn.fold.progress.last l.fold.progress.last old.tables now.tables
           × ((text : List ℕ) → g.R.Source.remaining l.fn.reader ≡ Some text
           → FileRead (IsWholeBefore l.setting.profile.now l.fn.fold.progress.last old.tables.now.trees l.fn.fold.progress.database.0) (g.R.Source.remaining l.reader) text);
+      named : HasCleanDisk now.tables → IsTrue old.tables.in_transaction → IsStore old.tables → (text : List ℕ) → g.R.Source.remaining l.fn.reader ≡ Some text
+          → FileTaken l.setting.profile.now l.fn.fold.progress.database.0 l.fn.fold.progress.last l.fn.fold.tally.records old.tables.now.trees l.fold.progress.last l.fold.tally.records now.tables.now.trees
+          l.nth (g.R.Source.remaining l.reader) text;
+      most : l.fn.fold.tally.records ≤ l.setting.limits.records → l.fold.tally.records ≤ l.setting.limits.records;
     }

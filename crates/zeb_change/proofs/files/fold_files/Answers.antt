@@ -1,14 +1,14 @@
-use Rattle.std.proofs.Common.{◌≡◌, ◌∙◌, ◌<◌, ◌^◌, ℕ, ℤ, List, map, Some, IsTrue, rules, arith, Result, Err, OnOk, ap, subst, sym}
+use Rattle.std.proofs.Common.{◌≡◌, ◌∙◌, ◌<◌, ◌^◌, ℕ, ℤ, List, map, Some, IsTrue, rules, arith, inr, Result, Err, OnOk, ap, subst, sym}
 use Rattle.sqlite.specs.Held.{state}
 use Rattle.sqlite.specs.State.{HasCleanDisk}
 use Rattle.zeb_register.specs.Calls.{MayRefuse}
 use Rattle.zeb_register.specs.Hindrances.{HasRowids}
 use Rattle.zeb_register.specs.Room.{HasRoom}
-use Rattle.zeb_register.specs.Store.{records_tree}
+use Rattle.zeb_register.specs.Store.{IsStore, records_tree}
 use Rattle.zeb_register.proofs.Causes.{may_after}
 use Rattle.zeb_change.specs.declared.refusals.Refusal.{Refusal}
 use Rattle.zeb_change.specs.declared.refusals.Refusal.TheVariants.{Store}
-use Rattle.zeb_change.specs.Asked.{AskFiles, WritesInRoom}
+use Rattle.zeb_change.specs.Asked.{AskFiles, HasSystemNumbers}
 use Rattle.zeb_change.specs.Base.{Kept}
 use Rattle.zeb_change.specs.PrivateAsked.{HasRoomAt}
 use Rattle.zeb_change.specs.Folding.{Progress, files_folded, splits_of}
@@ -24,7 +24,9 @@ use Rattle.zeb_change.proofs.FoldRoom.{room_begun, write_caused}
 use Rattle.zeb_change.proofs.RecordRoom.{not_refused, one_refusal, only_store}
 use Rattle.zeb_change.specs.Elders.{FirstFindsWhole}
 use Rattle.zeb_change.proofs.ElderSteps.{files_find}
-use Rattle.zeb_change.proofs.KeptStill.{passes_same, passes_then}
+use Rattle.zeb_change.proofs.KeptStill.{beside_id, passes_same, passes_then}
+use Rattle.zeb_change.proofs.Reasons.{err_so, fault_fails_so, loses_then}
+use Rattle.zeb_change.proofs.ReasonSteps.{slices_in}
 use Rattle.zeb_change.proofs.files.fold_files.Given as given
 use Rattle.zeb_change.proofs.files.fold_files.Goals.{After-fold_readers, After-write_pending}
 use Rattle.zeb_change.proofs.files.fold_files.Goals as goal
@@ -150,43 +152,42 @@ returns-clause-work g c clean mode texts told version records_of p stands under 
 
 -- what is asked is there at first, and when all files are folded in there is room for what is noted
 read_room : (g : given.Over) (c : After-fold_readers g) → HasCleanDisk (state g.S.Store c.fold_readers.new.tx.conn.now) → IsTrue (state g.S.Store c.args.tx.now.conn.now).in_transaction
-    → (texts : List (List ℕ)) → map g.R.Source.remaining c.args.readers.now ≡ map Some texts → (records_of : ℤ → List Kept)
-    → HoldsSome g.L.Layout.format c.args.setting.now.profile.now c.args.fold.now.progress.database.0 records_of (state g.S.Store c.args.tx.now.conn.now) c.args.fold.now.progress.last
+    → IsStore (state g.S.Store c.args.tx.now.conn.now) → (texts : List (List ℕ)) → map g.R.Source.remaining c.args.readers.now ≡ map Some texts
     → (places rowids : ℕ) → AskFiles c.args.setting.now.profile.now c.args.setting.now.kind places (splits_of texts) places rowids
-    → HasRoom g.L.Layout.format places (state g.S.Store c.args.tx.now.conn.now).now.trees → HasRowids rowids records_tree (state g.S.Store c.args.tx.now.conn.now).now.trees → rowids < 2 ^ 63
+    → HasRoom places (state g.S.Store c.args.tx.now.conn.now).now.trees → HasRowids rowids records_tree (state g.S.Store c.args.tx.now.conn.now).now.trees → rowids < 2 ^ 63
+    → HasSystemNumbers (state g.S.Store c.args.tx.now.conn.now).now.trees c.args.fold.now.progress.database.0
     → (c.fold_readers.result ≡ Err Store → MayRefuse (state g.S.Store c.args.tx.now.conn.now) (state g.S.Store c.fold_readers.new.tx.conn.now))
-    × OnOk c.fold_readers.result (HasRoomAt g.L.Layout.format places (standing (state g.S.Store c.fold_readers.new.tx.conn.now) c.fold_readers.new.pending) 0 0)
-read_room g c clean mode texts told records_of some places rowids asks room rows few =
-    let format = g.L.Layout.format in
+    × OnOk c.fold_readers.result (HasRoomAt places c.args.fold.now.progress.database.0 (standing (state g.S.Store c.fold_readers.new.tx.conn.now) c.fold_readers.new.pending) 0 0)
+read_room g c clean mode store texts told places rowids asks room rows few numbers =
     let old = state g.S.Store c.args.tx.now.conn.now in
-    let first = c.new-pending.result in
-    let will = begun format c.args.setting.now.profile.now c.args.fold.now.progress.database.0 records_of first c.new-pending.ensures old some.0 some.2 in
-    c.fold_readers.ensures.room clean mode texts told records_of (some.0, some.1, will) places places rowids asks 0 0 (room_begun format places rowids old first c.new-pending.ensures room rows few)
+    c.fold_readers.ensures.room clean mode texts told places places rowids asks 0 0
+    (room_begun c.args.fold.now.progress.database.0 places rowids old c.new-pending.result c.new-pending.ensures store room rows few numbers)
 
 pub returns-in_err-fold_readers-clause-room : goal.returns-in_err-fold_readers-clause-room
-returns-in_err-fold_readers-clause-room g c clean mode texts told records_of some places rowids asks room rows few store =
+returns-in_err-fold_readers-clause-room g c clean mode store texts told places rowids asks room rows few numbers failed =
     let at = (goal.at.returns-in_err-fold_readers-clause-room g c).After-fold_readers in
     let result : c.from_residual.result ≡ Err c.in_err-fold_readers.field-0.0 = search rules in
-    (read_room g at clean mode texts told records_of some places rowids asks room rows few).0 (c.in_err-fold_readers.was ∙ sym result ∙ store)
+    (read_room g at clean mode store texts told places rowids asks room rows few numbers).0 (c.in_err-fold_readers.was ∙ sym result ∙ failed)
 
 pub returns-in_err-write_pending-clause-room : goal.returns-in_err-write_pending-clause-room
-returns-in_err-write_pending-clause-room g c clean mode texts told records_of some places rowids asks room rows few store =
+returns-in_err-write_pending-clause-room g c clean mode store texts told places rowids asks room rows few numbers failed =
     let old = state g.S.Store c.args.tx.now.conn.now in
     let mid = state g.S.Store c.fold_readers.new.tx.conn.now in
     let new = state g.S.Store c.write_pending.new.tx.conn.now in
+    let db = c.args.fold.now.progress.database.0 in
     let fault = c.in_err-write_pending.field-0.0 in
     let at = (goal.at.returns-in_err-write_pending-clause-room g c).After-fold_readers in
     let result : c.from_residual-in_err-write_pending.result ≡ Err (register_refusal fault) = search rules in
-    let write = written g (goal.at.returns-in_err-write_pending-clause-room g c).After-write_pending clean mode records_of some in
-    let read = read_room g at write.was mode texts told records_of some places rowids asks room rows few in
-    let left = subst (λ (r : Result (Unit {0}) Refusal). OnOk r (HasRoomAt g.L.Layout.format places (standing mid c.fold_readers.new.pending) 0 0)) c.in_ok-fold_readers.was read.1 in
-    let stays = c.in_ok-fold_readers.ensures.inside.stays write.was mode in
-    let writes = subst (λ i. WritesInRoom g.L.Layout.format i mid new c.fold_readers.new.pending c.write_pending.new.pending c.write_pending.result) (ap (λ d. d.0) c.fold_readers.ensures.database) c.write_pending.ensures.room in
+    let was : HasCleanDisk mid = omega (arith, c.write_pending.ensures.call.crash.clean) in
+    let read = read_room g at was mode store texts told places rowids asks room rows few numbers in
+    let left = subst (λ (r : Result (Unit {0}) Refusal). OnOk r (HasRoomAt places db (standing mid c.fold_readers.new.pending) 0 0)) c.in_ok-fold_readers.was read.1 in
+    let stays = c.in_ok-fold_readers.ensures.inside.stays was mode in
     may_after old mid new c.fold_readers.ensures.inside.crash stays.stays_open (λ _.
-    write_caused write writes places 0 0 left (c.in_err-write_pending.was ∙ ap Err (only_store fault (one_refusal c.from_residual-in_err-write_pending.result (register_refusal fault) Store result store))))
+    write_caused mid new c.fold_readers.new.pending c.write_pending.new.pending c.write_pending.ensures.room places db 0 0 left clean stays.mode
+    (c.in_err-write_pending.was ∙ ap Err (only_store fault (one_refusal c.from_residual-in_err-write_pending.result (register_refusal fault) Store result failed))))
 
 pub returns-clause-room : goal.returns-clause-room
-returns-clause-room g c clean mode texts told records_of some places rowids asks room rows few store = absurd (not_refused tt Store store)
+returns-clause-room g c clean mode store texts told places rowids asks room rows few numbers failed = absurd (not_refused tt Store failed)
 
 -- ---- what the first record finds kept under its identifier
 
@@ -228,4 +229,38 @@ returns-clause-passes g c clean mode store =
     let read = c.in_ok-fold_readers.ensures.passes was mode store in
     let writes = c.in_ok-write_pending.ensures.call.written clean (c.in_ok-fold_readers.ensures.inside.stays was mode).mode read.store in
     let malformed = c.in_ok-write_pending.ensures.malformed clean (c.in_ok-fold_readers.ensures.inside.stays was mode).mode read.store in
-    passes_then profile id first last old mid read last new (passes_same profile id last mid new writes.0 writes.1.2 malformed)
+    let beside = beside_id c.fold_readers.new.fold.progress.database.0 id mid.now.trees new.now.trees (ap (λ d. d.0) c.fold_readers.ensures.database)
+    (c.in_ok-write_pending.ensures.beside clean (c.in_ok-fold_readers.ensures.inside.stays was mode).mode read.store) in
+    passes_then profile id first last old mid read last new (passes_same profile id last mid new writes.0 writes.1 beside malformed)
+
+-- ---- why it is refused
+
+pub returns-in_err-fold_readers-clause-reasons : goal.returns-in_err-fold_readers-clause-reasons
+returns-in_err-fold_readers-clause-reasons g c clean mode store texts told fine =
+    let result : c.from_residual.result ≡ Err c.in_err-fold_readers.field-0.0 = search rules in
+    err_so _ c.in_err-fold_readers.field-0.0 c.from_residual.result result (c.in_err-fold_readers.ensures.reasons clean mode store texts told fine)
+
+pub returns-in_err-write_pending-clause-reasons : goal.returns-in_err-write_pending-clause-reasons
+returns-in_err-write_pending-clause-reasons g c clean mode store texts told fine =
+    let fault = c.in_err-write_pending.field-0.0 in
+    let result : c.from_residual-in_err-write_pending.result ≡ Err (register_refusal fault) = search rules in
+    err_so _ (register_refusal fault) c.from_residual-in_err-write_pending.result result (inr (fault_fails_so fault))
+
+-- ---- what is lost
+
+pub returns-clause-named : goal.returns-clause-named
+returns-clause-named g c clean mode store texts told =
+    let mid = state g.S.Store c.fold_readers.new.tx.conn.now in
+    let was : HasCleanDisk mid = omega (arith, c.write_pending.ensures.call.crash.clean) in
+    let read = c.in_ok-fold_readers.ensures.passes was mode store in
+    let writes = c.in_ok-write_pending.ensures.call.written clean (c.in_ok-fold_readers.ensures.inside.stays was mode).mode read.store in
+    loses_then c.args.setting.now.profile.now c.args.fold.now.progress.database.0 (slices_in (splits_of texts)) c.args.fold.now.progress.last (state g.S.Store c.args.tx.now.conn.now).now.trees mid.now.trees
+    (state g.S.Store c.write_pending.new.tx.conn.now).now.trees (c.in_ok-fold_readers.ensures.named was mode store texts told).named writes.1.2
+
+-- ---- no more than the limit are taken
+
+pub returns-clause-most : goal.returns-clause-most
+returns-clause-most g c clean mode store texts told few =
+    let was : HasCleanDisk (state g.S.Store c.fold_readers.new.tx.conn.now) = omega (arith, c.write_pending.ensures.call.crash.clean) in
+    let took = c.in_ok-fold_readers.ensures.named was mode store texts told in
+    omega (arith, took.all, c.in_ok-fold_readers.ensures.most few)

@@ -1,4 +1,4 @@
-use Rattle.std.proofs.Common.{rules, arith, ◌≡◌, ◌≢◌, ◌∙◌, ◌+◌, ◌≤◌, ◌<◌, ◌∷◌, ℕ, suc, ℤ, IsTrue, List, Some, drop, length, map, false, inl, inr, refl, sym, Result, Ok, Err, OnOk, ap, subst, get_or, get_or-set_other, get_or-set_same, slice_set, length-set}
+use Rattle.std.proofs.Common.{rules, arith, ◌≡◌, ◌≢◌, ◌⊎◌, ◌∙◌, ◌+◌, ◌≤◌, ◌<◌, ◌∷◌, ℕ, suc, IsTrue, List, Some, None, drop, length, map, false, inl, inr, refl, sym, Result, Ok, Err, OnOk, ap, subst, get_or, get_or-set_other, get_or-set_same, slice_set, length-set}
 use Rattle.sqlite.specs.Held.{state}
 use Rattle.sqlite.specs.State.{HasCleanDisk}
 use Rattle.zeb_marc.specs.Splits.{split_of}
@@ -7,7 +7,7 @@ use Rattle.zeb_change.specs.Folding.{Progress, file_folded, files_folded, splits
 use Rattle.zeb_change.specs.Reading.{HasFailedAt}
 use Rattle.zeb_change.specs.declared.refusals.Refusal.{Refusal}
 use Rattle.zeb_change.specs.declared.refusals.Refusal.TheVariants.{ReadFault, Store}
-use Rattle.zeb_change.specs.PrivateStanding.{WillBeFolded, WillHoldSome, standing}
+use Rattle.zeb_change.specs.PrivateStanding.{WillBeFolded, standing}
 use Rattle.zeb_change.specs.UnderWay.{conditions_of}
 use Rattle.zeb_change.proofs.FoldsOn.{folds_on, same_id, still_some, still_way}
 use Rattle.zeb_change.proofs.FoldFiles.{Good, sound}
@@ -18,8 +18,7 @@ use Rattle.zeb_register.specs.Calls.{MayRefuse}
 use Rattle.zeb_register.proofs.Calls.{store_same}
 use Rattle.zeb_register.proofs.Causes.{may_after}
 use Rattle.zeb_change.specs.Asked.{AskFiles}
-use Rattle.zeb_change.specs.Base.{Kept}
-use Rattle.zeb_change.specs.PrivateAsked.{HasRoomAt}
+use Rattle.zeb_change.specs.PrivateAsked.{HasRoomAt, KeepsRoom}
 use Rattle.zeb_change.proofs.FoldRoom.{NextFileRoom, next_file_room}
 use Rattle.zeb_change.proofs.RecordRoom.{not_refused, refused_for, room_enough}
 use Rattle.zeb_register.specs.Store.{IsStore}
@@ -28,6 +27,9 @@ use Rattle.zeb_change.specs.Elders.{FindsWhole}
 use Rattle.zeb_change.specs.PrivateElders.{OfFirst, PassesEmpty}
 use Rattle.zeb_change.proofs.ElderSteps.{FoundWhole, file_more, file_same, files_begun, files_ended, files_find, files_read, fine_set, no_record, passes_more, records_before}
 use Rattle.zeb_change.proofs.KeptStill.{passes_seen}
+use Rattle.zeb_change.specs.PrivateReasons.{IsDamageOrFailure, IsRefusedIn, TakesNamed}
+use Rattle.zeb_change.proofs.Reasons.{err_so}
+use Rattle.zeb_change.proofs.ReasonSteps.{files_further, files_none, files_taken, file_refused as file_refused_at}
 use Rattle.zeb_change.proofs.files.fold_readers.Given as given
 use Rattle.zeb_change.proofs.files.fold_readers.Goals.{After-fold_file}
 use Rattle.zeb_change.proofs.files.fold_readers.Goals as goal
@@ -39,13 +41,17 @@ loop-index-init g c = record {
   on = record { crash = search rules; stays = search rules; database = refl; honest = λ clean mode records_of some. some };
   unread = λ j d behind. refl;
   fine = λ j none d. absurd (omega (arith, none));
+  lasts = λ most below limit. below;
   no_work = λ none. refl;
-  room = λ clean mode texts told records_of some most places rowids asks spare more has. record { places = places; rowids = rowids; asks = asks; room = has };
+  room = λ clean mode texts told most places rowids asks spare more has. record { places = places; rowids = rowids; asks = asks; room = has };
   elder = λ clean mode store below texts told. inl (store, refl, refl, refl);
   passes = λ clean mode store. (
     passes_seen c.args.setting.now.profile.now c.args.fold.now.progress.database.0 c.args.fold.now.progress.last (state g.S.Store c.args.tx.now.conn.now) (state g.S.Store c.args.tx.now.conn.now) store refl,
     λ texts told split there. inl there,
   );
+  named = λ clean mode store texts told.
+      files_none c.args.setting.now.profile.now c.args.fold.now.progress.database.0 c.args.fold.now.progress.last c.args.fold.now.tally.records (state g.S.Store c.args.tx.now.conn.now).now.trees texts;
+  most = λ few. few;
   over = λ clean mode texts told version records_of p stands under_way. (
     before_files g.L.Layout.format (conditions_of version c.args.setting.now) c.args.setting.now.kind texts c.args.fold.now.progress.database.0 records_of (standing (state g.S.Store c.args.tx.now.conn.now) c.args.pending.now) c.args.fold.now p stands under_way,
     none_spent g.L.Layout.row_work (IsFilesCost (conditions_of version c.args.setting.now) c.args.setting.now.kind 1 (splits_of texts) p) c.args.fold.now.progress.work c.args.pending.now,
@@ -103,48 +109,50 @@ returns-in_err-fold_file-clause-folded g c = λ clean mode texts told fine versi
 
 -- the next file asks for room that is there
 next_of_files : (g : given.Over) (c : After-fold_file g) → HasCleanDisk (state g.S.Store c.loop-index.tx.conn.now) → IsTrue (state g.S.Store c.args.tx.now.conn.now).in_transaction
-    → (texts : List (List ℕ)) (told : map g.R.Source.remaining c.args.readers.now ≡ map Some texts) → (records_of : ℤ → List Kept)
-    → WillHoldSome g.L.Layout.format c.args.setting.now.profile.now c.args.fold.now.progress.database.0 records_of (standing (state g.S.Store c.args.tx.now.conn.now) c.args.pending.now) c.args.fold.now.progress.last
+    → (texts : List (List ℕ)) (told : map g.R.Source.remaining c.args.readers.now ≡ map Some texts)
     → (most places rowids : ℕ) → AskFiles c.args.setting.now.profile.now c.args.setting.now.kind most (splits_of texts) places rowids
-    → (spare more : ℕ) → HasRoomAt g.L.Layout.format most (standing (state g.S.Store c.args.tx.now.conn.now) c.args.pending.now) (places + spare) (rowids + more)
-    → NextFileRoom g.L.Layout.format c.args.setting.now.profile.now c.args.setting.now.kind c.loop-index.index texts (text_here g c texts told).0
-    (standing (state g.S.Store c.loop-index.tx.conn.now) c.loop-index.pending) most spare more
-next_of_files g c clean mode texts told records_of some most places rowids asks spare more has =
+    → (spare more : ℕ) → HasRoomAt most c.args.fold.now.progress.database.0 (standing (state g.S.Store c.args.tx.now.conn.now) c.args.pending.now) (places + spare) (rowids + more)
+    → NextFileRoom c.args.setting.now.profile.now c.args.setting.now.kind c.loop-index.index texts (text_here g c texts told).0
+    (standing (state g.S.Store c.loop-index.tx.conn.now) c.loop-index.pending) most c.args.fold.now.progress.database.0 spare more
+next_of_files g c clean mode texts told most places rowids asks spare more has =
     let text = text_here g c texts told in
-    next_file_room g.L.Layout.format c.args.setting.now.profile.now c.args.setting.now.kind c.loop-index.index texts text.0 (standing (state g.S.Store c.loop-index.tx.conn.now) c.loop-index.pending) most spare more text.2
-    (c.loop-index.invariant.room clean mode texts told records_of some most places rowids asks spare more has)
+    next_file_room c.args.setting.now.profile.now c.args.setting.now.kind c.loop-index.index texts text.0 (standing (state g.S.Store c.loop-index.tx.conn.now) c.loop-index.pending)
+    most c.args.fold.now.progress.database.0 spare more text.2 (c.loop-index.invariant.room clean mode texts told most places rowids asks spare more has)
 
 -- it is folded in
 taken_room : (g : given.Over) (c : After-fold_file g) → HasCleanDisk (state g.S.Store c.fold_file.new.tx.conn.now) → IsTrue (state g.S.Store c.args.tx.now.conn.now).in_transaction
-    → (texts : List (List ℕ)) (told : map g.R.Source.remaining c.args.readers.now ≡ map Some texts) → (records_of : ℤ → List Kept)
-    → WillHoldSome g.L.Layout.format c.args.setting.now.profile.now c.args.fold.now.progress.database.0 records_of (standing (state g.S.Store c.args.tx.now.conn.now) c.args.pending.now) c.args.fold.now.progress.last
+    → (texts : List (List ℕ)) (told : map g.R.Source.remaining c.args.readers.now ≡ map Some texts)
     → (most spare more : ℕ)
-    → (room : NextFileRoom g.L.Layout.format c.args.setting.now.profile.now c.args.setting.now.kind c.loop-index.index texts (text_here g c texts told).0
-    (standing (state g.S.Store c.loop-index.tx.conn.now) c.loop-index.pending) most spare more)
+    → (room : NextFileRoom c.args.setting.now.profile.now c.args.setting.now.kind c.loop-index.index texts (text_here g c texts told).0
+    (standing (state g.S.Store c.loop-index.tx.conn.now) c.loop-index.pending) most c.args.fold.now.progress.database.0 spare more)
     → (c.fold_file.result ≡ Err Store → MayRefuse (state g.S.Store c.loop-index.tx.conn.now) (state g.S.Store c.fold_file.new.tx.conn.now))
-    × OnOk c.fold_file.result (HasRoomAt g.L.Layout.format most (standing (state g.S.Store c.fold_file.new.tx.conn.now) c.fold_file.new.pending) (room.others + spare) (room.rest + more))
-taken_room g c clean mode texts told records_of some most spare more room =
+    × OnOk c.fold_file.result (HasRoomAt most c.args.fold.now.progress.database.0 (standing (state g.S.Store c.fold_file.new.tx.conn.now) c.fold_file.new.pending) (room.others + spare) (room.rest + more))
+taken_room g c clean mode texts told most spare more room =
     let on = c.loop-index.invariant.on in
     let text = text_here g c texts told in
-    let was : HasCleanDisk (state g.S.Store c.loop-index.tx.conn.now) = omega (arith, c.fold_file.ensures.inside.crash.clean) in
-    c.fold_file.ensures.room clean (on.stays was mode).mode text.0 text.1 records_of (still_some on was mode records_of some) most room.place room.rowid room.asks (room.others + spare) (room.rest + more) room.room
+    let now = standing (state g.S.Store c.loop-index.tx.conn.now) c.loop-index.pending in
+    let next = standing (state g.S.Store c.fold_file.new.tx.conn.now) c.fold_file.new.pending in
+    let was : HasCleanDisk now.tables = omega (arith, c.fold_file.ensures.inside.crash.clean) in
+    subst (λ d. KeepsRoom d most room.place room.rowid now next c.fold_file.result) (same_id on)
+    (c.fold_file.ensures.room clean (on.stays was mode).mode text.0 text.1 most room.place room.rowid room.asks)
+    (room.others + spare) (room.rest + more) room.room
 
 pub returns-clause-room : goal.returns-clause-room
-returns-clause-room g c clean mode texts told records_of some most places rowids asks spare more has =
-    let room = c.loop-index.invariant.room clean mode texts told records_of some most places rowids asks spare more has in
+returns-clause-room g c clean mode texts told most places rowids asks spare more has =
+    let room = c.loop-index.invariant.room clean mode texts told most places rowids asks spare more has in
     let now = standing (state g.S.Store c.loop-index.tx.conn.now) c.loop-index.pending in
-    (λ store. absurd (not_refused tt Store store), room_enough g.L.Layout.format most now room.places room.rowids spare more room.room)
+    (λ store. absurd (not_refused tt Store store), room_enough most c.args.fold.now.progress.database.0 now room.places room.rowids spare more room.room)
 
 pub returns-in_err-fold_file-clause-room : goal.returns-in_err-fold_file-clause-room
-returns-in_err-fold_file-clause-room g c clean mode texts told records_of some most places rowids asks spare more has =
+returns-in_err-fold_file-clause-room g c clean mode texts told most places rowids asks spare more has =
     let old = state g.S.Store c.args.tx.now.conn.now in
     let now = state g.S.Store c.loop-index.tx.conn.now in
     let next = state g.S.Store c.fold_file.new.tx.conn.now in
     let on = c.loop-index.invariant.on in
     let at = (goal.at.returns-in_err-fold_file-clause-room g c).After-fold_file in
     let was : HasCleanDisk now = omega (arith, c.fold_file.ensures.inside.crash.clean) in
-    let room = next_of_files g at was mode texts told records_of some most places rowids asks spare more has in
-    let took = taken_room g at clean mode texts told records_of some most spare more room in
+    let room = next_of_files g at was mode texts told most places rowids asks spare more has in
+    let took = taken_room g at clean mode texts told most spare more room in
     let result : c.from_residual.result ≡ Err c.in_err-fold_file.field-0.0 = search rules in
     refused_for _ _ c.from_residual.result c.in_err-fold_file.field-0.0 result (λ store.
     may_after old now next on.crash (on.stays was mode).stays_open (λ _. took.0 (c.in_err-fold_file.was ∙ ap Err store)))
@@ -198,13 +206,14 @@ loop-index-preserved g c =
       fine =
           let sound_one : g.R.Source.has_failed c.fold_file.new.reader ≡ false = sound (g.R.Source.has_failed c.fold_file.new.reader) (λ failed. let no = c.in_ok-fold_file.ensures.failed failed in absurd (cc)) in
           fine_more g.R.Source.has_failed readers index c.loop-index.invariant.fine c.fold_file.new.reader (omega (arith, c.loop-index-test.true, c.loop-index.auto.readers)) sound_one;
+      lasts = λ most below limit. c.fold_file.ensures.lasts most (c.loop-index.invariant.lasts most below limit) limit;
       no_work = λ none. c.fold_file.ensures.no_work none ∙ c.loop-index.invariant.no_work none;
-      room = λ clean mode texts told records_of some most places rowids asks spare more has.
+      room = λ clean mode texts told most places rowids asks spare more has.
           let at = (goal.at.loop-index-preserved g c).After-fold_file in
           let was : HasCleanDisk now.tables = omega (arith, c.fold_file.ensures.inside.crash.clean) in
-          let room = next_of_files g at was mode texts told records_of some most places rowids asks spare more has in
-          let took = taken_room g at clean mode texts told records_of some most spare more room in
-          room.leaves next (subst (λ (r : Result (Unit {0}) Refusal). OnOk r (HasRoomAt g.L.Layout.format most next (room.others + spare) (room.rest + more))) c.in_ok-fold_file.was took.1);
+          let room = next_of_files g at was mode texts told most places rowids asks spare more has in
+          let took = taken_room g at clean mode texts told most spare more room in
+          room.leaves next (subst (λ (r : Result (Unit {0}) Refusal). OnOk r (HasRoomAt most id next (room.others + spare) (room.rest + more))) c.in_ok-fold_file.was took.1);
       over = λ clean mode texts told version records_of p stands under_way.
           let conditions = conditions_of version setting in
           let was : HasCleanDisk now.tables = omega (arith, c.fold_file.ensures.inside.crash.clean) in
@@ -250,6 +259,18 @@ loop-index-preserved g c =
                 file_more _ index texts (so_far.1 texts told) text.0 text.2
                 (records_before setting.profile.now old.tables now.tables c.args.fold.now c.loop-index.fold same so_far.0 (split_of text.0).slices (took.1 text.0 text.1)),
           );
+      named = λ clean mode store texts told.
+          let was : HasCleanDisk now.tables = omega (arith, c.fold_file.ensures.inside.crash.clean) in
+          let passed = (c.loop-index.invariant.passes was mode store).0 in
+          let text = text_here g (goal.at.loop-index-preserved g c).After-fold_file texts told in
+          let fold = c.loop-index.fold in
+          let folded = c.fold_file.new.fold in
+          let took = subst (λ i. TakesNamed setting.profile.now i (split_of text.0).slices fold.progress.last fold.tally.records now.tables.now.trees folded.progress.last folded.tally.records next.tables.now.trees
+          × ((split_of text.0).fault ≡ None))
+          (same_id c.loop-index.invariant.on) (c.in_ok-fold_file.ensures.named clean (c.loop-index.invariant.on.stays was mode).mode passed.store text.0 text.1) in
+          files_further setting.profile.now id c.args.fold.now.progress.last c.args.fold.now.tally.records old.tables fold.progress.last fold.tally.records now.tables index texts
+          (c.loop-index.invariant.named was mode store texts told) passed text.0 text.2 folded.progress.last folded.tally.records next.tables.now.trees took;
+      most = λ few. c.in_ok-fold_file.ensures.most (c.loop-index.invariant.most few);
     }
 
 pub returns-clause-failed : goal.returns-clause-failed
@@ -338,3 +359,49 @@ returns-clause-elders g c clean mode store texts told =
 
 pub returns-clause-passes : goal.returns-clause-passes
 returns-clause-passes g c clean mode store = (c.loop-index.invariant.passes clean mode store).0
+
+-- ---- why the files are refused
+
+pub returns-in_err-fold_file-clause-reasons : goal.returns-in_err-fold_file-clause-reasons
+returns-in_err-fold_file-clause-reasons g c clean mode store texts told fine =
+    let setting = c.args.setting.now in
+    let first = c.args.fold.now in
+    let fold = c.loop-index.fold in
+    let index = c.loop-index.index in
+    let readers = c.loop-index.readers in
+    let at = (goal.at.returns-in_err-fold_file-clause-reasons g c).After-fold_file in
+    let now = state g.S.Store c.loop-index.tx.conn.now in
+    let was : HasCleanDisk now = omega (arith, c.fold_file.ensures.inside.crash.clean) in
+    let refusal = c.in_err-fold_file.field-0.0 in
+    let result : c.from_residual.result ≡ Err refusal = search rules in
+    let sound_one : g.R.Source.has_failed c.fold_file.new.reader ≡ false = fine_set g.R.Source.has_failed readers index c.fold_file.new.reader (omega (arith, c.loop-index-test.true, c.loop-index.auto.readers)) fine in
+    let text = text_here g at texts told in
+    let passed = (c.loop-index.invariant.passes was mode store).0 in
+    let so_far = c.loop-index.invariant.named was mode store texts told in
+    let refused = subst (λ i. IsDamageOrFailure refusal ⊎ IsRefusedIn setting.profile.now setting.kind setting.limits fold.progress.last fold.tally.records now.now.trees i (index + 1) (split_of text.0) refusal)
+    (same_id c.loop-index.invariant.on) (c.in_err-fold_file.ensures.reasons clean (c.loop-index.invariant.on.stays was mode).mode passed.store text.0 text.1 sound_one) in
+    err_so _ refusal c.from_residual.result result (elim refused [
+      | inl failing ↦ inr failing
+      | inr reason ↦ inl (file_refused_at setting.profile.now first.progress.database.0 first.progress.last first.tally.records (state g.S.Store c.args.tx.now.conn.now) fold.progress.last fold.tally.records
+          now index texts so_far passed text.0 text.2 setting.kind setting.limits refusal reason)
+    ])
+
+-- ---- what they lose
+
+pub returns-clause-named : goal.returns-clause-named
+returns-clause-named g c clean mode store texts told =
+    let first = c.args.fold.now in
+    let fold = c.loop-index.fold in
+    let many = as_many g.R.Source.remaining c.args.readers.now texts told in
+    files_taken c.args.setting.now.profile.now first.progress.database.0 first.progress.last first.tally.records (state g.S.Store c.args.tx.now.conn.now) fold.progress.last fold.tally.records
+    (state g.S.Store c.loop-index.tx.conn.now) c.loop-index.index texts (c.loop-index.invariant.named clean mode store texts told) (omega (arith, c.loop-index-test.false, c.loop-index.auto.readers, many))
+
+-- ---- no more than the limit are taken
+
+pub returns-clause-most : goal.returns-clause-most
+returns-clause-most g c = c.loop-index.invariant.most
+
+-- ---- the last number
+
+pub returns-in_err-fold_file-clause-lasts : goal.returns-in_err-fold_file-clause-lasts
+returns-in_err-fold_file-clause-lasts g c most below limit = c.fold_file.ensures.lasts most (c.loop-index.invariant.lasts most below limit) limit

@@ -14,6 +14,7 @@ use Rattle.zeb_change.proofs.FoldAll.{Over}
 use Rattle.zeb_change.proofs.FoldRoom.{FilesRoom, LeavesRoom}
 use Rattle.zeb_change.proofs.FoldsOn.{FoldsOn}
 use Rattle.zeb_change.proofs.FoldCosts.{RestCost, Spent}
+use Rattle.zeb_change.proofs.ReasonSteps.{FilesTaken}
 use Rattle.zeb_change.proofs.files.fold_readers.Given as goal
 
 abbrev pub invariant-loop-index : goal.invariant-loop-index
@@ -30,10 +31,11 @@ invariant-loop-index g l =
           → (over : Over g.L.Layout.format (conditions_of version l.setting) l.setting.kind l.index texts l.fn.fold.progress.database.0 records_of (files_folded (conditions_of version l.setting) l.setting.kind 1 (splits_of texts) p) old now l.fold)
           × Spent g.L.Layout.row_work (RestCost (conditions_of version l.setting) l.setting.kind l.index texts over.progress) (IsFilesCost (conditions_of version l.setting) l.setting.kind 1 (splits_of texts) p)
           l.fn.fold.progress.work l.fold.progress.work l.fn.pending l.pending;
+      lasts : (most : ℕ) → l.fn.fold.progress.last ≤ most → l.setting.limits.numbers ≤ most → l.fold.progress.last ≤ most;
       no_work : g.L.Layout.row_work ≡ 0 → l.fold.progress.work ≡ l.fn.fold.progress.work;
       room : HasCleanDisk now.tables → IsTrue old.tables.in_transaction → (texts : List (List ℕ)) → map g.R.Source.remaining l.fn.readers ≡ map Some texts
-          → LeavesRoom g.L.Layout.format l.setting.profile.now l.fn.fold old (λ most. AskFiles l.setting.profile.now l.setting.kind most (splits_of texts))
-          (FilesRoom g.L.Layout.format l.setting.profile.now l.setting.kind l.index texts now);
+          → LeavesRoom l.fn.fold.progress.database.0 old (λ most. AskFiles l.setting.profile.now l.setting.kind most (splits_of texts))
+          (λ most. FilesRoom l.setting.profile.now l.setting.kind l.index texts now most l.fn.fold.progress.database.0);
       elder : HasCleanDisk now.tables → IsTrue old.tables.in_transaction → IsStore old.tables → l.fn.fold.tally.records < l.setting.limits.records
           → (texts : List (List ℕ)) → map g.R.Source.remaining l.fn.readers ≡ map Some texts
           → FilesBegun l.setting.profile.now old.tables now.tables l.fn.fold l.fold l.index texts;
@@ -41,4 +43,8 @@ invariant-loop-index g l =
           → PassesOn l.setting.profile.now l.fn.fold.progress.database.0 l.fn.fold.progress.last l.fold.progress.last old.tables now.tables
           × ((texts : List (List ℕ)) → map g.R.Source.remaining l.fn.readers ≡ map Some texts
           → FilesRead (λ split. AreWholeBefore l.setting.profile.now l.fn.fold.progress.last old.tables.now.trees l.fn.fold.progress.database.0 split.slices) l.index texts);
+      named : HasCleanDisk now.tables → IsTrue old.tables.in_transaction → IsStore old.tables → (texts : List (List ℕ)) → map g.R.Source.remaining l.fn.readers ≡ map Some texts
+          → FilesTaken l.setting.profile.now l.fn.fold.progress.database.0 l.fn.fold.progress.last l.fn.fold.tally.records old.tables.now.trees l.fold.progress.last l.fold.tally.records now.tables.now.trees
+          l.index texts;
+      most : l.fn.fold.tally.records ≤ l.setting.limits.records → l.fold.tally.records ≤ l.setting.limits.records;
     }

@@ -11,6 +11,7 @@ use Rattle.zeb_change.proofs.FoldSteps.{too_many, folded_err, one_folded}
 use Rattle.zeb_change.proofs.NoDamage.{record_tells, refused_honest, taken_holds}
 use Rattle.zeb_change.proofs.RecordRoom.{refused_for}
 use Rattle.zeb_change.proofs.Elders.{passed_error}
+use Rattle.zeb_change.proofs.Reasons.{counted_one, err_so, many_refuses, one_taken}
 use Rattle.zeb_change.proofs.files.note_record.Goals as goal
 
 pub returns-then-fold-setting-clause-folded : goal.returns-then-fold-setting-clause-folded
@@ -67,14 +68,14 @@ returns-clause-honest g c clean mode format records_of some =
 -- ---- where there is room
 
 pub returns-in_err-fate-clause-room : goal.returns-in_err-fate-clause-room
-returns-in_err-fate-clause-room g c clean mode format records_of some most places rowids asks spare more has =
+returns-in_err-fate-clause-room g c clean mode most places rowids asks spare more has =
     let told : c.from_residual.result ≡ Err c.in_err-fate.field-0.0 = search rules in
     refused_for _ _ c.from_residual.result c.in_err-fate.field-0.0 told (λ store.
-    (c.in_err-fate.ensures.room clean mode format records_of some.0 some.2 tt most places rowids asks spare more has).0 (ap Err store))
+    (c.in_err-fate.ensures.room clean mode most places rowids asks spare more has).0 (ap Err store))
 
 pub returns-clause-room : goal.returns-clause-room
-returns-clause-room g c clean mode format records_of some most places rowids asks spare more has =
-    (λ store. absurd (cc), (c.in_ok-fate.ensures.room clean mode format records_of some.0 some.2 tt most places rowids asks spare more has).1)
+returns-clause-room g c clean mode most places rowids asks spare more has =
+    (λ store. absurd (cc), (c.in_ok-fate.ensures.room clean mode most places rowids asks spare more has).1)
 
 -- ---- what is kept under the record's identifier
 
@@ -96,3 +97,35 @@ returns-clause-passes g c clean mode store = (
   c.in_ok-fate.ensures.passes clean mode store,
   λ ident whole named sysno bytes there up. (c.in_ok-fate.ensures.elder clean mode store ident whole named).0 sysno bytes there,
 )
+
+-- ---- why it is refused
+
+pub returns-then-fold-setting-clause-reasons : goal.returns-then-fold-setting-clause-reasons
+returns-then-fold-setting-clause-reasons g c clean mode store =
+    let setting = c.args.setting.now in
+    let incoming = c.args.incoming in
+    many_refuses setting.profile.now setting.kind setting.limits c.args.fold.now.progress.last c.args.fold.now.tally.records (state g.S.Store c.args.tx.now.conn.now).now.trees c.args.fold.now.progress.database.0
+    incoming.file incoming.nth incoming.bytes.now (omega (arith, c.if-fold-setting.true))
+
+pub returns-in_err-fate-clause-reasons : goal.returns-in_err-fate-clause-reasons
+returns-in_err-fate-clause-reasons g c clean mode store =
+    let told : c.from_residual.result ≡ Err c.in_err-fate.field-0.0 = search rules in
+    err_so _ c.in_err-fate.field-0.0 c.from_residual.result told (c.in_err-fate.ensures.reasons clean mode store c.args.fold.now.tally.records
+    (omega (arith, c.if-fold-setting.false)))
+
+-- ---- what is lost
+
+pub returns-clause-named : goal.returns-clause-named
+returns-clause-named g c clean mode store =
+    let first = c.args.fold.now in
+    one_taken c.args.setting.now.profile.now first.progress.database.0 c.args.incoming.bytes.now first.progress.last first.tally.records (state g.S.Store c.args.tx.now.conn.now).now.trees
+    c.change_record.new.progress.last c.count.new.self.records (state g.S.Store c.change_record.new.tx.conn.now).now.trees c.change_record.ensures.next
+    (counted_one c.in_ok-fate.fate first.tally c.count.new.self c.count.ensures) c.in_ok-fate.ensures.sound (c.in_ok-fate.ensures.named clean mode store)
+    (λ ident whole named sysno bytes there up. (c.in_ok-fate.ensures.elder clean mode store ident whole named).0 sysno bytes there)
+
+-- ---- no more than the limit are taken
+
+pub returns-clause-most : goal.returns-clause-most
+returns-clause-most g c =
+    let one = counted_one c.in_ok-fate.fate c.args.fold.now.tally c.count.new.self c.count.ensures in
+    omega (arith, c.if-fold-setting.false, one)

@@ -1,9 +1,8 @@
-use Rattle.std.proofs.Common.{◌≡◌, ◌∙◌, ℤ, List, IsTrue, rules, arith, Result, Err, ap, subst, sym}
+use Rattle.std.proofs.Common.{◌≡◌, ◌∙◌, ℤ, List, IsTrue, rules, arith, [], ◌∷◌, Result, Err, inr, ap, subst, sym}
 use Rattle.sqlite.specs.Held.{state}
 use Rattle.sqlite.specs.State.{HasCleanDisk}
 use Rattle.zeb_register.specs.declared.registers.Work.{Work}
 use Rattle.zeb_register.proofs.Causes.{may_after}
-use Rattle.zeb_change.specs.Asked.{WritesInRoom}
 use Rattle.zeb_change.specs.declared.refusals.Refusal.TheVariants.{Damaged, Store}
 use Rattle.zeb_change.specs.Base.{Kept}
 use Rattle.zeb_change.specs.Folding.{Progress, record_folded}
@@ -20,7 +19,8 @@ use Rattle.zeb_change.proofs.TransactionLemmas.{continues_then}
 use Rattle.zeb_change.specs.declared.refusals.Refusal.{Refusal}
 use Rattle.zeb_change.specs.Elders.{FindsWhole}
 use Rattle.zeb_change.proofs.Elders.{is_so}
-use Rattle.zeb_change.proofs.KeptStill.{passes_same, passes_then}
+use Rattle.zeb_change.proofs.KeptStill.{beside_id, passes_same, passes_then}
+use Rattle.zeb_change.proofs.Reasons.{err_so, fault_fails_so, taken_written}
 use Rattle.zeb_change.proofs.files.take_record.Given as given
 use Rattle.zeb_change.proofs.files.take_record.Goals.{After-write_where_full}
 use Rattle.zeb_change.proofs.files.take_record.Goals as goal
@@ -121,40 +121,36 @@ returns-clause-work g c clean mode version records_of p stands under =
 -- ---- where there is room
 
 pub returns-in_err-note_record-clause-room : goal.returns-in_err-note_record-clause-room
-returns-in_err-note_record-clause-room g c clean mode records_of some most places rowids asks spare more has =
+returns-in_err-note_record-clause-room g c clean mode most places rowids asks spare more has =
     let result : c.from_residual.result ≡ Err c.in_err-note_record.field-0.0 = search rules in
     refused_for _ _ c.from_residual.result c.in_err-note_record.field-0.0 result (λ store.
-    (c.in_err-note_record.ensures.room clean mode g.L.Layout.format records_of some most places rowids asks spare more has).0 (ap Err store))
-
--- what the write of what is noted does with the room, by the name that the fold has of the database
-writes_in_room : (g : given.Over) (c : After-write_where_full g)
-    → WritesInRoom g.L.Layout.format c.args.fold.now.progress.database.0 (state g.S.Store c.note_record.new.tx.conn.now) (state g.S.Store c.write_where_full.new.tx.conn.now) c.note_record.new.pending
-    c.write_where_full.new.pending c.write_where_full.result
-writes_in_room g c =
-    subst (λ i. WritesInRoom g.L.Layout.format i (state g.S.Store c.note_record.new.tx.conn.now) (state g.S.Store c.write_where_full.new.tx.conn.now) c.note_record.new.pending
-    c.write_where_full.new.pending c.write_where_full.result) (ap (λ d. d.0) c.note_record.ensures.place.0) c.write_where_full.ensures.room
+    (c.in_err-note_record.ensures.room clean mode most places rowids asks spare more has).0 (ap Err store))
 
 pub returns-in_err-write_where_full-clause-room : goal.returns-in_err-write_where_full-clause-room
-returns-in_err-write_where_full-clause-room g c clean mode records_of some most places rowids asks spare more has =
+returns-in_err-write_where_full-clause-room g c clean mode most places rowids asks spare more has =
     let old = state g.S.Store c.args.tx.now.conn.now in
     let mid = state g.S.Store c.note_record.new.tx.conn.now in
     let new = state g.S.Store c.write_where_full.new.tx.conn.now in
     let fault = c.in_err-write_where_full.field-0.0 in
     let result : c.from_residual-in_err-write_where_full.result ≡ Err (register_refusal fault) = search rules in
-    let at = (goal.at.returns-in_err-write_where_full-clause-room g c).After-write_where_full in
-    let write = written g at clean mode records_of some in
-    let left = (c.in_ok-note_record.ensures.room write.was mode g.L.Layout.format records_of some most places rowids asks spare more has).1 in
-    let stays = c.in_ok-note_record.ensures.inside.stays write.was mode in
+    let was : HasCleanDisk mid = omega (arith, c.write_where_full.ensures.call.crash.clean) in
+    let left = (c.in_ok-note_record.ensures.room was mode most places rowids asks spare more has).1 in
+    let stays = c.in_ok-note_record.ensures.inside.stays was mode in
     refused_for _ _ c.from_residual-in_err-write_where_full.result (register_refusal fault) result (λ store.
     may_after old mid new c.note_record.ensures.inside.crash stays.stays_open (λ _.
-    write_caused write (writes_in_room g at) most spare more left (c.in_err-write_where_full.was ∙ ap Err (only_store fault store))))
+    write_caused mid new c.note_record.new.pending c.write_where_full.new.pending c.write_where_full.ensures.room most c.args.fold.now.progress.database.0 spare more left clean stays.mode (c.in_err-write_where_full.was ∙ ap Err (only_store fault store))))
 
 pub returns-clause-room : goal.returns-clause-room
-returns-clause-room g c clean mode records_of some most places rowids asks spare more has =
-    let at = (goal.at.returns-clause-room g c).After-write_where_full in
-    let write = written g at clean mode records_of some in
-    let left = (c.in_ok-note_record.ensures.room write.was mode g.L.Layout.format records_of some most places rowids asks spare more has).1 in
-    (λ store. absurd (not_refused tt Store store), write_left write (writes_in_room g at) most spare more left c.in_ok-write_where_full.was)
+returns-clause-room g c clean mode most places rowids asks spare more has =
+    let mid = state g.S.Store c.note_record.new.tx.conn.now in
+    let new = state g.S.Store c.write_where_full.new.tx.conn.now in
+    let was : HasCleanDisk mid = omega (arith, c.write_where_full.ensures.call.crash.clean) in
+    let left = (c.in_ok-note_record.ensures.room was mode most places rowids asks spare more has).1 in
+    let stays = c.in_ok-note_record.ensures.inside.stays was mode in
+    let writes = c.in_ok-write_where_full.ensures.call.written clean stays.mode left.store in (
+      λ store. absurd (not_refused tt Store store),
+      write_left mid new c.note_record.new.pending c.write_where_full.new.pending c.write_where_full.ensures.room most c.args.fold.now.progress.database.0 spare more left clean stays.mode writes.0 writes.1.2 c.in_ok-write_where_full.was,
+    )
 
 -- ---- what is kept under the record's identifier
 
@@ -190,4 +186,34 @@ returns-clause-passes g c clean mode store =
     let took = c.in_ok-note_record.ensures.passes was mode store in
     let writes = c.in_ok-write_where_full.ensures.call.written clean (c.in_ok-note_record.ensures.inside.stays was mode).mode took.0.store in
     let malformed = c.in_ok-write_where_full.ensures.malformed clean (c.in_ok-note_record.ensures.inside.stays was mode).mode took.0.store in
-    (passes_then profile id first last old mid took.0 last new (passes_same profile id last mid new writes.0 writes.1.2 malformed), took.1)
+    let beside = beside_id c.note_record.new.fold.progress.database.0 id mid.now.trees new.now.trees (ap (λ d. d.0) c.note_record.ensures.place.0)
+    (c.in_ok-write_where_full.ensures.beside clean (c.in_ok-note_record.ensures.inside.stays was mode).mode took.0.store) in
+    (passes_then profile id first last old mid took.0 last new (passes_same profile id last mid new writes.0 writes.1 beside malformed), took.1)
+
+-- ---- why it is refused
+
+pub returns-in_err-note_record-clause-reasons : goal.returns-in_err-note_record-clause-reasons
+returns-in_err-note_record-clause-reasons g c clean mode store =
+    let result : c.from_residual.result ≡ Err c.in_err-note_record.field-0.0 = search rules in
+    err_so _ c.in_err-note_record.field-0.0 c.from_residual.result result (c.in_err-note_record.ensures.reasons clean mode store)
+
+pub returns-in_err-write_where_full-clause-reasons : goal.returns-in_err-write_where_full-clause-reasons
+returns-in_err-write_where_full-clause-reasons g c clean mode store =
+    let fault = c.in_err-write_where_full.field-0.0 in
+    let result : c.from_residual-in_err-write_where_full.result ≡ Err (register_refusal fault) = search rules in
+    err_so _ (register_refusal fault) c.from_residual-in_err-write_where_full.result result (inr (fault_fails_so fault))
+
+-- ---- what is lost
+
+pub returns-clause-named : goal.returns-clause-named
+returns-clause-named g c clean mode store =
+    let first = c.args.fold.now in
+    let after = c.note_record.new.fold in
+    let old = state g.S.Store c.args.tx.now.conn.now in
+    let mid = state g.S.Store c.note_record.new.tx.conn.now in
+    let new = state g.S.Store c.write_where_full.new.tx.conn.now in
+    let was : HasCleanDisk mid = omega (arith, c.write_where_full.ensures.call.crash.clean) in
+    let passed = (c.in_ok-note_record.ensures.passes was mode store).0 in
+    let writes = c.in_ok-write_where_full.ensures.call.written clean (c.in_ok-note_record.ensures.inside.stays was mode).mode passed.store in
+    taken_written c.args.setting.now.profile.now first.progress.database.0 (c.args.incoming.bytes.now ∷ []) first.progress.last first.tally.records old.now.trees after.progress.last after.tally.records
+    mid.now.trees new.now.trees (c.in_ok-note_record.ensures.named was mode store) writes.1.2

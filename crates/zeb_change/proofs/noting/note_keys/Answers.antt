@@ -29,7 +29,7 @@ loop-changed-init c = record {
   leads = λ elder newer db behind before leads up was. subst (LeadsTo db c.args.pending.now behind) (sym (moved_none db c.args.sysno before)) leads;
   idle = λ none. refl;
   count = omega arith;
-  room = λ bound n elder newer low high storable fits among. subst (PutAmong bound c.args.pending.now.notes.entries) (let e : n ≡ n + 0 = omega arith in e) among;
+  room = λ bound n elder newer low high storable fit fits among. subst (PutAmong bound c.args.pending.now.notes.entries) (let e : n ≡ n + 0 = omega arith in e) among;
 }
 
 pub loop-changed-preserved : goal.loop-changed-preserved
@@ -61,15 +61,15 @@ loop-changed-preserved c =
           (change_is db (key_in item) sysno item.new.items now rising));
       idle = λ none. absurd (omega (arith, ap length none, length-append done (item ∷ [])));
       count = omega (arith, c.loop-changed.invariant.count, noted.count, length-append done (item ∷ []));
-      room = λ bound n elder newer low high storable fits among.
+      room = λ bound n elder newer low high storable fit fits among.
           let are = c.in_ok-changed_keys.ensures elder newer in
           let here : Contains all.items item = (length done, turn.0, sym turn.1) in
-          let so_far = c.loop-changed.invariant.room bound n elder newer low high storable fits among in
+          let so_far = c.loop-changed.invariant.room bound n elder newer low high storable fit fits among in
           let stored = storable_put c.args.elder.now c.args.newer.now all.items are item here sysno (low, high) storable in
-          let fit = fits_put c.args.elder.now c.args.newer.now all.items are item here bound fits in
+          let put = fits_put c.args.elder.now c.args.newer.now all.items are item here bound sysno fit fits in
           let more : n + places_put (done ++ item ∷ []) ≡ n + places_put done + rows_of ((sysno, item.new.items) ∷ []) =
           omega (arith, sum_by_push (λ (d : ChangedKey). length d.new.items) done item) in
-          subst (PutAmong bound c.note.new.self.notes.entries) (sym more) (noted.puts bound (n + places_put done) stored fit so_far);
+          subst (PutAmong bound c.note.new.self.notes.entries) (sym more) (noted.puts bound (n + places_put done) stored put so_far);
     }
 
 pub returns-clause-moved : goal.returns-clause-moved
@@ -85,7 +85,7 @@ returns-clause-moved c elder newer db behind before after leads up was reposted 
     subst (LeadsTo db c.loop-changed.pending behind) (ap (λ (l : List ChangedKey). moved db sysno l before) all ∙ one_reposted db sysno c.args.newer.now before _ after is reposted) held
 
 pub returns-clause-room : goal.returns-clause-room
-returns-clause-room c bound n elder newer low high storable fits among =
+returns-clause-room c bound n elder newer low high storable fit fits among =
     let items = c.in_ok-changed_keys.changed_keys in
     let gives = c.into_iter-changed-iterator.ensures.into_iter_gives in
     let chain = YieldsList-from_vec {s = c.into_iter-changed-iterator.result} items.items gives.0 (gives.1 ∙ items.ok.0) in
@@ -94,7 +94,7 @@ returns-clause-room c bound n elder newer low high storable fits among =
     let few = few_put c.args.elder.now c.args.newer.now items.items (c.in_ok-changed_keys.ensures elder newer) in (
       places_put done,
       subst (λ l. places_put l ≤ length c.args.newer.now) (sym all) few,
-      c.loop-changed.invariant.room bound n elder newer low high storable fits among,
+      c.loop-changed.invariant.room bound n elder newer low high storable fit fits among,
     )
 
 pub returns-clause-idle : goal.returns-clause-idle

@@ -1,4 +1,4 @@
-use Rattle.std.proofs.Common.{◌≡◌, ◌⊎◌, ◌+◌, ◌<◌, ◌≤◌, ◌^◌, ℕ, ℤ, [], length}
+use Rattle.std.proofs.Common.{◌≡◌, ◌+◌, ◌<◌, ◌≤◌, ◌^◌, ℕ, ℤ, [], length}
 use Rattle.std.specs.List.{Contains}
 use Rattle.zeb_keys.specs.declared.keys.Occurrence.{Occurrence}
 use Rattle.zeb_register.specs.Room.{FitInRow}
@@ -18,6 +18,6 @@ invariant-loop-changed l = record {
   idle : l.yielded ≡ [] → l.pending ≡ l.fn.pending;
   count : noted_count l.pending ≡ noted_count l.fn.pending + length l.yielded;
   room : (bound n : ℕ) → IsRising l.elder → IsRising l.newer → 1 ≤ l.sysno → l.sysno < 2 ^ 63 → ((o : Occurrence) → Contains l.newer o → IsStorableOccurrence o)
-      → ((o : Occurrence) → Contains l.elder o ⊎ Contains l.newer o → FitInRow bound o.key) → PutAmong bound l.fn.pending.notes.entries n
+      → ((o : Occurrence) → Contains l.elder o → FitInRow 0 o.key) → ((o : Occurrence) → Contains l.newer o → FitInRow bound o.key) → PutAmong bound l.fn.pending.notes.entries n
       → PutAmong bound l.pending.notes.entries (n + places_put l.yielded);
 }

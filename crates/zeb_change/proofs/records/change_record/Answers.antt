@@ -1,4 +1,5 @@
-use Rattle.std.proofs.Common.{◌≡◌, ◌≢◌, ◌↔◌, ◌+◌, ◌∙◌, rules, arith, ℕ, ℤ, IsTrue, List, [], Option, Some, None, Result, Ok, Err, OnOk, inl, inr, refl, ap, sym, subst}
+mod Found
+use Rattle.std.proofs.Common.{◌≡◌, ◌≢◌, ◌↔◌, ◌+◌, ◌∙◌, rules, arith, ℕ, ℤ, IsTrue, List, [], ◌∷◌, Option, Some, None, Result, Ok, Err, OnOk, inl, inr, refl, ap, sym, subst}
 use Rattle.std.specs.List.{Contains}
 use Rattle.sqlite.specs.Held.{state}
 use Rattle.sqlite.specs.State.{HasCleanDisk}
@@ -14,37 +15,33 @@ use Rattle.zeb_change.specs.declared.settings.Kind.{Kind}
 use Rattle.zeb_change.specs.declared.settings.Kind.TheVariants.{Update, Delete, Adelete}
 use Rattle.zeb_change.specs.declared.tally.Fate.{Fate}
 use Rattle.zeb_change.specs.declared.tally.Fate.TheVariants.{PassedOver, Updated}
-use Rattle.zeb_change.specs.Refused.{Why, unknown, Meets}
+use Rattle.zeb_change.specs.Refused.{Why, unknown}
 use Rattle.zeb_change.specs.declared.pending.Pending.{Pending}
 use Rattle.zeb_change.specs.declared.refusals.Refusal.{Refusal}
-use Rattle.zeb_change.specs.Folding.{Changed, changed_by, changed_record, deleted, ident_in, updated}
+use Rattle.zeb_change.specs.Folding.{Changed, changed_record, deleted, updated}
 use Rattle.zeb_change.specs.Base.{Base, Kept, kept_as}
 use Rattle.zeb_change.specs.Outcomes.{register_refusal}
-use Rattle.zeb_change.specs.PrivateRecords.{GoesBy, IsNewer, IsElderAs, IsWholeElder, NotesAs, Takes, elder_bytes}
+use Rattle.zeb_change.specs.PrivateRecords.{IsNewer, IsElderAs, NotesAs, elder_bytes}
 use Rattle.zeb_change.specs.PrivateStanding.{Standing, WillBe, WillBeTaken, standing}
 use Rattle.zeb_change.specs.UnderWay.{conditions_of}
 use Rattle.zeb_change.specs.Costs.{IsCostIn, IsRecordCost, newer_of, occurs_by}
 use Rattle.zeb_change.specs.Noted.{noted_count}
 use Rattle.zeb_change.proofs.CostLemmas.{cost_in, same_cost, ok_so}
-use Rattle.zeb_change.proofs.BaseLemmas.{one_ident}
-use Rattle.zeb_change.proofs.FoldLemmas.{named_record}
 use Rattle.zeb_change.proofs.EqualReplacements.{elder_alike, updated_alike}
 use Rattle.zeb_change.specs.Asked.{AsksRecord}
 use Rattle.zeb_change.specs.PrivateAsked.{HasRoomAt, KeepsRoom, TakesRoom}
 use Rattle.zeb_change.proofs.RecordRoom.{only_store, refused_for, room_after_reading, room_enough, room_seen}
-use Rattle.zeb_change.proofs.StoredLemmas.{elder_is, are_numbered}
-use Rattle.zeb_change.proofs.TurnLemmas.{passed_on, turned_so, passed_over}
+use Rattle.zeb_change.proofs.StoredLemmas.{are_numbered}
+use Rattle.zeb_change.proofs.TurnLemmas.{passed_on, turned_so}
 use Rattle.zeb_change.proofs.UnderWay.{fault_fails, same_way}
-use Rattle.zeb_register.specs.Store.{IsStore}
+use Rattle.zeb_register.specs.Store.{records_tree}
 use Rattle.zeb_change.specs.declared.refusals.Refusal.TheVariants.{Memory, Store, Unknown}
-use Rattle.zeb_change.specs.Elders.{KeepsWhole, PassesOn}
-use Rattle.zeb_change.specs.PrivateElders.{KeepsOtherRecords}
-use Rattle.zeb_change.proofs.Elders.{alike_whole, by_name, failed_so, fault_so, kept_numbered, never_refused, no_base, so_undamaged}
+use Rattle.zeb_change.proofs.Elders.{alike_whole, failed_so, fault_so, kept_numbered, never_refused, no_base, so_undamaged}
 use Rattle.sqlite.specs.Effect.{Database}
-use Rattle.sqlite.specs.State.{State}
 use Rattle.zeb_register.specs.Kept.{IsElderOf}
-use Rattle.zeb_register.proofs.Calls.{store_same}
-use Rattle.zeb_change.proofs.KeptStill.{keeps_from, passes_by, passes_seen}
+use Rattle.zeb_change.specs.PrivateReasons.{IsDamageOrFailure}
+use Rattle.zeb_change.proofs.Reasons.{err_more, err_so, fault_fails_so, fault_refuses, full_refuses, loses_none, ok_always, unknown_refuses}
+use Rattle.zeb_change.proofs.records.change_record.Answers.Found.{named, sound, elder_found, said_by, passes, withdrawn, goes_by, stands, passes_on, passes_over, loses}
 use Rattle.zeb_change.proofs.records.change_record.Given as given
 use Rattle.zeb_change.proofs.records.change_record.Goals.{In_ok-elder}
 use Rattle.zeb_change.proofs.records.change_record.Goals as goal
@@ -62,48 +59,6 @@ returns-in_err-elder-clause-taken g c clean mode version format records_of base 
     passed_on {A = Changed} (WillBeTaken format setting.profile.now c.args.progress.now.database.0 records_of (standing old c.args.pending.now) (standing mid c.args.pending.now) c.args.progress.now.last)
     (changed_record (conditions_of version setting) setting.kind c.args.incoming.file c.args.incoming.nth c.args.incoming.bytes.now base)
     c.from_residual-in_err-elder.result (register_refusal failed) told (fault_fails failed sound)
-
--- ---- what was found of the record
-
--- its identifier
-named : (g : given.Over) (c : In_ok-elder g) → ident_in c.args.setting.now.profile.now c.args.incoming.bytes.now ≡ Ok c.as_str-ident.result.now
-named g c = c.in_ok-record.ensures.named ∙ ap Ok (sym c.as_str-ident.ensures.value)
-
--- its elder
-elder_found : (g : given.Over) (c : In_ok-elder g) → HasCleanDisk (state g.S.Store c.record_of_ident.new.tx.conn.now) → IsTrue (state g.S.Store c.args.tx.now.conn.now).in_transaction
-    → (format : Format) (records_of : ℤ → List Kept) (base : Base)
-    → WillBe format c.args.setting.now.profile.now c.args.progress.now.database.0 records_of (standing (state g.S.Store c.args.tx.now.conn.now) c.args.pending.now) base
-    → IsElderAs c.as_str-ident.result.now base c.in_ok-elder.elder
-elder_found g c clean mode format records_of base under =
-    elder_is c.args.progress.now.database.0 records_of (state g.S.Store c.args.tx.now.conn.now).now.trees base under.1.kept c.as_str-ident.result.now
-    (one_ident c.args.setting.now.profile.now base under.2) c.in_ok-elder.elder (c.in_ok-elder.ensures.value clean mode under.0)
-
--- what the definition says of it, by the kind of the change
-said_by : (g : given.Over) (c : In_ok-elder g) (version : List ℕ) (base : Base) (kind : Kind) → c.args.setting.now.kind ≡ kind
-    → changed_record (conditions_of version c.args.setting.now) c.args.setting.now.kind c.args.incoming.file c.args.incoming.nth c.args.incoming.bytes.now base
-    ≡ changed_by (conditions_of version c.args.setting.now) kind c.args.incoming.file c.args.incoming.nth c.args.incoming.bytes.now c.as_str-ident.result.now base
-said_by g c version base kind is =
-    let conditions = conditions_of version c.args.setting.now in
-    let incoming = c.args.incoming in
-    ap (λ (k : Kind). changed_record conditions k incoming.file incoming.nth incoming.bytes.now base) is
-    ∙ named_record conditions kind incoming.file incoming.nth incoming.bytes.now base c.as_str-ident.result.now c.in_ok-record.ensures.whole.sound (named g c)
-
--- nothing becomes of it
-passes : (g : given.Over) (c : In_ok-elder g) → HasCleanDisk (state g.S.Store c.record_of_ident.new.tx.conn.now) → IsTrue (state g.S.Store c.args.tx.now.conn.now).in_transaction
-    → (version : List ℕ) (format : Format) (records_of : ℤ → List Kept) (base : Base) → c.args.progress.now.last ≡ base.last
-    → WillBe format c.args.setting.now.profile.now c.args.progress.now.database.0 records_of (standing (state g.S.Store c.args.tx.now.conn.now) c.args.pending.now) base
-    → (fate : Fate)
-    → changed_record (conditions_of version c.args.setting.now) c.args.setting.now.kind c.args.incoming.file c.args.incoming.nth c.args.incoming.bytes.now base ≡ Ok (base, fate)
-    → Meets (WillBeTaken format c.args.setting.now.profile.now c.args.progress.now.database.0 records_of (standing (state g.S.Store c.args.tx.now.conn.now) c.args.pending.now)
-    (standing (state g.S.Store c.record_of_ident.new.tx.conn.now) c.args.pending.now) c.args.progress.now.last)
-    (changed_record (conditions_of version c.args.setting.now) c.args.setting.now.kind c.args.incoming.file c.args.incoming.nth c.args.incoming.bytes.now base) (Ok fate)
-passes g c clean mode version format records_of base last under fate said =
-    let old = state g.S.Store c.args.tx.now.conn.now in
-    let mid = state g.S.Store c.record_of_ident.new.tx.conn.now in
-    let profile = c.args.setting.now.profile.now in
-    let id = c.args.progress.now.database.0 in
-    subst (λ (x : Result Changed Why). Meets (WillBeTaken format profile id records_of (standing old c.args.pending.now) (standing mid c.args.pending.now) c.args.progress.now.last) x (Ok fate)) (sym said)
-    (passed_over format profile id records_of old mid c.args.pending.now c.args.progress.now.last base fate (c.in_ok-elder.ensures.call.ok clean mode).now_is last under)
 
 -- ---- what an update takes up
 
@@ -142,31 +97,6 @@ returns-in-Update-default-clause-taken g c clean mode version format records_of 
     (said_by g found version base Update c.in-Update-default.is-0) met
 
 -- ---- what is withdrawn
-
--- its elder goes, as the definition says of the kind of the change
-withdrawn : (g : given.Over) (c : In_ok-elder g) → HasCleanDisk (state g.S.Store c.record_of_ident.new.tx.conn.now) → IsTrue (state g.S.Store c.args.tx.now.conn.now).in_transaction
-    → (version : List ℕ) (format : Format) (records_of : ℤ → List Kept) (base : Base) → c.args.progress.now.last ≡ base.last
-    → WillBe format c.args.setting.now.profile.now c.args.progress.now.database.0 records_of (standing (state g.S.Store c.args.tx.now.conn.now) c.args.pending.now) base
-    → (elder : Elder) → c.in_ok-elder.elder ≡ Some elder → (new : Standing) (result : Result Fate Refusal) (absent : Result Changed Why)
-    → (IsTrue (state g.S.Store c.record_of_ident.new.tx.conn.now).in_transaction
-    → Takes c.args.setting.now.profile.now c.args.progress.now.database.0 (standing (state g.S.Store c.record_of_ident.new.tx.conn.now) c.args.pending.now) new c.args.progress.now.last
-    c.args.progress.now.last (λ b. IsElderAs c.as_str-ident.result.now b (Some elder)) (λ b. deleted absent c.as_str-ident.result.now b (kept_as c.as_str-ident.result.now b)) result)
-    → changed_record (conditions_of version c.args.setting.now) c.args.setting.now.kind c.args.incoming.file c.args.incoming.nth c.args.incoming.bytes.now base
-    ≡ deleted absent c.as_str-ident.result.now base (kept_as c.as_str-ident.result.now base)
-    → Meets (WillBeTaken format c.args.setting.now.profile.now c.args.progress.now.database.0 records_of (standing (state g.S.Store c.args.tx.now.conn.now) c.args.pending.now) new
-    c.args.progress.now.last)
-    (changed_record (conditions_of version c.args.setting.now) c.args.setting.now.kind c.args.incoming.file c.args.incoming.nth c.args.incoming.bytes.now base) result
-withdrawn g c clean mode version format records_of base last under elder is new result absent takes said =
-    let old = state g.S.Store c.args.tx.now.conn.now in
-    let mid = state g.S.Store c.record_of_ident.new.tx.conn.now in
-    let setting = c.args.setting.now in
-    let id = c.args.progress.now.database.0 in
-    let ident = c.as_str-ident.result.now in
-    let reads = c.in_ok-elder.ensures.call.ok clean mode in
-    let there = subst (λ (e : Option Elder). IsElderAs ident base e) is (elder_found g c clean mode format records_of base under) in
-    let met = takes reads.mode format records_of base last (same_way format setting.profile.now id records_of old mid c.args.pending.now base reads.now_is under) there in
-    turned_so format setting.profile.now id records_of old mid c.args.pending.now new c.args.progress.now.last (deleted absent ident base (kept_as ident base))
-    (changed_record (conditions_of version setting) setting.kind c.args.incoming.file c.args.incoming.nth c.args.incoming.bytes.now base) result reads.now_is said met
 
 pub returns-in-Delete-Some-clause-taken : goal.returns-in-Delete-Some-clause-taken
 returns-in-Delete-Some-clause-taken g c clean mode version format records_of base last under =
@@ -283,70 +213,69 @@ returns-then-has_bytes-clause-cost g c clean mode format records_of base under =
 -- ---- where there is room
 
 pub returns-in_err-elder-clause-room : goal.returns-in_err-elder-clause-room
-returns-in_err-elder-clause-room g c clean mode format records_of base under fits most places rowids asks spare more has =
+returns-in_err-elder-clause-room g c clean mode most places rowids asks spare more has =
     let fault = c.in_err-elder.field-0.0 in
     let told : c.from_residual-in_err-elder.result ≡ Err (register_refusal fault) = search rules in
     refused_for _ _ c.from_residual-in_err-elder.result (register_refusal fault) told (λ store.
-    c.in_err-elder.ensures.refused clean mode under.0 (ap Err (only_store fault store)))
+    c.in_err-elder.ensures.refused clean mode has.store (ap Err (only_store fault store)))
 
 -- nothing becomes of the record
 idle_room : (g : given.Over) (c : In_ok-elder g) → HasCleanDisk (state g.S.Store c.record_of_ident.new.tx.conn.now) → IsTrue (state g.S.Store c.args.tx.now.conn.now).in_transaction
-    → (format : Format) (most places rowids spare more : ℕ) → HasRoomAt format most (standing (state g.S.Store c.args.tx.now.conn.now) c.args.pending.now) (places + spare) (rowids + more)
-    → HasRoomAt format most (standing (state g.S.Store c.record_of_ident.new.tx.conn.now) c.args.pending.now) spare more
-idle_room g c clean mode format most places rowids spare more has =
+    → (most places rowids spare more : ℕ) → HasRoomAt most c.args.progress.now.database.0 (standing (state g.S.Store c.args.tx.now.conn.now) c.args.pending.now) (places + spare) (rowids + more)
+    → HasRoomAt most c.args.progress.now.database.0 (standing (state g.S.Store c.record_of_ident.new.tx.conn.now) c.args.pending.now) spare more
+idle_room g c clean mode most places rowids spare more has =
     let old = state g.S.Store c.args.tx.now.conn.now in
-    room_seen format most old (state g.S.Store c.record_of_ident.new.tx.conn.now) c.args.pending.now spare more (c.in_ok-elder.ensures.call.ok clean mode).now_is
-    (room_enough format most (standing old c.args.pending.now) places rowids spare more has)
+    let db = c.args.progress.now.database.0 in
+    room_seen most db old (state g.S.Store c.record_of_ident.new.tx.conn.now) c.args.pending.now spare more (c.in_ok-elder.ensures.call.ok clean mode).now_is
+    (room_enough most db (standing old c.args.pending.now) places rowids spare more has)
 
 pub returns-then-has_bytes-clause-room : goal.returns-then-has_bytes-clause-room
-returns-then-has_bytes-clause-room g c clean mode format records_of base under fits most places rowids asks spare more has =
-    (λ store. absurd (cc), idle_room g (goal.at.returns-then-has_bytes-clause-room g c).In_ok-elder clean mode format most places rowids spare more has)
+returns-then-has_bytes-clause-room g c clean mode most places rowids asks spare more has =
+    (λ store. absurd (cc), idle_room g (goal.at.returns-then-has_bytes-clause-room g c).In_ok-elder clean mode most places rowids spare more has)
 
 pub returns-clause-room : goal.returns-clause-room
-returns-clause-room g c clean mode format records_of base under fits most places rowids asks spare more has =
-    (λ store. absurd (cc), idle_room g (goal.at.returns-clause-room g c).In_ok-elder clean mode format most places rowids spare more has)
+returns-clause-room g c clean mode most places rowids asks spare more has =
+    (λ store. absurd (cc), idle_room g (goal.at.returns-clause-room g c).In_ok-elder clean mode most places rowids spare more has)
 
 -- what is done with it, behind the look at its elder
 turned_room : (g : given.Over) (c : In_ok-elder g) → HasCleanDisk (state g.S.Store c.record_of_ident.new.tx.conn.now) → IsTrue (state g.S.Store c.args.tx.now.conn.now).in_transaction
-    → (format : Format) (records_of : ℤ → List Kept) (base : Base)
-    → WillBe format c.args.setting.now.profile.now c.args.progress.now.database.0 records_of (standing (state g.S.Store c.args.tx.now.conn.now) c.args.pending.now) base
     → (elder : Option Elder) → c.in_ok-elder.elder ≡ elder → (newer : Option (List ℕ)) → newer_of c.args.setting.now.kind c.args.incoming.bytes.now ≡ newer → (new : Standing) (result : Result Fate Refusal)
     → (IsTrue (state g.S.Store c.record_of_ident.new.tx.conn.now).in_transaction
-    → TakesRoom c.args.setting.now.profile.now c.args.progress.now.database.0 (standing (state g.S.Store c.record_of_ident.new.tx.conn.now) c.args.pending.now) new
-    (λ b. IsElderAs c.as_str-ident.result.now b elder) newer result)
+    → IsElderOf (state g.S.Store c.record_of_ident.new.tx.conn.now).now.trees c.args.progress.now.database.0 c.as_str-ident.result.now elder
+    → TakesRoom c.args.setting.now.profile.now c.args.progress.now.database.0 (standing (state g.S.Store c.record_of_ident.new.tx.conn.now) c.args.pending.now) new newer result)
     → (most places rowids : ℕ) → AsksRecord c.args.setting.now.profile.now most (newer_of c.args.setting.now.kind c.args.incoming.bytes.now) places rowids
-    → KeepsRoom format most places rowids (standing (state g.S.Store c.args.tx.now.conn.now) c.args.pending.now) new result
-turned_room g c clean mode format records_of base under elder is newer kind new result takes most places rowids asks =
+    → KeepsRoom c.args.progress.now.database.0 most places rowids (standing (state g.S.Store c.args.tx.now.conn.now) c.args.pending.now) new result
+turned_room g c clean mode elder is newer kind new result takes most places rowids asks spare more has =
     let old = state g.S.Store c.args.tx.now.conn.now in
     let mid = state g.S.Store c.record_of_ident.new.tx.conn.now in
-    let profile = c.args.setting.now.profile.now in
-    let id = c.args.progress.now.database.0 in
+    let db = c.args.progress.now.database.0 in
+    let ident = c.as_str-ident.result.now in
     let reads = c.in_ok-elder.ensures.call.ok clean mode in
-    let there = subst (λ (e : Option Elder). IsElderAs c.as_str-ident.result.now base e) is (elder_found g c clean mode format records_of base under) in
-    let asked = subst (λ (bytes : Option (List ℕ)). AsksRecord profile most bytes places rowids) kind asks in
-    room_after_reading format most places rowids old mid c.args.pending.now new result reads c.record_of_ident.ensures.call.crash
-    (takes reads.mode format records_of base (same_way format profile id records_of old mid c.args.pending.now base reads.now_is under) there most places rowids asked)
+    let there = subst (λ (e : Option Elder). IsElderOf old.now.trees db ident e) is (c.in_ok-elder.ensures.value clean mode has.store) in
+    let seen = subst (λ (d : Database). IsElderOf d.trees db ident elder) (sym reads.now_is) there in
+    let asked = subst (λ (bytes : Option (List ℕ)). AsksRecord c.args.setting.now.profile.now most bytes places rowids) kind asks in
+    room_after_reading most db places rowids old mid c.args.pending.now new result reads c.record_of_ident.ensures.call.crash (takes reads.mode seen most places rowids asked) spare more has
 
 pub returns-in-Update-default-clause-room : goal.returns-in-Update-default-clause-room
-returns-in-Update-default-clause-room g c clean mode format records_of base under fits =
+returns-in-Update-default-clause-room g c clean mode =
     let clean_mid : HasCleanDisk (state g.S.Store c.record_of_ident.new.tx.conn.now) = omega (arith, c.keep.ensures.inside.crash.clean) in
-    turned_room g (goal.at.returns-in-Update-default-clause-room g c).In_ok-elder clean_mid mode format records_of base under c.in_ok-elder.elder refl (Some c.args.incoming.bytes.now)
+    turned_room g (goal.at.returns-in-Update-default-clause-room g c).In_ok-elder clean_mid mode c.in_ok-elder.elder refl (Some c.args.incoming.bytes.now)
     (ap (λ (k : Kind). newer_of k c.args.incoming.bytes.now) c.in-Update-default.is-0) (standing (state g.S.Store c.keep.new.tx.conn.now) c.keep.new.pending) c.keep.result
-    (λ on. c.keep.ensures.room clean on (newer_found g c))
+    (λ on found. c.keep.ensures.room clean on (newer_found g c) found)
 
 pub returns-in-Delete-Some-clause-room : goal.returns-in-Delete-Some-clause-room
-returns-in-Delete-Some-clause-room g c clean mode format records_of base under fits =
+returns-in-Delete-Some-clause-room g c clean mode =
     let clean_mid : HasCleanDisk (state g.S.Store c.record_of_ident.new.tx.conn.now) = omega (arith, c.withdraw.ensures.inside.crash.clean) in
-    turned_room g (goal.at.returns-in-Delete-Some-clause-room g c).In_ok-elder clean_mid mode format records_of base under (Some c.in-Delete-Some.elder) c.in-Delete-Some.is-1 None
+    turned_room g (goal.at.returns-in-Delete-Some-clause-room g c).In_ok-elder clean_mid mode (Some c.in-Delete-Some.elder) c.in-Delete-Some.is-1 None
     (ap (λ (k : Kind). newer_of k c.args.incoming.bytes.now) c.in-Delete-Some.is-0) (standing (state g.S.Store c.withdraw.new.tx.conn.now) c.withdraw.new.pending) c.withdraw.result
-    (λ on. c.withdraw.ensures.room clean on)
+    (λ on found. c.withdraw.ensures.room clean on found)
 
 pub returns-in-Adelete-Some-clause-room : goal.returns-in-Adelete-Some-clause-room
-returns-in-Adelete-Some-clause-room g c clean mode format records_of base under fits =
+returns-in-Adelete-Some-clause-room g c clean mode =
     let clean_mid : HasCleanDisk (state g.S.Store c.record_of_ident.new.tx.conn.now) = omega (arith, c.withdraw-in-Adelete-Some.ensures.inside.crash.clean) in
-    turned_room g (goal.at.returns-in-Adelete-Some-clause-room g c).In_ok-elder clean_mid mode format records_of base under (Some c.in-Adelete-Some.elder) c.in-Adelete-Some.is-1 None
+    turned_room g (goal.at.returns-in-Adelete-Some-clause-room g c).In_ok-elder clean_mid mode (Some c.in-Adelete-Some.elder) c.in-Adelete-Some.is-1 None
     (ap (λ (k : Kind). newer_of k c.args.incoming.bytes.now) c.in-Adelete-Some.is-0) (standing (state g.S.Store c.withdraw-in-Adelete-Some.new.tx.conn.now) c.withdraw-in-Adelete-Some.new.pending)
-    c.withdraw-in-Adelete-Some.result (λ on. c.withdraw-in-Adelete-Some.ensures.room clean on)
+    c.withdraw-in-Adelete-Some.result (λ on found. c.withdraw-in-Adelete-Some.ensures.room clean on found)
 
 -- ---- what is kept under the record's identifier, whatever the tables' rows are
 
@@ -364,15 +293,6 @@ returns-in_err-elder-clause-elder g c clean mode store ident whole named_so =
     let told : c.from_residual-in_err-elder.result ≡ Err (register_refusal fault) = search rules in
     fault_so _ fault c.from_residual-in_err-elder.result told (λ is kept. c.in_err-elder.ensures.honest clean mode store (ap Err is)
     (kept_numbered c.args.setting.now.profile.now (state g.S.Store c.args.tx.now.conn.now).now.trees c.args.progress.now.database.0 c.args.incoming.bytes.now c.as_str-ident.result.now ident (c.in_ok-record.ensures.named ∙ ap Ok (sym c.as_str-ident.ensures.value)) named_so kept))
-
--- what is done goes by the elder, and so by what is kept
-goes_by : (g : given.Over) (c : In_ok-elder g) → HasCleanDisk (state g.S.Store c.record_of_ident.new.tx.conn.now) → IsTrue (state g.S.Store c.args.tx.now.conn.now).in_transaction
-    → IsStore (state g.S.Store c.args.tx.now.conn.now) → (ident : List ℕ) → ident_in c.args.setting.now.profile.now c.args.incoming.bytes.now ≡ Ok ident
-    → (found : Option Elder) → c.in_ok-elder.elder ≡ found → (result : Result Fate Refusal) → GoesBy (IsWholeElder c.args.setting.now.profile.now c.as_str-ident.result.now found) result
-    → GoesBy (KeepsWhole c.args.setting.now.profile.now (state g.S.Store c.args.tx.now.conn.now).now.trees c.args.progress.now.database.0 ident) result
-goes_by g c clean mode store ident named_so found is result goes =
-    by_name c.args.setting.now.profile.now (state g.S.Store c.args.tx.now.conn.now) store c.args.progress.now.database.0 c.args.incoming.bytes.now c.as_str-ident.result.now ident
-    (named g c) named_so c.in_ok-elder.elder found is (c.in_ok-elder.ensures.value clean mode store) result goes
 
 pub returns-then-has_bytes-clause-elder : goal.returns-then-has_bytes-clause-elder
 returns-then-has_bytes-clause-elder g c clean mode store ident whole named_so =
@@ -422,12 +342,6 @@ returns-in_err-elder-clause-stored g c clean mode store ident whole named is =
     let failed : register_refusal fault ≡ Store = cc in
     inr (c.in_err-elder.ensures.refused clean mode store (ap Err (only_store fault failed)))
 
-stands : (g : given.Over) (c : In_ok-elder g) → HasCleanDisk (state g.S.Store c.record_of_ident.new.tx.conn.now) → IsTrue (state g.S.Store c.args.tx.now.conn.now).in_transaction
-    → IsStore (state g.S.Store c.args.tx.now.conn.now) → (ident : List ℕ) → ident_in c.args.setting.now.profile.now c.args.incoming.bytes.now ≡ Ok ident
-    → (found : Option Elder) → c.in_ok-elder.elder ≡ found → IsWholeElder c.args.setting.now.profile.now c.as_str-ident.result.now found
-    → KeepsWhole c.args.setting.now.profile.now (state g.S.Store c.args.tx.now.conn.now).now.trees c.args.progress.now.database.0 ident
-stands g c clean mode store ident named_so found is whole = (goes_by g c clean mode store ident named_so found is (Ok Updated) (so_undamaged _ _ whole (λ is. cc))).0
-
 pub returns-in-Update-default-clause-stored : goal.returns-in-Update-default-clause-stored
 returns-in-Update-default-clause-stored g c clean mode store ident whole named_so is =
     inl (stands g (goal.at.returns-in-Update-default-clause-stored g c).In_ok-elder (omega (arith, c.keep.ensures.inside.crash.clean)) mode store ident named_so c.in_ok-elder.elder refl (c.keep.ensures.stored is))
@@ -441,35 +355,6 @@ returns-in-Adelete-Some-clause-stored g c clean mode store ident whole named_so 
     inl (stands g (goal.at.returns-in-Adelete-Some-clause-stored g c).In_ok-elder (omega (arith, c.withdraw-in-Adelete-Some.ensures.inside.crash.clean)) mode store ident named_so (Some c.in-Adelete-Some.elder) c.in-Adelete-Some.is-1 (c.withdraw-in-Adelete-Some.ensures.stored is))
 
 -- ---- what is kept still, whatever the tables' rows are
-
--- the record that goes by its elder
-passes_on : (g : given.Over) (c : In_ok-elder g) → HasCleanDisk (state g.S.Store c.record_of_ident.new.tx.conn.now) → IsTrue (state g.S.Store c.args.tx.now.conn.now).in_transaction
-    → IsStore (state g.S.Store c.args.tx.now.conn.now) → (found : Option Elder) → c.in_ok-elder.elder ≡ found → (result : Result Fate Refusal)
-    → GoesBy (IsWholeElder c.args.setting.now.profile.now c.as_str-ident.result.now found) result → (after : ℕ) (new : State)
-    → (IsTrue (state g.S.Store c.record_of_ident.new.tx.conn.now).in_transaction → IsStore (state g.S.Store c.record_of_ident.new.tx.conn.now)
-    → IsElderOf (state g.S.Store c.record_of_ident.new.tx.conn.now).now.trees c.args.progress.now.database.0 c.as_str-ident.result.now found
-    → OnOk result (KeepsOtherRecords c.args.progress.now.database.0 c.as_str-ident.result.now c.args.progress.now.last after (state g.S.Store c.record_of_ident.new.tx.conn.now) new))
-    → OnOk result (PassesOn c.args.setting.now.profile.now c.args.progress.now.database.0 c.args.progress.now.last after (state g.S.Store c.args.tx.now.conn.now) new)
-passes_on g c clean mode store found is result goes after new others =
-    let old = state g.S.Store c.args.tx.now.conn.now in
-    let mid = state g.S.Store c.record_of_ident.new.tx.conn.now in
-    let profile = c.args.setting.now.profile.now in
-    let db = c.args.progress.now.database.0 in
-    let last = c.args.progress.now.last in
-    let ident = c.as_str-ident.result.now in
-    let reads = c.in_ok-elder.ensures.call.ok clean mode in
-    let there = subst (λ (e : Option Elder). IsElderOf old.now.trees db ident e) is (c.in_ok-elder.ensures.value clean mode store) in
-    let there_still = subst (λ (d : Database). IsElderOf d.trees db ident found) (sym reads.now_is) there in
-    passes_by profile db ident last after old new result (goes_by g c clean mode store ident (named g c) found is result goes).0
-    (keeps_from db ident last after old mid new result reads.now_is (others reads.mode (store_same old mid reads.now_is store) there_still))
-
--- nothing becomes of it
-passes_over : (g : given.Over) (c : In_ok-elder g) → HasCleanDisk (state g.S.Store c.record_of_ident.new.tx.conn.now) → IsTrue (state g.S.Store c.args.tx.now.conn.now).in_transaction
-    → IsStore (state g.S.Store c.args.tx.now.conn.now)
-    → PassesOn c.args.setting.now.profile.now c.args.progress.now.database.0 c.args.progress.now.last c.args.progress.now.last (state g.S.Store c.args.tx.now.conn.now) (state g.S.Store c.record_of_ident.new.tx.conn.now)
-passes_over g c clean mode store =
-    passes_seen c.args.setting.now.profile.now c.args.progress.now.database.0 c.args.progress.now.last (state g.S.Store c.args.tx.now.conn.now) (state g.S.Store c.record_of_ident.new.tx.conn.now) store
-    (c.in_ok-elder.ensures.call.ok clean mode).now_is
 
 pub returns-then-has_bytes-clause-passes : goal.returns-then-has_bytes-clause-passes
 returns-then-has_bytes-clause-passes g c clean mode store = passes_over g (goal.at.returns-then-has_bytes-clause-passes g c).In_ok-elder clean mode store
@@ -491,3 +376,90 @@ pub returns-in-Adelete-Some-clause-passes : goal.returns-in-Adelete-Some-clause-
 returns-in-Adelete-Some-clause-passes g c clean mode store =
     passes_on g (goal.at.returns-in-Adelete-Some-clause-passes g c).In_ok-elder (omega (arith, c.withdraw-in-Adelete-Some.ensures.inside.crash.clean)) mode store (Some c.in-Adelete-Some.elder) c.in-Adelete-Some.is-1
     c.withdraw-in-Adelete-Some.result c.withdraw-in-Adelete-Some.ensures.elder c.args.progress.now.last (state g.S.Store c.withdraw-in-Adelete-Some.new.tx.conn.now) (c.withdraw-in-Adelete-Some.ensures.others clean)
+
+-- ---- why it is refused, whatever the tables' rows are
+
+pub returns-in_err-record-clause-reasons : goal.returns-in_err-record-clause-reasons
+returns-in_err-record-clause-reasons g c clean mode store taken few =
+    let told : c.from_residual.result ≡ Err c.in_err-record.field-0.0 = search rules in
+    err_so _ c.in_err-record.field-0.0 c.from_residual.result told (fault_refuses c.args.setting.now.profile.now c.args.setting.now.kind c.args.setting.now.limits c.args.progress.now.last taken (state g.S.Store c.args.tx.now.conn.now).now.trees
+    c.args.progress.now.database.0 c.args.incoming.file c.args.incoming.nth c.args.incoming.bytes.now few c.in_err-record.field-0.0 c.in_err-record.ensures.faults)
+
+pub returns-in_err-elder-clause-reasons : goal.returns-in_err-elder-clause-reasons
+returns-in_err-elder-clause-reasons g c clean mode store taken few =
+    let told : c.from_residual-in_err-elder.result ≡ Err (register_refusal c.in_err-elder.field-0.0) = search rules in
+    err_so _ (register_refusal c.in_err-elder.field-0.0) c.from_residual-in_err-elder.result told (inr (fault_fails_so c.in_err-elder.field-0.0))
+
+pub returns-in_err-occurrences-in-Update-default-clause-reasons : goal.returns-in_err-occurrences-in-Update-default-clause-reasons
+returns-in_err-occurrences-in-Update-default-clause-reasons g c clean mode store taken few =
+    let told : c.from_residual-in_err-occurrences-in-Update-default.result ≡ Err Memory = search rules in
+    err_so _ Memory c.from_residual-in_err-occurrences-in-Update-default.result told (inr (inr (inr refl)))
+
+pub returns-in-Update-default-clause-reasons : goal.returns-in-Update-default-clause-reasons
+returns-in-Update-default-clause-reasons g c clean mode store taken few =
+    let found = (goal.at.returns-in-Update-default-clause-reasons g c).In_ok-elder in
+    let was : HasCleanDisk (state g.S.Store c.record_of_ident.new.tx.conn.now) = omega (arith, c.keep.ensures.inside.crash.clean) in
+    err_more _ _ c.keep.result
+    (full_refuses c.args.setting.now.profile.now c.args.setting.now.kind c.args.setting.now.limits c.args.progress.now.last taken (state g.S.Store c.args.tx.now.conn.now).now.trees
+    c.args.progress.now.database.0 c.args.incoming.file c.args.incoming.nth c.args.incoming.bytes.now few c.in-Update-default.is-0 c.as_str-ident.result.now (sound g found) c.in_ok-elder.elder
+    (c.in_ok-elder.ensures.value was mode store)) c.keep.ensures.reasons
+
+pub returns-in-Delete-Some-clause-reasons : goal.returns-in-Delete-Some-clause-reasons
+returns-in-Delete-Some-clause-reasons g c clean mode store taken few = err_more IsDamageOrFailure _ c.withdraw.result (λ refusal failing. inr failing) c.withdraw.ensures.reasons
+
+pub returns-in-Adelete-Some-clause-reasons : goal.returns-in-Adelete-Some-clause-reasons
+returns-in-Adelete-Some-clause-reasons g c clean mode store taken few =
+    err_more IsDamageOrFailure _ c.withdraw-in-Adelete-Some.result (λ refusal failing. inr failing) c.withdraw-in-Adelete-Some.ensures.reasons
+
+pub returns-in-Delete-None-clause-reasons : goal.returns-in-Delete-None-clause-reasons
+returns-in-Delete-None-clause-reasons g c clean mode store taken few =
+    let found = (goal.at.returns-in-Delete-None-clause-reasons g c).In_ok-elder in
+    let trees = (state g.S.Store c.args.tx.now.conn.now).now.trees in
+    let none = subst (λ (e : Option Elder). IsElderOf trees c.args.progress.now.database.0 c.as_str-ident.result.now e) c.in-Delete-None.is-1 (c.in_ok-elder.ensures.value clean mode store) in
+    unknown_refuses c.args.setting.now.profile.now c.args.setting.now.kind c.args.setting.now.limits c.args.progress.now.last taken trees c.args.progress.now.database.0
+    c.args.incoming.file c.args.incoming.nth c.args.incoming.bytes.now few c.in-Delete-None.is-0 c.as_str-ident.result.now (sound g found) none
+
+-- ---- what is lost, whatever the tables' rows are
+
+pub returns-in-Update-default-clause-named : goal.returns-in-Update-default-clause-named
+returns-in-Update-default-clause-named g c clean mode store =
+    loses g (goal.at.returns-in-Update-default-clause-named g c).In_ok-elder (omega (arith, c.keep.ensures.inside.crash.clean)) mode store c.in_ok-elder.elder refl c.keep.result
+    c.keep.new.progress.last (state g.S.Store c.keep.new.tx.conn.now) (c.keep.ensures.others clean)
+
+pub returns-in-Delete-Some-clause-named : goal.returns-in-Delete-Some-clause-named
+returns-in-Delete-Some-clause-named g c clean mode store =
+    loses g (goal.at.returns-in-Delete-Some-clause-named g c).In_ok-elder (omega (arith, c.withdraw.ensures.inside.crash.clean)) mode store (Some c.in-Delete-Some.elder) c.in-Delete-Some.is-1 c.withdraw.result
+    c.args.progress.now.last (state g.S.Store c.withdraw.new.tx.conn.now) (c.withdraw.ensures.others clean)
+
+pub returns-in-Adelete-Some-clause-named : goal.returns-in-Adelete-Some-clause-named
+returns-in-Adelete-Some-clause-named g c clean mode store =
+    loses g (goal.at.returns-in-Adelete-Some-clause-named g c).In_ok-elder (omega (arith, c.withdraw-in-Adelete-Some.ensures.inside.crash.clean)) mode store (Some c.in-Adelete-Some.elder) c.in-Adelete-Some.is-1
+    c.withdraw-in-Adelete-Some.result c.args.progress.now.last (state g.S.Store c.withdraw-in-Adelete-Some.new.tx.conn.now) (c.withdraw-in-Adelete-Some.ensures.others clean)
+
+-- nothing at all
+pub returns-then-has_bytes-clause-named : goal.returns-then-has_bytes-clause-named
+returns-then-has_bytes-clause-named g c clean mode store =
+    loses_none c.args.setting.now.profile.now c.args.progress.now.database.0 (c.args.incoming.bytes.now ∷ []) c.args.progress.now.last (state g.S.Store c.args.tx.now.conn.now).now.trees
+    (state g.S.Store c.record_of_ident.new.tx.conn.now).now.trees (ap (λ (d : Database). d.trees records_tree) (c.in_ok-elder.ensures.call.ok clean mode).now_is)
+
+pub returns-clause-named : goal.returns-clause-named
+returns-clause-named g c clean mode store =
+    loses_none c.args.setting.now.profile.now c.args.progress.now.database.0 (c.args.incoming.bytes.now ∷ []) c.args.progress.now.last (state g.S.Store c.args.tx.now.conn.now).now.trees
+    (state g.S.Store c.record_of_ident.new.tx.conn.now).now.trees (ap (λ (d : Database). d.trees records_tree) (c.in_ok-elder.ensures.call.ok clean mode).now_is)
+
+-- ---- it is sound and has an identifier
+
+pub returns-then-has_bytes-clause-sound : goal.returns-then-has_bytes-clause-sound
+returns-then-has_bytes-clause-sound g c = (c.as_str-ident.result.now, sound g (goal.at.returns-then-has_bytes-clause-sound g c).In_ok-elder)
+
+pub returns-in-Update-default-clause-sound : goal.returns-in-Update-default-clause-sound
+returns-in-Update-default-clause-sound g c = ok_always _ c.keep.result (c.as_str-ident.result.now, sound g (goal.at.returns-in-Update-default-clause-sound g c).In_ok-elder)
+
+pub returns-in-Delete-Some-clause-sound : goal.returns-in-Delete-Some-clause-sound
+returns-in-Delete-Some-clause-sound g c = ok_always _ c.withdraw.result (c.as_str-ident.result.now, sound g (goal.at.returns-in-Delete-Some-clause-sound g c).In_ok-elder)
+
+pub returns-in-Adelete-Some-clause-sound : goal.returns-in-Adelete-Some-clause-sound
+returns-in-Adelete-Some-clause-sound g c = ok_always _ c.withdraw-in-Adelete-Some.result (c.as_str-ident.result.now, sound g (goal.at.returns-in-Adelete-Some-clause-sound g c).In_ok-elder)
+
+pub returns-clause-sound : goal.returns-clause-sound
+returns-clause-sound g c = (c.as_str-ident.result.now, sound g (goal.at.returns-clause-sound g c).In_ok-elder)

@@ -1,5 +1,7 @@
 use Rattle.std.proofs.Common.{◌≡◌, ◌∙◌, ◌+◌, arith, rules, Err, inl, inr, length, pos, refl, ap, sym, subst}
 use Rattle.sqlite.specs.Held.{state}
+use Rattle.zeb_register.specs.Sql.{Replaces}
+use Rattle.zeb_register.specs.Store.{SharesRecord, record_row}
 use Rattle.zeb_change.specs.Outcomes.{register_refusal}
 use Rattle.zeb_change.specs.Refused.{why_of}
 use Rattle.zeb_change.specs.Folding.{Changed, updated}
@@ -10,11 +12,11 @@ use Rattle.zeb_change.specs.Occurs.{AreOccurrencesOf}
 use Rattle.zeb_change.specs.PrivateStanding.{WillBeTaken, standing}
 use Rattle.zeb_change.proofs.TurnLemmas.{passed_on, elder_kept, replaced}
 use Rattle.zeb_change.proofs.CostLemmas.{put_cost}
-use Rattle.zeb_change.proofs.RecordRoom.{elder_numbered, found_fits, newer_few, newer_fits, newer_storable, only_store, put_served, refused_for, room_after}
-use Rattle.zeb_change.proofs.UnderWay.{registers_still}
+use Rattle.zeb_change.proofs.RecordRoom.{elder_fits, elder_numbered, newer_few, newer_fits, newer_storable, numbers_put, only_store, put_served, refused_for, room_after}
 use Rattle.zeb_change.specs.declared.refusals.Refusal.TheVariants.{Memory, Store}
 use Rattle.zeb_change.proofs.Elders.{error_so, failed_so, fault_so}
 use Rattle.zeb_change.proofs.KeptStill.{elder_owns, put_keeps}
+use Rattle.zeb_change.proofs.Reasons.{err_so, fault_fails_so}
 use Rattle.zeb_change.proofs.records.replace.Goals as goal
 use Rattle.zeb_register.proofs.FormatLemmas.{registers_stay}
 
@@ -55,45 +57,47 @@ returns-clause-cost g c is =
 -- ---- where there is room
 
 pub returns-in_err-old-clause-room : goal.returns-in_err-old-clause-room
-returns-in_err-old-clause-room g c clean mode is format records_of base under there most places rowids asks spare more has =
+returns-in_err-old-clause-room g c clean mode is there most places rowids asks spare more has =
     let told : c.from_residual.result ≡ Err c.in_err-old.field-0.0 = search rules in
-    let memory = c.in_err-old.ensures.fails (elder_kept c.args.setting.now.profile.now c.args.newer.now.ident.now base c.args.elder.now under.2 there) in
-    refused_for _ _ c.from_residual.result c.in_err-old.field-0.0 told (λ store. absurd (cc))
+    refused_for _ _ c.from_residual.result c.in_err-old.field-0.0 told (λ store. absurd (c.in_err-old.ensures.unstored (ap Err store)))
 
 pub returns-in_err-record_put-clause-room : goal.returns-in_err-record_put-clause-room
-returns-in_err-record_put-clause-room g c clean mode is format records_of base under there most places rowids asks spare more has =
+returns-in_err-record_put-clause-room g c clean mode is there most places rowids asks spare more has =
     let newer = c.args.newer.now in
     let profile = c.args.setting.now.profile.now in
-    let number = elder_numbered profile base under.2 newer.ident.now c.args.elder.now there in
+    let db = c.args.progress.now.database.0 in
+    let trees = (state g.S.Store c.args.tx.now.conn.now).now.trees in
+    let number = elder_numbered trees db has.numbers newer.ident.now c.args.elder.now there in
     let told : c.from_residual-in_err-record_put.result ≡ Err (register_refusal c.in_err-record_put.field-0.0) = search rules in
     refused_for _ _ c.from_residual-in_err-record_put.result (register_refusal c.in_err-record_put.field-0.0) told (λ store.
-    elim (c.in_err-record_put.ensures.refused number.1 clean mode under.0 (ap Err (only_store c.in_err-record_put.field-0.0 store))) [
+    elim (c.in_err-record_put.ensures.refused (omega (arith, number.1)) clean mode has.store (ap Err (only_store c.in_err-record_put.field-0.0 store))) [
       | inl cause ↦ cause
-      | inr hinders ↦ absurd (put_served profile c.args.progress.now.database.0 (pos c.args.elder.now.sysno) newer.ident.now newer.bytes.now (rowids + more) (state g.S.Store c.args.tx.now.conn.now).now.trees is.whole is.named (omega (arith, asks.put)) has.records hinders)
+      | inr hinders ↦ absurd (put_served profile db (pos c.args.elder.now.sysno) newer.ident.now newer.bytes.now (rowids + more) trees is.whole is.named (omega (arith, asks.put)) has.records hinders)
     ])
 
 pub returns-clause-room : goal.returns-clause-room
-returns-clause-room g c clean mode is format records_of base under there most places rowids asks spare more has =
+returns-clause-room g c clean mode is there most places rowids asks spare more has =
     let newer = c.args.newer.now in
+    let elder = c.args.elder.now in
     let profile = c.args.setting.now.profile.now in
+    let db = c.args.progress.now.database.0 in
     let old = state g.S.Store c.args.tx.now.conn.now in
     let mid = state g.S.Store c.record_put.new.tx.conn.now in
-    let was = subst (AreOccurrencesOf profile c.args.elder.now.bytes.items) (sym c.deref.ensures.value) c.in_ok-old.ensures.found in
+    let was = subst (AreOccurrencesOf profile elder.bytes.items) (sym c.deref.ensures.value) c.in_ok-old.ensures.found in
     let are = subst (IsNewer profile newer.ident.now newer.bytes.now) (sym c.deref-2.ensures.value) is in
-    let number = elder_numbered profile base under.2 newer.ident.now c.args.elder.now there in
+    let put = (c.in_ok-record_put.ensures.call.ok clean mode).rows has.store in
+    let number = elder_numbered old.now.trees db has.numbers newer.ident.now elder there in
     let within = has.places.few in
-    let fits = found_fits format profile c.args.progress.now.database.0 records_of (standing old c.args.pending.now) base under most (places + spare) has.places newer.ident.now c.args.elder.now there c.deref.result.now was in
-    let noted = c.in_ok-note_keys.ensures.room (has.places.noted + (places + spare)) has.places.noted was.rising are.found.rising number.0 number.1
+    let noted = c.in_ok-note_keys.ensures.room (has.places.noted + (places + spare)) has.places.noted was.rising are.found.rising number.0 (omega (arith, number.1))
     (newer_storable profile most newer.bytes.now places rowids asks c.deref-2.result.now are.found)
-    (λ o here. elim here [
-      | inl in_elder ↦ fits o in_elder
-      | inr in_newer ↦ newer_fits profile most newer.bytes.now places rowids asks c.deref-2.result.now are.found (has.places.noted + (places + spare)) within o in_newer
-    ])
+    (elder_fits profile newer.ident.now elder c.in_ok-old.ensures.elder.0 c.deref.result.now was)
+    (newer_fits profile most newer.bytes.now places rowids asks c.deref-2.result.now are.found (has.places.noted + (places + spare)) within)
     has.places.among in (
       (λ store. absurd (cc)),
-      room_after format most old mid c.args.pending.now c.note_keys.new.pending places rowids spare more 1 (length c.deref-2.result.now) has
-          (registers_still old mid _ ((c.in_ok-record_put.ensures.call.ok clean mode).rows under.0)) (c.in_ok-record_put.ensures.rowids clean mode under.0) (omega (arith, asks.put))
-          (newer_few profile most newer.bytes.now places rowids asks c.deref-2.result.now are.found) noted,
+      room_after most db old mid c.args.pending.now c.note_keys.new.pending places rowids spare more 1 (length c.deref-2.result.now) has
+          (Replaces (SharesRecord db (pos elder.sysno) newer.ident.now) (record_row db (pos elder.sysno) newer.ident.now newer.bytes.now)) put
+          (numbers_put old.now.trees mid.now.trees db elder.sysno newer.ident.now newer.bytes.now number put.rows has.numbers)
+          (c.in_ok-record_put.ensures.rowids clean mode has.store) (omega (arith, asks.put)) (newer_few profile most newer.bytes.now places rowids asks c.deref-2.result.now are.found) noted,
     )
 
 -- ---- whatever the elder is
@@ -146,3 +150,21 @@ returns-clause-others g c clean mode store is =
     let old = state g.S.Store c.args.tx.now.conn.now in
     put_keeps db newer.ident.now elder.sysno last last (omega arith) old (state g.S.Store c.record_put.new.tx.conn.now) (elder_owns old store db newer.ident.now elder is last) newer.bytes.now
     ((c.in_ok-record_put.ensures.call.ok clean mode).rows store)
+
+-- ---- why it is refused
+
+pub returns-in_err-old-clause-reasons : goal.returns-in_err-old-clause-reasons
+returns-in_err-old-clause-reasons g c =
+    let told : c.from_residual.result ≡ Err c.in_err-old.field-0.0 = search rules in
+    err_so _ c.in_err-old.field-0.0 c.from_residual.result told c.in_err-old.ensures.reasons
+
+pub returns-in_err-record_put-clause-reasons : goal.returns-in_err-record_put-clause-reasons
+returns-in_err-record_put-clause-reasons g c =
+    let fault = c.in_err-record_put.field-0.0 in
+    let told : c.from_residual-in_err-record_put.result ≡ Err (register_refusal fault) = search rules in
+    err_so _ (register_refusal fault) c.from_residual-in_err-record_put.result told (fault_fails_so fault)
+
+pub returns-in_err-note_keys-clause-reasons : goal.returns-in_err-note_keys-clause-reasons
+returns-in_err-note_keys-clause-reasons g c =
+    let told : c.from_residual-in_err-note_keys.result ≡ Err Memory = search rules in
+    err_so _ Memory c.from_residual-in_err-note_keys.result told (inr (inr refl))

@@ -1,4 +1,4 @@
-use Rattle.std.proofs.Common.{◌≡◌, ◌≢◌, ◌⊎◌, ◌∙◌, Err, inr, sym, ap, subst}
+use Rattle.std.proofs.Common.{◌≡◌, ◌≢◌, ◌⊎◌, ◌∙◌, Err, inr, sym, ap, subst, inl, ◌∷◌, [], None}
 use Rattle.zeb_marc.specs.Contents.{units_of}
 use Rattle.zeb_extract.specs.Identifier.{identifier_of}
 use Rattle.zeb_extract.specs.declared.naming.IdentFault.TheVariants.{Memory}
@@ -11,6 +11,8 @@ use Rattle.zeb_change.specs.Outcomes.{marc_refusal}
 use Rattle.zeb_marc.proofs.FaultLaws.{record_faults}
 use Rattle.zeb_change.proofs.FoldLemmas.{no_record, no_ident}
 use Rattle.zeb_change.proofs.ReadFaults.{no_read_fault}
+use Rattle.zeb_change.proofs.Reasons.{ident_at_fault}
+use Rattle.zeb_change.specs.Reasons.{IsAtFault}
 use Rattle.zeb_change.proofs.records.sound_record.Goals as goal
 
 pub returns-in-Err-clause-refused : goal.returns-in-Err-clause-refused
@@ -32,3 +34,16 @@ returns-in-Err-clause-unread c file told =
     let given = c.of_marc.ensures in
     let same : marc_refusal c.args.incoming.file c.args.incoming.nth c.in-Err.fault ≡ ReadFault file = cc in
     no_read_fault c.args.incoming.file c.args.incoming.nth c.in-Err.fault (record_faults c.args.incoming.bytes.now c.in-Err.fault c.in-Err.ensures) file same
+
+pub returns-in-Err-clause-faults : goal.returns-in-Err-clause-faults
+returns-in-Err-clause-faults c = inr (inl (c.in-Err.fault, c.in-Err.ensures, c.of_marc.ensures))
+
+pub returns-in-Err-identifier-clause-faults : goal.returns-in-Err-identifier-clause-faults
+returns-in-Err-identifier-clause-faults c =
+    let incoming = c.args.incoming in
+    let bytes = incoming.bytes.now in
+    let fault = c.in-Err-identifier.fault in
+    let said : fault ≢ Memory → ident_in c.args.setting.now.profile.now bytes ≡ Err fault = λ other.
+    ap (λ fields. identifier_of c.args.setting.now.profile.now (units_of fields)) (sym c.in-Ok.ensures.fields_are) ∙ c.in-Err-identifier.ensures.err other in
+    subst (λ (r : Refusal). IsFailing (why_of r) ⊎ IsAtFault c.args.setting.now.profile.now incoming.file incoming.nth (bytes ∷ []) None r) (sym c.of_identifier.ensures)
+    (ident_at_fault c.args.setting.now.profile.now incoming.file incoming.nth bytes fault c.in-Ok.ensures.sound said)

@@ -1,6 +1,8 @@
-use Rattle.std.proofs.Common.{◌≡◌, ◌∙◌, ◌+◌, arith, rules, Err, [], inl, inr, refl, ap, sym, subst}
+use Rattle.std.proofs.Common.{◌≡◌, ◌∙◌, ◌+◌, arith, rules, Err, [], inr, pos, refl, ap, sym, subst}
 use Rattle.sqlite.specs.Held.{state}
 use Rattle.sqlite_rules.proofs.ListLemmas.{has_contained}
+use Rattle.zeb_register.specs.Sql.{Loses}
+use Rattle.zeb_register.specs.Store.{HasNumber}
 use Rattle.zeb_change.specs.Outcomes.{register_refusal}
 use Rattle.zeb_change.specs.Refused.{why_of}
 use Rattle.zeb_change.specs.Folding.{Changed, deleted}
@@ -9,11 +11,11 @@ use Rattle.zeb_change.specs.Occurs.{AreOccurrencesOf}
 use Rattle.zeb_change.specs.PrivateStanding.{WillBeTaken, standing}
 use Rattle.zeb_change.proofs.TurnLemmas.{passed_on, elder_kept, none_rise, withdrawn}
 use Rattle.zeb_change.proofs.CostLemmas.{old_cost}
-use Rattle.zeb_change.proofs.RecordRoom.{elder_numbered, found_fits, only_store, refused_for, room_after}
-use Rattle.zeb_change.proofs.UnderWay.{registers_still}
+use Rattle.zeb_change.proofs.RecordRoom.{elder_fits, elder_numbered, numbers_take, only_store, refused_for, room_after}
 use Rattle.zeb_change.specs.declared.refusals.Refusal.TheVariants.{Memory, Store}
 use Rattle.zeb_change.proofs.Elders.{error_so, failed_so, fault_so}
 use Rattle.zeb_change.proofs.KeptStill.{elder_owns, take_keeps}
+use Rattle.zeb_change.proofs.Reasons.{err_so, fault_fails_so}
 use Rattle.zeb_change.proofs.records.withdraw.Goals as goal
 use Rattle.zeb_register.proofs.FormatLemmas.{registers_stay}
 
@@ -49,36 +51,35 @@ returns-clause-cost g c =
 -- ---- where there is room
 
 pub returns-in_err-old-clause-room : goal.returns-in_err-old-clause-room
-returns-in_err-old-clause-room g c clean mode format records_of base under there most places rowids asks spare more has =
+returns-in_err-old-clause-room g c clean mode there most places rowids asks spare more has =
     let told : c.from_residual.result ≡ Err c.in_err-old.field-0.0 = search rules in
-    let memory = c.in_err-old.ensures.fails (elder_kept c.args.setting.now.profile.now c.args.ident.now base c.args.elder.now under.2 there) in
-    refused_for _ _ c.from_residual.result c.in_err-old.field-0.0 told (λ store. absurd (cc))
+    refused_for _ _ c.from_residual.result c.in_err-old.field-0.0 told (λ store. absurd (c.in_err-old.ensures.unstored (ap Err store)))
 
 pub returns-in_err-record_take-clause-room : goal.returns-in_err-record_take-clause-room
-returns-in_err-record_take-clause-room g c clean mode format records_of base under there most places rowids asks spare more has =
-    let number = elder_numbered c.args.setting.now.profile.now base under.2 c.args.ident.now c.args.elder.now there in
+returns-in_err-record_take-clause-room g c clean mode there most places rowids asks spare more has =
+    let number = elder_numbered (state g.S.Store c.args.tx.now.conn.now).now.trees c.args.progress.now.database.0 has.numbers c.args.ident.now c.args.elder.now there in
     let told : c.from_residual-in_err-record_take.result ≡ Err (register_refusal c.in_err-record_take.field-0.0) = search rules in
     refused_for _ _ c.from_residual-in_err-record_take.result (register_refusal c.in_err-record_take.field-0.0) told (λ store.
-    c.in_err-record_take.ensures.refused number.1 clean mode under.0 (ap Err (only_store c.in_err-record_take.field-0.0 store)))
+    c.in_err-record_take.ensures.refused (omega (arith, number.1)) clean mode has.store (ap Err (only_store c.in_err-record_take.field-0.0 store)))
 
 pub returns-clause-room : goal.returns-clause-room
-returns-clause-room g c clean mode format records_of base under there most places rowids asks spare more has =
+returns-clause-room g c clean mode there most places rowids asks spare more has =
     let profile = c.args.setting.now.profile.now in
+    let elder = c.args.elder.now in
+    let db = c.args.progress.now.database.0 in
     let old = state g.S.Store c.args.tx.now.conn.now in
     let mid = state g.S.Store c.record_take.new.tx.conn.now in
-    let was = subst (AreOccurrencesOf profile c.args.elder.now.bytes.items) (sym c.deref.ensures.value) c.in_ok-old.ensures.found in
-    let number = elder_numbered profile base under.2 c.args.ident.now c.args.elder.now there in
-    let fits = found_fits format profile c.args.progress.now.database.0 records_of (standing old c.args.pending.now) base under most (places + spare) has.places c.args.ident.now c.args.elder.now there c.deref.result.now was in
-    let noted = c.in_ok-note_keys.ensures.room (has.places.noted + (places + spare)) has.places.noted was.rising none_rise number.0 number.1
+    let was = subst (AreOccurrencesOf profile elder.bytes.items) (sym c.deref.ensures.value) c.in_ok-old.ensures.found in
+    let take = (c.in_ok-record_take.ensures.call.ok clean mode).rows has.store in
+    let number = elder_numbered old.now.trees db has.numbers c.args.ident.now elder there in
+    let noted = c.in_ok-note_keys.ensures.room (has.places.noted + (places + spare)) has.places.noted was.rising none_rise number.0 (omega (arith, number.1))
     (λ o nothing. absurd (has_contained [] o nothing))
-    (λ o here. elim here [
-      | inl in_elder ↦ fits o in_elder
-      | inr nothing ↦ absurd (has_contained [] o nothing)
-    ])
+    (elder_fits profile c.args.ident.now elder c.in_ok-old.ensures.elder.0 c.deref.result.now was)
+    (λ o nothing. absurd (has_contained [] o nothing))
     has.places.among in (
       (λ store. absurd (cc)),
-      room_after format most old mid c.args.pending.now c.note_keys.new.pending places rowids spare more 0 0 has
-          (registers_still old mid _ ((c.in_ok-record_take.ensures.call.ok clean mode).rows under.0)) (c.in_ok-record_take.ensures.rowids clean mode under.0) (omega arith) (omega arith) noted,
+      room_after most db old mid c.args.pending.now c.note_keys.new.pending places rowids spare more 0 0 has (Loses (HasNumber db (pos elder.sysno))) take
+          (numbers_take old.now.trees mid.now.trees db (HasNumber db (pos elder.sysno)) take.rows has.numbers) (c.in_ok-record_take.ensures.rowids clean mode has.store) (omega arith) (omega arith) noted,
     )
 
 -- ---- whatever the elder is
@@ -131,3 +132,21 @@ returns-clause-others g c clean mode store is =
     let old = state g.S.Store c.args.tx.now.conn.now in
     take_keeps db ident elder.sysno last last (omega arith) old (state g.S.Store c.record_take.new.tx.conn.now) (elder_owns old store db ident elder is last)
     ((c.in_ok-record_take.ensures.call.ok clean mode).rows store)
+
+-- ---- why it is refused
+
+pub returns-in_err-old-clause-reasons : goal.returns-in_err-old-clause-reasons
+returns-in_err-old-clause-reasons g c =
+    let told : c.from_residual.result ≡ Err c.in_err-old.field-0.0 = search rules in
+    err_so _ c.in_err-old.field-0.0 c.from_residual.result told c.in_err-old.ensures.reasons
+
+pub returns-in_err-record_take-clause-reasons : goal.returns-in_err-record_take-clause-reasons
+returns-in_err-record_take-clause-reasons g c =
+    let fault = c.in_err-record_take.field-0.0 in
+    let told : c.from_residual-in_err-record_take.result ≡ Err (register_refusal fault) = search rules in
+    err_so _ (register_refusal fault) c.from_residual-in_err-record_take.result told (fault_fails_so fault)
+
+pub returns-in_err-note_keys-clause-reasons : goal.returns-in_err-note_keys-clause-reasons
+returns-in_err-note_keys-clause-reasons g c =
+    let told : c.from_residual-in_err-note_keys.result ≡ Err Memory = search rules in
+    err_so _ Memory c.from_residual-in_err-note_keys.result told (inr (inr refl))

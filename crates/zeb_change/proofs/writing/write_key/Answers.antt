@@ -2,6 +2,7 @@ use Rattle.std.proofs.Common.{◌≡◌, ◌∙◌, ℕ, rules, Err, ap, inl, in
 use Rattle.sqlite.specs.Held.{state}
 use Rattle.zeb_register.specs.declared.faults.RegFault.TheVariants.{Damaged, Store}
 use Rattle.zeb_register.proofs.FormatLemmas.{registers_rise}
+use Rattle.zeb_register.proofs.Malformed.{beside_database}
 use Rattle.zeb_change.specs.Costs.{IsWorkFor}
 use Rattle.zeb_change.specs.PrivatePending.{AreGivenInOrder}
 use Rattle.zeb_change.proofs.Asked.{key_leaves, key_served}
@@ -40,22 +41,20 @@ returns-in_err-key_changes-clause-honest g c clean mode store told before after 
 
 -- the changes as the layout takes them
 pub returns-clause-room : goal.returns-clause-room
-returns-clause-room g c content n left puts fits clean mode store held room =
+returns-clause-room g c n left puts fits clean mode store room =
     let old = (state g.S.Store c.args.tx.now.conn.now).now.trees in
     let new = (state g.S.Store c.key_changes.new.tx.conn.now).now.trees in
     let given = c.deref-3.result.now in
     let read = c.in_ok-counts.ensures.told puts.changes puts.noted in
     let told = c.in_ok-given.ensures.told puts.changes (c.deref.ensures.value ∙ read.0) (c.deref-2.ensures.value ∙ read.1) in
-    let same = subst (AreGivenInOrder puts.changes) (sym c.deref-3.ensures.value) told in
-    let change = c.in_ok-key_changes.ensures.change clean mode store in
-    let found = c.in_ok-key_changes.ensures.found clean mode store content held in
-    let takes = c.in_ok-key_changes.ensures.rowids clean mode store in (
+    let same = subst (AreGivenInOrder puts.changes) (sym c.deref-3.ensures.value) told in (
       (λ refused. absurd (cc)),
-      key_leaves puts.changes given same g.L.Layout.format n left c.args.db.0 c.args.key.now old content held room fits puts.many new found.0 takes (change.2 content found.0 held found.1) found.1,
+      key_leaves puts.changes given same n left c.args.db.0 c.args.key.now old room fits puts.many new (c.in_ok-key_changes.ensures.rowids clean mode store)
+          (c.in_ok-key_changes.ensures.spelled clean mode store) (c.in_ok-key_changes.ensures.others clean mode store),
     )
 
 pub returns-in_err-key_changes-clause-room : goal.returns-in_err-key_changes-clause-room
-returns-in_err-key_changes-clause-room g c content n left puts fits clean mode store held room =
+returns-in_err-key_changes-clause-room g c n left puts fits clean mode store room =
     let old = (state g.S.Store c.args.tx.now.conn.now).now.trees in
     let given = c.deref-3.result.now in
     let read = c.in_ok-counts.ensures.told puts.changes puts.noted in
@@ -66,7 +65,7 @@ returns-in_err-key_changes-clause-room g c content n left puts fits clean mode s
           let fault : c.key_changes.result ≡ Err Store = c.in_err-key_changes.was ∙ sym on ∙ told in
           elim (c.key_changes.ensures.refused clean mode store fault) [
             | inl cause ↦ cause
-            | inr hinders ↦ absurd (key_served puts.changes given same g.L.Layout.format n left c.args.db.0 c.args.key.now old content held room fits puts.many puts.storable hinders)
+            | inr hinders ↦ absurd (key_served puts.changes given same n left c.args.db.0 c.args.key.now old room fits puts.many puts.storable hinders)
           ]),
       rw on tt,
     )
@@ -76,3 +75,8 @@ returns-clause-work g c clean mode store content had =
     let many : length c.deref-3.result.now ≡ c.args.notes.now.count =
     ap length c.deref-3.ensures.value ∙ c.in_ok-given.ensures.many ∙ ap length c.deref.ensures.value ∙ c.in_ok-counts.ensures.many in
     subst (λ (n : ℕ). IsWorkFor g.L.Layout.row_work n c.args.work.now c.key_changes.new.work) many (c.in_ok-key_changes.ensures.work clean mode store content had)
+
+pub returns-clause-beside : goal.returns-clause-beside
+returns-clause-beside g c clean mode store =
+    beside_database c.args.db.0 c.args.key.now (state g.S.Store c.args.tx.now.conn.now).now.trees (state g.S.Store c.key_changes.new.tx.conn.now).now.trees
+    (c.in_ok-key_changes.ensures.others clean mode store)

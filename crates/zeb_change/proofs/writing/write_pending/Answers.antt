@@ -1,10 +1,11 @@
-use Rattle.std.proofs.Common.{◌≡◌, ◌∙◌, ◌+◌, Ok, Result, rules, arith, Err, refl, sym}
+use Rattle.std.proofs.Common.{◌≡◌, ◌∙◌, ◌+◌, ◌∷◌, [], Ok, Result, rules, arith, Err, refl, sym}
+use Rattle.sqlite.specs.declared.types.Value.TheVariants.{Int}
 use Rattle.sqlite.specs.Held.{state}
 use Rattle.sqlite.specs.State.{HasCleanDisk}
 use Rattle.zeb_register.specs.declared.faults.RegFault.{RegFault}
 use Rattle.zeb_register.specs.declared.faults.RegFault.TheVariants.{Damaged, Store}
 use Rattle.zeb_register.proofs.Causes.{may_after}
-use Rattle.zeb_register.proofs.Malformed.{malformed_seen, malformed_then}
+use Rattle.zeb_register.proofs.Malformed.{beside_seen, beside_then, malformed_seen, malformed_then}
 use Rattle.zeb_change.proofs.Asked.{first_known, none_known}
 use Rattle.zeb_change.proofs.ChangeKeysContent.{keeps_then}
 use Rattle.zeb_change.proofs.CostLemmas.{due_nothing, due_written}
@@ -24,8 +25,9 @@ loop-key-init g c = record {
   stays = search rules;
   written = λ clean mode store. still_settled g.L.Layout.format g.L.Layout.row_work c.args.db.0 (state g.S.Store c.args.tx.now.conn.now) c.args.pending.now c.args.work.now store;
   malformed = λ clean mode store. malformed_seen (state g.S.Store c.args.tx.now.conn.now).now (state g.S.Store c.args.tx.now.conn.now).now refl;
+  beside = λ clean mode store. beside_seen (Int c.args.db.0 ∷ []) (state g.S.Store c.args.tx.now.conn.now).now (state g.S.Store c.args.tx.now.conn.now).now refl;
   no_work = λ none. refl;
-  room = λ clean mode store ahead most spare storable holds has. has;
+  room = λ clean mode store most spare has. has;
 }
 
 pub loop-key-preserved : goal.loop-key-preserved
@@ -60,15 +62,17 @@ loop-key-preserved g c =
           let was : HasCleanDisk now = omega (arith, c.write_key.ensures.call.crash.clean) in
           malformed_then old.now.trees now.now.trees next.now.trees (c.loop-key.invariant.malformed was mode store)
           (c.in_ok-write_key.ensures.malformed clean (c.loop-key.invariant.stays was mode).mode (c.loop-key.invariant.written was mode store).0);
+      beside = λ clean mode store.
+          let was : HasCleanDisk now = omega (arith, c.write_key.ensures.call.crash.clean) in
+          beside_then (Int db ∷ []) old.now.trees now.now.trees next.now.trees (c.loop-key.invariant.beside was mode store)
+          (c.in_ok-write_key.ensures.beside clean (c.loop-key.invariant.stays was mode).mode (c.loop-key.invariant.written was mode store).0);
       no_work = λ none. c.write_key.ensures.no_work none ∙ c.loop-key.invariant.no_work none;
-      room = λ clean mode store ahead most spare storable holds has.
+      room = λ clean mode store most spare has.
           let was : HasCleanDisk now = omega (arith, c.write_key.ensures.call.crash.clean) in
           let stays = c.loop-key.invariant.stays was mode in
           let so_far = c.loop-key.invariant.written was mode store in
-          let held = (so_far.2 ahead storable holds).0 in
-          let first = first_known g.L.Layout.format most notes key now.now.trees c.loop-key.pending c.take_first.new.self spare out.first
-          (c.loop-key.invariant.room was mode store ahead most spare storable holds has) in
-          let left = c.in_ok-write_key.ensures.room held.behind first.own (first.rest + spare) first.puts first.fits clean stays.mode so_far.0 held.held first.room in
+          let first = first_known most notes key now.now.trees c.loop-key.pending c.take_first.new.self spare out.first (c.loop-key.invariant.room was mode store most spare has) in
+          let left = c.in_ok-write_key.ensures.room first.own (first.rest + spare) first.puts first.fits clean stays.mode so_far.0 first.room in
           first.leaves next.now.trees left.1;
     }
 
@@ -100,7 +104,7 @@ returns-in_err-write_key-clause-call g c =
     }
 
 pub returns-in_err-write_key-clause-room : goal.returns-in_err-write_key-clause-room
-returns-in_err-write_key-clause-room g c ahead most spare storable clean mode store holds has =
+returns-in_err-write_key-clause-room g c most spare clean mode store has =
     let old = state g.S.Store c.args.tx.now.conn.now in
     let now = state g.S.Store c.loop-key.tx.conn.now in
     let new = state g.S.Store c.write_key.new.tx.conn.now in
@@ -111,10 +115,8 @@ returns-in_err-write_key-clause-room g c ahead most spare storable clean mode st
     let was : HasCleanDisk now = omega (arith, c.write_key.ensures.call.crash.clean) in
     let stays = c.loop-key.invariant.stays was mode in
     let so_far = c.loop-key.invariant.written was mode store in
-    let held = (so_far.2 ahead storable holds).0 in
-    let first = first_known g.L.Layout.format most notes key now.now.trees c.loop-key.pending c.take_first.new.self spare out.first
-    (c.loop-key.invariant.room was mode store ahead most spare storable holds has) in
-    let one = c.write_key.ensures.room held.behind first.own (first.rest + spare) first.puts first.fits clean stays.mode so_far.0 held.held first.room in (
+    let first = first_known most notes key now.now.trees c.loop-key.pending c.take_first.new.self spare out.first (c.loop-key.invariant.room was mode store most spare has) in
+    let one = c.write_key.ensures.room first.own (first.rest + spare) first.puts first.fits clean stays.mode so_far.0 first.room in (
       (λ told.
           let fault : c.write_key.result ≡ Err Store = c.in_err-write_key.was ∙ sym given ∙ told in
           may_after old now new c.loop-key.invariant.crash stays.stays_open (λ _. one.0 fault)),
@@ -122,11 +124,11 @@ returns-in_err-write_key-clause-room g c ahead most spare storable clean mode st
     )
 
 pub returns-clause-room : goal.returns-clause-room
-returns-clause-room g c ahead most spare storable clean mode store holds has =
+returns-clause-room g c most spare clean mode store has =
     let now = state g.S.Store c.loop-key.tx.conn.now in
     let none = c.in_default.ensures.none in (
       (λ told. absurd (cc)),
-      none_known g.L.Layout.format most now.now.trees c.loop-key.pending c.take_first.new.self spare none.0 none.1 (c.loop-key.invariant.room clean mode store ahead most spare storable holds has),
+      none_known most now.now.trees c.loop-key.pending c.take_first.new.self spare none.0 none.1 (c.loop-key.invariant.room clean mode store most spare has),
     )
 
 pub returns-clause-call : goal.returns-clause-call
@@ -150,3 +152,6 @@ returns-clause-call g c = record {
 
 pub returns-clause-malformed : goal.returns-clause-malformed
 returns-clause-malformed g c clean mode store = c.loop-key.invariant.malformed clean mode store
+
+pub returns-clause-beside : goal.returns-clause-beside
+returns-clause-beside g c clean mode store = c.loop-key.invariant.beside clean mode store

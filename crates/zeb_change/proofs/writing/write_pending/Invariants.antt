@@ -1,12 +1,12 @@
-use Rattle.std.proofs.Common.{◌≡◌, ℕ, IsTrue, length}
+use Rattle.std.proofs.Common.{◌≡◌, ◌∷◌, [], ℕ, IsTrue, length}
+use Rattle.sqlite.specs.declared.types.Value.TheVariants.{Int}
 use Rattle.sqlite.specs.Held.{state}
 use Rattle.sqlite.specs.State.{HasCleanDisk, Survives}
-use Rattle.zeb_register.specs.Content.{Content, IsStorable}
-use Rattle.zeb_register.specs.Sound.{KeepsMalformed}
+use Rattle.zeb_register.specs.Sound.{KeepsMalformed, KeepsRowsBeside}
 use Rattle.zeb_register.specs.Store.{IsStore}
 use Rattle.zeb_change.specs.Inside.{Continues}
 use Rattle.zeb_change.specs.Asked.{HasRoomFor}
-use Rattle.zeb_change.specs.Noted.{IsSettled, WillHold}
+use Rattle.zeb_change.specs.Noted.{IsSettled}
 use Rattle.zeb_change.proofs.writing.write_pending.Given as goal
 
 abbrev pub invariant-loop-key : goal.invariant-loop-key
@@ -19,9 +19,9 @@ invariant-loop-key g l =
       stays : HasCleanDisk now → IsTrue old.in_transaction → Continues old now;
       written : HasCleanDisk now → IsTrue old.in_transaction → IsStore old → IsSettled g.L.Layout.format g.L.Layout.row_work l.db.0 old now l.fn.pending l.pending l.fn.work l.work;
       malformed : HasCleanDisk now → IsTrue old.in_transaction → IsStore old → KeepsMalformed old.now.trees now.now.trees;
+      beside : HasCleanDisk now → IsTrue old.in_transaction → IsStore old → KeepsRowsBeside (Int l.db.0 ∷ []) old.now.trees now.now.trees;
       no_work : g.L.Layout.row_work ≡ 0 → l.work ≡ l.fn.work;
-      room : HasCleanDisk now → IsTrue old.in_transaction → IsStore old → (ahead : Content) (most spare : ℕ) → IsStorable ahead → WillHold g.L.Layout.format old.now.trees l.db.0 l.fn.pending ahead
-          → HasRoomFor g.L.Layout.format most old.now.trees l.fn.pending spare → HasRoomFor g.L.Layout.format most now.now.trees l.pending spare;
+      room : HasCleanDisk now → IsTrue old.in_transaction → IsStore old → (most spare : ℕ) → HasRoomFor most old.now.trees l.fn.pending spare → HasRoomFor most now.now.trees l.pending spare;
     }
 
 abbrev pub decreases-loop-key : goal.decreases-loop-key

@@ -1,11 +1,12 @@
-use Rattle.std.proofs.Common.{refl, rules}
+use Rattle.std.proofs.Common.{◌∷◌, [], refl, rules}
+use Rattle.sqlite.specs.declared.types.Value.TheVariants.{Int}
 use Rattle.sqlite.specs.Held.{state}
-use Rattle.zeb_register.proofs.Malformed.{malformed_seen}
+use Rattle.zeb_register.proofs.Malformed.{beside_seen, malformed_seen}
 use Rattle.zeb_change.proofs.SettledChanges.{still_settled}
 use Rattle.zeb_change.proofs.writing.write_where_full.Goals as goal
 
 pub returns-clause-room : goal.returns-clause-room
-returns-clause-room g c ahead most spare storable clean mode store holds has = ((λ told. absurd (cc)), has)
+returns-clause-room g c most spare clean mode store has = ((λ told. absurd (cc)), has)
 
 pub returns-clause-call : goal.returns-clause-call
 returns-clause-call g c = record {
@@ -17,3 +18,6 @@ returns-clause-call g c = record {
 
 pub returns-clause-malformed : goal.returns-clause-malformed
 returns-clause-malformed g c clean mode store = malformed_seen (state g.S.Store c.args.tx.now.conn.now).now (state g.S.Store c.args.tx.now.conn.now).now refl
+
+pub returns-clause-beside : goal.returns-clause-beside
+returns-clause-beside g c clean mode store = beside_seen (Int c.args.db.0 ∷ []) (state g.S.Store c.args.tx.now.conn.now).now (state g.S.Store c.args.tx.now.conn.now).now refl

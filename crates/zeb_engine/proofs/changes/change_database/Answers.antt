@@ -1,4 +1,5 @@
 use Rattle.std.proofs.Common.{◌≡◌, [], Err, OnOk, rules, ap, arith, refl, sym, subst, inl, inr, Option, IsTrue}
+use Rattle.sqlite.specs.Effect.{Database as Contents}
 use Rattle.sqlite.specs.Held.{state}
 use Rattle.sqlite.specs.State.{HasCleanDisk}
 use Rattle.zeb_register.specs.declared.catalog.Database.{Database}
@@ -15,13 +16,15 @@ use Rattle.zeb_engine.proofs.NoDamageAnswered.{start_honest}
 use Rattle.zeb_engine.proofs.Readers.{no_file_failed}
 use Rattle.zeb_engine.proofs.ServesLemmas.{early_serves, opened_so}
 use Rattle.zeb_register.specs.Formats.{version_of}
+use Rattle.zeb_register.proofs.Calls.{store_same}
 use Rattle.zeb_register.proofs.Causes.{may_after}
 use Rattle.zeb_change.specs.Refused.{why_of}
 use Rattle.zeb_change.proofs.RecordRoom.{one_refusal}
-use Rattle.zeb_register.specs.Catalog.{IsDatabaseOf}
-use Rattle.zeb_engine.specs.AnyTables.{ElderOver, EldersOver, LeavesRows}
+use Rattle.zeb_engine.specs.PrivateChanging.{BeginsWith}
+use Rattle.zeb_engine.specs.AnyTables.{ElderOver, EldersOver, LeavesRows, LosesNamedOver, ReasonsOver}
 use Rattle.zeb_engine.proofs.ChangeElders.{few_elder, missed_elder, said_after}
-use Rattle.zeb_engine.proofs.ChangeRoom.{room_still, where_open}
+use Rattle.zeb_engine.proofs.ChangeReasons.{few_reasons, missed_reasons}
+use Rattle.zeb_engine.proofs.ChangeRoom.{room_still}
 use Rattle.zeb_engine.proofs.changes.change_database.Goals as goal
 
 pub returns-in_err-found-clause-serves : goal.returns-in_err-found-clause-serves
@@ -110,33 +113,33 @@ returns-clause-work g c = λ clean texts told.
 -- ---- where there is room
 
 pub returns-in_err-found-clause-room : goal.returns-in_err-found-clause-room
-returns-in_err-found-clause-room g c clean texts told fine before ready keeps room refused =
+returns-in_err-found-clause-room g c clean texts told fine store room refused =
     let old = state g.S.Store c.args.connection.now in
     let new = state g.S.Store c.found_for.new.connection in
     let refusal = c.in_err-found.field-0.0 in
     let result : c.from_residual.result ≡ Err refusal = search rules in
     let is = one_refusal c.from_residual.result refusal Store result refused in
-    where_open old new (λ opened. c.in_err-found.ensures.caused clean (keeps opened).0.0 (ap why_of is))
+    c.in_err-found.ensures.caused clean store (ap why_of is)
 
 pub returns-in_err-buffer-clause-room : goal.returns-in_err-buffer-clause-room
-returns-in_err-buffer-clause-room g c clean texts told fine before ready keeps room refused =
+returns-in_err-buffer-clause-room g c clean texts told fine store room refused =
     let result : c.from_residual-in_err-buffer.result ≡ Err Memory = search rules in
     let is = one_refusal c.from_residual-in_err-buffer.result Memory Store result refused in
     absurd (cc)
 
 pub returns-clause-room : goal.returns-clause-room
-returns-clause-room g c clean texts told fine before ready keeps room refused =
+returns-clause-room g c clean texts told fine store room refused =
+    let name = name_bytes c.args.name.now in
     let old = state g.S.Store c.args.connection.now in
     let mid = state g.S.Store c.found_for.new.connection in
     let new = state g.S.Store c.transact.new.connection in
     let setting = c.args.setting in
     let first : HasCleanDisk mid = omega (arith, c.transact.ensures.survives.clean) in
-    where_open old new (λ opened.
-    let known = begins_still (version_of g.L.Layout.format) setting (name_bytes c.args.name.now) c.in_ok-found.found old mid before ready.0
-    (c.in_ok-found.ensures.begins first opened (conditions_of (version_of g.L.Layout.format) setting) before ready.0 ready.1 keeps) (c.found_for.ensures.same first) keeps in
-    let same = (c.found_for.ensures.same first known.0).1 in
-    may_after old mid new c.found_for.ensures.crash (λ _. known.0) (λ _.
-    c.transact.ensures.room clean texts told fine before known.1 known.2 (room_still g.L.Layout.format setting.profile.now setting.kind texts old mid same room) refused))
+    let opened = c.in_ok-found.ensures.found first in
+    let still = (c.found_for.ensures.same first opened.1).1 in
+    let there = subst (λ (d : Contents). BeginsWith setting.kind d.trees name c.in_ok-found.found) (sym still) (c.in_ok-found.ensures.row first store) in
+    may_after old mid new c.found_for.ensures.crash (λ _. opened.1) (λ _.
+    c.transact.ensures.room clean texts told fine there (store_same old mid still store) (room_still setting.profile.now setting.kind name texts old mid still room) refused)
 
 -- ---- what is kept under the first record's identifier
 
@@ -168,7 +171,7 @@ returns-clause-elders g c clean store texts told =
     let mid = state g.S.Store c.found_for.new.connection in
     let first : HasCleanDisk mid = omega (arith, c.transact.ensures.survives.clean) in
     let found = c.in_ok-found.ensures.row first store in
-    said_after (λ trees. IsDatabaseOf trees name c.in_ok-found.found → EldersOver profile name texts trees c.transact.result) old mid (c.found_for.ensures.same first) (c.in_ok-found.ensures.found first)
+    said_after (λ trees. BeginsWith c.args.setting.kind trees name c.in_ok-found.found → EldersOver profile c.args.setting.limits name texts trees c.transact.result) old mid (c.found_for.ensures.same first) (c.in_ok-found.ensures.found first)
     (λ there known. c.transact.ensures.elders clean there known texts told) store found
 
 -- ---- what is kept after
@@ -181,5 +184,43 @@ returns-clause-loses g c clean store =
     let mid = state g.S.Store c.found_for.new.connection in
     let new = state g.S.Store c.transact.new.connection in
     let first : HasCleanDisk mid = omega (arith, c.transact.ensures.survives.clean) in
-    said_after (λ trees. IsDatabaseOf trees name c.in_ok-found.found → OnOk c.transact.result (LeavesRows profile name trees new.now.trees)) old mid (c.found_for.ensures.same first) (c.in_ok-found.ensures.found first)
+    said_after (λ trees. BeginsWith c.args.setting.kind trees name c.in_ok-found.found → OnOk c.transact.result (LeavesRows profile c.args.setting.kind name trees new)) old mid (c.found_for.ensures.same first) (c.in_ok-found.ensures.found first)
     (λ there known. c.transact.ensures.loses clean there known) store (c.in_ok-found.ensures.row first store)
+
+-- under which identifiers it has lost any
+pub returns-clause-named : goal.returns-clause-named
+returns-clause-named g c clean texts told store =
+    let profile = c.args.setting.profile.now in
+    let name = name_bytes c.args.name.now in
+    let old = state g.S.Store c.args.connection.now in
+    let mid = state g.S.Store c.found_for.new.connection in
+    let new = state g.S.Store c.transact.new.connection in
+    let first : HasCleanDisk mid = omega (arith, c.transact.ensures.survives.clean) in
+    said_after (λ trees. BeginsWith c.args.setting.kind trees name c.in_ok-found.found → OnOk c.transact.result (LosesNamedOver profile name texts trees new.now.trees)) old mid (c.found_for.ensures.same first) (c.in_ok-found.ensures.found first)
+    (λ there known. c.transact.ensures.named clean there known texts told) store (c.in_ok-found.ensures.row first store)
+
+-- ---- why it is refused
+
+pub returns-in_err-found-clause-reasons : goal.returns-in_err-found-clause-reasons
+returns-in_err-found-clause-reasons g c clean store texts told fine =
+    let setting = c.args.setting in
+    let refusal = c.in_err-found.field-0.0 in
+    let result : c.from_residual.result ≡ Err refusal = search rules in
+    missed_reasons setting.profile.now setting.kind setting.limits (name_bytes c.args.name.now) texts (state g.S.Store c.args.connection.now).now.trees refusal c.from_residual.result result (c.in_err-found.ensures.missed clean store)
+
+pub returns-in_err-buffer-clause-reasons : goal.returns-in_err-buffer-clause-reasons
+returns-in_err-buffer-clause-reasons g c clean store texts told fine =
+    let setting = c.args.setting in
+    let result : c.from_residual-in_err-buffer.result ≡ Err Memory = search rules in
+    few_reasons setting.profile.now setting.kind setting.limits (name_bytes c.args.name.now) texts (state g.S.Store c.args.connection.now).now.trees Memory c.from_residual-in_err-buffer.result result (inr (inr refl))
+
+pub returns-clause-reasons : goal.returns-clause-reasons
+returns-clause-reasons g c clean store texts told fine =
+    let setting = c.args.setting in
+    let profile = setting.profile.now in
+    let name = name_bytes c.args.name.now in
+    let old = state g.S.Store c.args.connection.now in
+    let mid = state g.S.Store c.found_for.new.connection in
+    let first : HasCleanDisk mid = omega (arith, c.transact.ensures.survives.clean) in
+    said_after (λ trees. BeginsWith c.args.setting.kind trees name c.in_ok-found.found → ReasonsOver profile setting.kind setting.limits name texts trees c.transact.result) old mid (c.found_for.ensures.same first) (c.in_ok-found.ensures.found first)
+    (λ there known. c.transact.ensures.reasons clean there known texts told fine) store (c.in_ok-found.ensures.row first store)

@@ -1,4 +1,4 @@
-use Rattle.std.proofs.Common.{rules, ◌≡◌, Option, Result, Err, IsTrue, ap, subst}
+use Rattle.std.proofs.Common.{rules, inr, ◌≡◌, ◌≢◌, Option, Result, Err, IsTrue, ap, subst}
 use Rattle.sqlite.specs.Held.{state}
 use Rattle.zeb_register.specs.declared.RegFault.{RegFault}
 use Rattle.zeb_register.specs.declared.RegFault.TheVariants as register
@@ -6,11 +6,15 @@ use Rattle.zeb_register.specs.declared.catalog.Database.{Database}
 use Rattle.zeb_register.specs.Catalog.{AreCountedDatabases, IsDatabaseOf}
 use Rattle.zeb_engine.specs.PrivateChanging.{MayBeginUnder}
 use Rattle.zeb_change.specs.Base.{Base}
+use Rattle.zeb_change.specs.declared.settings.Kind.TheVariants.{Update}
 use Rattle.zeb_image.specs.Holdings.{base_named}
 use Rattle.zeb_image.specs.NameOf.{name_bytes}
 use Rattle.zeb_change.specs.Outcomes.{register_refusal}
 use Rattle.zeb_engine.specs.Steps.{start_of}
 use Rattle.zeb_engine.proofs.ChangeBegins.{update_begins}
+use Rattle.zeb_engine.proofs.ChangeElders.{begins_with}
+use Rattle.zeb_engine.proofs.ChangeReasons.{missed_for}
+use Rattle.zeb_engine.proofs.OverTables.{fault_few}
 use Rattle.zeb_engine.proofs.ListedDatabases.{counted, fault_meets, fault_misses}
 use Rattle.zeb_engine.proofs.ReadyImages.{image_some}
 use Rattle.zeb_engine.proofs.StoreCauses.{fault_caused, passed_cause}
@@ -70,7 +74,32 @@ returns-in_ok-database-in-Delete-clause-misses g c clean store = tt
 
 pub returns-in_ok-database_of-in-Update-clause-row : goal.returns-in_ok-database_of-in-Update-clause-row
 returns-in_ok-database_of-in-Update-clause-row g c clean store =
-    subst (λ n. IsDatabaseOf (state g.S.Store c.args.connection.now).now.trees n c.in_ok-database_of-in-Update.field-0) c.as_str.ensures (c.in_ok-database_of-in-Update.ensures.value clean store)
+    let trees = (state g.S.Store c.args.connection.now).now.trees in
+    let update : c.args.setting.now.kind ≡ Update = search rules in
+    begins_with c.args.setting.now.kind trees (name_bytes c.args.name.now) c.in_ok-database_of-in-Update.field-0 update
+    (subst (λ n. IsDatabaseOf trees n c.in_ok-database_of-in-Update.field-0) c.as_str.ensures (c.in_ok-database_of-in-Update.ensures.value clean store))
 
 pub returns-in_ok-database-in-Delete-clause-row : goal.returns-in_ok-database-in-Delete-clause-row
 returns-in_ok-database-in-Delete-clause-row g c clean store = c.in_ok-database-in-Delete.ensures.row clean store
+
+-- ---- why it isn't found
+
+pub returns-in_err-database_of-in-Update-clause-missed : goal.returns-in_err-database_of-in-Update-clause-missed
+returns-in_err-database_of-in-Update-clause-missed g c clean store =
+    let fault = c.in_err-database_of-in-Update.field-0.0 in
+    let told : c.from_residual.result ≡ Err (register_refusal fault) = search rules in
+    rw told (inr (fault_few fault))
+
+pub returns-in_err-database-in-Delete-clause-missed : goal.returns-in_err-database-in-Delete-clause-missed
+returns-in_err-database-in-Delete-clause-missed g c clean store =
+    let trees = (state g.S.Store c.args.connection.now).now.trees in
+    let refusal = c.in_err-database-in-Delete.field-0.0 in
+    let told : c.from_residual-in_err-database-in-Delete.result ≡ Err refusal = search rules in
+    let other : c.args.setting.now.kind ≢ Update = search rules in
+    rw told (missed_for c.args.setting.now.kind other trees (name_bytes c.args.name.now) refusal (c.in_err-database-in-Delete.ensures.misses clean store))
+
+pub returns-in_ok-database_of-in-Update-clause-missed : goal.returns-in_ok-database_of-in-Update-clause-missed
+returns-in_ok-database_of-in-Update-clause-missed g c clean store = tt
+
+pub returns-in_ok-database-in-Delete-clause-missed : goal.returns-in_ok-database-in-Delete-clause-missed
+returns-in_ok-database-in-Delete-clause-missed g c clean store = tt

@@ -1,11 +1,11 @@
-use Rattle.std.proofs.Common.{◌≡◌, ◌≢◌, ◌∙◌, ℕ, List, map, Some, Result, Ok, Err, IsTrue, rules, arith, ap, refl, sym, subst, subst₂}
+use Rattle.std.proofs.Common.{◌≡◌, ◌≢◌, ◌∙◌, ℕ, List, map, Some, Result, Ok, Err, IsTrue, rules, arith, ap, refl, sym, subst, subst₂, inl, inr}
 use Rattle.sqlite.specs.Effect.{Database}
 use Rattle.sqlite.specs.Held.{Held, state}
 use Rattle.sqlite.specs.State.{HasCleanDisk}
 use Rattle.zeb_change.specs.declared.refusals.Refusal.{Refusal}
 use Rattle.zeb_change.specs.declared.refusals.Refusal.TheVariants.{Commit, Damaged, ReadFault, Store}
 use Rattle.zeb_engine.specs.declared.replies.Reply.{Reply}
-use Rattle.zeb_engine.specs.PrivateChanging.{MayBeginUnder, MayBegin, comes_to}
+use Rattle.zeb_engine.specs.PrivateChanging.{BeginsWith, MayBeginUnder, MayBegin, comes_to}
 use Rattle.zeb_image.specs.Image.{IsImage}
 use Rattle.zeb_register.specs.Store.{IsStore}
 use Rattle.zeb_image.specs.NameOf.{name_bytes}
@@ -20,10 +20,9 @@ use Rattle.zeb_image.specs.Holdings.{Holdings}
 use Rattle.zeb_register.specs.Calls.{MayRefuse}
 use Rattle.zeb_change.proofs.RecordRoom.{not_refused, one_refusal}
 use Rattle.zeb_engine.specs.Causes.{HasRoomToChange}
-use Rattle.zeb_register.specs.Catalog.{IsDatabaseOf}
-use Rattle.zeb_engine.specs.AnyTables.{ElderOver, EldersOver, LeavesRows}
-use Rattle.zeb_engine.proofs.ChangeElders.{found_elder}
-use Rattle.zeb_engine.proofs.ChangeRoom.{where_open}
+use Rattle.zeb_engine.specs.AnyTables.{ElderOver, EldersOver, LeavesRows, LosesNamedOver, ReasonsOver}
+use Rattle.zeb_engine.proofs.ChangeElders.{found_elder, leaves_same}
+use Rattle.zeb_engine.proofs.ChangeReasons.{few_reasons}
 use Rattle.zeb_engine.proofs.WriteCauses.{may_later}
 use Rattle.zeb_engine.proofs.changes.transact.Goals as goal
 
@@ -120,11 +119,10 @@ returns-clause-work g c = λ clean opened texts told before known keeps.
 -- ---- where there is room
 
 pub returns-in_err-reply-clause-room : goal.returns-in_err-reply-clause-room
-returns-in_err-reply-clause-room g c clean texts told fine before known keeps room refused =
+returns-in_err-reply-clause-room g c clean texts told fine found store room refused =
     let begun = c.transaction-tx.ensures.begun in
     let change = c.args.change.now in
     let name = name_bytes change.name.now in
-    let own = version_of g.L.Layout.format in
     let end = c.drop-tx.new.self.0 in
     let mid = state g.S.Store c.apply.new.tx.conn.now in
     let late : HasCleanDisk (state g.S.Store end) = search rules in
@@ -132,23 +130,21 @@ returns-in_err-reply-clause-room g c clean texts told fine before known keeps ro
     let refusal = c.in_err-reply.field-0.0 in
     let result : c.from_residual.result ≡ Err refusal = search rules in
     let is = one_refusal c.from_residual.result refusal Store result refused in
-    let said = c.in_err-reply.ensures.room (omega (arith, c.drop-tx.ensures.survives.clean)) (rw begun refl) texts told fine before in
-    let in_room = subst (λ (held : Held _). MayBegin own change.setting name change.found (state g.S.Store held).now.trees before → IsStore (state g.S.Store held) → IsImage (state g.S.Store held).now.trees before
-    → HasRoomToChange g.L.Layout.format change.setting.profile.now change.setting.kind texts (state g.S.Store held).now.trees → ◌≡◌ {A = Result Reply Refusal} (Err refusal) (Err Store) → MayRefuse (state g.S.Store held) mid) begun said in
+    let said = c.in_err-reply.ensures.room (omega (arith, c.drop-tx.ensures.survives.clean)) (rw begun refl) texts told fine in
+    let in_room = subst (λ (held : Held _). IsStore (state g.S.Store held) → BeginsWith change.setting.kind (state g.S.Store held).now.trees name change.found
+    → HasRoomToChange change.setting.profile.now change.setting.kind name texts (state g.S.Store held).now.trees → ◌≡◌ {A = Result Reply Refusal} (Err refusal) (Err Store) → MayRefuse (state g.S.Store held) mid) begun said in
     subst (λ h. MayRefuse (state g.S.Store c.args.connection.now) (state g.S.Store h)) same
-    (where_open (state g.S.Store c.args.connection.now) (state g.S.Store end) (λ opened.
-    let at = (keeps opened).0 in
-    may_later (state g.S.Store c.args.connection.now) mid (state g.S.Store end) c.drop-tx.ensures.survives.counts
-    (in_room known (record { is = at.0.is; sound = at.0.sound; keyed = at.0.keyed }) at.1 room (ap Err is))))
+    (may_later (state g.S.Store c.args.connection.now) mid (state g.S.Store end) c.drop-tx.ensures.survives.counts
+    (in_room (record { is = store.is; sound = store.sound; keyed = store.keyed }) found room (ap Err is)))
 
 pub returns-in_err-commit-clause-room : goal.returns-in_err-commit-clause-room
-returns-in_err-commit-clause-room g c clean texts told fine before known keeps room refused =
+returns-in_err-commit-clause-room g c clean texts told fine found store room refused =
     let result : c.from_residual-in_err-commit.result ≡ Err Commit = search rules in
     let is = one_refusal c.from_residual-in_err-commit.result Commit Store result refused in
     absurd (cc)
 
 pub returns-clause-room : goal.returns-clause-room
-returns-clause-room g c clean texts told fine before known keeps room refused = absurd (not_refused _ Store refused)
+returns-clause-room g c clean texts told fine found store room refused = absurd (not_refused _ Store refused)
 
 -- ---- what is kept under the first record's identifier
 
@@ -196,9 +192,9 @@ returns-clause-elders g c clean store found texts told =
     let late : HasCleanDisk (state g.S.Store c.commit.new.self.0) = search rules in
     let reply = c.in_ok-reply.reply in
     let there = subst (λ (held : Held _). IsStore (state g.S.Store held)) (sym begun) (record { is = store.is; sound = store.sound; keyed = store.keyed }) in
-    let known = subst (λ (held : Held _). IsDatabaseOf (state g.S.Store held).now.trees name change.found) (sym begun) found in
+    let known = subst (λ (held : Held _). BeginsWith change.setting.kind (state g.S.Store held).now.trees name change.found) (sym begun) found in
     let said = c.in_ok-reply.ensures.elders (omega (arith, c.commit.ensures.survives.clean)) (rw begun refl) there known texts told in
-    subst (λ (held : Held _). EldersOver {T = Reply} change.setting.profile.now name texts (state g.S.Store held).now.trees (Ok reply)) begun said
+    subst (λ (held : Held _). EldersOver {T = Reply} change.setting.profile.now change.setting.limits name texts (state g.S.Store held).now.trees (Ok reply)) begun said
 
 -- ---- what is kept after
 
@@ -213,8 +209,52 @@ returns-clause-loses g c clean store found =
     let late : HasCleanDisk (state g.S.Store end) = search rules in
     let same : end ≡ c.connection-2-1.given.0 = search rules in
     let there = subst (λ (held : Held _). IsStore (state g.S.Store held)) (sym begun) (record { is = store.is; sound = store.sound; keyed = store.keyed }) in
-    let known = subst (λ (held : Held _). IsDatabaseOf (state g.S.Store held).now.trees name change.found) (sym begun) found in
+    let known = subst (λ (held : Held _). BeginsWith change.setting.kind (state g.S.Store held).now.trees name change.found) (sym begun) found in
     let said = c.in_ok-reply.ensures.loses (omega (arith, c.commit.ensures.survives.clean)) (rw begun refl) there known in
-    let left = subst (λ (held : Held _). LeavesRows profile name (state g.S.Store held).now.trees mid.now.trees) begun said in
-    let settled = subst (λ (d : Database). LeavesRows profile name (state g.S.Store c.args.connection.now).now.trees d.trees) (sym (c.in_ok-commit.ensures.ok late).1.now_is) left in
-    subst (λ h. LeavesRows profile name (state g.S.Store c.args.connection.now).now.trees (state g.S.Store h).now.trees) same settled
+    let left = subst (λ (held : Held _). LeavesRows profile change.setting.kind name (state g.S.Store held).now.trees mid) begun said in
+    let settled = leaves_same profile change.setting.kind name (state g.S.Store c.args.connection.now).now.trees mid (state g.S.Store end) (c.in_ok-commit.ensures.ok late).1.now_is left in
+    subst (λ h. LeavesRows profile change.setting.kind name (state g.S.Store c.args.connection.now).now.trees (state g.S.Store h)) same settled
+
+-- under which identifiers it has lost any
+pub returns-clause-named : goal.returns-clause-named
+returns-clause-named g c clean store found texts told =
+    let begun = c.transaction-tx.ensures.begun in
+    let change = c.args.change.now in
+    let profile = change.setting.profile.now in
+    let name = name_bytes change.name.now in
+    let old = state g.S.Store c.args.connection.now in
+    let mid = state g.S.Store c.apply.new.tx.conn.now in
+    let end = c.commit.new.self.0 in
+    let late : HasCleanDisk (state g.S.Store end) = search rules in
+    let same : end ≡ c.connection-2-1.given.0 = search rules in
+    let there = subst (λ (held : Held _). IsStore (state g.S.Store held)) (sym begun) (record { is = store.is; sound = store.sound; keyed = store.keyed }) in
+    let known = subst (λ (held : Held _). BeginsWith change.setting.kind (state g.S.Store held).now.trees name change.found) (sym begun) found in
+    let said = c.in_ok-reply.ensures.named (omega (arith, c.commit.ensures.survives.clean)) (rw begun refl) there known texts told in
+    let left = subst (λ (held : Held _). LosesNamedOver profile name texts (state g.S.Store held).now.trees mid.now.trees) begun said in
+    let settled = subst (λ (d : Database). LosesNamedOver profile name texts old.now.trees d.trees) (sym (c.in_ok-commit.ensures.ok late).1.now_is) left in
+    subst (λ h. LosesNamedOver profile name texts old.now.trees (state g.S.Store h).now.trees) same settled
+
+-- ---- why it is refused
+
+pub returns-in_err-reply-clause-reasons : goal.returns-in_err-reply-clause-reasons
+returns-in_err-reply-clause-reasons g c clean store found texts told fine =
+    let begun = c.transaction-tx.ensures.begun in
+    let change = c.args.change.now in
+    let name = name_bytes change.name.now in
+    let late : HasCleanDisk (state g.S.Store c.drop-tx.new.self.0) = search rules in
+    let refusal = c.in_err-reply.field-0.0 in
+    let result : c.from_residual.result ≡ Err refusal = search rules in
+    let there = subst (λ (held : Held _). IsStore (state g.S.Store held)) (sym begun) (record { is = store.is; sound = store.sound; keyed = store.keyed }) in
+    let known = subst (λ (held : Held _). BeginsWith change.setting.kind (state g.S.Store held).now.trees name change.found) (sym begun) found in
+    let said = c.in_err-reply.ensures.reasons (omega (arith, c.drop-tx.ensures.survives.clean)) (rw begun refl) there known texts told fine in
+    let was = subst (λ (held : Held _). ReasonsOver {T = Reply} change.setting.profile.now change.setting.kind change.setting.limits name texts (state g.S.Store held).now.trees (Err refusal)) begun said in
+    rw result was
+
+pub returns-in_err-commit-clause-reasons : goal.returns-in_err-commit-clause-reasons
+returns-in_err-commit-clause-reasons g c clean store found texts told fine =
+    let change = c.args.change.now in
+    let result : c.from_residual-in_err-commit.result ≡ Err Commit = search rules in
+    few_reasons change.setting.profile.now change.setting.kind change.setting.limits (name_bytes change.name.now) texts (state g.S.Store c.args.connection.now).now.trees Commit c.from_residual-in_err-commit.result result (inr (inl refl))
+
+pub returns-clause-reasons : goal.returns-clause-reasons
+returns-clause-reasons g c clean store found texts told fine = tt

@@ -13,8 +13,7 @@ use Rattle.zeb_engine.specs.AnyTables.{DumpOver, DumpTells}
 use Rattle.zeb_change.specs.Conditions.{conditions}
 use Rattle.zeb_image.specs.NameOf.{name_bytes}
 use Rattle.zeb_engine.specs.Steps.{dumped_by, dumped_in}
-use Rattle.zeb_engine.specs.Works.{Always}
-use Rattle.zeb_engine.specs.PrivateWorks.{Serves}
+use Rattle.zeb_engine.specs.PrivateWorks.{Always, Serves}
 use Rattle.zeb_engine.proofs.DumpAnswers.{Dumps, base_kept, dump_fails, dump_told, dump_unknown, unready_dumps}
 use Rattle.zeb_engine.proofs.HiddenRows.{hidden_after, hidden_of, misses_hidden, unready_hidden}
 use Rattle.zeb_engine.proofs.Showing.{still_shows}

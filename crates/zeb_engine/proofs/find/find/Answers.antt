@@ -18,7 +18,7 @@ use Rattle.zeb_change.specs.Base.{Base}
 use Rattle.zeb_change.specs.Conditions.{conditions}
 use Rattle.zeb_engine.specs.Alone.{OfDatabase}
 use Rattle.zeb_engine.specs.Answers.{Answer}
-use Rattle.zeb_engine.specs.AnyTables.{FindOver, FindTells, HidesAny, SoundHits}
+use Rattle.zeb_engine.specs.AnyTables.{FindOver, FindTells, HidesUnsaid, SoundHits}
 use Rattle.zeb_engine.specs.Finding.{asked_of}
 use Rattle.zeb_image.specs.NameOf.{name_bytes}
 use Rattle.zeb_change.specs.Outcomes.{query_refusal, register_refusal}
@@ -300,7 +300,7 @@ returns-in_err-query-clause-tables g c clean store =
     let fault = c.in_err-query.field-0.0 in
     let told : c.from_residual.result ≡ Err (query_refusal fault) = search rules in
     let trees = (state g.S.Store c.args.connection.now).now.trees in
-    rw told (query_over (tells g.L.Layout.format c.args.profile.now c.args.question trees) (name_bytes c.args.name.now) HidesAny trees c.args.question.query.now fault c.in_err-query.ensures.faulty)
+    rw told (query_over (tells g.L.Layout.format c.args.profile.now c.args.question trees) (name_bytes c.args.name.now) HidesUnsaid trees c.args.question.query.now fault c.in_err-query.ensures.faulty)
 
 pub returns-in_err-database-clause-tables : goal.returns-in_err-database-clause-tables
 returns-in_err-database-clause-tables g c clean store =
@@ -309,7 +309,7 @@ returns-in_err-database-clause-tables g c clean store =
     let trees = (state g.S.Store c.args.connection.now).now.trees in
     let Tells = tells g.L.Layout.format c.args.profile.now c.args.question trees in
     let name = name_bytes c.args.name.now in
-    rw told (asked_over Tells name HidesAny trees c.args.question.query.now c.in_ok-query.ensures.readable (Err refusal) (misses_hidden Tells name HidesAny trees (λ _. tt) refusal (c.in_err-database.ensures.misses clean store)))
+    rw told (asked_over Tells name HidesUnsaid trees c.args.question.query.now c.in_ok-query.ensures.readable (Err refusal) (misses_hidden Tells name HidesUnsaid trees (λ _. tt) refusal (c.in_err-database.ensures.misses clean store)))
 
 pub returns-in_err-plan-clause-tables : goal.returns-in_err-plan-clause-tables
 returns-in_err-plan-clause-tables g c clean store =
@@ -318,7 +318,7 @@ returns-in_err-plan-clause-tables g c clean store =
     let trees = (state g.S.Store c.args.connection.now).now.trees in
     let database = c.in_ok-database.database in
     let text = c.args.question.query.now in
-    rw told (or_fails (tells g.L.Layout.format c.args.profile.now c.args.question trees) (name_bytes c.args.name.now) HidesAny trees text c.in_ok-query.ensures.readable database.id.0 (pos database.last) (c.in_ok-database.ensures.row clean store) (query_refusal fault)
+    rw told (or_fails (tells g.L.Layout.format c.args.profile.now c.args.question trees) (name_bytes c.args.name.now) HidesUnsaid trees text c.in_ok-query.ensures.readable database.id.0 (pos database.last) (c.in_ok-database.ensures.row clean store) (query_refusal fault)
     (plan_found c.args.profile.now text (query_value c.in_ok-query.query) c.in_ok-query.ensures.spelled (has_ident_in trees database.id.0) (SoundHits g.L.Layout.format trees database.id.0) c.args.question.first c.args.question.count fault c.in_err-plan.ensures.planned))
 
 pub returns-in_err-hits-clause-tables : goal.returns-in_err-hits-clause-tables
@@ -344,7 +344,7 @@ returns-in_err-asked-clause-tables g c clean store =
     let question = c.args.question in
     let Asked = λ (wanted : List ℕ) (asked : Bor (List ℕ)). asked.now ≡ wanted in
     let met = subst (λ (l : List ℕ). Meets Asked (asked_of l question.first question.count) (Err refusal)) c.deref.ensures.value c.in_err-asked.ensures.asked in
-    rw told (or_fails (tells g.L.Layout.format c.args.profile.now question trees) (name_bytes c.args.name.now) HidesAny trees question.query.now c.in_ok-query.ensures.readable database.id.0 (pos database.last) (c.in_ok-database.ensures.row clean1 store) refusal
+    rw told (or_fails (tells g.L.Layout.format c.args.profile.now question trees) (name_bytes c.args.name.now) HidesUnsaid trees question.query.now c.in_ok-query.ensures.readable database.id.0 (pos database.last) (c.in_ok-database.ensures.row clean1 store) refusal
     (past_found c.args.profile.now question.query.now (query_value c.in_ok-query.query) c.in_ok-query.ensures.spelled (has_ident_in trees database.id.0) Sound question.first question.count
     plan c.in_ok-plan.ensures.planned c.in_ok-hits.hits.items sound Asked refusal met))
 

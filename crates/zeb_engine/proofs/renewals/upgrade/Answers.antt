@@ -9,14 +9,16 @@ use Rattle.zeb_register.proofs.Causes.{may_after}
 use Rattle.zeb_change.specs.declared.settings.Limits.{Limits}
 use Rattle.zeb_change.specs.Conditions.{conditions}
 use Rattle.zeb_change.specs.Outcomes.{register_refusal}
+use Rattle.zeb_engine.specs.Adopting.{StaysOpen}
 use Rattle.zeb_engine.specs.Causes.{HasRoomToRenew}
+use Rattle.zeb_engine.specs.Checking.{UpgradeLeaves}
 use Rattle.zeb_engine.specs.declared.looks.Standing.{Standing}
 use Rattle.zeb_engine.specs.PrivateLooking.{FindsStanding, IsLook}
 use Rattle.zeb_engine.specs.Readiness.{RefusesUpgrade}
 use Rattle.zeb_engine.proofs.CheckAnswers.{tells_none, told_image}
 use Rattle.zeb_engine.proofs.CommitCrashes.{survives_after}
-use Rattle.zeb_engine.proofs.RenewalAnswers.{damage_unserved, first_met, first_tells, layout_unserved, own_not_first, own_serves, own_unrefused}
-use Rattle.zeb_engine.proofs.ServesLemmas.{keeps_still}
+use Rattle.zeb_engine.proofs.RenewalAnswers.{damage_unserved, first_leaves, first_met, first_tells, layout_unserved, own_not_first, own_serves, own_unrefused}
+use Rattle.zeb_engine.proofs.ServesLemmas.{keeps_still, on_ok}
 use Rattle.zeb_engine.proofs.StoreCauses.{accepted_leaves, fault_after, passed_cause, store_told}
 use Rattle.zeb_engine.proofs.renewals.upgrade.Goals as goal
 
@@ -175,6 +177,37 @@ returns-else-branch-clause-stays g c clean store texts =
     let first : HasCleanDisk mid = omega (arith, c.is_image.ensures.call.crash.clean) in
     let look = subst (λ (s : Standing). IsLook (FindsStanding (version_of g.L.Layout.format) c.args.profile.now) (RefusesUpgrade (version_of g.L.Layout.format) c.args.profile.now) old mid (Ok s)) c.in-First.is (c.in_ok-standing.ensures.look first) in
     absurd (own_not_first (version_of g.L.Layout.format) c.args.profile.now old store texts (look.told store))
+
+-- ---- what is left
+
+pub returns-in-Upgraded-clause-leaves : goal.returns-in-Upgraded-clause-leaves
+returns-in-Upgraded-clause-leaves g c clean store =
+    let look = c.in_ok-standing.ensures.look clean in
+    store_same (state g.S.Store c.args.connection.now) (state g.S.Store c.check_layout.new.connection) (look.same look.found.1).1 store
+
+pub returns-then-branch-clause-leaves : goal.returns-then-branch-clause-leaves
+returns-then-branch-clause-leaves g c clean =
+    let own = version_of g.L.Layout.format in
+    let profile = c.args.profile.now in
+    let k = conditions own profile any_limits in
+    let old = state g.S.Store c.args.connection.now in
+    let mid = state g.S.Store c.check_layout.new.connection in
+    let late = state g.S.Store c.is_image.new.connection in
+    let new = state g.S.Store c.transact.new.connection in
+    let second : HasCleanDisk late = omega (arith, c.transact.ensures.survives.clean) in
+    let first : HasCleanDisk mid = omega (arith, c.transact.ensures.survives.clean, c.is_image.ensures.call.crash.clean) in
+    let look = subst (λ (s : Standing). IsLook (FindsStanding own profile) (RefusesUpgrade own profile) old mid (Ok s)) c.in-First.is (c.in_ok-standing.ensures.look first) in
+    let still = (look.same look.found.1).1 in
+    let idle : IsTrue c.is_autocommit-settled.result = search rules in
+    let yes : IsTrue c.in_ok-is_image-in-First.field-0 = search rules in
+    let read = (c.in_ok-is_image-in-First.ensures.call.ok second).1 yes in
+    let nothing = nothing_then old mid late look.same (c.is_image.ensures.call.same second c.check_layout.ensures.idle) in
+    on_ok c.transact.result (StaysOpen late new) (UpgradeLeaves old new) (λ opened store.
+    let image = told_image k (version_of plain_rows) old mid still c.in_ok-is_image-in-First.field-0 (c.in_ok-is_image-in-First.ensures.value second (store_same old mid still store)) yes in
+    first_leaves k old store (λ is_open. sym (c.is_autocommit-settled.ensures.settled idle is_open)) image new c.transact.result opened.1 (λ before fits keeps.
+    let met = first_met k old mid look before keeps in
+    c.transact.ensures.serves clean k read.0.is_open before (λ _. (record { version_is = refl; profile_is = refl; sound = c.is_of_some_text.ensures }, (met.0, met.2))) (keeps_still before old late nothing keeps)))
+    (c.transact.ensures.call.accepted clean)
 
 -- ---- where there is room
 

@@ -23,7 +23,7 @@ use Rattle.zeb_engine.specs.AnyTables.{ScanOver, ScanTells, TellsAround}
 use Rattle.zeb_engine.specs.Steps.{ScanAnswers}
 use Rattle.zeb_engine.proofs.ReadyQueries.{existing_ends, query_ends, refused_ends}
 use Rattle.zeb_engine.proofs.Lookups.{base_found, still_holds}
-use Rattle.zeb_engine.proofs.HiddenRows.{hidden_of, misses_hidden}
+use Rattle.zeb_engine.proofs.HiddenRows.{hidden_read, misses_hidden}
 use Rattle.zeb_engine.proofs.OverTables.{asked_over, or_fails, plan_scanned, planned_hides, query_over, terms_scanned}
 use Rattle.zeb_engine.proofs.ScanAnswers.{plan_ends, scanned_ends, terms_answered}
 use Rattle.zeb_engine.proofs.Showing.{still_shows}
@@ -160,7 +160,7 @@ returns-in_err-database-clause-tables g c clean store =
     let Tells = tells g.L.Layout.format c.args.profile.now c.args.around trees in
     let name = name_bytes c.args.name.now in
     let Hides = hides g.L.Layout.format c.args.profile.now name c.args.around in
-    rw told (asked_over Tells name Hides trees c.args.around.query.now c.in_ok-query.ensures.readable (Err refusal) (misses_hidden Tells name Hides trees (λ is. inl is) refusal (c.in_err-database.ensures.misses clean store)))
+    rw told (asked_over Tells name Hides trees c.args.around.query.now c.in_ok-query.ensures.readable (Err refusal) (misses_hidden Tells name Hides trees (λ is. (c.in_ok-query.ensures.readable, inl is)) refusal (c.in_err-database.ensures.misses clean store)))
 
 pub returns-in_err-plan-clause-tables : goal.returns-in_err-plan-clause-tables
 returns-in_err-plan-clause-tables g c clean store =
@@ -190,7 +190,7 @@ returns-in_err-entries-clause-tables g c clean store =
     let database = c.in_ok-database.database in
     let plan = scan_value c.in_ok-plan.plan in
     let met = subst (λ (t : Trees). IsFailure (refused (why_of refusal)) ⊎ ((refusal ≡ Damaged) × HidesAround format t database.id.0 plan around.number around.position)) at.1 (c.in_err-entries.ensures.honest clean at.0) in
-    rw told (hidden_of (ScanOver format profile name around.query.now around.number around.position) (λ t id. HidesPlanned format profile around.query.now around.number around.position t id) name trees database.id.0 (pos database.last) (c.in_ok-database.ensures.row clean1 store) refusal
+    rw told (hidden_read around.query.now c.in_ok-query.ensures.readable (ScanOver format profile name around.query.now around.number around.position) (λ t id. HidesPlanned format profile around.query.now around.number around.position t id) name trees database.id.0 (pos database.last) (c.in_ok-database.ensures.row clean1 store) refusal
     (planned_hides profile around.query.now (query_value c.in_ok-query.query) c.in_ok-query.ensures.spelled format around.number around.position trees database.id.0 plan c.in_ok-plan.ensures.planned refusal met))
 
 pub returns-clause-tables : goal.returns-clause-tables

@@ -12,7 +12,7 @@ use Rattle.zeb_register.specs.Sound.{AreTermsSound, InPacked}
 use Rattle.zeb_query.proofs.HoldingLemmas.{take_whole}
 use Rattle.zeb_engine.specs.declared.replies.Holding.{Holding}
 use Rattle.zeb_engine.specs.Answers.{extent_of}
-use Rattle.zeb_engine.specs.AnyRefusals.{HidesOneOf}
+use Rattle.zeb_engine.specs.AnyRefusals.{HidesRegister}
 use Rattle.zeb_engine.specs.AnyTables.{IsSoundUnder}
 use Rattle.zeb_engine.specs.Counting.{IsExtent, Paired, Target}
 use Rattle.zeb_change.specs.Outcomes.{register_refusal}
@@ -114,5 +114,5 @@ returns-in_err-totals-clause-honest g c clean trees shows was =
     let there = has_at targets index target c.loop-target-test.true (get_or_default targets index (0, Word) target c.loop-target-test.true) in
     let fault = c.in_err-totals.field-0.0 in
     let told : c.from_residual-in_err-totals.result ≡ Err (register_refusal fault) = search rules in
-    rw told (fault_or_damage (HidesOneOf g.L.Layout.format targets trees c.args.database.0) fault
+    rw told (fault_or_damage (HidesRegister g.L.Layout.format targets trees c.args.database.0) fault
     (λ is. (target, there, subst (λ (t : Trees). ¬ InPacked g.L.Layout.format (IsRegisterSound t c.args.database.0 target.0 target.1)) at.1 (c.in_err-totals.ensures.damaged clean at.0 (ap Err is)))))

@@ -10,7 +10,7 @@ use Rattle.zeb_register.specs.declared.catalog.Database.{Database}
 use Rattle.zeb_engine.specs.declared.replies.Reply.{Reply}
 use Rattle.zeb_engine.specs.declared.replies.Reply.TheVariants.{Counted}
 use Rattle.zeb_engine.specs.Answers.{counted, extent_of, refused, IsFailure}
-use Rattle.zeb_engine.specs.AnyRefusals.{HidesOneOf, HidesRegisters}
+use Rattle.zeb_engine.specs.AnyRefusals.{HidesRegister, HidesRegisters}
 use Rattle.zeb_engine.specs.AnyTables.{IsSoundUnder, StatOver, StatTells}
 use Rattle.zeb_change.specs.Conditions.{conditions}
 use Rattle.zeb_change.specs.declared.refusals.Refusal.TheVariants.{Damaged}
@@ -257,8 +257,8 @@ returns-in_err-holdings-clause-tables g c clean store texts =
     let refusal = c.in_err-holdings.field-0.0 in
     let told : c.from_residual-in_err-holdings.result ≡ Err refusal = search rules in
     let targets = c.deref.ensures.value ∙ c.in_ok-targets.ensures in
-    let met = subst (λ (l : List Target). IsFailure (refused (why_of refusal)) ⊎ ((refusal ≡ Damaged) × HidesOneOf format l s0.now.trees database.id.0)) targets (c.in_err-holdings.ensures.honest clean s0.now.trees at3 read.is_open) in
-    rw told (hidden_of (StatOver format profile name) (λ t id. HidesOneOf format (target_list profile) t id) name s0.now.trees database.id.0 (pos database.last) row refusal met)
+    let met = subst (λ (l : List Target). IsFailure (refused (why_of refusal)) ⊎ ((refusal ≡ Damaged) × HidesRegister format l s0.now.trees database.id.0)) targets (c.in_err-holdings.ensures.honest clean s0.now.trees at3 read.is_open) in
+    rw told (hidden_of (StatOver format profile name) (λ t id. HidesRegister format (target_list profile) t id) name s0.now.trees database.id.0 (pos database.last) row refusal met)
 
 pub returns-clause-tables : goal.returns-clause-tables
 returns-clause-tables g c clean store texts =

@@ -81,8 +81,8 @@ loop-turn-init g c = record {
   checked = λ clean mode store n ident bytes low there. absurd (omega (arith, low));
   posted = λ clean mode store before had storable lacks.
       record { content = before; held = will_begin g.L.Layout.format _ c.args.db.0 c.new-pending.result before c.new-pending.ensures had storable; storable = storable; is = none_posted c.args.profile.now _ c.args.db.0 before lacks };
-  room = λ clean mode store records most places rowids spare asks few among has before had storable lacks.
-      records_begun g.L.Layout.format c.args.profile.now _ c.args.db.0 c.new-pending.result records most places rowids spare c.new-pending.ensures asks few among has;
+  room = λ clean mode store records most places rowids spare asks few among has.
+      records_begun c.args.profile.now _ c.args.db.0 c.new-pending.result records most places rowids spare c.new-pending.ensures asks few among has;
 }
 
 -- ---- the next record
@@ -144,25 +144,22 @@ then_noted g c clean mode store before had storable lacks =
 wrote : (g : given.Over) (c : After-write_where_full g) → HasCleanDisk (state g.S.Store c.write_where_full.new.tx.conn.now) → IsTrue (state g.S.Store c.args.tx.now.conn.now).in_transaction
     → IsStore (state g.S.Store c.args.tx.now.conn.now)
     → (records : List Kept) (most places rowids spare : ℕ) → AskKept c.args.profile.now most records places rowids → places + spare ≤ most
-    → AreAmong (state g.S.Store c.args.tx.now.conn.now).now.trees c.args.db.0 records → HasRoom g.L.Layout.format (places + spare) (state g.S.Store c.args.tx.now.conn.now).now.trees
-    → (before : Content) → holds_in g.L.Layout.format (state g.S.Store c.args.tx.now.conn.now).now.trees before → IsStorable before → LacksDatabase c.args.db.0 before
-    → (next : NextRecordRoom g.L.Layout.format c.args.profile.now (state g.S.Store c.args.tx.now.conn.now).now.trees c.args.db.0 c.in-Some.record (state g.S.Store c.loop-turn.tx.conn.now).now.trees c.loop-turn.pending most spare)
+    → AreAmong (state g.S.Store c.args.tx.now.conn.now).now.trees c.args.db.0 records → HasRoom (places + spare) (state g.S.Store c.args.tx.now.conn.now).now.trees
+    → (next : NextRecordRoom c.args.profile.now (state g.S.Store c.args.tx.now.conn.now).now.trees c.args.db.0 c.in-Some.record (state g.S.Store c.loop-turn.tx.conn.now).now.trees c.loop-turn.pending most spare)
     × (c.write_where_full.result ≡ Err Store → MayRefuse (state g.S.Store c.args.tx.now.conn.now) (state g.S.Store c.write_where_full.new.tx.conn.now))
-    × OnOk c.write_where_full.result (HasRoomFor g.L.Layout.format most (state g.S.Store c.write_where_full.new.tx.conn.now).now.trees c.write_where_full.new.pending (next.others + spare))
-wrote g c clean mode store records most places rowids spare asks few among has before had storable lacks =
+    × OnOk c.write_where_full.result (HasRoomFor most (state g.S.Store c.write_where_full.new.tx.conn.now).now.trees c.write_where_full.new.pending (next.others + spare))
+wrote g c clean mode store records most places rowids spare asks few among has =
     let read = next_read g c clean mode store in
-    let noted = (then_noted g c clean mode store before had storable lacks).1 in
     let old = state g.S.Store c.args.tx.now.conn.now in
     let now = state g.S.Store c.loop-turn.tx.conn.now in
     let mid = state g.S.Store c.record_from_inside.new.tx.conn.now in
-    let format = g.L.Layout.format in
-    let rest = c.loop-turn.invariant.room read.at.clean mode store records most places rowids spare asks few among has before had storable lacks in
-    let next = next_record format c.args.profile.now old.now.trees c.args.db.0 c.loop-turn.next now.now.trees c.loop-turn.pending most spare rest c.in-Some.record read.first in
+    let rest = c.loop-turn.invariant.room read.at.clean mode store records most places rowids spare asks few among has in
+    let next = next_record c.args.profile.now old.now.trees c.args.db.0 c.loop-turn.next now.now.trees c.loop-turn.pending most spare rest c.in-Some.record read.first in
     let within = next.room.few in
     let more = c.in_ok-record_note.ensures.room most next.place next.rowid (next.room.noted + (next.place + (next.others + spare))) next.room.noted next.asks within next.room.among in
     let seen = registers_seen now mid read.at.on.now_is in
-    let room = room_noted format most now.now.trees mid.now.trees c.loop-turn.pending c.record_note.new.pending next.place (next.others + spare) more.0 next.room seen more.1 more.2 in
-    let done = c.write_where_full.ensures.room noted.content most (next.others + spare) noted.storable clean read.at.on.mode read.store noted.held room in
+    let room = room_noted most now.now.trees mid.now.trees c.loop-turn.pending c.record_note.new.pending next.place (next.others + spare) more.0 next.room seen more.1 more.2 in
+    let done = c.write_where_full.ensures.room most (next.others + spare) clean read.at.on.mode read.store room in
     let crash : Survives old mid (λ _. ⊥) = search rules in
     (next, λ failed. may_after old mid (state g.S.Store c.write_where_full.new.tx.conn.now) crash read.at.goes.stays_open (λ _. done.0 failed), done.1)
 
@@ -188,9 +185,9 @@ loop-turn-preserved g c =
           let so_far = c.loop-turn.invariant.turns read.at.clean mode store in
           let behind = read.first.1 in
           omega (arith, so_far, behind);
-      room = λ clean mode store records most places rowids spare asks few among has before had storable lacks.
-          let done = wrote g full clean mode store records most places rowids spare asks few among has before had storable lacks in
-          done.0.leaves new.now.trees c.write_where_full.new.pending (subst (λ (r : Result (Unit {0}) RegFault). OnOk r (HasRoomFor g.L.Layout.format most new.now.trees c.write_where_full.new.pending (done.0.others + spare))) c.in_ok-write_where_full.was done.2);
+      room = λ clean mode store records most places rowids spare asks few among has.
+          let done = wrote g full clean mode store records most places rowids spare asks few among has in
+          done.0.leaves new.now.trees c.write_where_full.new.pending (subst (λ (r : Result (Unit {0}) RegFault). OnOk r (HasRoomFor most new.now.trees c.write_where_full.new.pending (done.0.others + spare))) c.in_ok-write_where_full.was done.2);
       kept = λ clean mode store.
           let read = next_read g full clean mode store in
           let settled = c.in_ok-write_where_full.ensures.call.written clean read.at.on.mode read.store in
@@ -324,26 +321,23 @@ returns-in_err-write_where_full-clause-damaged g c = λ clean mode store told be
 -- ---- a failed store, where there is room
 
 pub returns-in_default-clause-room : goal.returns-in_default-clause-room
-returns-in_default-clause-room g c records most places rowids spare asks few clean mode store among has before had storable lacks =
+returns-in_default-clause-room g c records most places rowids spare asks few clean mode store among has =
     let old = state g.S.Store c.args.tx.now.conn.now in
     let now = state g.S.Store c.loop-turn.tx.conn.now in
     let mid = state g.S.Store c.record_from_inside.new.tx.conn.now in
     let new = state g.S.Store c.write_pending.new.tx.conn.now in
-    let format = g.L.Layout.format in
     let at = asked old now mid (omega (arith, c.write_pending.ensures.call.crash.clean)) c.record_from_inside.ensures.call.crash (λ clean_now. c.loop-turn.invariant.stays clean_now mode) c.in_ok-record.ensures.call.ok in
     let kept = c.loop-turn.invariant.kept at.clean mode store in
-    let such = c.loop-turn.invariant.posted at.clean mode store before had storable lacks in
-    let rest = c.loop-turn.invariant.room at.clean mode store records most places rowids spare asks few among has before had storable lacks in
-    let held = subst (λ (db : Database). WillHold format db.trees c.args.db.0 c.loop-turn.pending such.content) (sym at.on.now_is) such.held in
-    let room = subst (λ (db : Database). HasRoomFor format most db.trees c.loop-turn.pending (rest.places + spare)) (sym at.on.now_is) rest.room in
-    let done = c.write_pending.ensures.room such.content most (rest.places + spare) such.storable clean at.on.mode (store_same now mid at.on.now_is kept.0) held room in
+    let rest = c.loop-turn.invariant.room at.clean mode store records most places rowids spare asks few among has in
+    let room = subst (λ (db : Database). HasRoomFor most db.trees c.loop-turn.pending (rest.places + spare)) (sym at.on.now_is) rest.room in
+    let done = c.write_pending.ensures.room most (rest.places + spare) clean at.on.mode (store_same now mid at.on.now_is kept.0) room in
     let crash : Survives old mid (λ _. ⊥) = search rules in (
       λ failed. may_after old mid new crash at.goes.stays_open (λ _. done.0 failed),
-      ok_both c.write_pending.result _ _ _ (λ all there. records_ended format new.now.trees c.write_pending.new.pending most rest.places spare all there) c.write_pending.ensures.all done.1,
+      ok_both c.write_pending.result _ _ _ (λ all there. records_ended new.now.trees c.write_pending.new.pending most rest.places spare all there) c.write_pending.ensures.all done.1,
     )
 
 pub returns-in_err-record-clause-room : goal.returns-in_err-record-clause-room
-returns-in_err-record-clause-room g c records most places rowids spare asks few clean mode store among has before had storable lacks =
+returns-in_err-record-clause-room g c records most places rowids spare asks few clean mode store among has =
     let old = state g.S.Store c.args.tx.now.conn.now in
     let now = state g.S.Store c.loop-turn.tx.conn.now in
     let new = state g.S.Store c.record_from_inside.new.tx.conn.now in
@@ -356,15 +350,15 @@ returns-in_err-record-clause-room g c records most places rowids spare asks few 
     may_after old now new c.loop-turn.invariant.crash was.stays_open (λ _. c.record_from_inside.ensures.refused clean was.mode kept.0 fault))
 
 pub returns-in_err-record_note-clause-room : goal.returns-in_err-record_note-clause-room
-returns-in_err-record_note-clause-room g c records most places rowids spare asks few clean mode store among has before had storable lacks =
+returns-in_err-record_note-clause-room g c records most places rowids spare asks few clean mode store among has =
     let told : c.from_residual-in_err-record_note.result ≡ Err c.in_err-record_note.field-0.0 = search rules in
     failed_for _ _ c.from_residual-in_err-record_note.result c.in_err-record_note.field-0.0 told (λ failed.
     let fault : c.record_note.result ≡ Err Store = search rules in
     absurd (c.record_note.ensures.unstored fault))
 
 pub returns-in_err-write_where_full-clause-room : goal.returns-in_err-write_where_full-clause-room
-returns-in_err-write_where_full-clause-room g c records most places rowids spare asks few clean mode store among has before had storable lacks =
-    let done = wrote g (goal.at.returns-in_err-write_where_full-clause-room g c).After-write_where_full clean mode store records most places rowids spare asks few among has before had storable lacks in
+returns-in_err-write_where_full-clause-room g c records most places rowids spare asks few clean mode store among has =
+    let done = wrote g (goal.at.returns-in_err-write_where_full-clause-room g c).After-write_where_full clean mode store records most places rowids spare asks few among has in
     let told : c.from_residual-in_err-write_where_full.result ≡ Err c.in_err-write_where_full.field-0.0 = search rules in
     failed_for _ _ c.from_residual-in_err-write_where_full.result c.in_err-write_where_full.field-0.0 told (λ failed.
     let fault : c.write_where_full.result ≡ Err Store = search rules in
@@ -372,6 +366,6 @@ returns-in_err-write_where_full-clause-room g c records most places rowids spare
 
 -- numbers that rise to no more than a milliard end before as many turns
 pub returns-clause-room : goal.returns-clause-room
-returns-clause-room g c records most places rowids spare asks few clean mode store among has before had storable lacks =
+returns-clause-room g c records most places rowids spare asks few clean mode store among has =
     let turns = c.loop-turn.invariant.turns clean mode store in
     (λ failed. absurd (omega (arith, turns, c.loop-turn.invariant.small, c.loop-turn-test.false)), tt)

@@ -31,7 +31,6 @@ invariant-loop-turn g l =
           → WillHoldSuch g.L.Layout.format now.now.trees l.db.0 l.pending (IsPostedBelow l.profile old.now.trees l.db.0 l.next before);
       room : HasCleanDisk now → IsTrue old.in_transaction → IsStore old
           → (records : List Kept) (most places rowids spare : ℕ) → AskKept l.profile most records places rowids → places + spare ≤ most
-          → AreAmong old.now.trees l.db.0 records → HasRoom g.L.Layout.format (places + spare) old.now.trees
-          → (before : Content) → holds_in g.L.Layout.format old.now.trees before → IsStorable before → LacksDatabase l.db.0 before
-          → RecordsRoom g.L.Layout.format l.profile old.now.trees l.db.0 l.next now.now.trees l.pending most spare;
+          → AreAmong old.now.trees l.db.0 records → HasRoom (places + spare) old.now.trees
+          → RecordsRoom l.profile old.now.trees l.db.0 l.next now.now.trees l.pending most spare;
     }

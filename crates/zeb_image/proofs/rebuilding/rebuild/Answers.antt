@@ -74,8 +74,8 @@ loop-database-init g c =
           let done = c.in_ok-registers_wipe.ensures.call.ok (clean_wiped clean) mode in
           let read = c.in_ok-databases.ensures.call.ok clean done.0.mode in
           let none = subst (λ (db : Database). LacksRegisters db.trees) (sym read.now_is) (done.1 store).1 in
-          bases_begun g.L.Layout.format c.args.profile.now old.now.trees bases these new.now.trees most rowids asks
-          (room_empty g.L.Layout.format most (λ _. most) new.now.trees (asked_few c.args.profile.now bases most rowids asks) none);
+          bases_begun c.args.profile.now old.now.trees bases these new.now.trees most rowids asks
+          (room_empty most (λ _. most) new.now.trees (asked_few c.args.profile.now bases most rowids asks) none);
     }
 
 -- the next database is in the list, and nothing of it is posted
@@ -118,10 +118,10 @@ next_listed g c clean mode store =
 posted_room : (g : given.Over) (c : After-database_post g) → HasCleanDisk (state g.S.Store c.database_post.new.tx.conn.now) → IsTrue (state g.S.Store c.args.tx.now.conn.now).in_transaction
     → IsStore (state g.S.Store c.args.tx.now.conn.now)
     → (bases : List Base) (most rowids : ℕ) → AskBases c.args.profile.now most bases most rowids → (these : AreListsOf (state g.S.Store c.args.tx.now.conn.now).now.trees bases)
-    → (next : NextBaseRoom g.L.Layout.format c.args.profile.now (state g.S.Store c.args.tx.now.conn.now).now.trees bases these (map id_in (take c.loop-database.database-index c.deref-database-items.result.now))
+    → (next : NextBaseRoom c.args.profile.now (state g.S.Store c.args.tx.now.conn.now).now.trees bases these (map id_in (take c.loop-database.database-index c.deref-database-items.result.now))
     c.database-item.result.id.0 (state g.S.Store c.loop-database.tx.conn.now).now.trees most)
     × (c.database_post.result ≡ Err Store → MayRefuse (state g.S.Store c.args.tx.now.conn.now) (state g.S.Store c.database_post.new.tx.conn.now))
-    × OnOk c.database_post.result (HasRoom g.L.Layout.format next.others (state g.S.Store c.database_post.new.tx.conn.now).now.trees)
+    × OnOk c.database_post.result (HasRoom next.others (state g.S.Store c.database_post.new.tx.conn.now).now.trees)
 posted_room g c clean mode store bases most rowids asks these =
     let base = next_listed g c clean mode store in
     let old = state g.S.Store c.args.tx.now.conn.now in
@@ -130,9 +130,9 @@ posted_room g c clean mode store bases most rowids asks these =
     let clean_now : HasCleanDisk now = omega (arith, c.database_post.ensures.crash.clean) in
     let rest = c.loop-database.invariant.room clean_now mode store bases most rowids asks these in
     let ids = map id_in (take c.loop-database.database-index c.deref-database-items.result.now) in
-    let next = next_base g.L.Layout.format c.args.profile.now old.now.trees bases these ids now.now.trees most rest item.id.0 (string_bytes item.name) (pos item.last) base.there base.fresh in
+    let next = next_base c.args.profile.now old.now.trees bases these ids now.now.trees most rest item.id.0 (string_bytes item.name) (pos item.last) base.there base.fresh in
     let posted = c.database_post.ensures.room next.records most next.place next.rowid next.others next.asks next.few clean base.on.mode base.kept.0
-    (among_still old.now.trees now.now.trees base.kept.1 item.id.0 next.records next.among) next.room base.such.content base.such.held base.such.storable base.lacks in
+    (among_still old.now.trees now.now.trees base.kept.1 item.id.0 next.records next.among) next.room in
     (next, λ failed. may_after old now (state g.S.Store c.database_post.new.tx.conn.now) c.loop-database.invariant.crash (λ _. base.on.is_open) (λ _. posted.0 failed), posted.1)
 
 pub loop-database-preserved : goal.loop-database-preserved
@@ -183,8 +183,8 @@ loop-database-preserved g c =
       room = λ clean mode store bases most rowids asks these.
           let after = posted_room g (goal.at.loop-database-preserved g c).After-database_post clean mode store bases most rowids asks these in
           let ids : map id_in (take (index + 1) items) ≡ map id_in done ++ item.id.0 ∷ [] = ap (map id_in) more ∙ map-append id_in done (item ∷ []) in
-          subst (λ l. BasesRoom g.L.Layout.format profile old.now.trees bases these l new.now.trees most) (sym ids)
-          (after.0.leaves new.now.trees (subst (λ (r : Result (Unit {0}) RegFault). OnOk r (HasRoom g.L.Layout.format after.0.others new.now.trees)) c.in_ok-database_post.was after.2));
+          subst (λ l. BasesRoom profile old.now.trees bases these l new.now.trees most) (sym ids)
+          (after.0.leaves new.now.trees (subst (λ (r : Result (Unit {0}) RegFault). OnOk r (HasRoom after.0.others new.now.trees)) c.in_ok-database_post.was after.2));
     }
 
 pub returns-clause-built : goal.returns-clause-built

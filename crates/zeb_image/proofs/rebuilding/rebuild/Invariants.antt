@@ -31,5 +31,5 @@ invariant-loop-database g l =
           → HoldsSuch g.L.Layout.format now.now.trees (ArePostedIn l.profile old.now.trees (map id_in (take l.database-index l.database-items)));
       room : HasCleanDisk now → IsTrue old.in_transaction → IsStore old
           → (bases : List Base) (most rowids : ℕ) → AskBases l.profile most bases most rowids → (these : AreListsOf old.now.trees bases)
-          → BasesRoom g.L.Layout.format l.profile old.now.trees bases these (map id_in (take l.database-index l.database-items)) now.now.trees most;
+          → BasesRoom l.profile old.now.trees bases these (map id_in (take l.database-index l.database-items)) now.now.trees most;
     }

@@ -1,4 +1,4 @@
-use Rattle.std.proofs.Common.{◌≤◌, ℕ, List, [], arith, inl, inr, subst, sym}
+use Rattle.std.proofs.Common.{◌≤◌, ℕ, List, [], arith, subst, sym}
 use Rattle.sqlite_rules.proofs.ListLemmas.{has_contained}
 use Rattle.zeb_change.specs.Occurs.{AreOccurrencesOf}
 use Rattle.zeb_change.proofs.RecordRoom.{newer_few, newer_fits, newer_storable}
@@ -27,10 +27,8 @@ returns-clause-room c most places rowids bound n asks within among =
     let are : AreOccurrencesOf profile bytes found = subst (AreOccurrencesOf profile bytes) (sym c.deref-2.ensures.value) of_bytes in
     let noted = c.in_ok-note_keys.ensures.room bound n none_rise are.rising (omega (arith, c.if-kept-lt1.false)) (omega (arith, c.if-kept.false))
     (newer_storable profile most bytes places rowids asks found are)
-    (λ o here. elim here [
-      | inl nothing ↦ absurd (has_contained [] o nothing)
-      | inr in_newer ↦ newer_fits profile most bytes places rowids asks found are bound within o in_newer
-    ])
+    (λ o nothing. absurd (has_contained [] o nothing))
+    (newer_fits profile most bytes places rowids asks found are bound within)
     among in
     let few = newer_few profile most bytes places rowids asks found are in
     (noted.0, omega (arith, noted.1, few), noted.2)

@@ -10,18 +10,19 @@ use Rattle.zeb_register.specs.declared.registers.RecordChange.{RecordChange}
 use Rattle.zeb_register.specs.Calls.{GoesOn, OnlyReads}
 use Rattle.zeb_register.specs.PackedBlocks.{HoldsBlocks}
 use Rattle.zeb_packed.specs.PrivatePackedChanges.{HasSoManyRecords, IsKnown, PutsChanges}
-use Rattle.zeb_register.specs.Hindrances.{TakesRowids, placed, rows_of}
-use Rattle.zeb_packed.specs.PrivatePackedHindrances.{AreRunsSpelled, HindersChanges, WereClear, new_rows}
+use Rattle.zeb_register.specs.Hindrances.{KeepsSpelled, SpellsMore, TakesRowids, placed, rows_of}
+use Rattle.zeb_register.specs.PlainRows.{key_row}
+use Rattle.zeb_packed.specs.PrivatePackedHindrances.{AreRunsSpelled, HindersChanges, IsPut, WereClear, new_rows}
 use Rattle.zeb_register.specs.PrivateKeyColumns.{IsDictIn}
-use Rattle.zeb_register.specs.Sound.{KeepsMalformed}
+use Rattle.zeb_register.specs.Sound.{KeepsMalformed, KeepsRowsBeside}
 use Rattle.zeb_register.specs.Store.{Changes, IsStore, blocks_tree, dict_tree, postings_tree}
 use Rattle.zeb_register.proofs.Calls.{changes_after, goes_keeps, goes_then, on_err, on_err_so, on_ok_both, reads_goes, store_same}
 use Rattle.zeb_register.proofs.Causes.{hindered_after, may_after}
 use Rattle.zeb_register.proofs.CallsInTurn.{quiet_then}
 use Rattle.zeb_packed.proofs.PackedCauses.{blocks_hinder, count_hinders, new_counts}
 use Rattle.zeb_register.proofs.PackedLemmas.{block_rows}
-use Rattle.zeb_register.proofs.Malformed.{malformed_then}
-use Rattle.zeb_packed.proofs.MalformedRows.{count_malformed, key_counted, told_still}
+use Rattle.zeb_register.proofs.Malformed.{beside_then, malformed_then, places_same}
+use Rattle.zeb_packed.proofs.MalformedRows.{count_beside, count_malformed, keeps_still, key_counted, spells_still, told_still}
 use Rattle.zeb_packed.proofs.PackedOld.{rising_counted}
 use Rattle.zeb_packed.proofs.PackedSound.{numbers_sound}
 use Rattle.zeb_packed.proofs.PackedWrites.{all_lists, all_put, dict_told}
@@ -209,10 +210,76 @@ returns-clause-malformed g c clean inside store =
     let records = c.in_ok-known.known.records in
     let after = c.in_ok-after.after in
     let same : third.now.trees dict_tree ≡ first.now.trees dict_tree = runs.others.1.1.1.1.1.0 (λ e. absurd (omega (arith, e))) in
-    let read = subst (λ (d : Database). KeepsMalformed d.trees third.now.trees) blocks.reads.now_is (c.in_ok-after.ensures.malformed clean2 blocks.reads.mode (store_same first second blocks.reads.now_is store)) in
+    let text = c.in_ok-known.ensures.text in
+    let read = subst (λ (d : Database). KeepsMalformed d.trees third.now.trees) blocks.reads.now_is (c.in_ok-after.ensures.malformed clean2 blocks.reads.mode (store_same first second blocks.reads.now_is store) text) in
     IfOk-weaker c.dict_write.result _ _ (λ _ done.
     let dict = done.rows runs.layout in
     let counted = key_counted db key first.now.trees third.now.trees same (c.in_ok-known.ensures.sound blocks.clean inside store) in
     let told = told_still (not (records == 0)) (IsDictIn db key) dict_tree first.now.trees third.now.trees same (c.in_ok-known.ensures.told blocks.clean inside store) in
     malformed_then first.now.trees third.now.trees fourth.now.trees read
-    (count_malformed db key after third.now.trees fourth.now.trees counted (dict.rows told) (dict.others.1.1.1.1.0 (λ e. absurd (omega (arith, e)))))) (c.dict_write.ensures.call.ok clean blocks.goes.mode)
+    (count_malformed db key after third.now.trees fourth.now.trees (dict.rows told) text counted (dict.others.1.1.1.1.0 (λ e. absurd (omega (arith, e)))))) (c.dict_write.ensures.call.ok clean blocks.goes.mode)
+
+pub returns-clause-others : goal.returns-clause-others
+returns-clause-others g c clean inside store =
+    let first = state g.S.Store c.args.tx.now.conn.now in
+    let second = state g.S.Store c.key_known.new.tx.conn.now in
+    let third = state g.S.Store c.runs_put.new.tx.conn.now in
+    let fourth = state g.S.Store c.dict_write.new.tx.conn.now in
+    let clean2 : HasCleanDisk third = omega (arith, c.dict_write.ensures.call.crash.clean) in
+    let blocks = blocks_done g (goal.at.returns-clause-others g c).In_ok-after clean2 inside in
+    let runs = blocks.runs store in
+    let db = c.args.db.0 in
+    let key = c.args.key.now in
+    let records = c.in_ok-known.known.records in
+    let same : third.now.trees dict_tree ≡ first.now.trees dict_tree = runs.others.1.1.1.1.1.0 (λ e. absurd (omega (arith, e))) in
+    let front = key_row db key in
+    let put = subst (λ (d : Database). KeepsRowsBeside front d.trees third.now.trees) blocks.reads.now_is
+    (c.in_ok-after.ensures.others clean2 blocks.reads.mode (store_same first second blocks.reads.now_is store)) in
+    IfOk-weaker c.dict_write.result _ _ (λ _ done.
+    let dict = done.rows runs.layout in
+    let told = told_still (not (records == 0)) (IsDictIn db key) dict_tree first.now.trees third.now.trees same (c.in_ok-known.ensures.told blocks.clean inside store) in
+    beside_then front first.now.trees third.now.trees fourth.now.trees put
+    (count_beside db key c.in_ok-after.after third.now.trees fourth.now.trees (dict.rows told) (dict.others.1.1.1.0 (λ e. absurd (omega (arith, e)))) (dict.others.1.1.1.1.0 (λ e. absurd (omega (arith, e)))))) (c.dict_write.ensures.call.ok clean blocks.goes.mode)
+
+pub returns-clause-spelled : goal.returns-clause-spelled
+returns-clause-spelled g c clean inside store =
+    let first = state g.S.Store c.args.tx.now.conn.now in
+    let third = state g.S.Store c.runs_put.new.tx.conn.now in
+    let clean2 : HasCleanDisk third = omega (arith, c.dict_write.ensures.call.crash.clean) in
+    let blocks = blocks_done g (goal.at.returns-clause-spelled g c).In_ok-after clean2 inside in
+    let runs = blocks.runs store in
+    let db = c.args.db.0 in
+    let key = c.args.key.now in
+    let Puts = IsPut c.args.changes.now in
+    let put = subst (λ (d : Database). SpellsMore db key Puts d.trees third.now.trees) blocks.reads.now_is
+    (c.in_ok-after.ensures.spelled clean2 blocks.reads.mode (store_same first (state g.S.Store c.key_known.new.tx.conn.now) blocks.reads.now_is store)) in
+    IfOk-weaker c.dict_write.result _ _ (λ _ done.
+    spells_still db key Puts first.now.trees third.now.trees (state g.S.Store c.dict_write.new.tx.conn.now).now.trees put
+    ((done.rows runs.layout).others.1.1.1.1.0 (λ e. absurd (omega (arith, e))))) (c.dict_write.ensures.call.ok clean blocks.goes.mode)
+
+pub returns-clause-still : goal.returns-clause-still
+returns-clause-still g c clean inside store =
+    let first = state g.S.Store c.args.tx.now.conn.now in
+    let third = state g.S.Store c.runs_put.new.tx.conn.now in
+    let clean2 : HasCleanDisk third = omega (arith, c.dict_write.ensures.call.crash.clean) in
+    let blocks = blocks_done g (goal.at.returns-clause-still g c).In_ok-after clean2 inside in
+    let runs = blocks.runs store in
+    let db = c.args.db.0 in
+    let key = c.args.key.now in
+    let given = map placed c.args.changes.now in
+    let put = subst (λ (d : Database). KeepsSpelled db key given d.trees third.now.trees) blocks.reads.now_is
+    (c.in_ok-after.ensures.still clean2 blocks.reads.mode (store_same first (state g.S.Store c.key_known.new.tx.conn.now) blocks.reads.now_is store)) in
+    IfOk-weaker c.dict_write.result _ _ (λ _ done.
+    keeps_still db key given first.now.trees third.now.trees (state g.S.Store c.dict_write.new.tx.conn.now).now.trees put
+    ((done.rows runs.layout).others.1.1.1.1.0 (λ e. absurd (omega (arith, e))))) (c.dict_write.ensures.call.ok clean blocks.goes.mode)
+
+pub returns-clause-places : goal.returns-clause-places
+returns-clause-places g c clean inside store =
+    let first = state g.S.Store c.args.tx.now.conn.now in
+    let third = state g.S.Store c.runs_put.new.tx.conn.now in
+    let clean2 : HasCleanDisk third = omega (arith, c.dict_write.ensures.call.crash.clean) in
+    let blocks = blocks_done g (goal.at.returns-clause-places g c).In_ok-after clean2 inside in
+    let runs = blocks.runs store in
+    IfOk-weaker c.dict_write.result _ _ (λ _ done.
+    places_same c.args.db.0 c.args.key.now (map placed c.args.changes.now) first.now.trees (state g.S.Store c.dict_write.new.tx.conn.now).now.trees
+    ((done.rows runs.layout).others.1.1.1.0 (λ e. absurd (omega (arith, e))) ∙ runs.others.1.1.1.0 (λ e. absurd (omega (arith, e))))) (c.dict_write.ensures.call.ok clean blocks.goes.mode)

@@ -3,10 +3,10 @@ use Rattle.sqlite.specs.Held.{state}
 use Rattle.sqlite_rules.specs.Lists.{Has}
 use Rattle.zeb_blocks.specs.Blocks.{LiesIn}
 use Rattle.zeb_blocks.specs.declared.postings.Posting.{Posting}
-use Rattle.zeb_register.specs.Hindrances.{IsSpelledAt, TakesRowids, placed, rows_of}
+use Rattle.zeb_register.specs.Hindrances.{IsSpelledAt, SpellsMore, TakesRowids, placed, rows_of}
 use Rattle.zeb_register.specs.PackedBlocks.{part_in}
 use Rattle.zeb_packed.specs.PrivatePackedChanges.{IfTold, IsBlockIn, IsClear, HasSoManyRecords, PutsBlock, PutsChanges}
-use Rattle.zeb_packed.specs.PrivatePackedHindrances.{HindersBlock, IsPut, SpellsMore, new_rows}
+use Rattle.zeb_packed.specs.PrivatePackedHindrances.{HindersBlock, IsPut, new_rows}
 use Rattle.zeb_register.specs.Store.{Changes, blocks_tree}
 use Rattle.zeb_register.proofs.Calls.{changes_so}
 use Rattle.zeb_packed.proofs.PackedCauses.{new_within, row_hinders}

@@ -2,7 +2,8 @@ use Rattle.std.proofs.Common.{◌≡◌, ◌+◌, ◌<◌, ◌≤◌, ◌/◌, a
 use Rattle.std.proofs.lemmas.List.{take_all}
 use Rattle.sqlite.specs.Held.{state}
 use Rattle.sqlite.specs.State.{HasCleanDisk}
-use Rattle.zeb_register.specs.Hindrances.{TakesRowids, placed, rows_of}
+use Rattle.zeb_register.specs.Hindrances.{KeepsSpelled, SpellsMore, TakesRowids, placed, rows_of}
+use Rattle.zeb_register.specs.PlainRows.{key_row}
 use Rattle.zeb_packed.specs.PrivatePackedChanges.{HasSoManyRecords, IsKnown, PutsChanges}
 use Rattle.zeb_register.specs.Store.{Changes, blocks_tree}
 use Rattle.zeb_register.proofs.Calls.{changes_so, changes_then, stays_then}
@@ -12,11 +13,11 @@ use Rattle.zeb_register.proofs.Causes.{may_after}
 use Rattle.zeb_packed.proofs.PackedCauses.{rows_run, run_hinders, spells_run}
 use Rattle.zeb_register.proofs.RowCounts.{rows_taken}
 use Rattle.zeb_register.proofs.TakenRowids.{takes_more, takes_then}
-use Rattle.zeb_packed.specs.PrivatePackedHindrances.{AreRunsSpelled, LacksBlock, WereClear}
+use Rattle.zeb_packed.specs.PrivatePackedHindrances.{AreRunsSpelled, IsPut, LacksBlock, WereClear}
 use Rattle.zeb_packed.specs.PackedSound.{AreSpelledIn, IsOfFirsts, had}
-use Rattle.zeb_register.proofs.Malformed.{malformed_same, malformed_then}
-use Rattle.zeb_packed.proofs.MalformedRows.{run_malformed}
-use Rattle.zeb_packed.proofs.PackedOld.{clear_further, clears_further, keeps_further, no_firsts, no_rising, runs_found}
+use Rattle.zeb_register.proofs.Malformed.{beside_same, beside_then, malformed_same, malformed_then}
+use Rattle.zeb_packed.proofs.MalformedRows.{run_beside, run_malformed}
+use Rattle.zeb_packed.proofs.PackedOld.{clear_further, clears_further, keeps_further, no_firsts, no_rising, put_keeps, runs_found}
 use Rattle.zeb_packed.proofs.PackedSound.{run_sound}
 use Rattle.zeb_packed.proofs.PackedWrites.{puts_behind, puts_so, puts_then}
 use Rattle.zeb_packed.proofs.packed_runs.runs_put.Goals as goal
@@ -48,7 +49,8 @@ loop-done-init g c =
       clears = λ block from below. from;
       keeps = λ clean inside store block from row there in_it. there;
       clear = λ clean inside store. no_rising (λ it. known.clear_from ≤ it.0 / 256 → LacksBlock c.args.db.0 c.args.key.now (it.0 / 256) trees);
-      malformed = λ clean inside store. malformed_same trees trees refl refl;
+      malformed = λ clean inside store text. malformed_same trees trees refl refl;
+      others = λ clean inside store. beside_same (key_row c.args.db.0 c.args.key.now) trees trees (refl, refl, refl);
       grows = omega arith;
     }
 
@@ -117,14 +119,22 @@ loop-done-preserved g c =
           let lacks = it.absent clean (so_far.stays was inside).inside (so_far.put was inside store).layout in
           clear_further xs done n (done + length (run xs done n)) (run_more xs done n) db key c.args.known.clear_from c.loop-done.known.clear_from ((get_or xs done no_change).sysno / 256) first.now.trees mid.now.trees
           c.run_length.ensures.inside so_far.clears (so_far.keeps was inside store) (so_far.clear was inside store) lacks;
-      malformed = λ clean inside store.
+      malformed = λ clean inside store text.
           let was : HasCleanDisk mid = omega (arith, c.run_put.ensures.call.crash.clean) in
           let before = so_far.put was inside store in
           let inside_still = (so_far.stays was inside).inside in
           let block = (get_or xs done no_change).sysno / 256 in
           let written = (it.call.ok clean inside_still).rows before.layout in
-          malformed_then first.now.trees mid.now.trees last.now.trees (so_far.malformed was inside store)
-          (run_malformed db key block mid.now.trees last.now.trees (it.sound clean inside_still before.layout).0 (it.old clean inside_still before.layout).2 (written.others.1.1.1.1.1.0 (λ e. absurd (omega (arith, e)))));
+          malformed_then first.now.trees mid.now.trees last.now.trees (so_far.malformed was inside store text)
+          (run_malformed db key block mid.now.trees last.now.trees (it.old clean inside_still before.layout).2 text (it.sound clean inside_still before.layout).0 (written.others.1.1.1.1.1.0 (λ e. absurd (omega (arith, e)))));
+      others = λ clean inside store.
+          let was : HasCleanDisk mid = omega (arith, c.run_put.ensures.call.crash.clean) in
+          let before = so_far.put was inside store in
+          let inside_still = (so_far.stays was inside).inside in
+          let block = (get_or xs done no_change).sysno / 256 in
+          let written = (it.call.ok clean inside_still).rows before.layout in
+          beside_then (key_row db key) first.now.trees mid.now.trees last.now.trees (so_far.others was inside store)
+          (run_beside db key block mid.now.trees last.now.trees (it.old clean inside_still before.layout).2 (written.others.1.1.1.0 (λ e. absurd (omega (arith, e)))) (written.others.1.1.1.1.1.0 (λ e. absurd (omega (arith, e)))));
       grows = let rows = rows_run xs done n in omega (arith, c.behind-known.ensures.records, it.grows, so_far.grows, rows);
     }
 
@@ -202,3 +212,22 @@ returns-clause-clear g c clean inside store =
 
 pub returns-clause-malformed : goal.returns-clause-malformed
 returns-clause-malformed g c clean inside store = c.loop-done.invariant.malformed clean inside store
+
+pub returns-clause-others : goal.returns-clause-others
+returns-clause-others g c clean inside store = c.loop-done.invariant.others clean inside store
+
+pub returns-clause-spelled : goal.returns-clause-spelled
+returns-clause-spelled g c clean inside store =
+    let xs = c.args.changes.now in
+    let old = (state g.S.Store c.args.tx.now.conn.now).now.trees in
+    let new = (state g.S.Store c.loop-done.tx.conn.now).now.trees in
+    subst (λ l. SpellsMore c.args.db.0 c.args.key.now (IsPut l) old new) (take_all c.loop-done.done xs c.loop-done-test.false) (c.loop-done.invariant.spells clean inside store)
+
+pub returns-clause-still : goal.returns-clause-still
+returns-clause-still g c clean inside store =
+    let xs = c.args.changes.now in
+    let db = c.args.db.0 in
+    let key = c.args.key.now in
+    let old = (state g.S.Store c.args.tx.now.conn.now).now.trees in
+    let new = (state g.S.Store c.loop-done.tx.conn.now).now.trees in
+    put_keeps db key xs old new (subst (λ l. KeepsSpelled db key (map had l) old new) (take_all c.loop-done.done xs c.loop-done-test.false) (c.loop-done.invariant.finds clean inside store).1)

@@ -15,7 +15,7 @@ returns-in_ok-render-in-Ok-clause-answer g c =
     let new = state g.S.Store c.change_by_paths.new.session.connection in
     replied_file tells k c.args.change.now old new (g.W.Write.contents c.args.output.now.writer) (g.W.Write.contents c.write.new.self.writer)
     c.in-Ok.reply c.as_slice.result.now c.write.new.self.failed (HasCleanDisk new)
-    (λ clean file known. c.in-Ok.ensures.told clean (file ∷ []) (ap (map tells) (ap (map string_bytes) c.from_ref-named.ensures.value) ∙ ap (λ told. told ∷ []) known))
+    (λ clean file known. (c.in-Ok.ensures.leaves clean).serves (file ∷ []) (ap (map tells) (ap (map string_bytes) c.from_ref-named.ensures.value) ∙ ap (λ told. told ∷ []) known))
     (c.as_slice.ensures.value ∙ c.in_ok-render-in-Ok.ensures) c.write.ensures.bytes
 
 pub returns-in-Err-clause-answer : goal.returns-in-Err-clause-answer
@@ -26,7 +26,7 @@ returns-in-Err-clause-answer g c =
     let new = state g.S.Store c.change_by_paths.new.session.connection in
     refused_file tells k c.args.change.now old new (g.W.Write.contents c.args.output.now.writer) (g.W.Write.contents c.tell.new.output.writer)
     c.in-Err.fault c.tell.new.output.failed (HasCleanDisk new) c.tell.result
-    (λ clean file known. c.in-Err.ensures.told clean (file ∷ []) (ap (map tells) (ap (map string_bytes) c.from_ref-named.ensures.value) ∙ ap (λ told. told ∷ []) known))
+    (λ clean file known. (c.in-Err.ensures.leaves clean).serves (file ∷ []) (ap (map tells) (ap (map string_bytes) c.from_ref-named.ensures.value) ∙ ap (λ told. told ∷ []) known))
     c.tell.ensures.told
 
 pub returns-in_ok-render-in-Ok-clause-over : goal.returns-in_ok-render-in-Ok-clause-over
@@ -34,12 +34,12 @@ returns-in_ok-render-in-Ok-clause-over g c =
     let new = state g.S.Store c.change_by_paths.new.session.connection in
     replied_path (g.P.Paths.tells c.args.paths.now) g.L.Layout.format (conditions (version_of g.L.Layout.format) c.args.session.now.profile c.args.session.now.limits) c.args.change.now (state g.S.Store c.args.session.now.connection) new
     (g.W.Write.contents c.args.output.now.writer) (g.W.Write.contents c.write.new.self.writer) c.write.new.self.failed (HasCleanDisk new) c.from_ref-named.result.now
-    c.in-Ok.reply c.as_slice.result.now c.from_ref-named.ensures.value c.in-Ok.ensures.over c.in-Ok.ensures.told (c.as_slice.ensures.value ∙ c.in_ok-render-in-Ok.ensures) c.write.ensures.bytes
+    c.in-Ok.reply c.as_slice.result.now c.from_ref-named.ensures.value c.in-Ok.ensures.over c.in-Ok.ensures.leaves (c.as_slice.ensures.value ∙ c.in_ok-render-in-Ok.ensures) c.write.ensures.bytes
 
 pub returns-in-Err-clause-over : goal.returns-in-Err-clause-over
 returns-in-Err-clause-over g c =
     let new = state g.S.Store c.change_by_paths.new.session.connection in
     refused_path (g.P.Paths.tells c.args.paths.now) g.L.Layout.format (conditions (version_of g.L.Layout.format) c.args.session.now.profile c.args.session.now.limits) c.args.change.now (state g.S.Store c.args.session.now.connection) new
     (g.W.Write.contents c.args.output.now.writer) (g.W.Write.contents c.tell.new.output.writer) c.tell.new.output.failed (HasCleanDisk new) c.from_ref-named.result.now
-    c.in-Err.fault c.tell.result c.from_ref-named.ensures.value c.in-Err.ensures.over c.in-Err.ensures.refused c.in-Err.ensures.told
+    c.in-Err.fault c.tell.result c.from_ref-named.ensures.value c.in-Err.ensures.over c.in-Err.ensures.leaves
     c.tell.ensures.told

@@ -25,7 +25,7 @@ returns-in-Change-clause-answer g c = λ clean.
     let new = state g.S.Store c.change_by_paths-reply.new.session.connection in
     subst (ServesTask told k c.args.task.now old new) (sym c.to_serve-in-Change.ensures.reply)
     (changed_task told k c.args.task.now old new c.change_by_paths-reply.result c.in-Change.kind c.in-Change.database c.in-Change.named c.deref.result.now
-    c.in-Change.is c.deref.ensures.value (c.change_by_paths-reply.ensures.told clean))
+    c.in-Change.is c.deref.ensures.value (c.change_by_paths-reply.ensures.leaves clean).serves)
 
 pub returns-in-Analyse-clause-answer : goal.returns-in-Analyse-clause-answer
 returns-in-Analyse-clause-answer g c = λ clean.
@@ -52,7 +52,7 @@ returns-in-Change-clause-over g c = λ clean.
     let new = state g.S.Store c.change_by_paths-reply.new.session.connection in
     subst (TaskOver told format k c.args.task.now old new) (sym c.to_serve-in-Change.ensures.reply)
     (changed_task_over told format k c.args.task.now old new c.change_by_paths-reply.result c.in-Change.kind c.in-Change.database c.in-Change.named c.deref.result.now
-    c.in-Change.is c.deref.ensures.value (c.change_by_paths-reply.ensures.over clean) (c.change_by_paths-reply.ensures.refused clean))
+    c.in-Change.is c.deref.ensures.value (c.change_by_paths-reply.ensures.over clean) (c.change_by_paths-reply.ensures.leaves clean))
 
 pub returns-in-Analyse-clause-over : goal.returns-in-Analyse-clause-over
 returns-in-Analyse-clause-over g c = λ _.

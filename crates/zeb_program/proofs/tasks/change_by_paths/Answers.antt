@@ -1,36 +1,49 @@
-use Rattle.std.proofs.Common.{◌≡◌, ◌∙◌, Err, Ok, ap, length, map, rules, string_bytes}
+use Rattle.std.proofs.Common.{◌≡◌, ◌∙◌, Err, Ok, ap, length, map, rules, string_bytes, subst, sym}
 use Rattle.sqlite.specs.Held.{state}
 use Rattle.zeb_change.specs.Conditions.{conditions}
 use Rattle.zeb_image.specs.NameOf.{name_bytes}
 use Rattle.zeb_register.specs.Formats.{version_of}
-use Rattle.zeb_program.proofs.OverLemmas.{changed_over}
-use Rattle.zeb_program.proofs.PathLemmas.{served_files}
+use Rattle.zeb_program.specs.PrivateOverTables.{PathsLeave}
+use Rattle.zeb_program.proofs.OverLemmas.{changed_leaves, changed_over, still, unread_leaves}
 use Rattle.zeb_program.proofs.tasks.change_by_paths.Goals as goal
 
-pub returns-in-Ok-clause-told : goal.returns-in-Ok-clause-told
-returns-in-Ok-clause-told g c = λ clean files known.
+pub returns-in-Ok-clause-leaves : goal.returns-in-Ok-clause-leaves
+returns-in-Ok-clause-leaves g c = λ clean.
     let k = conditions (version_of g.L.Layout.format) c.args.session.now.profile c.args.session.now.limits in
     let old = state g.S.Store c.args.session.now.connection in
     let new = state g.S.Store c.update_from.new.self.connection in
     let same : length c.update_from.new.readers ≡ length c.deref_mut.result.now = search rules in
-    served_files g.P.Reader.Source.remaining g.P.Reader.Source.has_failed k c.args.kind (name_bytes c.args.database.now) files old new c.deref_mut.result.now c.update_from.new.readers (Ok c.in-Ok.reply)
-    (ap (map g.P.Reader.Source.remaining) c.deref_mut.ensures.value ∙ c.in_ok-readers.ensures.told files known) same
-    (c.in-Ok.ensures.serves clean) c.in-Ok.ensures.sound (c.in-Ok.ensures.call.refused clean)
+    changed_leaves (g.P.Paths.tells c.args.paths.now) k c.args.kind (name_bytes c.args.database.now) (map string_bytes c.args.named.now) old new
+    g.P.Reader.Source.remaining g.P.Reader.Source.has_failed c.deref_mut.result.now c.update_from.new.readers (Ok c.in-Ok.reply)
+    (λ files known. ap (map g.P.Reader.Source.remaining) c.deref_mut.ensures.value ∙ c.in_ok-readers.ensures.told files known) same
+    c.in-Ok.ensures.sound (c.in-Ok.ensures.call.refused clean) (c.in-Ok.ensures.serves clean) (c.in-Ok.ensures.loses clean) (c.in-Ok.ensures.named clean) (c.in-Ok.ensures.room clean)
 
-pub returns-clause-told : goal.returns-clause-told
-returns-clause-told g c = λ clean files known.
+pub returns-clause-leaves : goal.returns-clause-leaves
+returns-clause-leaves g c = λ clean.
     let k = conditions (version_of g.L.Layout.format) c.args.session.now.profile c.args.session.now.limits in
     let old = state g.S.Store c.args.session.now.connection in
     let new = state g.S.Store c.update_from.new.self.connection in
     let same : length c.update_from.new.readers ≡ length c.deref_mut.result.now = search rules in
-    served_files g.P.Reader.Source.remaining g.P.Reader.Source.has_failed k c.args.kind (name_bytes c.args.database.now) files old new c.deref_mut.result.now c.update_from.new.readers (Err c.in-Err.refusal)
-    (ap (map g.P.Reader.Source.remaining) c.deref_mut.ensures.value ∙ c.in_ok-readers.ensures.told files known) same
-    (c.in-Err.ensures.serves clean) c.in-Err.ensures.sound (c.in-Err.ensures.call.refused clean)
+    changed_leaves (g.P.Paths.tells c.args.paths.now) k c.args.kind (name_bytes c.args.database.now) (map string_bytes c.args.named.now) old new
+    g.P.Reader.Source.remaining g.P.Reader.Source.has_failed c.deref_mut.result.now c.update_from.new.readers (Err c.in-Err.refusal)
+    (λ files known. ap (map g.P.Reader.Source.remaining) c.deref_mut.ensures.value ∙ c.in_ok-readers.ensures.told files known) same
+    c.in-Err.ensures.sound (c.in-Err.ensures.call.refused clean) (c.in-Err.ensures.serves clean) (c.in-Err.ensures.loses clean) (c.in-Err.ensures.named clean) (c.in-Err.ensures.room clean)
+
+pub returns-in_err-readers-clause-leaves : goal.returns-in_err-readers-clause-leaves
+returns-in_err-readers-clause-leaves g c = λ clean.
+    let told = g.P.Paths.tells c.args.paths.now in
+    let k = conditions (version_of g.L.Layout.format) c.args.session.now.profile c.args.session.now.limits in
+    let held = state g.S.Store c.args.session.now.connection in
+    let paths = map string_bytes c.args.named.now in
+    let why = c.in_err-readers.field-0.0 in
+    let is : c.from_residual.result ≡ Err why = search rules in
+    subst (PathsLeave told k c.args.kind (name_bytes c.args.database.now) paths held held) (sym is)
+    (unread_leaves told k c.args.kind (name_bytes c.args.database.now) paths held held why c.in_err-readers.ensures.unread c.in_err-readers.ensures.memory (still held))
 
 pub returns-in-Ok-clause-over : goal.returns-in-Ok-clause-over
 returns-in-Ok-clause-over g c = λ clean.
     let same : length c.update_from.new.readers ≡ length c.deref_mut.result.now = search rules in
-    changed_over (g.P.Paths.tells c.args.paths.now) g.L.Layout.format c.args.session.now.profile (name_bytes c.args.database.now) (map string_bytes c.args.named.now) (state g.S.Store c.args.session.now.connection)
+    changed_over (g.P.Paths.tells c.args.paths.now) g.L.Layout.format c.args.session.now.profile c.args.kind c.args.session.now.limits (name_bytes c.args.database.now) (map string_bytes c.args.named.now) (state g.S.Store c.args.session.now.connection)
     g.P.Reader.Source.remaining g.P.Reader.Source.has_failed c.deref_mut.result.now c.update_from.new.readers (Ok c.in-Ok.reply)
     (λ files known. ap (map g.P.Reader.Source.remaining) c.deref_mut.ensures.value ∙ c.in_ok-readers.ensures.told files known) same
     (c.in-Ok.ensures.ready clean) (c.in-Ok.ensures.elder clean) c.in-Ok.ensures.sound (c.in-Ok.ensures.honest clean)
@@ -38,7 +51,7 @@ returns-in-Ok-clause-over g c = λ clean.
 pub returns-clause-over : goal.returns-clause-over
 returns-clause-over g c = λ clean.
     let same : length c.update_from.new.readers ≡ length c.deref_mut.result.now = search rules in
-    changed_over (g.P.Paths.tells c.args.paths.now) g.L.Layout.format c.args.session.now.profile (name_bytes c.args.database.now) (map string_bytes c.args.named.now) (state g.S.Store c.args.session.now.connection)
+    changed_over (g.P.Paths.tells c.args.paths.now) g.L.Layout.format c.args.session.now.profile c.args.kind c.args.session.now.limits (name_bytes c.args.database.now) (map string_bytes c.args.named.now) (state g.S.Store c.args.session.now.connection)
     g.P.Reader.Source.remaining g.P.Reader.Source.has_failed c.deref_mut.result.now c.update_from.new.readers (Err c.in-Err.refusal)
     (λ files known. ap (map g.P.Reader.Source.remaining) c.deref_mut.ensures.value ∙ c.in_ok-readers.ensures.told files known) same
     (c.in-Err.ensures.ready clean) (c.in-Err.ensures.elder clean) c.in-Err.ensures.sound (c.in-Err.ensures.honest clean)

@@ -5,20 +5,19 @@ use Rattle.zeb_register.specs.Store.{IsStore}
 use Rattle.zeb_change.specs.declared.settings.Limits.{Limits}
 use Rattle.zeb_engine.specs.Alone.{Alone, StatSays}
 use Rattle.zeb_engine.specs.AnyRefusals.{CreateOver, DropOver, HidesDatabase, HidesRecords, HidesRegisters, UnlessHidden}
-use Rattle.zeb_engine.specs.AnyTables.{DumpOver, LeavesWhole, StatOver}
+use Rattle.zeb_engine.specs.AnyTables.{DumpOver, StatOver}
 use Rattle.zeb_change.specs.Conditions.{conditions}
 use Rattle.zeb_engine.specs.Crashes.{CommitsBy}
 use Rattle.zeb_image.specs.Image.{IsImage}
-use Rattle.zeb_image.specs.declared.names.DbName.{DbName}
 use Rattle.zeb_image.specs.NameOf.{name_bytes}
 use Rattle.zeb_engine.specs.Steps.{OnlyAsks, turned, TakesFiles, created, dropped, dumped_by, holding, checked, Step, initialised, reindexed, upgraded, ready, CountedFrom}
 use Rattle.zeb_engine.specs.PrivateCrashes.{Commits}
 use Rattle.zeb_engine.specs.Readiness.{LooksFirst}
-use Rattle.zeb_engine.specs.Works.{Always, ServesBy}
-use Rattle.zeb_engine.specs.PrivateWorks.{Asks, Serves}
+use Rattle.zeb_engine.specs.Works.{ServesBy}
+use Rattle.zeb_engine.specs.PrivateWorks.{Always, Asks, Serves}
 use Rattle.zeb_engine.proofs.HiddenRows.{hidden_named}
 use Rattle.zeb_engine.proofs.MadeTables.{dropped_named, made_named}
-use Rattle.zeb_engine.proofs.ReadyCommands.{analysis_answers, analysis_serves, asks_serve, change_over, each_so, ends_serve, find_alone, find_serves, find_tables, scan_alone, scan_serves, scan_tables}
+use Rattle.zeb_engine.proofs.ReadyCommands.{analysis_answers, analysis_serves, asks_serve, change_leaves, change_over, each_so, ends_serve, find_alone, find_serves, find_tables, scan_alone, scan_serves, scan_tables}
 use Rattle.zeb_engine.proofs.CommitCrashes.{ends_commit, none_commits, survives_as}
 use Rattle.zeb_engine.proofs.AskedReads.{find_command_reads, scan_command_reads}
 use Rattle.zeb_engine.proofs.ServesLemmas.{on_ok}
@@ -167,7 +166,11 @@ returns-in-Drop-clause-asked g c clean = rw c.in-Drop.is (tt, hidden_named (vers
 
 pub returns-in-Change-clause-asked : goal.returns-in-Change-clause-asked
 returns-in-Change-clause-asked g c clean =
-    let same : c.in-Change.database-1-own.given.0.1.0 ≡ c.in-Change.database = search rules in rw c.in-Change.is (tt, tt, (change_over (version_of g.L.Layout.format) c.args.self.now.profile (state g.S.Store c.args.self.now.connection) c.change.result c.in-Change.kind c.in-Change.database c.in-Change.files c.in-Change.database-1-own.given.0.1.0 c.deref.result.now (search rules) (search rules) (c.change.ensures.elder clean), subst (λ (named : DbName). LeavesWhole c.args.self.now.profile (name_bytes named) (state g.S.Store c.args.self.now.connection) (state g.S.Store c.change.new.self.connection) c.change.result) same (c.change.ensures.loses clean), tt))
+    let profile = c.args.self.now.profile in
+    let old = state g.S.Store c.args.self.now.connection in
+    let over = change_over (version_of g.L.Layout.format) profile c.args.self.now.limits old c.change.result c.in-Change.kind c.in-Change.database c.in-Change.files c.in-Change.kind-1-own.given.0.0 c.in-Change.database-1-own.given.0.1.0 c.deref.result.now (search rules) (search rules) (search rules) (c.change.ensures.elder clean) in
+    let leaves = change_leaves profile old (state g.S.Store c.change.new.self.connection) c.change.result c.in-Change.kind c.in-Change.database c.in-Change.files c.in-Change.kind-1-own.given.0.0 c.in-Change.database-1-own.given.0.1.0 c.deref.result.now (search rules) (search rules) (search rules) (c.change.ensures.loses clean, c.change.ensures.named clean) in
+    rw c.in-Change.is (tt, tt, (over, leaves, tt))
 
 pub returns-in-Check-clause-asked : goal.returns-in-Check-clause-asked
 returns-in-Check-clause-asked g c clean = rw c.in-Check.is (tt, tt, (tt, tt, tt))
@@ -246,13 +249,11 @@ returns-in-Reindex-clause-reads g c clean asks = absurd (subst OnlyAsks c.in-Rei
 
 pub returns-in-Find-clause-survives : goal.returns-in-Find-clause-survives
 returns-in-Find-clause-survives g c =
-    let k = conditions (version_of g.L.Layout.format) c.args.self.now.profile c.args.self.now.limits in
-    none_commits (Step k c.args.command.now) (state g.S.Store c.args.self.now.connection) (state g.S.Store c.find.new.self.connection) c.find.ensures.survives
+    none_commits (Step (conditions (version_of g.L.Layout.format) c.args.self.now.profile c.args.self.now.limits) c.args.command.now) (state g.S.Store c.args.self.now.connection) (state g.S.Store c.find.new.self.connection) c.find.ensures.survives
 
 pub returns-in-Check-clause-survives : goal.returns-in-Check-clause-survives
 returns-in-Check-clause-survives g c =
-    let k = conditions (version_of g.L.Layout.format) c.args.self.now.profile c.args.self.now.limits in
-    none_commits (Step k c.args.command.now) (state g.S.Store c.args.self.now.connection) (state g.S.Store c.check.new.self.connection) c.check.ensures.survives
+    none_commits (Step (conditions (version_of g.L.Layout.format) c.args.self.now.profile c.args.self.now.limits) c.args.command.now) (state g.S.Store c.args.self.now.connection) (state g.S.Store c.check.new.self.connection) c.check.ensures.survives
 
 pub returns-in-Upgrade-clause-survives : goal.returns-in-Upgrade-clause-survives
 returns-in-Upgrade-clause-survives g c =
@@ -282,8 +283,7 @@ returns-in-Dump-clause-survives g c =
 
 pub returns-in-Scan-clause-survives : goal.returns-in-Scan-clause-survives
 returns-in-Scan-clause-survives g c =
-    let k = conditions (version_of g.L.Layout.format) c.args.self.now.profile c.args.self.now.limits in
-    none_commits (Step k c.args.command.now) (state g.S.Store c.args.self.now.connection) (state g.S.Store c.scan.new.self.connection) c.scan.ensures.survives
+    none_commits (Step (conditions (version_of g.L.Layout.format) c.args.self.now.profile c.args.self.now.limits) c.args.command.now) (state g.S.Store c.args.self.now.connection) (state g.S.Store c.scan.new.self.connection) c.scan.ensures.survives
 
 pub returns-in-Analyse-clause-serves : goal.returns-in-Analyse-clause-serves
 returns-in-Analyse-clause-serves g c clean =
@@ -488,10 +488,9 @@ returns-in-Analyse-clause-caused g c clean =
 pub returns-in-Change-clause-room : goal.returns-in-Change-clause-room
 returns-in-Change-clause-room g c clean =
     let old = state g.S.Store c.args.self.now.connection in
-    let profile = c.args.self.now.profile in
     rw c.in-Change.is (each_so
     c.in-Change.kind-1-own.given.0.0 c.in-Change.kind c.in-Change.database-1-own.given.0.1.0 c.in-Change.database c.deref.result.now c.in-Change.files.items (search rules) (search rules) (search rules)
-    (λ kind named files. ChangesInRoom g.L.Layout.format profile kind (map (λ file. file.items) files) Always old (state g.S.Store c.change.new.self.connection) c.change.result) (c.change.ensures.room clean))
+    (λ kind named files. ChangesInRoom c.args.self.now.profile kind (name_bytes named) (map (λ file. file.items) files) old (state g.S.Store c.change.new.self.connection) c.change.result) (c.change.ensures.room clean))
 
 pub returns-in-Reindex-clause-room : goal.returns-in-Reindex-clause-room
 returns-in-Reindex-clause-room g c clean = rw c.in-Reindex.is (c.reindex.ensures.room clean)

@@ -48,3 +48,11 @@ returns-clause-elder g c = λ clean.
     let lent : c.deref_mut.result.now ≡ c.loop-file.readers.items = search rules in
     let same : c.deref_mut.result.now ≡ texts = lent ∙ c.loop-file.invariant.texts ∙ ap (map (λ file. file.items)) whole in
     c.change_from.ensures.elder clean texts (ap (map Some) same) (none_fails c.change_from.new.readers)
+
+pub returns-clause-named : goal.returns-clause-named
+returns-clause-named g c = λ clean.
+    let whole : take c.loop-file.file-index c.args.files.now ≡ c.args.files.now = take_whole c.args.files.now c.loop-file.file-index (omega arith) in
+    let texts = map (λ file. file.items) c.args.files.now in
+    let lent : c.deref_mut.result.now ≡ c.loop-file.readers.items = search rules in
+    let same : c.deref_mut.result.now ≡ texts = lent ∙ c.loop-file.invariant.texts ∙ ap (map (λ file. file.items)) whole in
+    c.change_from.ensures.named clean texts (ap (map Some) same)

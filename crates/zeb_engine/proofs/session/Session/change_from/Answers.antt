@@ -17,12 +17,14 @@ use Rattle.zeb_engine.proofs.Readers.{no_file_failed, named_or_none}
 use Rattle.zeb_engine.proofs.ServesLemmas.{on_ok}
 use Rattle.zeb_register.specs.declared.registers.Work.{Work}
 use Rattle.zeb_engine.specs.Costs.{Costs, no_work}
+use Rattle.zeb_register.proofs.Calls.{store_same}
 use Rattle.zeb_register.proofs.Causes.{may_after}
 use Rattle.zeb_change.specs.declared.refusals.Refusal.TheVariants.{Store}
 use Rattle.zeb_change.proofs.RecordRoom.{one_refusal}
-use Rattle.zeb_engine.specs.AnyTables.{ElderOver, EldersOver, LeavesRows}
+use Rattle.zeb_engine.specs.AnyTables.{ElderOver, EldersOver, LeavesRows, LosesNamedOver, ReasonsOver}
 use Rattle.zeb_engine.proofs.ChangeElders.{few_elder, refused_elders, said_after}
-use Rattle.zeb_engine.proofs.ChangeRoom.{room_still, where_open}
+use Rattle.zeb_engine.proofs.ChangeReasons.{few_reasons}
+use Rattle.zeb_engine.proofs.ChangeRoom.{room_still}
 use Rattle.zeb_engine.proofs.session.Session.change_from.Goals as goal
 use Rattle.zeb_register.specs.Formats.{version_of}
 use Rattle.zeb_engine.proofs.ReadyTexts.{ready_then, unready_fails}
@@ -135,32 +137,28 @@ returns-clause-work g c = λ clean texts told.
 -- ---- where there is room
 
 pub returns-in_err-check_readers-clause-room : goal.returns-in_err-check_readers-clause-room
-returns-in_err-check_readers-clause-room g c clean texts told fine before fits keeps room refused =
+returns-in_err-check_readers-clause-room g c clean texts told fine store room refused =
     let named = c.in_err-check_readers.ensures.named in
     absurd (no_file_failed g.R.Source.has_failed c.args.readers.now fine named.0 named.1)
 
 pub returns-in_err-check_ready-clause-room : goal.returns-in_err-check_ready-clause-room
-returns-in_err-check_ready-clause-room g c clean texts told fine before fits keeps room refused =
-    let old = state g.S.Store c.args.self.now.connection in
-    let new = state g.S.Store c.check_ready.new.connection in
+returns-in_err-check_ready-clause-room g c clean texts told fine store room refused =
     let refusal = c.in_err-check_ready.field-0.0 in
     let result : c.from_residual-in_err-check_ready.result ≡ Err refusal = search rules in
     let is = one_refusal c.from_residual-in_err-check_ready.result refusal Store result refused in
-    where_open old new (λ opened. c.in_err-check_ready.ensures.caused clean (keeps opened).0.0 (ap why_of is))
+    c.in_err-check_ready.ensures.caused clean store (ap why_of is)
 
 pub returns-clause-room : goal.returns-clause-room
-returns-clause-room g c clean texts told fine before fits keeps room refused =
-    let limits = c.args.self.now.limits in
+returns-clause-room g c clean texts told fine store room refused =
     let profile = c.args.self.now.profile in
-    let k = conditions (version_of g.L.Layout.format) profile limits in
     let old = state g.S.Store c.args.self.now.connection in
     let mid = state g.S.Store c.check_ready.new.connection in
     let new = state g.S.Store c.change_database.new.connection in
     let first : HasCleanDisk mid = omega (arith, c.change_database.ensures.survives.clean) in
-    let met = ready_kept k old mid before (c.in_ok-check_ready.ensures.ready first limits before keeps) (c.check_ready.ensures.same first) keeps in
-    let same = (c.check_ready.ensures.same first met.2.1).1 in
-    may_after old mid new c.check_ready.ensures.crash (λ _. met.2.1) (λ _.
-    c.change_database.ensures.room clean texts told fine before (met.0, met.1) met.3 (room_still g.L.Layout.format profile c.args.kind texts old mid same room) refused)
+    let opened = c.in_ok-check_ready.ensures.«open» first in
+    let still = (c.check_ready.ensures.same first opened.1).1 in
+    may_after old mid new c.check_ready.ensures.crash (λ _. opened.1) (λ _.
+    c.change_database.ensures.room clean texts told fine (store_same old mid still store) (room_still profile c.args.kind (name_bytes c.args.database.now) texts old mid still room) refused)
 
 -- ---- what is kept under the first record's identifier
 
@@ -178,7 +176,8 @@ returns-in_err-check_ready-clause-elder g c clean texts told fine store is =
     let failed = unready_fails (version_of g.L.Layout.format) profile trees is refusal c.in_err-check_ready.ensures.few (c.in_err-check_ready.ensures.texts clean store) (c.in_err-check_ready.ensures.whole clean store is) in
     let name = name_bytes c.args.database.now in (
       few_elder profile name texts trees refusal c.from_residual-in_err-check_ready.result result (inr failed),
-      refused_elders profile name texts trees refusal c.from_residual-in_err-check_ready.result result,
+      refused_elders profile name texts c.args.self.now.limits trees refusal c.from_residual-in_err-check_ready.result result,
+      few_reasons profile c.args.kind c.args.self.now.limits name texts trees refusal c.from_residual-in_err-check_ready.result result (inr failed),
     )
 
 pub returns-clause-elder : goal.returns-clause-elder
@@ -187,9 +186,9 @@ returns-clause-elder g c clean texts told fine store is =
     let first : HasCleanDisk mid = omega (arith, c.change_database.ensures.survives.clean) in
     let profile = c.args.self.now.profile in
     let name = name_bytes c.args.database.now in
-    said_after (λ trees. ElderOver profile name texts trees c.change_database.result × EldersOver profile name texts trees c.change_database.result) (state g.S.Store c.args.self.now.connection) mid
-    (c.check_ready.ensures.same first) (c.in_ok-check_ready.ensures.«open» first)
-    (λ there. (c.change_database.ensures.elder clean there texts told fine, c.change_database.ensures.elders clean there texts told)) store
+    said_after (λ trees. ElderOver profile name texts trees c.change_database.result × EldersOver profile c.args.self.now.limits name texts trees c.change_database.result × ReasonsOver profile c.args.kind c.args.self.now.limits name texts trees c.change_database.result)
+    (state g.S.Store c.args.self.now.connection) mid (c.check_ready.ensures.same first) (c.in_ok-check_ready.ensures.«open» first)
+    (λ there. (c.change_database.ensures.elder clean there texts told fine, c.change_database.ensures.elders clean there texts told, c.change_database.ensures.reasons clean there texts told fine)) store
 
 -- ---- what is kept after
 
@@ -198,5 +197,14 @@ returns-clause-loses g c clean store =
     let mid = state g.S.Store c.check_ready.new.connection in
     let new = state g.S.Store c.change_database.new.connection in
     let first : HasCleanDisk mid = omega (arith, c.change_database.ensures.survives.clean) in
-    said_after (λ trees. OnOk c.change_database.result (LeavesRows c.args.self.now.profile (name_bytes c.args.database.now) trees new.now.trees)) (state g.S.Store c.args.self.now.connection) mid
+    said_after (λ trees. OnOk c.change_database.result (LeavesRows c.args.self.now.profile c.args.kind (name_bytes c.args.database.now) trees new)) (state g.S.Store c.args.self.now.connection) mid
     (c.check_ready.ensures.same first) (c.in_ok-check_ready.ensures.«open» first) (c.change_database.ensures.loses clean) store
+
+-- under which identifiers it has lost any
+pub returns-clause-named : goal.returns-clause-named
+returns-clause-named g c clean texts told store =
+    let mid = state g.S.Store c.check_ready.new.connection in
+    let new = state g.S.Store c.change_database.new.connection in
+    let first : HasCleanDisk mid = omega (arith, c.change_database.ensures.survives.clean) in
+    said_after (λ trees. OnOk c.change_database.result (LosesNamedOver c.args.self.now.profile (name_bytes c.args.database.now) texts trees new.now.trees)) (state g.S.Store c.args.self.now.connection) mid
+    (c.check_ready.ensures.same first) (c.in_ok-check_ready.ensures.«open» first) (c.change_database.ensures.named clean texts told) store

@@ -8,8 +8,7 @@ use Rattle.zeb_change.specs.Conditions.{conditions}
 use Rattle.zeb_change.specs.Outcomes.{register_refusal}
 use Rattle.zeb_engine.specs.declared.replies.Reply.{Reply}
 use Rattle.zeb_engine.specs.Steps.{checked, ready}
-use Rattle.zeb_engine.specs.Works.{Always}
-use Rattle.zeb_engine.specs.PrivateWorks.{Serves}
+use Rattle.zeb_engine.specs.PrivateWorks.{Always, Serves}
 use Rattle.zeb_engine.proofs.CheckAnswers.{damage_serves, tells_none, tells_some, unready_tells}
 use Rattle.zeb_engine.proofs.ReadyCommands.{ready_met, unready_checks}
 use Rattle.zeb_engine.proofs.ReadyTexts.{fault_never, passed_texts, ready_then}

@@ -10,7 +10,7 @@ use Rattle.zeb_image.specs.NameOf.{name_bytes}
 use Rattle.zeb_engine.specs.Steps.{ready}
 use Rattle.zeb_engine.specs.PrivateWorks.{Finds}
 use Rattle.zeb_engine.specs.Alone.{FindSays, RefusesFind}
-use Rattle.zeb_engine.specs.AnyTables.{FindOver, HidesAny}
+use Rattle.zeb_engine.specs.AnyTables.{FindOver, HidesUnsaid}
 use Rattle.zeb_engine.specs.Steps.{FindAnswers}
 use Rattle.zeb_query.specs.Plans.{PlanValue}
 use Rattle.zeb_engine.specs.Reads.{IsPlanOf, PlanReads}
@@ -119,7 +119,7 @@ pub returns-in_err-check_ready-clause-tables : goal.returns-in_err-check_ready-c
 returns-in_err-check_ready-clause-tables g c clean store texts =
     let refusal = c.in_err-check_ready.field-0.0 in
     let told : c.from_residual.result ≡ Err refusal = search rules in
-    rw told (unready_hidden (FindOver g.L.Layout.format c.args.self.now.profile (name_bytes c.args.database.now) c.args.question.query.now c.args.question.first c.args.question.count) HidesAny (version_of g.L.Layout.format) c.args.self.now.profile (state g.S.Store c.args.self.now.connection) refusal
+    rw told (unready_hidden (FindOver g.L.Layout.format c.args.self.now.profile (name_bytes c.args.database.now) c.args.question.query.now c.args.question.first c.args.question.count) HidesUnsaid (version_of g.L.Layout.format) c.args.self.now.profile (state g.S.Store c.args.self.now.connection) refusal
     c.in_err-check_ready.ensures.few (c.in_err-check_ready.ensures.texts clean) (c.in_err-check_ready.ensures.whole clean) store texts)
 
 pub returns-clause-tables : goal.returns-clause-tables
@@ -127,5 +127,5 @@ returns-clause-tables g c clean store texts =
     let old = state g.S.Store c.args.self.now.connection in
     let mid = state g.S.Store c.check_ready.new.connection in
     let clean1 : HasCleanDisk mid = omega (arith, c.find.ensures.crash.clean) in
-    hidden_after (FindOver g.L.Layout.format c.args.self.now.profile (name_bytes c.args.database.now) c.args.question.query.now c.args.question.first c.args.question.count) HidesAny old mid c.find.result
+    hidden_after (FindOver g.L.Layout.format c.args.self.now.profile (name_bytes c.args.database.now) c.args.question.query.now c.args.question.first c.args.question.count) HidesUnsaid old mid c.find.result
     (c.check_ready.ensures.same clean1) (c.in_ok-check_ready.ensures.«open» clean1) (c.find.ensures.tables clean) store

@@ -7,7 +7,7 @@ use Rattle.zeb_register.specs.Calls.{ChangesNothing}
 use Rattle.zeb_engine.specs.Answers.{answer_of}
 use Rattle.zeb_change.specs.Conditions.{conditions}
 use Rattle.zeb_engine.specs.Crashes.{CommitsOne, EnduresRun}
-use Rattle.zeb_engine.specs.AnyAnswers.{DoesOver}
+use Rattle.zeb_engine.specs.AnyAnswers.{CommandOverTables}
 use Rattle.zeb_engine.specs.Works.{FindOpen, InTurn, Runs}
 use Rattle.zeb_engine.proofs.session.Session.run_all.Given as goal
 use Rattle.zeb_register.specs.Formats.{version_of}
@@ -23,7 +23,7 @@ invariant-loop-command g l =
       survives : Survives old now
           (CommitsOne (conditions (version_of g.L.Layout.format) l.fn.self.profile l.fn.self.limits) (take l.command-index l.commands) (map answer_of l.answers.items) old);
       refused : HasCleanDisk now → AllByRecursion IsErr l.answers.items → ChangesNothing old now;
-      turns : HasCleanDisk now → InTurn g.S.Store (DoesOver g.L.Layout.format l.fn.self.profile) (take l.command-index l.commands) l.answers.items l.fn.self.connection l.self.connection;
+      turns : HasCleanDisk now → InTurn g.S.Store (CommandOverTables g.L.Layout.format (conditions (version_of g.L.Layout.format) l.fn.self.profile l.fn.self.limits)) (take l.command-index l.commands) l.answers.items l.fn.self.connection l.self.connection;
       was_open : HasCleanDisk now → IsTrue now.is_open → IsTrue old.is_open;
       «open» : HasCleanDisk now → FindOpen (take l.command-index l.commands) l.answers.items old now;
       crash : HasCleanDisk now

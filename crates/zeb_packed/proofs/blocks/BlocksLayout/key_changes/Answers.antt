@@ -2,12 +2,14 @@ use Rattle.std.proofs.Common.{◌≡◌, ◌∙◌, [], ap, arith, inl, inr, map
 use Rattle.sqlite.specs.Effect.{Database}
 use Rattle.sqlite.specs.Held.{state}
 use Rattle.zeb_register.specs.Content.{AreChangedAt}
-use Rattle.zeb_register.specs.Hindrances.{placed, rows_of}
+use Rattle.zeb_register.specs.Hindrances.{IsPlacedAt, placed, rows_of}
+use Rattle.zeb_register.specs.PlainRows.{key_row}
 use Rattle.zeb_register.specs.PackedBlocks.{HoldsBlocks}
 use Rattle.zeb_register.specs.Store.{blocks_tree, dict_tree, postings_tree}
 use Rattle.zeb_register.proofs.Calls.{store_same}
 use Rattle.zeb_register.proofs.ListChanges.{content_none, one_content_changed}
-use Rattle.zeb_register.proofs.Malformed.{malformed_seen}
+use Rattle.zeb_register.proofs.Malformed.{beside_seen, malformed_seen, places_same, spelled_same}
+use Rattle.zeb_packed.proofs.PackedHindrances.{spells_none}
 use Rattle.zeb_packed.proofs.PackedWrites.{none_of}
 use Rattle.zeb_register.proofs.TakenRowids.{takes_more, takes_none}
 use Rattle.zeb_packed.proofs.blocks.BlocksLayout.key_changes.Goals as goal
@@ -76,3 +78,26 @@ returns-clause-sound g c clean inside store some = c.in_ok-changes_put.ensures.s
 pub returns-then-is_empty-clause-malformed : goal.returns-then-is_empty-clause-malformed
 returns-then-is_empty-clause-malformed g c clean inside store =
     malformed_seen (state g.S.Store c.args.tx.now.conn.now).now (state g.S.Store c.nothing_inside.new.tx.conn.now).now (c.in_ok-nothing_inside.ensures.call.ok clean inside).now_is
+
+pub returns-then-is_empty-clause-others : goal.returns-then-is_empty-clause-others
+returns-then-is_empty-clause-others g c clean inside store =
+    let first = state g.S.Store c.args.tx.now.conn.now in
+    beside_seen (key_row c.args.db.0 c.args.key.now) first.now (state g.S.Store c.nothing_inside.new.tx.conn.now).now (c.in_ok-nothing_inside.ensures.call.ok clean inside).now_is
+
+pub returns-then-is_empty-clause-spelled : goal.returns-then-is_empty-clause-spelled
+returns-then-is_empty-clause-spelled g c clean inside store =
+    let first = state g.S.Store c.args.tx.now.conn.now in
+    let same = (c.in_ok-nothing_inside.ensures.call.ok clean inside).now_is in
+    spells_none c.args.db.0 c.args.key.now (IsPlacedAt (map placed c.args.changes.now)) first.now (state g.S.Store c.nothing_inside.new.tx.conn.now).now same
+
+pub returns-then-is_empty-clause-still : goal.returns-then-is_empty-clause-still
+returns-then-is_empty-clause-still g c clean inside store =
+    let first = (state g.S.Store c.args.tx.now.conn.now).now.trees in
+    let same = ap (λ (d : Database). d.trees blocks_tree) (c.in_ok-nothing_inside.ensures.call.ok clean inside).now_is in
+    spelled_same c.args.db.0 c.args.key.now (map placed c.args.changes.now) first (state g.S.Store c.nothing_inside.new.tx.conn.now).now.trees same
+
+pub returns-then-is_empty-clause-places : goal.returns-then-is_empty-clause-places
+returns-then-is_empty-clause-places g c clean inside store =
+    let first = (state g.S.Store c.args.tx.now.conn.now).now.trees in
+    let same = ap (λ (d : Database). d.trees postings_tree) (c.in_ok-nothing_inside.ensures.call.ok clean inside).now_is in
+    places_same c.args.db.0 c.args.key.now (map placed c.args.changes.now) first (state g.S.Store c.nothing_inside.new.tx.conn.now).now.trees same

@@ -4,8 +4,8 @@ use Rattle.sqlite_rules.specs.Lists.{Has}
 use Rattle.zeb_blocks.specs.Blocks.{LiesIn}
 use Rattle.zeb_blocks.specs.declared.postings.Posting.{Posting}
 use Rattle.zeb_register.specs.Content.{AreListChanges, ArePlacesOf, posting_cmp}
-use Rattle.zeb_register.specs.Hindrances.{placed, rows_of}
-use Rattle.zeb_packed.specs.PackedSound.{AreOfOthers, IsOfFirsts, had}
+use Rattle.zeb_register.specs.Hindrances.{AreOfOthers, placed, rows_of}
+use Rattle.zeb_packed.specs.PackedSound.{IsOfFirsts, had}
 use Rattle.zeb_packed.specs.PrivatePackedChanges.{IsHeld}
 use Rattle.zeb_packed.specs.PrivatePackedHindrances.{IsPut}
 use Rattle.zeb_packed.proofs.packed_parts.Held.changed_by.Given as goal

@@ -3,16 +3,19 @@ use Rattle.std.proofs.lemmas.List.{take_all}
 use Rattle.sqlite.specs.Effect.{Database}
 use Rattle.sqlite.specs.Held.{state}
 use Rattle.sqlite.specs.State.{HasCleanDisk}
+use Rattle.sqlite_rules.proofs.ProbeLemmas.{mapped_has}
 use Rattle.sqlite_trees.proofs.ListLemmas.{all-get_or}
 use Rattle.zeb_register.specs.declared.registers.RecordChange.{RecordChange}
 use Rattle.zeb_register.specs.Content.{AreChangedAt}
-use Rattle.zeb_register.specs.Hindrances.{TakesRegisterRowids, placed, rows_of}
-use Rattle.zeb_register.specs.PlainRows.{HoldsRows}
+use Rattle.zeb_register.specs.Hindrances.{IsPlacedAt, TakesRegisterRowids, placed, rows_of}
+use Rattle.zeb_register.specs.PlainRows.{HoldsRows, key_row}
+use Rattle.zeb_register.specs.Store.{blocks_tree, postings_tree}
 use Rattle.zeb_register.proofs.Calls.{goes_then, reads_goes, store_same}
 use Rattle.zeb_register.proofs.Causes.{may_after}
+use Rattle.zeb_register.proofs.ContentLemmas.{has_get}
 use Rattle.zeb_register.proofs.ContentChanges.{change_is, changed_at}
 use Rattle.zeb_register.proofs.ListChanges.{changed_alone, content_more, content_none, next_places, no_change, one_content_changed}
-use Rattle.zeb_register.proofs.Malformed.{malformed_seen, malformed_then}
+use Rattle.zeb_register.proofs.Malformed.{beside_seen, beside_then, malformed_seen, malformed_then, places_among, places_same, places_then, spelled_same, spells_same}
 use Rattle.zeb_register.proofs.PlaceRefusals.{change_hinders, registers_same, registers_then, rows_hinder}
 use Rattle.zeb_register.proofs.RowCounts.{rows_more}
 use Rattle.zeb_register.proofs.plain.RowsLayout.key_changes.Goals as goal
@@ -33,6 +36,11 @@ loop-change-init g c =
           (before, content_none c.args.db.0 c.args.key.now before, subst (λ (d : Database). HoldsRows d.trees before) (sym same) holds);
       rowids = λ clean inside store. registers_same first.now second.now (c.in_ok-nothing_inside.ensures.call.ok clean inside).now_is;
       malformed = λ clean inside store. malformed_seen first.now second.now (c.in_ok-nothing_inside.ensures.call.ok clean inside).now_is;
+      others = λ clean inside store. beside_seen (key_row c.args.db.0 c.args.key.now) first.now second.now (c.in_ok-nothing_inside.ensures.call.ok clean inside).now_is;
+      blocks = λ clean inside store. ap (λ (d : Database). d.trees blocks_tree) (c.in_ok-nothing_inside.ensures.call.ok clean inside).now_is;
+      places = λ clean inside store.
+          places_same c.args.db.0 c.args.key.now (map placed c.args.changes.now) first.now.trees second.now.trees
+          (ap (λ (d : Database). d.trees postings_tree) (c.in_ok-nothing_inside.ensures.call.ok clean inside).now_is);
       text = λ some. absurd (omega (arith, some));
     }
 
@@ -78,6 +86,17 @@ loop-change-preserved g c =
       malformed = λ clean inside store.
           let was : HasCleanDisk mid = omega (arith, c.key_change_plain.ensures.call.crash.clean) in
           malformed_then first.now.trees mid.now.trees last.now.trees (so_far.malformed was inside store) (it.malformed clean (so_far.on was inside).mode (so_far.kept was inside store).0);
+      others = λ clean inside store.
+          let was : HasCleanDisk mid = omega (arith, c.key_change_plain.ensures.call.crash.clean) in
+          beside_then (key_row db key) first.now.trees mid.now.trees last.now.trees (so_far.others was inside store) (it.others clean (so_far.on was inside).mode (so_far.kept was inside store).0);
+      blocks = λ clean inside store.
+          let was : HasCleanDisk mid = omega (arith, c.key_change_plain.ensures.call.crash.clean) in
+          it.blocks clean (so_far.on was inside).mode (so_far.kept was inside store).0 ∙ so_far.blocks was inside store;
+      places = λ clean inside store.
+          let was : HasCleanDisk mid = omega (arith, c.key_change_plain.ensures.call.crash.clean) in
+          let among = mapped_has placed xs x (has_get xs i no_change c.loop-change-test.true) in
+          places_then db key (map placed xs) first.now.trees mid.now.trees last.now.trees (so_far.places was inside store)
+          (places_among db key (placed x) (map placed xs) mid.now.trees last.now.trees among (it.places clean (so_far.on was inside).mode (so_far.kept was inside store).0));
       text = λ some. it.text;
     }
 
@@ -157,3 +176,21 @@ returns-clause-text g c some =
 
 pub returns-clause-malformed : goal.returns-clause-malformed
 returns-clause-malformed g c clean inside store = c.loop-change.invariant.malformed clean inside store
+
+pub returns-clause-others : goal.returns-clause-others
+returns-clause-others g c clean inside store = c.loop-change.invariant.others clean inside store
+
+pub returns-clause-spelled : goal.returns-clause-spelled
+returns-clause-spelled g c clean inside store =
+    let first = state g.S.Store c.args.tx.now.conn.now in
+    let last = state g.S.Store c.loop-change.tx.conn.now in
+    spells_same c.args.db.0 c.args.key.now (IsPlacedAt (map placed c.args.changes.now)) first.now.trees last.now.trees (c.loop-change.invariant.blocks clean inside store)
+
+pub returns-clause-still : goal.returns-clause-still
+returns-clause-still g c clean inside store =
+    let first = state g.S.Store c.args.tx.now.conn.now in
+    let last = state g.S.Store c.loop-change.tx.conn.now in
+    spelled_same c.args.db.0 c.args.key.now (map placed c.args.changes.now) first.now.trees last.now.trees (c.loop-change.invariant.blocks clean inside store)
+
+pub returns-clause-places : goal.returns-clause-places
+returns-clause-places g c clean inside store = c.loop-change.invariant.places clean inside store

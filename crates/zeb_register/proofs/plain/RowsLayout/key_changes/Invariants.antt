@@ -3,10 +3,10 @@ use Rattle.sqlite.specs.Held.{state}
 use Rattle.sqlite.specs.State.{HasCleanDisk, Survives}
 use Rattle.zeb_register.specs.Calls.{GoesOn}
 use Rattle.zeb_register.specs.Content.{AreChangedAt, Content}
-use Rattle.zeb_register.specs.Hindrances.{TakesRegisterRowids, placed, rows_of}
-use Rattle.zeb_register.specs.PlainRows.{HoldsRows}
-use Rattle.zeb_register.specs.Sound.{KeepsMalformed}
-use Rattle.zeb_register.specs.Store.{IsStore, KeepsLists}
+use Rattle.zeb_register.specs.Hindrances.{KeepsPlaces, TakesRegisterRowids, placed, rows_of}
+use Rattle.zeb_register.specs.PlainRows.{HoldsRows, key_row}
+use Rattle.zeb_register.specs.Sound.{KeepsMalformed, KeepsRowsBeside}
+use Rattle.zeb_register.specs.Store.{IsStore, KeepsLists, blocks_tree}
 use Rattle.zeb_register.proofs.plain.RowsLayout.key_changes.Given as goal
 
 abbrev pub invariant-loop-change : goal.invariant-loop-change
@@ -23,5 +23,8 @@ invariant-loop-change g l =
       rowids : HasCleanDisk now → IsTrue old.in_transaction → IsStore old
           → TakesRegisterRowids (rows_of (map placed (take l.change-index l.changes))) old.now.trees now.now.trees;
       malformed : HasCleanDisk now → IsTrue old.in_transaction → IsStore old → KeepsMalformed old.now.trees now.now.trees;
+      others : HasCleanDisk now → IsTrue old.in_transaction → IsStore old → KeepsRowsBeside (key_row l.db.0 l.key) old.now.trees now.now.trees;
+      blocks : HasCleanDisk now → IsTrue old.in_transaction → IsStore old → now.now.trees blocks_tree ≡ old.now.trees blocks_tree;
+      places : HasCleanDisk now → IsTrue old.in_transaction → IsStore old → KeepsPlaces l.db.0 l.key (map placed l.changes) old.now.trees now.now.trees;
       text : 0 < l.change-index → IsUtf8 l.key.term;
     }

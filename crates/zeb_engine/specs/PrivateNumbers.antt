@@ -1,0 +1,37 @@
+-- What only the contracts of private functions speak of; no public clause reaches it.
+-- The numbers of the records of a database, which a change looks at first.
+use Rattle.std.specs.Prelude.{◌≡◌, ◌⊎◌, ◌+◌, ◌≤◌, ◌<◌, ◌^◌, ℕ, ℤ, pos, List, Option, Some, None}
+use Rattle.sqlite.specs.Effect.{Database}
+use Rattle.sqlite.specs.State.{State}
+use Rattle.sqlite.specs.Tree.{Trees}
+use Rattle.zeb_register.specs.declared.kept.Record.{Record}
+use Rattle.zeb_register.specs.Catalog.{PutsDatabase}
+use Rattle.zeb_register.specs.Kept.{AreReadable}
+use Rattle.zeb_register.specs.Store.{Changes, databases_tree}
+use Rattle.zeb_change.specs.declared.refusals.Refusal.{Refusal}
+use Rattle.zeb_change.specs.declared.refusals.Refusal.TheVariants.{Damaged}
+use Rattle.zeb_change.specs.Refused.{IsFailing, why_of}
+use Rattle.zeb_engine.specs.AnyTables.{HasNumbersTo}
+
+-- the first record, if there is one, has no number below 1, and none was found above the last number
+abbrev pub AreGiven : (first above : Option Record) → Type 0
+AreGiven first (Some found) = ⊥
+AreGiven None None = Unit {0}
+AreGiven (Some found) None = 1 ≤ found.sysno
+
+-- the records of a database can be read and have numbers that it can have given, and a column stores the number above its last one
+pub record AreWellNumbered (last : ℕ) (trees : Trees) (id : ℤ) : Type 0 where
+  pub numbers : HasNumbersTo last trees id
+  pub readable : AreReadable trees id
+  pub stored : last + 1 < 2 ^ 63
+
+-- of the database that gets the row of this name it isn't so
+pub record IsMisnumbered (name : List ℕ) (last : ℕ) (old : State) : Type 0 where
+  pub id : ℤ
+  pub now : Database
+  pub put : Changes databases_tree (PutsDatabase id name (pos last)) old (record old { now = now })
+  pub unsound : ¬ AreWellNumbered last now.trees id
+
+-- refused as damage, or by a failure
+abbrev pub IsDamageOrFailing : Refusal → Type 0
+IsDamageOrFailing refusal = (refusal ≡ Damaged) ⊎ IsFailing (why_of refusal)
