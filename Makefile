@@ -1,5 +1,6 @@
-# make            builds bin/zebraidx, which proves it first: half an hour to an hour the first time, on four processors; seconds to minutes after an edit
-# make run        runs the first example
+# make            builds bin/zebraidx, which proves it first: half an hour or more the first time, on four processors; it takes over what the gate proved
+# make try        runs the first example interpreted, with nothing proved, in some two minutes: SCRIPT=file for a script of your own
+# make run        runs the first example with the program, proved and built
 # make quick      the daily check: layout, edits, names, pages, and the proofs of the crates that changed
 # make check      the gate: every proof, every test and the edits of must-fail/, from nothing; some hours of processor time
 # make words      runs the built program by words over folders of files and altered registers, and compares what it writes with rows by hand
@@ -14,21 +15,33 @@
 # make bench-zebra  this program beside Zebra, in times and in hits; installs Debian's idzebra-2.0: RECORDS=10000 for more than 2,000
 # make bench-larger  100,000 records in one register, 10,000 in a command: updates, openings and sizes; RECORDS=20000 for fewer
 # make man        the manual pages in bin/man, from docs/MANUAL.md and VERSION; installs Debian's lowdown where it isn't there
-# make install    PREFIX=/usr/local: the program, its manual and pages, examples, completions of bash and zsh; make uninstall takes them away
+# make install    PREFIX=/usr/local NAME=zebraidx: the program, its manual and pages, examples, completions of bash and zsh; make uninstall takes them away
+# make dist       the same in an archive, bin/zebraidx-VERSION-MACHINE.tar.gz, for machines without the toolchain
 # make clean      removes what these made
 PREFIX ?= /usr/local
+# What the program is called where it is installed. Debian's idzebra-2.0-utils has a zebraidx too.
+NAME ?= zebraidx
+SCRIPT ?= examples/whale.script
 SOURCES := crates.txt $(wildcard crates/*/src/*.rt crates/*/src/*/*.rt crates/*/specs/*.antt crates/*/specs/*/*.antt)
 
-.PHONY: all help run quick check words session real examples hostile allocations edits cost bench bench-zebra bench-larger man install uninstall clean
+.PHONY: all help try run quick check words session real examples hostile allocations edits cost bench bench-zebra bench-larger man install uninstall dist clean
 all: bin/zebraidx
 
 help:
 	@sed -n 's/^# make/make/p' $(firstword $(MAKEFILE_LIST))
 
+NEEDS_RT = @command -v rt >/dev/null || { echo "make: the Rattle toolchain's command rt is not on the PATH" >&2; exit 1; }
+
 # A build is a proof first: the toolchain builds no function that it has not proved.
 bin/zebraidx: $(SOURCES)
-	@command -v rt >/dev/null || { echo "make: the Rattle toolchain's command rt is not on the PATH" >&2; exit 1; }
+	$(NEEDS_RT)
 	@tools/build $@
+
+try:
+	$(NEEDS_RT)
+	@test -r "$(SCRIPT)" || { echo "make: $(SCRIPT) can't be read" >&2; exit 1; }
+	@echo "running $(SCRIPT) interpreted; nothing is proved yet. It says nothing for some two minutes, and then what the script answers." >&2
+	@script=$$(realpath "$(SCRIPT)") && cd crates/zebraidx && rt try <"$$script"
 
 run: bin/zebraidx
 	@bin/zebraidx <examples/whale.script
@@ -49,6 +62,7 @@ words: bin/zebraidx
 	@tests/words/registers
 	@tests/words/folders
 	@tests/words/faults
+	@tests/words/nightly
 
 session: bin/zebraidx
 	@tests/words/session
@@ -57,7 +71,7 @@ real: bin/zebraidx
 	@tests/real/run
 
 examples:
-	@cd crates/small_catalogue && rt lib
+	@tools/build small_catalogue
 
 hostile: bin/zebraidx
 	@tests/hostile/greatest
@@ -88,24 +102,34 @@ bench-larger: bin/zebraidx
 man:
 	@tools/man bin/man
 
-DOC = $(DESTDIR)$(PREFIX)/share/doc/zebraidx
+DOC = $(DESTDIR)$(PREFIX)/share/doc/$(NAME)
 MAN = $(DESTDIR)$(PREFIX)/share/man
-BASH_COMPLETIONS = $(DESTDIR)$(PREFIX)/share/bash-completion/completions
-ZSH_COMPLETIONS = $(DESTDIR)$(PREFIX)/share/zsh/site-functions
+BASH_COMPLETION = $(DESTDIR)$(PREFIX)/share/bash-completion/completions/$(NAME)
+ZSH_COMPLETION = $(DESTDIR)$(PREFIX)/share/zsh/site-functions/_$(NAME)
 
 install: bin/zebraidx man
-	install -D -m 755 bin/zebraidx $(DESTDIR)$(PREFIX)/bin/zebraidx
-	install -D -m 644 -t $(MAN)/man1 bin/man/zebraidx.1
-	install -D -m 644 -t $(MAN)/man5 bin/man/zebraidx.cfg.5
+	install -D -m 755 bin/zebraidx $(DESTDIR)$(PREFIX)/bin/$(NAME)
+	install -D -m 644 bin/man/zebraidx.1 $(MAN)/man1/$(NAME).1
+	install -D -m 644 bin/man/zebraidx.cfg.5 $(MAN)/man5/$(NAME).cfg.5
 	install -D -m 644 -t $(DOC) docs/MANUAL.md docs/ZEBRA.md LICENSE VERSION
-	install -D -m 644 -t $(DOC)/examples examples/*
-	install -D -m 644 completions/zebraidx.bash $(BASH_COMPLETIONS)/zebraidx
-	install -D -m 644 -t $(ZSH_COMPLETIONS) completions/_zebraidx
+	install -D -m 644 -t $(DOC)/examples examples/*.*
+	install -D -m 755 -t $(DOC)/examples examples/nightly examples/sort-records
+	install -d $(dir $(BASH_COMPLETION)) $(dir $(ZSH_COMPLETION))
+	sed 's/^\(complete .*\) zebraidx$$/\1 $(NAME)/' completions/zebraidx.bash >$(BASH_COMPLETION)
+	sed '1s/zebraidx/$(NAME)/' completions/_zebraidx >$(ZSH_COMPLETION)
 
 uninstall:
-	rm -f $(DESTDIR)$(PREFIX)/bin/zebraidx $(MAN)/man1/zebraidx.1 $(MAN)/man5/zebraidx.cfg.5
-	rm -f $(BASH_COMPLETIONS)/zebraidx $(ZSH_COMPLETIONS)/_zebraidx
+	rm -f $(DESTDIR)$(PREFIX)/bin/$(NAME) $(MAN)/man1/$(NAME).1 $(MAN)/man5/$(NAME).cfg.5
+	rm -f $(BASH_COMPLETION) $(ZSH_COMPLETION)
 	rm -rf $(DOC)
+
+# What install puts below PREFIX, in one folder of an archive: `tar -xzf FILE --strip-components=1 -C /usr/local` installs it.
+DIST = zebraidx-$(shell cat VERSION)-$(shell uname -m)
+dist:
+	rm -rf bin/dist
+	$(MAKE) --no-print-directory install DESTDIR=bin/dist PREFIX=/$(DIST)
+	tar -czf bin/$(DIST).tar.gz -C bin/dist $(DIST)
+	rm -rf bin/dist
 
 clean:
 	rm -rf bin crates/*/out

@@ -63,7 +63,8 @@ def by_level(crates):
 
 def failures(said):
     """The lines of a log that say why a crate isn't proved, or else its last ones."""
-    return [it for it in said if re.search(r"error|not proved|no proof", it)] or said[-20:]
+    told = r"error|not proved|no proof|NOT PROVED|not in the layout"
+    return [it for it in said if re.search(told, it) and not it.endswith(": proved\n")] or said[-20:]
 
 
 def path_of_rt():
