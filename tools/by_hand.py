@@ -12,7 +12,7 @@ import hashlib
 import re
 
 # What a failure is called, and of what it is one: variants of the crates' and the kit's faults, and the values without a path.
-VARIANTS = {"Memory": "memory", "OutOfMemory": "memory", "Store": "store", "Commit": "store"}
+VARIANTS = {"Memory": "memory", "OutOfMemory": "memory", "Store": "store"}
 VALUES = {"AllocError": "memory", "AllocFailed": "memory", "OpenFailed": "store", "ReadFailed": "read", "FAILED": "status"}
 # What only a call that failed gives, by what its conversion may make of it.
 OF_CALLS = {"AllocError": "memory", "AllocFailed<T>": "memory", "Error": "store", "sqlite::Error": "store"}
@@ -26,7 +26,7 @@ MADE_BY_HAND = {
     "crates/zeb_profile/src/faults.rt": (["MEMORY 1437066d"], "the one value that all conversions give"),
     "crates/zeb_query/src/faults.rt": (["about 0d9868b6"], "an addinfo that there is no memory for"),
     "crates/zeb_register/src/values.rt": (["stored aaab8d06"], "a number that no column stores"),
-    "crates/zeb_packed/src/packed_parts.rt": (["check_numbers a6317af7", "check_place 773bf948"], "a number or a place that no row has"),
+    "crates/zeb_packed/src/packed_parts.rt": (["check_numbers 79ef14be", "check_place 773bf948"], "a number or a place that no row has"),
     "crates/zeb_change/src/key_notes.rt": (["note 96b8ec5b"], "more changes of a key than a number counts"),
     "crates/zeb_image/src/rebuilding.rt": (["database_post 34e78b1f"], "more turns than there are numbers"),
     "crates/zeb_engine/src/session.rt": (["run_all 8bd74e81"], "no room for the answers"),

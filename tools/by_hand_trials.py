@@ -5,7 +5,6 @@ import by_hand
 MADE = [
     ("by its name", "fn f() -> Result<(), RegFault> { Err(RegFault::Store) }"),
     ("by a path", "fn f() -> Result<(), RegFault> { Err(crate::faults::RegFault::Memory) }"),
-    ("of a commit", "fn f() -> Result<(), Refusal> { Err(Refusal::Commit) }"),
     ("over lines", "fn f() -> Result<(), Refusal> {\n    return Err(\n        Refusal::Store,\n    );\n}"),
     ("by its own type", "impl Fault { fn f() -> Fault { Self::Store } }"),
     ("by its own type, of memory", "impl Fault { fn f() -> Fault { Self::Memory } }"),

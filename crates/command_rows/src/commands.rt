@@ -166,10 +166,7 @@ pub fn is_refused_with(answer: &Result<Reply, Refusal>, wanted: u8) -> bool {
 
 /// Whether a command was refused for want of memory, or because the store failed, which may lack it.
 pub fn lacks_memory(answer: &Result<Reply, Refusal>) -> bool {
-    matches!(
-        answer,
-        Err(Refusal::Memory | Refusal::Store | Refusal::Commit)
-    )
+    matches!(answer, Err(Refusal::Memory | Refusal::Store))
 }
 
 /// For each step its text is printed.

@@ -17,8 +17,8 @@ use zeb_register::Layout;
 /// How many of the records found are shown.
 const SHOWN: u32 = 10;
 
-/// Opens the register in the file that the profile names, and makes its tables where the file has none. Refused (`Store`, `Commit`,
-/// `Memory`) where the file can't be opened, another program holds it, or it has other tables.
+/// Opens the register in the file that the profile names, and makes its tables where the file has none. Refused (`Store`, `Memory`)
+/// where the file can't be opened, another program holds it, or it has other tables.
 ///
 /// Proved here is that an opened session has this profile. No clause here says which file it is over, what it is refused for, or that
 /// tables are made: `Session::adopt` says of a connection what becomes of its tables, and of files nothing is told.

@@ -1,15 +1,6 @@
 -- Files of which nothing is refused.
-use Rattle.std.proofs.Common.{◌≡◌, ◌∙◌, ℕ, ◌+◌, ◌≤◌, ◌<◌, suc, true, false, cond, leb, List, [], ◌∷◌, length, length-append, Option, Some, None, Result, Ok, Err, refl, sym, ap, arith}
-use Rattle.std.specs.List.{AllByRecursion, flat_map}
-use Rattle.std.specs.Option.{option_or}
-use Rattle.std.proofs.lemmas.Bool.{leb-false}
-use Rattle.zeb_profile.specs.declared.directives.Directive.{Directive}
-use Rattle.zeb_marc.specs.declared.faults.MarcFault.{MarcFault}
-use Rattle.zeb_marc.specs.Records.{first_fault}
-use Rattle.zeb_marc.specs.Splits.{split_of}
-use Rattle.zeb_analysis.specs.declared.faults.AnalysisFault.TheVariants.{TooManyRecords}
-use Rattle.zeb_analysis.specs.Analysing.{Analysed, AnalysesTo, Standing, first_refusal, refusal_at, refused_content, refused_record, standing_from, standing_in, standing_in_all}
-use Rattle.zeb_analysis.specs.Laws.{slices_of}
+use Rattle.zeb_analysis.proofs.Cited.{◌≡◌, ◌∙◌, ℕ, ◌+◌, ◌≤◌, ◌<◌, suc, true, false, cond, leb, List, [], ◌∷◌, length, length-append, Option, Some, None, Result, Ok, Err, refl, sym, ap, arith, AllByRecursion, flat_map, option_or, leb-false, Directive, MarcFault, first_fault, split_of, TooManyRecords, Analysed, AnalysesTo, Standing, first_refusal, refused_content, refused_record, standing_from, standing_in_all, slices_of}
+use Rattle.zeb_analysis.specs.Analysing.{refusal_at, standing_in}
 use Rattle.zeb_analysis.proofs.SoFar.{as_many, refusal-append}
 
 neither : {T : Type 0} (a b : Option T) → option_or a b ≡ None → (a ≡ None) × (b ≡ None)

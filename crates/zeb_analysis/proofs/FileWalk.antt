@@ -1,15 +1,6 @@
 -- A file that is read record by record: what stands in what is left of it.
-use Rattle.std.proofs.Common.{◌≡◌, ◌∙◌, ℕ, ◌+◌, ◌≤◌, List, [], ◌∷◌, ◌++◌, length, length-append, true, false, Option, Some, None, Ok, Err, append_assoc, refl, sym, ap, subst, subst₂, arith}
-use Rattle.std.specs.Option.{option_or}
-use Rattle.std.proofs.lemmas.List.{append-nil}
-use Rattle.zeb_profile.specs.declared.directives.Directive.{Directive}
-use Rattle.zeb_marc.specs.declared.faults.MarcFault.{MarcFault}
-use Rattle.zeb_marc.specs.Splits.{Next, at_end, a_slice, a_fault, next_of, split_of}
-use Rattle.zeb_marc.proofs.SplitLaws.{NextIs, next_view, split_of-next, SoundSlice-from_checks}
-use Rattle.zeb_analysis.specs.declared.faults.AnalysisFault.{AnalysisFault}
-use Rattle.zeb_analysis.specs.declared.faults.AnalysisFault.TheVariants.{Marc}
-use Rattle.zeb_analysis.specs.Analysing.{Analysed, IsAnalysisOf, Standing, at_place, first_refusal, refusal_at, standing_from, standing_in}
-use Rattle.zeb_analysis.specs.PrivateWalk.{Extends, ReadsPlace}
+use Rattle.zeb_analysis.proofs.Cited.{◌≡◌, ◌∙◌, ℕ, ◌+◌, ◌≤◌, List, [], ◌∷◌, ◌++◌, length, length-append, true, false, Option, Some, None, Ok, Err, append_assoc, refl, sym, ap, subst, subst₂, arith, option_or, append-nil, Directive, MarcFault, Next, at_end, a_slice, a_fault, next_of, split_of, NextIs, next_view, split_of-next, SoundSlice-from_checks, AnalysisFault, Marc, Analysed, IsAnalysisOf, Standing, at_place, first_refusal, standing_from, Extends, ReadsPlace}
+use Rattle.zeb_analysis.specs.Analysing.{refusal_at, standing_in}
 use Rattle.zeb_analysis.proofs.SoFar.{SoFar, at_first, at_last, more_done, refused_here}
 
 -- ---- what was read tells what stood next

@@ -1,10 +1,6 @@
 -- Files that are analysed one after the other: what stands in those that are left.
-use Rattle.std.proofs.Common.{◌≡◌, ◌∙◌, ℕ, ◌+◌, ◌<◌, suc, List, ◌∷◌, ◌++◌, length, map, drop, get_or, Some, sym, ap, subst, arith, ◌≤◌, [], None}
-use Rattle.std.proofs.lemmas.List.{drop_all, length-map}
-use Rattle.zeb_profile.specs.declared.directives.Directive.{Directive}
-use Rattle.zeb_analysis.specs.declared.faults.AnalysisFault.{AnalysisFault}
-use Rattle.zeb_analysis.specs.Analysing.{Analysed, AreAnalysesOf, Standing, first_refusal, standing_in, standing_in_all}
-use Rattle.zeb_analysis.specs.PrivateWalk.{Extends}
+use Rattle.zeb_analysis.proofs.Cited.{◌≡◌, ◌∙◌, ℕ, ◌+◌, ◌<◌, suc, List, ◌∷◌, ◌++◌, length, map, drop, get_or, Some, sym, ap, subst, arith, ◌≤◌, [], None, drop_all, length-map, Directive, AnalysisFault, Analysed, AreAnalysesOf, Standing, first_refusal, standing_in_all, Extends}
+use Rattle.zeb_analysis.specs.Analysing.{standing_in}
 use Rattle.zeb_analysis.proofs.SoFar.{SoFar, at_last, more_done, refused_here, rest_at}
 
 module _ {F : Type 0} (text_of : F → List ℕ) (files : List F) (index : ℕ) (file : F) (within : index < length files) (there : file ≡ get_or files index file)

@@ -1,11 +1,6 @@
 -- The first refusal among what stands in files.
-use Rattle.std.proofs.Common.{◌≡◌, ◌↔◌, ◌∙◌, ℕ, ◌+◌, ◌<◌, zero, suc, List, [], ◌∷◌, Option, Some, None, refl, sym, ap, arith}
-use Rattle.std.specs.Prelude.{slice_get}
-use Rattle.std.specs.Option.{option_or}
-use Rattle.zeb_profile.specs.declared.directives.Directive.{Directive}
-use Rattle.zeb_analysis.specs.declared.faults.AnalysisFault.{AnalysisFault}
-use Rattle.zeb_analysis.specs.Analysing.{Standing, first_refusal, refusal_at}
-use Rattle.zeb_analysis.specs.Laws.{IsFirstRefused}
+use Rattle.zeb_analysis.proofs.Cited.{◌≡◌, ◌↔◌, ◌∙◌, ℕ, ◌+◌, ◌<◌, zero, suc, List, [], ◌∷◌, Option, Some, None, refl, sym, ap, arith, slice_get, option_or, Directive, AnalysisFault, Standing, first_refusal, IsFirstRefused}
+use Rattle.zeb_analysis.specs.Analysing.{refusal_at}
 
 module _ (profile : List Directive) (limit : ℕ) where
   -- the same, where so many records stand before them all

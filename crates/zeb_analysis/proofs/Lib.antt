@@ -8,3 +8,4 @@ pub mod ToldOnce
 pub mod FirstRefusals
 pub mod RefusalKinds
 pub mod Accepted
+pub mod Cited

@@ -1,9 +1,5 @@
 -- Lines that are written one after the other.
-use Rattle.std.proofs.Common.{◌≡◌, ◌∙◌, ℕ, ◌+◌, ◌<◌, suc, List, [], ◌∷◌, ◌++◌, length, take, get_or, append_assoc, sym, ap, arith}
-use Rattle.std.specs.List.{flat_map}
-use Rattle.std.proofs.lemmas.Grind.{flat_map-append}
-use Rattle.std.proofs.lemmas.List.{append-nil}
-use Rattle.std.proofs.Math.Seq.{take-suc}
+use Rattle.zeb_analysis.proofs.Cited.{◌≡◌, ◌∙◌, ℕ, ◌+◌, ◌<◌, suc, List, [], ◌∷◌, ◌++◌, length, take, get_or, append_assoc, sym, ap, arith, flat_map, flat_map-append, append-nil, take-suc}
 
 -- behind the lines of the first so many stands that of the next
 pub one_more_line : {A : Type 0} (line_of : A → List ℕ) (head : List ℕ) (xs : List A) (i : ℕ) (x : A) (line : List ℕ) → i < length xs → x ≡ get_or xs i x → line ≡ line_of x

@@ -1,26 +1,7 @@
 -- Which refusals there are.
-use Rattle.std.proofs.Common.{◌≡◌, ◌≢◌, ◌⊎◌, ℕ, ◌+◌, zero, suc, true, false, cond, leb, ◌==◌, length, List, [], ◌∷◌, ◌++◌, Option, Some, None, Result, Ok, Err, inl, inr, refl, sym, ap, subst}
-use Rattle.std.specs.Prelude.{slice_get, ⊤}
-use Rattle.std.specs.List.{AllByRecursion}
-use Rattle.std.specs.Option.{option_and_then}
-use Rattle.std.specs.Str.Lossy.{utf8_lossy}
-use Rattle.zeb_profile.specs.declared.directives.Directive.{Directive}
-use Rattle.zeb_profile.specs.Indexes.{identifier_pattern}
-use Rattle.zeb_marc.specs.declared.faults.MarcFault.{MarcFault}
-use Rattle.zeb_marc.specs.declared.faults.MarcFault.TheVariants.{LengthDigits, LengthRange, Truncated, NoTerminator, LeaderCounts, BaseAddress, DirectoryLength, EntryDigits, EntryTag, EntryRange, FieldEnd, TooManySeparators, ReadFault}
-use Rattle.zeb_marc.specs.Contents.{UnitText}
-use Rattle.zeb_marc.specs.Leader.{Check, first_failing, slice_checks}
-use Rattle.zeb_marc.specs.Records.{first_fault, IsRecordFault}
-use Rattle.zeb_marc.specs.Splits.{IsNoSlice, IsSplit, IsTooLong, split_of}
-use Rattle.zeb_marc.proofs.FaultLaws.{record_faults}
-use Rattle.zeb_marc.proofs.SplitLaws.{IsSplit-split_of}
-use Rattle.zeb_extract.specs.declared.naming.IdentFault.{IdentFault}
+use Rattle.zeb_analysis.proofs.Cited.{◌≡◌, ◌≢◌, ◌⊎◌, ℕ, ◌+◌, zero, suc, true, false, cond, leb, ◌==◌, length, List, [], ◌∷◌, ◌++◌, Option, Some, None, Result, Ok, Err, inl, inr, refl, sym, ap, subst, slice_get, ⊤, AllByRecursion, option_and_then, utf8_lossy, Directive, identifier_pattern, MarcFault, LengthDigits, LengthRange, Truncated, NoTerminator, LeaderCounts, BaseAddress, DirectoryLength, EntryDigits, EntryTag, EntryRange, FieldEnd, TooManySeparators, ReadFault, UnitText, Check, first_failing, slice_checks, first_fault, IsRecordFault, IsNoSlice, IsSplit, IsTooLong, split_of, record_faults, IsSplit-split_of, IdentFault, checked, first_fitting, held_in, identifier_of, is_bad, without_spaces, AnalysisFault, Marc, Ident, TooManyRecords, Standing, refused_content, refused_name, refused_record, standing_from, standing_in_all, units_in, IsRefusal}
 use Rattle.zeb_extract.specs.declared.naming.IdentFault.TheVariants as ident
-use Rattle.zeb_extract.specs.Identifier.{checked, first_fitting, held_in, identifier_of, is_bad, without_spaces}
-use Rattle.zeb_analysis.specs.declared.faults.AnalysisFault.{AnalysisFault}
-use Rattle.zeb_analysis.specs.declared.faults.AnalysisFault.TheVariants.{Marc, Ident, TooManyRecords}
-use Rattle.zeb_analysis.specs.Analysing.{Standing, refusal_at, refused_content, refused_name, refused_record, standing_from, standing_in, standing_in_all, units_in}
-use Rattle.zeb_analysis.specs.Laws.{IsRefusal}
+use Rattle.zeb_analysis.specs.Analysing.{refusal_at, standing_in}
 
 -- ---- faults of bytes
 

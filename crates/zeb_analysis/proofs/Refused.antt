@@ -1,15 +1,7 @@
 -- What is said of a record, once it is known whether it may come, whether it is one, and under which identifier.
-use Rattle.std.proofs.Common.{◌≡◌, ◌≢◌, ◌∙◌, ℕ, ◌<◌, ◌≤◌, Bool, cond, List, Some, None, Ok, Err, refl, ap}
-use Rattle.std.proofs.lemmas.Bool.{le-leb, lt-leb}
-use Rattle.zeb_profile.specs.declared.directives.Directive.{Directive}
-use Rattle.zeb_marc.specs.declared.faults.MarcFault.{MarcFault}
-use Rattle.zeb_marc.specs.Records.{first_fault}
-use Rattle.zeb_extract.specs.declared.naming.IdentFault.{IdentFault}
+use Rattle.zeb_analysis.proofs.Cited.{◌≡◌, ◌≢◌, ◌∙◌, ℕ, ◌<◌, ◌≤◌, Bool, cond, List, Some, None, Ok, Err, refl, ap, le-leb, lt-leb, Directive, MarcFault, first_fault, IdentFault, identifier_of, Marc, TooManyRecords, Memory, ident_fault, at_place, refused_name, refused_record, units_in}
 use Rattle.zeb_extract.specs.declared.naming.IdentFault.TheVariants as ident
-use Rattle.zeb_extract.specs.Identifier.{identifier_of}
-use Rattle.zeb_analysis.specs.declared.faults.AnalysisFault.TheVariants.{Marc, TooManyRecords, Memory}
-use Rattle.zeb_analysis.specs.PrivateRefusals.{ident_fault}
-use Rattle.zeb_analysis.specs.Analysing.{at_place, refusal_at, refused_name, refused_record, units_in}
+use Rattle.zeb_analysis.specs.Analysing.{refusal_at}
 
 module _ (profile : List Directive) (limit before file nth : ℕ) (bytes : List ℕ) where
   -- the limit is reached

@@ -1,10 +1,6 @@
 -- How far a walk over what stands in files has come: a front of it was analysed, and nothing there is refused.
-use Rattle.std.proofs.Common.{◌≡◌, ◌∙◌, ℕ, ◌+◌, ◌<◌, zero, suc, List, [], ◌∷◌, ◌++◌, length, map, drop, get_or, Option, Some, None, append_assoc, refl, sym, ap, subst, arith}
-use Rattle.std.specs.Option.{option_or}
-use Rattle.std.proofs.lemmas.List.{append-nil}
-use Rattle.zeb_profile.specs.declared.directives.Directive.{Directive}
-use Rattle.zeb_analysis.specs.declared.faults.AnalysisFault.{AnalysisFault}
-use Rattle.zeb_analysis.specs.Analysing.{Analysed, AreAnalysesOf, Standing, first_refusal, refusal_at}
+use Rattle.zeb_analysis.proofs.Cited.{◌≡◌, ◌∙◌, ℕ, ◌+◌, ◌<◌, zero, suc, List, [], ◌∷◌, ◌++◌, length, map, drop, get_or, Option, Some, None, append_assoc, refl, sym, ap, subst, arith, option_or, append-nil, Directive, AnalysisFault, Analysed, AreAnalysesOf, Standing, first_refusal}
+use Rattle.zeb_analysis.specs.Analysing.{refusal_at}
 
 or_assoc : {T : Type 0} (a b c : Option T) → option_or a (option_or b c) ≡ option_or (option_or a b) c
 or_assoc None b c = refl

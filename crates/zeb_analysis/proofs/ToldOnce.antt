@@ -1,13 +1,5 @@
 -- Files have one answer.
-use Rattle.std.proofs.Common.{◌≡◌, ◌∙◌, ℕ, List, [], ◌∷◌, Result, Ok, Err, refl, sym, ap, subst}
-use Rattle.zeb_profile.specs.declared.directives.Directive.{Directive}
-use Rattle.zeb_profile.specs.Indexes.{unit_targets}
-use Rattle.zeb_keys.specs.declared.keys.Occurrence.{Occurrence}
-use Rattle.zeb_extract.specs.Identifier.{identifier_of}
-use Rattle.zeb_extract.specs.Occurrences.{IsOccurrence}
-use Rattle.zeb_keys.proofs.Rising.{rising_unique, occurrence_total, occurrences_apart}
-use Rattle.zeb_analysis.specs.declared.faults.AnalysisFault.{AnalysisFault}
-use Rattle.zeb_analysis.specs.Analysing.{Analysed, AreAnalysesOf, IsAnalysisOf, AnalysesTo, Standing, standing_in_all, units_in}
+use Rattle.zeb_analysis.proofs.Cited.{◌≡◌, ◌∙◌, ℕ, List, [], ◌∷◌, Result, Ok, Err, refl, sym, ap, subst, Directive, unit_targets, Occurrence, identifier_of, IsOccurrence, rising_unique, occurrence_total, occurrences_apart, AnalysisFault, Analysed, AreAnalysesOf, IsAnalysisOf, AnalysesTo, Standing, standing_in_all, units_in}
 
 same_parts : (a b : Analysed) → a.file ≡ b.file → a.nth ≡ b.nth → a.ident ≡ b.ident → a.occurrences ≡ b.occurrences → a ≡ b
 same_parts a b p q r s i = record { file = p i; nth = q i; ident = r i; occurrences = s i }

@@ -1,7 +1,5 @@
 -- The bytes of a number, read from the front.
-use Rattle.std.proofs.Common.{◌≡◌, ◌≢◌, ℕ, zero, suc, ◌+◌, ◌*◌, ◌/◌, ◌%◌, ◌^◌, ◌<◌, ◌≤◌, List, [], ◌∷◌, ◌++◌, length, refl, sym, ◌∙◌, ap, inl, inr, arith}
-use Rattle.std.proofs.lemmas.Bool.{cases_lt, lt-ltb, le-ltb}
-use Rattle.std.proofs.Math.Nat.{mul-add, mul_assoc, mul-le-mul_left, mul-le-mul_right}
+use Rattle.zeb_blocks.proofs.Cited.{◌≡◌, ◌≢◌, ℕ, zero, suc, ◌+◌, ◌*◌, ◌/◌, ◌%◌, ◌^◌, ◌<◌, ◌≤◌, List, [], ◌∷◌, ◌++◌, length, refl, sym, ◌∙◌, ap, inl, inr, arith, cases_lt, lt-ltb, le-ltb, mul-add, mul_assoc, mul-le-mul_left, mul-le-mul_right}
 use Rattle.zeb_blocks.specs.Numbers.{groups, uleb}
 
 pub groups-one : (more n : ℕ) → n < 128 → groups more n ≡ n ∷ []

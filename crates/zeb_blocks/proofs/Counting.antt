@@ -1,9 +1,7 @@
 -- Counting the postings of a block, one after the other.
-use Rattle.std.proofs.Common.{◌≡◌, ℕ, ◌+◌, ◌<◌, ◌≤◌, List, [], ◌∷◌, ◌++◌, length, refl, sym, ◌∙◌, ap, subst, arith}
-use Rattle.std.proofs.lemmas.List.{append_assoc, append-nil, length-append}
-use Rattle.zeb_blocks.specs.declared.postings.Posting.{Posting}
-use Rattle.zeb_blocks.specs.Blocks.{bytes_of, gaps_of, spelled_from}
-use Rattle.zeb_blocks.specs.Left.{Follows, EachFollows, SpellsFrom, last_from, postings_at}
+use Rattle.zeb_blocks.proofs.Cited.{◌≡◌, ℕ, ◌+◌, ◌<◌, ◌≤◌, List, [], ◌∷◌, ◌++◌, length, refl, sym, ◌∙◌, ap, subst, arith, append_assoc, append-nil, length-append, Posting, gaps_of, Follows, EachFollows, SpellsFrom, last_from}
+use Rattle.zeb_blocks.specs.Blocks.{bytes_of, spelled_from}
+use Rattle.zeb_blocks.specs.Left.{postings_at}
 use Rattle.zeb_blocks.proofs.Steps.{NoPosting}
 use Rattle.zeb_blocks.proofs.Lists.{each_follows-append, each_follows-behind, last_from-append, length-bytes, postings_at-spelled, spelled_from-append, told_apart}
 

@@ -1,6 +1,5 @@
 -- The number at the front of the bytes is told by them, and so is what stands behind it.
-use Rattle.std.proofs.Common.{◌≡◌, ℕ, zero, suc, ◌+◌, ◌*◌, ◌/◌, ◌%◌, ◌^◌, ◌<◌, ◌≤◌, List, ◌∷◌, ◌++◌, refl, sym, ◌∙◌, ap, inl, inr, arith}
-use Rattle.std.proofs.lemmas.Bool.{cases_lt, lt-ltb, le-ltb}
+use Rattle.zeb_blocks.proofs.Cited.{◌≡◌, ℕ, zero, suc, ◌+◌, ◌*◌, ◌/◌, ◌%◌, ◌^◌, ◌<◌, ◌≤◌, List, ◌∷◌, ◌++◌, refl, sym, ◌∙◌, ap, inl, inr, arith, cases_lt, lt-ltb, le-ltb}
 use Rattle.zeb_blocks.specs.Numbers.{groups, uleb}
 use Rattle.zeb_blocks.specs.Left.{number_at, behind}
 use Rattle.zeb_blocks.proofs.Bytes.{groups-one, groups-high}

@@ -10,3 +10,4 @@ pub mod Pushing
 pub mod ShortestForms
 pub mod Sizes
 pub mod WorkedBlocks
+pub mod Cited

@@ -1,10 +1,8 @@
 -- Lists behind a posting, and their bytes.
-use Rattle.std.proofs.Common.{◌≡◌, ◌≢◌, ℕ, zero, suc, ◌+◌, ◌≤◌, List, [], ◌∷◌, ◌++◌, length, refl, sym, ◌∙◌, ap, subst, arith}
-use Rattle.std.proofs.lemmas.List.{append_assoc, append-nil, length-append}
-use Rattle.zeb_blocks.specs.declared.postings.Posting.{Posting}
+use Rattle.zeb_blocks.proofs.Cited.{◌≡◌, ◌≢◌, ℕ, zero, suc, ◌+◌, ◌≤◌, List, [], ◌∷◌, ◌++◌, length, refl, sym, ◌∙◌, ap, subst, arith, append_assoc, append-nil, length-append, Posting, gaps_of, Follows, EachFollows, SpellsFrom, gaps_at, last_from, posting_after}
 use Rattle.zeb_blocks.specs.Numbers.{uleb}
-use Rattle.zeb_blocks.specs.Blocks.{bytes_of, gaps_of, spelled_from}
-use Rattle.zeb_blocks.specs.Left.{Follows, EachFollows, SpellsFrom, behind, gaps_at, last_from, posting_after, postings_at}
+use Rattle.zeb_blocks.specs.Blocks.{bytes_of, spelled_from}
+use Rattle.zeb_blocks.specs.Left.{behind, postings_at}
 use Rattle.zeb_blocks.proofs.Bytes.{begins_none}
 use Rattle.zeb_blocks.proofs.Front.{number_at-uleb, behind-uleb}
 use Rattle.zeb_blocks.proofs.Steps.{gaps_small, posting_after-gaps, bytes_of-append}

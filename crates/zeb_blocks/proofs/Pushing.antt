@@ -1,13 +1,8 @@
 -- One posting more at the end of a block that is being written.
-use Rattle.std.proofs.Common.{◌≡◌, ℕ, ◌+◌, ◌/◌, ◌^◌, ◌<◌, ◌≤◌, List, [], ◌∷◌, ◌++◌, length, refl, sym, ◌∙◌, ap, subst, Less, arith}
-use Rattle.std.proofs.lemmas.List.{append-nil, length-append}
-use Rattle.std.specs.List.{AllByRecursion}
+use Rattle.zeb_blocks.proofs.Cited.{◌≡◌, ℕ, ◌+◌, ◌/◌, ◌^◌, ◌<◌, ◌≤◌, List, [], ◌∷◌, ◌++◌, length, refl, sym, ◌∙◌, ap, subst, Less, arith, append-nil, length-append, AllByRecursion, Posting, posting_cmp, IsNumbered, LiesIn, gaps_of, start_of, Follows, EachFollows, last_from, IsWritten}
 use Rattle.std.specs.List.Sorted.{IsStrictlySortedBy}
-use Rattle.zeb_blocks.specs.declared.postings.Posting.{Posting}
-use Rattle.zeb_blocks.specs.Order.{posting_cmp}
-use Rattle.zeb_blocks.specs.Blocks.{IsNumbered, LiesIn, bytes_of, gaps_of, spelled_from, start_of}
-use Rattle.zeb_blocks.specs.Left.{Follows, EachFollows, last_from, postings_at}
-use Rattle.zeb_blocks.specs.Writing.{IsWritten}
+use Rattle.zeb_blocks.specs.Blocks.{bytes_of, spelled_from}
+use Rattle.zeb_blocks.specs.Left.{postings_at}
 use Rattle.zeb_blocks.proofs.Counting.{one_spelled}
 use Rattle.zeb_blocks.proofs.Lists.{each_follows-behind, last_from-append, length-postings_at, length-spelled, postings_at-spelled, spelled_from-append}
 use Rattle.zeb_blocks.proofs.Rising.{follow_start}

@@ -1,12 +1,6 @@
 -- A list in which each posting follows the one before it rises, and one that lies in a block is such a list behind the block's start.
-use Rattle.std.proofs.Common.{◌≡◌, ◌≢◌, ℕ, ◌*◌, ◌/◌, ◌^◌, ◌<◌, ◌≤◌, List, [], ◌∷◌, refl, Less, arith}
-use Rattle.std.proofs.lemmas.Grind.{common_steps}
-use Rattle.std.specs.List.{AllByRecursion}
+use Rattle.zeb_blocks.proofs.Cited.{◌≡◌, ◌≢◌, ℕ, ◌*◌, ◌/◌, ◌^◌, ◌<◌, ◌≤◌, List, [], ◌∷◌, refl, Less, arith, common_steps, AllByRecursion, Posting, posting_cmp, IsNumbered, LiesIn, start_of, EachFollows, last_from}
 use Rattle.std.specs.List.Sorted.{IsStrictlySortedBy}
-use Rattle.zeb_blocks.specs.declared.postings.Posting.{Posting}
-use Rattle.zeb_blocks.specs.Order.{posting_cmp}
-use Rattle.zeb_blocks.specs.Blocks.{IsNumbered, LiesIn, start_of}
-use Rattle.zeb_blocks.specs.Left.{EachFollows, last_from}
 
 pub above_above : (p q r : Posting) → posting_cmp p q ≡ Less → posting_cmp q r ≡ Less → posting_cmp p r ≡ Less
 above_above p q r one other = grind (arith, common_steps, one, other)

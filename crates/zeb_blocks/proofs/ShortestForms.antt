@@ -1,7 +1,6 @@
 -- The bytes of a number are its shortest form.
-use Rattle.std.proofs.Common.{◌≡◌, ℕ, zero, suc, ◌+◌, ◌/◌, ◌%◌, ◌^◌, ◌<◌, ◌≤◌, List, [], ◌∷◌, length, sym, ◌∙◌, ap, inl, inr, arith}
-use Rattle.std.proofs.lemmas.Bool.{cases_lt}
-use Rattle.zeb_blocks.specs.Numbers.{IsOneNumber, IsShortestForm, groups, number_of, uleb}
+use Rattle.zeb_blocks.proofs.Cited.{◌≡◌, ℕ, zero, suc, ◌+◌, ◌/◌, ◌%◌, ◌^◌, ◌<◌, ◌≤◌, List, [], ◌∷◌, length, sym, ◌∙◌, ap, inl, inr, arith, cases_lt, IsOneNumber, IsShortestForm, number_of}
+use Rattle.zeb_blocks.specs.Numbers.{groups, uleb}
 use Rattle.zeb_blocks.proofs.Bytes.{groups-one, groups-high, uleb-low, uleb-high}
 
 one_more : (byte : ℕ) (bytes : List ℕ) → 128 ≤ byte → byte < 256 → IsOneNumber bytes → IsOneNumber (byte ∷ bytes)

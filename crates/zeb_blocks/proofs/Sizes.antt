@@ -1,9 +1,6 @@
 -- How many bytes a block takes at most.
-use Rattle.std.proofs.Common.{ℕ, ◌+◌, ◌*◌, ◌≤◌, List, [], ◌∷◌, ◌++◌, length, ap, arith}
-use Rattle.std.proofs.lemmas.List.{length-append}
-use Rattle.zeb_blocks.specs.declared.gaps.Gaps.{Gaps}
-use Rattle.zeb_blocks.specs.declared.postings.Posting.{Posting}
-use Rattle.zeb_blocks.specs.Blocks.{BlockSpells, bytes_of, gaps_of, spelled_from, start_of}
+use Rattle.zeb_blocks.proofs.Cited.{ℕ, ◌+◌, ◌*◌, ◌≤◌, List, [], ◌∷◌, ◌++◌, length, ap, arith, length-append, Gaps, Posting, BlockSpells, gaps_of, start_of}
+use Rattle.zeb_blocks.specs.Blocks.{bytes_of, spelled_from}
 use Rattle.zeb_blocks.specs.Numbers.{uleb}
 use Rattle.zeb_blocks.proofs.ShortestForms.{length-uleb}
 

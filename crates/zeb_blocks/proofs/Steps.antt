@@ -1,12 +1,7 @@
 -- One posting behind another, and its bytes.
-use Rattle.std.proofs.Common.{◌≡◌, ◌≢◌, ℕ, ◌^◌, ◌<◌, List, ◌++◌, sym, ◌∙◌, arith}
-use Rattle.std.proofs.lemmas.List.{append_assoc}
-use Rattle.std.proofs.lemmas.Grind.{common_steps}
-use Rattle.zeb_blocks.specs.declared.postings.Posting.{Posting}
-use Rattle.zeb_blocks.specs.declared.gaps.Gaps.{Gaps}
+use Rattle.zeb_blocks.proofs.Cited.{◌≡◌, ◌≢◌, ℕ, ◌^◌, ◌<◌, List, ◌++◌, sym, ◌∙◌, arith, append_assoc, common_steps, Posting, Gaps, gaps_of, Follows, posting_after}
 use Rattle.zeb_blocks.specs.Numbers.{uleb}
-use Rattle.zeb_blocks.specs.Blocks.{bytes_of, gaps_of}
-use Rattle.zeb_blocks.specs.Left.{Follows, posting_after}
+use Rattle.zeb_blocks.specs.Blocks.{bytes_of}
 use Rattle.zeb_blocks.proofs.Bytes.{Nothing}
 use Rattle.zeb_blocks.proofs.Front.{same_number, same_behind}
 

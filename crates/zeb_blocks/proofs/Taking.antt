@@ -1,8 +1,7 @@
 -- The first posting of those that are left, and the answers of a whole block.
-use Rattle.std.proofs.Common.{◌≡◌, ◌≢◌, ℕ, zero, suc, ◌-◌, ◌*◌, ◌/◌, ◌^◌, ◌<◌, List, [], ◌∷◌, ◌++◌, refl, sym, ◌∙◌, ap, subst, arith}
-use Rattle.zeb_blocks.specs.declared.postings.Posting.{Posting}
-use Rattle.zeb_blocks.specs.Blocks.{BlockSpells, bytes_of, gaps_of, spelled_from, start_of}
-use Rattle.zeb_blocks.specs.Left.{Follows, SpellsFrom, behind, gaps_at, last_from, posting_after, postings_at}
+use Rattle.zeb_blocks.proofs.Cited.{◌≡◌, ◌≢◌, ℕ, zero, suc, ◌-◌, ◌*◌, ◌/◌, ◌^◌, ◌<◌, List, [], ◌∷◌, ◌++◌, refl, sym, ◌∙◌, ap, subst, arith, Posting, BlockSpells, gaps_of, start_of, Follows, SpellsFrom, gaps_at, last_from, posting_after}
+use Rattle.zeb_blocks.specs.Blocks.{bytes_of, spelled_from}
+use Rattle.zeb_blocks.specs.Left.{behind, postings_at}
 use Rattle.zeb_blocks.proofs.Steps.{NoPosting}
 use Rattle.zeb_blocks.proofs.Lists.{behind-bytes, gaps_at-bytes, same_left, same_list}
 use Rattle.zeb_blocks.proofs.Rising.{block_small, follow_start, last_inside, lies_from}

@@ -1,9 +1,6 @@
 -- Putting the postings of a block at the end of a list, one after the other.
-use Rattle.std.proofs.Common.{◌≡◌, ◌≢◌, ◌/◌, ℕ, ◌<◌, List, [], ◌∷◌, ◌++◌, length, refl, sym, ◌∙◌, ap, arith}
-use Rattle.std.proofs.lemmas.List.{append_assoc, append-nil}
-use Rattle.zeb_blocks.specs.declared.postings.Posting.{Posting}
-use Rattle.zeb_blocks.specs.Blocks.{BlockSpells, bytes_of, gaps_of, spelled_from, start_of}
-use Rattle.zeb_blocks.specs.Left.{Follows, SpellsFrom, last_from}
+use Rattle.zeb_blocks.proofs.Cited.{◌≡◌, ◌≢◌, ◌/◌, ℕ, ◌<◌, List, [], ◌∷◌, ◌++◌, length, refl, sym, ◌∙◌, ap, arith, append_assoc, append-nil, Posting, BlockSpells, gaps_of, start_of, Follows, SpellsFrom, last_from}
+use Rattle.zeb_blocks.specs.Blocks.{bytes_of, spelled_from}
 use Rattle.zeb_blocks.proofs.Counting.{IsReadUpTo, counted_damaged, counted_more, counted_none}
 use Rattle.zeb_blocks.proofs.Rising.{lies_from}
 use Rattle.zeb_blocks.proofs.Steps.{NoPosting}

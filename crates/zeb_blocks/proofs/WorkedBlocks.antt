@@ -1,10 +1,8 @@
 -- Worked blocks: bytes that spell a list, and bytes that spell none.
-use Rattle.std.proofs.Common.{◌≡◌, ◌≢◌, ℕ, ◌+◌, ◌-◌, ◌/◌, ◌^◌, ◌<◌, ◌≤◌, List, [], ◌∷◌, ◌++◌, refl, sym, ◌∙◌, ap, Less, Equal, lit<, lit≤, arith}
-use Rattle.zeb_blocks.specs.declared.postings.Posting.{Posting}
+use Rattle.zeb_blocks.proofs.Cited.{◌≡◌, ◌≢◌, ℕ, ◌+◌, ◌-◌, ◌/◌, ◌^◌, ◌<◌, ◌≤◌, List, [], ◌∷◌, ◌++◌, refl, sym, ◌∙◌, ap, Less, Equal, lit<, lit≤, arith, Posting, BlockSpells, IsNumbered, gaps_of, start_of, Follows, EachFollows, SpellsFrom, gaps_at, last_from, posting_after, at, ten_bytes}
 use Rattle.zeb_blocks.specs.Numbers.{groups, uleb}
-use Rattle.zeb_blocks.specs.Blocks.{BlockSpells, IsNumbered, bytes_of, gaps_of, spelled_from, start_of}
-use Rattle.zeb_blocks.specs.Left.{Follows, EachFollows, SpellsFrom, behind, gaps_at, last_from, number_at, posting_after}
-use Rattle.zeb_blocks.specs.Worked.{at, ten_bytes}
+use Rattle.zeb_blocks.specs.Blocks.{bytes_of, spelled_from}
+use Rattle.zeb_blocks.specs.Left.{behind, number_at}
 use Rattle.zeb_blocks.proofs.Lists.{behind-bytes, gaps_at-bytes, no_more}
 use Rattle.zeb_blocks.proofs.Rising.{lies_from}
 use Rattle.zeb_blocks.proofs.Taking.{spells_start}

@@ -1,5 +1,5 @@
 //! Writing a block: the bytes of a list of postings.
-ghost use Rattle.std.specs.Prelude.{◌≡◌, ◌≢◌, ◌++◌, ◌∷◌, ◌^◌, ◌<◌, [], ℕ, List, IfOk, OnOk, OnErr};
+ghost use Rattle.std.specs.Prelude.{◌≡◌, ◌≢◌, ◌++◌, ◌∷◌, ◌^◌, ◌<◌, [], IfOk, OnOk, OnErr};
 ghost use Rattle.zeb_blocks.specs.Blocks.{BlockSpells, LiesIn, start_of, spelled_from};
 ghost use Rattle.zeb_blocks.specs.Left.{Written};
 

@@ -1,16 +1,5 @@
 -- A database in which one record is put, or from which one is taken, is a database.
-use Rattle.std.proofs.Common.{◌≡◌, ◌≢◌, ◌⊎◌, ◌∙◌, ℕ, ℤ, ◌+◌, ◌≤◌, ◌<◌, not, List, [], Some, None, inl, inr, refl, sym, ap, subst, arith}
-use Rattle.std.specs.List.{Contains}
-use Rattle.std.specs.Ordering.{nat_cmp}
-use Rattle.std.specs.declared.cmp.Ordering.TheVariants.{Less}
-use Rattle.std.proofs.lemmas.Bool.Decides.{nat_tests}
-use Rattle.std.proofs.lemmas.List.Kept.{IsStrictlySortedBy-filter}
-use Rattle.sqlite_rules.specs.Lists.{Has}
-use Rattle.sqlite_rules.proofs.ListLemmas.{has_contained, contains_had}
-use Rattle.zeb_profile.specs.declared.directives.Directive.{Directive}
-use Rattle.zeb_change.specs.Base.{Base, Kept, has_ident, kept_as, with_new, with_bytes, without_ident}
-use Rattle.zeb_change.specs.Stored.{IsKept, IsBase}
-use Rattle.zeb_change.specs.UnderWay.{HaveSystemNumbers, with_records}
+use Rattle.zeb_change.proofs.Cited.{◌≡◌, ◌≢◌, ◌⊎◌, ◌∙◌, ℕ, ℤ, ◌+◌, ◌≤◌, ◌<◌, not, List, [], Some, None, inl, inr, refl, sym, ap, subst, arith, Contains, nat_cmp, Less, nat_tests, IsStrictlySortedBy-filter, Has, has_contained, contains_had, Directive, Base, Kept, has_ident, kept_as, with_new, with_bytes, without_ident, IsKept, IsBase, HaveSystemNumbers, with_records}
 use Rattle.zeb_change.proofs.KeptLemmas.{AreRisingKept, push_rises, kept_found}
 use Rattle.zeb_change.proofs.KeptChanges.{IsPutIn, IsTakenFrom, kept_of, new_put, bytes_put, bytes_rise, ident_taken}
 use Rattle.zeb_change.proofs.StoredLemmas.{told_id, at_id, at_other}

@@ -1,28 +1,8 @@
 -- The content in which the changed keys of a record, one after the other, have the newer places.
-use Rattle.std.proofs.Common.{◌≡◌, ◌≢◌, ◌↔◌, ◌⊎◌, ◌∙◌, ℕ, ℤ, List, [], ◌∷◌, ◌++◌, map, refl, sym, subst, inl, inr, Less}
-use Rattle.std.specs.List.{Contains}
+use Rattle.zeb_change.proofs.Cited.{◌≡◌, ◌≢◌, ◌↔◌, ◌⊎◌, ◌∙◌, ℕ, ℤ, List, [], ◌∷◌, ◌++◌, map, refl, sym, subst, inl, inr, Contains, nat_cmp_total, int_cmp_total, Has, has_contained, contains_had, all_has, has_mapped, mapped_has, Key, Occurrence, key_order, key_total, keys_apart, numbers_apart, Place, Content, HasRisingLists, posting_at, ArePlacesOf, Posting, Trees, KeepsLists, RegFault, Damaged, register_refusal, never_itself, told_by, changed_at, change_is, same_content, integers_apart, ChangedKey, ArePostingsOf, IsReposted, occurrence_at, AreChangedKeys, key_in}
+use Rattle.std.proofs.Common.{Less}
 use Rattle.std.specs.List.Sorted.{IsStrictlySortedBy}
-use Rattle.std.specs.Cmp.{nat_cmp_total, int_cmp_total}
-use Rattle.sqlite_rules.specs.Lists.{Has}
-use Rattle.sqlite_rules.proofs.ListLemmas.{has_contained, contains_had, all_has}
-use Rattle.sqlite_rules.proofs.ProbeLemmas.{has_mapped, mapped_has}
-use Rattle.zeb_keys.specs.declared.keys.Key.{Key}
-use Rattle.zeb_keys.specs.declared.keys.Occurrence.{Occurrence}
-use Rattle.zeb_keys.specs.Order.{key_order}
-use Rattle.zeb_keys.proofs.Rising.{key_total, keys_apart, numbers_apart}
-use Rattle.zeb_register.specs.declared.registers.Place.{Place}
-use Rattle.zeb_register.specs.Content.{Content, HasRisingLists, posting_at, ArePlacesOf, Posting}
-use Rattle.sqlite.specs.Tree.{Trees}
-use Rattle.zeb_register.specs.Store.{KeepsLists}
-use Rattle.zeb_register.specs.declared.faults.RegFault.{RegFault}
 use Rattle.zeb_register.specs.declared.faults.RegFault.TheVariants as register
-use Rattle.zeb_change.specs.declared.refusals.Refusal.TheVariants.{Damaged}
-use Rattle.zeb_change.specs.Outcomes.{register_refusal}
-use Rattle.zeb_register.proofs.RisingLists.{never_itself, told_by}
-use Rattle.zeb_register.proofs.ContentChanges.{changed_at, change_is, same_content, integers_apart}
-use Rattle.zeb_change.specs.declared.changed_keys.ChangedKey.{ChangedKey}
-use Rattle.zeb_change.specs.Reposted.{ArePostingsOf, IsReposted, occurrence_at}
-use Rattle.zeb_change.specs.PrivateChangedKeys.{AreChangedKeys, key_in}
 
 pub moved : ℤ → ℕ → List ChangedKey → Content → Content
 moved db sysno [] content = content

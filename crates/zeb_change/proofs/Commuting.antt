@@ -1,18 +1,8 @@
 -- Changes of different records commute: given by the numbers of their records, the changes of a key come to the same content.
-use Rattle.std.proofs.Common.{◌≡◌, ◌≢◌, ◌↔◌, ◌⊎◌, ℤ, List, [], ◌∷◌, ◌++◌, nat_cmp, sym, subst, inl, inr}
-use Rattle.std.specs.Cmp.{nat_cmp_total}
-use Rattle.std.specs.List.Sorted.{IsStableByKey, IsStrictlySortedBy}
-use Rattle.sqlite_rules.specs.Lists.{Has}
-use Rattle.zeb_keys.specs.declared.keys.Key.{Key}
-use Rattle.zeb_keys.proofs.Rising.{numbers_apart}
-use Rattle.zeb_register.specs.declared.registers.RecordChange.{RecordChange}
-use Rattle.zeb_register.specs.Content.{AreChangedAt, AreListChanges, ArePlacesOf, Content, IsListChanged, HasRisingLists, OldsRise, Posting, place_cmp, posting_at, posting_cmp}
-use Rattle.zeb_register.proofs.ContentChanges.{at_sysno}
-use Rattle.zeb_register.proofs.ListChanges.{list_changed, place_of, posting_is}
-use Rattle.zeb_register.proofs.RisingLists.{told_by}
-use Rattle.zeb_change.specs.NoteWords.{KeyChange}
-use Rattle.zeb_change.specs.Noted.{AreTurns}
-use Rattle.zeb_change.specs.PrivatePending.{AreGivenInOrder, number_in}
+use Rattle.zeb_change.proofs.Cited.{◌≡◌, ◌≢◌, ◌↔◌, ◌⊎◌, ℤ, List, [], ◌∷◌, ◌++◌, sym, subst, inl, inr, nat_cmp_total, IsStableByKey, Has, Key, numbers_apart, RecordChange, AreChangedAt, AreListChanges, ArePlacesOf, Content, IsListChanged, HasRisingLists, OldsRise, Posting, place_cmp, posting_at, posting_cmp, at_sysno, list_changed, posting_is, told_by, KeyChange, AreTurns, AreGivenInOrder, number_in}
+use Rattle.std.proofs.Common.{nat_cmp}
+use Rattle.std.specs.List.Sorted.{IsStrictlySortedBy}
+use Rattle.zeb_register.proofs.ListChanges.{place_of}
 use Rattle.zeb_change.proofs.LeadsToContent.{turns_given, turns_rise}
 use Rattle.zeb_change.proofs.StableReorderings.{AreApart, all_of, of_reordered}
 

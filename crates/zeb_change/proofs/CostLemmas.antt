@@ -1,33 +1,7 @@
 -- What is counted for the keys of records, one record after the other.
-use Rattle.std.proofs.Common.{◌≡◌, ◌↔◌, ◌∙◌, ◌+◌, ◌*◌, ◌<◌, ◌^◌, ℕ, List, [], Option, Some, None, Result, Ok, Err, OnOk, map, length, inl, inr, refl, sym, ap, subst, subst₂, arith}
-use Rattle.std.proofs.Math.Nat.{mul-zero, mul-add}
-use Rattle.std.proofs.lemmas.List.{length-map}
-use Rattle.std.specs.List.{Contains}
-use Rattle.sqlite_rules.proofs.ListLemmas.{has_contained, contains_had}
-use Rattle.sqlite_rules.proofs.ProbeLemmas.{has_mapped}
-use Rattle.zeb_keys.specs.declared.keys.Occurrence.{Occurrence}
-use Rattle.zeb_register.specs.declared.registers.Place.{Place}
-use Rattle.zeb_register.specs.declared.registers.Work.{Work}
-use Rattle.zeb_register.specs.Tallies.{Rises}
-use Rattle.zeb_register.proofs.CountLemmas.{rises_then}
-use Rattle.zeb_register.proofs.RisingLists.{same_list}
-use Rattle.zeb_change.specs.declared.changed_keys.ChangedKey.{ChangedKey}
-use Rattle.zeb_profile.specs.declared.directives.Directive.{Directive}
+use Rattle.zeb_change.proofs.Cited.{◌≡◌, ◌↔◌, ◌∙◌, ◌+◌, ◌*◌, ◌<◌, ◌^◌, ℕ, List, [], Option, Some, None, Result, Ok, Err, OnOk, map, length, inl, inr, refl, sym, ap, subst, subst₂, arith, mul-zero, mul-add, length-map, Contains, has_contained, contains_had, has_mapped, Occurrence, Place, Work, Rises, rises_then, same_list, ChangedKey, Directive, Elder, place_total, Base, kept_as, IsElderAs, elder_bytes, AreOccurrencesOf, IsRecordCost, IsWorkFor, bytes_of, newer_of, occurs_by, IsCostIn, Kind, ident_in, Pending, IsDueFor, IsNothingNoted, noted_count, AreInRange, occurrence_at, AreChangedKeys, key_in}
 use Rattle.std.specs.List.Sorted.{IsStrictlySortedBy}
-use Rattle.zeb_register.specs.declared.kept.Elder.{Elder}
-use Rattle.zeb_register.proofs.ContentChanges.{place_total}
-use Rattle.zeb_change.specs.Base.{Base, kept_as}
-use Rattle.zeb_change.specs.PrivateRecords.{IsElderAs, elder_bytes}
-use Rattle.zeb_change.specs.Occurs.{AreOccurrencesOf}
-use Rattle.zeb_change.specs.Costs.{IsRecordCost, IsWorkFor, bytes_of, newer_of, occurs_by, IsCostIn}
-use Rattle.zeb_change.specs.declared.settings.Kind.{Kind}
-use Rattle.zeb_change.specs.Folding.{ident_in}
-use Rattle.zeb_change.specs.declared.pending.Pending.{Pending}
-use Rattle.zeb_change.specs.Noted.{IsDueFor, IsNothingNoted, noted_count}
 use Rattle.zeb_change.proofs.NotedChanges.{nothing_count}
-use Rattle.zeb_change.specs.PrivateTallies.{AreInRange}
-use Rattle.zeb_change.specs.Reposted.{occurrence_at}
-use Rattle.zeb_change.specs.PrivateChangedKeys.{AreChangedKeys, key_in}
 use Rattle.zeb_change.proofs.ChangeKeysContent.{told_key}
 
 -- ---- counts
@@ -130,21 +104,6 @@ cost_as elder newer elder' newer' n one two cost = record {
 module _ (profile : List Directive) where
   occurs_as : (bytes : List ℕ) (occurrences : List Occurrence) → AreOccurrencesOf profile bytes occurrences → (o : Occurrence) → Contains occurrences o ↔ occurs_by profile (Some bytes) o
   occurs_as bytes occurrences are o = are.each o
-
-  none_occurs : (o : Occurrence) → Contains [] o ↔ occurs_by profile None o
-  none_occurs o = (λ h. has_contained [] o h, λ h. absurd h)
-
-  pub put_cost : (elder newer : List ℕ) (old new : List Occurrence) (n : ℕ) → AreOccurrencesOf profile elder old → AreOccurrencesOf profile newer new
-      → IsRecordCost (Contains old) (Contains new) n → IsRecordCost (occurs_by profile (Some elder)) (occurs_by profile (Some newer)) n
-  put_cost elder newer old new n one two = cost_as (Contains old) (Contains new) _ _ n (occurs_as elder old one) (occurs_as newer new two)
-
-  pub new_cost : (newer : List ℕ) (new : List Occurrence) (n : ℕ) → AreOccurrencesOf profile newer new
-      → IsRecordCost (Contains []) (Contains new) n → IsRecordCost (occurs_by profile None) (occurs_by profile (Some newer)) n
-  new_cost newer new n two = cost_as (Contains []) (Contains new) _ _ n none_occurs (occurs_as newer new two)
-
-  pub old_cost : (elder : List ℕ) (old : List Occurrence) (n : ℕ) → AreOccurrencesOf profile elder old
-      → IsRecordCost (Contains old) (Contains []) n → IsRecordCost (occurs_by profile (Some elder)) (occurs_by profile None) n
-  old_cost elder old n one = cost_as (Contains old) (Contains []) _ _ n (occurs_as elder old one) none_occurs
 
   -- a record in its own place costs nothing, and no record in the place of none
   pub same_cost : (bytes : Option (List ℕ)) → IsRecordCost (occurs_by profile bytes) (occurs_by profile bytes) 0

@@ -1,27 +1,5 @@
 -- A record that is replaced by the same bytes: it has the occurrences that it had, so no key is changed.
-use Rattle.std.proofs.Common.{◌≡◌, ◌∙◌, ℕ, List, [], ◌∷◌, Option, Some, None, Result, Ok, Err, IfOk, map, if◌then◌else◌, inl, inr, refl, sym, ap, subst}
-use Rattle.std.specs.List.{Contains}
-use Rattle.sqlite.specs.Effect.{Database}
-use Rattle.sqlite.specs.State.{State}
-use Rattle.sqlite_rules.specs.Lists.{Has}
-use Rattle.sqlite_rules.proofs.ListLemmas.{has_contained, contains_had}
-use Rattle.zeb_profile.specs.declared.directives.Directive.{Directive}
-use Rattle.zeb_keys.specs.declared.keys.Occurrence.{Occurrence}
-use Rattle.zeb_register.specs.declared.kept.Elder.{Elder}
-use Rattle.zeb_register.proofs.RisingLists.{same_list}
-use Rattle.zeb_register.proofs.ContentChanges.{place_total}
-use Rattle.zeb_change.specs.declared.changed_keys.ChangedKey.{ChangedKey}
-use Rattle.zeb_change.specs.declared.refusals.Refusal.{Refusal}
-use Rattle.zeb_change.specs.declared.tally.Fate.{Fate}
-use Rattle.zeb_change.specs.Reposted.{AreTheSame, occurrence_at}
-use Rattle.zeb_change.specs.PrivateChangedKeys.{AreChangedKeys, key_in}
-use Rattle.zeb_change.specs.declared.tally.Fate.TheVariants.{Updated}
-use Rattle.zeb_change.specs.Conditions.{Conditions}
-use Rattle.zeb_change.specs.Folding.{ident_in, updated}
-use Rattle.zeb_change.specs.Base.{Base, Kept, kept_as, has_ident}
-use Rattle.zeb_change.specs.Stored.{IsBase}
-use Rattle.zeb_change.specs.PrivateRecords.{IsElderAs, IsIdle, elder_bytes}
-use Rattle.zeb_change.specs.Occurs.{AreOccurrencesOf}
+use Rattle.zeb_change.proofs.Cited.{◌≡◌, ◌∙◌, ℕ, List, [], ◌∷◌, Option, Some, None, Ok, map, if◌then◌else◌, inl, inr, refl, sym, ap, subst, Contains, Has, has_contained, contains_had, Directive, Occurrence, Elder, same_list, place_total, ChangedKey, AreTheSame, occurrence_at, AreChangedKeys, key_in, Updated, Conditions, ident_in, updated, Base, Kept, kept_as, has_ident, IsBase, IsElderAs, elder_bytes}
 use Rattle.zeb_change.proofs.BaseLemmas.{one_ident}
 use Rattle.zeb_change.proofs.KeptLemmas.{has_same, kept_found, one_found, tests}
 
@@ -35,10 +13,6 @@ none_changed elder newer (c ∷ changed) are same =
     absurd (are.differ c there (same_list place_total c.old.items c.new.items old.rising new.rising
     (λ place h. (new.each place).1 ((same (occurrence_at (key_in c) place)).0 ((old.each place).0 h)))
     (λ place h. (old.each place).1 ((same (occurrence_at (key_in c) place)).1 ((new.each place).0 h)))))
-
--- the same bytes have the same occurrences
-pub one_analysis : (profile : List Directive) (bytes : List ℕ) (one two : List Occurrence) → AreOccurrencesOf profile bytes one → AreOccurrencesOf profile bytes two → AreTheSame one two
-one_analysis profile bytes one two left right o = (λ h. (right.each o).1 ((left.each o).0 h), λ h. (left.each o).1 ((right.each o).0 h))
 
 module _ (profile : List Directive) (base : Base) (is : IsBase profile base) (ident bytes : List ℕ) (named : ident_in profile bytes ≡ Ok ident)
     (kept : Kept) (there : Contains base.records kept) (alike : kept.bytes ≡ bytes) where
@@ -79,19 +53,3 @@ updated_alike profile c base is ident bytes (Some elder) (kept, is_kept, number,
     let records = same_records ident bytes base.records (λ other in_it called. ap (λ (k : Kept). k.bytes) (one_ident profile base is other kept in_it there.0 (called ∙ sym there.1)) ∙ alike) in
     subst (λ (k : Option Kept). updated c ident bytes base k ≡ Ok (base, Updated)) (sym is_kept)
     (ap (λ (them : List Kept). Ok (record base { records = them }, Updated)) records)
-
--- it is idle too where the elder was looked for before, which changes nothing
-pub idle_after : (old mid new : State) (One Two : Type 0) (result : Result Fate Refusal) → mid.now ≡ old.now → IfOk result (λ fate. IsIdle mid new fate × One × Two) → IfOk result (λ fate. IsIdle old new fate × One × Two)
-idle_after old mid new One Two (Ok fate) same idle = (
-  (
-    idle.0.0,
-    (
-      idle.0.1.0 ∙ ap (λ (db : Database). db.trees 7) same,
-      idle.0.1.1 ∙ ap (λ (db : Database). db.trees 9) same,
-      idle.0.1.2 ∙ ap (λ (db : Database). db.trees 11) same,
-    ),
-  ),
-  idle.1,
-  idle.2,
-)
-idle_after old mid new One Two (Err refusal) same idle = idle

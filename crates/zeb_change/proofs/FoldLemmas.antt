@@ -1,15 +1,7 @@
 -- What is said of one record, once it is known whether it is one, and under which identifier.
-use Rattle.std.proofs.Common.{◌≡◌, ◌≢◌, ◌⊎◌, ◌∙◌, ℕ, List, Some, None, Ok, Err, inl, inr, refl, ap}
-use Rattle.zeb_marc.specs.declared.faults.MarcFault.{MarcFault}
-use Rattle.zeb_marc.specs.Records.{first_fault}
-use Rattle.zeb_extract.specs.declared.naming.IdentFault.{IdentFault}
+use Rattle.zeb_change.proofs.Cited.{◌≡◌, ◌≢◌, ◌⊎◌, ◌∙◌, ℕ, List, Some, None, Ok, Err, inl, inr, refl, ap, MarcFault, first_fault, IdentFault, Kind, why_of, IsFailing, Conditions, changed_by, with_ident, with_record, ident_in, Base, marc_refusal, identifier_refusal}
 use Rattle.zeb_extract.specs.declared.naming.IdentFault.TheVariants as ident_fault
-use Rattle.zeb_change.specs.declared.settings.Kind.{Kind}
-use Rattle.zeb_change.specs.Refused.{why_of, IsFailing}
-use Rattle.zeb_change.specs.Conditions.{Conditions}
-use Rattle.zeb_change.specs.Folding.{changed_by, changed_record, with_ident, with_record, ident_in}
-use Rattle.zeb_change.specs.Base.{Base}
-use Rattle.zeb_change.specs.Outcomes.{marc_refusal, identifier_refusal}
+use Rattle.zeb_change.specs.Folding.{changed_record}
 
 module _ (c : Conditions) (kind : Kind) (file nth : ℕ) (bytes : List ℕ) (base : Base) where
   pub no_record : (fault : MarcFault) → first_fault bytes ≡ Some fault → changed_record c kind file nth bytes base ≡ Err (why_of (marc_refusal file nth fault))

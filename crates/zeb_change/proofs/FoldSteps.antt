@@ -1,18 +1,6 @@
 -- One record more of a change: what the definition says of it, and that the code counts the same.
-use Rattle.std.proofs.Common.{◌≡◌, ◌∙◌, ◌+◌, ℕ, ℤ, List, true, false, Result, Ok, Err, nat_le, refl, sym, ap, subst}
-use Rattle.zeb_change.specs.declared.files.Fold.{Fold}
-use Rattle.zeb_change.specs.declared.settings.Kind.{Kind}
-use Rattle.zeb_change.specs.declared.tally.Fate.{Fate}
-use Rattle.zeb_change.specs.declared.tally.Fate.TheVariants.{Inserted, Updated, Deleted, PassedOver}
-use Rattle.zeb_change.specs.declared.tally.Tally.{Tally}
-use Rattle.zeb_change.specs.Refused.{Why, too_many_records, Meets}
-use Rattle.zeb_change.specs.Conditions.{Conditions}
-use Rattle.zeb_change.specs.Folding.{Changed, Progress, changed_record, counted, record_folded}
-use Rattle.zeb_change.specs.Base.{Base, Kept}
-use Rattle.zeb_change.specs.PrivateTallies.{IsTallied}
-use Rattle.zeb_change.specs.PrivateStanding.{Standing, WillBe, WillBeFolded, WillBeTaken}
-use Rattle.zeb_change.specs.UnderWay.{StandsFor}
-use Rattle.zeb_register.specs.Formats.{Format}
+use Rattle.zeb_change.proofs.Cited.{◌≡◌, ◌∙◌, ◌+◌, ℕ, ℤ, List, true, false, Result, Ok, Err, nat_le, refl, sym, ap, subst, Fold, Kind, Fate, Inserted, Updated, Deleted, PassedOver, Tally, Why, too_many_records, Meets, Conditions, Changed, Progress, counted, Base, Kept, IsTallied, Standing, WillBe, WillBeFolded, WillBeTaken, StandsFor, Format}
+use Rattle.zeb_change.specs.Folding.{changed_record, record_folded}
 
 module _ (c : Conditions) (kind : Kind) (file nth : ℕ) (bytes : List ℕ) (p : Progress) where
   pub too_many : nat_le c.limits.records p.taken ≡ true → record_folded c kind file nth bytes p ≡ Err too_many_records

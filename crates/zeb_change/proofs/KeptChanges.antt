@@ -1,9 +1,5 @@
 -- A list of kept records in which one is put, or from which one is taken.
-use Rattle.std.proofs.Common.{◌≡◌, ◌≢◌, ◌⊎◌, ◌↔◌, ◌∙◌, ℕ, ◌+◌, ◌≤◌, true, false, not, List, [], ◌∷◌, map, Some, None, inl, inr, refl, sym, ap, subst, arith, if◌then◌else◌}
-use Rattle.sqlite_rules.specs.Lists.{Has}
-use Rattle.sqlite_rules.proofs.ListLemmas.{has_left, has_right, has_either, has_filtered, has_kept}
-use Rattle.sqlite_rules.proofs.ProbeLemmas.{has_mapped, mapped_has}
-use Rattle.zeb_change.specs.Base.{Base, Kept, has_ident, kept_as, with_new, with_bytes, without_ident}
+use Rattle.zeb_change.proofs.Cited.{◌≡◌, ◌≢◌, ◌⊎◌, ◌↔◌, ◌∙◌, ℕ, ◌+◌, ◌≤◌, true, false, not, List, [], ◌∷◌, map, Some, None, inl, inr, refl, sym, ap, subst, arith, if◌then◌else◌, Has, has_left, has_right, has_either, has_filtered, has_kept, has_mapped, mapped_has, Base, Kept, has_ident, kept_as, with_new, with_bytes, without_ident}
 use Rattle.zeb_change.proofs.KeptLemmas.{AreRisingKept, is_ident, has_same, same_has, other_ident, kept_found, none_kept, one_number, map_rises}
 
 -- the record stands in the place of the one with its number, which alone may have had its identifier

@@ -1,27 +1,5 @@
 -- What is kept still while records of a change are taken, whatever rows the tables have.
-use Rattle.std.proofs.Common.{◌≡◌, ◌≢◌, ◌↔◌, ◌⊎◌, ◌∙◌, ◌≤◌, ◌+◌, ◌∷◌, ℕ, ℤ, pos, true, false, List, [], Some, Result, Ok, Err, OnOk, inl, inr, sym, ap, subst, arith}
-use Rattle.std.specs.Str.{bytes_eq}
-use Rattle.std.proofs.lemmas.Slice.Eq.{bytes_eq-Decides}
-use Rattle.sqlite.specs.declared.types.Value.TheVariants.{Int, Text}
-use Rattle.sqlite.specs.Effect.{Database}
-use Rattle.sqlite.specs.Order.{Row}
-use Rattle.sqlite.specs.State.{State}
-use Rattle.sqlite.specs.Tree.{Trees}
-use Rattle.sqlite_rules.specs.Lists.{Has}
-use Rattle.zeb_profile.specs.declared.directives.Directive.{Directive}
-use Rattle.zeb_register.specs.declared.kept.Elder.{Elder}
-use Rattle.zeb_register.specs.Kept.{IsElderOf}
-use Rattle.zeb_register.specs.Sound.{KeepsMalformed, KeepsRowsBeside}
-use Rattle.zeb_register.specs.Sql.{KeepsOthers, Loses, Replaces}
-use Rattle.zeb_register.specs.Store.{Changes, HasNumber, HasRecord, IsStore, KeepsLists, SharesRecord, databases_tree, meta_tree, record_row, records_tree}
-use Rattle.zeb_register.specs.Tables.{store_schema}
-use Rattle.zeb_register.proofs.Calls.{store_same}
-use Rattle.zeb_register.proofs.Malformed.{beside_same, beside_seen, beside_then, malformed_same, malformed_seen, malformed_then}
-use Rattle.zeb_register.proofs.RowsAreLists.{one_number}
-use Rattle.zeb_change.specs.declared.refusals.Refusal.{Refusal}
-use Rattle.zeb_change.specs.Elders.{IsSoOrDamaged, IsUpTo, KeepsAside, KeepsWhole, KeepsWholeTo, PassesOn}
-use Rattle.zeb_change.specs.PrivateElders.{KeepsOtherRecords, KeepsUnder}
-use Rattle.zeb_change.specs.UnderWay.{KeepsNames}
+use Rattle.zeb_change.proofs.Cited.{◌≡◌, ◌≢◌, ◌↔◌, ◌⊎◌, ◌∙◌, ◌≤◌, ◌+◌, ◌∷◌, ℕ, ℤ, pos, true, false, List, [], Some, Result, Ok, Err, OnOk, inl, inr, sym, ap, subst, arith, bytes_eq, bytes_eq-Decides, Int, Text, Database, Row, State, Trees, Has, Directive, Elder, IsElderOf, KeepsMalformed, KeepsRowsBeside, KeepsOthers, Loses, Replaces, Changes, HasNumber, HasRecord, IsStore, KeepsLists, SharesRecord, databases_tree, meta_tree, record_row, records_tree, store_schema, store_same, beside_same, beside_seen, beside_then, malformed_same, malformed_seen, malformed_then, one_number, Refusal, IsSoOrDamaged, IsUpTo, KeepsAside, KeepsWhole, KeepsWholeTo, PassesOn, KeepsOtherRecords, KeepsUnder, KeepsNames}
 use Rattle.zeb_change.proofs.KeptLemmas.{tests}
 
 pub same_ident : (one two : List ℕ) → (one ≡ two) ⊎ (one ≢ two)

@@ -1,22 +1,7 @@
 -- Two rising lists of occurrences, cut key by key: what is known of the keys that were cut off so far.
-use Rattle.std.proofs.Common.{◌≡◌, ◌≢◌, ◌↔◌, ◌⊎◌, ◌∙◌, List, [], ◌∷◌, ◌++◌, map, refl, sym, ap, subst, subst₂, inl, inr, Less, Equal, Greater, Ordering, slice_get, Some}
+use Rattle.zeb_change.proofs.Cited.{◌≡◌, ◌≢◌, ◌↔◌, ◌⊎◌, ◌∙◌, List, [], ◌∷◌, ◌++◌, map, refl, sym, ap, subst, subst₂, inl, inr, Equal, Greater, Ordering, slice_get, Some, ordering_then, nat_cmp, tied_itself, map-append, append-nil, append_assoc, Has, has_left, has_right, has_either, contains_had, has_contained, all_has, all_from, Key, Occurrence, key_order, occurrence_order, key_total, keys_apart, Place, place_cmp, never_itself, ChangedKey, occurrence_at, AreChangedKeys, IsAddedIfChanged, key_in, place_in, AreOfKey, BeginsWithKey, Stops, IsNotAbove}
+use Rattle.std.proofs.Common.{Less}
 use Rattle.std.specs.List.Sorted.{IsStrictlySortedBy}
-use Rattle.std.specs.Ordering.{ordering_then, nat_cmp}
-use Rattle.std.proofs.lemmas.Cmp.{tied_itself}
-use Rattle.std.proofs.lemmas.List.{map-append, append-nil, append_assoc}
-use Rattle.sqlite_rules.specs.Lists.{Has}
-use Rattle.sqlite_rules.proofs.ListLemmas.{has_left, has_right, has_either, contains_had, has_contained, all_has, all_from}
-use Rattle.zeb_keys.specs.declared.keys.Key.{Key}
-use Rattle.zeb_keys.specs.declared.keys.Occurrence.{Occurrence}
-use Rattle.zeb_keys.specs.Order.{key_order, occurrence_order}
-use Rattle.zeb_keys.proofs.Rising.{key_total, keys_apart}
-use Rattle.zeb_register.specs.declared.registers.Place.{Place}
-use Rattle.zeb_register.specs.Content.{place_cmp}
-use Rattle.zeb_register.proofs.RisingLists.{never_itself}
-use Rattle.zeb_change.specs.declared.changed_keys.ChangedKey.{ChangedKey}
-use Rattle.zeb_change.specs.Reposted.{occurrence_at}
-use Rattle.zeb_change.specs.PrivateChangedKeys.{AreChangedKeys, IsAddedIfChanged, key_in, place_in}
-use Rattle.zeb_change.specs.PrivateKeyRuns.{AreOfKey, BeginsWithKey, Stops, IsNotAbove}
 
 -- all of one key
 abbrev pub IsRunOf : Key → List Occurrence → Type 0

@@ -1,17 +1,5 @@
 -- What `==` answers at keys.
-use Rattle.std.proofs.Common.{◌≡◌, ◌≢◌, ◌&&◌, Bool, true, false, not, List, refl, sym, subst, nat_eq}
-use Rattle.std.specs.Str.{bytes_eq}
-use Rattle.std.specs.Bool.{Decides}
-use Rattle.std.specs.Cmp.Lexicographic.{pointwise}
-use Rattle.std.proofs.lemmas.Bool.{and_parts, and_from, eqb-true, eq-eqb}
-use Rattle.std.proofs.lemmas.Slice.Eq.{slice_eq-Decides}
-use Rattle.zeb_register.specs.declared.registers.Place.{Place}
-use Rattle.std.specs.Cmp.Lexicographic.{same_text}
-use Rattle.zeb_keys.specs.declared.registers.Register.{Register}
-use Rattle.zeb_keys.specs.declared.registers.Register.TheVariants.{Word, Phrase, Number}
-use Rattle.zeb_keys.specs.contracts.registers.Register.{the_type}
-use denote.Enum.Bare.{sameb}
-use Rattle.zeb_keys.specs.declared.keys.Key.{Key}
+use Rattle.zeb_change.proofs.Cited.{◌≡◌, ◌≢◌, ◌&&◌, Bool, true, false, not, List, refl, sym, subst, nat_eq, bytes_eq, Decides, pointwise, and_parts, and_from, eqb-true, eq-eqb, slice_eq-Decides, Place, same_text, Register, Word, Phrase, Number, the_type, sameb, Key}
 
 same_register : (r s : Register) → sameb the_type r s ≡ true → r ≡ s
 same_register Word Word e = refl

@@ -1,26 +1,7 @@
 -- The content that the registers hold once the noted changes are written, as a change is noted and as a key's changes are written.
-use Rattle.std.proofs.Common.{◌≡◌, ◌≢◌, ◌⊎◌, ◌∙◌, ℕ, ℤ, List, [], ◌∷◌, ◌++◌, ◌+◌, drop, map, Option, inl, inr, refl, sym, ap, subst, subst₂}
-use Rattle.std.specs.List.{AllByRecursion}
+use Rattle.zeb_change.proofs.Cited.{◌≡◌, ◌≢◌, ◌⊎◌, ◌∙◌, ℕ, ℤ, List, [], ◌∷◌, ◌++◌, ◌+◌, drop, map, Option, inl, inr, refl, sym, ap, subst, subst₂, AllByRecursion, append-nil, append_assoc, Has, Trees, Key, key_total, keys_apart, RecordChange, Place, AreListChanges, ArePlacesOf, Content, IsChangedAt, IsListChanged, HasRisingLists, IsStorable, IsStorablePosting, Posting, place_cmp, posting_cmp, Format, holds_in, posting_total, told_spot, with_list, with_list_here, with_list_there, registers_rise, same_list, told_by, KeyNotes, PlaceCounts, Pending, KeyChange, AreTurns, IsNothingNoted, LeadsList, LeadsTo, WillHold, notes_at, IsCutOff, counts_in, AreGivenAs, ArePutAt, IsNotedAlso, IsTakenOut}
 use Rattle.std.specs.List.Sorted.{IsStrictlySortedBy}
-use Rattle.std.proofs.lemmas.List.{append-nil, append_assoc}
-use Rattle.sqlite_rules.specs.Lists.{Has}
-use Rattle.sqlite.specs.Tree.{Trees}
-use Rattle.zeb_keys.specs.declared.keys.Key.{Key}
-use Rattle.zeb_keys.proofs.Rising.{key_total, keys_apart}
-use Rattle.zeb_register.specs.declared.registers.RecordChange.{RecordChange}
-use Rattle.zeb_register.specs.declared.registers.Place.{Place}
-use Rattle.zeb_register.specs.Content.{AreListChanges, ArePlacesOf, Content, IsChangedAt, IsListChanged, HasRisingLists, IsStorable, IsStorablePosting, Posting, place_cmp, posting_cmp}
-use Rattle.zeb_register.specs.Formats.{Format, holds_in}
-use Rattle.zeb_register.proofs.ContentChanges.{posting_total, told_spot, with_list, with_list_here, with_list_there}
-use Rattle.zeb_register.proofs.FormatLemmas.{registers_rise}
-use Rattle.zeb_register.proofs.RisingLists.{same_list, told_by}
-use Rattle.zeb_change.specs.declared.key_notes.KeyNotes.{KeyNotes}
-use Rattle.zeb_change.specs.declared.key_notes.PlaceCounts.{PlaceCounts}
-use Rattle.zeb_change.specs.declared.pending.Pending.{Pending}
-use Rattle.zeb_change.specs.NoteWords.{KeyChange}
-use Rattle.zeb_change.specs.Noted.{AreTurns, IsNothingNoted, LeadsList, LeadsTo, WillHold, notes_at}
-use Rattle.zeb_change.specs.PrivateNoteWords.{IsCutOff, counts_in, places_in}
-use Rattle.zeb_change.specs.PrivatePending.{AreGivenAs, ArePutAt, IsNotedAlso, IsTakenOut}
+use Rattle.zeb_change.specs.PrivateNoteWords.{places_in}
 use Rattle.zeb_change.proofs.NotedChanges.{nothing_at}
 use Rattle.zeb_change.proofs.StoredLemmas.{told_id}
 

@@ -1,25 +1,8 @@
 -- The definition of a change never tells damage. So where it says what a call answers, damage is no answer.
-use Rattle.std.proofs.Common.{◌≢◌, ℕ, ℤ, true, false, cond, List, Option, Some, None, Result, Ok, Err, nat_le, inl, inr, subst}
-use Rattle.std.specs.Prelude.{⊤}
-use Rattle.zeb_marc.specs.declared.faults.MarcFault.{MarcFault}
+use Rattle.zeb_change.proofs.Cited.{◌≢◌, ◌+◌, ℕ, [], ◌∷◌, true, false, cond, List, Option, Some, None, Result, Ok, Err, nat_le, inl, inr, subst, ⊤, MarcFault, first_fault, Split, IdentFault, Kind, Update, Delete, Adelete, Inserted, PassedOver, Refusal, Damaged, Why, why_of, damaged, database_full, too_many_records, unknown, IsFailing, Meets, Conditions, Changed, Progress, changed_by, counted, deleted, files_folded, ident_in, slices_folded, updated, with_ident, with_record, ◌then◌, Base, Kept, kept_as, with_new, marc_refusal}
 use Rattle.zeb_marc.specs.declared.faults.MarcFault.TheVariants as marc
-use Rattle.zeb_marc.specs.Records.{first_fault}
-use Rattle.zeb_extract.specs.declared.naming.IdentFault.{IdentFault}
 use Rattle.zeb_extract.specs.declared.naming.IdentFault.TheVariants as ident
-use Rattle.zeb_profile.specs.declared.directives.Directive.{Directive}
-use Rattle.zeb_register.specs.Formats.{Format}
-use Rattle.zeb_change.specs.declared.settings.Kind.{Kind}
-use Rattle.zeb_change.specs.declared.settings.Kind.TheVariants.{Update, Delete, Adelete}
-use Rattle.zeb_change.specs.declared.tally.Fate.{Fate}
-use Rattle.zeb_change.specs.declared.tally.Fate.TheVariants.{Inserted, PassedOver}
-use Rattle.zeb_change.specs.declared.refusals.Refusal.{Refusal}
-use Rattle.zeb_change.specs.declared.refusals.Refusal.TheVariants.{Damaged}
-use Rattle.zeb_change.specs.Refused.{Why, why_of, damaged, database_full, unknown, IsFailing, Meets}
-use Rattle.zeb_change.specs.Conditions.{Conditions}
-use Rattle.zeb_change.specs.Folding.{Changed, changed_by, changed_record, deleted, ident_in, updated, with_ident, with_record}
-use Rattle.zeb_change.specs.Base.{Base, Kept, kept_as, with_new}
-use Rattle.zeb_change.specs.Outcomes.{marc_refusal}
-use Rattle.zeb_change.specs.PrivateStanding.{Standing, WillBeTaken, WillHoldSome}
+use Rattle.zeb_change.specs.Folding.{changed_record, file_folded, record_folded}
 
 abbrev IsNoDamage : Why → Type 0
 IsNoDamage damaged = ⊥
@@ -75,6 +58,34 @@ module _ (c : Conditions) (file nth : ℕ) (bytes : List ℕ) (base : Base) wher
   unfolding changed_record
   record_tells kind = with_record_tells kind (first_fault bytes)
 
+then_tells : {A B : Type 0} (said : Result A Why) (f : A → Result B Why) → TellsNoDamage said → ((a : A) → TellsNoDamage (f a)) → TellsNoDamage (said then f)
+then_tells (Ok a) f tells next = next a
+then_tells (Err why) f tells next = tells
+
+module _ (c : Conditions) (kind : Kind) where
+  folded_tells : (file nth : ℕ) (bytes : List ℕ) (p : Progress) → TellsNoDamage (record_folded c kind file nth bytes p)
+  unfolding record_folded
+  folded_tells file nth bytes p = elim (nat_le c.limits.records p.taken)
+      as (λ b. TellsNoDamage {A = Progress} (cond b (Err too_many_records) (changed_record c kind file nth bytes p.base then λ changed. Ok (counted changed.0 p changed.1)))) [
+        | true ↦ tt
+        | false ↦ then_tells (changed_record c kind file nth bytes p.base) (λ changed. Ok (counted changed.0 p changed.1)) (record_tells c file nth bytes p.base kind) (λ changed. tt)
+      ]
+
+  slices_tell : (file : ℕ) (slices : List (List ℕ)) (fault : Option MarcFault) (nth : ℕ) (p : Progress) → TellsNoDamage (slices_folded c kind file nth slices fault p)
+  slices_tell file [] None nth p = tt
+  slices_tell file [] (Some fault) nth p = marc_tells file nth fault
+  slices_tell file (slice ∷ slices) fault nth p =
+      then_tells (record_folded c kind file nth slice p) (slices_folded c kind file (nth + 1) slices fault) (folded_tells file nth slice p) (slices_tell file slices fault (nth + 1))
+
+  file_tells : (file : ℕ) (split : Split) (p : Progress) → TellsNoDamage (file_folded c kind file split p)
+  unfolding file_folded
+  file_tells file split p = slices_tell file split.slices split.fault 1 p
+
+  pub files_tell : (splits : List Split) (file : ℕ) (p : Progress) → TellsNoDamage (files_folded c kind file splits p)
+  files_tell [] file p = tt
+  files_tell (split ∷ splits) file p =
+      then_tells (file_folded c kind file split p) (files_folded c kind (file + 1) splits) (file_tells file split p) (files_tell splits (file + 1))
+
 -- ---- what is answered then
 
 pub refused_honest : {A X : Type 0} (Good : A → X → Type 0) (said : Result A Why) (refusal : Refusal) → TellsNoDamage said → Meets Good said (Err refusal) → refusal ≢ Damaged
@@ -89,9 +100,3 @@ refused_honest {A} {X} Good said refusal tells met same = by said tells (subst (
     by (Ok a) told (inr is) = cc
     by (Err why) told (inl failed) = no_failing failed
     by (Err why) told (inr is) = subst (λ (r : Result A Why). TellsNoDamage r) is told
-
--- a record that was taken leaves tables that will hold a database
-pub taken_holds : (format : Format) (profile : List Directive) (id : ℤ) (records_of : ℤ → List Kept) (old new : Standing) (last : ℕ) (said : Result Changed Why) (fate : Fate)
-    → Meets (WillBeTaken format profile id records_of old new last) said (Ok fate) → WillHoldSome format profile id records_of new last
-taken_holds format profile id records_of old new last (Ok changed) fate taken = (changed.0, taken.last_is, taken.under_way)
-taken_holds format profile id records_of old new last (Err why) fate taken = absurd taken

@@ -1,13 +1,7 @@
 -- Numbers, places and changes, taken from the front of the words in which they are noted.
-use Rattle.std.proofs.Common.{◌≡◌, ◌∙◌, ◌+◌, ◌*◌, ◌/◌, ◌%◌, ◌<◌, ◌≤◌, ℕ, List, [], ◌∷◌, ◌++◌, length, length-append, map, refl, sym, ap, inl, inr, arith}
-use Rattle.std.proofs.lemmas.Bool.{cases_lt, lt-ltb, le-ltb}
-use Rattle.std.proofs.lemmas.List.{append-nil, append_assoc}
-use Rattle.zeb_register.specs.declared.registers.Place.{Place}
-use Rattle.zeb_change.specs.declared.key_notes.KeyNotes.{KeyNotes}
-use Rattle.zeb_change.specs.declared.key_notes.PlaceCounts.{PlaceCounts}
-use Rattle.zeb_change.specs.NoteWords.{KeyChange, change_words, number_words, place_words, words_of_changes}
-use Rattle.zeb_change.specs.Noted.{IsNotedIn}
-use Rattle.zeb_change.specs.PrivateNoteWords.{TakesChange, TakesNumber, TakesPlaces, counts_in, places_in}
+use Rattle.zeb_change.proofs.Cited.{◌≡◌, ◌∙◌, ◌+◌, ◌*◌, ◌/◌, ◌%◌, ◌<◌, ◌≤◌, ℕ, List, [], ◌∷◌, ◌++◌, length, length-append, map, refl, sym, ap, inl, inr, arith, cases_lt, lt-ltb, le-ltb, append-nil, append_assoc, Place, KeyNotes, PlaceCounts, KeyChange, IsNotedIn, TakesChange, TakesNumber, TakesPlaces, counts_in}
+use Rattle.zeb_change.specs.NoteWords.{change_words, number_words, place_words, words_of_changes}
+use Rattle.zeb_change.specs.PrivateNoteWords.{places_in}
 
 -- ---- numbers
 

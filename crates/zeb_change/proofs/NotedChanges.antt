@@ -1,22 +1,9 @@
 -- The changes that are noted of each key, and how many there are, as a change is noted and as a key's changes are taken out.
-use Rattle.std.proofs.Common.{◌≡◌, ◌≢◌, ◌∙◌, ◌+◌, Bool, true, false, List, [], ◌∷◌, ◌++◌, length, Option, Some, None, refl, sym, ap, subst, arith}
+use Rattle.zeb_change.proofs.Cited.{◌≡◌, ◌≢◌, ◌∙◌, ◌+◌, Bool, true, false, List, [], ◌∷◌, ◌++◌, length, Option, Some, None, refl, sym, ap, subst, arith, Less, is_eq, lookup, set_value, BTreeMap, get, insert_entry, is_at, Updates, WritesThrough, Key, key_order, keys_apart, KeyNotes, Pending, KeyChange, AreNoted, IsNotedIn, IsNothingNoted, changes_among, notes_at, noted_count, IsNotNoted, IsNotedAlso, IsTakenOut}
 use Rattle.std.specs.declared.cmp.Ordering.{Ordering}
-use Rattle.std.specs.declared.cmp.Ordering.TheVariants.{Less, Equal, Greater}
-use Rattle.std.specs.Ordering.{is_eq}
-use Rattle.std.specs.Map.{lookup, set_value}
-use Rattle.std.specs.BTreeMap.{BTreeMap, get, insert_entry, is_at, Updates, WritesThrough}
-use Rattle.zeb_keys.specs.declared.keys.Key.{Key}
-use Rattle.zeb_keys.specs.Order.{key_order}
-use Rattle.zeb_keys.proofs.Rising.{keys_apart}
-use Rattle.zeb_change.specs.declared.key_notes.KeyNotes.{KeyNotes}
-use Rattle.zeb_change.specs.declared.pending.Pending.{Pending}
-use Rattle.zeb_register.specs.Hindrances.{rows_of}
-use Rattle.zeb_change.specs.Asked.{FitsPut, PutAmong, placed_by}
-use Rattle.zeb_change.specs.NoteWords.{KeyChange, change_words}
-use Rattle.zeb_change.specs.Noted.{AreNoted, IsNotedIn, IsNothingNoted, changes_among, notes_at, noted_count}
-use Rattle.zeb_change.specs.PrivatePending.{IsNotNoted, IsNotedAlso, IsTakenOut}
+use Rattle.std.specs.declared.cmp.Ordering.TheVariants.{Equal, Greater}
+use Rattle.zeb_change.specs.NoteWords.{change_words}
 use Rattle.zeb_change.proofs.NoteWords.{noted_more, one_noted}
-use Rattle.zeb_change.proofs.PutNotes.{insert_puts, set_puts}
 
 -- what stands at a key is the key's
 at_same : (key k : Key) → is_at (key_order key) k ≡ true → key ≡ k
@@ -79,9 +66,6 @@ noted_behind key change v w old new found more words writes =
           (noted_more v w changes change more words (subst (λ (o : Option KeyNotes). AreNoted o changes) found noted));
       others = λ k differs. updates.2 k (apart_at key k differs);
       count = ap changes_among writes.0 ∙ set_more (is_at (key_order key)) old.notes.entries v w found more;
-      puts = λ bound n storable fit among. subst (λ es. PutAmong bound es (n + rows_of (placed_by change ∷ []))) (sym writes.0)
-          (set_puts change storable bound (is_at (key_order key)) old.notes.entries v w n found more words
-          (λ k at. subst (FitsPut bound (rows_of (placed_by change ∷ []))) (at_same key k at) fit) among);
     }
 
 -- what is noted is told by the map
@@ -90,7 +74,6 @@ noted_by key change old old' new same is = record {
   here = λ changes noted. is.here changes (subst (λ (m : BTreeMap Key KeyNotes). AreNoted (get key_order m key) changes) same noted);
   others = λ k differs. is.others k differs ∙ ap (λ (m : BTreeMap Key KeyNotes). get key_order m k) (sym same);
   count = is.count ∙ ap (λ (m : BTreeMap Key KeyNotes). changes_among m.entries + 1) (sym same);
-  puts = λ bound n storable fit among. is.puts bound n storable fit (subst (λ (m : BTreeMap Key KeyNotes). PutAmong bound m.entries n) same among);
 }
 
 -- it has none
@@ -101,8 +84,6 @@ noted_first key change v old new none one words entries updates = record {
       (alone changes (subst (λ (o : Option KeyNotes). AreNoted o changes) none noted));
   others = λ k differs. updates.2 k (apart_at key k differs);
   count = ap changes_among entries ∙ insert_more old.notes.entries key v none one;
-  puts = λ bound n storable fit among. subst (λ es. PutAmong bound es (n + rows_of (placed_by change ∷ []))) (sym entries)
-      (insert_puts change storable bound old.notes.entries key v n none one words fit among);
 }
   where
     alone : (changes : List KeyChange) → changes ≡ [] → IsNotedIn v (changes ++ change ∷ [])

@@ -1,19 +1,5 @@
 -- The postings of a database's records, of which one is put or taken.
-use Rattle.std.proofs.Common.{◌≡◌, ◌≢◌, ◌⊎◌, ◌↔◌, ◌∙◌, ℕ, ℤ, Bool, true, false, List, [], inl, inr, refl, sym, subst, nat_eq}
-use Rattle.std.specs.List.{Contains}
-use Rattle.std.proofs.lemmas.Bool.Decides.{Decides-eqb}
-use Rattle.sqlite_rules.specs.Lists.{Has}
-use Rattle.sqlite_rules.proofs.ListLemmas.{has_contained, contains_had}
-use Rattle.zeb_profile.specs.declared.directives.Directive.{Directive}
-use Rattle.zeb_keys.specs.declared.keys.Key.{Key}
-use Rattle.zeb_keys.specs.declared.keys.Occurrence.{Occurrence}
-use Rattle.zeb_register.specs.declared.registers.Place.{Place}
-use Rattle.zeb_register.specs.Content.{Content, posting_at, Posting}
-use Rattle.zeb_change.specs.Reposted.{occurrence_at, ArePostingsOf, IsReposted}
-use Rattle.zeb_change.specs.Occurs.{AreOccurrencesOf, OccursIn, occurs}
-use Rattle.zeb_change.specs.Base.{Kept}
-use Rattle.zeb_change.specs.Stored.{ArePosted}
-use Rattle.zeb_change.specs.UnderWay.{with_records}
+use Rattle.zeb_change.proofs.Cited.{◌≡◌, ◌≢◌, ◌⊎◌, ◌↔◌, ◌∙◌, ℕ, ℤ, Bool, true, false, List, [], inl, inr, refl, sym, subst, nat_eq, Contains, Decides-eqb, Has, has_contained, contains_had, Directive, Key, Occurrence, Place, Content, posting_at, Posting, occurrence_at, ArePostingsOf, IsReposted, AreOccurrencesOf, OccursIn, occurs, Kept, ArePosted, with_records}
 use Rattle.zeb_change.proofs.KeptLemmas.{AreRisingKept, one_number}
 use Rattle.zeb_change.proofs.KeptChanges.{IsPutIn}
 use Rattle.zeb_change.proofs.StoredLemmas.{told_id, at_id, at_other}

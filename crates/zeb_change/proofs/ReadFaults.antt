@@ -1,11 +1,6 @@
 -- A text that is no record is no reader that failed.
-use Rattle.std.proofs.Common.{◌≢◌, ℕ}
-use Rattle.zeb_marc.specs.declared.faults.MarcFault.{MarcFault}
-use Rattle.zeb_marc.specs.declared.faults.MarcFault.TheVariants.{LengthDigits, LengthRange, Truncated, NoTerminator, LeaderCounts, BaseAddress, DirectoryLength, EntryDigits, EntryTag, EntryRange, FieldEnd, TooManySeparators}
+use Rattle.zeb_change.proofs.Cited.{◌≢◌, ℕ, MarcFault, LengthDigits, LengthRange, Truncated, NoTerminator, LeaderCounts, BaseAddress, DirectoryLength, EntryDigits, EntryTag, EntryRange, FieldEnd, TooManySeparators, IsRecordFault, ReadFault, marc_refusal}
 use Rattle.zeb_marc.specs.declared.faults.MarcFault.TheVariants as marc
-use Rattle.zeb_marc.specs.Records.{IsRecordFault}
-use Rattle.zeb_change.specs.declared.refusals.Refusal.TheVariants.{ReadFault}
-use Rattle.zeb_change.specs.Outcomes.{marc_refusal}
 
 pub no_read_fault : (file nth : ℕ) (fault : MarcFault) → IsRecordFault fault → (other : ℕ) → marc_refusal file nth fault ≢ ReadFault other
 no_read_fault file nth LengthDigits is other same = absurd (cc)

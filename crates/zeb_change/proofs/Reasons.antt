@@ -1,34 +1,7 @@
 -- Why records of a change are refused, one behind the other, and what those before them lose.
-use Rattle.std.proofs.Common.{◌≡◌, ◌≢◌, ◌⊎◌, ◌+◌, ◌<◌, ◌≤◌, ℕ, ℤ, List, [], ◌∷◌, ◌++◌, length-append, Option, None, Result, Ok, Err, IfErr, OnOk, inl, inr, arith, refl, ap, sym, subst}
-use Rattle.sqlite.specs.State.{State}
-use Rattle.sqlite.specs.Tree.{Trees}
-use Rattle.sqlite_rules.proofs.ListLemmas.{has_either, has_left, has_right}
-use Rattle.zeb_marc.specs.declared.faults.MarcFault.{MarcFault}
-use Rattle.zeb_marc.specs.Records.{first_fault}
-use Rattle.zeb_extract.specs.declared.naming.IdentFault.{IdentFault}
+use Rattle.zeb_change.proofs.Cited.{◌≡◌, ◌≢◌, ◌⊎◌, ◌+◌, ◌<◌, ◌≤◌, ℕ, ℤ, List, [], ◌∷◌, ◌++◌, length-append, Option, None, Result, Ok, Err, IfErr, OnOk, inl, inr, arith, refl, ap, sym, subst, State, Trees, has_either, has_left, has_right, MarcFault, first_fault, IdentFault, Directive, RegFault, Elder, IsElderOf, records_tree, Refusal, TooManyRecords, Unknown, Kind, Delete, Update, Limits, Fate, Inserted, Updated, Deleted, PassedOver, Tally, AreWholeBefore, IsWholeBefore, PassesOn, ident_in, identifier_refusal, register_refusal, KeepsOtherRecords, IsDamageOrFailure, IsFullOrFails, IsRecordRefused, LosesJustNamed, TakesNamed, IsTallied, AreNamed, HasReasonAt, IsAllowed, IsAtFault, IsNamed, IsNewAt, NamesAny, why_of, IsFailing}
 use Rattle.zeb_extract.specs.declared.naming.IdentFault.TheVariants as ident_fault
-use Rattle.zeb_profile.specs.declared.directives.Directive.{Directive}
-use Rattle.zeb_register.specs.declared.faults.RegFault.{RegFault}
 use Rattle.zeb_register.specs.declared.faults.RegFault.TheVariants as fault
-use Rattle.zeb_register.specs.declared.kept.Elder.{Elder}
-use Rattle.zeb_register.specs.Kept.{IsElderOf}
-use Rattle.zeb_register.specs.Store.{records_tree}
-use Rattle.zeb_change.specs.declared.refusals.Refusal.{Refusal}
-use Rattle.zeb_change.specs.declared.refusals.Refusal.TheVariants.{TooManyRecords, Unknown}
-use Rattle.zeb_change.specs.declared.settings.Kind.{Kind}
-use Rattle.zeb_change.specs.declared.settings.Kind.TheVariants.{Delete, Update}
-use Rattle.zeb_change.specs.declared.settings.Limits.{Limits}
-use Rattle.zeb_change.specs.declared.tally.Fate.{Fate}
-use Rattle.zeb_change.specs.declared.tally.Fate.TheVariants.{Inserted, Updated, Deleted, PassedOver}
-use Rattle.zeb_change.specs.declared.tally.Tally.{Tally}
-use Rattle.zeb_change.specs.Elders.{AreWholeBefore, IsWholeBefore, PassesOn}
-use Rattle.zeb_change.specs.Folding.{ident_in}
-use Rattle.zeb_change.specs.Outcomes.{identifier_refusal, register_refusal}
-use Rattle.zeb_change.specs.PrivateElders.{KeepsOtherRecords}
-use Rattle.zeb_change.specs.PrivateReasons.{IsDamageOrFailure, IsFullOrFails, IsRecordRefused, LosesJustNamed, TakesNamed}
-use Rattle.zeb_change.specs.PrivateTallies.{IsTallied}
-use Rattle.zeb_change.specs.Reasons.{AreNamed, HasReasonAt, IsAllowed, IsAtFault, IsNamed, IsNewAt, NamesAny}
-use Rattle.zeb_change.specs.Refused.{why_of, IsFailing}
 use Rattle.zeb_change.proofs.KeptStill.{rows_same, same_ident, up_more, whole_before}
 
 -- ---- answers
@@ -38,10 +11,6 @@ pub fault_fails_so : (f : RegFault) → IsDamageOrFailure (register_refusal f)
 fault_fails_so fault.Damaged = inl refl
 fault_fails_so fault.Store = inr (inl refl)
 fault_fails_so fault.Memory = inr (inr refl)
-
--- an error that is passed on is what it was
-pub err_so : {T : Type 0} (P : Refusal → Type 0) (refusal : Refusal) (result : Result T Refusal) → result ≡ Err refusal → P refusal → IfErr result P
-err_so {T} P refusal result told so = subst (λ (r : Result T Refusal). IfErr r P) (sym told) so
 
 pub err_more : {T : Type 0} (P Q : Refusal → Type 0) (result : Result T Refusal) → ((refusal : Refusal) → P refusal → Q refusal) → IfErr result P → IfErr result Q
 err_more P Q (Ok x) more is = tt
@@ -79,10 +48,6 @@ module _ (profile : List Directive) (db : ℤ) (bytes : List ℕ) (last : ℕ) w
     | inl same ↦ inr (bytes, inl refl, subst (IsNamed profile bytes) (sym same) is)
     | inr differs ↦ inl (kept.others other differs sysno row there up)
   ]
-
--- the table of records is as it was
-pub loses_none : (profile : List Directive) (db : ℤ) (slices : List (List ℕ)) (last : ℕ) (old new : Trees) → new records_tree ≡ old records_tree → LosesJustNamed profile last db slices old new
-loses_none profile db slices last old new same sysno ident bytes there up = inl (rows_same old new same db sysno ident bytes there)
 
 -- it is as it was when others were lost
 pub loses_then : (profile : List Directive) (db : ℤ) (slices : List (List ℕ)) (last : ℕ) (old mid new : Trees) → LosesJustNamed profile last db slices old mid → new records_tree ≡ mid records_tree

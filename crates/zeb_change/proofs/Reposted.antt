@@ -1,17 +1,7 @@
 -- The content in which one record has other occurrences.
-use Rattle.std.proofs.Common.{◌≡◌, ◌≢◌, ◌⊎◌, ◌↔◌, ℕ, ℤ, List, [], ◌∷◌, inl, inr, refl, sym, ap, subst}
-use Rattle.std.specs.List.{Contains}
+use Rattle.zeb_change.proofs.Cited.{◌≡◌, ◌≢◌, ◌⊎◌, ◌↔◌, ℕ, ℤ, List, [], ◌∷◌, inl, inr, refl, sym, ap, subst, Contains, Has, has_contained, contains_had, Key, Occurrence, key_total, keys_apart, Place, Content, HasRisingLists, posting_at, posting_cmp, IsChangedAt, Posting, told_by, changed_at, change_is, occurrence_at, IsReposted}
 use Rattle.std.specs.List.Sorted.{IsStrictlySortedBy}
-use Rattle.sqlite_rules.specs.Lists.{Has}
-use Rattle.sqlite_rules.proofs.ListLemmas.{has_contained, contains_had}
-use Rattle.zeb_keys.specs.declared.keys.Key.{Key}
-use Rattle.zeb_keys.specs.declared.keys.Occurrence.{Occurrence}
-use Rattle.zeb_keys.proofs.Rising.{key_total, keys_apart}
-use Rattle.zeb_register.specs.declared.registers.Place.{Place}
-use Rattle.zeb_register.specs.Content.{Content, HasRisingLists, posting_at, posting_cmp, IsChangedAt, Posting}
-use Rattle.zeb_register.proofs.RisingLists.{told_by}
-use Rattle.zeb_register.proofs.ContentChanges.{choose, changed_at, change_is}
-use Rattle.zeb_change.specs.Reposted.{occurrence_at, IsReposted}
+use Rattle.zeb_register.proofs.ContentChanges.{choose}
 use Rattle.zeb_change.proofs.StoredLemmas.{told_id}
 
 place_of : Occurrence → Place

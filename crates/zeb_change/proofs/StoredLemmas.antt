@@ -1,21 +1,5 @@
 -- The table of records, of which one database's are put in the place of those that it had.
-use Rattle.std.proofs.Common.{◌≡◌, ◌≢◌, ◌⊎◌, ◌↔◌, ◌∙◌, ℕ, ℤ, pos, Bool, true, false, List, Option, Some, None, inl, inr, refl, sym, ap, ap₂, subst}
-use Rattle.std.specs.List.{Contains}
-use Rattle.std.specs.Ordering.{int_eq}
-use Rattle.std.proofs.lemmas.Bool.Decides.{Decides-int_eq}
-use Rattle.sqlite.specs.declared.types.Value.TheVariants.{Int, Text, Blob}
-use Rattle.sqlite.specs.Order.{Row, column}
-use Rattle.sqlite.specs.Tree.{Trees}
-use Rattle.sqlite_rules.specs.Lists.{Has}
-use Rattle.sqlite_rules.proofs.ListLemmas.{has_contained, contains_had}
-use Rattle.zeb_register.specs.declared.kept.Elder.{Elder}
-use Rattle.zeb_register.specs.Sql.{Loses, Replaces}
-use Rattle.zeb_register.specs.Store.{records_tree, record_row, HasRecord, HasNumber, SharesRecord}
-use Rattle.zeb_register.specs.Kept.{IsElderOf, AreNumbered}
-use Rattle.zeb_change.specs.Base.{Base, Kept}
-use Rattle.zeb_change.specs.Stored.{AreKept}
-use Rattle.zeb_change.specs.PrivateRecords.{IsElderAs}
-use Rattle.zeb_change.specs.UnderWay.{with_records}
+use Rattle.zeb_change.proofs.Cited.{◌≡◌, ◌≢◌, ◌⊎◌, ◌↔◌, ◌∙◌, ℕ, ℤ, pos, Bool, true, false, List, Option, Some, None, inl, inr, refl, sym, ap, ap₂, subst, Contains, int_eq, Decides-int_eq, Int, Text, Blob, Row, column, Trees, Has, has_contained, contains_had, Elder, Loses, Replaces, records_tree, record_row, HasRecord, HasNumber, SharesRecord, IsElderOf, Base, Kept, AreKept, IsElderAs, with_records}
 use Rattle.zeb_change.proofs.KeptLemmas.{none_found, one_found}
 use Rattle.zeb_change.proofs.KeptChanges.{IsPutIn, IsTakenFrom}
 
@@ -157,7 +141,7 @@ module _ (id : ℤ) (records_of : ℤ → List Kept) where
     has_record : (kept : Kept) → Has base.records kept → HasRecord trees id (pos kept.sysno) kept.ident kept.bytes
     has_record kept there = there_was trees trees base.records base.records are id (pos kept.sysno) kept.ident kept.bytes refl (kept, contains_had base.records kept there, refl, refl, refl)
 
-    record_has : (sysno : ℤ) (ident bytes : List ℕ) → HasRecord trees id sysno ident bytes → IsRowOf (λ _. base.records) id sysno ident bytes
+    pub record_has : (sysno : ℤ) (ident bytes : List ℕ) → HasRecord trees id sysno ident bytes → IsRowOf (λ _. base.records) id sysno ident bytes
     record_has sysno ident bytes there = was_there trees trees base.records base.records are id sysno ident bytes refl there
 
     pub elder_is : (ident : List ℕ) → ((a b : Kept) → Has base.records a → Has base.records b → a.ident ≡ b.ident → a ≡ b) → (found : Option Elder) → IsElderOf trees id ident found → IsElderAs ident base found
@@ -165,6 +149,3 @@ module _ (id : ℤ) (records_of : ℤ → List Kept) where
     elder_is ident single (Some elder) there =
         let it = record_has (pos elder.sysno) ident elder.bytes.items there in
         (it.0, one_found ident base it.0 (has_contained base.records it.0 it.1) (sym it.3) single, (let e = it.2 in cc), sym it.4)
-
-    pub are_numbered : (ident : List ℕ) → AreNumbered trees id ident
-    are_numbered ident sysno bytes there = let it = record_has sysno ident bytes there in (it.0.sysno, it.2)

@@ -1,26 +1,11 @@
 -- One record is taken: it is added, stands in its elder's place, or takes it away.
-use Rattle.std.proofs.Common.{◌≡◌, ℕ, ℤ, pos, ◌+◌, ◌<◌, List, [], Some, None, refl, arith}
-use Rattle.sqlite.specs.Tree.{Trees}
-use Rattle.sqlite.specs.State.{State}
-use Rattle.zeb_profile.specs.declared.directives.Directive.{Directive}
-use Rattle.zeb_keys.specs.declared.keys.Occurrence.{Occurrence}
-use Rattle.zeb_register.specs.Content.{Content}
-use Rattle.zeb_register.specs.Sql.{Loses, Replaces}
-use Rattle.zeb_register.specs.Store.{Changes, KeepsRegisters, records_tree, record_row, HasNumber, SharesRecord}
-use Rattle.zeb_change.specs.declared.tally.Fate.TheVariants.{Inserted, Updated, Deleted}
-use Rattle.zeb_change.specs.declared.pending.Pending.{Pending}
-use Rattle.zeb_change.specs.PrivateStanding.{WillBe, WillBeTaken, standing}
-use Rattle.zeb_change.specs.Base.{Base, Kept, kept_as, with_new, with_bytes, without_ident}
-use Rattle.zeb_change.specs.Stored.{IsKept}
-use Rattle.zeb_change.specs.PrivateRecords.{IsNewer}
-use Rattle.zeb_change.specs.Occurs.{AreOccurrencesOf}
+use Rattle.zeb_change.proofs.Cited.{◌≡◌, ℕ, ℤ, pos, ◌+◌, ◌<◌, List, [], Some, None, refl, arith, Trees, State, Directive, Occurrence, Content, Loses, Replaces, Changes, KeepsRegisters, records_tree, record_row, HasNumber, SharesRecord, Inserted, Updated, Deleted, Pending, WillBe, WillBeTaken, standing, Base, Kept, kept_as, with_new, with_bytes, without_ident, IsKept, IsNewer, AreOccurrencesOf, Format, holds_in}
 use Rattle.zeb_change.proofs.BaseLemmas.{one_ident, within_last, new_base, bytes_base, ident_base}
 use Rattle.zeb_change.proofs.StoredLemmas.{put_kept, take_kept}
 use Rattle.zeb_change.proofs.KeptLemmas.{kept_found}
 use Rattle.zeb_change.proofs.KeptChanges.{IsPutIn, IsTakenFrom, kept_of, new_put, bytes_put, ident_taken, others_put, others_taken}
 use Rattle.zeb_change.proofs.PostedLemmas.{IsSwap, no_occurrences, put_occurrences, elder_occurrences}
 use Rattle.zeb_change.proofs.UnderWay.{IsMoved, further}
-use Rattle.zeb_register.specs.Formats.{Format, holds_in}
 
 -- a record with its identifier and its occurrences can be kept
 newer_kept : (profile : List Directive) (sysno : ℕ) (ident bytes : List ℕ) (newer : List Occurrence) → IsNewer profile ident bytes newer → IsKept profile (kept_of sysno ident bytes)

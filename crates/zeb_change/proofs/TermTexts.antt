@@ -1,42 +1,11 @@
 -- Each occurrence can be stored: its term is UTF-8, and units and places are numbered from 1.
-use Rattle.std.proofs.Common.{◌≡◌, ℕ, ◌+◌, ◌≤◌, ◌<◌, ◌^◌, suc, ◌||◌, Bool, true, false, not, List, [], ◌∷◌, map, encode_utf8, encode_utf8_all, IsUtf8, All, ℤ, refl, sym, ap, ◌∙◌, subst, inl, inr, arith, lit<}
-use Rattle.std.specs.Char.{IsScalar}
-use Rattle.std.specs.List.{AllByRecursion, AllPass, Contains, enumerate_from}
-use Rattle.std.proofs.lemmas.Bool.Decides.{nat_tests}
-use Rattle.std.proofs.lemmas.List.Elements.{All-head, All-tail}
-use Rattle.std.proofs.lemmas.Str.{IsUtf8-nil, IsUtf8-append, IsUtf8-encode, IsUtf8-from_ascii, encode_ascii}
-use Rattle.std.proofs.lemmas.Fmt.{IsAscii-from_digits}
-use Rattle.sqlite_rules.specs.Lists.{Has}
-use Rattle.sqlite_rules.proofs.ListLemmas.{has_contained}
-use Rattle.ucd_table.specs.Rows.{Range, in_ranges}
+use Rattle.zeb_change.proofs.Cited.{◌≡◌, ℕ, ◌+◌, ◌≤◌, ◌<◌, ◌^◌, suc, ◌||◌, Bool, true, false, not, List, [], ◌∷◌, map, encode_utf8, encode_utf8_all, IsUtf8, All, ℤ, refl, sym, ap, ◌∙◌, subst, inl, inr, arith, lit<, IsScalar, AllByRecursion, AllPass, Contains, enumerate_from, nat_tests, All-head, All-tail, IsUtf8-nil, IsUtf8-append, IsUtf8-encode, IsUtf8-from_ascii, encode_ascii, IsAscii-from_digits, Has, has_contained, Range, of_ranges, zip_stepped, Stepped-everywhere, general_category, in_group, GeneralCategory, joined_text, words_of, folded, number_key, numbers_of, digits_of_key, numbers_below, AllRuns, runs_are_runs, FieldText, fields_of, Piece, UnitText, numbered_from, Directive, Register, Word, Phrase, Number, unit_targets, Occurrence, Targets, IsOccurrence, text_of, word_terms, joined, terms_of, Contains-map, Content, IsStorable, IsStorablePosting, Kept, ArePosted, HaveSystemNumbers}
+use Rattle.ucd_table.specs.Rows.{in_ranges}
 use Rattle.ucd_table.proofs.Computing.{tables}
-use Rattle.ucd_table.proofs.Stepped.{of_ranges, zip_stepped}
-use Rattle.ucd_table.proofs.Facts.{Stepped-everywhere}
-use Rattle.ucd_category.specs.GeneralCategory.{general_category}
-use Rattle.ucd_category.specs.GeneralCategoryGroup.{in_group}
-use Rattle.ucd_category.specs.declared.GeneralCategory.{GeneralCategory}
 use Rattle.ucd_category.specs.declared.GeneralCategoryGroup.TheVariants as group
 use Rattle.ucd_category.proofs.GeneralCategoryLemmas.{general_category_stepped}
-use Rattle.zeb_text.specs.Words.{is_word_character, joined_text, words_of}
-use Rattle.zeb_text.specs.Folding.{folded}
-use Rattle.zeb_text.specs.Numbers.{number_key, numbers_of}
-use Rattle.zeb_text.proofs.KeyLemmas.{digits_of_key}
-use Rattle.zeb_text.proofs.NumberBounds.{numbers_below}
-use Rattle.zeb_text.proofs.MaximalRuns.{AllRuns, runs_are_runs}
-use Rattle.zeb_marc.specs.Directory.{FieldText}
-use Rattle.zeb_marc.specs.Records.{fields_of}
-use Rattle.zeb_marc.specs.Contents.{Content as Piece, UnitText, numbered_from, units_of}
-use Rattle.zeb_profile.specs.declared.directives.Directive.{Directive}
-use Rattle.zeb_keys.specs.declared.registers.Register.{Register}
-use Rattle.zeb_keys.specs.declared.registers.Register.TheVariants.{Word, Phrase, Number}
-use Rattle.zeb_profile.specs.Indexes.{unit_targets}
-use Rattle.zeb_keys.specs.declared.keys.Occurrence.{Occurrence}
-use Rattle.zeb_extract.specs.Occurrences.{Targets, IsOccurrence, text_of, word_terms, joined, terms_of}
-use Rattle.zeb_extract.proofs.Members.{Contains-map}
-use Rattle.zeb_register.specs.Content.{Content, IsStorable, IsStorablePosting}
-use Rattle.zeb_change.specs.Base.{Kept}
-use Rattle.zeb_change.specs.Stored.{ArePosted}
-use Rattle.zeb_change.specs.UnderWay.{HaveSystemNumbers}
+use Rattle.zeb_text.specs.Words.{is_word_character}
+use Rattle.zeb_marc.specs.Contents.{units_of}
 
 -- the characters that there are
 characters : List Range

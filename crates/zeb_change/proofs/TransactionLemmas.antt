@@ -1,8 +1,5 @@
 -- Work inside a transaction, one step after the other.
-use Rattle.std.proofs.Common.{◌∙◌}
-use Rattle.sqlite.specs.State.{State, KeepsCommit}
-use Rattle.zeb_register.specs.Calls.{GoesOn}
-use Rattle.zeb_change.specs.Inside.{Continues}
+use Rattle.zeb_change.proofs.Cited.{◌∙◌, State, KeepsCommit, GoesOn, Continues}
 
 pub kept_then : (old mid new : State) → Continues old mid → KeepsCommit mid new → KeepsCommit old new
 kept_then old mid new one two = record {

@@ -1,46 +1,9 @@
 -- What becomes of one record, as the calls on the tables say it.
-use Rattle.std.proofs.Common.{◌≡◌, ◌∙◌, ℕ, ℤ, pos, ◌+◌, ◌≤◌, ◌<◌, false, List, [], Some, None, Option, Result, Ok, Err, IsUtf8, refl, sym, ap, subst, arith, nat_le}
+use Rattle.zeb_change.proofs.Cited.{◌≡◌, ◌∙◌, ℕ, ℤ, pos, ◌+◌, ◌≤◌, ◌<◌, false, List, [], Some, None, Option, Result, Ok, IsUtf8, refl, sym, ap, subst, arith, nat_le, nat_tests, Trees, State, contains_had, first_fault, Directive, Occurrence, IsRising, Elder, Content, Loses, Changes, KeepsRegisters, records_tree, HasNumber, Fate, Inserted, Updated, Deleted, Why, Meets, Conditions, Changed, updated, deleted, ident_in, Base, Kept, kept_as, with_new, with_bytes, without_ident, IsBase, IsKept, IsNewer, IsElderAs, AreOccurrencesOf, Pending, WillBe, WillBeTaken, standing, Format, holds_in}
 use Rattle.std.specs.List.Sorted.{IsStrictlySortedBy}
-use Rattle.std.proofs.lemmas.Bool.Decides.{nat_tests}
-use Rattle.sqlite.specs.Tree.{Trees}
-use Rattle.sqlite.specs.State.{State}
-use Rattle.sqlite_rules.proofs.ListLemmas.{contains_had}
-use Rattle.zeb_marc.specs.Records.{first_fault}
-use Rattle.zeb_profile.specs.declared.directives.Directive.{Directive}
-use Rattle.zeb_keys.specs.declared.keys.Occurrence.{Occurrence}
-use Rattle.zeb_keys.specs.Order.{IsRising}
-use Rattle.zeb_register.specs.declared.kept.Elder.{Elder}
-use Rattle.zeb_register.specs.Content.{Content}
-use Rattle.zeb_register.specs.Sql.{Loses}
-use Rattle.zeb_register.specs.Store.{Changes, KeepsRegisters, records_tree, HasNumber}
-use Rattle.zeb_change.specs.declared.refusals.Refusal.{Refusal}
-use Rattle.zeb_change.specs.declared.tally.Fate.{Fate}
-use Rattle.zeb_change.specs.declared.tally.Fate.TheVariants.{Inserted, Updated, Deleted}
-use Rattle.zeb_change.specs.Refused.{Why, why_of, Meets, IsFailing}
-use Rattle.zeb_change.specs.Conditions.{Conditions}
-use Rattle.zeb_change.specs.Folding.{Changed, updated, deleted, ident_in}
-use Rattle.zeb_change.specs.Base.{Base, Kept, kept_as, with_new, with_bytes, without_ident}
-use Rattle.zeb_change.specs.Stored.{IsBase, IsKept}
-use Rattle.zeb_change.specs.PrivateRecords.{IsNewer, IsElderAs}
-use Rattle.zeb_change.specs.Occurs.{AreOccurrencesOf}
-use Rattle.zeb_change.specs.declared.pending.Pending.{Pending}
-use Rattle.zeb_change.specs.PrivateStanding.{Standing, WillBe, WillBeTaken, standing}
 use Rattle.zeb_change.proofs.KeptLemmas.{kept_found}
-use Rattle.zeb_change.proofs.UnderWay.{meets_failure, meets_so, same_way, same_names, taken_after, IsMoved}
+use Rattle.zeb_change.proofs.UnderWay.{same_way, same_names, IsMoved}
 use Rattle.zeb_change.proofs.TakenLemmas.{PutAs, insert_taken, replace_taken, withdraw_taken}
-use Rattle.zeb_register.specs.Formats.{Format, holds_in}
-
--- the error of a call that failed, passed on
-pub passed_on : {A X : Type 0} (Good : A → X → Type 0) (said : Result A Why) (r : Result X Refusal) (refusal : Refusal) → r ≡ Err refusal → IsFailing (why_of refusal) → Meets Good said r
-passed_on Good said r refusal told failed = subst (Meets Good said) (sym told) (meets_failure Good said refusal failed)
-
--- a record is taken in after it was looked for, which changes nothing
-pub turned_so : (format : Format) (profile : List Directive) (id : ℤ) (records_of : ℤ → List Kept) (old mid : State) (pending : Pending) (new : Standing) (last : ℕ) (one two : Result Changed Why) (r : Result Fate Refusal)
-    → mid.now ≡ old.now → two ≡ one → Meets (WillBeTaken format profile id records_of (standing mid pending) new last) one r → Meets (WillBeTaken format profile id records_of (standing old pending) new last) two r
-turned_so format profile id records_of old mid pending new last one two r same said met =
-    subst (λ (x : Result Changed Why). Meets (WillBeTaken format profile id records_of (standing old pending) new last) x r) (sym said)
-    (meets_so (WillBeTaken format profile id records_of (standing mid pending) new last) (WillBeTaken format profile id records_of (standing old pending) new last) one r
-    (λ changed fate. taken_after format profile id records_of old mid pending new last changed fate same) met)
 
 -- nothing becomes of a record
 pub passed_over : (format : Format) (profile : List Directive) (id : ℤ) (records_of : ℤ → List Kept) (old mid : State) (pending : Pending) (last : ℕ) (base : Base) (fate : Fate)

@@ -1,32 +1,9 @@
 -- A change on its way, one record further: the table of records is written first, and then the registers.
-use Rattle.std.proofs.Common.{◌≡◌, ◌≢◌, ℕ, ℤ, List, ◌∷◌, Result, Ok, Err, inl, inr, refl, sym, ap, subst, arith}
-use Rattle.sqlite.specs.declared.types.Value.TheVariants.{Int}
-use Rattle.sqlite.specs.Tree.{Trees}
-use Rattle.sqlite.specs.Effect.{Database}
-use Rattle.sqlite.specs.State.{State}
-use Rattle.sqlite_rules.specs.Lists.{Has}
-use Rattle.zeb_profile.specs.declared.directives.Directive.{Directive}
-use Rattle.zeb_keys.specs.declared.keys.Occurrence.{Occurrence}
+use Rattle.zeb_change.proofs.Cited.{◌≡◌, ◌≢◌, ℕ, ℤ, List, ◌∷◌, Result, Ok, Err, inl, inr, refl, sym, ap, subst, arith, Int, Trees, Database, State, Has, Directive, Occurrence, Content, HasRisingLists, Changes, KeepsRegisters, records_tree, record_row, store_same, Refusal, Fate, Why, why_of, Meets, IsFailing, ArePostingsOf, IsReposted, Changed, Base, Kept, Pending, LeadsTo, WillHold, Standing, WillBe, WillBeTaken, standing, IsBase, AreKept, register_refusal, KeepsNames, with_records, Format, holds_in}
 use Rattle.zeb_register.specs.declared.RegFault.{RegFault}
 use Rattle.zeb_register.specs.declared.RegFault.TheVariants as fault
-use Rattle.zeb_register.specs.Content.{Content, HasRisingLists}
-use Rattle.zeb_register.specs.Store.{Changes, KeepsRegisters, records_tree, record_row}
-use Rattle.zeb_register.proofs.Calls.{store_same}
-use Rattle.zeb_change.specs.declared.refusals.Refusal.{Refusal}
-use Rattle.zeb_change.specs.declared.tally.Fate.{Fate}
-use Rattle.zeb_change.specs.Refused.{Why, why_of, Meets, IsFailing}
-use Rattle.zeb_change.specs.Reposted.{ArePostingsOf, IsReposted}
-use Rattle.zeb_change.specs.Folding.{Changed}
-use Rattle.zeb_change.specs.Base.{Base, Kept}
-use Rattle.zeb_change.specs.declared.pending.Pending.{Pending}
-use Rattle.zeb_change.specs.Noted.{LeadsTo, WillHold}
-use Rattle.zeb_change.specs.PrivateStanding.{Standing, WillBe, WillBeTaken, standing}
-use Rattle.zeb_change.specs.Stored.{IsBase, AreKept}
-use Rattle.zeb_change.specs.Outcomes.{register_refusal}
-use Rattle.zeb_change.specs.UnderWay.{KeepsNames, with_records}
 use Rattle.zeb_change.proofs.PostedLemmas.{IsSwap, posted_elder, posted_after}
 use Rattle.zeb_change.proofs.Reposted.{reposted, reposted_is}
-use Rattle.zeb_register.specs.Formats.{Format, holds_in}
 
 -- the registers are as they were where the table of records is written
 pub registers_still : (old new : State) (Rows : ℕ → Trees → Trees → Type 0) → Changes records_tree Rows old new → KeepsRegisters old.now.trees new.now.trees

@@ -20,7 +20,6 @@ pub mod Reasons
 pub mod Reposted
 pub mod NoteWords
 pub mod Noted
-pub mod Asked
 pub mod PrivateKeyRuns
 pub mod PrivateChangedKeys
 pub mod PrivateTallies
@@ -28,5 +27,7 @@ pub mod PrivateNoteWords
 pub mod PrivatePending
 pub mod PrivateStanding
 pub mod PrivateRecords
-pub mod PrivateAsked
 pub mod PrivateReasons
+pub mod PrivateRecordChanges
+pub mod PrivateRecordFolds
+pub mod NotedKeys

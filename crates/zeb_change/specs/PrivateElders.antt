@@ -1,15 +1,11 @@
 -- What only the contracts of private functions speak of; no public clause reaches it.
 -- What a change finds and leaves kept on its way, whatever rows the tables of the store have.
-use Rattle.std.specs.Prelude.{◌≡◌, ◌≢◌, ◌⊎◌, ◌≤◌, ℕ, ℤ, List, [], ◌∷◌, Some, Result, Ok}
+use Rattle.std.specs.Prelude.{◌≢◌, ◌≤◌, ℕ, ℤ, List, [], ◌∷◌}
 use Rattle.sqlite.specs.declared.types.Value.TheVariants.{Int}
 use Rattle.sqlite.specs.Tree.{Trees}
 use Rattle.sqlite.specs.State.{State}
-use Rattle.zeb_marc.specs.declared.faults.MarcFault.{MarcFault}
-use Rattle.zeb_marc.specs.Splits.{Split}
 use Rattle.zeb_register.specs.Sound.{KeepsMalformed, KeepsRowsBeside}
 use Rattle.zeb_register.specs.Store.{HasRecord, IsStore}
-use Rattle.zeb_change.specs.declared.files.Fold.{Fold}
-use Rattle.zeb_change.specs.declared.refusals.Refusal.{Refusal}
 use Rattle.zeb_change.specs.Elders.{IsUpTo, KeepsAside}
 use Rattle.zeb_change.specs.UnderWay.{KeepsNames}
 
@@ -28,13 +24,3 @@ pub record KeepsOtherRecords (db : ℤ) (ident : List ℕ) (last after : ℕ) (o
   pub beside : KeepsRowsBeside (Int db ∷ []) old.now.trees new.now.trees
   pub names : KeepsNames old new
   pub malformed : KeepsMalformed old.now.trees new.now.trees
-
--- this holds of the first, where there is one
-abbrev pub OfFirst : {A : Type 0} → (A → Type 0) → List A → Type 0
-OfFirst P [] = Unit {0}
-OfFirst P (x ∷ xs) = P x
-
--- a file with no record is folded in and changes nothing, or a fault stands in it
-abbrev pub PassesEmpty : Split → (old new : State) → (first folded : Fold) → Result (Unit {0}) Refusal → Type 0
-PassesEmpty split old new first folded result =
-    split.slices ≡ [] → ((result ≡ Ok tt) × (new.now ≡ old.now) × (folded ≡ first)) ⊎ ((fault : MarcFault) × (split.fault ≡ Some fault))

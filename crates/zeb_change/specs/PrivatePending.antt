@@ -6,10 +6,8 @@ use Rattle.std.specs.Ordering.{nat_cmp}
 use Rattle.zeb_keys.specs.declared.keys.Key.{Key}
 use Rattle.zeb_register.specs.declared.registers.RecordChange.{RecordChange}
 use Rattle.zeb_register.specs.Content.{Content}
-use Rattle.zeb_register.specs.Hindrances.{FitsEachLayout, rows_of}
 use Rattle.zeb_change.specs.declared.key_notes.KeyNotes.{KeyNotes}
 use Rattle.zeb_change.specs.declared.pending.Pending.{Pending}
-use Rattle.zeb_change.specs.Asked.{FitsPut, PutAmong, placed_by}
 use Rattle.zeb_change.specs.NoteWords.{KeyChange}
 use Rattle.zeb_change.specs.Noted.{AreNoted, LeadsList, notes_at, noted_count}
 
@@ -26,8 +24,6 @@ pub record IsNotedAlso (key : Key) (change : KeyChange) (old new : Pending) : Ty
   pub here : (changes : List KeyChange) → AreNoted (notes_at old key) changes → AreNoted (notes_at new key) (changes ++ change ∷ [])
   pub others : (k : Key) → k ≢ key → notes_at new k ≡ notes_at old k
   pub count : noted_count new ≡ noted_count old + 1
-  pub puts : (bound n : ℕ) → FitsEachLayout (placed_by change) → FitsPut bound (rows_of (placed_by change ∷ [])) key → PutAmong bound old.notes.entries n
-      → PutAmong bound new.notes.entries (n + rows_of (placed_by change ∷ []))
 
 -- a key's changes are noted no longer
 pub record IsTakenOut (key : Key) (notes : KeyNotes) (old new : Pending) : Type 0 where

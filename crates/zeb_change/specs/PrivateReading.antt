@@ -1,12 +1,17 @@
 -- What only the contracts of private functions speak of; no public clause reaches it.
 -- How the records of a file are read, one after the other.
 use Rattle.std.specs.Prelude.{◌≡◌, ℕ, Bool, true, false, List, Option, Some, Result, Ok, Err}
-use Rattle.zeb_marc.specs.Splits.{Next, at_end, a_slice, a_fault}
+use Rattle.zeb_marc.specs.declared.faults.MarcFault.{MarcFault}
+use Rattle.zeb_marc.specs.Splits.{at_end, a_fault, a_slice, next_of}
 use Rattle.zeb_change.specs.declared.refusals.Refusal.{Refusal}
 use Rattle.zeb_change.specs.Outcomes.{marc_refusal}
 
--- whether there is a record where this stands next, what the buffer keeps of it, and what is left unread
-abbrev pub ReadsNext : ℕ → ℕ → Next → Result Bool Refusal → List ℕ → Option (List ℕ) → Type 0
-ReadsNext file nth at_end answer kept left = answer ≡ Ok false
-ReadsNext file nth (a_slice slice rest) answer kept left = (answer ≡ Ok true) × (kept ≡ slice) × (left ≡ Some rest)
-ReadsNext file nth (a_fault fault) answer kept left = answer ≡ Err (marc_refusal file nth fault)
+-- Whether there is a record where this stands next, what the buffer keeps of it, and what is left unread: so much is known where the reader
+-- hasn't failed, and its text is known. A fault is told as that of the file's record with this number.
+abbrev pub ReadsRecord : (file nth : ℕ) → (failed : Bool) → (remaining : Option (List ℕ)) → Result Bool Refusal → (kept : List ℕ) → (left : Option (List ℕ)) → Type 0
+ReadsRecord file nth failed remaining (Ok true) kept left =
+    (failed ≡ false) × ((text : List ℕ) → remaining ≡ Some text → (rest : List ℕ) × (next_of text ≡ a_slice kept rest) × (left ≡ Some rest))
+ReadsRecord file nth failed remaining (Ok false) kept left = (failed ≡ false) × ((text : List ℕ) → remaining ≡ Some text → next_of text ≡ at_end)
+ReadsRecord file nth failed remaining (Err refusal) kept left =
+    (fault : MarcFault) × (refusal ≡ marc_refusal file nth fault)
+    × (failed ≡ false → (text : List ℕ) → remaining ≡ Some text → next_of text ≡ a_fault fault)

@@ -1,8 +1,7 @@
 -- What only the contracts of private functions speak of; no public clause reaches it.
 -- Why a part of a change is refused, and under which identifiers it loses records, whatever rows the tables of the store have.
-use Rattle.std.specs.Prelude.{◌≡◌, ◌⊎◌, ◌+◌, ◌≤◌, ℕ, ℤ, List, [], ◌∷◌, ◌++◌, length, None}
+use Rattle.std.specs.Prelude.{◌≡◌, ◌⊎◌, ◌+◌, ◌≤◌, ℕ, ℤ, List, [], ◌∷◌, length, None}
 use Rattle.sqlite.specs.Tree.{Trees}
-use Rattle.zeb_marc.specs.Splits.{Split}
 use Rattle.zeb_profile.specs.declared.directives.Directive.{Directive}
 use Rattle.zeb_register.specs.Store.{HasRecord}
 use Rattle.zeb_change.specs.declared.refusals.Refusal.{Refusal}
@@ -25,18 +24,6 @@ IsFullOrFails limits last refusal = ((refusal ≡ DatabaseFull) × (limits.numbe
 abbrev pub IsRecordRefused : List Directive → Kind → Limits → (last taken : ℕ) → Trees → ℤ → (file nth : ℕ) → List ℕ → Refusal → Type 0
 IsRecordRefused profile kind limits last taken trees db file nth bytes refusal =
     HasReasonAt profile kind limits last taken trees db file nth [] (bytes ∷ []) None refusal ⊎ IsDamageOrFailure refusal
-
--- A file is refused at some place for a reason there, and its records before it are sound and have an identifier, under which what was kept
--- was whole.
-pub record IsRefusedIn (profile : List Directive) (kind : Kind) (limits : Limits) (last taken : ℕ) (trees : Trees) (db : ℤ) (file : ℕ) (split : Split) (refusal : Refusal) : Type 0 where
-  pub nth : ℕ
-  pub read : List (List ℕ)
-  pub behind : List (List ℕ)
-  pub slices_are : split.slices ≡ read ++ behind
-  pub nth_is : nth ≡ length read + 1
-  pub named : AreNamed profile read
-  pub whole : AreWholeBefore profile last trees db read
-  pub reason : HasReasonAt profile kind limits last taken trees db file nth read behind split.fault refusal
 
 -- each record that the database kept, with a number up to the last one, is kept still, or one of these has its identifier
 abbrev pub LosesJustNamed : List Directive → (last : ℕ) → ℤ → List (List ℕ) → (old new : Trees) → Type 0

@@ -37,7 +37,6 @@ why_of refusal.Damaged = damaged
 why_of refusal.IdentifierRuleChanged = rule_changed
 why_of (refusal.ReadFault file) = read_fault file
 why_of refusal.Store = store_failed
-why_of refusal.Commit = store_failed
 why_of refusal.Memory = out_of_memory
 
 -- the store or the memory failed

@@ -1,6 +1,6 @@
 //! The keys whose places differ between two lists of occurrences.
 
-ghost use Rattle.std.specs.Prelude.{◌≡◌, ◌+◌, ◌≤◌, ◌<◌, ◌⊎◌, length, map, take, drop, IfOk, OnOk, IfSome, IfNone, []};
+ghost use Rattle.std.specs.Prelude.{◌≡◌, ◌≤◌, ◌⊎◌, length, map, take, drop, IfOk, OnOk, IfSome, IfNone, []};
 ghost use Rattle.zeb_keys.specs.Order.{IsRising};
 ghost use Rattle.zeb_change.specs.PrivateChangedKeys.{AreChangedKeys, IsAddedIfChanged, place_in};
 ghost use Rattle.zeb_change.specs.PrivateKeyRuns.{BeginsWithKey, AreOfKey, Stops, IsNotAbove};

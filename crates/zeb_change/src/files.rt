@@ -1,35 +1,27 @@
 //! The records of files, folded into a database inside a transaction.
 
-ghost use Rattle.std.specs.Prelude.{◌≡◌, ◌≢◌, ◌⊎◌, ◌+◌, ◌<◌, ◌≤◌, ◌^◌, ℕ, ℤ, List, [], ◌∷◌, length, map, Some, None, Ok, Err, true, false};
+ghost use Rattle.std.specs.Prelude.{◌≡◌, ◌≢◌, ◌+◌, ◌<◌, ◌≤◌, ℕ, ℤ, List, length, map, Some, Err, true};
 ghost use Rattle.std.specs.Prelude.{IsTrue, IfErr, OnOk};
 ghost use Rattle.std.specs.List.{flat_map};
 ghost use Rattle.sqlite.specs.Held.{state};
 ghost use Rattle.sqlite.specs.State.{HasCleanDisk, Survives};
-ghost use Rattle.zeb_marc.specs.Splits.{Split, next_of, split_of};
-ghost use Rattle.zeb_register.specs.Calls.{MayRefuse};
+ghost use Rattle.zeb_marc.specs.Splits.{Split};
 ghost use Rattle.zeb_register.specs.Clauses.{InStore};
-ghost use Rattle.zeb_register.specs.Formats.{Format};
-ghost use Rattle.zeb_register.specs.Hindrances.{HasRowids};
-ghost use Rattle.zeb_register.specs.Room.{HasRoom};
-ghost use Rattle.zeb_register.specs.Store.{records_tree};
-ghost use Rattle.zeb_change.specs.Asked.{AskFiles, AskSlices, AsksRecord, HasSystemNumbers};
-ghost use Rattle.zeb_change.specs.Folding.{Progress as FoldProgress, record_folded, file_folded, files_folded, splits_of};
-ghost use Rattle.zeb_change.specs.Base.{Base, Kept};
-ghost use Rattle.zeb_change.specs.Elders.{AllFindWhole, AreWholeBefore, FindsWhole, FirstFindsWhole, IsWholeBefore, PassesOn};
-ghost use Rattle.zeb_change.specs.PrivateElders.{OfFirst, PassesEmpty};
+ghost use Rattle.zeb_change.specs.Folding.{Progress as FoldProgress, files_folded, splits_of};
+ghost use Rattle.zeb_change.specs.Base.{Kept};
+ghost use Rattle.zeb_change.specs.Elders.{AllFindWhole, FirstFindsWhole, PassesOn};
+ghost use Rattle.zeb_change.specs.PrivateRecordChanges.{OnRows, Steps};
+ghost use Rattle.zeb_change.specs.PrivateRecordFolds.{Advances, ChangesFiles, FoldsRecord, OfReaders, TakesFiles, TakesReader, TakesRecord, at};
 ghost use Rattle.zeb_change.specs.Reasons.{IsRefusedFor, LosesNamedAlone};
-ghost use Rattle.zeb_change.specs.PrivateReasons.{IsDamageOrFailure, IsRecordRefused, IsRefusedIn, TakesNamed};
-ghost use Rattle.zeb_change.specs.Costs.{IsCostIn, IsFilesCost, IsSlicesCost, IsWorkFor, newer_of};
+ghost use Rattle.zeb_change.specs.Costs.{IsFilesCost, IsWorkFor};
+ghost use Rattle.zeb_change.specs.Noted.{IsNothingNoted};
 ghost use Rattle.zeb_change.specs.Refused.{NeverUnready, Meets};
 ghost use Rattle.zeb_change.specs.Reading.{NamesFailed, NoneFailed, NoReadFault, TellsFailed, BlamesFailed};
-ghost use Rattle.zeb_change.specs.PrivateReading.{ReadsNext};
+ghost use Rattle.zeb_change.specs.PrivateReading.{ReadsRecord};
 ghost use Rattle.zeb_change.specs.Inside.{StaysInside};
 ghost use Rattle.zeb_change.specs.PrivateInside.{WorksInside};
 ghost use Rattle.zeb_change.specs.Holding.{HoldsSome};
 ghost use Rattle.zeb_change.specs.UnderWay.{IsFolded, IsUnderWay, StandsFor, conditions_of};
-ghost use Rattle.zeb_change.specs.Noted.{noted_count};
-ghost use Rattle.zeb_change.specs.PrivateAsked.{FoldsInRoom};
-ghost use Rattle.zeb_change.specs.PrivateStanding.{Folds, KeepsSome, Spends, WillBe, standing};
 
 use crate::counts::counts_are_numbers;
 use crate::pending::Pending;
@@ -52,13 +44,10 @@ fn read_record<R: Source>(
     file: u64,
     nth: u64,
 ) -> Result<bool, Refusal>
-    ensures told { (text : List ℕ) → R.remaining reader.old ≡ Some text → R.has_failed reader.new ≡ false
-        → ReadsNext file nth (next_of text) result buffer.new (R.remaining reader.new) }
+    ensures reads { ReadsRecord file nth (R.has_failed reader.new) (R.remaining reader.old) result buffer.new (R.remaining reader.new) }
     ensures failed { R.has_failed reader.new ≡ true → result ≡ Err (Refusal.ReadFault file) }
     ensures fault { (other : ℕ) → result ≡ Err (Refusal.ReadFault other) → (other ≡ file) × (R.has_failed reader.new ≡ true) }
     ensures ready { NeverUnready result }
-    ensures sound { result ≢ Err Refusal.Damaged }
-    ensures unstored { result ≢ Err Refusal.Store }
 {
     if reader.has_failed() {
         return Err(Refusal::ReadFault { file });
@@ -102,42 +91,13 @@ fn note_record<S: Alter>(
 ) -> Result<(), Refusal>
     ensures same { tx.new.conn.ghost_name ≡ tx.old.conn.ghost_name }
     ensures inside { WorksInside (state S.Store tx.old.conn.now) (state S.Store tx.new.conn.now) result }
-    ensures place { (fold.new.progress.database ≡ fold.old.progress.database) × (fold.new.progress.work ≡ fold.old.progress.work) }
-    ensures lasts { (most : ℕ) → fold.old.progress.last ≤ most → setting.now.limits.numbers ≤ most → fold.new.progress.last ≤ most }
+    ensures steps { Steps setting.now.limits fold.old.progress fold.new.progress }
+    ensures folds { OnRows (state S.Store tx.old.conn.now) (state S.Store tx.new.conn.now)
+        (FoldsRecord setting.now fold.old.progress.database.0 incoming.entry.file incoming.entry.nth incoming.entry.bytes.now
+        (at (state S.Store tx.old.conn.now) pending.old fold.old) (at (state S.Store tx.new.conn.now) pending.new fold.new) result) }
     ensures counted { OnOk result (fold.new.tally.records ≡ fold.old.tally.records + 1) }
-    ensures folded { HasCleanDisk (state S.Store tx.new.conn.now) → IsTrue (state S.Store tx.old.conn.now).in_transaction
-        → (format : Format) → Folds format setting.now fold.old fold.new (standing (state S.Store tx.old.conn.now) pending.old)
-        (standing (state S.Store tx.new.conn.now) pending.new)
-        (λ c. record_folded c setting.now.kind incoming.entry.file incoming.entry.nth incoming.entry.bytes.now) result }
-    ensures honest { HasCleanDisk (state S.Store tx.new.conn.now) → IsTrue (state S.Store tx.old.conn.now).in_transaction
-        → (format : Format) → KeepsSome format setting.now.profile.now fold.old fold.new
-        (standing (state S.Store tx.old.conn.now) pending.old) (standing (state S.Store tx.new.conn.now) pending.new) result }
     ensures unread { NoReadFault result }
     ensures ready { NeverUnready result }
-    ensures cost { HasCleanDisk (state S.Store tx.new.conn.now) → IsTrue (state S.Store tx.old.conn.now).in_transaction
-        → (format : Format) (records_of : ℤ → List Kept) (base : Base)
-        → WillBe format setting.now.profile.now fold.old.progress.database.0 records_of
-        (standing (state S.Store tx.old.conn.now) pending.old) base
-        → OnOk result ((n : ℕ) × IsCostIn setting.now.profile.now setting.now.kind incoming.entry.bytes.now base n
-        × (noted_count pending.new ≡ noted_count pending.old + n)) }
-    ensures room { HasCleanDisk (state S.Store tx.new.conn.now) → IsTrue (state S.Store tx.old.conn.now).in_transaction
-        → FoldsInRoom fold.old.progress.database.0 (standing (state S.Store tx.old.conn.now) pending.old)
-        (standing (state S.Store tx.new.conn.now) pending.new)
-        (λ most. AsksRecord setting.now.profile.now most (newer_of setting.now.kind incoming.entry.bytes.now)) result }
-    ensures elder { InStore (state S.Store tx.old.conn.now) (state S.Store tx.new.conn.now) (λ trees.
-        fold.old.tally.records < setting.now.limits.records
-        → FindsWhole setting.now.profile.now trees fold.old.progress.database.0 incoming.entry.bytes.now result) }
-    ensures passes { InStore (state S.Store tx.old.conn.now) (state S.Store tx.new.conn.now) (λ trees. OnOk result
-        (PassesOn setting.now.profile.now fold.old.progress.database.0 fold.old.progress.last fold.new.progress.last
-        (state S.Store tx.old.conn.now) (state S.Store tx.new.conn.now)
-        × IsWholeBefore setting.now.profile.now fold.old.progress.last trees fold.old.progress.database.0 incoming.entry.bytes.now)) }
-    ensures reasons { InStore (state S.Store tx.old.conn.now) (state S.Store tx.new.conn.now) (λ trees. IfErr result
-        (IsRecordRefused setting.now.profile.now setting.now.kind setting.now.limits fold.old.progress.last fold.old.tally.records trees
-        fold.old.progress.database.0 incoming.entry.file incoming.entry.nth incoming.entry.bytes.now)) }
-    ensures named { InStore (state S.Store tx.old.conn.now) (state S.Store tx.new.conn.now) (λ trees. OnOk result
-        (TakesNamed setting.now.profile.now fold.old.progress.database.0 (incoming.entry.bytes.now ∷ []) fold.old.progress.last
-        fold.old.tally.records trees fold.new.progress.last fold.new.tally.records (state S.Store tx.new.conn.now).now.trees)) }
-    ensures most { OnOk result (fold.new.tally.records ≤ setting.now.limits.records) }
 {
     if fold.tally.records >= setting.limits.records {
         return Err(Refusal::TooManyRecords);
@@ -157,41 +117,14 @@ fn take_record<S: Alter, L: Layout>(
 ) -> Result<(), Refusal>
     ensures same { tx.new.conn.ghost_name ≡ tx.old.conn.ghost_name }
     ensures inside { WorksInside (state S.Store tx.old.conn.now) (state S.Store tx.new.conn.now) result }
-    ensures database { fold.new.progress.database ≡ fold.old.progress.database }
-    ensures lasts { (most : ℕ) → fold.old.progress.last ≤ most → setting.now.limits.numbers ≤ most → fold.new.progress.last ≤ most }
+    ensures steps { Advances setting.now.limits L.row_work fold.old.progress fold.new.progress }
+    ensures takes { OnRows (state S.Store tx.old.conn.now) (state S.Store tx.new.conn.now)
+        (TakesRecord setting.now L.format L.row_work fold.old.progress.database.0
+        incoming.entry.file incoming.entry.nth incoming.entry.bytes.now
+        (at (state S.Store tx.old.conn.now) pending.old fold.old) (at (state S.Store tx.new.conn.now) pending.new fold.new) result) }
     ensures counted { OnOk result (fold.new.tally.records ≡ fold.old.tally.records + 1) }
-    ensures folded { HasCleanDisk (state S.Store tx.new.conn.now) → IsTrue (state S.Store tx.old.conn.now).in_transaction
-        → Folds L.format setting.now fold.old fold.new (standing (state S.Store tx.old.conn.now) pending.old)
-        (standing (state S.Store tx.new.conn.now) pending.new)
-        (λ c. record_folded c setting.now.kind incoming.entry.file incoming.entry.nth incoming.entry.bytes.now) result }
-    ensures honest { HasCleanDisk (state S.Store tx.new.conn.now) → IsTrue (state S.Store tx.old.conn.now).in_transaction
-        → KeepsSome L.format setting.now.profile.now fold.old fold.new (standing (state S.Store tx.old.conn.now) pending.old)
-        (standing (state S.Store tx.new.conn.now) pending.new) result }
     ensures unread { NoReadFault result }
     ensures ready { NeverUnready result }
-    ensures work { HasCleanDisk (state S.Store tx.new.conn.now) → IsTrue (state S.Store tx.old.conn.now).in_transaction
-        → Spends L.format L.row_work setting.now fold.old fold.new (standing (state S.Store tx.old.conn.now) pending.old)
-        (standing (state S.Store tx.new.conn.now) pending.new)
-        (λ c p. IsCostIn c.profile setting.now.kind incoming.entry.bytes.now p.base) result }
-    ensures no_work { L.row_work ≡ 0 → fold.new.progress.work ≡ fold.old.progress.work }
-    ensures room { HasCleanDisk (state S.Store tx.new.conn.now) → IsTrue (state S.Store tx.old.conn.now).in_transaction
-        → FoldsInRoom fold.old.progress.database.0 (standing (state S.Store tx.old.conn.now) pending.old)
-        (standing (state S.Store tx.new.conn.now) pending.new)
-        (λ most. AsksRecord setting.now.profile.now most (newer_of setting.now.kind incoming.entry.bytes.now)) result }
-    ensures elder { InStore (state S.Store tx.old.conn.now) (state S.Store tx.new.conn.now) (λ trees.
-        fold.old.tally.records < setting.now.limits.records
-        → FindsWhole setting.now.profile.now trees fold.old.progress.database.0 incoming.entry.bytes.now result) }
-    ensures passes { InStore (state S.Store tx.old.conn.now) (state S.Store tx.new.conn.now) (λ trees. OnOk result
-        (PassesOn setting.now.profile.now fold.old.progress.database.0 fold.old.progress.last fold.new.progress.last
-        (state S.Store tx.old.conn.now) (state S.Store tx.new.conn.now)
-        × IsWholeBefore setting.now.profile.now fold.old.progress.last trees fold.old.progress.database.0 incoming.entry.bytes.now)) }
-    ensures reasons { InStore (state S.Store tx.old.conn.now) (state S.Store tx.new.conn.now) (λ trees. IfErr result
-        (IsRecordRefused setting.now.profile.now setting.now.kind setting.now.limits fold.old.progress.last fold.old.tally.records trees
-        fold.old.progress.database.0 incoming.entry.file incoming.entry.nth incoming.entry.bytes.now)) }
-    ensures named { InStore (state S.Store tx.old.conn.now) (state S.Store tx.new.conn.now) (λ trees. OnOk result
-        (TakesNamed setting.now.profile.now fold.old.progress.database.0 (incoming.entry.bytes.now ∷ []) fold.old.progress.last
-        fold.old.tally.records trees fold.new.progress.last fold.new.tally.records (state S.Store tx.new.conn.now).now.trees)) }
-    ensures most { OnOk result (fold.new.tally.records ≤ setting.now.limits.records) }
 {
     note_record(tx, setting, fold, pending, incoming)?;
     let database = fold.progress.database;
@@ -202,6 +135,7 @@ fn take_record<S: Alter, L: Layout>(
         database,
         pending,
     )?;
+    counts_are_numbers(&fold.progress.work);
     Ok(())
 }
 
@@ -217,54 +151,13 @@ fn fold_file<S: Alter, L: Layout, R: Source>(
 ) -> Result<(), Refusal>
     ensures same { tx.new.conn.ghost_name ≡ tx.old.conn.ghost_name }
     ensures inside { WorksInside (state S.Store tx.old.conn.now) (state S.Store tx.new.conn.now) result }
-    ensures database { fold.new.progress.database ≡ fold.old.progress.database }
-    ensures lasts { (most : ℕ) → fold.old.progress.last ≤ most → setting.now.limits.numbers ≤ most → fold.new.progress.last ≤ most }
-    ensures folded { HasCleanDisk (state S.Store tx.new.conn.now) → IsTrue (state S.Store tx.old.conn.now).in_transaction
-        → (text : List ℕ) → R.remaining reader.old ≡ Some text → R.has_failed reader.new ≡ false
-        → Folds L.format setting.now fold.old fold.new (standing (state S.Store tx.old.conn.now) pending.old)
-        (standing (state S.Store tx.new.conn.now) pending.new)
-        (λ c. file_folded c setting.now.kind file (split_of text)) result }
-    ensures honest { HasCleanDisk (state S.Store tx.new.conn.now) → IsTrue (state S.Store tx.old.conn.now).in_transaction
-        → KeepsSome L.format setting.now.profile.now fold.old fold.new (standing (state S.Store tx.old.conn.now) pending.old)
-        (standing (state S.Store tx.new.conn.now) pending.new) result }
+    ensures steps { Advances setting.now.limits L.row_work fold.old.progress fold.new.progress }
+    ensures takes { OnRows (state S.Store tx.old.conn.now) (state S.Store tx.new.conn.now)
+        (TakesReader setting.now L.format L.row_work fold.old.progress.database.0 (R.has_failed reader.new) (R.remaining reader.old) file 1
+        (at (state S.Store tx.old.conn.now) pending.old fold.old) (at (state S.Store tx.new.conn.now) pending.new fold.new) result) }
     ensures failed { R.has_failed reader.new ≡ true → result ≡ Err (Refusal.ReadFault file) }
     ensures fault { (other : ℕ) → result ≡ Err (Refusal.ReadFault other) → (other ≡ file) × (R.has_failed reader.new ≡ true) }
     ensures ready { NeverUnready result }
-    ensures work { HasCleanDisk (state S.Store tx.new.conn.now) → IsTrue (state S.Store tx.old.conn.now).in_transaction
-        → (text : List ℕ) → R.remaining reader.old ≡ Some text
-        → Spends L.format L.row_work setting.now fold.old fold.new (standing (state S.Store tx.old.conn.now) pending.old)
-        (standing (state S.Store tx.new.conn.now) pending.new)
-        (λ c p. IsSlicesCost c setting.now.kind file 1 (split_of text).slices p) result }
-    ensures no_work { L.row_work ≡ 0 → fold.new.progress.work ≡ fold.old.progress.work }
-    ensures room { HasCleanDisk (state S.Store tx.new.conn.now) → IsTrue (state S.Store tx.old.conn.now).in_transaction
-        → (text : List ℕ) → R.remaining reader.old ≡ Some text
-        → FoldsInRoom fold.old.progress.database.0 (standing (state S.Store tx.old.conn.now) pending.old)
-        (standing (state S.Store tx.new.conn.now) pending.new)
-        (λ most. AskSlices setting.now.profile.now setting.now.kind most (split_of text).slices) result }
-    ensures elder { InStore (state S.Store tx.old.conn.now) (state S.Store tx.new.conn.now) (λ trees.
-        fold.old.tally.records < setting.now.limits.records
-        → (text : List ℕ) → R.remaining reader.old ≡ Some text → R.has_failed reader.new ≡ false
-        → OfFirst (λ slice. FindsWhole setting.now.profile.now trees fold.old.progress.database.0 slice result) (split_of text).slices) }
-    ensures empty { InStore (state S.Store tx.old.conn.now) (state S.Store tx.new.conn.now) (λ _.
-        fold.old.tally.records < setting.now.limits.records
-        → (text : List ℕ) → R.remaining reader.old ≡ Some text → R.has_failed reader.new ≡ false
-        → PassesEmpty (split_of text) (state S.Store tx.old.conn.now) (state S.Store tx.new.conn.now) fold.old fold.new result) }
-    ensures passes { InStore (state S.Store tx.old.conn.now) (state S.Store tx.new.conn.now) (λ trees. OnOk result
-        (PassesOn setting.now.profile.now fold.old.progress.database.0 fold.old.progress.last fold.new.progress.last
-        (state S.Store tx.old.conn.now) (state S.Store tx.new.conn.now)
-        × ((text : List ℕ) → R.remaining reader.old ≡ Some text
-        → AreWholeBefore setting.now.profile.now fold.old.progress.last trees fold.old.progress.database.0 (split_of text).slices))) }
-    ensures reasons { InStore (state S.Store tx.old.conn.now) (state S.Store tx.new.conn.now) (λ trees. (text : List ℕ)
-        → R.remaining reader.old ≡ Some text → R.has_failed reader.new ≡ false → IfErr result (λ refusal. IsDamageOrFailure refusal
-        ⊎ IsRefusedIn setting.now.profile.now setting.now.kind setting.now.limits fold.old.progress.last fold.old.tally.records trees
-        fold.old.progress.database.0 file (split_of text) refusal)) }
-    ensures named { InStore (state S.Store tx.old.conn.now) (state S.Store tx.new.conn.now) (λ trees. (text : List ℕ)
-        → R.remaining reader.old ≡ Some text → OnOk result
-        (TakesNamed setting.now.profile.now fold.old.progress.database.0 (split_of text).slices fold.old.progress.last
-        fold.old.tally.records trees fold.new.progress.last fold.new.tally.records (state S.Store tx.new.conn.now).now.trees
-        × ((split_of text).fault ≡ None))) }
-    ensures most { OnOk result (fold.old.tally.records ≤ setting.now.limits.records
-        → fold.new.tally.records ≤ setting.now.limits.records) }
 {
     for nth in 1..u64::MAX {
         if !read_record(reader, buffer, file, nth)? {
@@ -276,7 +169,6 @@ fn fold_file<S: Alter, L: Layout, R: Source>(
             nth,
         };
         take_record::<S, L>(tx, setting, fold, pending, incoming)?;
-        counts_are_numbers(&fold.progress.work);
     }
     Ok(())
 }
@@ -292,57 +184,53 @@ fn fold_readers<S: Alter, L: Layout, R: Source>(
 ) -> Result<(), Refusal>
     ensures same { tx.new.conn.ghost_name ≡ tx.old.conn.ghost_name }
     ensures inside { WorksInside (state S.Store tx.old.conn.now) (state S.Store tx.new.conn.now) result }
-    ensures database { fold.new.progress.database ≡ fold.old.progress.database }
-    ensures lasts { (most : ℕ) → fold.old.progress.last ≤ most → setting.now.limits.numbers ≤ most → fold.new.progress.last ≤ most }
-    ensures folded { HasCleanDisk (state S.Store tx.new.conn.now) → IsTrue (state S.Store tx.old.conn.now).in_transaction
-        → (texts : List (List ℕ)) → map R.remaining readers.old ≡ map Some texts → NoneFailed R.has_failed readers.new
-        → Folds L.format setting.now fold.old fold.new (standing (state S.Store tx.old.conn.now) pending.old)
-        (standing (state S.Store tx.new.conn.now) pending.new)
-        (λ c. files_folded c setting.now.kind 1 (splits_of texts)) result }
-    ensures honest { HasCleanDisk (state S.Store tx.new.conn.now) → IsTrue (state S.Store tx.old.conn.now).in_transaction
-        → KeepsSome L.format setting.now.profile.now fold.old fold.new (standing (state S.Store tx.old.conn.now) pending.old)
-        (standing (state S.Store tx.new.conn.now) pending.new) result }
+    ensures steps { Advances setting.now.limits L.row_work fold.old.progress fold.new.progress }
+    ensures takes { OnRows (state S.Store tx.old.conn.now) (state S.Store tx.new.conn.now)
+        (OfReaders (NoneFailed R.has_failed readers.new) (map R.remaining readers.old)
+        (λ splits. TakesFiles setting.now L.format L.row_work fold.old.progress.database.0 1 splits
+        (at (state S.Store tx.old.conn.now) pending.old fold.old) (at (state S.Store tx.new.conn.now) pending.new fold.new)) result) }
     ensures failed { TellsFailed R.has_failed readers.old readers.new result }
     ensures fault { BlamesFailed R.has_failed readers.new result }
     ensures ready { NeverUnready result }
-    ensures work { HasCleanDisk (state S.Store tx.new.conn.now) → IsTrue (state S.Store tx.old.conn.now).in_transaction
-        → (texts : List (List ℕ)) → map R.remaining readers.old ≡ map Some texts
-        → Spends L.format L.row_work setting.now fold.old fold.new (standing (state S.Store tx.old.conn.now) pending.old)
-        (standing (state S.Store tx.new.conn.now) pending.new)
-        (λ c p. IsFilesCost c setting.now.kind 1 (splits_of texts) p) result }
-    ensures no_work { L.row_work ≡ 0 → fold.new.progress.work ≡ fold.old.progress.work }
-    ensures room { HasCleanDisk (state S.Store tx.new.conn.now) → IsTrue (state S.Store tx.old.conn.now).in_transaction
-        → (texts : List (List ℕ)) → map R.remaining readers.old ≡ map Some texts
-        → FoldsInRoom fold.old.progress.database.0 (standing (state S.Store tx.old.conn.now) pending.old)
-        (standing (state S.Store tx.new.conn.now) pending.new)
-        (λ most. AskFiles setting.now.profile.now setting.now.kind most (splits_of texts)) result }
-    ensures elder { InStore (state S.Store tx.old.conn.now) (state S.Store tx.new.conn.now) (λ trees.
-        fold.old.tally.records < setting.now.limits.records
-        → (texts : List (List ℕ)) → map R.remaining readers.old ≡ map Some texts → NoneFailed R.has_failed readers.new
-        → FirstFindsWhole setting.now.profile.now trees fold.old.progress.database.0 (splits_of texts) result) }
-    ensures elders { InStore (state S.Store tx.old.conn.now) (state S.Store tx.new.conn.now) (λ trees. (texts : List (List ℕ))
-        → map R.remaining readers.old ≡ map Some texts
-        → OnOk result (AllFindWhole setting.now.profile.now fold.old.progress.last trees fold.old.progress.database.0 (splits_of texts))) }
-    ensures passes { InStore (state S.Store tx.old.conn.now) (state S.Store tx.new.conn.now) (λ _. OnOk result
-        (PassesOn setting.now.profile.now fold.old.progress.database.0 fold.old.progress.last fold.new.progress.last
-        (state S.Store tx.old.conn.now) (state S.Store tx.new.conn.now))) }
-    ensures reasons { InStore (state S.Store tx.old.conn.now) (state S.Store tx.new.conn.now) (λ trees. (texts : List (List ℕ))
-        → map R.remaining readers.old ≡ map Some texts → NoneFailed R.has_failed readers.new
-        → IfErr result (IsRefusedFor setting.now.profile.now setting.now.kind setting.now.limits fold.old.progress.last
-        fold.old.tally.records trees fold.old.progress.database.0 (splits_of texts))) }
-    ensures named { InStore (state S.Store tx.old.conn.now) (state S.Store tx.new.conn.now) (λ trees. (texts : List (List ℕ))
-        → map R.remaining readers.old ≡ map Some texts
-        → OnOk result (TakesNamed setting.now.profile.now fold.old.progress.database.0
-        (flat_map (λ (split : Split). split.slices) (splits_of texts)) fold.old.progress.last fold.old.tally.records trees
-        fold.new.progress.last fold.new.tally.records (state S.Store tx.new.conn.now).now.trees)) }
-    ensures most { OnOk result (fold.old.tally.records ≤ setting.now.limits.records
-        → fold.new.tally.records ≤ setting.now.limits.records) }
 {
     for (index, reader) in readers.iter_mut().enumerate() {
         let file = index as u64 + 1;
         fold_file::<S, L, R>(tx, setting, fold, pending, buffer, reader, file)?;
-        counts_are_numbers(&fold.progress.work);
     }
+    Ok(())
+}
+
+/// Folds in the records of all files, in their order, and then writes all changes of keys that are noted.
+fn take_files<S: Alter, L: Layout, R: Source>(
+    tx: &mut Transaction<'_, S>,
+    setting: &Setting<'_>,
+    fold: &mut Fold,
+    pending: &mut Pending,
+    buffer: &mut RecordBuf,
+    readers: &mut [R],
+) -> Result<(), Refusal>
+    ensures same { tx.new.conn.ghost_name ≡ tx.old.conn.ghost_name }
+    ensures inside { WorksInside (state S.Store tx.old.conn.now) (state S.Store tx.new.conn.now) result }
+    ensures steps { Advances setting.now.limits L.row_work fold.old.progress fold.new.progress }
+    ensures changes { OnRows (state S.Store tx.old.conn.now) (state S.Store tx.new.conn.now)
+        (OfReaders (NoneFailed R.has_failed readers.new) (map R.remaining readers.old)
+        (λ splits. ChangesFiles setting.now L.format L.row_work fold.old.progress.database.0 splits
+        (at (state S.Store tx.old.conn.now) pending.old fold.old) (at (state S.Store tx.new.conn.now) pending.new fold.new)) result) }
+    ensures all { OnOk result (IsNothingNoted pending.new) }
+    ensures failed { TellsFailed R.has_failed readers.old readers.new result }
+    ensures fault { BlamesFailed R.has_failed readers.new result }
+    ensures ready { NeverUnready result }
+{
+    fold_readers::<S, L, R>(tx, setting, fold, pending, buffer, readers)?;
+    let database = fold.progress.database;
+    write_pending::<S, L>(
+        tx,
+        setting.alloc,
+        &mut fold.progress.work,
+        database,
+        pending,
+    )?;
+    counts_are_numbers(&fold.progress.work);
     Ok(())
 }
 
@@ -391,13 +279,6 @@ pub fn fold_files<S: Alter, L: Layout, R: Source>(
     ensures no_work { L.row_work ≡ 0 → fold.new.progress.work ≡ fold.old.progress.work }
     // The last number rises no further than the limit, whatever is answered.
     ensures lasts { (most : ℕ) → fold.old.progress.last ≤ most → setting.now.limits.numbers ≤ most → fold.new.progress.last ≤ most }
-    // Whatever rows the tables have: where they have room for what the files ask for, a failed store has a cause.
-    ensures room { InStore (state S.Store tx.old.conn.now) (state S.Store tx.new.conn.now) (λ trees. (texts : List (List ℕ))
-        → map R.remaining readers.old ≡ map Some texts → (places rowids : ℕ)
-        → AskFiles setting.now.profile.now setting.now.kind places (splits_of texts) places rowids
-        → HasRoom places trees → HasRowids rowids records_tree trees → rowids < 2 ^ 63
-        → HasSystemNumbers trees fold.old.progress.database.0
-        → result ≡ Err Refusal.Store → MayRefuse (state S.Store tx.old.conn.now) (state S.Store tx.new.conn.now)) }
     // And whatever rows they have: refused, but for damage and a failure, it is so for the reason at the first place of the files that has
     // one, by what stands there and by the limits.
     ensures reasons { InStore (state S.Store tx.old.conn.now) (state S.Store tx.new.conn.now) (λ trees. (texts : List (List ℕ))
@@ -432,16 +313,7 @@ pub fn fold_files<S: Alter, L: Layout, R: Source>(
         (PassesOn setting.now.profile.now fold.old.progress.database.0 fold.old.progress.last fold.new.progress.last
         (state S.Store tx.old.conn.now) (state S.Store tx.new.conn.now))) }
 {
-    let mut pending = Pending::new(setting.alloc, MOST_NOTED);
-    fold_readers::<S, L, R>(tx, setting, fold, &mut pending, buffer, readers)?;
-    let database = fold.progress.database;
-    write_pending::<S, L>(
-        tx,
-        setting.alloc,
-        &mut fold.progress.work,
-        database,
-        &mut pending,
-    )?;
     counts_are_numbers(&fold.progress.work);
-    Ok(())
+    let mut pending = Pending::new(setting.alloc, MOST_NOTED);
+    take_files::<S, L, R>(tx, setting, fold, &mut pending, buffer, readers)
 }

@@ -1,15 +1,8 @@
 //! What becomes of the keys of one record, noted to be written later.
 
-ghost use Rattle.std.specs.Prelude.{◌≡◌, ◌+◌, ◌<◌, ◌≤◌, ◌^◌, ℕ, ℤ, length, OnOk};
-ghost use Rattle.std.specs.List.{Contains};
+ghost use Rattle.std.specs.Prelude.{OnOk};
 ghost use Rattle.zeb_keys.specs.Order.{IsRising};
-ghost use Rattle.zeb_register.specs.Content.{Content, HasRisingLists};
-ghost use Rattle.zeb_keys.specs.declared.keys.Occurrence.{Occurrence};
-ghost use Rattle.zeb_register.specs.Room.{FitInRow};
-ghost use Rattle.zeb_change.specs.Asked.{IsStorableOccurrence, PutAmong};
-ghost use Rattle.zeb_change.specs.Costs.{IsRecordCost};
-ghost use Rattle.zeb_change.specs.Noted.{LeadsTo, noted_count};
-ghost use Rattle.zeb_change.specs.Reposted.{ArePostingsOf, AreTheSame, IsReposted};
+ghost use Rattle.zeb_change.specs.NotedKeys.{NotesKeys};
 
 use crate::changed_keys::changed_keys;
 use crate::pending::Pending;
@@ -29,20 +22,8 @@ pub fn note_keys(
     elder: &[Occurrence],
     newer: &[Occurrence],
 ) -> Result<(), AllocError>
-    ensures moved { IsRising elder.now → IsRising newer.now
-        → OnOk result ((db : ℤ) (behind before after : Content) → LeadsTo db pending.old behind before → HasRisingLists before
-        → ArePostingsOf sysno elder.now (before db) → IsReposted db sysno newer.now before after
-        → LeadsTo db pending.new behind after) }
-    ensures idle { IsRising elder.now → IsRising newer.now → AreTheSame elder.now newer.now
-        → OnOk result (pending.new ≡ pending.old) }
-    ensures cost { IsRising elder.now → IsRising newer.now
-        → OnOk result ((n : ℕ) × IsRecordCost (Contains elder.now) (Contains newer.now) n
-        × (noted_count pending.new ≡ noted_count pending.old + n)) }
-    ensures room { (bound n : ℕ) → IsRising elder.now → IsRising newer.now → 1 ≤ sysno → sysno < 2 ^ 63
-        → ((o : Occurrence) → Contains newer.now o → IsStorableOccurrence o)
-        → ((o : Occurrence) → Contains elder.now o → FitInRow 0 o.key) → ((o : Occurrence) → Contains newer.now o → FitInRow bound o.key)
-        → PutAmong bound pending.old.notes.entries n
-        → OnOk result ((more : ℕ) × (more ≤ length newer.now) × PutAmong bound pending.new.notes.entries (n + more)) }
+    ensures { IsRising elder.now → IsRising newer.now
+        → OnOk result (NotesKeys sysno elder.now newer.now pending.old pending.new) }
 {
     let changed_keys = changed_keys(alloc, elder, newer)?;
     for changed in changed_keys {

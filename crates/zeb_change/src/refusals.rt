@@ -51,10 +51,9 @@ pub enum Refusal {
     ReadFault {
         file: u64,
     },
-    /// The store failed.
+    /// The store failed. Where it did so at a commit, what is seen is as before, but what was to be committed may be on the disk, where a
+    /// crash leaves it.
     Store,
-    /// The store failed at a commit: what is seen is as before, but what was to be committed may be on the disk, where a crash leaves it.
-    Commit,
     /// Memory ran out.
     Memory,
 }
@@ -69,14 +68,14 @@ impl From<AllocError> for Refusal {
     }
 }
 
-/// The engine itself asks only a commit of the store: whoever opens one tells a failed open as `Store`.
+/// The engine itself asks only a commit of the store: whoever opens one tells a failed open in the same way.
 impl From<sqlite::Error> for Refusal {
-    ghost use Rattle.zeb_change.specs.declared.refusals.Refusal.TheVariants.{Commit};
+    ghost use Rattle.zeb_change.specs.declared.refusals.Refusal.TheVariants.{Store};
 
-    ghost from_gives = { λ _ refusal. refusal ≡ Commit };
+    ghost from_gives = { λ _ refusal. refusal ≡ Store };
 
     fn from(_error: sqlite::Error) -> Refusal {
-        Refusal::Commit
+        Refusal::Store
     }
 }
 

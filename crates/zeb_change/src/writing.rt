@@ -1,17 +1,15 @@
 //! Noted changes of keys, written into the registers key by key.
 
-ghost use Rattle.std.specs.Prelude.{◌≡◌, ◌+◌, ℕ, List, [], ◌∷◌, Err, IsTrue, OnOk, IfOk, length, map};
+ghost use Rattle.std.specs.Prelude.{◌≡◌, List, [], ◌∷◌, Err, IsTrue, OnOk, IfOk, length, map};
 ghost use Rattle.sqlite.specs.declared.types.Value.TheVariants.{Int};
 ghost use Rattle.sqlite.specs.Held.{state};
 ghost use Rattle.sqlite.specs.State.{HasCleanDisk};
-ghost use Rattle.zeb_register.specs.Calls.{GoesOn, Inside, MayRefuse};
+ghost use Rattle.zeb_register.specs.Calls.{GoesOn, Inside};
 ghost use Rattle.zeb_register.specs.Clauses.{InStore};
 ghost use Rattle.zeb_register.specs.Content.{Content, IsStorable};
 ghost use Rattle.zeb_register.specs.Formats.{holds_in};
-ghost use Rattle.zeb_register.specs.Room.{HasRoom};
 ghost use Rattle.zeb_register.specs.Sound.{KeepsMalformed, KeepsRowsBeside};
 ghost use Rattle.zeb_register.specs.Store.{IsStore, KeepsLists};
-ghost use Rattle.zeb_change.specs.Asked.{FitsPut, PutsPlaces, WritesInRoom};
 ghost use Rattle.zeb_change.specs.Costs.{IsWorkFor};
 ghost use Rattle.zeb_change.specs.NoteWords.{KeyChange};
 ghost use Rattle.zeb_change.specs.Noted.{IsNothingNoted, Settles};
@@ -91,10 +89,6 @@ fn write_key<S: Alter, L: Layout>(
         (KeepsMalformed trees (state S.Store tx.new.conn.now).now.trees)) }
     ensures beside { InStore (state S.Store tx.old.conn.now) (state S.Store tx.new.conn.now) (λ trees. OnOk result
         (KeepsRowsBeside (Int db.0 ∷ []) trees (state S.Store tx.new.conn.now).now.trees)) }
-    ensures room { (n left : ℕ) → PutsPlaces notes.now n → FitsPut (n + left) n key.now
-        → InStore (state S.Store tx.old.conn.now) (state S.Store tx.new.conn.now) (λ trees. HasRoom (n + left) trees
-        → (result ≡ Err RegFault.Store → MayRefuse (state S.Store tx.old.conn.now) (state S.Store tx.new.conn.now))
-        × OnOk result (HasRoom left (state S.Store tx.new.conn.now).now.trees)) }
 {
     let (counts, places) = notes.read(alloc)?;
     let given = given(alloc, &counts, &places)?;
@@ -118,7 +112,6 @@ pub fn write_pending<S: Alter, L: Layout>(
     ensures call { Settles L.format L.row_work db.0 (state S.Store tx.old.conn.now) (state S.Store tx.new.conn.now) pending.old pending.new
         work.old work.new result }
     ensures all { OnOk result (IsNothingNoted pending.new) }
-    ensures room { WritesInRoom (state S.Store tx.old.conn.now) (state S.Store tx.new.conn.now) pending.old pending.new result }
     ensures malformed { InStore (state S.Store tx.old.conn.now) (state S.Store tx.new.conn.now) (λ trees. OnOk result
         (KeepsMalformed trees (state S.Store tx.new.conn.now).now.trees)) }
     ensures beside { InStore (state S.Store tx.old.conn.now) (state S.Store tx.new.conn.now) (λ trees. OnOk result
@@ -144,7 +137,6 @@ pub fn write_where_full<S: Alter, L: Layout>(
     ensures same { tx.new.conn.ghost_name ≡ tx.old.conn.ghost_name }
     ensures call { Settles L.format L.row_work db.0 (state S.Store tx.old.conn.now) (state S.Store tx.new.conn.now) pending.old pending.new
         work.old work.new result }
-    ensures room { WritesInRoom (state S.Store tx.old.conn.now) (state S.Store tx.new.conn.now) pending.old pending.new result }
     ensures malformed { InStore (state S.Store tx.old.conn.now) (state S.Store tx.new.conn.now) (λ trees. OnOk result
         (KeepsMalformed trees (state S.Store tx.new.conn.now).now.trees)) }
     ensures beside { InStore (state S.Store tx.old.conn.now) (state S.Store tx.new.conn.now) (λ trees. OnOk result

@@ -1,14 +1,6 @@
 -- The refusals of an analysis are of the files' texts.
-use Rattle.std.proofs.Common.{ℕ, List, Some, Err}
-use Rattle.zeb_profile.specs.declared.directives.Directive.{Directive}
-use Rattle.zeb_marc.specs.declared.faults.MarcFault.{MarcFault}
+use Rattle.zeb_engine.proofs.Cited.{ℕ, List, Some, Err, Directive, MarcFault, AnalysisFault, Marc, AnalysesTo, standing_in_all, IsRefusal, first_counts, refusal_at_place}
 use Rattle.zeb_marc.specs.declared.faults.MarcFault.TheVariants as marc
-use Rattle.zeb_analysis.specs.declared.faults.AnalysisFault.{AnalysisFault}
-use Rattle.zeb_analysis.specs.declared.faults.AnalysisFault.TheVariants.{Marc}
-use Rattle.zeb_analysis.specs.Analysing.{AnalysesTo, standing_in_all}
-use Rattle.zeb_analysis.specs.Laws.{IsRefusal}
-use Rattle.zeb_analysis.proofs.FirstRefusals.{first_counts}
-use Rattle.zeb_analysis.proofs.RefusalKinds.{refusal_at_place}
 use Rattle.zeb_engine.proofs.FaultAnswers.{IsOfText}
 
 pub refusal_of_texts : (profile : List Directive) (limit : ℕ) (texts : List (List ℕ)) (fault : AnalysisFault) → AnalysesTo profile limit texts (Err fault) → IsRefusal fault

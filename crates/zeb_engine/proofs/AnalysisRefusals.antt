@@ -1,17 +1,7 @@
 -- How an analysis is refused.
-use Rattle.std.proofs.Common.{◌≡◌, ◌≢◌, ◌⊎◌, ℕ, List, Result, Err, inl, inr, refl, subst}
-use Rattle.zeb_profile.specs.declared.directives.Directive.{Directive}
-use Rattle.zeb_analysis.specs.declared.faults.AnalysisFault.{AnalysisFault}
+use Rattle.zeb_engine.proofs.Cited.{◌≡◌, ◌≢◌, ◌⊎◌, ℕ, List, Result, Err, inl, inr, refl, subst, Directive, AnalysisFault, AnalysesTo, IsRefusal, Reply, Refusal, IsAnalysed, refused, why_of, analysis_refusal}
 use Rattle.zeb_analysis.specs.declared.faults.AnalysisFault.TheVariants as analysis
-use Rattle.zeb_analysis.specs.Analysing.{AnalysesTo}
-use Rattle.zeb_analysis.specs.Laws.{IsRefusal}
-use Rattle.zeb_engine.specs.declared.replies.Reply.{Reply}
-use Rattle.zeb_change.specs.declared.refusals.Refusal.{Refusal}
 use Rattle.zeb_change.specs.declared.refusals.Refusal.TheVariants as refusal
-use Rattle.zeb_engine.specs.Analysed.{IsAnalysed}
-use Rattle.zeb_engine.specs.Answers.{refused}
-use Rattle.zeb_change.specs.Refused.{why_of}
-use Rattle.zeb_change.specs.Outcomes.{analysis_refusal}
 use Rattle.zeb_engine.proofs.AnalysisAnswers.{refusal_of_texts}
 use Rattle.zeb_engine.proofs.OwnAnswers.{IsOwn, analysis_own}
 

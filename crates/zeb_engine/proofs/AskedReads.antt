@@ -1,33 +1,5 @@
 -- What a find or a scan reads, step by step.
-use Rattle.std.proofs.Common.{◌≡◌, ℕ, ◌+◌, ◌-◌, ◌*◌, ◌≤◌, List, Result, Ok, Err, OnOk, String, arith, filter, length, sym, string_bytes, subst, subst₂, take}
-use Rattle.std.proofs.lemmas.List.{length-drop, length-take}
-use Rattle.std.specs.declared.alloc.Global.{Global}
-use Rattle.std.proofs.Math.Nat.{mul-add, mul-le-mul_left}
-use Rattle.sqlite.specs.Effect.{Database}
-use Rattle.sqlite.specs.State.{State}
-use Rattle.sqlite.specs.Tree.{Trees}
-use Rattle.zeb_profile.specs.declared.directives.Directive.{Directive}
-use Rattle.zeb_keys.specs.declared.Register.{Register}
-use Rattle.zeb_keys.specs.declared.keys.Occurrence.{Occurrence}
-use Rattle.zeb_register.specs.declared.registers.TermCount.{TermCount}
-use Rattle.zeb_register.specs.declared.registers.Work.{Work}
-use Rattle.zeb_register.specs.Calls.{ChangesNothing}
-use Rattle.zeb_register.specs.Content.{Content, Posting}
-use Rattle.zeb_register.specs.Formats.{Format, holds_in}
-use Rattle.zeb_register.specs.Occurring.{AreTermsBefore, AreTermsFrom, is_before, is_from, last}
-use Rattle.zeb_register.specs.Store.{IsStore}
-use Rattle.zeb_register.specs.Tallies.{Works}
-use Rattle.zeb_register.proofs.Calls.{store_same}
-use Rattle.zeb_search.specs.SearchCounts.{CountsAtMost}
-use Rattle.zeb_search.proofs.SearchCountLemmas.{counts_then, counts_within, terms_count}
-use Rattle.zeb_change.specs.declared.refusals.Refusal.{Refusal}
-use Rattle.zeb_image.specs.declared.names.DbName.{DbName}
-use Rattle.zeb_image.specs.NameOf.{name_bytes}
-use Rattle.zeb_engine.specs.declared.commands.Command.TheVariants.{Find, Scan}
-use Rattle.zeb_engine.specs.declared.replies.Reply.{Reply}
-use Rattle.zeb_engine.specs.Adopting.{StaysOpen}
-use Rattle.zeb_engine.specs.Costs.{no_work}
-use Rattle.zeb_engine.specs.Reads.{CommandReads, FindReads, ScanReads}
+use Rattle.zeb_engine.proofs.Cited.{◌≡◌, ℕ, ◌+◌, ◌-◌, ◌*◌, ◌≤◌, List, Result, Ok, Err, OnOk, String, arith, filter, length, sym, string_bytes, subst, subst₂, take, length-drop, length-take, Global, mul-add, mul-le-mul_left, Database, State, Trees, Directive, Register, Occurrence, TermCount, Work, ChangesNothing, Content, Posting, Format, holds_in, AreTermsBefore, AreTermsFrom, is_before, is_from, last, IsStore, Works, store_same, CountsAtMost, counts_then, counts_within, terms_count, Refusal, DbName, name_bytes, Find, Scan, Reply, StaysOpen, no_work, CommandReads, FindReads, ScanReads}
 
 -- the first of a list, and the last, are at most so many
 first_few : {X : Type 0} (n : ℕ) (xs : List X) → length (take n xs) ≤ n

@@ -1,27 +1,7 @@
 -- The texts of a register, and the tables that `init` leaves.
-use Rattle.std.proofs.Common.{◌≡◌, ◌≢◌, ◌⊎◌, ◌∙◌, ℕ, pos, List, [], ◌∷◌, codes, get_or, Some, refl, sym, ap, subst, inl, inr, arith, IsUtf8}
+use Rattle.zeb_engine.proofs.Cited.{◌≡◌, ◌≢◌, ◌⊎◌, ◌∙◌, ℕ, pos, List, [], ◌∷◌, codes, get_or, Some, refl, sym, ap, subst, inl, inr, arith, IsUtf8, option_map, Int, Null, Text, Trees, State, Has, has_contained, Directive, identifier_pattern, canonical_text, pattern_text, posting_cmp, HasRow, Replaces, IsEmptyStore, Changes, LacksRegisters, meta_tree, entry, IsEntryOf, record_row, IsProfile, registers_empty, Conditions, AreSessions, HasTexts, AreBases, IsImage, IsImageOf, holding, AreOf, PutsTexts, Format, holds_in, version_of}
 use Rattle.std.specs.List.Sorted.{IsStrictlySortedBy}
-use Rattle.std.specs.Option.{option_map}
-use Rattle.sqlite.specs.declared.types.Value.TheVariants.{Int, Null, Text}
-use Rattle.sqlite.specs.Tree.{Trees}
-use Rattle.sqlite.specs.State.{State}
-use Rattle.sqlite_rules.specs.Lists.{Has}
-use Rattle.sqlite_rules.proofs.ListLemmas.{has_contained}
-use Rattle.zeb_profile.specs.declared.directives.Directive.{Directive}
-use Rattle.zeb_profile.specs.Indexes.{identifier_pattern}
-use Rattle.zeb_profile.specs.Canonical.{canonical_text, pattern_text}
-use Rattle.zeb_register.specs.Content.{posting_cmp}
-use Rattle.zeb_register.specs.Sql.{HasRow, Replaces}
-use Rattle.zeb_register.specs.Store.{IsEmptyStore, Changes, LacksRegisters, meta_tree, entry, IsEntryOf, record_row}
-use Rattle.zeb_profile.specs.Laws.{IsProfile}
-use Rattle.zeb_register.proofs.FormatLemmas.{registers_empty}
 use Rattle.zeb_engine.proofs.ReadyImages.{ready_image}
-use Rattle.zeb_change.specs.Conditions.{Conditions}
-use Rattle.zeb_change.specs.PrivateConditions.{AreSessions}
-use Rattle.zeb_image.specs.Image.{HasTexts, AreBases, IsImage, IsImageOf}
-use Rattle.zeb_engine.specs.Steps.{holding}
-use Rattle.zeb_engine.specs.PrivateWriting.{AreOf, PutsTexts}
-use Rattle.zeb_register.specs.Formats.{Format, holds_in, version_of}
 
 -- the rows of the texts are told by their table alone
 pub texts_still : (old new : Trees) (version text pattern : List ℕ) → new meta_tree ≡ old meta_tree → HasTexts old version text pattern → HasTexts new version text pattern

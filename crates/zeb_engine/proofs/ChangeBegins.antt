@@ -1,29 +1,11 @@
 -- What the tables know of a name, and the database that a change begins with.
-use Rattle.std.proofs.Common.{◌≡◌, ◌⊎◌, ◌∙◌, ℕ, pos, List, Option, Some, None, Result, Ok, Err, IsTrue, refl, sym, subst, inl, inr}
-use Rattle.sqlite.specs.Effect.{Database as Contents}
-use Rattle.sqlite.specs.State.{State}
-use Rattle.zeb_marc.specs.Splits.{Split}
+use Rattle.zeb_engine.proofs.Cited.{◌≡◌, ◌⊎◌, ◌∙◌, ℕ, pos, List, Option, Some, None, Result, Ok, Err, IsTrue, refl, sym, subst, inl, inr, Contents, State, Split, ChangesNothing, IsDatabaseOf, HasDatabase, Kind, Update, Setting, Refusal, Why, why_of, Meets, refused, IsFailure, MayBeginUnder, MayBegin, Conditions, Holdings, base_named, Base, IsImage, Keeps, start_of, Format}
 use Rattle.zeb_register.specs.declared.catalog.Database.{Database}
-use Rattle.zeb_register.specs.Calls.{ChangesNothing}
-use Rattle.zeb_register.specs.Catalog.{IsDatabaseOf}
-use Rattle.zeb_register.specs.Store.{HasDatabase}
-use Rattle.zeb_change.specs.declared.settings.Kind.{Kind}
-use Rattle.zeb_change.specs.declared.settings.Kind.TheVariants.{Update}
-use Rattle.zeb_change.specs.declared.settings.Setting.{Setting}
-use Rattle.zeb_change.specs.declared.refusals.Refusal.{Refusal}
-use Rattle.zeb_change.specs.Refused.{Why, why_of, Meets}
-use Rattle.zeb_engine.specs.Answers.{refused, IsFailure}
-use Rattle.zeb_engine.specs.PrivateChanging.{MayBeginUnder, MayBegin}
-use Rattle.zeb_change.specs.Conditions.{Conditions}
-use Rattle.zeb_image.specs.Holdings.{Holdings, base_named}
-use Rattle.zeb_change.specs.Base.{Base}
-use Rattle.zeb_image.specs.Image.{IsImage, Keeps}
-use Rattle.zeb_engine.specs.Steps.{changed_by_files, ready, start_of, turned}
+use Rattle.zeb_engine.specs.Steps.{changed_by_files, ready, turned}
 use Rattle.zeb_engine.proofs.ListedDatabases.{none_named, row_named}
 use Rattle.zeb_engine.proofs.ServesLemmas.{keeps_still}
 use Rattle.zeb_engine.proofs.TurnedOutcomes.{step_unbegun}
 use Rattle.zeb_engine.proofs.ReadyImages.{image_some}
-use Rattle.zeb_register.specs.Formats.{Format}
 
 -- a call that gave what it was to give
 start_met : {A X : Type 0} (Good : A → X → Type 0) (said : Result A Why) (x : X) → Meets Good said (Ok x) → (a : A) × Good a x

@@ -1,37 +1,6 @@
 -- What a change finds kept under the identifiers of its records, and what it leaves, step by step.
-use Rattle.std.proofs.Common.{◌≡◌, ◌≢◌, ◌↔◌, ◌⊎◌, ◌∙◌, ℕ, ℤ, pos, List, [], ◌∷◌, Option, Some, None, Result, Ok, Err, arith, inl, inr, refl, sym, subst, subst₂}
-use Rattle.std.specs.List.{flat_map}
-use Rattle.sqlite.specs.declared.types.Value.TheVariants.{Int}
-use Rattle.sqlite.specs.Effect.{Database}
-use Rattle.sqlite.specs.Order.{Row}
-use Rattle.sqlite.specs.State.{State}
-use Rattle.sqlite.specs.Tree.{Trees}
-use Rattle.zeb_marc.specs.Splits.{Split}
-use Rattle.zeb_profile.specs.declared.directives.Directive.{Directive}
-use Rattle.zeb_register.specs.Calls.{ChangesNothing}
+use Rattle.zeb_engine.proofs.Cited.{◌≡◌, ◌≢◌, ◌↔◌, ◌⊎◌, ◌∙◌, ℕ, ℤ, pos, List, [], ◌∷◌, Option, Some, None, Result, Ok, Err, arith, inl, inr, refl, sym, subst, subst₂, flat_map, Int, Database, Row, State, Trees, Split, Directive, ChangesNothing, IsDatabaseOf, PutsDatabase, KeepsBeside, KeepsMalformed, KeepsRowsBeside, HasRow, Changes, HasDatabase, HasRecord, IsStore, blocks_tree, databases_tree, dict_tree, meta_tree, postings_tree, store_same, malformed_same, malformed_then, one_last, Refusal, Kind, Update, Limits, AllFindWhole, FirstFindsWhole, IsUpTo, KeepsAside, KeepsWhole, LosesWholeAlone, PassesOn, splits_of, LosesNamedAlone, NamesAny, why_of, passed_error, files_find, StaysOpen, IsFailure, refused, AreFewRecords, EachFindsWhole, ElderOver, EldersOver, HasNumbersTo, IsOrBecomes, LeavesRows, LosesNamedOver, LosesWhole, BeginsWith, last_of, MissesDatabase}
 use Rattle.zeb_register.specs.declared.catalog.Database as catalog
-use Rattle.zeb_register.specs.Catalog.{IsDatabaseOf, PutsDatabase}
-use Rattle.zeb_register.specs.Sound.{KeepsBeside, KeepsMalformed, KeepsRowsBeside}
-use Rattle.zeb_register.specs.Sql.{HasRow}
-use Rattle.zeb_register.specs.Store.{Changes, HasDatabase, HasRecord, IsStore, blocks_tree, databases_tree, dict_tree, meta_tree, postings_tree}
-use Rattle.zeb_register.proofs.Calls.{store_same}
-use Rattle.zeb_register.proofs.Malformed.{malformed_same, malformed_then}
-use Rattle.zeb_register.proofs.RowsAreLists.{one_last}
-use Rattle.zeb_change.specs.declared.refusals.Refusal.{Refusal}
-use Rattle.zeb_change.specs.declared.settings.Kind.{Kind}
-use Rattle.zeb_change.specs.declared.settings.Kind.TheVariants.{Update}
-use Rattle.zeb_change.specs.declared.settings.Limits.{Limits}
-use Rattle.zeb_change.specs.Elders.{AllFindWhole, FirstFindsWhole, IsUpTo, KeepsAside, KeepsWhole, LosesWholeAlone, PassesOn}
-use Rattle.zeb_change.specs.Folding.{splits_of}
-use Rattle.zeb_change.specs.Reasons.{LosesNamedAlone, NamesAny}
-use Rattle.zeb_change.specs.Refused.{why_of}
-use Rattle.zeb_change.proofs.Elders.{passed_error}
-use Rattle.zeb_change.proofs.ElderSteps.{files_find}
-use Rattle.zeb_engine.specs.Adopting.{StaysOpen}
-use Rattle.zeb_engine.specs.Answers.{IsFailure, refused}
-use Rattle.zeb_engine.specs.AnyTables.{AreFewRecords, EachFindsWhole, ElderOver, EldersOver, HasNumbersTo, IsOrBecomes, LeavesRows, LosesNamedOver, LosesWhole}
-use Rattle.zeb_engine.specs.PrivateChanging.{BeginsWith, last_of}
-use Rattle.zeb_engine.specs.PrivateLooking.{MissesDatabase}
 use Rattle.zeb_engine.proofs.ChangeSteps.{kept_records, kept_registers, kept_texts}
 use Rattle.zeb_engine.proofs.OverTables.{IsFew}
 

@@ -1,38 +1,7 @@
 -- The numbers of a database's records, which a change looks at first.
-use Rattle.std.proofs.Common.{◌≡◌, ◌≢◌, ◌⊎◌, ◌∙◌, ◌+◌, ◌≤◌, ◌<◌, ◌^◌, ℕ, ℤ, pos, List, Option, Some, None, Result, Ok, Err, OnOk, IfErr, IfOk, IsTrue, IsUtf8, refl, sym, subst, inl, inr, arith}
-use Rattle.std.specs.List.{Contains}
-use Rattle.sqlite.specs.Effect.{Database}
-use Rattle.sqlite.specs.Order.{Row}
-use Rattle.sqlite.specs.State.{State, KeepsCommit}
-use Rattle.sqlite.specs.Tree.{Trees}
-use Rattle.zeb_register.specs.declared.RegFault.{RegFault}
+use Rattle.zeb_engine.proofs.Cited.{◌≡◌, ◌∙◌, ◌+◌, ◌≤◌, ◌<◌, ℕ, ℤ, pos, List, Option, Some, None, Result, Ok, Err, OnOk, IfErr, IfOk, IsTrue, IsUtf8, refl, sym, subst, arith, Contains, Database, Row, State, KeepsCommit, Trees, RegFault, Record, OnlyReads, Format, version_of, IsFirstFrom, Changes, HasRecord, store_schema, KeepsOthers, store_same, IsProfile, Damaged, Kind, Kept, Conditions, register_refusal, Holdings, IsImage, name_bytes, HasNumbersTo, MayBegin, last_of, AreGiven, AreWellNumbered, IsMisnumbered}
 use Rattle.zeb_register.specs.declared.RegFault.TheVariants as register
-use Rattle.zeb_register.specs.declared.kept.Record.{Record}
-use Rattle.zeb_register.specs.Calls.{OnlyReads}
-use Rattle.zeb_register.specs.Catalog.{PutsDatabase}
-use Rattle.zeb_register.specs.Formats.{Format, version_of}
-use Rattle.zeb_register.specs.Kept.{AreReadable, IsFirstFrom}
-use Rattle.zeb_register.specs.Store.{Changes, HasRecord, databases_tree}
-use Rattle.zeb_register.specs.Tables.{store_schema}
-use Rattle.zeb_register.specs.Sql.{KeepsOthers}
-use Rattle.zeb_register.proofs.Calls.{store_same}
-use Rattle.zeb_profile.specs.Laws.{IsProfile}
-use Rattle.zeb_change.specs.declared.refusals.Refusal.{Refusal}
-use Rattle.zeb_change.specs.declared.refusals.Refusal.TheVariants.{Damaged, ReadFault, Store}
-use Rattle.zeb_change.specs.declared.refusals.Refusal.TheVariants as refusal
-use Rattle.zeb_change.specs.declared.settings.Kind.{Kind}
-use Rattle.zeb_change.specs.Asked.{HasSystemNumbers}
-use Rattle.zeb_change.specs.Base.{Base, Kept}
-use Rattle.zeb_change.specs.Conditions.{Conditions}
-use Rattle.zeb_change.specs.Outcomes.{register_refusal}
-use Rattle.zeb_change.specs.Refused.{IsFailing, NeverUnready, why_of}
-use Rattle.zeb_image.specs.Holdings.{Holdings}
-use Rattle.zeb_image.specs.Image.{IsImage}
-use Rattle.zeb_image.specs.NameOf.{name_bytes}
 use Rattle.zeb_engine.specs.declared.changes.Change.{Change}
-use Rattle.zeb_engine.specs.AnyTables.{HasNumbersTo}
-use Rattle.zeb_engine.specs.PrivateChanging.{MayBegin, last_of}
-use Rattle.zeb_engine.specs.PrivateNumbers.{AreGiven, AreWellNumbered, IsDamageOrFailing, IsMisnumbered}
 use Rattle.zeb_engine.proofs.ChangeSteps.{IsBegun}
 use Rattle.zeb_engine.proofs.ChangeWay.{change_begun}
 
@@ -43,60 +12,10 @@ only_damaged register.Damaged is = refl
 only_damaged register.Store is = absurd (cc)
 only_damaged register.Memory is = absurd (cc)
 
-pub fault_damages : (fault : RegFault) → IsDamageOrFailing (register_refusal fault)
-fault_damages register.Damaged = inl refl
-fault_damages register.Store = inr (inl refl)
-fault_damages register.Memory = inr (inr refl)
-
--- damage alone isn't a failed store
-pub damage_so : {T : Type 0} (result : Result T Refusal) (Wrong : Type 0) → IfErr result (λ why. (why ≡ Damaged) × Wrong) → IfErr result IsDamageOrFailing
-damage_so (Ok x) Wrong is = tt
-damage_so (Err why) Wrong is = inl is.0
-
-pub damage_unstored : {T : Type 0} (result : Result T Refusal) (Wrong : Type 0) → IfErr result (λ why. (why ≡ Damaged) × Wrong) → result ≡ Err Store → ⊥
-damage_unstored (Ok x) Wrong is told = cc
-damage_unstored (Err why) Wrong is told = let one : why ≡ Damaged = is.0 in cc
-
-pub damage_wrong : {T : Type 0} (result : Result T Refusal) (Wrong : Type 0) → IfErr result (λ why. (why ≡ Damaged) × Wrong) → result ≡ Err Damaged → Wrong
+-- damage comes of what is wrong
+pub damage_wrong : {T : Type 0} (result : Result T RegFault) (Wrong : Type 0) → IfErr result (λ fault. (fault ≡ register.Damaged) × Wrong) → result ≡ Err register.Damaged → Wrong
 damage_wrong (Ok x) Wrong is told = absurd (cc)
 damage_wrong (Err why) Wrong is told = is.1
-
--- where it isn't damage, it is a failure
-pub failing_so : (why : Refusal) → IsDamageOrFailing why → (why ≡ Damaged → ⊥) → IsFailing (why_of why)
-failing_so why (inl damaged) sound = absurd (sound damaged)
-failing_so why (inr failed) sound = failed
-
-few_other : (why other : Refusal) → other ≢ Damaged → (IsFailing (why_of other) → ⊥) → IsDamageOrFailing why → why ≢ other
-few_other why other sound fails (inl damaged) is = sound (sym is ∙ damaged)
-few_other why other sound fails (inr failed) is = fails (subst (λ (r : Refusal). IsFailing (why_of r)) is failed)
-
-unread_fails : (file : ℕ) → IsFailing (why_of (ReadFault file)) → ⊥
-unread_fails file (inl is) = cc
-unread_fails file (inr is) = cc
-
--- no reader is named
-pub few_unread : (why : Refusal) → IsDamageOrFailing why → (file : ℕ) → why ≢ ReadFault file
-few_unread why few file = few_other why (ReadFault file) (λ is. cc) (unread_fails file) few
-
-new_fails : IsFailing (why_of refusal.NotInitialised) → ⊥
-new_fails (inl is) = cc
-new_fails (inr is) = cc
-
-format_fails : IsFailing (why_of refusal.OldFormat) → ⊥
-format_fails (inl is) = cc
-format_fails (inr is) = cc
-
-profile_fails : IsFailing (why_of refusal.ProfileChanged) → ⊥
-profile_fails (inl is) = cc
-profile_fails (inr is) = cc
-
--- nor is it said that the register isn't ready
-pub few_ready : {T : Type 0} (why : Refusal) → IsDamageOrFailing why → (result : Result T Refusal) → result ≡ Err why → NeverUnready result
-few_ready why few result told = rw told (
-  λ is. few_other why refusal.NotInitialised (λ e. cc) new_fails few cc,
-  λ is. few_other why refusal.OldFormat (λ e. cc) format_fails few cc,
-  λ is. few_other why refusal.ProfileChanged (λ e. cc) profile_fails few cc,
-)
 
 -- ---- what was found
 
@@ -117,7 +36,7 @@ module _ (trees : Trees) (id : ℤ) (last next : ℕ) (next_is : next ≡ last +
   numbers_given (Some found) None least more numbers = (numbers found.sysno _ _ least.0).0
 
 -- an accepted look tells it
-pub numbers_on : {T : Type 0} (result : Result T Refusal) (Given Told : Type 0) → (Given → Told) → OnOk result Given → OnOk result Told
+pub numbers_on : {T : Type 0} (result : Result T RegFault) (Given Told : Type 0) → (Given → Told) → OnOk result Given → OnOk result Told
 numbers_on (Ok x) Given Told so given = so given
 numbers_on (Err why) Given Told so given = tt
 
@@ -125,13 +44,6 @@ numbers_on (Err why) Given Told so given = tt
 
 pub numbered_same : (last : ℕ) (old new : Trees) (id : ℤ) → new 4 ≡ old 4 → HasNumbersTo last new id → HasNumbersTo last old id
 numbered_same last old new id same = subst (λ (rows : List Row). HasNumbersTo last (λ tree. rows) id) same
-
--- numbers up to a last one that a register can give are ones that it can give
-pub system_numbers : (last : ℕ) (trees : Trees) (id : ℤ) → last ≤ 999999999 → HasNumbersTo last trees id → HasSystemNumbers trees id
-system_numbers last trees id few numbers = λ n ident bytes there. let given = numbers n ident bytes there in
-    let low = given.0 in
-    let high = given.1 in
-    (low, omega (arith, high, few))
 
 -- ---- a call that only reads behind others
 
@@ -144,7 +56,7 @@ reads_keep a b reads = record { was_open = λ _. reads.was_open; committed = λ 
 pub kept_still : (a : State) → KeepsCommit a a
 kept_still a = record { was_open = λ o. o; committed = λ _. refl }
 
-pub if_done : {T : Type 0} (result : Result T Refusal) (Done : Type 0) → Done → IfOk result (λ _. Done)
+pub if_done : {T : Type 0} (result : Result T RegFault) (Done : Type 0) → Done → IfOk result (λ _. Done)
 if_done (Ok x) Done done = done
 if_done (Err why) Done done = tt
 

@@ -1,28 +1,6 @@
 -- Why a change is refused, step by step, whatever rows the tables have.
-use Rattle.std.proofs.Common.{◌≡◌, ◌≢◌, ◌⊎◌, ℕ, ℤ, pos, List, Option, Some, None, Result, Err, inl, inr, refl, subst}
-use Rattle.sqlite.specs.Order.{Row}
-use Rattle.sqlite.specs.State.{State}
-use Rattle.sqlite.specs.Tree.{Trees}
-use Rattle.zeb_marc.specs.declared.faults.MarcFault.{MarcFault}
-use Rattle.zeb_marc.specs.Splits.{Split}
-use Rattle.zeb_profile.specs.declared.directives.Directive.{Directive}
+use Rattle.zeb_engine.proofs.Cited.{◌≡◌, ◌≢◌, ◌⊎◌, ℕ, ℤ, pos, List, Option, Result, Err, inl, inr, subst, Row, State, Trees, MarcFault, Split, Directive, RegFault, PutsDatabase, Changes, HasRecord, databases_tree, Refusal, Kind, Update, Limits, AreWholeBefore, IsUpTo, splits_of, register_refusal, HasReasonAt, IsNewAt, IsRefusedAt, IsRefusedFor, NamesAny, why_of, IsFailure, refused, ReasonsOver, BeginsWith, IsMissedFor, last_of, MissesDatabase}
 use Rattle.zeb_register.specs.declared.catalog.Database as catalog
-use Rattle.zeb_register.specs.declared.RegFault.{RegFault}
-use Rattle.zeb_register.specs.Catalog.{PutsDatabase}
-use Rattle.zeb_register.specs.Store.{Changes, HasRecord, databases_tree}
-use Rattle.zeb_change.specs.declared.refusals.Refusal.{Refusal}
-use Rattle.zeb_change.specs.declared.settings.Kind.{Kind}
-use Rattle.zeb_change.specs.declared.settings.Kind.TheVariants.{Update}
-use Rattle.zeb_change.specs.declared.settings.Limits.{Limits}
-use Rattle.zeb_change.specs.Elders.{AreWholeBefore, IsUpTo}
-use Rattle.zeb_change.specs.Folding.{splits_of}
-use Rattle.zeb_change.specs.Outcomes.{register_refusal}
-use Rattle.zeb_change.specs.Reasons.{HasReasonAt, IsNewAt, IsRefusedAt, IsRefusedFor, NamesAny}
-use Rattle.zeb_change.specs.Refused.{why_of}
-use Rattle.zeb_engine.specs.Answers.{IsFailure, refused}
-use Rattle.zeb_engine.specs.AnyTables.{ReasonsOver}
-use Rattle.zeb_engine.specs.PrivateChanging.{BeginsWith, IsMissedFor, last_of}
-use Rattle.zeb_engine.specs.PrivateLooking.{MissesDatabase}
 use Rattle.zeb_engine.proofs.ChangeElders.{becomes}
 use Rattle.zeb_engine.proofs.ChangeSteps.{kept_records}
 use Rattle.zeb_engine.proofs.OverTables.{IsFew, fault_few}

@@ -1,35 +1,10 @@
 -- A change of a database, from its first write to its last: what the tables hold on the way, and what the definition says of it.
-use Rattle.std.proofs.Common.{◌≡◌, ◌⊎◌, ◌∙◌, ℕ, ℤ, pos, List, Option, Some, None, Result, Ok, Err, refl, sym, ap, subst, inl, inr, arith}
-use Rattle.std.specs.List.{Contains}
-use Rattle.std.specs.Option.{option_map}
-use Rattle.sqlite.specs.Tree.{Trees}
-use Rattle.sqlite.specs.State.{State}
-use Rattle.sqlite_rules.proofs.ListLemmas.{contains_had}
-use Rattle.zeb_marc.specs.Splits.{Split}
-use Rattle.zeb_profile.specs.Canonical.{canonical_text, pattern_text}
-use Rattle.zeb_profile.specs.Indexes.{identifier_pattern}
+use Rattle.zeb_engine.proofs.Cited.{◌≡◌, ◌⊎◌, ◌∙◌, ℕ, ℤ, pos, List, Option, Some, None, Result, Ok, Err, refl, sym, ap, subst, inl, inr, arith, Contains, option_map, Trees, State, contains_had, Split, canonical_text, pattern_text, identifier_pattern, PutsDatabase, Content, IsStore, Changes, HasDatabase, KeepsRegisters, databases_tree, Fold, Kind, Refusal, Why, why_of, Meets, changed, refused, reply_answer, IsFailure, MayBeginUnder, last_of, Conditions, AreSessions, IsDatabaseName, Progress, at_first, files_folded, Holdings, new_base, base_named, Base, AreBases, HasTexts, IsImage, IsImageOf, start_of, IsFolded, IsUnderWay, named_found, Format, holds_in}
 use Rattle.zeb_register.specs.declared.catalog.Database.{Database}
-use Rattle.zeb_register.specs.Catalog.{PutsDatabase}
-use Rattle.zeb_register.specs.Content.{Content}
-use Rattle.zeb_register.specs.Store.{IsStore, Changes, HasDatabase, KeepsRegisters, databases_tree}
-use Rattle.zeb_change.specs.declared.files.Fold.{Fold}
-use Rattle.zeb_change.specs.declared.settings.Kind.{Kind}
-use Rattle.zeb_change.specs.declared.refusals.Refusal.{Refusal}
 use Rattle.zeb_engine.specs.declared.replies.Reply.TheVariants as reply
-use Rattle.zeb_change.specs.Refused.{Why, why_of, Meets}
-use Rattle.zeb_engine.specs.Answers.{changed, refused, reply_answer, IsFailure}
-use Rattle.zeb_engine.specs.PrivateChanging.{MayBeginUnder, last_of}
-use Rattle.zeb_change.specs.Conditions.{Conditions}
-use Rattle.zeb_change.specs.PrivateConditions.{AreSessions}
-use Rattle.zeb_image.specs.Names.{IsDatabaseName}
-use Rattle.zeb_change.specs.Folding.{Progress, at_first, files_folded}
-use Rattle.zeb_image.specs.Holdings.{Holdings, new_base, base_named, with_base}
-use Rattle.zeb_change.specs.Base.{Base}
-use Rattle.zeb_image.specs.Image.{AreBases, HasTexts, IsImage, IsImageOf}
-use Rattle.zeb_engine.specs.Steps.{changed_by_files, ready, start_of, turned}
-use Rattle.zeb_change.specs.UnderWay.{IsFolded, IsUnderWay}
+use Rattle.zeb_image.specs.Holdings.{with_base}
+use Rattle.zeb_engine.specs.Steps.{changed_by_files, ready, turned}
 use Rattle.zeb_engine.proofs.DatabasesOfImages.{image_numbered}
-use Rattle.zeb_image.proofs.Bases.{named_found}
 use Rattle.zeb_engine.proofs.Beginning.{texts_still}
 use Rattle.zeb_engine.proofs.Creating.{with_new_base, created_image, new_base_in}
 use Rattle.zeb_engine.proofs.FoldNames.{files_named}
@@ -37,7 +12,6 @@ use Rattle.zeb_engine.proofs.ReadyImages.{image_ready, ready_image}
 use Rattle.zeb_engine.proofs.DatabaseInPlace.{base_twice, bases_with, image_with, next_in, stored_at_first}
 use Rattle.zeb_engine.proofs.TurnedOutcomes.{step_changed, step_unchanged}
 use Rattle.zeb_engine.proofs.WriteSteps.{Leads}
-use Rattle.zeb_register.specs.Formats.{Format, holds_in}
 
 -- a row tells the id of its database
 row_id : (format : Format) (profile : List _) (trees : Trees) (bases : List Base) (image : IsImageOf format profile trees bases) (id : ℤ) (name : List ℕ) (last : ℤ) → HasDatabase trees id name last → id ≡ image.lists.id_of name

@@ -1,25 +1,7 @@
 -- A change of a database from its first write on, by the change that is carried out.
-use Rattle.std.proofs.Common.{◌≡◌, ◌⊎◌, ℕ, ℤ, pos, List, Ok, Err, refl, subst₂}
-use Rattle.sqlite.specs.State.{State}
-use Rattle.zeb_profile.specs.Laws.{IsProfile}
-use Rattle.zeb_register.specs.Catalog.{PutsDatabase}
-use Rattle.zeb_register.specs.Formats.{Format, version_of}
-use Rattle.zeb_register.specs.Store.{Changes, databases_tree}
-use Rattle.zeb_register.proofs.FormatLemmas.{registers_stay}
-use Rattle.zeb_change.specs.declared.files.Fold.{Fold}
-use Rattle.zeb_change.specs.declared.refusals.Refusal.{Refusal}
-use Rattle.zeb_change.specs.Conditions.{Conditions}
-use Rattle.zeb_change.specs.PrivateConditions.{AreSessions}
-use Rattle.zeb_change.specs.Folding.{Progress, at_first, files_folded, splits_of}
-use Rattle.zeb_change.specs.Refused.{Meets, why_of}
-use Rattle.zeb_change.specs.UnderWay.{IsFolded, IsUnderWay, conditions_of}
-use Rattle.zeb_image.specs.Holdings.{Holdings}
-use Rattle.zeb_image.specs.Image.{IsImage}
-use Rattle.zeb_image.specs.NameOf.{name_bytes}
+use Rattle.zeb_engine.proofs.Cited.{◌≡◌, ◌⊎◌, ℕ, ℤ, pos, List, Ok, Err, refl, subst₂, State, IsProfile, PutsDatabase, Format, version_of, Changes, databases_tree, registers_stay, Fold, Refusal, Conditions, AreSessions, Progress, at_first, files_folded, splits_of, Meets, why_of, IsFolded, IsUnderWay, conditions_of, Holdings, IsImage, name_bytes, refused, IsFailure, MayBegin, comes_to, last_of}
 use Rattle.zeb_engine.specs.declared.changes.Change.{Change}
 use Rattle.zeb_engine.specs.declared.replies.Reply.TheVariants as reply
-use Rattle.zeb_engine.specs.Answers.{refused, IsFailure}
-use Rattle.zeb_engine.specs.PrivateChanging.{MayBegin, comes_to, last_of}
 use Rattle.zeb_engine.proofs.ChangeSteps.{IsBegun, begun, change_leads, first_way, fold_done, fold_refused}
 use Rattle.zeb_engine.proofs.WriteSteps.{Leads}
 

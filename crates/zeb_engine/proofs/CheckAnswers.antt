@@ -1,27 +1,8 @@
 -- What a look at whole tables tells of a check and of an upgrade.
-use Rattle.std.proofs.Common.{◌≡◌, ◌↔◌, ◌∙◌, ℕ, Bool, true, false, List, Ok, Err, IsTrue, refl, sym, ap, subst, inl, inr}
-use Rattle.sqlite.specs.Effect.{Database}
-use Rattle.sqlite.specs.Tree.{Trees}
-use Rattle.sqlite.specs.State.{State}
-use Rattle.zeb_profile.specs.Canonical.{canonical_text}
-use Rattle.zeb_register.specs.declared.RegFault.{RegFault}
+use Rattle.zeb_engine.proofs.Cited.{◌≡◌, ◌↔◌, ◌∙◌, ℕ, Bool, true, false, List, Ok, Err, IsTrue, refl, sym, ap, subst, inl, inr, Database, Trees, State, canonical_text, RegFault, ChangesNothing, IsStore, Refusal, Base, Conditions, register_refusal, Meets, Holdings, under, IsImage, Keeps, Done, IsSomeImage, TellsImage, IsUnready, IsReadyFor, IsRefusedOver, checked, checked_from, Always, Serves}
 use Rattle.zeb_register.specs.declared.RegFault.TheVariants as register
-use Rattle.zeb_register.specs.Calls.{ChangesNothing}
-use Rattle.zeb_register.specs.Store.{IsStore}
-use Rattle.zeb_change.specs.declared.refusals.Refusal.{Refusal}
 use Rattle.zeb_change.specs.declared.refusals.Refusal.TheVariants as refusal
-use Rattle.zeb_change.specs.Base.{Base}
-use Rattle.zeb_change.specs.Conditions.{Conditions}
-use Rattle.zeb_change.specs.Outcomes.{register_refusal}
-use Rattle.zeb_change.specs.Refused.{Meets}
-use Rattle.zeb_image.specs.Holdings.{Holdings, under}
-use Rattle.zeb_image.specs.Image.{IsImage, Keeps}
-use Rattle.zeb_engine.specs.declared.replies.Reply.TheVariants.{Done}
-use Rattle.zeb_engine.specs.Checking.{IsSomeImage, TellsImage}
-use Rattle.zeb_engine.specs.PrivateLooking.{IsUnready}
-use Rattle.zeb_engine.specs.Readiness.{IsReadyFor, IsRefusedOver}
-use Rattle.zeb_engine.specs.Steps.{checked, checked_from, ready}
-use Rattle.zeb_engine.specs.PrivateWorks.{Always, Serves}
+use Rattle.zeb_engine.specs.Steps.{ready}
 use Rattle.zeb_engine.proofs.ListedDatabases.{fault_fails}
 use Rattle.zeb_engine.proofs.Ready.{ready_good, ready_is}
 use Rattle.zeb_engine.proofs.RenewalTexts.{ready_held}
@@ -73,7 +54,6 @@ module _ (c : Conditions) (s : State) (store : IsStore s) (texts : IsReadyFor c.
   unready_tells Good refusal.ProfileChanged met few is = absurd (is.1 texts.has_profile)
   unready_tells Good refusal.Damaged met few is = inr (inl (no_image Good met, refl))
   unready_tells Good refusal.Store met few is = inr (inr (inl refl))
-  unready_tells Good refusal.Commit met few is = absurd few
   unready_tells Good refusal.Memory met few is = inr (inr (inr refl))
   unready_tells Good refusal.IdentifierRuleChanged met few is = absurd few
   unready_tells Good (refusal.Diagnostic number place addinfo) met few is = absurd few

@@ -1,36 +1,8 @@
 -- What a crash leaves, by what a transaction was given to commit.
-use Rattle.std.proofs.Common.{◌≡◌, ◌⊎◌, ◌∙◌, ℕ, true, List, Result, Ok, Err, IfErr, OnOk, inl, inr, arith, refl, sym, ap, subst, IsTrue}
-use Rattle.sqlite.specs.Tree.{Trees}
-use Rattle.sqlite.specs.Store.{Ghosts}
-use Rattle.sqlite.specs.Effect.{Database, IsDatabase}
-use Rattle.sqlite.specs.State.{State, HasCleanDisk, IsLive, IsUnchanged, Opens, Survives}
-use Rattle.sqlite.specs.Held.{Held, state}
-use Rattle.sqlite.specs.Schema.{Schema}
-use Rattle.sqlite_catalog.proofs.ReadLemmas.{lists_once}
-use Rattle.sqlite_trees.specs.Objects.{catalog_tree}
-use Rattle.sqlite.proofs.StateLemmas.{survives_then}
-use Rattle.zeb_register.specs.Calls.{ChangesNothing, GoesOn}
-use Rattle.zeb_register.specs.Store.{IsStore, IsEmptyStore}
-use Rattle.zeb_register.specs.Tables.{no_schema, store_schema}
-use Rattle.zeb_engine.specs.declared.replies.Reply.{Reply}
+use Rattle.zeb_engine.proofs.Cited.{◌≡◌, ◌⊎◌, ◌∙◌, ℕ, true, List, Result, Ok, Err, IfErr, OnOk, inl, inr, arith, refl, sym, ap, subst, IsTrue, Trees, Ghosts, Database, IsDatabase, State, HasCleanDisk, IsLive, IsUnchanged, Opens, Survives, Held, state, Schema, lists_once, catalog_tree, survives_then, ChangesNothing, GoesOn, IsStore, IsEmptyStore, no_schema, store_schema, Reply, Refusal, StaysOpen, Answer, reply_answer, IsFailure, Conditions, Accepts, Bears, KeepsDisk, IsStoreDisk, Stands, Leaves, CommitsBy, CommitsAdopted, Endures, IsEmptyDisk, Commits, CommitsTables, Holdings, IsImage, Keeps, Ends, Outcome, EnduresRefusal, IsDurable, LeavesNoMore, Write, Fits, IsReached, written, ServesBy, Always, ReachesOutcome, Format}
 use Rattle.zeb_engine.specs.declared.replies.Reply.TheVariants as reply
-use Rattle.zeb_change.specs.declared.refusals.Refusal.{Refusal}
 use Rattle.zeb_change.specs.declared.refusals.Refusal.TheVariants as refusal
-use Rattle.zeb_engine.specs.Adopting.{StaysOpen}
-use Rattle.zeb_engine.specs.Answers.{Answer, reply_answer, IsFailure}
-use Rattle.zeb_change.specs.Conditions.{Conditions}
-use Rattle.zeb_engine.specs.Crashes.{Accepts, Bears, KeepsDisk, IsStoreDisk, Stands, Leaves, CommitsBy, CommitsAdopted, Endures}
-use Rattle.zeb_engine.specs.PrivateCrashes.{IsEmptyDisk, Commits, CommitsTables}
-use Rattle.zeb_image.specs.Holdings.{Holdings}
-use Rattle.zeb_image.specs.Image.{IsImage, Keeps}
-use Rattle.zeb_engine.specs.Steps.{Ends, Outcome}
-use Rattle.zeb_engine.specs.Transactions.{EnduresRefusal, IsDurable, LeavesNoMore}
-use Rattle.zeb_engine.specs.declared.writes.Write.{Write}
-use Rattle.zeb_engine.specs.PrivateWriting.{Fits, IsReached, written}
-use Rattle.zeb_engine.specs.Works.{ServesBy}
-use Rattle.zeb_engine.specs.PrivateWorks.{Always, ReachesOutcome}
 use Rattle.zeb_engine.proofs.ServesLemmas.{keeps_still, reached_inside}
-use Rattle.zeb_register.specs.Formats.{Format}
 
 -- ---- disks and stores
 
@@ -136,8 +108,7 @@ module _ (Told : Holdings → Answer → Holdings → Type 0) (old new : State) 
   endures_refusal refusal.Damaged no_more either = λ before leaves db left. leaves db (no_more (λ is. cc) db left)
   endures_refusal refusal.IdentifierRuleChanged no_more either = λ before leaves db left. leaves db (no_more (λ is. cc) db left)
   endures_refusal (refusal.ReadFault file) no_more either = λ before leaves db left. leaves db (no_more (λ is. cc) db left)
-  endures_refusal refusal.Store no_more either = λ before leaves db left. leaves db (no_more (λ is. cc) db left)
-  endures_refusal refusal.Commit no_more either = either
+  endures_refusal refusal.Store no_more either = either
   endures_refusal refusal.Memory no_more either = λ before leaves db left. leaves db (no_more (λ is. cc) db left)
 
   pub endures : (result : Result Reply Refusal) → HasCleanDisk new → IsDurable new → OnOk result (StaysOpen old new) → IfErr result (EnduresRefusal old new) → Survives old new (CommitsBy Told old)

@@ -1,25 +1,7 @@
 -- A database is made: the tables are then the image of one database more.
-use Rattle.std.proofs.Common.{◌≡◌, ◌≢◌, ◌⊎◌, ◌∙◌, ℕ, ℤ, pos, cond, List, [], ◌∷◌, None, refl, sym, ap, subst, inl, inr, arith}
-use Rattle.std.specs.List.{Contains}
+use Rattle.zeb_engine.proofs.Cited.{◌≡◌, ◌≢◌, ◌⊎◌, ◌∙◌, ℕ, ℤ, pos, cond, List, [], ◌∷◌, None, refl, sym, ap, subst, inl, inr, arith, Contains, bytes_eq, bytes_eq-Decides, Int, Trees, Has, has_contained, contains_had, Directive, Content, PutsDatabase, HasDatabase, KeepsRegisters, record_row, Base, new_base, base_named, IsDatabaseName, AreBases, AreListed, IsImageOf, AreKept, IsBase, bytes_other, named_none, with_base_has, with_base_in_order, none_in, Format, holds_in}
 use Rattle.std.specs.List.Sorted.{IsStrictlySortedBy}
-use Rattle.std.specs.Str.{bytes_eq}
-use Rattle.std.proofs.lemmas.Slice.Eq.{bytes_eq-Decides}
-use Rattle.sqlite.specs.declared.types.Value.TheVariants.{Int}
-use Rattle.sqlite.specs.Tree.{Trees}
-use Rattle.sqlite_rules.specs.Lists.{Has}
-use Rattle.sqlite_rules.proofs.ListLemmas.{has_contained, contains_had}
-use Rattle.zeb_profile.specs.declared.directives.Directive.{Directive}
-use Rattle.zeb_register.specs.Content.{Content}
-use Rattle.zeb_register.specs.Catalog.{PutsDatabase}
-use Rattle.zeb_register.specs.Store.{HasDatabase, KeepsRegisters, record_row}
-use Rattle.zeb_change.specs.Base.{Base}
-use Rattle.zeb_image.specs.Holdings.{new_base, base_named, with_base}
-use Rattle.zeb_image.specs.Names.{IsDatabaseName}
-use Rattle.zeb_image.specs.Image.{AreBases, AreListed, IsImageOf}
-use Rattle.zeb_change.specs.Stored.{AreKept, IsBase}
-use Rattle.zeb_image.proofs.Bases.{bytes_other, named_none, with_base_has, with_base_in_order}
-use Rattle.zeb_image.proofs.Ids.{none_in}
-use Rattle.zeb_register.specs.Formats.{Format, holds_in}
+use Rattle.zeb_image.specs.Holdings.{with_base}
 
 -- what a new database has
 none_wrong : (profile : List Directive) (name : List ℕ) → IsBase profile (new_base name)

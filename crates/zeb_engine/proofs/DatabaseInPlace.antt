@@ -1,27 +1,6 @@
 -- A database in the place of the one that has its name: the tables are then the image of the databases with it.
-use Rattle.std.proofs.Common.{◌≡◌, ◌≢◌, ◌⊎◌, ◌∙◌, ℕ, ℤ, pos, Bool, List, [], ◌∷◌, refl, sym, ap, subst, inl, inr, Ordering, Less, Equal, Greater, if◌then◌else◌}
-use Rattle.std.specs.Cmp.{tied_itself}
-use Rattle.std.specs.Cmp.Lexicographic.{slice_cmp, nat_list_cmp_total}
-use Rattle.std.specs.List.{Contains}
-use Rattle.std.specs.Ordering.{nat_cmp}
-use Rattle.sqlite.specs.declared.types.Value.TheVariants.{Int, Null, Text}
-use Rattle.sqlite.specs.Tree.{Trees}
-use Rattle.sqlite_rules.specs.Lists.{Has}
-use Rattle.sqlite_rules.proofs.ListLemmas.{has_contained, contains_had}
-use Rattle.zeb_profile.specs.declared.directives.Directive.{Directive}
-use Rattle.zeb_register.specs.Catalog.{PutsDatabase}
-use Rattle.zeb_register.specs.Content.{Content}
-use Rattle.zeb_register.specs.Store.{HasDatabase, KeepsRegisters, databases_tree}
-use Rattle.zeb_change.specs.Base.{Base, Kept}
-use Rattle.zeb_image.specs.Holdings.{base_placed, with_base}
-use Rattle.zeb_image.specs.Names.{IsDatabaseName}
-use Rattle.zeb_image.specs.Image.{AreBases, AreListed, IsImageOf}
-use Rattle.zeb_change.specs.Stored.{AreStored, IsBase}
-use Rattle.zeb_change.specs.UnderWay.{with_records}
-use Rattle.zeb_image.proofs.Bases.{bytes_told, name_order, with_base_has, with_base_in_order}
-use Rattle.zeb_image.proofs.Ids.{id_same, id_other, ids_told}
-use Rattle.zeb_change.proofs.UnderWay.{same_kept}
-use Rattle.zeb_register.specs.Formats.{Format, holds_in}
+use Rattle.zeb_engine.proofs.Cited.{◌≡◌, ◌≢◌, ◌⊎◌, ◌∙◌, ℕ, ℤ, pos, Bool, List, [], ◌∷◌, refl, sym, ap, subst, inl, inr, Ordering, Less, Equal, Greater, if◌then◌else◌, tied_itself, slice_cmp, nat_list_cmp_total, Contains, nat_cmp, Int, Null, Text, Trees, Has, has_contained, contains_had, Directive, PutsDatabase, Content, HasDatabase, KeepsRegisters, databases_tree, Base, Kept, base_placed, IsDatabaseName, AreBases, AreListed, IsImageOf, AreStored, IsBase, with_records, bytes_told, name_order, with_base_has, with_base_in_order, id_same, id_other, ids_told, same_kept, Format, holds_in}
+use Rattle.zeb_image.specs.Holdings.{with_base}
 
 -- ---- one put over the other, of the same name
 

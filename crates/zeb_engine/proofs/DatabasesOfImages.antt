@@ -1,38 +1,8 @@
 -- What the tables of an image hold of one database: its records, and in the registers the occurrences of these.
-use Rattle.std.proofs.Common.{◌≡◌, ◌≢◌, ◌↔◌, ◌⊎◌, ◌∙◌, ℕ, ℤ, pos, true, false, List, [], ◌∷◌, find, Option, Some, None, Ok, refl, sym, ap, subst, inl, inr, nat_eq}
-use Rattle.std.specs.List.{Contains}
-use Rattle.std.specs.Option.{option_map}
-use Rattle.std.proofs.lemmas.Bool.{cases_Bool}
-use Rattle.std.proofs.lemmas.Bool.Decides.{Decides-eqb}
-use Rattle.sqlite.specs.State.{State}
-use Rattle.sqlite.specs.Tree.{Trees}
-use Rattle.sqlite_rules.specs.Lists.{Has}
-use Rattle.sqlite_rules.proofs.ListLemmas.{has_contained, contains_had}
-use Rattle.zeb_profile.specs.declared.directives.Directive.{Directive}
-use Rattle.zeb_keys.specs.declared.keys.Occurrence.{Occurrence}
+use Rattle.zeb_engine.proofs.Cited.{◌≡◌, ◌≢◌, ◌↔◌, ◌⊎◌, ◌∙◌, ℕ, ℤ, pos, true, false, List, [], ◌∷◌, find, Option, Some, None, Ok, refl, sym, ap, subst, inl, inr, nat_eq, Contains, option_map, cases_Bool, Decides-eqb, State, Trees, Has, has_contained, contains_had, Directive, Occurrence, Content, IsStorable, posted, Format, holds_in, HasDatabase, HasRecord, has_ident_in, Conditions, AreSessions, has_name, occurs, Holdings, base_named, Base, Kept, IsBase, AreBases, IsImage, IsImageOf, found_or, existing, HaveSystemNumbers, Meets, named_found, base_numbered, one_number, told_id, posted_storable}
 use Rattle.zeb_register.specs.declared.catalog.Database.{Database}
-use Rattle.zeb_register.specs.Content.{Content, IsStorable, posted}
-use Rattle.zeb_register.specs.Formats.{Format, holds_in}
-use Rattle.zeb_register.specs.Store.{HasDatabase, HasRecord}
-use Rattle.zeb_search.specs.Registers.{has_ident_in}
-use Rattle.zeb_change.specs.Conditions.{Conditions}
-use Rattle.zeb_change.specs.PrivateConditions.{AreSessions}
-use Rattle.zeb_engine.specs.Finding.{has_name}
-use Rattle.zeb_change.specs.Occurs.{occurs}
-use Rattle.zeb_image.specs.Holdings.{Holdings, base_named}
-use Rattle.zeb_change.specs.Base.{Base, Kept}
-use Rattle.zeb_change.specs.Stored.{IsBase}
-use Rattle.zeb_image.specs.Image.{AreBases, IsImage, IsImageOf}
 use Rattle.zeb_engine.specs.Steps.{ready}
-use Rattle.zeb_engine.specs.PrivateSteps.{found_or, existing}
-use Rattle.zeb_change.specs.UnderWay.{HaveSystemNumbers}
-use Rattle.zeb_change.specs.Refused.{Meets}
-use Rattle.zeb_image.proofs.Bases.{named_found}
-use Rattle.zeb_change.proofs.BaseLemmas.{base_numbered}
-use Rattle.zeb_change.proofs.KeptLemmas.{one_number}
 use Rattle.zeb_engine.proofs.ReadyImages.{image_ready}
-use Rattle.zeb_change.proofs.StoredLemmas.{told_id}
-use Rattle.zeb_change.proofs.TermTexts.{posted_storable}
 
 -- ---- numbers
 

@@ -1,24 +1,6 @@
 -- A database is taken away with its records and postings: the tables are then the image of one database less.
-use Rattle.std.proofs.Common.{◌≡◌, ◌≢◌, ◌↔◌, ◌∙◌, ℕ, ℤ, pos, cond, List, [], Some, sym, ap, subst, inl, inr}
-use Rattle.std.specs.List.{Contains}
+use Rattle.zeb_engine.proofs.Cited.{◌≡◌, ◌≢◌, ◌↔◌, ◌∙◌, ℕ, ℤ, pos, cond, List, [], Some, sym, ap, subst, inl, inr, Contains, int_eq, Int, Trees, Has, has_contained, contains_had, Key, Directive, Content, HasRisingLists, IsWithout, posting_cmp, Posting, Loses, HasDatabase, IsRecordIn, TakesDatabase, record_row, Base, Kept, base_named, without_base, AreBases, AreListed, IsImageOf, AreKept, ArePosted, named_found, without_base_has, without_base_in_order, id_same, id_other, ids_told, Format, holds_in}
 use Rattle.std.specs.List.Sorted.{IsStrictlySortedBy}
-use Rattle.std.specs.Ordering.{int_eq}
-use Rattle.sqlite.specs.declared.types.Value.TheVariants.{Int}
-use Rattle.sqlite.specs.Tree.{Trees}
-use Rattle.sqlite_rules.specs.Lists.{Has}
-use Rattle.sqlite_rules.proofs.ListLemmas.{has_contained, contains_had}
-use Rattle.zeb_keys.specs.declared.keys.Key.{Key}
-use Rattle.zeb_profile.specs.declared.directives.Directive.{Directive}
-use Rattle.zeb_register.specs.Content.{Content, HasRisingLists, IsWithout, posting_cmp, Posting}
-use Rattle.zeb_register.specs.Sql.{Loses}
-use Rattle.zeb_register.specs.Store.{HasDatabase, IsRecordIn, TakesDatabase, record_row}
-use Rattle.zeb_change.specs.Base.{Base, Kept}
-use Rattle.zeb_image.specs.Holdings.{base_named, without_base}
-use Rattle.zeb_image.specs.Image.{AreBases, AreListed, IsImageOf}
-use Rattle.zeb_change.specs.Stored.{AreKept, ArePosted}
-use Rattle.zeb_image.proofs.Bases.{named_found, without_base_has, without_base_in_order}
-use Rattle.zeb_image.proofs.Ids.{id_same, id_other, ids_told}
-use Rattle.zeb_register.specs.Formats.{Format, holds_in}
 
 pub without_bases : (profile : List Directive) (name : List ℕ) (bases : List Base) → AreBases profile bases → AreBases profile (without_base name bases)
 without_bases profile name bases are = record {

@@ -1,46 +1,11 @@
 -- How many records a database has, the records that are read of it one after the other, and what a dump answers.
-use Rattle.std.proofs.Common.{◌≡◌, ◌⊎◌, ◌∙◌, ◌++◌, ◌+◌, ◌-◌, ◌<◌, ◌≤◌, ℕ, ℤ, pos, Bool, false, List, [], ◌∷◌, length, map, Option, Some, None, Result, Ok, Err, string_bytes, refl, sym, ap, ap₂, subst, inl, inr, IsUtf8, arith, append-nil}
+use Rattle.zeb_engine.proofs.Cited.{◌≡◌, ◌⊎◌, ◌∙◌, ◌++◌, ◌+◌, ◌-◌, ◌<◌, ◌≤◌, ℕ, ℤ, pos, Bool, false, List, [], ◌∷◌, length, map, Option, Some, None, Result, Ok, Err, string_bytes, refl, sym, ap, ap₂, subst, inl, inr, IsUtf8, arith, append-nil, nat_cmp_total, on_total, flat_map, eq_by_cmp, int_cmp, is_eq, nat_cmp, cases_Bool, lt-ltb, ltb-false, ltb-true, eq_by_cmp_equiv, int_cmp_total, flat_map-append, length-map, length-le_from_is_member, State, Trees, filter_all, Has, all_from, all_has, contains_had, has_contained, has_either, has_filtered, has_kept, has_left, has_right, some_from, some_has, has_mapped, mapped_has, Directive, Record, ChangesNothing, Format, AreReadable, IsFirstFrom, IsNumberOf, IsRecordCount, HasRecord, ints_order, is_less, less_is, kept_rises, pushed_rises, same_list, Refusal, Reply, Why, why_of, answer_of, refused, IsFailure, Conditions, Holdings, base_named, Base, Kept, Keeps, KeepsBase, dumped_by, dumped_from, dumped_in, no_database, existing, found_or, Always, Serves, Meets, AreRisingKept, one_number}
 use Rattle.std.specs.Prelude.{filter, nat_lt}
-use Rattle.std.specs.Cmp.{nat_cmp_total, on_total}
-use Rattle.std.specs.List.{IsDistinct, flat_map}
+use Rattle.std.specs.List.{IsDistinct}
 use Rattle.std.specs.List.Sorted.{IsStrictlySortedBy}
-use Rattle.std.specs.Ordering.{eq_by_cmp, int_cmp, is_eq, nat_cmp}
 use Rattle.std.specs.declared.cmp.Ordering.TheVariants.{Less}
-use Rattle.std.proofs.lemmas.Bool.{cases_Bool, lt-ltb, ltb-false, ltb-true}
-use Rattle.std.proofs.lemmas.Cmp.{eq_by_cmp_equiv, int_cmp_total}
-use Rattle.std.proofs.lemmas.Grind.{flat_map-append}
-use Rattle.std.proofs.lemmas.List.{length-map}
-use Rattle.std.proofs.lemmas.Map.Made.{length-le_from_is_member}
-use Rattle.sqlite.specs.State.{State}
-use Rattle.sqlite.specs.Tree.{Trees}
-use Rattle.sqlite_catalog.proofs.ListFacts.{filter_all}
-use Rattle.sqlite_rules.specs.Lists.{Has}
-use Rattle.sqlite_rules.proofs.ListLemmas.{all_from, all_has, contains_had, has_contained, has_either, has_filtered, has_kept, has_left, has_right, some_from, some_has}
-use Rattle.sqlite_rules.proofs.ProbeLemmas.{has_mapped, mapped_has}
-use Rattle.zeb_profile.specs.declared.directives.Directive.{Directive}
-use Rattle.zeb_register.specs.declared.kept.Record.{Record}
-use Rattle.zeb_register.specs.Calls.{ChangesNothing}
-use Rattle.zeb_register.specs.Formats.{Format}
-use Rattle.zeb_register.specs.Kept.{AreReadable, IsFirstFrom, IsNumberOf, IsRecordCount}
-use Rattle.zeb_register.specs.Store.{HasRecord}
-use Rattle.zeb_register.proofs.ContentLemmas.{ints_order}
-use Rattle.zeb_register.proofs.CountLemmas.{is_less, less_is}
-use Rattle.zeb_register.proofs.RisingLists.{kept_rises, pushed_rises, same_list}
-use Rattle.zeb_change.specs.declared.refusals.Refusal.{Refusal}
-use Rattle.zeb_engine.specs.declared.replies.Reply.{Reply}
-use Rattle.zeb_change.specs.Refused.{Why, why_of}
-use Rattle.zeb_engine.specs.Answers.{answer_of, refused, IsFailure}
-use Rattle.zeb_change.specs.Conditions.{Conditions}
-use Rattle.zeb_image.specs.Holdings.{Holdings, base_named}
-use Rattle.zeb_change.specs.Base.{Base, Kept}
-use Rattle.zeb_image.specs.Image.{Keeps}
-use Rattle.zeb_engine.specs.PrivateDumping.{KeepsBase}
-use Rattle.zeb_engine.specs.Steps.{dumped_by, dumped_from, dumped_in, no_database, ready}
-use Rattle.zeb_engine.specs.PrivateSteps.{existing, found_or}
-use Rattle.zeb_engine.specs.PrivateWorks.{Always, Serves}
-use Rattle.zeb_change.specs.Refused.{Meets}
+use Rattle.zeb_engine.specs.Steps.{ready}
 use Rattle.zeb_engine.proofs.DatabasesOfImages.{IsHeld}
-use Rattle.zeb_change.proofs.KeptLemmas.{AreRisingKept, one_number}
 use Rattle.zeb_engine.proofs.ServesLemmas.{early_serves, keeps_still}
 
 -- ---- how many records a database has

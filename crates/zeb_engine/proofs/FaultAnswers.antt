@@ -1,20 +1,8 @@
 -- The faults of records and of files that a definition finds: none is a reader's, nor want of memory.
-use Rattle.std.proofs.Common.{◌≡◌, ◌∷◌, ℕ, zero, suc, Bool, true, false, cond, List, [], Option, Some, None, Result, Ok, Err, nat_lt, refl, length, drop}
-use Rattle.std.specs.Prelude.{⊤}
-use Rattle.std.specs.List.{AllByRecursion, prefix_len}
-use Rattle.std.specs.Option.{option_and_then}
-use Rattle.std.specs.Str.Lossy.{utf8_lossy}
-use Rattle.zeb_marc.specs.declared.faults.MarcFault.{MarcFault}
+use Rattle.zeb_engine.proofs.Cited.{◌≡◌, ◌∷◌, ℕ, zero, suc, Bool, true, false, cond, List, [], Option, Some, None, Result, Ok, Err, nat_lt, refl, length, drop, ⊤, AllByRecursion, prefix_len, option_and_then, utf8_lossy, MarcFault, UnitText, first_failing, slice_checks, first_fault, IsRecordFault, Next, a_slice, a_fault, is_separator, next_if, next_behind, Split, split_next, split_within, record_faults, Directive, identifier_pattern, first_fitting, held_in, identifier_of, without_spaces, IdentFault}
 use Rattle.zeb_marc.specs.declared.faults.MarcFault.TheVariants as marc
-use Rattle.zeb_marc.specs.Contents.{UnitText}
-use Rattle.zeb_marc.specs.Leader.{Check, first_failing, slice_checks}
-use Rattle.zeb_marc.specs.Records.{first_fault, IsRecordFault}
-use Rattle.zeb_marc.specs.Splits.{Next, at_end, a_slice, a_fault, is_separator, next_if, next_behind, next_of, Split, split_next, split_within, split_of}
-use Rattle.zeb_marc.proofs.FaultLaws.{record_faults}
-use Rattle.zeb_profile.specs.declared.directives.Directive.{Directive}
-use Rattle.zeb_profile.specs.Indexes.{identifier_pattern}
-use Rattle.zeb_extract.specs.Identifier.{first_fitting, held_in, identifier_of, without_spaces}
-use Rattle.zeb_extract.specs.declared.naming.IdentFault.{IdentFault}
+use Rattle.zeb_marc.specs.Leader.{Check}
+use Rattle.zeb_marc.specs.Splits.{at_end, next_of, split_of}
 use Rattle.zeb_extract.specs.declared.naming.IdentFault.TheVariants as ident
 
 -- ---- of records and files

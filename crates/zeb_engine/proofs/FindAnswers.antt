@@ -1,39 +1,9 @@
 -- A find, step by step: what a plan holds of by the postings of its key, and that sets of the same occurrences have the same answers.
-use Rattle.std.proofs.Common.{◌≡◌, ◌↔◌, ◌-◌, ◌&&◌, ℕ, ℤ, zero, suc, pos, Bool, true, false, if◌then◌else◌, List, [], ◌∷◌, length, take, drop, nat_lt, Some, Result, Ok, Err, refl, sym, ap, subst, inl, inr, arith, IsUtf8, string_bytes}
-use Rattle.std.specs.List.{Contains}
-use Rattle.std.specs.Fmt.{decimal}
-use Rattle.sqlite.specs.Tree.{Trees}
-use Rattle.sqlite_rules.specs.Lists.{Has}
-use Rattle.zeb_profile.specs.declared.directives.Directive.{Directive}
-use Rattle.zeb_query.specs.declared.faults.QueryFault.{QueryFault}
-use Rattle.zeb_query.specs.declared.faults.QueryFault.TheVariants.{Diagnostic, Memory}
-use Rattle.zeb_query.specs.Checks.{Fails, Refusal as PlanRefusal}
-use Rattle.zeb_query.specs.Grammar.{QueryValue, SpellsQuery}
-use Rattle.zeb_query.specs.Places.{IsReadable}
-use Rattle.zeb_query.specs.Plans.{PlanValue, plan_of}
-use Rattle.zeb_keys.specs.declared.keys.Occurrence.{Occurrence}
-use Rattle.zeb_register.specs.Content.{posted}
-use Rattle.zeb_register.specs.Formats.{Format}
-use Rattle.zeb_register.proofs.TermLists.{has_taken}
-use Rattle.zeb_change.specs.declared.refusals.Refusal.{Refusal}
-use Rattle.zeb_engine.specs.Answers.{Answer, found, refused}
-use Rattle.zeb_change.specs.Refused.{Why, diagnostic, why_of, Meets}
-use Rattle.zeb_engine.specs.Finding.{AreShown, IsAnswered, IsNamed, IsPlanned, IsShown, asked_of, has_name}
-use Rattle.zeb_change.specs.Occurs.{occurs}
-use Rattle.zeb_search.specs.Holds.{TreeHolds}
-use Rattle.zeb_search.specs.Lists.{AreNumbers}
-use Rattle.zeb_search.specs.Registers.{has_ident_in, HoldsIn, is_kept_in, NamesReadable}
-use Rattle.zeb_search.proofs.ReadableNames.{names_readable}
-use Rattle.zeb_search.proofs.HoldsAlike.{tree_alike}
-use Rattle.zeb_search.proofs.KnownHolders.{IsKnown, holder_known}
-use Rattle.zeb_change.specs.Base.{Base, Kept}
-use Rattle.zeb_image.specs.Holdings.{base_named}
-use Rattle.zeb_change.specs.Outcomes.{query_refusal}
-use Rattle.zeb_engine.specs.Steps.{FindAnswers}
+use Rattle.zeb_engine.proofs.Cited.{◌≡◌, ◌↔◌, ◌-◌, ◌&&◌, ℕ, ℤ, zero, suc, pos, Bool, true, false, if◌then◌else◌, List, [], ◌∷◌, length, take, drop, nat_lt, Some, Result, Ok, Err, refl, sym, ap, subst, inl, inr, arith, IsUtf8, string_bytes, Contains, decimal, Trees, Has, Directive, QueryFault, Diagnostic, Memory, Fails, PlanRefusal, QueryValue, SpellsQuery, IsReadable, PlanValue, plan_of, Occurrence, posted, Format, has_taken, Refusal, Answer, found, refused, Why, diagnostic, why_of, Meets, AreShown, IsAnswered, IsNamed, IsPlanned, IsShown, asked_of, has_name, occurs, TreeHolds, AreNumbers, has_ident_in, HoldsIn, is_kept_in, NamesReadable, names_readable, tree_alike, holder_known, Base, Kept, base_named, query_refusal, FindAnswers, base_numbered}
+use Rattle.zeb_search.proofs.KnownHolders.{IsKnown}
 use Rattle.zeb_engine.proofs.ReadyQueries.{Ends, said_ends}
 use Rattle.zeb_engine.proofs.DatabasesOfImages.{IsHeld, kept_as_named, named_as_kept}
 use Rattle.zeb_engine.proofs.Showing.{KeepsEach}
-use Rattle.zeb_change.proofs.BaseLemmas.{base_numbered}
 
 -- ---- sets of the same occurrences
 

@@ -1,32 +1,8 @@
 -- Why a find is refused that goes by the registers alone, step by step.
-use Rattle.std.proofs.Common.{◌≡◌, ◌⊎◌, ◌<◌, ◌^◌, ℕ, ℤ, List, Some, None, Result, Ok, Err, string_bytes, refl, sym, ap, subst, inl, inr, arith}
-use Rattle.sqlite.specs.Tree.{Trees}
-use Rattle.sqlite_rules.specs.Lists.{Has}
-use Rattle.zeb_profile.specs.declared.directives.Directive.{Directive}
-use Rattle.zeb_query.specs.declared.faults.QueryFault.{QueryFault}
-use Rattle.zeb_query.specs.declared.faults.QueryFault.TheVariants.{Diagnostic, Memory}
+use Rattle.zeb_engine.proofs.Cited.{◌≡◌, ◌⊎◌, ◌<◌, ◌^◌, ℕ, ℤ, List, Some, None, Result, Ok, Err, string_bytes, refl, sym, ap, subst, inl, inr, arith, Trees, Has, Directive, QueryFault, Diagnostic, Memory, Fails, IsFaultOf, IsReadable, QueryValue, SpellsQuery, AllWordsOf, AlwaysOf, AnyWordOf, CompleteOf, HasSmallNumber, HasSmallNumbers, NearOf, NumberOf, OrderedOf, PairOf, PhraseOf, PlanValue, RecordNumberOf, TermOf, TermPlanValue, plan_of, Occurrence, RegFault, Content, IsStorable, posted, HasDatabase, TermHolds, TreeHolds, AreNumbers, has_ident_in, is_kept_in, HoldsIn, NamesReadable, holder_known, Refusal, query_refusal, register_refusal, Why, diagnostic, why_of, Meets, FindSays, HidesHit, HidesOne, IsSaidOrMissed, MeetsDamage, RefusesFind, refused, IsFailure, asked_of, IsPlanned, IsShown, MissesDatabase}
 use Rattle.zeb_query.specs.declared.plans.Operator.TheVariants as operator
-use Rattle.zeb_query.specs.Checks.{Fails}
-use Rattle.zeb_query.specs.Places.{IsFaultOf, IsReadable}
-use Rattle.zeb_query.specs.Grammar.{QueryValue, SpellsQuery}
-use Rattle.zeb_query.specs.Plans.{AllWordsOf, AlwaysOf, AnyWordOf, CompleteOf, HasSmallNumber, HasSmallNumbers, NearOf, NumberOf, OrderedOf, PairOf, PhraseOf, PlanValue, RecordNumberOf, TermOf, TermPlanValue, plan_of}
-use Rattle.zeb_keys.specs.declared.keys.Occurrence.{Occurrence}
-use Rattle.zeb_register.specs.declared.RegFault.{RegFault}
 use Rattle.zeb_register.specs.declared.RegFault.TheVariants as register
-use Rattle.zeb_register.specs.Content.{Content, IsStorable, posted}
-use Rattle.zeb_register.specs.Store.{HasDatabase}
-use Rattle.zeb_search.specs.Holds.{TermHolds, TreeHolds}
-use Rattle.zeb_search.specs.Lists.{AreNumbers}
-use Rattle.zeb_search.specs.Registers.{has_ident_in, is_kept_in, HoldsIn, NamesReadable}
-use Rattle.zeb_search.proofs.KnownHolders.{holder_known}
-use Rattle.zeb_change.specs.declared.refusals.Refusal.{Refusal}
 use Rattle.zeb_change.specs.declared.refusals.Refusal.TheVariants as refusal
-use Rattle.zeb_change.specs.Outcomes.{query_refusal, register_refusal}
-use Rattle.zeb_change.specs.Refused.{Why, diagnostic, why_of, Meets}
-use Rattle.zeb_engine.specs.Alone.{FindSays, HidesHit, HidesOne, IsSaidOrMissed, MeetsDamage, RefusesFind}
-use Rattle.zeb_engine.specs.Answers.{refused, IsFailure}
-use Rattle.zeb_engine.specs.Finding.{asked_of, IsPlanned, IsShown}
-use Rattle.zeb_engine.specs.PrivateLooking.{MissesDatabase}
 use Rattle.zeb_engine.proofs.FindAnswers.{asked_has}
 use Rattle.zeb_engine.proofs.ListedDatabases.{fault_or_damage}
 

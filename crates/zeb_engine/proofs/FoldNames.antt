@@ -1,17 +1,6 @@
 -- Records that are folded into a database leave it its name.
-use Rattle.std.proofs.Common.{◌≡◌, ◌∙◌, ◌+◌, ℕ, List, [], ◌∷◌, Bool, true, false, nat_le, Option, Some, None, Result, Ok, Err, IfOk, refl, ap, subst, if◌then◌else◌}
-use Rattle.zeb_marc.specs.declared.faults.MarcFault.{MarcFault}
-use Rattle.zeb_marc.specs.Records.{first_fault}
-use Rattle.zeb_marc.specs.Splits.{Split}
-use Rattle.zeb_extract.specs.declared.naming.IdentFault.{IdentFault}
-use Rattle.zeb_change.specs.declared.settings.Kind.{Kind}
-use Rattle.zeb_change.specs.declared.settings.Kind.TheVariants.{Update, Delete, Adelete}
-use Rattle.zeb_change.specs.declared.tally.Fate.{Fate}
-use Rattle.zeb_change.specs.declared.tally.Fate.TheVariants.{Inserted, Updated, Deleted, PassedOver}
-use Rattle.zeb_change.specs.Refused.{Why, database_full, too_many_records, unknown}
-use Rattle.zeb_change.specs.Conditions.{Conditions}
-use Rattle.zeb_change.specs.Folding.{Changed, Progress, updated, deleted, changed_by, with_ident, ident_in, with_record, changed_record, counted, ◌then◌, record_folded, at_end, slices_folded, file_folded, files_folded}
-use Rattle.zeb_change.specs.Base.{Base, Kept, kept_as, with_new}
+use Rattle.zeb_engine.proofs.Cited.{◌≡◌, ◌∙◌, ◌+◌, ℕ, List, [], ◌∷◌, Bool, true, false, nat_le, Option, Some, None, Result, Ok, Err, IfOk, refl, ap, subst, if◌then◌else◌, MarcFault, first_fault, Split, IdentFault, Kind, Update, Delete, Adelete, Fate, Inserted, Updated, Deleted, PassedOver, Why, database_full, too_many_records, unknown, Conditions, Changed, Progress, updated, deleted, changed_by, with_ident, ident_in, with_record, counted, ◌then◌, at_end, slices_folded, files_folded, Base, Kept, kept_as, with_new}
+use Rattle.zeb_change.specs.Folding.{changed_record, record_folded, file_folded}
 
 abbrev pub KeepsName : Base → Result Changed Why → Type 0
 KeepsName base said = IfOk said (λ changed. changed.0.name ≡ base.name)

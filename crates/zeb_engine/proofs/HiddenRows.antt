@@ -1,31 +1,8 @@
 -- A command that asks, a create and a drop on any tables of a store, step by step: which rows they are refused for.
-use Rattle.std.proofs.Common.{◌≡◌, ◌≢◌, ◌⊎◌, ℕ, ℤ, pos, List, Option, Some, None, Result, Ok, Err, refl, ap, subst, inl, inr}
-use Rattle.sqlite.specs.Effect.{Database as Contents}
-use Rattle.sqlite.specs.State.{State}
-use Rattle.sqlite.specs.Tree.{Trees}
-use Rattle.zeb_profile.specs.declared.directives.Directive.{Directive}
-use Rattle.zeb_query.specs.Places.{IsReadable}
+use Rattle.zeb_engine.proofs.Cited.{◌≡◌, ◌≢◌, ◌⊎◌, ℕ, ℤ, pos, List, Option, Some, None, Result, Ok, Err, refl, ap, subst, inl, inr, Contents, State, Trees, Directive, IsReadable, RegFault, ChangesNothing, AreCountedDatabases, IsDatabaseOf, HasDatabase, IsStore, store_same, Refusal, register_refusal, why_of, DbName, name_bytes, Reply, StaysOpen, IsSaidOrMissed, OfDatabase, CreateOver, DropOver, HidesDatabase, HidesOf, TellsUnlessHidden, UnlessHidden, Answer, refused, IsFailure, IsUnready, MissesDatabase, reply_of_work, DoneOrFails, IsReadyFor, IsRefusedOver}
 use Rattle.zeb_register.specs.declared.catalog.Database.{Database}
-use Rattle.zeb_register.specs.declared.RegFault.{RegFault}
 use Rattle.zeb_register.specs.declared.RegFault.TheVariants as register
-use Rattle.zeb_register.specs.Calls.{ChangesNothing}
-use Rattle.zeb_register.specs.Catalog.{AreCountedDatabases, IsDatabaseOf}
-use Rattle.zeb_register.specs.Store.{HasDatabase, IsStore}
-use Rattle.zeb_register.proofs.Calls.{store_same}
-use Rattle.zeb_change.specs.declared.refusals.Refusal.{Refusal}
 use Rattle.zeb_change.specs.declared.refusals.Refusal.TheVariants as refusal
-use Rattle.zeb_change.specs.Outcomes.{register_refusal}
-use Rattle.zeb_change.specs.Refused.{why_of}
-use Rattle.zeb_image.specs.declared.names.DbName.{DbName}
-use Rattle.zeb_image.specs.NameOf.{name_bytes}
-use Rattle.zeb_engine.specs.declared.replies.Reply.{Reply}
-use Rattle.zeb_engine.specs.Adopting.{StaysOpen}
-use Rattle.zeb_engine.specs.Alone.{IsSaidOrMissed, OfDatabase}
-use Rattle.zeb_engine.specs.AnyRefusals.{CreateOver, DropOver, HidesDatabase, HidesOf, TellsUnlessHidden, UnlessHidden}
-use Rattle.zeb_engine.specs.Answers.{Answer, refused, IsFailure}
-use Rattle.zeb_engine.specs.PrivateLooking.{IsUnready, MissesDatabase}
-use Rattle.zeb_engine.specs.PrivateWriting.{reply_of_work, DoneOrFails}
-use Rattle.zeb_engine.specs.Readiness.{IsReadyFor, IsRefusedOver}
 use Rattle.zeb_engine.proofs.ListedDatabases.{fault_fails, fault_or_damage}
 use Rattle.zeb_engine.proofs.ReadyTexts.{unready_fails}
 

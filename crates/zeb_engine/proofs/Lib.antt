@@ -43,10 +43,7 @@ pub mod Lookups
 pub mod ReadyBases
 pub mod ScanAnswers
 pub mod StoreCauses
-pub mod WriteCauses
 pub mod MadeTables
-pub mod AdoptingCauses
-pub mod InitCauses
 pub mod DumpAnswers
 pub mod ReadingOn
 pub mod StatAnswers
@@ -59,7 +56,8 @@ pub mod OneAnswer
 pub mod OneCount
 pub mod RunCommits
 pub mod AskedReads
-pub mod ChangeRoom
 pub mod ChangeElders
 pub mod ChangeReasons
 pub mod ChangeNumbers
+pub mod OneRefusal
+pub mod Cited

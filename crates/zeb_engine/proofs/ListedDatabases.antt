@@ -1,22 +1,8 @@
 -- The rows of databases, and the databases that they are the image of.
-use Rattle.std.proofs.Common.{◌≡◌, ◌⊎◌, ℕ, ℤ, pos, List, Option, Some, None, Result, Err, refl, sym, subst, inl, inr}
-use Rattle.sqlite.specs.Tree.{Trees}
-use Rattle.sqlite_rules.proofs.ListLemmas.{has_contained, contains_had}
-use Rattle.zeb_profile.specs.declared.directives.Directive.{Directive}
-use Rattle.zeb_register.specs.Store.{HasDatabase}
-use Rattle.zeb_register.specs.Catalog.{AreCountedDatabases, IsDatabaseOf}
+use Rattle.zeb_engine.proofs.Cited.{◌≡◌, ◌⊎◌, ℕ, ℤ, pos, List, Option, Some, None, Result, Err, refl, sym, subst, inl, inr, Trees, has_contained, contains_had, Directive, HasDatabase, AreCountedDatabases, IsDatabaseOf, RegFault, Why, why_of, Meets, IsFailure, refused, Base, base_named, AreBases, AreListed, register_refusal, MissesDatabase, named_found, named_there}
 use Rattle.zeb_register.specs.declared.catalog.Database.{Database}
-use Rattle.zeb_register.specs.declared.RegFault.{RegFault}
 use Rattle.zeb_register.specs.declared.RegFault.TheVariants as register
-use Rattle.zeb_change.specs.Refused.{Why, why_of, Meets}
-use Rattle.zeb_engine.specs.Answers.{IsFailure, refused}
-use Rattle.zeb_change.specs.Base.{Base}
-use Rattle.zeb_image.specs.Holdings.{base_named}
-use Rattle.zeb_image.specs.Image.{AreBases, AreListed}
 use Rattle.zeb_change.specs.declared.refusals.Refusal.TheVariants as refusal
-use Rattle.zeb_change.specs.Outcomes.{register_refusal}
-use Rattle.zeb_engine.specs.PrivateLooking.{MissesDatabase}
-use Rattle.zeb_image.proofs.Bases.{named_found, named_there}
 
 -- a fault of the tables that is no damage is a failure
 pub fault_meets : {A X : Type 0} (Good : A → X → Type 0) (said : Result A Why) (fault : RegFault) → (fault ≡ register.Damaged → ⊥) → Meets Good said (Err (register_refusal fault))

@@ -1,25 +1,7 @@
 -- A find on its way, after the look-up of its database and after its hits: what stays known of the tables at its begin.
-use Rattle.std.proofs.Common.{◌≡◌, ℕ, ℤ, pos, Bor, List, Some, Ok, IsTrue, refl, sym, subst}
-use Rattle.sqlite.specs.State.{State}
-use Rattle.sqlite.specs.Tree.{Trees}
-use Rattle.zeb_query.specs.Plans.{PlanValue}
-use Rattle.zeb_register.specs.Calls.{ChangesNothing}
-use Rattle.zeb_register.specs.Content.{Content}
-use Rattle.zeb_register.specs.Formats.{Format, holds_in}
-use Rattle.zeb_register.specs.Store.{HasDatabase, IsStore}
+use Rattle.zeb_engine.proofs.Cited.{◌≡◌, ℕ, ℤ, pos, Bor, List, Some, Ok, IsTrue, refl, sym, subst, State, Trees, PlanValue, ChangesNothing, Content, Format, holds_in, HasDatabase, IsStore, AreNumbers, HoldsIn, Base, Conditions, AreSessions, Meets, Holdings, base_named, IsImage, asked_of, existing, ShowsStore}
 use Rattle.zeb_register.specs.declared.catalog.Database.{Database}
-use Rattle.zeb_search.specs.Lists.{AreNumbers}
-use Rattle.zeb_search.specs.Registers.{HoldsIn}
-use Rattle.zeb_change.specs.Base.{Base}
-use Rattle.zeb_change.specs.Conditions.{Conditions}
-use Rattle.zeb_change.specs.PrivateConditions.{AreSessions}
-use Rattle.zeb_change.specs.Refused.{Meets}
-use Rattle.zeb_image.specs.Holdings.{Holdings, base_named}
-use Rattle.zeb_image.specs.Image.{IsImage}
-use Rattle.zeb_engine.specs.Finding.{asked_of}
 use Rattle.zeb_engine.specs.Steps.{ready}
-use Rattle.zeb_engine.specs.PrivateSteps.{existing}
-use Rattle.zeb_engine.specs.PrivateWorks.{ShowsStore}
 use Rattle.zeb_engine.proofs.FindAnswers.{met_view}
 use Rattle.zeb_engine.proofs.DatabasesOfImages.{IsHeld, looked_up}
 use Rattle.zeb_engine.proofs.Showing.{still_shows}

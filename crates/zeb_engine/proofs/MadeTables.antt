@@ -1,26 +1,6 @@
 -- What a create makes and a drop takes, from the rows that are written up to the command.
-use Rattle.std.proofs.Common.{◌≡◌, ℕ, ℤ, pos, List, true, false, None, Result, Ok, Err, OnOk, refl, sym, ap, subst, subst₂}
-use Rattle.sqlite.specs.Effect.{Database}
-use Rattle.sqlite.specs.Held.{Held, state}
-use Rattle.sqlite.specs.State.{State, Shows}
-use Rattle.sqlite.specs.Store.{Ghosts}
-use Rattle.sqlite.specs.Tree.{Trees}
-use Rattle.zeb_register.specs.Calls.{ChangesNothing}
-use Rattle.zeb_register.specs.Catalog.{IsDatabaseOf, PutsDatabase}
-use Rattle.zeb_register.specs.Content.{TakesWhole}
-use Rattle.zeb_register.specs.Sql.{KeepsOthers, Loses}
-use Rattle.zeb_register.specs.Store.{Changes, HasDatabase, IsPostingIn, IsRecordIn, IsStore, TakesDatabase, blocks_tree, databases_tree, dict_tree, meta_tree, postings_tree, records_tree}
-use Rattle.zeb_register.specs.Tables.{store_schema}
-use Rattle.zeb_register.proofs.Calls.{store_same}
-use Rattle.zeb_register.proofs.DatabaseStatements.{one_name}
-use Rattle.zeb_change.specs.declared.refusals.Refusal.{Refusal}
-use Rattle.zeb_image.specs.declared.names.DbName.{DbName}
-use Rattle.zeb_image.specs.NameOf.{name_bytes}
-use Rattle.zeb_engine.specs.declared.writes.Write.{Write}
+use Rattle.zeb_engine.proofs.Cited.{◌≡◌, ℕ, ℤ, pos, List, true, false, None, Result, Ok, Err, OnOk, refl, sym, ap, subst, subst₂, Database, Held, state, State, Shows, Ghosts, Trees, ChangesNothing, IsDatabaseOf, PutsDatabase, TakesWhole, KeepsOthers, Loses, Changes, HasDatabase, IsPostingIn, IsRecordIn, IsStore, TakesDatabase, blocks_tree, databases_tree, dict_tree, meta_tree, postings_tree, records_tree, store_schema, store_same, one_name, Refusal, DbName, name_bytes, Write, StaysOpen, DropsDatabase, OnAccepted, MakesDatabase, MakesOrTakes}
 use Rattle.zeb_engine.specs.declared.writes.Write.TheVariants as write
-use Rattle.zeb_engine.specs.Adopting.{StaysOpen}
-use Rattle.zeb_engine.specs.AnyMade.{DropsDatabase, OnAccepted, MakesDatabase}
-use Rattle.zeb_engine.specs.PrivateWriting.{MakesOrTakes}
 use Rattle.zeb_engine.proofs.ServesLemmas.{on_ok}
 
 -- the row of the database is written, and no other table

@@ -1,19 +1,6 @@
 -- What a look for the database of a name tells, on a register that is ready.
-use Rattle.std.proofs.Common.{◌≡◌, ℕ, pos, List, Option, None, Ok, IsTrue, subst, sym}
-use Rattle.sqlite.specs.Effect.{Database as Contents}
-use Rattle.sqlite.specs.State.{State}
-use Rattle.zeb_register.specs.Calls.{ChangesNothing}
-use Rattle.zeb_register.specs.Catalog.{IsDatabaseOf}
-use Rattle.zeb_register.specs.Store.{HasDatabase, IsStore}
+use Rattle.zeb_engine.proofs.Cited.{◌≡◌, ℕ, pos, List, Option, None, Ok, IsTrue, subst, sym, Contents, State, ChangesNothing, IsDatabaseOf, HasDatabase, IsStore, Base, Conditions, Meets, Holdings, IsImage, IsFree, IsKnown, existing, IsReady}
 use Rattle.zeb_register.specs.declared.catalog.Database.{Database}
-use Rattle.zeb_change.specs.Base.{Base}
-use Rattle.zeb_change.specs.Conditions.{Conditions}
-use Rattle.zeb_change.specs.Refused.{Meets}
-use Rattle.zeb_image.specs.Holdings.{Holdings}
-use Rattle.zeb_image.specs.Image.{IsImage}
-use Rattle.zeb_engine.specs.PrivateWriting.{IsFree, IsKnown}
-use Rattle.zeb_engine.specs.PrivateSteps.{existing}
-use Rattle.zeb_engine.specs.PrivateWorks.{IsReady}
 use Rattle.zeb_engine.proofs.ListedDatabases.{none_named}
 use Rattle.zeb_engine.proofs.ReadyImages.{image_some}
 use Rattle.zeb_engine.proofs.TurnedOutcomes.{existing_known}

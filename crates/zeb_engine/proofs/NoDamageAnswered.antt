@@ -1,19 +1,6 @@
 -- Damage is no answer of a command that is served, from tables that hold something.
-use Rattle.std.proofs.Common.{◌≡◌, ◌≢◌, ◌⊎◌, ◌∙◌, ℕ, List, [], Result, Err, inl, inr, ap, subst}
-use Rattle.sqlite.specs.State.{State}
-use Rattle.zeb_engine.specs.declared.commands.Command.{Command}
-use Rattle.zeb_change.specs.declared.settings.Kind.{Kind}
-use Rattle.zeb_change.specs.declared.refusals.Refusal.{Refusal}
-use Rattle.zeb_change.specs.declared.refusals.Refusal.TheVariants.{Damaged}
-use Rattle.zeb_engine.specs.declared.replies.Reply.{Reply}
-use Rattle.zeb_engine.specs.Answers.{answer_of, refused, IsFailure}
-use Rattle.zeb_change.specs.Refused.{damaged, why_of}
-use Rattle.zeb_change.specs.Conditions.{Conditions}
-use Rattle.zeb_image.specs.Holdings.{Holdings}
-use Rattle.zeb_image.specs.Image.{Keeps}
-use Rattle.zeb_engine.specs.Steps.{Outcome, changed_by_files, turned}
-use Rattle.zeb_change.specs.Folding.{splits_of}
-use Rattle.zeb_engine.specs.Works.{ServesCommand}
+use Rattle.zeb_engine.proofs.Cited.{◌≡◌, ◌≢◌, ◌⊎◌, ◌∙◌, ℕ, List, [], Result, Err, inl, inr, ap, subst, State, Command, Kind, Refusal, Damaged, Reply, answer_of, refused, IsFailure, damaged, why_of, Conditions, Holdings, Keeps, Outcome, splits_of, ServesCommand}
+use Rattle.zeb_engine.specs.Steps.{changed_by_files, turned}
 use Rattle.zeb_engine.proofs.OwnAnswers.{IsOwnAnswer, answers_own, change_own, turned_own}
 use Rattle.zeb_engine.proofs.StepLemmas.{step_told}
 

@@ -1,32 +1,7 @@
 -- What the definition says that a command answers is one answer.
-use Rattle.std.proofs.Common.{◌≡◌, ◌∙◌, ℕ, List, [], ◌∷◌, map, length, Option, Some, None, Result, Ok, Err, refl, sym, ap, ap₂, subst, inl, inr, string_bytes}
-use Rattle.std.specs.Cmp.{nat_cmp_total}
-use Rattle.sqlite_rules.specs.Lists.{Has}
-use Rattle.zeb_profile.specs.declared.directives.Directive.{Directive}
+use Rattle.zeb_engine.proofs.Cited.{◌≡◌, ◌∙◌, ℕ, List, [], ◌∷◌, map, length, Option, Some, None, Result, Ok, Err, refl, sym, ap, ap₂, subst, inl, inr, string_bytes, nat_cmp_total, Has, Directive, QueryValue, PlanValue, ScanValue, plan_of, scan_of, apart, one_fault, one_query, Occurrence, analyses_once, TermCount, one_terms, same_list, Command, Init, Check, Reindex, Upgrade, Create, Drop, Stat, Dump, Change, Find, Scan, Analyse, IsAnalysed, analysis_answer, Answer, found, refused, scanned, Why, diagnostic, Conditions, TreeHolds, AreNumbers, IsAnswered, IsFound, IsNamed, IsPlanned, IsShown, asked_of, has_name, occurs, Base, Kept, Holdings, base_named, name_bytes, IsScanned, IsScanPlanned, around, AskedAmong, AskedFrom, AskedIn, FindAnswers, Outcome, ScanAnswers, Step}
 use Rattle.zeb_query.specs.Checks.{Refusal}
-use Rattle.zeb_query.specs.Grammar.{QueryValue}
-use Rattle.zeb_query.specs.Plans.{PlanValue, ScanValue, plan_of, scan_of}
-use Rattle.zeb_query.proofs.TextFaults.{apart, one_fault, one_query}
-use Rattle.zeb_keys.specs.declared.keys.Occurrence.{Occurrence}
-use Rattle.zeb_analysis.proofs.ToldOnce.{told_once as analyses_once}
-use Rattle.zeb_register.specs.declared.registers.TermCount.{TermCount}
-use Rattle.zeb_register.proofs.OccurringLemmas.{one_terms}
-use Rattle.zeb_register.proofs.RisingLists.{same_list}
-use Rattle.zeb_engine.specs.declared.commands.Command.{Command}
-use Rattle.zeb_engine.specs.declared.commands.Command.TheVariants.{Init, Check, Reindex, Upgrade, Create, Drop, Stat, Dump, Change, Find, Scan, Analyse}
-use Rattle.zeb_engine.specs.Analysed.{IsAnalysed, analysis_answer}
-use Rattle.zeb_engine.specs.Answers.{Answer, found, refused, scanned}
-use Rattle.zeb_change.specs.Refused.{Why, diagnostic}
-use Rattle.zeb_change.specs.Conditions.{Conditions}
-use Rattle.zeb_search.specs.Holds.{TreeHolds}
-use Rattle.zeb_search.specs.Lists.{AreNumbers}
-use Rattle.zeb_engine.specs.Finding.{IsAnswered, IsFound, IsNamed, IsPlanned, IsShown, asked_of, has_name}
-use Rattle.zeb_change.specs.Occurs.{occurs}
-use Rattle.zeb_change.specs.Base.{Base, Kept}
-use Rattle.zeb_image.specs.Holdings.{Holdings, base_named}
-use Rattle.zeb_image.specs.NameOf.{name_bytes}
-use Rattle.zeb_engine.specs.Scanning.{IsScanned, IsScanPlanned, around}
-use Rattle.zeb_engine.specs.Steps.{AskedAmong, AskedFrom, AskedIn, FindAnswers, Outcome, ScanAnswers, ready, Step}
+use Rattle.zeb_engine.specs.Steps.{ready}
 use Rattle.zeb_engine.proofs.StepLemmas.{MayAnswer, IsTold, step_told}
 use Rattle.zeb_engine.proofs.OneCount.{counted_once}
 

@@ -1,16 +1,6 @@
 -- What the definition says that a stat answers is one answer.
-use Rattle.std.proofs.Common.{◌≡◌, ◌∙◌, ℕ, List, [], ◌∷◌, length, Option, Some, None, Result, Ok, Err, sym, ap, ap₂}
-use Rattle.zeb_profile.specs.declared.directives.Directive.{Directive}
-use Rattle.zeb_keys.specs.declared.keys.Occurrence.{Occurrence}
-use Rattle.zeb_register.proofs.OccurringLemmas.{one_totals}
-use Rattle.zeb_engine.specs.Answers.{Answer, Extent, counted}
-use Rattle.zeb_change.specs.Refused.{Why}
-use Rattle.zeb_change.specs.Conditions.{Conditions}
-use Rattle.zeb_engine.specs.Counting.{IsCounted, IsExtent, Paired, Target, target_list}
-use Rattle.zeb_change.specs.Occurs.{occurs}
-use Rattle.zeb_change.specs.Base.{Base}
-use Rattle.zeb_image.specs.Holdings.{base_named}
-use Rattle.zeb_engine.specs.Steps.{CountedFrom, CountedIn}
+use Rattle.zeb_engine.proofs.Cited.{◌≡◌, ◌∙◌, ℕ, List, [], ◌∷◌, length, Option, Some, None, Result, Ok, Err, sym, ap, ap₂, Directive, Occurrence, one_totals, Answer, Extent, Why, Conditions, IsCounted, IsExtent, Paired, Target, target_list, occurs, Base, base_named, CountedFrom, CountedIn}
+use Rattle.zeb_engine.specs.Answers.{counted}
 
 module _ (O : ℕ → Occurrence → Type 0) (profile : List Directive) where
   extent_once : (target : Target) (a b : Extent) → IsExtent O profile target a → IsExtent O profile target b → a ≡ b

@@ -1,29 +1,7 @@
 -- A find, a scan and a stat on any tables of a store, step by step.
-use Rattle.std.proofs.Common.{◌≡◌, ◌⊎◌, ℕ, ℤ, List, length, map, Result, Ok, Err, string_bytes, refl, sym, ap, subst, inl, inr}
-use Rattle.sqlite.specs.Tree.{Trees}
-use Rattle.zeb_profile.specs.declared.directives.Directive.{Directive}
-use Rattle.zeb_query.specs.declared.faults.QueryFault.{QueryFault}
-use Rattle.zeb_query.specs.declared.faults.QueryFault.TheVariants.{Diagnostic, Memory}
-use Rattle.zeb_query.specs.Checks.{Fails}
-use Rattle.zeb_query.specs.Grammar.{QueryValue, SpellsQuery}
-use Rattle.zeb_query.specs.Places.{IsFaultOf, IsReadable}
-use Rattle.zeb_query.specs.Plans.{PlanValue, ScanValue, plan_of, scan_of}
-use Rattle.zeb_register.specs.declared.RegFault.{RegFault}
+use Rattle.zeb_engine.proofs.Cited.{◌≡◌, ◌⊎◌, ℕ, ℤ, List, length, map, Result, Ok, Err, string_bytes, refl, sym, ap, subst, inl, inr, Trees, Directive, QueryFault, Diagnostic, Memory, Fails, QueryValue, SpellsQuery, IsFaultOf, IsReadable, PlanValue, ScanValue, plan_of, scan_of, RegFault, TermCount, Format, HasDatabase, Refusal, query_refusal, register_refusal, Why, diagnostic, why_of, Meets, Reply, IsAsked, IsSaidOrMissed, OfDatabase, Answer, found, refused, scanned, IsFailure, HidesAround, HidesPlanned, TellsUnlessHidden, HidesUnsaid, AreShown, IsAnsweredBy, IsPlannedBy, IsShown, asked_of, IsScannedBy, IsScanPlannedBy}
 use Rattle.zeb_register.specs.declared.RegFault.TheVariants as register
-use Rattle.zeb_register.specs.declared.registers.TermCount.{TermCount}
-use Rattle.zeb_register.specs.Formats.{Format}
-use Rattle.zeb_register.specs.Store.{HasDatabase}
-use Rattle.zeb_change.specs.declared.refusals.Refusal.{Refusal}
 use Rattle.zeb_change.specs.declared.refusals.Refusal.TheVariants as refusal
-use Rattle.zeb_change.specs.Outcomes.{query_refusal, register_refusal}
-use Rattle.zeb_change.specs.Refused.{Why, diagnostic, why_of, Meets}
-use Rattle.zeb_engine.specs.declared.replies.Reply.{Reply}
-use Rattle.zeb_engine.specs.Alone.{IsAsked, IsSaidOrMissed, OfDatabase}
-use Rattle.zeb_engine.specs.Answers.{Answer, found, refused, scanned, IsFailure}
-use Rattle.zeb_engine.specs.AnyRefusals.{HidesAround, HidesPlanned, TellsUnlessHidden}
-use Rattle.zeb_engine.specs.AnyTables.{HidesUnsaid}
-use Rattle.zeb_engine.specs.Finding.{AreShown, IsAnsweredBy, IsPlannedBy, IsShown, asked_of}
-use Rattle.zeb_engine.specs.Scanning.{IsScannedBy, IsScanPlannedBy}
 
 -- ---- damage and failures
 

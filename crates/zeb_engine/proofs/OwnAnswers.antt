@@ -1,43 +1,13 @@
 -- What the definition answers is never damage, nor a failure of the store, of the memory or of a reader.
-use Rattle.std.proofs.Common.{◌+◌, ◌-◌, ℕ, Bool, true, false, cond, inl, inr, List, [], ◌∷◌, Option, Some, None, Result, Ok, Err, map, length, take, drop, nat_le, nat_lt, sym, subst, string_bytes}
-use Rattle.std.specs.Prelude.{◌&&◌, ◌||◌, ⊤}
-use Rattle.std.specs.Str.{bytes_eq}
-use Rattle.std.specs.Fmt.{decimal}
-use Rattle.zeb_marc.specs.declared.faults.MarcFault.{MarcFault}
+use Rattle.zeb_engine.proofs.Cited.{◌+◌, ◌-◌, ℕ, Bool, true, false, cond, inl, inr, List, [], ◌∷◌, Option, Some, None, Result, Ok, Err, map, length, take, drop, nat_le, nat_lt, sym, subst, string_bytes, ◌||◌, ⊤, bytes_eq, decimal, MarcFault, first_fault, fields_of, units_of, canonical_text, plain_rows, version_of, PlanValue, ScanValue, plan_of, scan_of, Occurrence, IdentFault, AnalysisFault, Analysed, AnalysesTo, IsRefusal, Command, Init, Check, Reindex, Upgrade, Create, Drop, Stat, Dump, Change, Find, Scan, Analyse, Kind, Update, Delete, Adelete, Inserted, PassedOver, name_bytes, Answer, refused, Why, old_format, profile_changed, rule_changed, diagnostic, unknown, database_full, too_many_records, damaged, read_fault, store_failed, out_of_memory, why_of, Conditions, IsPlanned, IsShown, asked_of, has_name, occurs, IsScanPlanned, Changed, Progress, at_end, at_first, changed_by, counted, deleted, files_folded, ident_in, slices_folded, updated, with_ident, with_record, ◌then◌, splits_of, Base, Kept, kept_as, with_new, Holdings, nothing_yet, under, base_named, IsAnalysed, analysis_answer, same_rule, analysis_refusal, marc_refusal, AskedAmong, AskedFrom, AskedIn, CountedFrom, CountedIn, FindAnswers, ScanAnswers, Turn, change_ends, change_from, created_in, dropped_in, dumped_from, dumped_in, ends, start_of, turned_from, checked_from, all_stay}
+use Rattle.std.specs.Prelude.{◌&&◌}
 use Rattle.zeb_marc.specs.declared.faults.MarcFault.TheVariants as marc
-use Rattle.zeb_marc.specs.Records.{first_fault, fields_of}
-use Rattle.zeb_marc.specs.Contents.{units_of}
 use Rattle.zeb_marc.specs.Splits.{split_of}
-use Rattle.zeb_profile.specs.Canonical.{canonical_text}
-use Rattle.zeb_register.specs.Formats.{plain_rows, version_of}
 use Rattle.zeb_query.specs.Checks.{Refusal}
-use Rattle.zeb_query.specs.Plans.{PlanValue, ScanValue, plan_of, scan_of}
-use Rattle.zeb_keys.specs.declared.keys.Occurrence.{Occurrence}
-use Rattle.zeb_extract.specs.declared.naming.IdentFault.{IdentFault}
 use Rattle.zeb_extract.specs.declared.naming.IdentFault.TheVariants as ident
-use Rattle.zeb_analysis.specs.declared.faults.AnalysisFault.{AnalysisFault}
 use Rattle.zeb_analysis.specs.declared.faults.AnalysisFault.TheVariants as analysis
-use Rattle.zeb_analysis.specs.Analysing.{Analysed, AnalysesTo}
-use Rattle.zeb_analysis.specs.Laws.{IsRefusal}
-use Rattle.zeb_engine.specs.declared.commands.Command.{Command}
-use Rattle.zeb_engine.specs.declared.commands.Command.TheVariants.{Init, Check, Reindex, Upgrade, Create, Drop, Stat, Dump, Change, Find, Scan, Analyse}
-use Rattle.zeb_change.specs.declared.settings.Kind.{Kind}
-use Rattle.zeb_change.specs.declared.settings.Kind.TheVariants.{Update, Delete, Adelete}
-use Rattle.zeb_change.specs.declared.tally.Fate.TheVariants.{Inserted, PassedOver}
-use Rattle.zeb_image.specs.NameOf.{name_bytes}
-use Rattle.zeb_engine.specs.Answers.{Answer, refused}
-use Rattle.zeb_change.specs.Refused.{Why, old_format, profile_changed, rule_changed, diagnostic, unknown, database_full, too_many_records, damaged, read_fault, store_failed, out_of_memory, why_of}
-use Rattle.zeb_change.specs.Conditions.{Conditions}
-use Rattle.zeb_engine.specs.Finding.{IsPlanned, IsShown, asked_of, has_name}
-use Rattle.zeb_change.specs.Occurs.{occurs}
-use Rattle.zeb_engine.specs.Scanning.{IsScanPlanned}
-use Rattle.zeb_change.specs.Folding.{Changed, Progress, at_end, at_first, changed_by, changed_record, counted, deleted, file_folded, files_folded, record_folded, ident_in, slices_folded, updated, with_ident, with_record, ◌then◌, splits_of}
-use Rattle.zeb_change.specs.Base.{Base, Kept, kept_as, with_new}
-use Rattle.zeb_image.specs.Holdings.{Holdings, nothing_yet, under, base_named}
-use Rattle.zeb_engine.specs.Analysed.{IsAnalysed, analysis_answer}
-use Rattle.zeb_engine.specs.Rules.{same_rule}
-use Rattle.zeb_change.specs.Outcomes.{analysis_refusal, marc_refusal}
-use Rattle.zeb_engine.specs.Steps.{AskedAmong, AskedFrom, AskedIn, CountedFrom, CountedIn, FindAnswers, ScanAnswers, Turn, change_ends, change_from, changed_by_files, created, created_in, dropped, dropped_in, dumped_from, dumped_in, ends, initialised, ready, start_of, turned, turned_from, checked_from, reindexed, ruled, upgradable, upgraded, all_stay}
+use Rattle.zeb_change.specs.Folding.{changed_record, file_folded, record_folded}
+use Rattle.zeb_engine.specs.Steps.{changed_by_files, created, dropped, initialised, ready, turned, reindexed, ruled, upgradable, upgraded}
 use Rattle.zeb_engine.proofs.StepLemmas.{MayAnswer}
 use Rattle.zeb_engine.proofs.AnalysisAnswers.{fault_of_text, refusal_of_texts}
 use Rattle.zeb_engine.proofs.FaultAnswers.{IsOfText, IsOfRecord, first_of_text, split_of_text, identifier_of_record}

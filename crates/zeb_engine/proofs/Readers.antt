@@ -1,9 +1,5 @@
 -- Readers of which none has failed.
-use Rattle.std.proofs.Common.{◌≡◌, ◌⊎◌, ◌∙◌, ◌≤◌, arith, ℕ, Bool, true, false, List, [], ◌∷◌, Result, Err, IsErrAnd, inl, inr, refl, subst, sym, ap}
-use Rattle.zeb_change.specs.declared.refusals.Refusal.{Refusal}
-use Rattle.zeb_change.specs.declared.refusals.Refusal.TheVariants.{ReadFault}
-use Rattle.zeb_change.specs.Reading.{HasFailedAt, NamesFailed, NoneFailed}
-use Rattle.zeb_change.proofs.FoldAll.{fine_at, one_failed}
+use Rattle.zeb_engine.proofs.Cited.{◌≡◌, ◌⊎◌, ◌∙◌, ◌≤◌, arith, ℕ, Bool, true, false, List, [], ◌∷◌, Result, Err, IsErrAnd, inl, inr, refl, subst, sym, ap, Refusal, ReadFault, HasFailedAt, NamesFailed, NoneFailed, fine_at, one_failed}
 
 pub no_file_failed : {R : Type 0} (failed : R → Bool) (readers : List R) → NoneFailed failed readers → (file : ℕ) → HasFailedAt failed readers file → ⊥
 no_file_failed failed readers none file at =

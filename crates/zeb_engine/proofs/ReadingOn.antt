@@ -1,19 +1,6 @@
 -- Records that are read one after the other, on any tables: what has been read of them up to a number.
-use Rattle.std.proofs.Common.{◌≡◌, ◌∙◌, ◌++◌, ◌+◌, ◌<◌, ◌≤◌, ◌^◌, ℕ, ℤ, pos, nat_lt, List, [], ◌∷◌, Some, None, Option, string_bytes, refl, sym, ap, ap₂, subst, inl, inr, arith, append-nil}
+use Rattle.zeb_engine.proofs.Cited.{◌≡◌, ◌∙◌, ◌++◌, ◌+◌, ◌<◌, ◌≤◌, ◌^◌, ℕ, ℤ, pos, nat_lt, List, [], ◌∷◌, Some, None, Option, string_bytes, refl, sym, ap, ap₂, subst, inl, inr, arith, append-nil, cases_Bool, nat_tests, flat_map-append, Trees, Has, has_either, has_left, has_right, Record, IsFirstFrom, IsNumberOf, HasRecord, less_is, Kept, AreRisingKept, push_rises, JoinsRecords}
 use Rattle.std.specs.List.Sorted.{IsStrictlySortedBy}
-use Rattle.std.proofs.lemmas.Bool.{cases_Bool}
-use Rattle.std.proofs.lemmas.Bool.Decides.{nat_tests}
-use Rattle.std.proofs.lemmas.Grind.{flat_map-append}
-use Rattle.sqlite.specs.Tree.{Trees}
-use Rattle.sqlite_rules.specs.Lists.{Has}
-use Rattle.sqlite_rules.proofs.ListLemmas.{has_either, has_left, has_right}
-use Rattle.zeb_register.specs.declared.kept.Record.{Record}
-use Rattle.zeb_register.specs.Kept.{IsFirstFrom, IsNumberOf}
-use Rattle.zeb_register.specs.Store.{HasRecord}
-use Rattle.zeb_register.proofs.CountLemmas.{less_is}
-use Rattle.zeb_change.specs.Base.{Kept}
-use Rattle.zeb_change.proofs.KeptLemmas.{AreRisingKept, push_rises}
-use Rattle.zeb_engine.specs.AnyTables.{JoinsRecords}
 use Rattle.zeb_engine.proofs.DumpAnswers.{bytes_in}
 
 module _ (trees : Trees) (db : ℤ) where

@@ -1,26 +1,6 @@
 -- What the texts of the store tell of a register, and whether it is ready then.
-use Rattle.std.proofs.Common.{◌≡◌, ◌≢◌, ◌∙◌, ℕ, Bool, true, false, not, List, [], ◌∷◌, codes, get_or, Option, Some, None, Result, Ok, Err, String, string_bytes, refl, sym, ap, subst, inl, inr, arith, IsUtf8}
-use Rattle.std.specs.declared.alloc.Global.{Global}
-use Rattle.std.specs.Option.{option_map}
-use Rattle.std.specs.Str.{bytes_eq}
-use Rattle.std.proofs.lemmas.Slice.Eq.{bytes_eq-Decides}
-use Rattle.sqlite.specs.declared.types.Value.TheVariants.{Int}
-use Rattle.sqlite.specs.Tree.{Trees}
-use Rattle.sqlite.specs.Effect.{Database}
-use Rattle.sqlite.specs.State.{State}
-use Rattle.sqlite_rules.specs.Lists.{Has}
-use Rattle.zeb_profile.specs.Canonical.{canonical_text}
-use Rattle.zeb_register.specs.Sql.{HasRow}
-use Rattle.zeb_register.proofs.Calls.{store_same}
-use Rattle.zeb_register.specs.Store.{IsStore, IsValueOf, AreReadableTexts, entry, meta_tree}
-use Rattle.zeb_change.specs.Refused.{Why, not_initialised, old_format, profile_changed}
-use Rattle.zeb_change.specs.Conditions.{Conditions}
-use Rattle.zeb_image.specs.Holdings.{Holdings, nothing_yet, under}
-use Rattle.zeb_change.specs.Base.{Base}
-use Rattle.zeb_image.specs.Image.{IsImage, HasTexts}
-use Rattle.zeb_engine.specs.Steps.{ready, holding}
-use Rattle.zeb_image.proofs.Bases.{bytes_other}
-use Rattle.zeb_register.specs.Formats.{Format}
+use Rattle.zeb_engine.proofs.Cited.{◌≡◌, ◌≢◌, ◌∙◌, ℕ, Bool, true, false, not, List, [], ◌∷◌, codes, get_or, Option, Some, None, Result, Ok, Err, String, string_bytes, refl, sym, ap, subst, inl, inr, arith, IsUtf8, Global, option_map, bytes_eq, bytes_eq-Decides, Int, Trees, Database, State, Has, canonical_text, HasRow, store_same, IsStore, IsValueOf, AreReadableTexts, entry, meta_tree, Why, not_initialised, old_format, profile_changed, Conditions, Holdings, nothing_yet, under, Base, IsImage, HasTexts, holding, bytes_other, Format}
+use Rattle.zeb_engine.specs.Steps.{ready}
 
 abbrev pub version_in : Holdings → Option (List ℕ)
 version_in nothing_yet = None

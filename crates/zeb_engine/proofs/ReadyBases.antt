@@ -1,20 +1,7 @@
 -- A command that asks of one database, on a register that is ready: what is known once both were looked at.
-use Rattle.std.proofs.Common.{◌≡◌, ℕ, pos, List, Ok, IsTrue}
-use Rattle.sqlite.specs.State.{State, HasCleanDisk, Survives}
-use Rattle.zeb_register.specs.Calls.{ChangesNothing}
-use Rattle.zeb_register.specs.Formats.{Format}
-use Rattle.zeb_register.specs.Store.{HasDatabase}
+use Rattle.zeb_engine.proofs.Cited.{◌≡◌, ℕ, pos, List, Ok, IsTrue, State, HasCleanDisk, Survives, ChangesNothing, Format, HasDatabase, nothing_then, clean_before, Base, Conditions, AreSessions, Meets, Holdings, base_named, Keeps, existing}
 use Rattle.zeb_register.specs.declared.catalog.Database.{Database}
-use Rattle.zeb_register.proofs.Calls.{nothing_then}
-use Rattle.zeb_search.proofs.ReadLemmas.{clean_before}
-use Rattle.zeb_change.specs.Base.{Base}
-use Rattle.zeb_change.specs.Conditions.{Conditions}
-use Rattle.zeb_change.specs.PrivateConditions.{AreSessions}
-use Rattle.zeb_change.specs.Refused.{Meets}
-use Rattle.zeb_image.specs.Holdings.{Holdings, base_named}
-use Rattle.zeb_image.specs.Image.{Keeps}
 use Rattle.zeb_engine.specs.Steps.{ready}
-use Rattle.zeb_engine.specs.PrivateSteps.{existing}
 use Rattle.zeb_engine.proofs.ReadyCommands.{ready_kept}
 use Rattle.zeb_engine.proofs.DatabasesOfImages.{existing_met}
 use Rattle.zeb_engine.proofs.Lookups.{IsFoundBase, base_found}

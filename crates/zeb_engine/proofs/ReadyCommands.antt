@@ -1,34 +1,9 @@
 -- What a session's commands come to after a look at whether the register is ready.
-use Rattle.std.proofs.Common.{◌≡◌, ◌⊎◌, ℕ, List, Result, Ok, Err, IsTrue, String, Vec, map, string_bytes, inl, inr, refl, sym, ap, subst, subst₂}
-use Rattle.std.specs.declared.alloc.Global.{Global}
-use Rattle.sqlite.specs.State.{State}
-use Rattle.zeb_profile.specs.declared.directives.Directive.{Directive}
-use Rattle.zeb_register.specs.Calls.{ChangesNothing}
-use Rattle.zeb_engine.specs.declared.commands.Command.TheVariants.{Analyse, Change, Find, Scan}
-use Rattle.zeb_change.specs.declared.settings.Kind.{Kind}
-use Rattle.zeb_change.specs.declared.settings.Limits.{Limits}
-use Rattle.zeb_image.specs.declared.names.DbName.{DbName}
-use Rattle.zeb_image.specs.NameOf.{name_bytes}
-use Rattle.zeb_engine.specs.declared.replies.Reply.{Reply}
-use Rattle.zeb_change.specs.declared.refusals.Refusal.{Refusal}
+use Rattle.zeb_engine.proofs.Cited.{◌≡◌, ◌⊎◌, ℕ, List, Result, Ok, Err, IsTrue, String, Vec, map, string_bytes, inl, inr, refl, sym, ap, subst, subst₂, Global, State, Directive, ChangesNothing, Analyse, Change, Find, Scan, Kind, Limits, DbName, name_bytes, Reply, Refusal, AnswersAnalysis, IsAnalysed, Answer, answer_of, refused, IsFailure, Why, why_of, Meets, Conditions, Alone, AnswersAlone, FindAlone, FindSays, RefusedAlone, RefusesFind, ScanSays, HidesTerms, UnlessHidden, AnswersTables, ChangeLeaves, ChangesOver, ChangesReady, FindOver, LeavesWhole, LosesNamed, OverReady, ScanOver, IsReadyFor, Holdings, Base, Keeps, Turn, Outcome, Ends, OnlyAnswers, FoundFrom, ScannedFrom, checked, checked_from, ServesBy, ServesCommand, Always, Asks, Finds, ScansFrom, Serves, Format, version_of}
 use Rattle.zeb_change.specs.declared.refusals.Refusal.TheVariants as refusal
-use Rattle.zeb_engine.specs.Analysed.{AnswersAnalysis, IsAnalysed}
-use Rattle.zeb_engine.specs.Answers.{Answer, answer_of, refused, IsFailure}
-use Rattle.zeb_change.specs.Refused.{Why, why_of, Meets}
-use Rattle.zeb_change.specs.Conditions.{Conditions}
-use Rattle.zeb_engine.specs.Alone.{Alone, AnswersAlone, FindAlone, FindSays, RefusedAlone, RefusesFind, ScanSays}
-use Rattle.zeb_engine.specs.AnyRefusals.{HidesTerms, UnlessHidden}
-use Rattle.zeb_engine.specs.AnyTables.{AnswersTables, ChangeLeaves, ChangesOver, ChangesReady, FindOver, LeavesWhole, LosesNamed, OverReady, ScanOver}
-use Rattle.zeb_engine.specs.Readiness.{IsReadyFor}
-use Rattle.zeb_image.specs.Holdings.{Holdings}
-use Rattle.zeb_change.specs.Base.{Base}
-use Rattle.zeb_image.specs.Image.{Keeps}
-use Rattle.zeb_engine.specs.Steps.{Turn, Outcome, Ends, OnlyAnswers, FoundFrom, ScannedFrom, ready, turned, checked, checked_from}
-use Rattle.zeb_engine.specs.Works.{ServesBy, ServesCommand}
-use Rattle.zeb_engine.specs.PrivateWorks.{Always, Asks, Finds, ScansFrom, Serves}
+use Rattle.zeb_engine.specs.Steps.{ready, turned}
 use Rattle.zeb_engine.proofs.ServesLemmas.{early_serves, keeps_still}
 use Rattle.zeb_engine.proofs.TurnedOutcomes.{turn_refused}
-use Rattle.zeb_register.specs.Formats.{Format, version_of}
 
 pub ready_met : {X : Type 0} (Good : List Base → X → Type 0) (said : Result (List Base) Why) (x : X) → Meets Good said (Ok x) → (bases : List Base) × (said ≡ Ok bases) × Good bases x
 ready_met Good (Ok bases) x met = (bases, refl, met)

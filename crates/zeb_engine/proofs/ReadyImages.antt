@@ -1,19 +1,6 @@
 -- What the tables of a register that is ready hold: the image of its databases, also under the session's own profile.
-use Rattle.std.proofs.Common.{◌≡◌, ◌∙◌, ℕ, List, Ok, Some, refl, sym, subst}
-use Rattle.std.specs.Option.{option_map}
-use Rattle.sqlite.specs.Tree.{Trees}
-use Rattle.zeb_profile.specs.declared.directives.Directive.{Directive}
-use Rattle.zeb_profile.specs.Canonical.{canonical_text, pattern_text}
-use Rattle.zeb_profile.specs.Indexes.{identifier_pattern}
-use Rattle.zeb_register.specs.Formats.{Format}
-use Rattle.zeb_register.proofs.FormatLemmas.{one_format}
-use Rattle.zeb_change.specs.Conditions.{Conditions}
-use Rattle.zeb_change.specs.PrivateConditions.{AreSessions}
-use Rattle.zeb_image.specs.Holdings.{Holdings}
-use Rattle.zeb_change.specs.Base.{Base}
-use Rattle.zeb_image.specs.Image.{AreBases, HasTexts, IsImage, IsImageOf, IsImageUnder}
-use Rattle.zeb_engine.specs.Steps.{ready, holding}
-use Rattle.zeb_image.proofs.OneText.{under_other}
+use Rattle.zeb_engine.proofs.Cited.{◌≡◌, ◌∙◌, ℕ, List, Ok, Some, refl, sym, subst, option_map, Trees, Directive, canonical_text, pattern_text, identifier_pattern, Format, one_format, Conditions, AreSessions, Holdings, Base, AreBases, HasTexts, IsImage, IsImageOf, IsImageUnder, holding, under_other}
+use Rattle.zeb_engine.specs.Steps.{ready}
 use Rattle.zeb_engine.proofs.Ready.{ready_is}
 
 -- under some profile that has the session's text

@@ -1,29 +1,6 @@
 -- A query of a database: what each refusal answers before the database is asked, and what a look at the register comes to.
-use Rattle.std.proofs.Common.{◌≡◌, ◌⊎◌, ℕ, List, Option, Some, None, Result, Ok, Err, IfErr, OnOk, refl, sym, ap, subst, inl, inr}
-use Rattle.sqlite.specs.Effect.{Database}
-use Rattle.sqlite.specs.State.{State}
-use Rattle.zeb_query.specs.declared.faults.QueryFault.{QueryFault}
-use Rattle.zeb_query.specs.declared.faults.QueryFault.TheVariants.{Diagnostic, Memory}
-use Rattle.zeb_query.specs.Places.{IsFaultOf, IsReadable}
-use Rattle.zeb_register.specs.Calls.{ChangesNothing}
-use Rattle.sqlite.specs.Tree.{Trees}
-use Rattle.zeb_register.specs.Content.{Content}
-use Rattle.zeb_register.specs.Formats.{Format, holds_in}
-use Rattle.zeb_register.proofs.Calls.{store_same}
-use Rattle.zeb_change.specs.declared.refusals.Refusal.{Refusal}
-use Rattle.zeb_engine.specs.declared.replies.Reply.{Reply}
-use Rattle.zeb_engine.specs.Adopting.{StaysOpen}
-use Rattle.zeb_engine.specs.Alone.{Alone, IsSaid, RefusedAlone, Said}
-use Rattle.zeb_engine.specs.Answers.{Answer, answer_of, refused, IsFailure}
-use Rattle.zeb_change.specs.Refused.{Why, diagnostic, why_of, Meets}
-use Rattle.zeb_change.specs.Conditions.{Conditions}
-use Rattle.zeb_image.specs.Holdings.{Holdings, base_named}
-use Rattle.zeb_change.specs.Base.{Base}
-use Rattle.zeb_image.specs.Image.{Keeps}
-use Rattle.zeb_change.specs.Outcomes.{query_refusal}
-use Rattle.zeb_engine.specs.Steps.{AskedAmong, AskedFrom, AskedIn, no_database, ready}
-use Rattle.zeb_engine.specs.PrivateSteps.{existing, found_or}
-use Rattle.zeb_engine.specs.PrivateWorks.{Asks}
+use Rattle.zeb_engine.proofs.Cited.{◌≡◌, ◌⊎◌, ℕ, List, Option, Some, None, Result, Ok, Err, IfErr, OnOk, refl, sym, ap, subst, inl, inr, Database, State, QueryFault, Diagnostic, Memory, IsFaultOf, IsReadable, ChangesNothing, Trees, Content, Format, holds_in, store_same, Refusal, Reply, StaysOpen, Alone, IsSaid, RefusedAlone, Said, Answer, answer_of, refused, IsFailure, Why, diagnostic, why_of, Meets, Conditions, Holdings, base_named, Base, Keeps, query_refusal, AskedAmong, AskedFrom, AskedIn, no_database, existing, found_or, Asks}
+use Rattle.zeb_engine.specs.Steps.{ready}
 use Rattle.zeb_engine.proofs.ServesLemmas.{keeps_still}
 
 -- ---- the answers

@@ -1,22 +1,8 @@
 -- What a look at the texts of a store tells, and what is said of them after a command.
-use Rattle.std.proofs.Common.{◌≡◌, ◌≢◌, ℕ, Bool, false, not, List, Option, Some, None, Result, Ok, Err, String, codes, string_bytes, refl, subst, inl, inr}
-use Rattle.std.specs.declared.alloc.Global.{Global}
-use Rattle.std.specs.Str.{bytes_eq}
-use Rattle.sqlite.specs.Tree.{Trees}
-use Rattle.sqlite.specs.State.{State}
-use Rattle.zeb_profile.specs.declared.directives.Directive.{Directive}
-use Rattle.zeb_register.specs.declared.RegFault.{RegFault}
+use Rattle.zeb_engine.proofs.Cited.{◌≡◌, ◌≢◌, ℕ, Bool, false, not, List, Option, Some, None, Result, Ok, Err, String, codes, string_bytes, refl, subst, inl, inr, Global, bytes_eq, Trees, State, Directive, RegFault, IsStore, IsValueOf, one_text, Refusal, register_refusal, NeverUnready, why_of, IsFailure, refused, IsUnready, GoesByTexts, HidesText, IsReadyFor, IsRefusedOver, KeepsText}
 use Rattle.zeb_register.specs.declared.RegFault.TheVariants as register
-use Rattle.zeb_register.specs.Store.{IsStore, IsValueOf}
-use Rattle.zeb_register.proofs.RowsAreLists.{one_text}
-use Rattle.zeb_change.specs.declared.refusals.Refusal.{Refusal}
 use Rattle.zeb_change.specs.declared.refusals.Refusal.TheVariants as refusal
-use Rattle.zeb_change.specs.Outcomes.{register_refusal}
-use Rattle.zeb_change.specs.Refused.{NeverUnready, why_of}
-use Rattle.zeb_engine.specs.Answers.{IsFailure, refused}
-use Rattle.zeb_engine.specs.PrivateLooking.{IsUnready}
 use Rattle.zeb_engine.proofs.Ready.{texts_agree}
-use Rattle.zeb_engine.specs.Readiness.{GoesByTexts, HidesText, IsReadyFor, IsRefusedOver, KeepsText}
 
 -- ---- one text
 
@@ -59,7 +45,6 @@ module _ (version : List ℕ) (profile : List Directive) where
   unready_fails trees texts refusal.IdentifierRuleChanged few is whole = absurd few
   unready_fails trees texts (refusal.ReadFault file) few is whole = absurd few
   unready_fails trees texts refusal.Store few is whole = inl refl
-  unready_fails trees texts refusal.Commit few is whole = absurd few
   unready_fails trees texts refusal.Memory few is whole = inr refl
 
   -- ---- after a look at the register
@@ -78,7 +63,6 @@ module _ (version : List ℕ) (profile : List Directive) where
   other_texts trees refusal.IdentifierRuleChanged is never = is
   other_texts trees (refusal.ReadFault file) is never = tt
   other_texts trees refusal.Store is never = tt
-  other_texts trees refusal.Commit is never = is
   other_texts trees refusal.Memory is never = tt
 
   -- a refusal that is passed on

@@ -1,18 +1,6 @@
 -- A command whose answer is a refusal leaves what was held.
-use Rattle.std.proofs.Common.{◌≡◌, ◌∙◌, ℕ, List, map, Option, Some, None, Result, Ok, Err, refl, sym}
-use Rattle.zeb_marc.specs.Splits.{Split}
-use Rattle.zeb_engine.specs.declared.commands.Command.{Command}
-use Rattle.zeb_engine.specs.declared.commands.Command.TheVariants.{Init, Check, Reindex, Upgrade, Create, Drop, Stat, Dump, Change, Find, Scan, Analyse}
-use Rattle.zeb_change.specs.declared.settings.Kind.{Kind}
-use Rattle.zeb_engine.specs.Answers.{Answer, refused}
-use Rattle.zeb_change.specs.Refused.{Why}
-use Rattle.zeb_change.specs.Conditions.{Conditions}
-use Rattle.zeb_engine.specs.Crashes.{Accepts, IsRefused}
-use Rattle.zeb_change.specs.Folding.{Progress, at_first, files_folded, splits_of}
-use Rattle.zeb_change.specs.Base.{Base}
-use Rattle.zeb_image.specs.Holdings.{Holdings, base_named}
-use Rattle.zeb_image.specs.NameOf.{name_bytes}
-use Rattle.zeb_engine.specs.Steps.{Turn, all_stay, change_ends, change_from, changed_by_files, created, created_in, dropped, dropped_in, ends, initialised, ready, reindexed, ruled, start_of, turned, turned_from, upgradable, upgraded}
+use Rattle.zeb_engine.proofs.Cited.{◌≡◌, ◌∙◌, ℕ, List, map, Option, Some, None, Result, Ok, Err, refl, sym, Split, Command, Init, Check, Reindex, Upgrade, Create, Drop, Stat, Dump, Change, Find, Scan, Analyse, Kind, Answer, refused, Why, Conditions, Accepts, IsRefused, Progress, at_first, files_folded, splits_of, Base, Holdings, base_named, name_bytes, Turn, all_stay, change_ends, change_from, created_in, dropped_in, ends, start_of, turned_from}
+use Rattle.zeb_engine.specs.Steps.{changed_by_files, created, dropped, initialised, ready, reindexed, ruled, turned, upgradable, upgraded}
 use Rattle.zeb_engine.proofs.StepLemmas.{MayAnswer, after}
 
 -- what a turn answers that is taken is no refusal

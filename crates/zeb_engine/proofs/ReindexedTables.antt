@@ -1,27 +1,6 @@
 -- What a reindex leaves over any tables of a store, and what of that is committed.
-use Rattle.std.proofs.Common.{◌≡◌, ◌∙◌, true, false, List, codes, Result, Ok, Err, OnOk, IsTrue, IsUtf8, inl, inr, ap, ap₂, arith, sym, subst, subst₂, refl}
-use Rattle.sqlite.specs.declared.types.Value.TheVariants.{Text}
-use Rattle.sqlite.specs.Effect.{Database}
-use Rattle.sqlite.specs.Held.{Held, state}
-use Rattle.sqlite.specs.State.{HasCleanDisk, Shows, State, Survives}
-use Rattle.sqlite.specs.Store.{Ghosts}
-use Rattle.sqlite.specs.Tree.{Trees}
-use Rattle.zeb_profile.specs.declared.directives.Directive.{Directive}
-use Rattle.zeb_profile.specs.Canonical.{canonical_text}
-use Rattle.zeb_profile.specs.Laws.{IsProfile}
-use Rattle.zeb_register.specs.Formats.{Format, version_of}
-use Rattle.zeb_register.specs.Store.{IsStore, entry}
-use Rattle.zeb_register.proofs.Calls.{store_same}
-use Rattle.zeb_register.proofs.RowsAreLists.{one_text}
-use Rattle.zeb_change.specs.Base.{Base}
-use Rattle.zeb_image.specs.Holdings.{under}
-use Rattle.zeb_image.specs.Image.{HasTexts, IsImage}
-use Rattle.zeb_engine.specs.declared.writes.Write.{Write}
+use Rattle.zeb_engine.proofs.Cited.{◌≡◌, ◌∙◌, true, false, List, codes, Result, Ok, Err, OnOk, IsTrue, IsUtf8, inl, inr, ap, ap₂, arith, sym, subst, subst₂, refl, Text, Database, Held, state, HasCleanDisk, Shows, State, Survives, Ghosts, Trees, Directive, canonical_text, IsProfile, Format, version_of, IsStore, entry, store_same, one_text, Base, under, HasTexts, IsImage, Write, CanBeRemade, IsRemade, ReindexLeaves, CommitsReindex, IsStoreDisk, CommitsRemade, HoldsRemade, Remakes, IsReadyToReindex, KeepsText}
 use Rattle.zeb_engine.specs.declared.writes.Write.TheVariants as write
-use Rattle.zeb_engine.specs.Checking.{CanBeRemade, IsRemade, ReindexLeaves}
-use Rattle.zeb_engine.specs.Crashes.{CommitsReindex, IsStoreDisk}
-use Rattle.zeb_engine.specs.PrivateWriting.{CommitsRemade, HoldsRemade, Remakes}
-use Rattle.zeb_engine.specs.Readiness.{IsReadyToReindex, KeepsText}
 use Rattle.zeb_engine.proofs.CommitCrashes.{commit_survives, store_disk}
 use Rattle.zeb_engine.proofs.RenewedImages.{apart}
 use Rattle.zeb_engine.proofs.Beginning.{entry_inside}

@@ -1,31 +1,9 @@
 -- What a reindex and an upgrade come to, after a look at the texts of the store.
-use Rattle.std.proofs.Common.{◌≡◌, ◌∙◌, ℕ, List, codes, Some, Result, Ok, Err, IsTrue, IsUtf8, refl, sym, ap, subst, inl, inr}
-use Rattle.std.specs.Option.{option_map}
-use Rattle.sqlite.specs.State.{State}
-use Rattle.zeb_profile.specs.declared.directives.Directive.{Directive}
-use Rattle.zeb_profile.specs.Canonical.{canonical_text, pattern_text}
-use Rattle.zeb_profile.specs.Indexes.{identifier_pattern}
-use Rattle.zeb_profile.specs.Laws.{IsProfile}
-use Rattle.zeb_register.specs.Formats.{plain_rows, version_of}
-use Rattle.zeb_register.specs.Store.{IsStore}
-use Rattle.zeb_register.proofs.RowsAreLists.{one_text}
-use Rattle.zeb_change.specs.declared.refusals.Refusal.{Refusal}
+use Rattle.zeb_engine.proofs.Cited.{◌≡◌, ◌∙◌, ℕ, List, codes, Some, Result, Ok, Err, IsTrue, IsUtf8, refl, sym, ap, subst, inl, inr, option_map, State, Directive, canonical_text, pattern_text, identifier_pattern, IsProfile, plain_rows, version_of, IsStore, one_text, Refusal, Base, Conditions, IsFailing, why_of, Holdings, under, IsImage, Keeps, Standing, Reply, answer_of, done, TellsImage, FindsStanding, IsLook, IsReadyFor, IsReadyToReindex, RefusesReindex, RefusesUpgrade, Outcome, Always, Serves}
 use Rattle.zeb_change.specs.declared.refusals.Refusal.TheVariants as refusal
-use Rattle.zeb_change.specs.Base.{Base}
-use Rattle.zeb_change.specs.Conditions.{Conditions}
-use Rattle.zeb_change.specs.Refused.{IsFailing, why_of}
-use Rattle.zeb_image.specs.Holdings.{Holdings, under}
-use Rattle.zeb_image.specs.Image.{IsImage, Keeps}
-use Rattle.zeb_engine.specs.declared.looks.Standing.{Standing}
 use Rattle.zeb_engine.specs.declared.looks.Standing.TheVariants as standing
-use Rattle.zeb_engine.specs.declared.replies.Reply.{Reply}
 use Rattle.zeb_engine.specs.declared.replies.Reply.TheVariants as reply
-use Rattle.zeb_engine.specs.Answers.{answer_of, done}
-use Rattle.zeb_engine.specs.Checking.{TellsImage}
-use Rattle.zeb_engine.specs.PrivateLooking.{FindsStanding, IsLook}
-use Rattle.zeb_engine.specs.Readiness.{IsReadyFor, IsReadyToReindex, RefusesReindex, RefusesUpgrade}
-use Rattle.zeb_engine.specs.Steps.{Outcome, reindexed, ruled, upgradable, upgraded}
-use Rattle.zeb_engine.specs.PrivateWorks.{Always, Serves}
+use Rattle.zeb_engine.specs.Steps.{reindexed, ruled, upgradable, upgraded}
 use Rattle.zeb_engine.proofs.CheckAnswers.{IsImageFor}
 use Rattle.zeb_engine.proofs.TextLooks.{kept_readable}
 use Rattle.zeb_engine.proofs.RenewalSteps.{reindex_refused, upgradable_good, upgrade_done, upgrade_refused}
@@ -125,7 +103,6 @@ module _ (version : List ℕ) (profile : List Directive) (old : State) (store : 
     | inr hard ↦ hard.1 (kept_readable old store (codes "profile") (canonical_text profile) profile_utf8 texts.has_profile)
   ])
   own_unrefused version_utf8 profile_utf8 refusal.Store is = inl refl
-  own_unrefused version_utf8 profile_utf8 refusal.Commit is = absurd is
   own_unrefused version_utf8 profile_utf8 refusal.Memory is = inr refl
   own_unrefused version_utf8 profile_utf8 refusal.IdentifierRuleChanged is = absurd is
   own_unrefused version_utf8 profile_utf8 (refusal.Diagnostic number place addinfo) is = absurd is

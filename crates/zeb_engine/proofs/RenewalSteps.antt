@@ -1,19 +1,6 @@
 -- What the commands come to that make the registers anew, by what is held.
-use Rattle.std.proofs.Common.{◌≡◌, ◌≢◌, ◌⊎◌, ◌∙◌, ℕ, Bool, true, false, List, Result, Ok, Err, refl, ap, inl, inr}
-use Rattle.std.specs.Prelude.{◌||◌}
-use Rattle.std.specs.Str.{bytes_eq}
-use Rattle.std.proofs.lemmas.Bool.{or_cases}
-use Rattle.std.proofs.lemmas.Slice.Eq.{bytes_eq-Decides}
-use Rattle.zeb_profile.specs.Canonical.{canonical_text}
-use Rattle.zeb_register.specs.Formats.{plain_rows, version_of}
-use Rattle.zeb_change.specs.Base.{Base}
-use Rattle.zeb_change.specs.Conditions.{Conditions}
-use Rattle.zeb_change.specs.Refused.{Why, not_initialised, old_format, profile_changed, rule_changed}
-use Rattle.zeb_image.specs.Holdings.{Holdings, nothing_yet, under}
-use Rattle.zeb_image.proofs.Bases.{bytes_other}
-use Rattle.zeb_engine.specs.Answers.{Answer, done, refused}
-use Rattle.zeb_engine.specs.Rules.{same_rule}
-use Rattle.zeb_engine.specs.Steps.{Ends, Outcome, all_stay, holding, reindexed, ruled, turned_from, upgradable, upgraded}
+use Rattle.zeb_engine.proofs.Cited.{◌≡◌, ◌≢◌, ◌⊎◌, ◌∙◌, ℕ, Bool, true, false, List, Result, Ok, Err, refl, ap, inl, inr, ◌||◌, bytes_eq, or_cases, bytes_eq-Decides, canonical_text, plain_rows, version_of, Base, Conditions, Why, not_initialised, old_format, profile_changed, rule_changed, Holdings, nothing_yet, under, bytes_other, Answer, done, refused, same_rule, Ends, Outcome, all_stay, holding, turned_from}
+use Rattle.zeb_engine.specs.Steps.{reindexed, ruled, upgradable, upgraded}
 
 -- the version is one that an upgrade takes
 abbrev pub IsTaken : List ℕ → List ℕ → Type 0

@@ -1,26 +1,6 @@
 -- What the texts of a store tell of a reindex and of an upgrade, where its tables are an image.
-use mathlib.Core.Bool.{Bool-set}
-use Rattle.std.proofs.Common.{◌≡◌, ◌≢◌, ◌⊎◌, ◌∙◌, ℕ, Bool, true, false, List, [], codes, get_or, Option, Some, None, Ok, Err, refl, sym, ap, subst, inl, inr, arith, IsUtf8}
-use Rattle.std.proofs.Math.Logic.{∥∥₁_elim}
-use Rattle.std.specs.Option.{option_map}
-use Rattle.sqlite.specs.Tree.{Trees}
-use Rattle.zeb_profile.specs.declared.directives.Directive.{Directive}
-use Rattle.zeb_profile.specs.declared.patterns.UnitPattern.{UnitPattern}
-use Rattle.zeb_profile.specs.Canonical.{canonical_text, pattern_text}
-use Rattle.zeb_profile.specs.Indexes.{identifier_pattern}
-use Rattle.zeb_profile.specs.Laws.{IsProfile}
-use Rattle.zeb_register.specs.Formats.{plain_rows, version_of}
-use Rattle.zeb_register.specs.Sql.{HasRow}
-use Rattle.zeb_register.specs.Store.{AreReadableTexts, entry, meta_tree}
-use Rattle.zeb_change.specs.declared.refusals.Refusal.{Refusal}
+use Rattle.zeb_engine.proofs.Cited.{Bool-set, ◌≡◌, ◌≢◌, ◌⊎◌, ◌∙◌, ℕ, Bool, true, false, List, [], codes, get_or, Option, Some, None, Ok, Err, refl, sym, ap, subst, inl, inr, arith, IsUtf8, ∥∥₁_elim, option_map, Trees, Directive, UnitPattern, canonical_text, pattern_text, identifier_pattern, IsProfile, plain_rows, version_of, HasRow, AreReadableTexts, entry, meta_tree, Refusal, Base, Conditions, IsFailing, why_of, Holdings, nothing_yet, under, HasTexts, IsImage, IsReadyFor, IsReadyToReindex, KeepsRule, KeepsText, KeepsUpgradable, RefusesReindex, RefusesUpgrade, same_rule}
 use Rattle.zeb_change.specs.declared.refusals.Refusal.TheVariants as refusal
-use Rattle.zeb_change.specs.Base.{Base}
-use Rattle.zeb_change.specs.Conditions.{Conditions}
-use Rattle.zeb_change.specs.Refused.{IsFailing, why_of}
-use Rattle.zeb_image.specs.Holdings.{Holdings, nothing_yet, under}
-use Rattle.zeb_image.specs.Image.{HasTexts, IsImage}
-use Rattle.zeb_engine.specs.Readiness.{IsReadyFor, IsReadyToReindex, KeepsRule, KeepsText, KeepsUpgradable, RefusesReindex, RefusesUpgrade}
-use Rattle.zeb_engine.specs.Rules.{same_rule}
 use Rattle.zeb_engine.specs.Steps.{ruled, upgradable}
 use Rattle.zeb_engine.proofs.Ready.{none_there, profile_is, profile_readable, version_is, version_readable}
 use Rattle.zeb_engine.proofs.RenewalSteps.{IsTaken, ruled_changed, ruled_good, ruled_none, ruled_old, upgradable_changed, upgradable_good, upgradable_none, upgradable_old}
@@ -115,7 +95,6 @@ module _ (c : Conditions) (sound : ∥ IsProfile c.profile ∥₁) (pattern : Li
       inr (ruled_changed c version text bases (sym (version_is trees version text it.pattern it.texts c.version is.0)) rule)
   rule_refused before image refusal.Damaged is = absurd (elim is [ inl hard ↦ hard (version_readable plain_rows c trees before image) | inr hard ↦ hard.1 (identifier_readable trees before image) ])
   rule_refused before image refusal.Store is = inl (inl refl)
-  rule_refused before image refusal.Commit is = absurd is
   rule_refused before image refusal.Memory is = inl (inr refl)
   rule_refused before image refusal.ProfileChanged is = absurd is
   rule_refused before image (refusal.Diagnostic number place addinfo) is = absurd is
@@ -169,7 +148,6 @@ module _ (c : Conditions) (trees : Trees) where
       (λ same. is.1 (subst (KeepsText trees (codes "profile")) same (profile_kept trees version text image.1.pattern image.1.texts))))
   layout_refused before image refusal.Damaged is = absurd (elim is [ inl hard ↦ hard (version_readable plain_rows c trees before image) | inr hard ↦ hard.1 (profile_readable plain_rows c trees before image) ])
   layout_refused before image refusal.Store is = inl (inl refl)
-  layout_refused before image refusal.Commit is = absurd is
   layout_refused before image refusal.Memory is = inl (inr refl)
   layout_refused before image refusal.IdentifierRuleChanged is = absurd is
   layout_refused before image (refusal.Diagnostic number place addinfo) is = absurd is

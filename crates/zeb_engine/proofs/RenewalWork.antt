@@ -1,33 +1,7 @@
 -- What work comes to inside a transaction that makes the registers anew.
-use Rattle.std.proofs.Common.{◌≡◌, ◌∙◌, ℕ, List, ◌∷◌, codes, Ok, Err, IsTrue, IsUtf8, refl, sym, ap, subst, inl, inr, arith}
-use Rattle.std.specs.Option.{option_map}
-use Rattle.sqlite.specs.declared.types.Value.TheVariants.{Int}
-use Rattle.sqlite.specs.Order.{Row}
-use Rattle.sqlite.specs.Tree.{Trees}
-use Rattle.sqlite.specs.State.{HasCleanDisk, State, KeepsCommit, Survives}
-use Rattle.sqlite_rules.specs.Lists.{Has}
-use Rattle.zeb_profile.specs.declared.directives.Directive.{Directive}
-use Rattle.zeb_profile.specs.Canonical.{canonical_text, pattern_text}
-use Rattle.zeb_profile.specs.Laws.{IsProfile}
-use Rattle.zeb_register.specs.declared.RegFault.{RegFault}
+use Rattle.zeb_engine.proofs.Cited.{◌≡◌, ◌∙◌, ℕ, List, ◌∷◌, codes, Ok, Err, IsTrue, IsUtf8, refl, sym, ap, subst, inl, inr, arith, option_map, Int, Row, Trees, HasCleanDisk, State, KeepsCommit, Survives, Has, Directive, canonical_text, pattern_text, IsProfile, RegFault, Format, version_of, Replaces, Alters, GoesOn, Inside, Changes, IsEntryOf, IsStore, KeepsLists, KeepsRegisters, entry, meta_tree, goes_keeps, goes_then, Base, Conditions, AreSessions, register_refusal, Holdings, AreBases, AreListsOf, HasTexts, IsImage, IsImageOf, Done, AreReadableLists, AreSound, IsRemade, TellsSound, AreUnder, IsRuled, IsUpgradable, Outcome, ReachesOutcome}
 use Rattle.zeb_register.specs.declared.RegFault.TheVariants as register
-use Rattle.zeb_register.specs.Formats.{Format, version_of}
-use Rattle.zeb_register.specs.Sql.{Replaces}
-use Rattle.zeb_register.specs.Calls.{Alters, GoesOn, Inside}
-use Rattle.zeb_register.specs.Store.{Changes, IsEntryOf, IsStore, KeepsLists, KeepsRegisters, entry, meta_tree}
-use Rattle.zeb_register.proofs.Calls.{goes_keeps, goes_then}
-use Rattle.zeb_change.specs.Base.{Base}
-use Rattle.zeb_change.specs.Conditions.{Conditions}
-use Rattle.zeb_change.specs.PrivateConditions.{AreSessions}
-use Rattle.zeb_change.specs.Outcomes.{register_refusal}
-use Rattle.zeb_image.specs.Holdings.{Holdings}
-use Rattle.zeb_image.specs.Image.{AreBases, AreListsOf, HasTexts, IsImage, IsImageOf}
-use Rattle.zeb_engine.specs.declared.replies.Reply.TheVariants.{Done}
-use Rattle.zeb_image.specs.Rebuilding.{AreReadableLists, AreSound}
-use Rattle.zeb_engine.specs.Checking.{IsRemade, TellsSound}
-use Rattle.zeb_engine.specs.PrivateWriting.{AreUnder, IsRuled, IsUpgradable}
-use Rattle.zeb_engine.specs.Steps.{Outcome, reindexed, upgraded}
-use Rattle.zeb_engine.specs.PrivateWorks.{ReachesOutcome}
+use Rattle.zeb_engine.specs.Steps.{reindexed, upgraded}
 use Rattle.zeb_engine.proofs.Beginning.{texts_still}
 use Rattle.zeb_engine.proofs.ListedDatabases.{fault_fails}
 use Rattle.zeb_engine.proofs.RenewedImages.{WasImage, image_rows, profile_put, renewed_image, ruled_image, upgradable_image, version_put, was_bases}

@@ -1,31 +1,7 @@
 -- The tables once the registers are made anew: the image of the same databases, under the session's profile and its version.
-use denote.Struct.Props.{props}
-use base.Stored.{Coded-set}
-use mathlib.Core.Bool.{Bool-set}
-use Rattle.std.proofs.Common.{◌≡◌, ◌≢◌, ◌↔◌, ◌∙◌, ℕ, true, List, [], ◌∷◌, codes, get_or, Some, Ok, refl, sym, ap, ap₂, subst, inl, inr, arith, IsUtf8}
-use Rattle.std.proofs.Math.Logic.{∥∥₁_elim}
-use Rattle.std.specs.Option.{option_map}
-use Rattle.sqlite.specs.declared.types.Value.TheVariants.{Int, Null, Text}
-use Rattle.sqlite.specs.Tree.{Trees}
-use Rattle.sqlite_rules.specs.Lists.{Has}
+use Rattle.zeb_engine.proofs.Cited.{props, Coded-set, Bool-set, ◌≡◌, ◌≢◌, ◌↔◌, ◌∙◌, ℕ, true, List, [], ◌∷◌, codes, get_or, Some, Ok, refl, sym, ap, ap₂, subst, inl, inr, arith, IsUtf8, ∥∥₁_elim, option_map, Int, Null, Text, Trees, Has, Directive, UnitPattern, canonical_text, pattern_text, identifier_pattern, IsProfile, Format, Replaces, KeepsRegisters, IsEntryOf, entry, meta_tree, record_row, registers_stay, Base, Conditions, AreSessions, Holdings, AreBases, AreListsOf, HasTexts, IsImage, IsImageOf, IsImageUnder, bases_so, under_other, same_rule, holding}
 use Rattle.zeb_profile.specs.contracts.patterns.UnitPattern as pattern_row
-use Rattle.zeb_profile.specs.declared.directives.Directive.{Directive}
-use Rattle.zeb_profile.specs.declared.patterns.UnitPattern.{UnitPattern}
-use Rattle.zeb_profile.specs.Canonical.{canonical_text, pattern_text}
-use Rattle.zeb_profile.specs.Indexes.{identifier_pattern}
-use Rattle.zeb_profile.specs.Laws.{IsProfile}
-use Rattle.zeb_register.specs.Formats.{Format}
-use Rattle.zeb_register.specs.Sql.{Replaces}
-use Rattle.zeb_register.specs.Store.{KeepsRegisters, IsEntryOf, entry, meta_tree, record_row}
-use Rattle.zeb_register.proofs.FormatLemmas.{registers_stay}
-use Rattle.zeb_change.specs.Base.{Base}
-use Rattle.zeb_change.specs.Conditions.{Conditions}
-use Rattle.zeb_change.specs.PrivateConditions.{AreSessions}
-use Rattle.zeb_image.specs.Holdings.{Holdings}
-use Rattle.zeb_image.specs.Image.{AreBases, AreListsOf, HasTexts, IsImage, IsImageOf, IsImageUnder}
-use Rattle.zeb_image.proofs.OneText.{bases_so, under_other}
-use Rattle.zeb_engine.specs.Rules.{same_rule}
-use Rattle.zeb_engine.specs.Steps.{holding, ruled, upgradable}
+use Rattle.zeb_engine.specs.Steps.{ruled, upgradable}
 use Rattle.zeb_engine.proofs.ReadyImages.{ready_image}
 use Rattle.zeb_engine.proofs.RenewalSteps.{ruled_is, upgradable_is}
 use Rattle.zeb_engine.proofs.RuleLines.{same_rule_says}

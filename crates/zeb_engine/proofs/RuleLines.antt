@@ -1,25 +1,8 @@
 -- The line of a canonical text that tells the rule for identifiers.
-use Rattle.std.proofs.Common.{◌≡◌, ◌≢◌, ◌↔◌, ◌∙◌, ℕ, List, [], ◌∷◌, ◌++◌, codes, get_or, drop, take, true, false, Some, Ok, refl, sym, ap, subst, arith, append_assoc}
-use Rattle.std.specs.Fmt.{decimal}
-use Rattle.std.specs.List.{find, list_any, slice_split}
-use Rattle.std.specs.Option.{option_map}
-use Rattle.std.specs.Str.{bytes_eq}
-use Rattle.std.proofs.lemmas.List.Splits.{slice_split_at}
-use Rattle.std.proofs.lemmas.Slice.Eq.{bytes_eq-Decides}
-use Rattle.zeb_profile.specs.declared.directives.Directive.{Directive}
-use Rattle.zeb_profile.specs.declared.directives.Directive.TheVariants.{Store, Identifier, Att, Melm, All as AllUnits}
-use Rattle.zeb_profile.specs.declared.patterns.UnitPattern.{UnitPattern}
-use Rattle.zeb_profile.specs.Canonical.{canonical_line, canonical_text, pattern_text, targets_text}
-use Rattle.zeb_profile.specs.Indexes.{identifier_pattern}
-use Rattle.zeb_profile.specs.Laws.{IsProfile}
-use Rattle.zeb_profile.specs.Profiles.{is_identifier}
-use Rattle.zeb_profile.specs.Words.{pattern_of}
-use Rattle.zeb_profile.proofs.DirectivesBack.{IsRead}
-use Rattle.zeb_profile.proofs.LinesBack.{is_line_feed}
-use Rattle.zeb_profile.proofs.ProfilesBack.{profile_sound}
-use Rattle.zeb_profile.proofs.WrittenLines.{AllRead, written, written_one_line}
-use Rattle.zeb_image.proofs.Bases.{bytes_other}
-use Rattle.zeb_engine.specs.Rules.{are_same, is_rule_line, rule_line, same_rule}
+use Rattle.zeb_engine.proofs.Cited.{◌≡◌, ◌≢◌, ◌↔◌, ◌∙◌, ℕ, List, [], ◌∷◌, ◌++◌, codes, get_or, drop, take, true, false, Some, Ok, refl, sym, ap, subst, arith, append_assoc, decimal, list_any, slice_split, option_map, bytes_eq, slice_split_at, bytes_eq-Decides, Directive, Identifier, Att, Melm, AllUnits, UnitPattern, canonical_line, canonical_text, pattern_text, targets_text, identifier_pattern, IsProfile, is_identifier, pattern_of, IsRead, is_line_feed, profile_sound, AllRead, written_one_line, bytes_other, are_same, is_rule_line, rule_line, same_rule}
+use Rattle.std.specs.List.{find}
+use Rattle.zeb_profile.specs.declared.directives.Directive.TheVariants.{Store}
+use Rattle.zeb_profile.proofs.WrittenLines.{written}
 
 abbrev pattern_line : UnitPattern → List ℕ
 pattern_line pattern = codes "identifier " ++ pattern_text pattern

@@ -1,23 +1,9 @@
 -- What a list of commands may commit goes on by one command.
-use Rattle.std.proofs.Common.{◌≡◌, ◌⊎◌, List, [], ◌∷◌, ◌++◌, Result, Ok, Err, IfErr, inl, inr, ap, subst}
-use Rattle.sqlite.specs.Tree.{Trees}
-use Rattle.sqlite.specs.State.{State, HasCleanDisk, Survives}
-use Rattle.zeb_engine.specs.declared.commands.Command.{Command}
-use Rattle.zeb_engine.specs.declared.replies.Reply.{Reply}
-use Rattle.zeb_change.specs.declared.refusals.Refusal.{Refusal}
+use Rattle.zeb_engine.proofs.Cited.{◌≡◌, ◌⊎◌, List, [], ◌∷◌, ◌++◌, Result, Ok, Err, IfErr, inl, inr, ap, subst, Trees, State, HasCleanDisk, Survives, Command, Reply, Refusal, Answer, answer_of, refused, reply_answer, why_of, Conditions, CommitsCommand, CommitsOne, IsCarriedOut, LeavesOne, Holdings, Keeps, Run, EnduresRefusal, Runs, ServesCommand}
 use Rattle.zeb_change.specs.declared.refusals.Refusal.TheVariants as refusal
-use Rattle.zeb_engine.specs.Answers.{Answer, answer_of, refused, reply_answer}
-use Rattle.zeb_change.specs.Refused.{why_of}
-use Rattle.zeb_change.specs.Conditions.{Conditions}
-use Rattle.zeb_engine.specs.Crashes.{CommitsCommand, CommitsOne, IsCarriedOut, LeavesOne}
-use Rattle.zeb_image.specs.Holdings.{Holdings}
-use Rattle.zeb_image.specs.Image.{Keeps}
-use Rattle.zeb_engine.specs.Steps.{Run}
-use Rattle.zeb_engine.specs.Transactions.{EnduresRefusal}
-use Rattle.zeb_engine.specs.Works.{Runs, ServesCommand}
 use Rattle.zeb_engine.proofs.CommitCrashes.{no_failure}
 use Rattle.zeb_engine.proofs.OneAnswer.{steps_once}
-use Rattle.zeb_engine.proofs.RunCrashes.{is_commit}
+use Rattle.zeb_engine.proofs.RunCrashes.{is_store}
 
 -- what one command may leave, on whatever is held before it
 abbrev Carries : Conditions → Command → State → Result Reply Refusal → Trees → Type 0
@@ -39,10 +25,10 @@ module _ (c : Conditions) (command : Command) (now next : State) where
         ]),
       )
 
-  failed_store : (why : Refusal) → refused (why_of why) ≡ refused (why_of refusal.Commit) → (db : Trees) → CommitsCommand c command now db → Carries c command now (Err why) db
+  failed_store : (why : Refusal) → refused (why_of why) ≡ refused (why_of refusal.Store) → (db : Trees) → CommitsCommand c command now db → Carries c command now (Err why) db
   failed_store why is db commits mid keeps = let made = commits mid keeps in (made.0, made.1, made.2, made.3, made.4, inr is)
 
-  -- only a command that was accepted, or whose commit failed, may have committed anything
+  -- only a command that was accepted, or whose store failed, may have committed anything
   pub carries : (result : Result Reply Refusal) → (HasCleanDisk next → ServesCommand c command now next result) → (HasCleanDisk next → IfErr result (EnduresRefusal now next))
       → Survives now next (CommitsCommand c command now) → Survives now next (Carries c command now result)
   carries result serves no_more survives = record {
@@ -60,7 +46,7 @@ module _ (c : Conditions) (command : Command) (now next : State) where
       by_result : (r : Result Reply Refusal) → ServesCommand c command now next r → IfErr r (EnduresRefusal now next) → (db : Trees) → next.may_leave db → CommitsCommand c command now db
           → now.may_leave db ⊎ Carries c command now r db
       by_result (Ok it) serves no_more db left made = inr (replied it serves db made)
-      by_result (Err why) serves no_more db left made = elim (is_commit why) [
+      by_result (Err why) serves no_more db left made = elim (is_store why) [
         | inl is ↦ inr (failed_store why (ap (λ (w : Refusal). refused (why_of w)) is) db made)
         | inr other ↦ inl (no_more other db left)
       ]

@@ -1,20 +1,6 @@
 -- What a crash leaves after a list of commands goes on by one command.
-use Rattle.std.proofs.Common.{◌≡◌, ◌≢◌, ◌⊎◌, ◌∙◌, true, false, Bool, List, [], ◌∷◌, ◌++◌, Result, Ok, Err, inl, inr, refl, sym, ap, subst, IsTrue}
-use Rattle.sqlite.specs.Tree.{Trees}
-use Rattle.sqlite.specs.State.{State, HasCleanDisk, Survives}
-use Rattle.zeb_engine.specs.declared.commands.Command.{Command}
-use Rattle.zeb_engine.specs.declared.replies.Reply.{Reply}
-use Rattle.zeb_change.specs.declared.refusals.Refusal.{Refusal}
+use Rattle.zeb_engine.proofs.Cited.{◌≡◌, ◌≢◌, ◌⊎◌, ◌∙◌, true, false, Bool, List, [], ◌∷◌, ◌++◌, Result, Ok, Err, inl, inr, refl, sym, ap, subst, IsTrue, Trees, State, HasCleanDisk, Survives, Command, Reply, Refusal, Answer, answer_of, refused, store_failed, why_of, Conditions, AreRefused, CommitsCommand, Endures, EnduresRun, IsRefused, RunLeft, Stands, Holdings, Keeps, TellsOrFails, Run, Step, AsksStore, Commanded, IsDurable, Runs, ServesCommand}
 use Rattle.zeb_change.specs.declared.refusals.Refusal.TheVariants as refusal
-use Rattle.zeb_engine.specs.Answers.{Answer, answer_of, refused}
-use Rattle.zeb_change.specs.Refused.{store_failed, why_of}
-use Rattle.zeb_change.specs.Conditions.{Conditions}
-use Rattle.zeb_engine.specs.Crashes.{AreRefused, CommitsCommand, Endures, EnduresRun, IsRefused, RunLeft, Stands}
-use Rattle.zeb_image.specs.Holdings.{Holdings}
-use Rattle.zeb_image.specs.Image.{Keeps}
-use Rattle.zeb_engine.specs.Steps.{TellsOrFails, Run, Step}
-use Rattle.zeb_engine.specs.Transactions.{AsksStore, Commanded, IsDurable}
-use Rattle.zeb_engine.specs.Works.{Runs, ServesCommand}
 use Rattle.zeb_engine.proofs.CommitCrashes.{endures, endures_still, keeps_stand}
 use Rattle.zeb_engine.proofs.RefusedSteps.{refused_still}
 use Rattle.zeb_engine.proofs.StepLemmas.{step_told}
@@ -62,22 +48,21 @@ left_failed c (first ∷ commands) (one ∷ answers) before mid later command an
 left_failed c [] (one ∷ answers) before mid later command answer told run is step = absurd run
 left_failed c (first ∷ commands) [] before mid later command answer told run is step = absurd run
 
-pub is_commit : (why : Refusal) → (why ≡ refusal.Commit) ⊎ (why ≢ refusal.Commit)
-is_commit refusal.NotInitialised = inr (λ is. cc)
-is_commit refusal.OldFormat = inr (λ is. cc)
-is_commit refusal.ProfileChanged = inr (λ is. cc)
-is_commit (refusal.Diagnostic number place addinfo) = inr (λ is. cc)
-is_commit refusal.Exists = inr (λ is. cc)
-is_commit (refusal.Record file nth fault) = inr (λ is. cc)
-is_commit (refusal.Unknown file nth) = inr (λ is. cc)
-is_commit refusal.DatabaseFull = inr (λ is. cc)
-is_commit refusal.TooManyRecords = inr (λ is. cc)
-is_commit refusal.Damaged = inr (λ is. cc)
-is_commit refusal.IdentifierRuleChanged = inr (λ is. cc)
-is_commit (refusal.ReadFault file) = inr (λ is. cc)
-is_commit refusal.Store = inr (λ is. cc)
-is_commit refusal.Commit = inl refl
-is_commit refusal.Memory = inr (λ is. cc)
+pub is_store : (why : Refusal) → (why ≡ refusal.Store) ⊎ (why ≢ refusal.Store)
+is_store refusal.NotInitialised = inr (λ is. cc)
+is_store refusal.OldFormat = inr (λ is. cc)
+is_store refusal.ProfileChanged = inr (λ is. cc)
+is_store (refusal.Diagnostic number place addinfo) = inr (λ is. cc)
+is_store refusal.Exists = inr (λ is. cc)
+is_store (refusal.Record file nth fault) = inr (λ is. cc)
+is_store (refusal.Unknown file nth) = inr (λ is. cc)
+is_store refusal.DatabaseFull = inr (λ is. cc)
+is_store refusal.TooManyRecords = inr (λ is. cc)
+is_store refusal.Damaged = inr (λ is. cc)
+is_store refusal.IdentifierRuleChanged = inr (λ is. cc)
+is_store (refusal.ReadFault file) = inr (λ is. cc)
+is_store refusal.Store = inl refl
+is_store refusal.Memory = inr (λ is. cc)
 
 -- after one command
 pub did_endures : (c : Conditions) (command : Command) (old new : State) (result : Result Reply Refusal) → HasCleanDisk new → IsDurable new → AsksOrStays command old new result → Survives old new (CommitsCommand c command old)
@@ -110,7 +95,7 @@ module _ (c : Conditions) (old now next : State) (commands : List Command) (answ
   asked_more (Ok reply) shut runs serves clean did survives before keeps db so_far left = absurd (shut (did.accepted clean).1)
   asked_more (Err why) shut runs serves clean did survives before keeps db so_far left = elim (survives.crash clean db left) [
     | inl was ↦ as_before (Err why) shut serves (inl (why_of why, refl)) before db (so_far was)
-    | inr made ↦ elim (is_commit why) [
+    | inr made ↦ elim (is_store why) [
       | inl is ↦
           let so = runs before keeps in
           let done = made so.0 so.2 in (

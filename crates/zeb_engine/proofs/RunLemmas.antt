@@ -1,22 +1,5 @@
 -- A run goes on by one command.
-use Rattle.std.proofs.Common.{List, [], ◌∷◌, ◌++◌, Result, Ok, Err, OnOk, OnErr, IsTrue, inl, inr, rules, refl, subst, sym}
-use Rattle.std.specs.List.{AllByRecursion}
-use Rattle.std.specs.Result.{IsErr}
-use Rattle.sqlite.specs.Held.{Held, state}
-use Rattle.sqlite.specs.State.{State, HasCleanDisk}
-use Rattle.sqlite.specs.Store.{Ghosts}
-use Rattle.zeb_register.specs.Calls.{ChangesNothing}
-use Rattle.zeb_register.proofs.Calls.{nothing_then}
-use Rattle.zeb_engine.specs.declared.commands.Command.{Command}
-use Rattle.zeb_engine.specs.declared.replies.Reply.{Reply}
-use Rattle.zeb_change.specs.declared.refusals.Refusal.{Refusal}
-use Rattle.zeb_engine.specs.Adopting.{StaysOpen}
-use Rattle.zeb_engine.specs.Answers.{Answer, answer_of}
-use Rattle.zeb_change.specs.Conditions.{Conditions}
-use Rattle.zeb_image.specs.Holdings.{Holdings}
-use Rattle.zeb_engine.specs.Steps.{Run}
-use Rattle.zeb_engine.specs.Transactions.{AsksStore, NoneAsks}
-use Rattle.zeb_engine.specs.Works.{FindOpen, InTurn, Runs, ServesCommand}
+use Rattle.zeb_engine.proofs.Cited.{List, [], ◌∷◌, ◌++◌, Result, Ok, Err, OnOk, OnErr, IsTrue, inl, inr, rules, refl, subst, sym, AllByRecursion, IsErr, Held, state, State, HasCleanDisk, Ghosts, ChangesNothing, nothing_then, Work, Command, Reply, Refusal, StaysOpen, Answer, answer_of, Conditions, Holdings, Run, AsksStore, NoneAsks, FindOpen, InTurn, Runs, ServesCommand}
 use Rattle.zeb_engine.proofs.ServesLemmas.{on_ok}
 use Rattle.zeb_engine.proofs.CommandedConnections.{AsksOrStays}
 
@@ -36,13 +19,16 @@ runs_more c old now next commands answers command result runs serves before keep
 
 -- ---- commands in turn
 
-module _ {S : Type 0} (g : Ghosts S) (Does : Command → Result Reply Refusal → State → State → Type 0) where
-  pub one_turn_more : (old now next : Held S) (command : Command) (result : Result Reply Refusal) → Does command result (state g now) (state g next) → (commands : List Command) (results : List (Result Reply Refusal))
-      → InTurn g Does commands results old now → InTurn g Does (commands ++ command ∷ []) (results ++ result ∷ []) old next
-  one_turn_more old now next command result does [] [] same = (next, subst (λ (h : Held S). Does command result (state g h) (state g next)) same does, refl)
-  one_turn_more old now next command result does (c ∷ commands) (r ∷ results) turns = (turns.0, turns.1, one_turn_more turns.0 now next command result does commands results turns.2)
-  one_turn_more old now next command result does [] (r ∷ results) turns = absurd turns
-  one_turn_more old now next command result does (c ∷ commands) [] turns = absurd turns
+module _ {S : Type 0} (g : Ghosts S) (Does : Command → Result Reply Refusal → State → State → Work → Type 0) where
+  pub one_turn_more : (old now next : Held S) (before counted work : Work) (command : Command) (result : Result Reply Refusal) → Does command result (state g now) (state g next) work
+      → (commands : List Command) (results : List (Result Reply Refusal))
+      → InTurn g Does commands results old before now counted → InTurn g Does (commands ++ command ∷ []) (results ++ result ∷ []) old before next work
+  one_turn_more old now next before counted work command result does [] [] same =
+      (next, work, subst (λ (h : Held S). Does command result (state g h) (state g next) work) same.0 does, (refl, refl))
+  one_turn_more old now next before counted work command result does (c ∷ commands) (r ∷ results) turns =
+      (turns.0, turns.1, turns.2, one_turn_more turns.0 now next turns.1 counted work command result does commands results turns.3)
+  one_turn_more old now next before counted work command result does [] (r ∷ results) turns = absurd turns
+  one_turn_more old now next before counted work command result does (c ∷ commands) [] turns = absurd turns
 
 -- ---- commands that are all refused
 

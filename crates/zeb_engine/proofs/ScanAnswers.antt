@@ -1,32 +1,6 @@
 -- A scan, step by step: the terms around a start, and that the postings have the terms that the kept records have.
-use Rattle.std.proofs.Common.{◌≡◌, ◌↔◌, ◌∙◌, ℕ, ℤ, ◌+◌, ◌-◌, List, ◌++◌, map, filter, take, Some, Result, Ok, Err, refl, sym, ap, ap₂, subst, subst₂, inr, string_bytes}
-use Rattle.sqlite.specs.Tree.{Trees}
-use Rattle.zeb_profile.specs.declared.directives.Directive.{Directive}
-use Rattle.zeb_query.specs.declared.faults.QueryFault.{QueryFault}
-use Rattle.zeb_query.specs.declared.faults.QueryFault.TheVariants.{Diagnostic, Memory}
-use Rattle.zeb_query.specs.Checks.{Fails, Refusal}
-use Rattle.zeb_query.specs.Grammar.{QueryValue, SpellsQuery}
-use Rattle.zeb_query.specs.Places.{IsReadable}
-use Rattle.zeb_query.specs.Plans.{ScanValue, scan_of}
-use Rattle.zeb_keys.specs.declared.keys.Occurrence.{Occurrence}
-use Rattle.zeb_register.specs.declared.registers.TermCount.{TermCount}
-use Rattle.zeb_register.specs.Content.{posted}
-use Rattle.zeb_register.specs.Formats.{Format, packed_blocks, plain_rows}
-use Rattle.zeb_register.specs.Occurring.{AreTermsBefore, AreTermsFrom, is_before, is_from, last}
-use Rattle.zeb_register.specs.PackedBlocks.{AreBeforeCounted, AreFromCounted}
-use Rattle.zeb_register.specs.PlainRows.{register_front}
-use Rattle.zeb_register.specs.Sound.{InPacked, TellsBefore, TellsFrom}
-use Rattle.zeb_register.proofs.OccurringLemmas.{one_terms, terms_as}
-use Rattle.zeb_engine.specs.Answers.{Answer, scanned, refused}
-use Rattle.zeb_engine.specs.AnyRefusals.{AreAroundCounted, HidesAround}
-use Rattle.zeb_engine.specs.AnyTables.{TellsAround}
-use Rattle.zeb_change.specs.Refused.{diagnostic, why_of}
-use Rattle.zeb_change.specs.Occurs.{occurs}
-use Rattle.zeb_change.specs.Base.{Base}
-use Rattle.zeb_image.specs.Holdings.{base_named}
-use Rattle.zeb_change.specs.Outcomes.{query_refusal}
-use Rattle.zeb_engine.specs.Scanning.{AreAround, IsScanPlanned}
-use Rattle.zeb_engine.specs.Steps.{ScanAnswers}
+use Rattle.zeb_engine.proofs.Cited.{◌≡◌, ◌↔◌, ◌∙◌, ℕ, ℤ, ◌+◌, ◌-◌, List, ◌++◌, map, filter, take, Some, Result, Ok, Err, refl, sym, ap, ap₂, subst, subst₂, inr, string_bytes, Trees, Directive, QueryFault, Diagnostic, Memory, Fails, QueryValue, SpellsQuery, IsReadable, ScanValue, scan_of, Occurrence, TermCount, posted, Format, packed_blocks, plain_rows, AreTermsBefore, AreTermsFrom, is_before, is_from, last, AreBeforeCounted, AreFromCounted, register_front, InPacked, TellsBefore, TellsFrom, one_terms, terms_as, Answer, scanned, refused, AreAroundCounted, HidesAround, TellsAround, diagnostic, why_of, occurs, Base, base_named, query_refusal, AreAround, IsScanPlanned, ScanAnswers}
+use Rattle.zeb_query.specs.Checks.{Refusal}
 use Rattle.zeb_engine.proofs.ReadyQueries.{Ends, said_ends}
 use Rattle.zeb_engine.proofs.DatabasesOfImages.{IsHeld}
 

@@ -1,28 +1,8 @@
 -- How a command ends that was refused, and what follows where it began with a look at the tables.
-use Rattle.std.proofs.Common.{◌≡◌, ◌⊎◌, ◌∙◌, ℕ, true, false, List, [], Result, Ok, Err, OnOk, inl, inr, refl, sym, ap, subst, IsTrue}
-use Rattle.sqlite.specs.Tree.{Trees}
-use Rattle.sqlite.specs.Store.{Ghosts}
-use Rattle.sqlite.specs.Effect.{Database}
-use Rattle.sqlite.specs.State.{State, IsRolledBack, Shows}
-use Rattle.sqlite.specs.Held.{Held, state}
-use Rattle.zeb_register.specs.Calls.{ChangesNothing}
-use Rattle.zeb_register.specs.Store.{IsStore}
-use Rattle.zeb_register.proofs.Calls.{store_same}
-use Rattle.zeb_engine.specs.declared.replies.Reply.{Reply}
-use Rattle.zeb_change.specs.declared.refusals.Refusal.{Refusal}
+use Rattle.zeb_engine.proofs.Cited.{◌≡◌, ◌⊎◌, ◌∙◌, ℕ, true, false, List, [], Result, Ok, Err, OnOk, inl, inr, refl, sym, ap, subst, IsTrue, Trees, Ghosts, Database, State, IsRolledBack, Shows, Held, state, ChangesNothing, IsStore, store_same, Reply, Refusal, refused, IsFailure, why_of, Holdings, IsImage, Keeps, Outcome, holding, ReachesOutcome, Serves, Write, TellsSound, Begins, DoneOrFails, IsReached, ReadsSound, Format}
 use Rattle.zeb_change.specs.declared.refusals.Refusal.TheVariants as refusal
-use Rattle.zeb_engine.specs.Answers.{refused, IsFailure}
-use Rattle.zeb_change.specs.Refused.{why_of}
-use Rattle.zeb_image.specs.Holdings.{Holdings}
-use Rattle.zeb_image.specs.Image.{IsImage, Keeps}
-use Rattle.zeb_engine.specs.Steps.{Outcome, holding}
-use Rattle.zeb_engine.specs.PrivateWorks.{ReachesOutcome, Serves}
-use Rattle.zeb_engine.specs.declared.writes.Write.{Write}
 use Rattle.zeb_engine.specs.declared.writes.Write.TheVariants as write
-use Rattle.zeb_engine.specs.Checking.{TellsSound}
-use Rattle.zeb_engine.specs.PrivateWriting.{Begins, DoneOrFails, IsReached, ReadsSound}
 use Rattle.zeb_engine.proofs.Ready.{image_still}
-use Rattle.zeb_register.specs.Formats.{Format}
 
 pub keeps_still : (before : Holdings) (old new : State) → ChangesNothing old new → Keeps old before → Keeps new before
 keeps_still before old new nothing keeps is_open =
@@ -118,7 +98,7 @@ sound_over g (write.Reindex alloc profile) old inside result begins did = λ sto
 sound_over g (write.Upgrade alloc profile) old inside result begins did = tt
 
 -- a commit that failed tells nothing
-pub sound_failed : (w : Write) (s : State) → ReadsSound w s (Err refusal.Commit)
+pub sound_failed : (w : Write) (s : State) → ReadsSound w s (Err refusal.Store)
 sound_failed (write.Init profile pattern) s = tt
 sound_failed (write.Create name) s = λ store. inr (inl refl)
 sound_failed (write.Drop name id) s = λ store. inr (inl refl)

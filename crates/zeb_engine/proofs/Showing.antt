@@ -1,25 +1,5 @@
 -- The hits that are shown: their records by number, and what stays known of the tables while they are read.
-use Rattle.std.proofs.Common.{◌≡◌, ◌⊎◌, ◌∙◌, ◌<◌, ◌≤◌, ◌^◌, nat_lt, arith, ℕ, ℤ, pos, ◌+◌, List, [], ◌∷◌, ◌++◌, length, get_or, take, String, string_bytes, Option, Some, None, refl, sym, ap, ap₂, subst, inl, inr}
-use Rattle.std.specs.declared.alloc.Global.{Global}
-use Rattle.std.proofs.lemmas.List.{take_more, map-append, get_or_default}
-use Rattle.std.proofs.lemmas.Bool.{cases_Bool}
-use Rattle.std.proofs.lemmas.Bool.Decides.{nat_tests}
-use Rattle.sqlite.specs.Tree.{Trees}
-use Rattle.sqlite.specs.Effect.{Database}
-use Rattle.sqlite.specs.State.{State}
-use Rattle.sqlite_rules.specs.Lists.{Has}
-use Rattle.sqlite_rules.proofs.ListLemmas.{has_at, has_either}
-use Rattle.zeb_register.specs.Calls.{ChangesNothing}
-use Rattle.zeb_register.specs.Kept.{IsIdentOf, AreReadableIdents}
-use Rattle.zeb_register.proofs.Calls.{store_same}
-use Rattle.zeb_search.specs.Registers.{has_ident_in}
-use Rattle.zeb_change.specs.declared.refusals.Refusal.{Refusal}
-use Rattle.zeb_change.specs.declared.refusals.Refusal.TheVariants.{Damaged}
-use Rattle.zeb_change.specs.Refused.{why_of}
-use Rattle.zeb_engine.specs.Alone.{CanBeShown, HidesOne}
-use Rattle.zeb_engine.specs.Answers.{IsFailure, refused}
-use Rattle.zeb_engine.specs.Finding.{AreShown}
-use Rattle.zeb_engine.specs.PrivateWorks.{ShowsStore}
+use Rattle.zeb_engine.proofs.Cited.{◌≡◌, ◌⊎◌, ◌∙◌, ◌<◌, ◌≤◌, ◌^◌, nat_lt, arith, ℕ, ℤ, pos, ◌+◌, List, [], ◌∷◌, ◌++◌, length, get_or, take, String, string_bytes, Option, Some, None, refl, sym, ap, ap₂, subst, inl, inr, Global, take_more, map-append, get_or_default, cases_Bool, nat_tests, Trees, Database, State, Has, has_at, has_either, ChangesNothing, IsIdentOf, AreReadableIdents, store_same, has_ident_in, Refusal, Damaged, why_of, CanBeShown, HidesOne, IsFailure, refused, AreShown, ShowsStore}
 
 -- a record of each of the numbers is kept, its identifier is UTF-8, and a column stores the number
 abbrev pub KeepsEach : Trees → ℤ → List ℕ → Type 0

@@ -1,13 +1,5 @@
 -- How terms are printed.
-use Rattle.std.proofs.Common.{◌≡◌, ◌≢◌, ◌==◌, ◌&&◌, ◌<◌, ◌^◌, ℕ, Bool, true, List, length, ap, inl, inr, refl}
-use Rattle.std.specs.Char.{is_ascii_digit}
-use Rattle.std.specs.Fmt.{decimal}
-use Rattle.std.specs.List.{list_all}
-use Rattle.std.specs.Str.Parse.{digits_value}
-use Rattle.std.proofs.lemmas.Bool.{and_parts, and_from, cases_Bool, eqb-true, eq-eqb}
-use Rattle.zeb_text.specs.Numbers.{number_key}
-use Rattle.zeb_text.proofs.KeyLemmas.{value_of_key, digits_of_key, length_of_key, digits_from_all, all_from_digits, is_key}
-use Rattle.zeb_engine.specs.Replies.{shown_number}
+use Rattle.zeb_engine.proofs.Cited.{◌≡◌, ◌≢◌, ◌==◌, ◌&&◌, ◌<◌, ◌^◌, ℕ, Bool, true, List, length, ap, inl, inr, refl, is_ascii_digit, decimal, list_all, digits_value, and_parts, and_from, cases_Bool, eqb-true, eq-eqb, number_key, value_of_key, digits_of_key, length_of_key, digits_from_all, all_from_digits, is_key, shown_number}
 
 abbrev is_digits : List ℕ → Bool
 is_digits term = length term == 18 && list_all is_ascii_digit term

@@ -1,25 +1,7 @@
 -- What a stat answers: the registers have in sum what the kept records have.
-use Rattle.std.proofs.Common.{◌≡◌, ◌↔◌, ◌⊎◌, ◌∙◌, ◌++◌, ℕ, pos, List, [], ◌∷◌, map, Option, Some, None, Result, Ok, Err, refl, sym, ap, subst, inl, inr}
-use Rattle.sqlite.specs.State.{State}
-use Rattle.sqlite.specs.Tree.{Trees}
-use Rattle.zeb_profile.specs.declared.directives.Directive.{Directive}
-use Rattle.zeb_keys.specs.declared.keys.Occurrence.{Occurrence}
+use Rattle.zeb_engine.proofs.Cited.{◌≡◌, ◌↔◌, ◌⊎◌, ◌∙◌, ◌++◌, ℕ, pos, List, [], ◌∷◌, map, Option, Some, None, Result, Ok, Err, refl, sym, ap, subst, inl, inr, State, Trees, Directive, Occurrence, ChangesNothing, HasDatabase, totals_as, Refusal, Holding, Reply, Extent, answer_of, extent_of, refused, IsFailure, Why, why_of, Meets, Conditions, IsExtent, Paired, Target, Holdings, base_named, Base, Keeps, CountedFrom, CountedIn, StatAnswers, no_database, existing, found_or}
 use Rattle.zeb_register.specs.declared.catalog.Database.{Database}
-use Rattle.zeb_register.specs.Calls.{ChangesNothing}
-use Rattle.zeb_register.specs.Store.{HasDatabase}
-use Rattle.zeb_register.proofs.OccurringLemmas.{totals_as}
-use Rattle.zeb_change.specs.declared.refusals.Refusal.{Refusal}
-use Rattle.zeb_engine.specs.declared.replies.Holding.{Holding}
-use Rattle.zeb_engine.specs.declared.replies.Reply.{Reply}
-use Rattle.zeb_engine.specs.Answers.{Extent, answer_of, extent_of, refused, IsFailure}
-use Rattle.zeb_change.specs.Refused.{Why, why_of, Meets}
-use Rattle.zeb_change.specs.Conditions.{Conditions}
-use Rattle.zeb_engine.specs.Counting.{IsExtent, Paired, Target}
-use Rattle.zeb_image.specs.Holdings.{Holdings, base_named}
-use Rattle.zeb_change.specs.Base.{Base}
-use Rattle.zeb_image.specs.Image.{Keeps}
-use Rattle.zeb_engine.specs.Steps.{CountedFrom, CountedIn, StatAnswers, no_database, ready}
-use Rattle.zeb_engine.specs.PrivateSteps.{existing, found_or}
+use Rattle.zeb_engine.specs.Steps.{ready}
 use Rattle.zeb_engine.proofs.DatabasesOfImages.{existing_met}
 use Rattle.zeb_engine.proofs.ServesLemmas.{keeps_still}
 

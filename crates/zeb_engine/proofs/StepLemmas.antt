@@ -1,14 +1,6 @@
 -- A command's step, in two parts: its answer, and what is held then, which is computed.
-use Rattle.std.proofs.Common.{◌≡◌, ◌↔◌, ◌∙◌, map, Option, Some, None, string_bytes, ap, sym}
-use Rattle.zeb_engine.specs.declared.commands.Command.{Command}
-use Rattle.zeb_engine.specs.declared.commands.Command.TheVariants.{Init, Check, Reindex, Upgrade, Create, Drop, Stat, Dump, Change, Find, Scan, Analyse}
-use Rattle.zeb_image.specs.NameOf.{name_bytes}
-use Rattle.zeb_engine.specs.Analysed.{IsAnalysed}
-use Rattle.zeb_engine.specs.Answers.{Answer}
-use Rattle.zeb_change.specs.Conditions.{Conditions}
-use Rattle.zeb_image.specs.Holdings.{Holdings}
-use Rattle.zeb_engine.specs.Steps.{Outcome, Ends, Step, CountedFrom, FoundFrom, ScannedFrom, changed_by_files, created, dropped, dumped_by, initialised, ready, turned, checked, reindexed, upgraded}
-use Rattle.zeb_change.specs.Folding.{splits_of}
+use Rattle.zeb_engine.proofs.Cited.{◌≡◌, ◌↔◌, ◌∙◌, map, Option, Some, None, string_bytes, ap, sym, Command, Init, Check, Reindex, Upgrade, Create, Drop, Stat, Dump, Change, Find, Scan, Analyse, name_bytes, IsAnalysed, Answer, Conditions, Holdings, Outcome, Ends, Step, CountedFrom, FoundFrom, ScannedFrom, dumped_by, checked, splits_of}
+use Rattle.zeb_engine.specs.Steps.{changed_by_files, created, dropped, initialised, ready, turned, reindexed, upgraded}
 
 -- What a command answers and leaves. A find, a scan and a stat have none: what they answer is said by the records that are kept; nor has an
 -- analysis, which is said by its files.

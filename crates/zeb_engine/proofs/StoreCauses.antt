@@ -1,27 +1,8 @@
 -- Why the store may have failed, one call after the other.
-use Rattle.std.proofs.Common.{◌≡◌, ◌⊎◌, ◌∙◌, ℕ, List, IsTrue, Result, Ok, Err, ap, inl, inr, refl, subst, sym}
-use Rattle.sqlite.specs.State.{State, HasCleanDisk, Survives}
-use Rattle.zeb_query.specs.declared.faults.QueryFault.{QueryFault}
+use Rattle.zeb_engine.proofs.Cited.{◌≡◌, ◌⊎◌, ◌∙◌, ℕ, List, IsTrue, Result, Ok, Err, ap, inl, inr, refl, subst, sym, State, HasCleanDisk, Survives, QueryFault, ChangesNothing, MayRefuse, IsReasoned, IsStore, RegFault, nothing_then, store_same, quiet_then, may_after, clean_before, Refusal, Conditions, query_refusal, register_refusal, out_of_memory, store_failed, why_of, StaysOpen, IsAnalysed, answer_of, refused, HasStoreCause, Reply}
 use Rattle.zeb_query.specs.declared.faults.QueryFault.TheVariants as query
-use Rattle.zeb_register.specs.Calls.{ChangesNothing, MayRefuse}
-use Rattle.zeb_register.specs.Clauses.{IsReasoned}
-use Rattle.zeb_register.specs.Store.{IsStore}
-use Rattle.zeb_register.specs.declared.RegFault.{RegFault}
 use Rattle.zeb_register.specs.declared.RegFault.TheVariants as register
-use Rattle.zeb_register.proofs.Calls.{nothing_then, store_same}
-use Rattle.zeb_register.proofs.CallsInTurn.{quiet_then}
-use Rattle.zeb_register.proofs.Causes.{may_after}
-use Rattle.zeb_search.proofs.ReadLemmas.{clean_before}
-use Rattle.zeb_change.specs.declared.refusals.Refusal.{Refusal}
 use Rattle.zeb_change.specs.declared.refusals.Refusal.TheVariants as refusal
-use Rattle.zeb_change.specs.Conditions.{Conditions}
-use Rattle.zeb_change.specs.Outcomes.{query_refusal, register_refusal}
-use Rattle.zeb_change.specs.Refused.{out_of_memory, store_failed, why_of}
-use Rattle.zeb_engine.specs.Adopting.{StaysOpen}
-use Rattle.zeb_engine.specs.Analysed.{IsAnalysed}
-use Rattle.zeb_engine.specs.Answers.{answer_of, refused}
-use Rattle.zeb_engine.specs.PrivateCauses.{HasStoreCause}
-use Rattle.zeb_engine.specs.declared.replies.Reply.{Reply}
 use Rattle.zeb_engine.proofs.OwnAnswers.{IsOwn, analysed_own}
 
 -- a fault of the tables that is answered as a failed store is one
@@ -98,7 +79,3 @@ pub look_caused : {T : Type 0} (old mid new : State) → Survives mid new (λ _.
     → (why : Refusal) (result : Result T Refusal) → result ≡ Err why → HasCauseFor mid new why → HasStoreCause old new result
 look_caused old mid new late clean survives stays nothing why result is caused =
     passed_cause old new why result is (refusal_after old mid new (look_leaves old mid new late clean survives stays nothing) why caused)
-
--- a refusal that tells a failed store has the cause
-pub store_told : {T : Type 0} (old new : State) (result : Result T Refusal) → HasStoreCause old new result → IsStore old → result ≡ Err refusal.Store → MayRefuse old new
-store_told {T} old new result caused store is = subst (λ (r : Result T Refusal). HasStoreCause old new r) is caused store refl

@@ -1,33 +1,8 @@
 -- What looks at texts come to, one after the other.
-use Rattle.std.proofs.Common.{◌≡◌, ◌⊎◌, ◌↔◌, ◌∙◌, ℕ, Bool, true, false, List, codes, Option, Some, None, Result, Ok, Err, MatchResult, OnOk, IfErr, IsTrue, IsUtf8, String, string_bytes, refl, sym, subst, inl, inr}
-use Rattle.std.specs.declared.alloc.Global.{Global}
-use Rattle.std.specs.Str.{bytes_eq}
-use Rattle.std.proofs.lemmas.Slice.Eq.{bytes_eq-Decides}
-use Rattle.std.proofs.lemmas.Str.{IsUtf8-string_bytes}
-use Rattle.std.specs.Option.{option_map}
-use Rattle.sqlite.specs.Effect.{Database}
-use Rattle.sqlite.specs.Tree.{Trees}
-use Rattle.sqlite.specs.State.{HasCleanDisk, State}
-use Rattle.zeb_profile.specs.declared.directives.Directive.{Directive}
-use Rattle.zeb_profile.specs.Canonical.{canonical_text, pattern_text}
-use Rattle.zeb_profile.specs.Indexes.{identifier_pattern}
-use Rattle.zeb_register.specs.Formats.{plain_rows, version_of}
-use Rattle.zeb_register.specs.declared.RegFault.{RegFault}
+use Rattle.zeb_engine.proofs.Cited.{◌≡◌, ◌⊎◌, ◌↔◌, ◌∙◌, ℕ, Bool, true, false, List, codes, Option, Some, None, Result, Ok, Err, MatchResult, OnOk, IfErr, IsTrue, IsUtf8, String, string_bytes, refl, sym, subst, inl, inr, Global, bytes_eq, bytes_eq-Decides, IsUtf8-string_bytes, option_map, Database, Trees, HasCleanDisk, State, Directive, canonical_text, pattern_text, identifier_pattern, plain_rows, version_of, RegFault, ChangesNothing, IsStore, IsValueOf, AreReadableTexts, nothing_then, store_same, one_text, Refusal, register_refusal, why_of, Standing, StaysOpen, IsFailure, refused, FindsStanding, IsLook, RefusesText, RefusesVersion, TellsStanding, TellsText, IsReadyToReindex, KeepsText, KeepsUpgradable, RefusesReindex, RefusesUpgrade}
 use Rattle.zeb_register.specs.declared.RegFault.TheVariants as register
-use Rattle.zeb_register.specs.Calls.{ChangesNothing}
-use Rattle.zeb_register.specs.Store.{IsStore, IsValueOf, AreReadableTexts}
-use Rattle.zeb_register.proofs.Calls.{nothing_then, store_same}
-use Rattle.zeb_register.proofs.RowsAreLists.{one_text}
-use Rattle.zeb_change.specs.declared.refusals.Refusal.{Refusal}
 use Rattle.zeb_change.specs.declared.refusals.Refusal.TheVariants as refusal
-use Rattle.zeb_change.specs.Outcomes.{register_refusal}
-use Rattle.zeb_change.specs.Refused.{why_of}
-use Rattle.zeb_engine.specs.declared.looks.Standing.{Standing}
 use Rattle.zeb_engine.specs.declared.looks.Standing.TheVariants as standing
-use Rattle.zeb_engine.specs.Adopting.{StaysOpen}
-use Rattle.zeb_engine.specs.Answers.{IsFailure, refused}
-use Rattle.zeb_engine.specs.PrivateLooking.{FindsStanding, IsLook, RefusesText, RefusesVersion, TellsStanding, TellsText}
-use Rattle.zeb_engine.specs.Readiness.{IsReadyToReindex, KeepsText, KeepsUpgradable, RefusesReindex, RefusesUpgrade}
 use Rattle.zeb_engine.proofs.ReadyTexts.{text_found, text_missing}
 
 any_ok : {A E : Type 0} (r : Result A E) (P : Type 0) → P → OnOk r P
@@ -134,7 +109,6 @@ module _ (trees : Trees) (P : Refusal → Type 0) (store : P refusal.Store) (mem
   pub text_refused : (name : List ℕ) → ((¬ AreReadableTexts trees name) → P refusal.Damaged) → (why : Refusal) → RefusesText name trees why → P why
   text_refused name damaged refusal.Damaged is = damaged is
   text_refused name damaged refusal.Store is = store
-  text_refused name damaged refusal.Commit is = absurd is
   text_refused name damaged refusal.Memory is = memory
   text_refused name damaged refusal.NotInitialised is = absurd is
   text_refused name damaged refusal.OldFormat is = absurd is
@@ -153,7 +127,6 @@ module _ (trees : Trees) (P : Refusal → Type 0) (store : P refusal.Store) (mem
   version_refused none damaged refusal.NotInitialised is = none is
   version_refused none damaged refusal.Damaged is = damaged is
   version_refused none damaged refusal.Store is = store
-  version_refused none damaged refusal.Commit is = absurd is
   version_refused none damaged refusal.Memory is = memory
   version_refused none damaged refusal.OldFormat is = absurd is
   version_refused none damaged refusal.ProfileChanged is = absurd is

@@ -1,15 +1,7 @@
 -- What commands that change the databases come to, by what there is of the name.
-use Rattle.std.proofs.Common.{◌≡◌, ◌∙◌, ℕ, List, [], Option, Some, None, Result, Ok, Err, refl, sym, ap}
-use Rattle.zeb_marc.specs.Splits.{Split}
-use Rattle.zeb_change.specs.declared.settings.Kind.{Kind}
-use Rattle.zeb_change.specs.Refused.{Why, exists, Meets}
-use Rattle.zeb_engine.specs.Answers.{done, changed, refused}
-use Rattle.zeb_change.specs.Conditions.{Conditions}
-use Rattle.zeb_change.specs.Folding.{Progress, at_first, files_folded}
-use Rattle.zeb_image.specs.Holdings.{Holdings, new_base, base_named, with_base, without_base}
-use Rattle.zeb_change.specs.Base.{Base}
-use Rattle.zeb_engine.specs.Steps.{Turn, ready, holding, ends, turned, turned_from, created, created_in, dropped, dropped_in, changed_by_files, change_from, change_ends, start_of, no_database, initialised}
-use Rattle.zeb_engine.specs.PrivateSteps.{found_or, existing}
+use Rattle.zeb_engine.proofs.Cited.{◌≡◌, ◌∙◌, ℕ, List, [], Option, Some, None, Result, Ok, Err, refl, sym, ap, Split, Kind, Why, exists, Meets, done, changed, refused, Conditions, Progress, at_first, files_folded, Holdings, new_base, base_named, without_base, Base, Turn, holding, ends, turned_from, created_in, dropped_in, change_from, change_ends, start_of, no_database, found_or, existing}
+use Rattle.zeb_image.specs.Holdings.{with_base}
+use Rattle.zeb_engine.specs.Steps.{ready, turned, created, dropped, changed_by_files, initialised}
 
 module _ (c : Conditions) (before : Holdings) where
   pub turn_refused : (turn : Turn) (why : Why) → ready c before ≡ Err why → turned c turn before ≡ (refused why, before)

@@ -1,32 +1,12 @@
 -- What each command that writes leaves in the tables is the image of its outcome.
-use Rattle.std.proofs.Common.{◌≡◌, ◌∙◌, ℕ, ℤ, pos, List, [], Result, Ok, Err, IfErr, OnOk, refl, sym, subst, inl, arith}
-use Rattle.sqlite.specs.State.{State}
-use Rattle.zeb_profile.specs.declared.directives.Directive.{Directive}
-use Rattle.zeb_register.specs.declared.RegFault.{RegFault}
-use Rattle.zeb_register.specs.Calls.{GoesOn}
-use Rattle.zeb_register.specs.Catalog.{PutsDatabase}
-use Rattle.zeb_profile.specs.Canonical.{canonical_text}
-use Rattle.zeb_register.proofs.FormatLemmas.{one_format, registers_stay}
-use Rattle.zeb_register.specs.Content.{Content, IsWithout, TakesWhole}
-use Rattle.zeb_register.specs.Store.{IsStore, Changes, KeepsRegisters, databases_tree}
-use Rattle.zeb_engine.specs.declared.replies.Reply.{Reply}
-use Rattle.zeb_engine.specs.declared.replies.Reply.TheVariants.{Done}
-use Rattle.zeb_engine.specs.Answers.{refused, reply_answer, IsFailure}
-use Rattle.zeb_change.specs.Refused.{why_of}
-use Rattle.zeb_change.specs.Conditions.{Conditions}
-use Rattle.zeb_image.specs.Holdings.{Holdings, new_base, with_base, without_base}
-use Rattle.zeb_image.specs.Names.{IsDatabaseName}
-use Rattle.zeb_image.specs.Image.{IsImage}
-use Rattle.zeb_engine.specs.Steps.{Outcome, holding, initialised, turned, created, dropped}
-use Rattle.zeb_change.specs.Inside.{StaysInside}
-use Rattle.zeb_engine.specs.PrivateWorks.{ReachesOutcome}
-use Rattle.zeb_engine.specs.PrivateWriting.{AreOf, IsFree, IsKnown, reply_of_work}
+use Rattle.zeb_engine.proofs.Cited.{◌≡◌, ◌∙◌, ℕ, ℤ, pos, List, [], Result, Ok, Err, IfErr, OnOk, refl, sym, subst, inl, arith, State, Directive, RegFault, GoesOn, PutsDatabase, canonical_text, one_format, registers_stay, Content, IsWithout, TakesWhole, IsStore, Changes, KeepsRegisters, databases_tree, Reply, Done, refused, reply_answer, IsFailure, why_of, Conditions, Holdings, new_base, without_base, IsDatabaseName, IsImage, Outcome, holding, StaysInside, ReachesOutcome, AreOf, IsFree, IsKnown, reply_of_work, Format, holds_in, version_of}
+use Rattle.zeb_image.specs.Holdings.{with_base}
+use Rattle.zeb_engine.specs.Steps.{initialised, turned, created, dropped}
 use Rattle.zeb_engine.proofs.Beginning.{texts_still}
 use Rattle.zeb_engine.proofs.Creating.{with_new_base, created_image}
 use Rattle.zeb_engine.proofs.Dropping.{without_bases, dropped_image}
 use Rattle.zeb_engine.proofs.ReadyImages.{image_some, image_with_bases}
 use Rattle.zeb_engine.proofs.TurnedOutcomes.{step_init, step_created, step_dropped}
-use Rattle.zeb_register.specs.Formats.{Format, holds_in, version_of}
 
 -- what is left after an outcome
 abbrev pub Leads : State → Reply → Outcome → Type 0

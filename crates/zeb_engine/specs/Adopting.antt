@@ -1,11 +1,8 @@
 -- What a store is once it is taken over, and why it is not.
-use Rattle.std.specs.Prelude.{◌≡◌, ◌≢◌, ◌⊎◌, IsTrue}
+use Rattle.std.specs.Prelude.{◌≡◌, ◌≢◌, IsTrue}
 use Rattle.sqlite.specs.Effect.{IsDatabase}
 use Rattle.sqlite.specs.State.{State}
-use Rattle.zeb_register.specs.Calls.{MayRefuse}
 use Rattle.zeb_register.specs.Tables.{no_schema, store_schema}
-use Rattle.zeb_change.specs.declared.refusals.Refusal.{Refusal}
-use Rattle.zeb_change.specs.declared.refusals.Refusal.TheVariants.{Store}
 
 -- the connection was open and is
 abbrev pub StaysOpen : State → State → Type 0
@@ -15,11 +12,6 @@ StaysOpen old new = IsTrue old.is_open × IsTrue new.is_open
 -- that can't be read.
 abbrev pub HasOtherTables : State → Type 0
 HasOtherTables s = (s.now.schema ≢ no_schema) × (s.now.schema ≢ store_schema)
-
--- Why a store isn't taken over, where that is told as a failure of it: it has other tables, or it failed for a cause, which is that the
--- connection was shut, the disk failed during the call, or a limit on steps is set.
-abbrev pub HasAdoptingCause : State → State → Refusal → Type 0
-HasAdoptingCause old new refusal = refusal ≡ Store → HasOtherTables old ⊎ MayRefuse old new
 
 -- the store has this store's six tables and nothing else, and their rows obey their rules
 pub record HasOwnTables (s : State) : Type 0 where

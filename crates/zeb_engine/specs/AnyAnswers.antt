@@ -1,8 +1,10 @@
 -- What is said of the answer to a command on any tables, whatever these hold: all of it together, as the program passes it on.
-use Rattle.std.specs.Prelude.{◌≡◌, List, [], Result, Err, OnErr, OnOk}
+use Rattle.std.specs.Prelude.{◌≡◌, ℕ, List, [], Result, Err, OnErr, OnOk}
 use Rattle.sqlite.specs.State.{State}
 use Rattle.zeb_profile.specs.declared.directives.Directive.{Directive}
+use Rattle.zeb_register.specs.declared.registers.Work.{Work}
 use Rattle.zeb_register.specs.Calls.{ChangesNothing}
+use Rattle.zeb_register.specs.Content.{Posting}
 use Rattle.zeb_register.specs.Formats.{Format, version_of}
 use Rattle.zeb_register.specs.Store.{IsStore}
 use Rattle.zeb_change.specs.Conditions.{Conditions}
@@ -18,7 +20,8 @@ use Rattle.zeb_engine.specs.Alone.{AnswersAlone}
 use Rattle.zeb_engine.specs.Analysed.{AnswersAnalysis}
 use Rattle.zeb_engine.specs.AnyMade.{MakesOrDrops}
 use Rattle.zeb_engine.specs.AnyTables.{AnswersTables, ChangeLeaves, ChangesOver}
-use Rattle.zeb_engine.specs.Causes.{CommandInRoom, HasCommandCause}
+use Rattle.zeb_engine.specs.Causes.{OnlyLooks}
+use Rattle.zeb_engine.specs.Counts.{CommandCounts}
 use Rattle.zeb_engine.specs.Checking.{ChecksTables, ReindexLeaves, ReindexesTables, StaysUpgraded, UpgradeLeaves, UpgradesTables}
 use Rattle.zeb_engine.specs.Readiness.{GoesByTexts, LooksFirst}
 use Rattle.zeb_engine.specs.Steps.{OnlyAsks, holding}
@@ -52,11 +55,11 @@ pub record IsAnswerOver (format : Format) (profile : List Directive) (limits : L
 abbrev pub InitLeaves : Conditions → (old new : State) → Type 0
 InitLeaves c old new = IsStore old → Keeps new (holding c [])
 
--- what a command leaves of any tables, and why its store failed
+-- what a command leaves of any tables; of one that only asks, why its store failed too
 pub record CommandLeaves (format : Format) (c : Conditions) (command : Command) (old new : State) (answer : Result Reply Refusal) : Type 0 where
   -- nothing changes where it is refused, nor where it only asks
   pub refused : OnErr answer (ChangesNothing old new)
-  pub asks : OnlyAsks command → ChangesNothing old new
+  pub asks : OnlyAsks command → OnlyLooks old new answer
   -- from tables that keep what a register holds it is answered as a run of it, and they keep what is held then
   pub serves : ServesCommand c command old new answer
   pub begun : command ≡ Init → OnOk answer (InitLeaves c old new)
@@ -68,14 +71,13 @@ pub record CommandLeaves (format : Format) (c : Conditions) (command : Command) 
   -- nothing else; and an accepted create or drop makes or takes its database.
   pub loses : ChangeLeaves c.profile command old new answer
   pub makes : MakesOrDrops command old new answer
-  -- a failed store has a cause, but for a change, a reindex and an upgrade; of one that only asks a failed commit has one too
-  pub caused : HasCommandCause c.profile command old new answer
-  -- it has one of these three too, where the tables have room for what the records ask for
-  pub room : CommandInRoom c.profile command old new answer
 
--- That, and how it is answered: by the tables that it found, and an analysis by its files alone. An upgrade of the session's version does nothing.
-pub record CommandOverTables (format : Format) (c : Conditions) (command : Command) (answer : Result Reply Refusal) (old new : State) : Type 0 where
+-- That, and how it is answered: by the tables that it found, and an analysis by its files alone. An upgrade of the session's version does
+-- nothing. And what it has counted.
+pub record CommandOverTables (format : Format) (row_work : ℕ) (block_rows : List Posting → ℕ) (c : Conditions) (command : Command)
+    (answer : Result Reply Refusal) (old new : State) (work : Work) : Type 0 where
   pub leaves : CommandLeaves format c command old new answer
   pub stays : command ≡ Upgrade → StaysUpgraded (version_of format) c.profile old new answer
   pub analysed : AnswersAnalysis c.profile c.limits.records command answer
   pub over : IsAnswerOver format c.profile c.limits command old answer
+  pub counts : CommandCounts format row_work block_rows c command old new answer work

@@ -9,7 +9,7 @@ use Rattle.zeb_change.specs.Conditions.{Conditions}
 use Rattle.zeb_change.specs.Costs.{IsFilesCost, IsWorkFor}
 use Rattle.zeb_change.specs.Folding.{at_first, splits_of}
 use Rattle.zeb_engine.specs.declared.commands.Command.{Command}
-use Rattle.zeb_engine.specs.declared.commands.Command.TheVariants.{Change}
+use Rattle.zeb_engine.specs.declared.commands.Command.TheVariants.{Init, Create, Drop, Change, Find, Check, Reindex, Upgrade, Stat, Dump, Scan, Analyse}
 use Rattle.zeb_engine.specs.declared.replies.Reply.{Reply}
 use Rattle.zeb_image.specs.Holdings.{Holdings, base_named}
 use Rattle.zeb_image.specs.Image.{Keeps}
@@ -41,3 +41,18 @@ CostsAlone row_work c kind name texts old result work =
 abbrev pub CommandCosts : ℕ → Conditions → Command → State → Result Reply Refusal → Work → Type 0
 CommandCosts row_work c (Change kind name files) old result work = CostsAlone row_work c kind (name_bytes name) (map (λ file. file.items) files.items) old result work
 CommandCosts row_work c other old result work = Unit {0}
+
+-- the commands that count nothing, whatever they answer
+abbrev pub CountsNothing : Command → Type 0
+CountsNothing Init = Unit {0}
+CountsNothing (Create name) = Unit {0}
+CountsNothing (Drop name) = Unit {0}
+CountsNothing (Change kind name files) = ⊥
+CountsNothing (Find name query first count) = ⊥
+CountsNothing Check = Unit {0}
+CountsNothing Reindex = Unit {0}
+CountsNothing Upgrade = Unit {0}
+CountsNothing (Stat name) = ⊥
+CountsNothing (Dump name) = Unit {0}
+CountsNothing (Scan name query number position) = ⊥
+CountsNothing (Analyse files) = Unit {0}

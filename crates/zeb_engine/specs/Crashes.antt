@@ -13,7 +13,7 @@ use Rattle.zeb_register.specs.Tables.{no_schema, store_schema}
 use Rattle.zeb_engine.specs.declared.commands.Command.{Command}
 use Rattle.zeb_engine.specs.declared.replies.Reply.{Reply}
 use Rattle.zeb_change.specs.declared.refusals.Refusal.{Refusal}
-use Rattle.zeb_change.specs.declared.refusals.Refusal.TheVariants.{Commit}
+use Rattle.zeb_change.specs.declared.refusals.Refusal.TheVariants.{Store}
 use Rattle.zeb_engine.specs.Answers.{Answer, refused, reply_answer}
 use Rattle.zeb_change.specs.Refused.{Why, store_failed}
 use Rattle.zeb_change.specs.Base.{Base}
@@ -93,11 +93,11 @@ CommitsAdopted old db = (before : Holdings) → Bears old before → Stands db b
 -- ---- after a command
 
 -- A crash after a command leaves what was there before it, or what is held after it: only that once it is accepted, and only what
--- was there once it is refused, but for a failed commit.
+-- was there once it is refused, but for a failed store: a commit that failed may have reached the disk.
 abbrev pub Endures : (Told : Holdings → Answer → Holdings → Type 0) → State → State → Result Reply Refusal → Type 0
 Endures Told old new (Ok reply) =
     (before : Holdings) → Keeps old before → Leaves old before → (later : Holdings) × Told before (reply_answer reply) later × Leaves new later
-Endures Told old new (Err Commit) =
+Endures Told old new (Err Store) =
     (before : Holdings) → Keeps old before → Leaves old before → (db : Trees) → new.may_leave db
     → Stands db before ⊎ ((answer : Answer) × (later : Holdings) × Told before answer later × Stands db later)
 Endures Told old new (Err refusal) = (before : Holdings) → Leaves old before → Leaves new before

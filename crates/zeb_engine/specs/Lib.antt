@@ -16,6 +16,7 @@ pub mod AnyMade
 pub mod Works
 pub mod PrivateWorks
 pub mod Costs
+pub mod Counts
 pub mod Readiness
 pub mod Checking
 pub mod AnyAnswers
@@ -32,4 +33,3 @@ pub mod Crashes
 pub mod PrivateCrashes
 pub mod Reads
 pub mod Causes
-pub mod PrivateCauses

@@ -12,7 +12,7 @@ use Rattle.zeb_change.specs.Conditions.{Conditions, conditions}
 use Rattle.zeb_image.specs.Holdings.{Holdings}
 use Rattle.zeb_engine.specs.Adopting.{StaysOpen}
 use Rattle.zeb_engine.specs.declared.replies.Reply.{Reply}
-use Rattle.zeb_engine.specs.PrivateCauses.{HasStoreCause}
+use Rattle.zeb_engine.specs.Causes.{HasStoreCause}
 use Rattle.zeb_engine.specs.PrivateCrashes.{Commits}
 use Rattle.zeb_engine.specs.Steps.{Outcome}
 use Rattle.zeb_engine.specs.PrivateWorks.{Always, Serves}
@@ -30,7 +30,7 @@ abbrev pub FindsOpen : {S T : Type 0} → Ghosts S → Held S → Held S → Res
 FindsOpen g old new result = HasCleanDisk (state g new) → OnOk result (StaysOpen (state g old) (state g new))
 
 -- accepted, it left an open connection open
-abbrev pub LeavesOpen : {S T : Type 0} → Ghosts S → Held S → Held S → Result T Refusal → Type 0
+abbrev pub LeavesOpen : {S T E : Type 0} → Ghosts S → Held S → Held S → Result T E → Type 0
 LeavesOpen g old new result = HasCleanDisk (state g new) → OnOk result (IsTrue (state g old).is_open → IsTrue (state g new).is_open)
 
 -- it finds the store failed only for a cause

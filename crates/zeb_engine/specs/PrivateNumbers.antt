@@ -1,6 +1,6 @@
 -- What only the contracts of private functions speak of; no public clause reaches it.
 -- The numbers of the records of a database, which a change looks at first.
-use Rattle.std.specs.Prelude.{◌≡◌, ◌⊎◌, ◌+◌, ◌≤◌, ◌<◌, ◌^◌, ℕ, ℤ, pos, List, Option, Some, None}
+use Rattle.std.specs.Prelude.{◌+◌, ◌≤◌, ◌<◌, ◌^◌, ℕ, ℤ, pos, List, Option, Some, None}
 use Rattle.sqlite.specs.Effect.{Database}
 use Rattle.sqlite.specs.State.{State}
 use Rattle.sqlite.specs.Tree.{Trees}
@@ -8,9 +8,6 @@ use Rattle.zeb_register.specs.declared.kept.Record.{Record}
 use Rattle.zeb_register.specs.Catalog.{PutsDatabase}
 use Rattle.zeb_register.specs.Kept.{AreReadable}
 use Rattle.zeb_register.specs.Store.{Changes, databases_tree}
-use Rattle.zeb_change.specs.declared.refusals.Refusal.{Refusal}
-use Rattle.zeb_change.specs.declared.refusals.Refusal.TheVariants.{Damaged}
-use Rattle.zeb_change.specs.Refused.{IsFailing, why_of}
 use Rattle.zeb_engine.specs.AnyTables.{HasNumbersTo}
 
 -- the first record, if there is one, has no number below 1, and none was found above the last number
@@ -31,7 +28,3 @@ pub record IsMisnumbered (name : List ℕ) (last : ℕ) (old : State) : Type 0 w
   pub now : Database
   pub put : Changes databases_tree (PutsDatabase id name (pos last)) old (record old { now = now })
   pub unsound : ¬ AreWellNumbered last now.trees id
-
--- refused as damage, or by a failure
-abbrev pub IsDamageOrFailing : Refusal → Type 0
-IsDamageOrFailing refusal = (refusal ≡ Damaged) ⊎ IsFailing (why_of refusal)

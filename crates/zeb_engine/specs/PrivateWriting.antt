@@ -1,6 +1,6 @@
 -- What only the contracts of private functions speak of; no public clause reaches it.
 -- The commands that write without reading records: what each makes of what is held, and what was found out before it began.
-use Rattle.std.specs.Prelude.{◌≡◌, ◌⊎◌, ℕ, ℤ, pos, List, [], Some, None, Result, Ok, Err, IfErr, IsTrue, codes}
+use Rattle.std.specs.Prelude.{◌≡◌, ◌⊎◌, ℕ, ℤ, pos, List, [], Some, None, Result, Ok, Err, IfErr, IsTrue}
 use Rattle.std.specs.Option.{option_map}
 use Rattle.sqlite.specs.Tree.{Trees}
 use Rattle.sqlite.specs.State.{State}
@@ -11,8 +11,7 @@ use Rattle.zeb_profile.specs.Laws.{IsProfile}
 use Rattle.zeb_register.specs.declared.RegFault.{RegFault}
 use Rattle.zeb_register.specs.Content.{TakesWhole}
 use Rattle.zeb_register.specs.Formats.{Format, version_of}
-use Rattle.zeb_register.specs.Hindrances.{IsTooLarge, LacksRowids}
-use Rattle.zeb_register.specs.Store.{IsStore, HasDatabase, databases_tree, entry}
+use Rattle.zeb_register.specs.Store.{IsStore, HasDatabase}
 use Rattle.zeb_engine.specs.declared.writes.Write.{Write}
 use Rattle.zeb_engine.specs.declared.writes.Write.TheVariants as write
 use Rattle.zeb_change.specs.declared.refusals.Refusal.{Refusal}
@@ -20,7 +19,6 @@ use Rattle.zeb_engine.specs.declared.replies.Reply.{Reply}
 use Rattle.zeb_engine.specs.declared.replies.Reply.TheVariants.{Done}
 use Rattle.zeb_engine.specs.AnyMade.{MakesDatabase}
 use Rattle.zeb_engine.specs.Answers.{answer_of, done, refused, IsFailure}
-use Rattle.zeb_engine.specs.Causes.{HasRoomToRenew}
 use Rattle.zeb_change.specs.Refused.{why_of}
 use Rattle.zeb_change.specs.Conditions.{Conditions}
 use Rattle.zeb_change.specs.Outcomes.{register_refusal}
@@ -114,26 +112,6 @@ FailsAlone (write.Create name) result = Unit {0}
 FailsAlone (write.Drop name id) result = Unit {0}
 FailsAlone (write.Reindex alloc profile) result = Unit {0}
 FailsAlone (write.Upgrade alloc profile) result = Unit {0}
-
--- one of these two texts of a register is too large for a row
-abbrev pub HasLargeText : List ℕ → List ℕ → Type 0
-HasLargeText text pattern = IsTooLarge (entry (codes "profile") text) ⊎ IsTooLarge (entry (codes "identifier") pattern)
-
--- what may hinder a write, as far as it is said
-abbrev pub HindersWrite : Write → Trees → Type 0
-HindersWrite (write.Init profile pattern) trees = HasLargeText (canonical_text profile.now) pattern.now
-HindersWrite (write.Create name) trees = LacksRowids 1 databases_tree trees
-HindersWrite (write.Drop name id) trees = ⊥
-HindersWrite (write.Reindex alloc profile) trees = Unit {0}
-HindersWrite (write.Upgrade alloc profile) trees = Unit {0}
-
--- there is room for what a renewal puts; of the other writes it is said what hinders them
-abbrev pub HasRoomToWrite : Write → Trees → Type 0
-HasRoomToWrite (write.Init profile pattern) trees = ⊥
-HasRoomToWrite (write.Create name) trees = ⊥
-HasRoomToWrite (write.Drop name id) trees = ⊥
-HasRoomToWrite (write.Reindex alloc profile) trees = HasRoomToRenew profile.now trees × ¬ IsTooLarge (entry (codes "profile") (canonical_text profile.now))
-HasRoomToWrite (write.Upgrade alloc profile) trees = HasRoomToRenew profile.now trees
 
 -- it is done, or it failed
 abbrev pub DoneOrFails : Result Reply Refusal → Type 0

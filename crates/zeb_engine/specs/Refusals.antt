@@ -3,7 +3,7 @@ use Rattle.std.specs.Prelude.{ℕ, ◌==◌, if◌then◌else◌, List, [], ◌+
 use Rattle.std.specs.Fmt.{decimal}
 use Rattle.zeb_change.specs.declared.faults.RecordFault.{RecordFault}
 use Rattle.zeb_change.specs.declared.refusals.Refusal.{Refusal}
-use Rattle.zeb_change.specs.declared.refusals.Refusal.TheVariants.{NotInitialised, OldFormat, ProfileChanged, Diagnostic, Exists, Record, Unknown, DatabaseFull, TooManyRecords, Damaged, IdentifierRuleChanged, ReadFault, Store, Commit, Memory}
+use Rattle.zeb_change.specs.declared.refusals.Refusal.TheVariants.{NotInitialised, OldFormat, ProfileChanged, Diagnostic, Exists, Record, Unknown, DatabaseFull, TooManyRecords, Damaged, IdentifierRuleChanged, ReadFault, Store, Memory}
 use Rattle.zeb_change.specs.Faults.{fault_name}
 
 -- the addinfo stands only where there is one
@@ -43,7 +43,6 @@ refusal_text Damaged = codes "zebraidx: register damaged"
 refusal_text IdentifierRuleChanged = codes "zebraidx: identifier rule differs"
 refusal_text (ReadFault file) = read_text file
 refusal_text Store = codes "zebraidx: store fault"
-refusal_text Commit = codes "zebraidx: store fault"
 refusal_text Memory = codes "zebraidx: out of memory"
 
 abbrev pub status_of : Refusal → ℕ
@@ -60,5 +59,4 @@ status_of Damaged = 1
 status_of IdentifierRuleChanged = 1
 status_of (ReadFault file) = 3
 status_of Store = 3
-status_of Commit = 3
 status_of Memory = 3

@@ -10,7 +10,7 @@ use Rattle.zeb_engine.specs.Adopting.{StaysOpen}
 use Rattle.zeb_engine.specs.declared.commands.Command.{Command}
 use Rattle.zeb_engine.specs.declared.commands.Command.TheVariants.{Analyse}
 use Rattle.zeb_change.specs.declared.refusals.Refusal.{Refusal}
-use Rattle.zeb_change.specs.declared.refusals.Refusal.TheVariants.{Commit}
+use Rattle.zeb_change.specs.declared.refusals.Refusal.TheVariants.{Store}
 
 -- Outside a transaction, while the connection is open: a crash leaves the rows that are shown, and no others.
 abbrev pub IsDurable : State → Type 0
@@ -20,11 +20,11 @@ IsDurable s = IsTrue s.is_open → (db : Trees) → s.may_leave db → db ≡ s.
 abbrev pub LeavesNoMore : State → State → Type 0
 LeavesNoMore old new = (db : Trees) → new.may_leave db → old.may_leave db
 
--- A refusal lets a crash leave nothing more, but for that of a commit: one that failed may still have reached the disk.
+-- A refusal lets a crash leave nothing more, but for a failed store: a commit that failed may still have reached the disk.
 abbrev pub EnduresRefusal : State → State → Refusal → Type 0
-EnduresRefusal old new refusal = refusal ≢ Commit → LeavesNoMore old new
+EnduresRefusal old new refusal = refusal ≢ Store → LeavesNoMore old new
 
--- A command on a connection: accepted, the connection was open and is; refused, nothing is changed, and but for a failed commit a crash
+-- A command on a connection: accepted, the connection was open and is; refused, nothing is changed, and but for a failed store a crash
 -- leaves nothing more than before.
 pub record Commanded {T : Type 0} (old new : State) (result : Result T Refusal) : Type 0 where
   pub accepted : HasCleanDisk new → OnOk result (StaysOpen old new)

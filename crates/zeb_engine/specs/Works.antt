@@ -3,6 +3,7 @@ use Rattle.std.specs.Prelude.{◌≡◌, List, [], ◌∷◌, Result, IsTrue, On
 use Rattle.sqlite.specs.Held.{Held, state}
 use Rattle.sqlite.specs.State.{State}
 use Rattle.sqlite.specs.Store.{Ghosts}
+use Rattle.zeb_register.specs.declared.registers.Work.{Work}
 use Rattle.zeb_engine.specs.declared.commands.Command.{Command}
 use Rattle.zeb_engine.specs.declared.replies.Reply.{Reply}
 use Rattle.zeb_change.specs.declared.refusals.Refusal.{Refusal}
@@ -34,10 +35,12 @@ FindOpen (command ∷ commands) (result ∷ results) old new =
 FindOpen [] (result ∷ results) old new = ⊥
 FindOpen (command ∷ commands) [] old new = ⊥
 
--- each of the commands does so, one after the other, from one connection to the next
-module _ {S : Type 0} (g : Ghosts S) (Does : Command → Result Reply Refusal → State → State → Type 0) where
-  abbrev pub InTurn : List Command → List (Result Reply Refusal) → Held S → Held S → Type 0
-  InTurn [] [] old new = new ≡ old
-  InTurn (command ∷ commands) (result ∷ results) old new = (mid : Held S) × Does command result (state g old) (state g mid) × InTurn commands results mid new
-  InTurn [] (result ∷ results) old new = ⊥
-  InTurn (command ∷ commands) [] old new = ⊥
+-- Each of the commands does so, one after the other, from one connection to the next, and has counted so much. In the end so much is counted
+-- as the last of them has.
+module _ {S : Type 0} (g : Ghosts S) (Does : Command → Result Reply Refusal → State → State → Work → Type 0) where
+  abbrev pub InTurn : List Command → List (Result Reply Refusal) → Held S → Work → Held S → Work → Type 0
+  InTurn [] [] old before new after = (new ≡ old) × (after ≡ before)
+  InTurn (command ∷ commands) (result ∷ results) old before new after =
+      (mid : Held S) × (work : Work) × Does command result (state g old) (state g mid) work × InTurn commands results mid work new after
+  InTurn [] (result ∷ results) old before new after = ⊥
+  InTurn (command ∷ commands) [] old before new after = ⊥

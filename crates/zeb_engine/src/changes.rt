@@ -4,17 +4,15 @@ ghost use Rattle.std.specs.Prelude.{◌≡◌, ◌≢◌, ◌⊎◌, ◌+◌, �
 ghost use Rattle.sqlite.specs.Held.{state};
 ghost use Rattle.sqlite.specs.State.{HasCleanDisk, Survives};
 ghost use Rattle.zeb_register.specs.Formats.{version_of};
-ghost use Rattle.zeb_register.specs.Calls.{GoesOn, Inside, MayRefuse, OnlyReads};
+ghost use Rattle.zeb_register.specs.Calls.{GoesOn, Inside, OnlyReads};
 ghost use Rattle.zeb_register.specs.Catalog.{PutsDatabase};
-ghost use Rattle.zeb_register.specs.Clauses.{ChangesTable, InStore, OnStore, TakesInside};
-ghost use Rattle.zeb_register.specs.Hindrances.{Hinders};
-ghost use Rattle.zeb_register.specs.Store.{IsStore, database_columns, databases_tree};
+ghost use Rattle.zeb_register.specs.Clauses.{ChangesTable, InStore, OnStore};
+ghost use Rattle.zeb_register.specs.Store.{IsStore, databases_tree};
 ghost use Rattle.zeb_engine.specs.PrivateChanging.{BeginsWith, IsMissedFor, MayBeginUnder, MayBegin, comes_to, last_of};
-ghost use Rattle.zeb_engine.specs.PrivateNumbers.{AreGiven, AreWellNumbered, IsDamageOrFailing, IsMisnumbered};
+ghost use Rattle.zeb_engine.specs.PrivateNumbers.{AreGiven, AreWellNumbered, IsMisnumbered};
 ghost use Rattle.zeb_change.specs.Conditions.{Conditions};
 ghost use Rattle.zeb_engine.specs.Answers.{IsFailure, refused};
 ghost use Rattle.zeb_engine.specs.AnyTables.{ElderOver, EldersOver, HasNumbersTo, LeavesRows, LeavesWhole, LosesNamed, LosesNamedOver, ReasonsOver};
-ghost use Rattle.zeb_engine.specs.Causes.{ChangesInRoom, HasRoomToChange};
 ghost use Rattle.zeb_engine.specs.PrivateCrashes.{Commits};
 ghost use Rattle.zeb_change.specs.Base.{Base};
 ghost use Rattle.zeb_image.specs.Holdings.{Holdings, base_named};
@@ -28,7 +26,7 @@ ghost use Rattle.zeb_engine.specs.Transactions.{Commanded};
 ghost use Rattle.zeb_change.specs.Inside.{StaysInside};
 ghost use Rattle.zeb_change.specs.UnderWay.{conditions_of};
 ghost use Rattle.zeb_engine.specs.PrivateWorks.{IsReady, Serves, ReachesOutcome};
-ghost use Rattle.zeb_engine.specs.PrivateConnections.{CommitsNothing, FailsForCause, FindsOpen, LeavesAsIs};
+ghost use Rattle.zeb_engine.specs.PrivateConnections.{CommitsNothing, FindsOpen, LeavesAsIs};
 ghost use Rattle.zeb_engine.specs.PrivateLooking.{MissesDatabase};
 
 use crate::readiness::existing_database;
@@ -38,7 +36,8 @@ use zeb_change::{Fold, Kind, Progress, Refusal, Setting, Tally, fold_files};
 use zeb_image::DbName;
 use zeb_marc::{RecordBuf, Source};
 use zeb_register::{
-    Database, DatabaseId, Layout, Record, Work, database_of, database_put, record_from_inside,
+    Database, DatabaseId, Layout, Record, RegFault, Work, database_of, database_put,
+    record_from_inside,
 };
 
 /// The greatest number that a column stores: `2^63 - 1`.
@@ -73,25 +72,25 @@ fn changed(tally: Tally) -> Reply
 }
 
 /// The number above the last one, which has to be one that a column stores: `Damaged` where it isn't.
-fn number_above(last: u64) -> Result<u64, Refusal>
+fn number_above(last: u64) -> Result<u64, RegFault>
     ensures above { IfOk result (λ next. (next ≡ last + 1) × (next < 2 ^ 63)) }
-    ensures damaged { IfErr result (λ refusal. (refusal ≡ Refusal.Damaged) × (2 ^ 63 ≤ last + 1)) }
+    ensures damaged { IfErr result (λ fault. (fault ≡ RegFault.Damaged) × (2 ^ 63 ≤ last + 1)) }
 {
     if last >= MOST_STORED {
-        return Err(Refusal::Damaged);
+        return Err(RegFault::Damaged);
     }
     Ok(last + 1)
 }
 
 /// `Damaged` where the first record of a database has number 0, or one was found above its last number.
-fn check_found(first: Option<Record>, above: Option<Record>) -> Result<(), Refusal>
+fn check_found(first: Option<Record>, above: Option<Record>) -> Result<(), RegFault>
     ensures given { OnOk result (AreGiven first above) }
-    ensures damaged { IfErr result (λ refusal. (refusal ≡ Refusal.Damaged) × ¬ AreGiven first above) }
+    ensures damaged { IfErr result (λ fault. (fault ≡ RegFault.Damaged) × ¬ AreGiven first above) }
 {
     match above {
-        Some(_) => Err(Refusal::Damaged),
+        Some(_) => Err(RegFault::Damaged),
         None => match first {
-            Some(found) if found.sysno < 1 => Err(Refusal::Damaged),
+            Some(found) if found.sysno < 1 => Err(RegFault::Damaged),
             _ => Ok(()),
         },
     }
@@ -102,16 +101,13 @@ fn check_numbers<S: Alter>(
     tx: &mut Transaction<'_, S>,
     database: DatabaseId,
     last: u64,
-) -> Result<(), Refusal>
+) -> Result<(), RegFault>
     ensures same { tx.new.conn.ghost_name ≡ tx.old.conn.ghost_name }
     ensures call { Inside (state S.Store tx.old.conn.now) (state S.Store tx.new.conn.now) result (λ _. OnlyReads) }
     ensures numbers { InStore (state S.Store tx.old.conn.now) (state S.Store tx.new.conn.now) (λ trees.
         OnOk result (HasNumbersTo last trees database.0)) }
     ensures honest { InStore (state S.Store tx.old.conn.now) (state S.Store tx.new.conn.now) (λ trees.
-        result ≡ Err Refusal.Damaged → ¬ AreWellNumbered last trees database.0) }
-    ensures refused { InStore (state S.Store tx.old.conn.now) (state S.Store tx.new.conn.now) (λ _.
-        result ≡ Err Refusal.Store → MayRefuse (state S.Store tx.old.conn.now) (state S.Store tx.new.conn.now)) }
-    ensures few { IfErr result IsDamageOrFailing }
+        result ≡ Err RegFault.Damaged → ¬ AreWellNumbered last trees database.0) }
 {
     let next = number_above(last)?;
     let first = record_from_inside(tx, database, 0)?;
@@ -125,7 +121,7 @@ fn begin_change<S: Alter>(
     tx: &mut Transaction<'_, S>,
     name: &str,
     last: u64,
-) -> Result<DatabaseId, Refusal>
+) -> Result<DatabaseId, RegFault>
     ensures same { tx.new.conn.ghost_name ≡ tx.old.conn.ghost_name }
     ensures call { Inside (state S.Store tx.old.conn.now) (state S.Store tx.new.conn.now) result (λ _. GoesOn) }
     ensures put { ChangesTable databases_tree (state S.Store tx.old.conn.now) (state S.Store tx.new.conn.now) result
@@ -133,12 +129,7 @@ fn begin_change<S: Alter>(
     ensures numbers { InStore (state S.Store tx.old.conn.now) (state S.Store tx.new.conn.now) (λ trees.
         IfOk result (λ id. HasNumbersTo last trees id.0)) }
     ensures honest { InStore (state S.Store tx.old.conn.now) (state S.Store tx.new.conn.now) (λ _.
-        result ≡ Err Refusal.Damaged → IsMisnumbered name.now last (state S.Store tx.old.conn.now)) }
-    ensures refused { last < 2 ^ 63 → InStore (state S.Store tx.old.conn.now) (state S.Store tx.new.conn.now) (λ trees.
-        result ≡ Err Refusal.Store → MayRefuse (state S.Store tx.old.conn.now) (state S.Store tx.new.conn.now)
-        ⊎ Hinders 1 databases_tree (database_columns name.now (pos last)) trees) }
-    ensures rowids { TakesInside (state S.Store tx.old.conn.now) (state S.Store tx.new.conn.now) result 1 databases_tree }
-    ensures few { IfErr result IsDamageOrFailing }
+        result ≡ Err RegFault.Damaged → IsMisnumbered name.now last (state S.Store tx.old.conn.now)) }
 {
     let database = database_put(tx, name, last)?;
     check_numbers(tx, database, last)?;
@@ -181,13 +172,6 @@ fn apply<S: Alter, L: Layout, R: Source>(
         → Costs L.row_work (conditions_of (version_of L.format) change.now.setting) change.now.setting.kind
         (name_bytes change.now.name.now) texts work.old work.new before) }
     ensures no_work { L.row_work ≡ 0 → work.new ≡ work.old }
-    ensures room { HasCleanDisk (state S.Store tx.new.conn.now) → IsTrue (state S.Store tx.old.conn.now).in_transaction
-        → (texts : List (List ℕ)) → map R.remaining readers.old ≡ map Some texts → NoneFailed R.has_failed readers.new
-        → IsStore (state S.Store tx.old.conn.now)
-        → BeginsWith change.now.setting.kind (state S.Store tx.old.conn.now).now.trees (name_bytes change.now.name.now) change.now.found
-        → HasRoomToChange change.now.setting.profile.now change.now.setting.kind (name_bytes change.now.name.now) texts
-        (state S.Store tx.old.conn.now).now.trees
-        → result ≡ Err Refusal.Store → MayRefuse (state S.Store tx.old.conn.now) (state S.Store tx.new.conn.now) }
     ensures elder { InStore (state S.Store tx.old.conn.now) (state S.Store tx.new.conn.now) (λ trees. (texts : List (List ℕ))
         → map R.remaining readers.old ≡ map Some texts → NoneFailed R.has_failed readers.new
         → ElderOver change.now.setting.profile.now (name_bytes change.now.name.now) texts trees result) }
@@ -268,11 +252,6 @@ fn transact<S: Alter, L: Layout, R: Source>(
         → Costs L.row_work (conditions_of (version_of L.format) change.now.setting) change.now.setting.kind
         (name_bytes change.now.name.now) texts work.old work.new before) }
     ensures no_work { L.row_work ≡ 0 → work.new ≡ work.old }
-    ensures room { HasCleanDisk (state S.Store connection.new)
-        → (texts : List (List ℕ)) → map R.remaining readers.old ≡ map Some texts → NoneFailed R.has_failed readers.new
-        → BeginsWith change.now.setting.kind (state S.Store connection.old).now.trees (name_bytes change.now.name.now) change.now.found
-        → ChangesInRoom change.now.setting.profile.now change.now.setting.kind (name_bytes change.now.name.now) texts
-        (state S.Store connection.old) (state S.Store connection.new) result }
     ensures elder { OnStore (state S.Store connection.old) (state S.Store connection.new) (λ trees. (texts : List (List ℕ))
         → map R.remaining readers.old ≡ map Some texts → NoneFailed R.has_failed readers.new
         → ElderOver change.now.setting.profile.now (name_bytes change.now.name.now) texts trees result) }
@@ -319,7 +298,6 @@ fn found_for<S: Alter, L: Layout>(
     ensures unread { NoReadFault result }
     ensures ready { NeverUnready result }
     ensures crash { CommitsNothing S.Store connection.old connection.new }
-    ensures caused { FailsForCause S.Store connection.old connection.new result }
     ensures found { FindsOpen S.Store connection.old connection.new result }
     ensures misses { OnStore (state S.Store connection.old) (state S.Store connection.new) (λ trees.
         IfErr result (λ refusal. IsFailure (refused (why_of refusal)) ⊎ MissesDatabase trees (name_bytes name.now) refusal)) }
@@ -375,10 +353,6 @@ pub(crate) fn change_database<S: Alter, L: Layout, R: Source>(
         → Costs L.row_work (conditions_of (version_of L.format) setting.entry) setting.entry.kind
         (name_bytes name.now) texts work.old work.new before) }
     ensures no_work { L.row_work ≡ 0 → work.new ≡ work.old }
-    ensures room { HasCleanDisk (state S.Store connection.new)
-        → (texts : List (List ℕ)) → map R.remaining readers.old ≡ map Some texts → NoneFailed R.has_failed readers.new
-        → ChangesInRoom setting.entry.profile.now setting.entry.kind (name_bytes name.now) texts
-        (state S.Store connection.old) (state S.Store connection.new) result }
     ensures elder { OnStore (state S.Store connection.old) (state S.Store connection.new) (λ trees. (texts : List (List ℕ))
         → map R.remaining readers.old ≡ map Some texts → NoneFailed R.has_failed readers.new
         → ElderOver setting.entry.profile.now (name_bytes name.now) texts trees result) }

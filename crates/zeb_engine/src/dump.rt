@@ -1,22 +1,20 @@
 //! What is kept of a database, as it came in.
 
-ghost use Rattle.std.specs.Prelude.{◌≡◌, ◌⊎◌, List, false, IsTrue, IfErr, IfOk};
+ghost use Rattle.std.specs.Prelude.{◌≡◌, List, false, IsTrue, IfOk, Err};
 ghost use Rattle.std.specs.List.{flat_map};
 ghost use Rattle.sqlite.specs.Held.{state};
 ghost use Rattle.sqlite.specs.State.{HasCleanDisk};
 ghost use Rattle.sqlite.specs.Tree.{Trees};
+ghost use Rattle.zeb_register.specs.Clauses.{IsReasoned};
 ghost use Rattle.zeb_register.specs.Formats.{version_of};
 ghost use Rattle.zeb_register.specs.Kept.{AreReadable};
-ghost use Rattle.zeb_engine.specs.Answers.{IsFailure, refused};
 ghost use Rattle.zeb_engine.specs.AnyRefusals.{HidesRecords, UnlessHidden};
 ghost use Rattle.zeb_engine.specs.AnyTables.{DumpOver, JoinsRecords};
-ghost use Rattle.zeb_change.specs.Refused.{why_of};
 ghost use Rattle.zeb_change.specs.Conditions.{conditions};
 ghost use Rattle.zeb_change.specs.declared.settings.Limits.{Limits};
 ghost use Rattle.zeb_change.specs.Base.{Kept};
 ghost use Rattle.zeb_image.specs.NameOf.{name_bytes};
 ghost use Rattle.zeb_engine.specs.PrivateDumping.{KeepsBase};
-ghost use Rattle.zeb_change.specs.Refused.{NeverUnready};
 ghost use Rattle.zeb_change.specs.Reading.{NoReadFault};
 ghost use Rattle.zeb_engine.specs.Steps.{dumped_by};
 ghost use Rattle.zeb_engine.specs.PrivateWorks.{Always, Serves, ShowsStore};
@@ -30,14 +28,14 @@ use std::alloc::Global;
 use zeb_change::Refusal;
 use zeb_image::DbName;
 use zeb_profile::Profile;
-use zeb_register::{DatabaseId, Layout, record_from};
+use zeb_register::{DatabaseId, Layout, RegFault, record_from};
 
 /// The bytes of a database's records, in rising order of their system numbers. One record is held at a time.
 fn bytes_of<S: Alter>(
     alloc: Global,
     connection: &mut Connection<S>,
     database: DatabaseId,
-) -> Result<Vec<u8>, Refusal>
+) -> Result<Vec<u8>, RegFault>
     requires idle { connection.old.in_transaction ≡ false }
     ensures joined { HasCleanDisk (state S.Store connection.new) → (trees : Trees) → ShowsStore (state S.Store connection.old) trees
         → IsTrue (state S.Store connection.old).is_open → (records : List Kept) → KeepsBase trees database.0 records
@@ -49,16 +47,10 @@ fn bytes_of<S: Alter>(
     ensures open { LeavesOpen S.Store connection.old connection.new result }
     ensures same { LeavesAsIs S.Store connection.old connection.new }
     ensures crash { CommitsNothing S.Store connection.old connection.new }
-    ensures failed { HasCleanDisk (state S.Store connection.new) → (trees : Trees) → ShowsStore (state S.Store connection.old) trees
-        → IsTrue (state S.Store connection.old).is_open → (records : List Kept) → KeepsBase trees database.0 records
-        → IfErr result (λ refusal. IsFailure (refused (why_of refusal))) }
     // Damage is told only of records that can't be read.
     ensures honest { HasCleanDisk (state S.Store connection.new) → (trees : Trees) → ShowsStore (state S.Store connection.old) trees
-        → IsTrue (state S.Store connection.old).is_open → IfErr result (λ refusal. IsFailure (refused (why_of refusal))
-        ⊎ ((refusal ≡ Refusal.Damaged) × (¬ AreReadable trees database.0))) }
-    ensures unread { NoReadFault result }
-    ensures ready { NeverUnready result }
-    ensures caused { FailsForCause S.Store connection.old connection.new result }
+        → IsTrue (state S.Store connection.old).is_open → result ≡ Err RegFault.Damaged → ¬ AreReadable trees database.0 }
+    ensures caused { IsReasoned (state S.Store connection.old) (state S.Store connection.new) result }
 {
     let mut bytes = Vec::new(alloc);
     let mut next: u64 = 0;

@@ -7,7 +7,7 @@ ghost use Rattle.zeb_register.specs.Formats.{version_of};
 ghost use Rattle.zeb_change.specs.Reading.{NoReadFault};
 ghost use Rattle.zeb_engine.specs.PrivateLooking.{FindsStanding, IsLook, RefusesText, RefusesVersion, TellsStanding, TellsText};
 ghost use Rattle.zeb_engine.specs.Readiness.{IsReadyToReindex, KeepsText, RefusesReindex, RefusesUpgrade};
-ghost use Rattle.zeb_engine.specs.PrivateConnections.{CommitsNothing, FailsForCause};
+ghost use Rattle.zeb_engine.specs.PrivateConnections.{CommitsNothing};
 
 use crate::readiness::{IDENTIFIER, PROFILE, VERSION};
 use sqlite::{Alter, Connection};
@@ -34,7 +34,6 @@ fn kept_version<S: Alter>(connection: &mut Connection<S>) -> Result<String, Refu
         (state S.Store connection.new) result }
     ensures unread { NoReadFault result }
     ensures crash { CommitsNothing S.Store connection.old connection.new }
-    ensures caused { FailsForCause S.Store connection.old connection.new result }
 {
     match meta_of(connection, VERSION)? {
         Some(version) => Ok(version),
@@ -54,7 +53,6 @@ fn keeps_text<S: Alter>(
         → IsLook (TellsText name.now text.now) (RefusesText name.now) (state S.Store connection.old) (state S.Store connection.new) result }
     ensures unread { NoReadFault result }
     ensures crash { CommitsNothing S.Store connection.old connection.new }
-    ensures caused { FailsForCause S.Store connection.old connection.new result }
 {
     match meta_of(connection, name)? {
         Some(found) => Ok(found.as_str() == text),
@@ -75,7 +73,6 @@ pub(crate) fn check_rule<S: Alter, L: Layout>(
         (state S.Store connection.old) (state S.Store connection.new) result }
     ensures unread { NoReadFault result }
     ensures crash { CommitsNothing S.Store connection.old connection.new }
-    ensures caused { FailsForCause S.Store connection.old connection.new result }
 {
     let version = kept_version(connection)?;
     if version.as_str() != L::version() {
@@ -115,7 +112,6 @@ pub(crate) fn check_layout<S: Alter, L: Layout>(
         (state S.Store connection.old) (state S.Store connection.new) result }
     ensures unread { NoReadFault result }
     ensures crash { CommitsNothing S.Store connection.old connection.new }
-    ensures caused { FailsForCause S.Store connection.old connection.new result }
 {
     let version = kept_version(connection)?;
     let Some(standing) = standing_of::<L>(version.as_str()) else {

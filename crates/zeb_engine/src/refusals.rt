@@ -68,7 +68,7 @@ pub fn refusal_line(alloc: Global, refusal: &Refusal) -> Result<String, AllocErr
         Refusal::TooManyRecords => "zebraidx: too many records",
         Refusal::Damaged => "zebraidx: register damaged",
         Refusal::IdentifierRuleChanged => "zebraidx: identifier rule differs",
-        Refusal::Store | Refusal::Commit => "zebraidx: store fault",
+        Refusal::Store => "zebraidx: store fault",
         Refusal::Memory => "zebraidx: out of memory",
     };
     String::from_str(alloc, text)
@@ -79,7 +79,7 @@ pub fn status(refusal: &Refusal) -> u8
     ensures { result ≡ status_of refusal.now }
 {
     match refusal {
-        Refusal::ReadFault { .. } | Refusal::Store | Refusal::Commit | Refusal::Memory => 3,
+        Refusal::ReadFault { .. } | Refusal::Store | Refusal::Memory => 3,
         _ => 1,
     }
 }

@@ -1,14 +1,10 @@
 //! The commands that make the registers anew from the kept records, each in one transaction.
 
-ghost use Rattle.std.specs.Prelude.{◌≡◌, false, OnOk, codes};
+ghost use Rattle.std.specs.Prelude.{◌≡◌, false, OnOk};
 ghost use Rattle.sqlite.specs.Held.{state};
 ghost use Rattle.sqlite.specs.State.{HasCleanDisk, Survives};
-ghost use Rattle.zeb_profile.specs.Canonical.{canonical_text};
 ghost use Rattle.zeb_register.specs.Formats.{version_of};
-ghost use Rattle.zeb_register.specs.Hindrances.{IsTooLarge};
-ghost use Rattle.zeb_register.specs.Store.{entry};
 ghost use Rattle.zeb_change.specs.Reading.{NoReadFault};
-ghost use Rattle.zeb_engine.specs.Causes.{RenewsInRoom};
 ghost use Rattle.zeb_engine.specs.Checking.{ReindexesTables, StaysUpgraded, UpgradeLeaves, UpgradesTables};
 ghost use Rattle.zeb_engine.specs.Crashes.{CommitsReindex};
 ghost use Rattle.zeb_engine.specs.PrivateWriting.{HoldsRemade};
@@ -46,8 +42,6 @@ pub(crate) fn reindex<S: Alter, L: Layout>(
     ensures survives_remade { Survives (state S.Store connection.old) (state S.Store connection.new)
         (CommitsReindex L.format profile.now (state S.Store connection.old)) }
     ensures unread { NoReadFault result }
-    ensures room { HasCleanDisk (state S.Store connection.new) → ¬ IsTooLarge (entry (codes "profile") (canonical_text profile.now))
-        → RenewsInRoom profile.now (state S.Store connection.old) (state S.Store connection.new) result }
 {
     // Its profile is some text's, both texts of the session are UTF-8, and it has a rule for identifiers.
     profile.is_of_some_text();
@@ -77,8 +71,6 @@ pub(crate) fn upgrade<S: Alter, L: Layout>(
     ensures call { Commanded (state S.Store connection.old) (state S.Store connection.new) result }
     ensures survives { CommitsUnder S.Store upgraded (version_of L.format) profile.now connection.old connection.new }
     ensures unread { NoReadFault result }
-    ensures room { HasCleanDisk (state S.Store connection.new)
-        → RenewsInRoom profile.now (state S.Store connection.old) (state S.Store connection.new) result }
 {
     // What is shown is what was committed.
     let _settled = connection.is_autocommit();

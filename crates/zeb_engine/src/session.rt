@@ -1,11 +1,12 @@
 //! A register that commands are given to.
 
-ghost use Rattle.std.specs.Prelude.{◌≡◌, ◌⊎◌, [], map, Err, false, IsTrue, IfOk, IfErr, IsOkAnd, IsErrAnd, OnOk, length};
+ghost use Rattle.std.specs.Prelude.{◌≡◌, ◌⊎◌, [], map, false, IsTrue, IfOk, IfErr, IsOkAnd, IsErrAnd, OnOk, length};
 ghost use Rattle.std.specs.List.{AllByRecursion};
 ghost use Rattle.std.specs.Result.{IsErr};
 ghost use Rattle.sqlite.specs.Held.{state};
 ghost use Rattle.sqlite.specs.State.{HasCleanDisk, IsLive, Opens, Survives};
-ghost use Rattle.zeb_engine.specs.Costs.{CommandCosts, no_work};
+ghost use Rattle.zeb_engine.specs.Costs.{CommandCosts, CountsNothing, no_work};
+ghost use Rattle.zeb_engine.specs.Counts.{CommandCounts};
 ghost use Rattle.zeb_engine.specs.Reads.{CommandReads};
 ghost use Rattle.zeb_engine.specs.Alone.{AnswersAlone};
 ghost use Rattle.zeb_engine.specs.AnyAnswers.{CommandOverTables, InitLeaves, IsAnswerOver};
@@ -15,7 +16,7 @@ ghost use Rattle.zeb_engine.specs.Analysed.{AnswersAnalysis};
 ghost use Rattle.zeb_engine.specs.Answers.{IsFailure, answer_of, refused};
 ghost use Rattle.zeb_change.specs.Refused.{why_of};
 ghost use Rattle.zeb_change.specs.Conditions.{conditions};
-ghost use Rattle.zeb_engine.specs.Causes.{CommandInRoom, HasCommandCause};
+ghost use Rattle.zeb_engine.specs.Causes.{OnlyLooks};
 ghost use Rattle.zeb_engine.specs.Checking.{ChecksTables, ReindexLeaves, ReindexesTables, StaysUpgraded, UpgradeLeaves, UpgradesTables};
 ghost use Rattle.zeb_engine.specs.Readiness.{GoesByTexts, LooksFirst};
 ghost use Rattle.zeb_change.specs.Reading.{NoReadFault};
@@ -75,14 +76,14 @@ impl<S: Alter, L: Layout> Session<S, L> {
     ghost use Rattle.zeb_engine.specs.Crashes.{Bears, CommitsCommand, CommitsAdopted, CommitsOne, CommitsReindex, Endures, EnduresRun, KeepsDisk, Stands};
     ghost use Rattle.zeb_engine.specs.Headline.{Headline};
     ghost use Rattle.zeb_engine.specs.PrivateWriting.{HoldsRemade};
-    ghost use Rattle.zeb_engine.specs.Adopting.{HasAdoptingCause, HasOtherTables, HasOwnTables, StaysOpen};
+    ghost use Rattle.zeb_engine.specs.Adopting.{HasOtherTables, HasOwnTables, StaysOpen};
     ghost use Rattle.zeb_image.specs.Holdings.{Holdings};
     ghost use Rattle.zeb_image.specs.Image.{IsImage, Keeps};
     ghost use Rattle.zeb_register.specs.Sql.{KeepsTables};
     ghost use Rattle.zeb_register.specs.Tables.{store_schema};
 
     /// Takes a store over: the tables of a store that has none are made, and no row changes. No work is counted yet. Refused
-    /// (`Store`, `Commit`, `Memory`), it gives the connection back, and the tables are as before. A store with other tables than
+    /// (`Store`, `Memory`), it gives the connection back, and the tables are as before. A store with other tables than
     /// this store's six, as that of another program, is refused with `Store` before anything is written.
     pub fn adopt(
         alloc: Global,
@@ -133,10 +134,7 @@ impl<S: Alter, L: Layout> Session<S, L> {
             → ChangesNothing (state S.Store connection) (state S.Store back.0)) }
         ensures endures { IfErr result (λ back. HasCleanDisk (state S.Store back.0)
             → EnduresRefusal (state S.Store connection) (state S.Store back.0) back.1) }
-        ensures failed { IfErr result (λ back. (back.1 ≡ Refusal.Store) ⊎ ((back.1 ≡ Refusal.Commit) ⊎ (back.1 ≡ Refusal.Memory))) }
-        // Refused with `Store`, it has other tables, or there is a cause.
-        ensures caused { IfErr result (λ back. HasCleanDisk (state S.Store back.0)
-            → HasAdoptingCause (state S.Store connection) (state S.Store back.0) back.1) }
+        ensures failed { IfErr result (λ back. (back.1 ≡ Refusal.Store) ⊎ (back.1 ≡ Refusal.Memory)) }
     {
         let mut connection = connection;
         if let Err(refusal) = make_absent_tables(&mut connection) {
@@ -227,28 +225,14 @@ impl<S: Alter, L: Layout> Session<S, L> {
             (state S.Store self.old.connection) (state S.Store self.new.connection) result }
         // An analysis is answered by its files, whatever the tables hold, and also where the connection is shut.
         ensures analysed { AnswersAnalysis self.old.profile self.old.limits.records command.now result }
-        // A command that only asks changes nothing, whatever it answers and whatever the tables hold.
+        // A command that only asks changes nothing, whatever it answers and whatever the tables hold. It finds the store failed only for a
+        // cause.
         ensures reads { HasCleanDisk (state S.Store self.new.connection) → OnlyAsks command.now
-            → ChangesNothing (state S.Store self.old.connection) (state S.Store self.new.connection) }
-        // An accepted change has counted the work for the keys that its records change, and no other.
-        ensures work { HasCleanDisk (state S.Store self.new.connection)
-            → CommandCosts L.row_work (conditions (version_of L.format) self.old.profile self.old.limits) command.now
-            (state S.Store self.old.connection) result self.new.work }
-        // An answered scan has read the terms that it was asked for, one more at most, and nothing else. An answered find has written
-        // nothing, and read no more lists than those that its query asks for. Of terms it has read no more than the searched registers
-        // have, once for each pattern with a star and for each term of the query that asks for entries which it doesn't name.
-        ensures read_work { HasCleanDisk (state S.Store self.new.connection)
-            → CommandReads L.format L.row_work L.block_rows self.old.profile command.now
-            (state S.Store self.old.connection) result self.new.work }
-        // A command that only asks finds the store failed only for a cause; so do an init, a create and a drop, but for their commit.
-        ensures caused { HasCleanDisk (state S.Store self.new.connection)
-            → HasCommandCause self.old.profile command.now (state S.Store self.old.connection) (state S.Store self.new.connection) result }
-        // So does a change, but for its commit, where the tables have room for what its files ask for, and a reindex and an upgrade, where
-        // they have room for what the kept records ask for.
-        ensures room { HasCleanDisk (state S.Store self.new.connection) → CommandInRoom self.old.profile command.now
-            (state S.Store self.old.connection) (state S.Store self.new.connection) result }
-        // Over a layout whose rows count nothing no work is counted, whatever is answered and whatever the tables hold.
-        ensures no_work { L.row_work ≡ 0 → self.new.work ≡ no_work }
+            → OnlyLooks (state S.Store self.old.connection) (state S.Store self.new.connection) result }
+        // What it has counted: a change, a find and a scan as is said of them, and of the others all but a stat nothing.
+        ensures counts { CommandCounts L.format L.row_work L.block_rows
+            (conditions (version_of L.format) self.old.profile self.old.limits) command.now
+            (state S.Store self.old.connection) (state S.Store self.new.connection) result self.new.work }
     {
         let answer = self.carry_out(command);
         // What is shown is what was committed.
@@ -299,18 +283,15 @@ impl<S: Alter, L: Layout> Session<S, L> {
             × MakesOrDrops command.now (state S.Store self.old.connection) (state S.Store self.new.connection) result) }
         ensures analysed { AnswersAnalysis self.old.profile self.old.limits.records command.now result }
         ensures reads { HasCleanDisk (state S.Store self.new.connection) → OnlyAsks command.now
-            → ChangesNothing (state S.Store self.old.connection) (state S.Store self.new.connection) }
+            → OnlyLooks (state S.Store self.old.connection) (state S.Store self.new.connection) result }
         ensures work { HasCleanDisk (state S.Store self.new.connection)
             → CommandCosts L.row_work (conditions (version_of L.format) self.old.profile self.old.limits) command.now
             (state S.Store self.old.connection) result self.new.work }
         ensures read_work { HasCleanDisk (state S.Store self.new.connection)
             → CommandReads L.format L.row_work L.block_rows self.old.profile command.now
             (state S.Store self.old.connection) result self.new.work }
-        ensures caused { HasCleanDisk (state S.Store self.new.connection)
-            → HasCommandCause self.old.profile command.now (state S.Store self.old.connection) (state S.Store self.new.connection) result }
         ensures no_work { L.row_work ≡ 0 → self.new.work ≡ no_work }
-        ensures room { HasCleanDisk (state S.Store self.new.connection) → CommandInRoom self.old.profile command.now
-            (state S.Store self.old.connection) (state S.Store self.new.connection) result }
+        ensures idle { CountsNothing command.now → self.new.work ≡ no_work }
     {
         self.work = Work::default();
         match command {
@@ -394,10 +375,12 @@ impl<S: Alter, L: Layout> Session<S, L> {
         ensures refused { HasCleanDisk (state S.Store self.new.connection)
             → IfOk result (λ answers. AllByRecursion IsErr answers.items
             → ChangesNothing (state S.Store self.old.connection) (state S.Store self.new.connection)) }
-        // Whatever the tables hold, each command in turn does to them what is said of one command, and is answered by them as they are then.
+        // Whatever the tables hold, each command in turn does to them what is said of one command, and is answered by them as they are
+        // then. What is counted in the end is what the last command has counted.
         ensures turns { HasCleanDisk (state S.Store self.new.connection)
-            → IfOk result (λ answers. InTurn S.Store (CommandOverTables L.format (conditions (version_of L.format) self.old.profile
-            self.old.limits)) commands.now answers.items self.old.connection self.new.connection) }
+            → IfOk result (λ answers. InTurn S.Store (CommandOverTables L.format L.row_work L.block_rows
+            (conditions (version_of L.format) self.old.profile self.old.limits)) commands.now answers.items
+            self.old.connection self.old.work self.new.connection self.new.work) }
     {
         let Ok(mut answers) = Vec::with_capacity(self.alloc, commands.len()) else {
             return Err(Refusal::Memory);

@@ -3,7 +3,7 @@
 ghost use Rattle.std.specs.Prelude.{◌≡◌, ◌⊎◌, Err, false, OnOk, OnErr, IfErr, IsTrue};
 ghost use Rattle.sqlite.specs.Held.{state};
 ghost use Rattle.sqlite.specs.State.{HasCleanDisk, Survives};
-ghost use Rattle.zeb_engine.specs.Adopting.{HasAdoptingCause, HasOtherTables, StaysOpen};
+ghost use Rattle.zeb_engine.specs.Adopting.{HasOtherTables, StaysOpen};
 ghost use Rattle.zeb_engine.specs.PrivateAdopting.{HoldsNothing, MayBeTaken};
 ghost use Rattle.zeb_engine.specs.PrivateCrashes.{CommitsTables};
 ghost use Rattle.zeb_engine.specs.Transactions.{EnduresRefusal};
@@ -49,9 +49,7 @@ pub(crate) fn make_absent_tables<S: Alter>(connection: &mut Connection<S>) -> Re
         → IfErr result (EnduresRefusal (state S.Store connection.old) (state S.Store connection.new)) }
     ensures survives { Survives (state S.Store connection.old) (state S.Store connection.new)
         (CommitsTables (state S.Store connection.old)) }
-    ensures failed { IfErr result (λ refusal. (refusal ≡ Refusal.Store) ⊎ ((refusal ≡ Refusal.Commit) ⊎ (refusal ≡ Refusal.Memory))) }
-    ensures caused { HasCleanDisk (state S.Store connection.new)
-        → IfErr result (HasAdoptingCause (state S.Store connection.old) (state S.Store connection.new)) }
+    ensures failed { IfErr result (λ refusal. (refusal ≡ Refusal.Store) ⊎ (refusal ≡ Refusal.Memory)) }
     ensures ours { OnOk result (MayBeTaken (state S.Store connection.old)) }
     ensures other { HasOtherTables (state S.Store connection.old)
         → (result ≡ Err Refusal.Store) × (connection.new ≡ connection.old) }

@@ -1,23 +1,19 @@
 //! The commands that write without reading records, each in one transaction.
 
-ghost use Rattle.std.specs.Prelude.{◌≡◌, ◌≢◌, ◌⊎◌, false, [], IsTrue, OnOk, OnErr, IfErr, codes};
+ghost use Rattle.std.specs.Prelude.{◌≡◌, ◌≢◌, false, [], IsTrue, OnOk, OnErr, IfErr};
 ghost use Rattle.sqlite.specs.Held.{state};
 ghost use Rattle.sqlite.specs.State.{HasCleanDisk, KeepsCommit, Survives};
-ghost use Rattle.zeb_register.specs.Calls.{GoesOn, MayRefuse};
-ghost use Rattle.zeb_register.specs.Clauses.{InStore, IsHinderedInside, IsReasonedInside, OnStore};
+ghost use Rattle.zeb_register.specs.Calls.{GoesOn};
+ghost use Rattle.zeb_register.specs.Clauses.{InStore, OnStore};
 ghost use Rattle.zeb_register.specs.Content.{TakesWhole};
 ghost use Rattle.zeb_register.specs.Formats.{version_of};
-ghost use Rattle.zeb_register.specs.Hindrances.{IsTooLarge, LacksRowids};
-ghost use Rattle.zeb_register.specs.Store.{IsStore, databases_tree, entry, meta_tree};
-ghost use Rattle.zeb_profile.specs.Canonical.{canonical_text};
+ghost use Rattle.zeb_register.specs.Store.{IsStore, meta_tree};
 ghost use Rattle.zeb_change.specs.declared.settings.Limits.{Limits};
 ghost use Rattle.zeb_engine.specs.AnyMade.{DropsDatabase, OnAccepted, MakesDatabase};
 ghost use Rattle.zeb_engine.specs.AnyRefusals.{CreateOver, DropOver, HidesDatabase, TellsUnlessHidden};
 ghost use Rattle.zeb_engine.specs.Answers.{IsFailure, refused};
 ghost use Rattle.zeb_change.specs.Refused.{why_of, NeverUnready};
 ghost use Rattle.zeb_change.specs.Conditions.{Conditions, conditions};
-ghost use Rattle.zeb_engine.specs.Causes.{HasRoomToRenew};
-ghost use Rattle.zeb_engine.specs.PrivateCauses.{HasCauseOver};
 ghost use Rattle.zeb_engine.specs.Checking.{IsRemade, TellsSound};
 ghost use Rattle.zeb_engine.specs.PrivateCrashes.{Commits};
 ghost use Rattle.zeb_image.specs.Image.{IsImage};
@@ -27,8 +23,8 @@ ghost use Rattle.zeb_engine.specs.Steps.{holding, initialised, turned, created, 
 ghost use Rattle.zeb_engine.specs.Transactions.{Commanded};
 ghost use Rattle.zeb_change.specs.Inside.{StaysInside};
 ghost use Rattle.zeb_engine.specs.PrivateWorks.{IsReady, Serves, ReachesOutcome};
-ghost use Rattle.zeb_engine.specs.PrivateWriting.{AreOf, Begins, CommitsRemade, IsFree, IsKnown, FailsAlone, Fits, HasLargeText};
-ghost use Rattle.zeb_engine.specs.PrivateWriting.{HasRoomToWrite, HindersWrite, IsReached, IsRuled, IsUpgradable, MakesOrTakes, PutsTexts, ReadsSound};
+ghost use Rattle.zeb_engine.specs.PrivateWriting.{AreOf, Begins, CommitsRemade, IsFree, IsKnown, FailsAlone, Fits};
+ghost use Rattle.zeb_engine.specs.PrivateWriting.{IsReached, IsRuled, IsUpgradable, MakesOrTakes, PutsTexts, ReadsSound};
 ghost use Rattle.zeb_engine.specs.PrivateWriting.{Remakes, reply_of_work, written};
 ghost use Rattle.zeb_engine.specs.PrivateConnections.{CommitsNothing, CommitsUnder, ServesUnder};
 
@@ -81,9 +77,6 @@ fn put_texts<S: Alter>(
         → IsStore (state S.Store tx.old.conn.now) → (state S.Store tx.old.conn.now).now.trees meta_tree ≡ []
         → OnOk result (PutsTexts version.now text.now pattern.now (state S.Store tx.old.conn.now) (state S.Store tx.new.conn.now)) }
     ensures failed { IfErr (reply_of_work result) (λ refusal. IsFailure (refused (why_of refusal))) }
-    ensures refused { (state S.Store tx.old.conn.now).now.trees meta_tree ≡ []
-        → IsHinderedInside (state S.Store tx.old.conn.now) (state S.Store tx.new.conn.now) result
-        (λ _. IsTooLarge (entry (codes "version") version.now) ⊎ HasLargeText text.now pattern.now) }
     ensures crash { CommitsNothing S.Store tx.old.conn.now tx.new.conn.now }
 {
     meta_put(tx, VERSION, version)?;
@@ -109,8 +102,6 @@ fn init<S: Alter, L: Layout>(
         × ((c : Conditions) → AreOf (version_of L.format) profile.now pattern.now c
         → IsImage (state S.Store tx.new.conn.now).now.trees (holding c []))) }
     ensures failed { IfErr (reply_of_work result) (λ refusal. IsFailure (refused (why_of refusal))) }
-    ensures refused { IsHinderedInside (state S.Store tx.old.conn.now) (state S.Store tx.new.conn.now) result
-        (λ _. HasLargeText (canonical_text profile.now) pattern.now) }
     ensures crash { CommitsNothing S.Store tx.old.conn.now tx.new.conn.now }
 {
     wipe(tx)?;
@@ -127,8 +118,6 @@ fn create<S: Alter, L: Layout>(tx: &mut Transaction<'_, S>, name: &DbName) -> Re
         → IsTrue (state S.Store tx.old.conn.now).is_open → (c : Conditions)
         → ReachesOutcome (IsFree (name_bytes name.now) c) (turned c (created (name_bytes name.now))) (state S.Store tx.old.conn.now)
         (state S.Store tx.new.conn.now) (reply_of_work result) }
-    ensures refused { IsHinderedInside (state S.Store tx.old.conn.now) (state S.Store tx.new.conn.now) result
-        (LacksRowids 1 databases_tree) }
     ensures honest { InStore (state S.Store tx.old.conn.now) (state S.Store tx.new.conn.now) (λ _. result ≢ Err RegFault.Damaged) }
     ensures makes { InStore (state S.Store tx.old.conn.now) (state S.Store tx.new.conn.now) (λ _. OnOk result
         (MakesDatabase (name_bytes name.now) (state S.Store tx.old.conn.now) (state S.Store tx.new.conn.now))) }
@@ -151,7 +140,6 @@ fn take<S: Alter, L: Layout>(
         → ReachesOutcome (λ trees before. (c.version ≡ version_of L.format)
         × IsKnown (name_bytes name.now) id.0 c trees before) (turned c (dropped (name_bytes name.now))) (state S.Store tx.old.conn.now)
         (state S.Store tx.new.conn.now) (reply_of_work result) }
-    ensures refused { IsReasonedInside (state S.Store tx.old.conn.now) (state S.Store tx.new.conn.now) result }
     ensures honest { result ≢ Err RegFault.Damaged }
     ensures takes { InStore (state S.Store tx.old.conn.now) (state S.Store tx.new.conn.now) (λ _. OnOk result
         (TakesWhole id.0 (state S.Store tx.old.conn.now) (state S.Store tx.new.conn.now))) }
@@ -182,9 +170,6 @@ fn reindex<S: Alter, L: Layout>(
     ensures stays { HasCleanDisk (state S.Store tx.new.conn.now) → IsTrue (state S.Store tx.old.conn.now).in_transaction
         → StaysInside (state S.Store tx.old.conn.now) (state S.Store tx.new.conn.now) result }
     ensures crash { CommitsNothing S.Store tx.old.conn.now tx.new.conn.now }
-    ensures room { ¬ IsTooLarge (entry (codes "profile") (canonical_text profile.now))
-        → InStore (state S.Store tx.old.conn.now) (state S.Store tx.new.conn.now) (λ trees. HasRoomToRenew profile.now trees
-        → result ≡ Err RegFault.Store → MayRefuse (state S.Store tx.old.conn.now) (state S.Store tx.new.conn.now)) }
 {
     rebuild::<S, L>(alloc, tx, profile)?;
     meta_put(tx, PROFILE, profile.text())?;
@@ -205,8 +190,6 @@ fn upgrade<S: Alter, L: Layout>(
     ensures same { tx.new.conn.ghost_name ≡ tx.old.conn.ghost_name }
     ensures stays { HasCleanDisk (state S.Store tx.new.conn.now) → IsTrue (state S.Store tx.old.conn.now).in_transaction
         → StaysInside (state S.Store tx.old.conn.now) (state S.Store tx.new.conn.now) result }
-    ensures room { InStore (state S.Store tx.old.conn.now) (state S.Store tx.new.conn.now) (λ trees. HasRoomToRenew profile.now trees
-        → result ≡ Err RegFault.Store → MayRefuse (state S.Store tx.old.conn.now) (state S.Store tx.new.conn.now)) }
 {
     rebuild::<S, L>(alloc, tx, profile)?;
     meta_put(tx, VERSION, L::version())?;
@@ -227,7 +210,6 @@ fn apply<S: Alter, L: Layout>(
     ensures begun { HasCleanDisk (state S.Store tx.new.conn.now) → IsTrue (state S.Store tx.old.conn.now).in_transaction
         → OnOk result (Begins (version_of L.format) write.now (state S.Store tx.old.conn.now) (state S.Store tx.new.conn.now)) }
     ensures failed { FailsAlone write.now (reply_of_work result) }
-    ensures refused { IsHinderedInside (state S.Store tx.old.conn.now) (state S.Store tx.new.conn.now) result (HindersWrite write.now) }
     ensures crash { CommitsNothing S.Store tx.old.conn.now tx.new.conn.now }
     ensures sound { HasCleanDisk (state S.Store tx.new.conn.now) → IsTrue (state S.Store tx.old.conn.now).in_transaction
         → ReadsSound write.now (state S.Store tx.old.conn.now) (reply_of_work result) }
@@ -235,8 +217,6 @@ fn apply<S: Alter, L: Layout>(
         → OnOk result (Remakes L.format write.now (state S.Store tx.old.conn.now) (state S.Store tx.new.conn.now)) }
     ensures makes { HasCleanDisk (state S.Store tx.new.conn.now) → IsTrue (state S.Store tx.old.conn.now).in_transaction
         → OnOk result (MakesOrTakes write.now (state S.Store tx.old.conn.now) (state S.Store tx.new.conn.now)) }
-    ensures room { InStore (state S.Store tx.old.conn.now) (state S.Store tx.new.conn.now) (λ trees. HasRoomToWrite write.now trees
-        → result ≡ Err RegFault.Store → MayRefuse (state S.Store tx.old.conn.now) (state S.Store tx.new.conn.now)) }
 {
     match write {
         Write::Init { profile, pattern } => init::<S, L>(tx, profile, pattern),
@@ -261,11 +241,6 @@ pub(crate) fn transact<S: Alter, L: Layout>(
     ensures begun { HasCleanDisk (state S.Store connection.new)
         → OnOk result (Begins (version_of L.format) write.now (state S.Store connection.old) (state S.Store connection.new)) }
     ensures failed { FailsAlone write.now result }
-    ensures caused { HasCleanDisk (state S.Store connection.new)
-        → HasCauseOver (HindersWrite write.now) (state S.Store connection.old) (state S.Store connection.new) result }
-    ensures room { HasCleanDisk (state S.Store connection.new) → IsStore (state S.Store connection.old)
-        → HasRoomToWrite write.now (state S.Store connection.old).now.trees
-        → result ≡ Err Refusal.Store → MayRefuse (state S.Store connection.old) (state S.Store connection.new) }
     ensures serves { HasCleanDisk (state S.Store connection.new) → (c : Conditions) → IsReached write.now (state S.Store connection.old)
         → Serves (Fits (version_of L.format) c write.now) (written c write.now) (state S.Store connection.old)
         (state S.Store connection.new) result }
@@ -298,9 +273,6 @@ pub(crate) fn init_register<S: Alter, L: Layout>(
         → IsStore (state S.Store connection.new)
         × IsImage (state S.Store connection.new).now.trees (holding (conditions (version_of L.format) profile.now limits) [])) }
     ensures failed { IfErr result (λ refusal. IsFailure (refused (why_of refusal))) }
-    ensures caused { HasCleanDisk (state S.Store connection.new)
-        → HasCauseOver (λ _. IsTooLarge (entry (codes "profile") (canonical_text profile.now))) (state S.Store connection.old)
-        (state S.Store connection.new) result }
     ensures idle { connection.new.in_transaction ≡ false }
     ensures call { Commanded (state S.Store connection.old) (state S.Store connection.new) result }
     ensures survives { CommitsUnder S.Store initialised (version_of L.format) profile.now connection.old connection.new }
@@ -333,8 +305,6 @@ pub(crate) fn create_database<S: Alter, L: Layout>(
         → Commits (IsReady c) (turned c (created (name_bytes name.now))) (state S.Store connection.old) db) }
     ensures unread { NoReadFault result }
     ensures ready { NeverUnready result }
-    ensures caused { HasCleanDisk (state S.Store connection.new)
-        → HasCauseOver (LacksRowids 1 databases_tree) (state S.Store connection.old) (state S.Store connection.new) result }
     // Whatever the tables hold, it goes by the row of the name.
     ensures tables { OnStore (state S.Store connection.old) (state S.Store connection.new) (λ trees.
         TellsUnlessHidden (CreateOver (name_bytes name.now)) (HidesDatabase (name_bytes name.now)) trees result) }
@@ -365,8 +335,6 @@ pub(crate) fn drop_database<S: Alter, L: Layout>(
         → Commits (IsReady c) (turned c (dropped (name_bytes name.now))) (state S.Store connection.old) db) }
     ensures unread { NoReadFault result }
     ensures ready { NeverUnready result }
-    ensures caused { HasCleanDisk (state S.Store connection.new)
-        → HasCauseOver (λ _. ⊥) (state S.Store connection.old) (state S.Store connection.new) result }
     ensures tables { OnStore (state S.Store connection.old) (state S.Store connection.new) (λ trees.
         TellsUnlessHidden (DropOver (name_bytes name.now)) (HidesDatabase (name_bytes name.now)) trees result) }
     ensures drops { HasCleanDisk (state S.Store connection.new) → OnAccepted (DropsDatabase (name_bytes name.now))

@@ -1,26 +1,15 @@
 -- The analysis of the example record under a whole profile.
-use Rattle.std.proofs.Common.{◌≡◌, ℕ, ◌<◌, List, [], ◌∷◌, refl, subst, codes, ◌↔◌, ◌∙◌, map, get_or, length, Ok, nat_lt, true, arith, rules}
-use Rattle.std.specs.List.{Contains, list_all}
+use Rattle.zeb_extract.proofs.Cited.{◌≡◌, ℕ, ◌<◌, List, [], ◌∷◌, refl, subst, codes, ◌↔◌, ◌∙◌, map, get_or, length, Ok, nat_lt, true, arith, rules, Contains, list_all, get_or_default, All-contains, AllPass-from_list_all, unit_targets, Occurrence, IsOccurrence, identifier_of, listing, IsRising, moby_dick, moby_dick_analysis, title_profile, date_at}
 use Rattle.std.specs.List.Sorted.{IsStrictlySortedBy}
 use Rattle.std.specs.Str.{chars, is_utf8}
 use Rattle.std.specs.Fmt.{digits}
 use Rattle.std.specs.Str.Lossy.{utf8_lossy, utf8_valid_len}
-use Rattle.std.proofs.lemmas.List.{get_or_default}
-use Rattle.std.proofs.lemmas.List.Elements.{All-contains}
-use Rattle.std.proofs.lemmas.List.Sums.{AllPass-from_list_all}
 use lib.Utf8.{encode}
 use Rattle.ucd_category.proofs.Computing.{ucd_category}
 use Rattle.caseless.proofs.Computing.{caseless}
-use Rattle.zeb_profile.specs.Indexes.{unit_targets}
 use Rattle.zeb_text.specs.Folding.{folded}
 use Rattle.zeb_text.specs.Words.{is_word_character, runs_of}
 use Rattle.zeb_text.specs.Numbers.{numerals_of, number_key}
-use Rattle.zeb_keys.specs.declared.keys.Occurrence.{Occurrence}
-use Rattle.zeb_extract.specs.Occurrences.{IsOccurrence}
-use Rattle.zeb_extract.specs.Identifier.{identifier_of}
-use Rattle.zeb_extract.specs.PrivateListing.{listing}
-use Rattle.zeb_keys.specs.Order.{IsRising}
-use Rattle.zeb_extract.specs.Sample.{moby_dick, moby_dick_analysis, title_profile, date_at}
 use Rattle.zeb_extract.proofs.Listed.{occurrences_are_listed}
 use Rattle.zeb_extract.proofs.Members.{from_map}
 

@@ -1,19 +1,12 @@
 -- The example record has one occurrence under the example profile.
-use Rattle.std.proofs.Common.{◌≡◌, [], ◌∷◌, refl, sym, subst, codes}
-use Rattle.std.specs.List.{Contains}
+use Rattle.zeb_extract.proofs.Cited.{◌≡◌, [], ◌∷◌, refl, sym, subst, codes, Contains, unit_targets, Occurrence, IsOccurrence, listing, first_member, only_member, moby_dick, date_profile, date_at}
 use Rattle.std.specs.Str.{chars, is_utf8}
 use Rattle.std.specs.Fmt.{digits}
 use Rattle.std.specs.Str.Lossy.{utf8_lossy, utf8_valid_len}
 use lib.Utf8.{encode}
-use Rattle.zeb_profile.specs.Indexes.{unit_targets}
 use Rattle.zeb_text.specs.Words.{runs_of}
 use Rattle.zeb_text.specs.Numbers.{numerals_of, number_key}
-use Rattle.zeb_keys.specs.declared.keys.Occurrence.{Occurrence}
-use Rattle.zeb_extract.specs.Occurrences.{IsOccurrence}
-use Rattle.zeb_extract.specs.PrivateListing.{listing}
 use Rattle.zeb_extract.proofs.Listed.{occurrences_are_listed}
-use Rattle.zeb_keys.proofs.Members.{first_member, only_member}
-use Rattle.zeb_extract.specs.Sample.{moby_dick, date_profile, date_at}
 
 pub listing_is : listing (unit_targets date_profile) moby_dick ≡ date_at 4 (codes "000000000000001851") ∷ []
 unfolding utf8_lossy utf8_valid_len chars is_utf8 encode runs_of numerals_of number_key digits

@@ -4,3 +4,4 @@ pub mod Members
 pub mod Spaces
 pub mod Listed
 pub mod Example
+pub mod Cited

@@ -1,14 +1,5 @@
 -- The members of the list that is found are the occurrences.
-use Rattle.std.proofs.Common.{◌≡◌, ℕ, ◌+◌, List, [], ◌∷◌, ◌++◌, length, map, refl, ap, sym, ◌∙◌, subst, ◌↔◌, arith, add-zero, append_assoc, true, false, ◌==◌}
-use Rattle.std.proofs.lemmas.List.{map-append, append-nil}
-use Rattle.std.specs.List.{Contains, enumerate_from}
-use Rattle.zeb_text.specs.Words.{joined_text}
-use borrow.Author.Tests.{eqb-true}
-use Rattle.zeb_marc.specs.Contents.{UnitText}
-use Rattle.zeb_keys.specs.declared.registers.Register.{Register}
-use Rattle.zeb_keys.specs.declared.keys.Occurrence.{Occurrence}
-use Rattle.zeb_extract.specs.Occurrences.{Targets, joined, terms_of, text_of, IsOccurrence}
-use Rattle.zeb_extract.specs.PrivateListing.{occurrence_at, numbered_terms, listed_in, unit_listing, listing}
+use Rattle.zeb_extract.proofs.Cited.{◌≡◌, ℕ, ◌+◌, List, [], ◌∷◌, ◌++◌, length, map, refl, ap, sym, ◌∙◌, subst, ◌↔◌, arith, add-zero, append_assoc, true, false, ◌==◌, map-append, append-nil, Contains, enumerate_from, joined_text, eqb-true, UnitText, Register, Occurrence, Targets, joined, terms_of, text_of, IsOccurrence, occurrence_at, numbered_terms, listed_in, unit_listing, listing}
 use Rattle.zeb_extract.proofs.Members.{Contains-map, from_map, Contains-flat_map, from_flat_map}
 
 module _ (targets : Targets) (units : List UnitText) where

@@ -1,8 +1,5 @@
 -- Membership in a list that is made of others: by a function, or of pieces joined end to end.
-use Rattle.std.proofs.Common.{◌≡◌, List, [], ◌∷◌, ⊎_elim, map, sym, subst}
-use Rattle.std.specs.List.{Contains, flat_map}
-use Rattle.std.proofs.lemmas.List.Elements.{Contains-append_left, Contains-append_right, Contains-append_cases}
-use Rattle.zeb_keys.proofs.Members.{no_member, first_member, later_member, member_cases}
+use Rattle.zeb_extract.proofs.Cited.{◌≡◌, List, [], ◌∷◌, ⊎_elim, map, sym, subst, Contains, flat_map, Contains-append_left, Contains-append_right, Contains-append_cases, no_member, first_member, later_member, member_cases}
 
 module _ {X A : Type 0} (f : X → A) where
   pub Contains-map : (xs : List X) (x : X) → Contains xs x → Contains (map f xs) (f x)

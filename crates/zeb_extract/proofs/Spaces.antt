@@ -1,13 +1,6 @@
 -- What `trim_start_matches` and `trim_end_matches` give for a space, by the words of the identifier's definition.
-use Rattle.std.proofs.Common.{◌≡◌, ◌≢◌, ℕ, ◌-◌, List, [], ◌∷◌, ◌++◌, length, take, drop, reverse, Option, Some, None, refl, ap, ◌∙◌, sym, arith, true, false, eqb, cond, Bool}
-use Rattle.std.specs.Str.Pattern.{FindsCharPrefix, FindsCharSuffix, CutsPrefixes, CutsSuffixes, IsFullyTrimmed, IsTrimStartMatches, IsTrimEndMatches}
-use Rattle.std.specs.Option.{IfSome}
-use Rattle.std.proofs.lemmas.List.{reverse-append, reverse-reverse, take-append-drop}
-use Rattle.std.proofs.lemmas.Str.Pattern.{drop_at_char}
-use Rattle.std.proofs.Math.Seq.{drop-length}
-use borrow.Author.Tests.{eqb-true}
+use Rattle.zeb_extract.proofs.Cited.{◌≡◌, ◌≢◌, ℕ, ◌-◌, List, [], ◌∷◌, ◌++◌, length, take, drop, reverse, Option, Some, None, refl, ap, ◌∙◌, sym, arith, true, false, eqb, cond, Bool, FindsCharPrefix, FindsCharSuffix, CutsPrefixes, CutsSuffixes, IsFullyTrimmed, IsTrimStartMatches, IsTrimEndMatches, IfSome, reverse-append, reverse-reverse, take-append-drop, drop_at_char, drop-length, eqb-true, without_leading_spaces, without_trailing_spaces}
 use lib.Utf8.{encode}
-use Rattle.zeb_extract.specs.Identifier.{without_leading_spaces, without_trailing_spaces}
 
 -- ---- the front
 

@@ -1,9 +1,5 @@
 -- A text without the spaces at its ends is what `without_spaces` gives, and nothing else is.
-use Rattle.std.proofs.Common.{◌≡◌, ◌≢◌, ℕ, zero, suc, List, [], ◌∷◌, ◌++◌, reverse, refl, ap, ◌∙◌, sym, true, false, eqb, cond, Bool, append_assoc, add-one, arith, get_or}
-use Rattle.std.proofs.lemmas.List.{reverse-append, reverse-reverse, append-nil, replicate_more}
-use borrow.Author.Tests.{eqb-true}
-use Rattle.zeb_extract.specs.Identifier.{without_leading_spaces, without_trailing_spaces, without_spaces}
-use Rattle.zeb_extract.specs.Stripped.{IsStripped, spaces}
+use Rattle.zeb_extract.proofs.Cited.{◌≡◌, ◌≢◌, ℕ, zero, suc, List, [], ◌∷◌, ◌++◌, reverse, refl, ap, ◌∙◌, sym, true, false, eqb, cond, Bool, append_assoc, add-one, arith, get_or, reverse-append, reverse-reverse, append-nil, replicate_more, eqb-true, without_leading_spaces, without_trailing_spaces, without_spaces, IsStripped, spaces}
 use Rattle.zeb_extract.proofs.Spaces.{keeps}
 
 -- ---- what is taken off is spaces, and what is left begins with none

@@ -1,6 +1,6 @@
 //! The occurrences of a record.
 ghost use Rattle.std.specs.Prelude.{◌≡◌, ◌↔◌, ◌++◌, IfOk, OnOk, OnErr, chars, map, string_bytes};
-ghost use Rattle.std.specs.List.{Contains, flat_map};
+ghost use Rattle.std.specs.List.{Contains};
 ghost use Rattle.std.specs.List.Sorted.{IsStrictlySortedBy};
 ghost use Rattle.zeb_marc.specs.Contents.{units_of};
 ghost use Rattle.zeb_marc.specs.Units.{unit_text};

@@ -1,17 +1,7 @@
 -- Lists of databases in the byte order of their names: which there are, and what becomes of them where one is put or taken.
-use Rattle.std.proofs.Common.{◌≡◌, ◌≢◌, ◌↔◌, ◌⊎◌, ◌∙◌, ℕ, Bool, true, false, not, cond, List, [], ◌∷◌, Some, None, refl, sym, ap, inl, inr, Ordering, Less, Equal, Greater}
-use Rattle.std.specs.Ordering.{nat_cmp, ordering_reverse}
-use Rattle.std.specs.Cmp.{tied_itself}
-use Rattle.std.specs.Cmp.Lexicographic.{slice_cmp, nat_list_cmp_total}
-use Rattle.std.specs.Str.{bytes_eq}
+use Rattle.zeb_image.proofs.Cited.{◌≡◌, ◌≢◌, ◌↔◌, ◌⊎◌, ◌∙◌, ℕ, Bool, true, false, not, cond, List, [], ◌∷◌, Some, None, refl, sym, ap, inl, inr, Ordering, Less, Equal, Greater, nat_cmp, ordering_reverse, tied_itself, slice_cmp, nat_list_cmp_total, bytes_eq, not-true, exact_bytes, bytes_eq-Decides, Has, all_has, all_from, has_found, has_filtered, has_kept, Base, base_named, base_placed, without_base}
 use Rattle.std.specs.List.Sorted.{IsStrictlySortedBy}
-use Rattle.std.proofs.lemmas.Bool.{not-true}
-use Rattle.std.proofs.lemmas.Map.Lookups.{exact_bytes}
-use Rattle.std.proofs.lemmas.Slice.Eq.{bytes_eq-Decides}
-use Rattle.sqlite_rules.specs.Lists.{Has}
-use Rattle.sqlite_rules.proofs.ListLemmas.{all_has, all_from, has_found, has_filtered, has_kept}
-use Rattle.zeb_change.specs.Base.{Base}
-use Rattle.zeb_image.specs.Holdings.{base_named, base_placed, with_base, without_base}
+use Rattle.zeb_image.specs.Holdings.{with_base}
 
 abbrev pub name_order : Base → Base → Ordering
 name_order a b = slice_cmp nat_cmp a.name b.name

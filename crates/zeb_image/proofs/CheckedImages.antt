@@ -1,18 +1,5 @@
 -- Some image of a format under a profile: tables are one just where they hold what is expected of what they hold.
-use Rattle.std.proofs.Common.{List, refl, sym, subst}
-use Rattle.sqlite.specs.State.{State}
-use Rattle.zeb_profile.specs.declared.directives.Directive.{Directive}
-use Rattle.zeb_profile.specs.Canonical.{canonical_text}
-use Rattle.zeb_profile.specs.Laws.{IsProfile}
-use Rattle.zeb_register.specs.declared.expected.Expected.{Expected}
-use Rattle.zeb_register.specs.Expected.{AreExpected, IsOrdered}
-use Rattle.zeb_register.specs.Formats.{Format, version_of}
-use Rattle.zeb_register.specs.Store.{IsStore}
-use Rattle.zeb_register.proofs.FormatLemmas.{one_format}
-use Rattle.zeb_change.specs.Base.{Base}
-use Rattle.zeb_image.specs.Holdings.{under}
-use Rattle.zeb_image.specs.Image.{IsImage, IsImageOf, IsImageUnder}
-use Rattle.zeb_image.specs.PrivateChecking.{CanAllBeHeld, IsExpectation}
+use Rattle.zeb_image.proofs.Cited.{List, refl, sym, subst, State, Directive, canonical_text, IsProfile, Expected, AreExpected, IsOrdered, Format, version_of, IsStore, one_format, Base, under, IsImage, IsImageOf, IsImageUnder, CanAllBeHeld, IsExpectation}
 use Rattle.zeb_image.proofs.CheckedTables.{listed_there, names_rise, numbers_rise}
 use Rattle.zeb_image.proofs.ExpectedTables.{bases_of, image_made}
 use Rattle.zeb_image.proofs.ImageTables.{image_expected, image_sound}

@@ -1,10 +1,6 @@
 -- Lists beside lists: pairs at each place, and lists that rise as what is made of them.
-use Rattle.std.proofs.Common.{◌≡◌, List, [], ◌∷◌, ◌++◌, map, Ordering, Less, refl, sym, subst, inl, inr}
-use Rattle.std.specs.List.{AllZip}
+use Rattle.zeb_image.proofs.Cited.{◌≡◌, List, [], ◌∷◌, ◌++◌, map, Ordering, Less, refl, sym, subst, inl, inr, AllZip, Has, all_has, all_from, mapped_has}
 use Rattle.std.specs.List.Sorted.{IsStrictlySortedBy}
-use Rattle.sqlite_rules.specs.Lists.{Has}
-use Rattle.sqlite_rules.proofs.ListLemmas.{all_has, all_from}
-use Rattle.sqlite_rules.proofs.ProbeLemmas.{mapped_has}
 
 module _ {A B : Type 0} (R : A → B → Type 0) where
   pub zip_right : (xs : List A) (ys : List B) → AllZip R xs ys → (y : B) → Has ys y → (x : A) × Has xs x × R x y

@@ -1,21 +1,5 @@
 -- The records of a database, taken one after the other: whether they can be kept, and their postings.
-use Rattle.std.proofs.Common.{◌≡◌, ◌↔◌, ◌∙◌, ℕ, ℤ, pos, List, [], ◌∷◌, ◌++◌, map, refl, sym, ap, subst, inl, inr, string_bytes}
-use Rattle.std.specs.List.{Contains}
-use Rattle.sqlite.specs.declared.types.Value.TheVariants.{Int}
-use Rattle.sqlite.specs.Tree.{Trees}
-use Rattle.sqlite_rules.specs.Lists.{Has}
-use Rattle.sqlite_rules.proofs.ListLemmas.{contains_had, has_contained, has_either, has_left, has_right}
-use Rattle.sqlite_rules.proofs.ProbeLemmas.{has_mapped, mapped_has}
-use Rattle.zeb_profile.specs.declared.directives.Directive.{Directive}
-use Rattle.zeb_keys.specs.declared.keys.Occurrence.{Occurrence}
-use Rattle.zeb_register.specs.declared.expected.KeyPosting.{KeyPosting}
-use Rattle.zeb_register.specs.declared.kept.Record.{Record}
-use Rattle.zeb_register.specs.Kept.{AreReadable, record_shown}
-use Rattle.zeb_register.specs.Sql.{IsListOf}
-use Rattle.zeb_register.specs.Store.{IsRest, records_tree}
-use Rattle.zeb_change.specs.Base.{Kept}
-use Rattle.zeb_change.specs.Occurs.{OccursIn}
-use Rattle.zeb_image.specs.PrivateChecking.{AreRecordsPostings, CanBeHeld, CanKeep, CanKeepAll, kept_of, occurrence_of, posting_of}
+use Rattle.zeb_image.proofs.Cited.{◌≡◌, ◌↔◌, ◌∙◌, ℕ, ℤ, pos, List, [], ◌∷◌, ◌++◌, map, refl, sym, ap, subst, inl, inr, string_bytes, Contains, Int, Trees, Has, contains_had, has_contained, has_either, has_left, has_right, has_mapped, mapped_has, Directive, Occurrence, KeyPosting, Record, AreReadable, record_shown, IsListOf, IsRest, records_tree, Kept, OccursIn, AreRecordsPostings, CanBeHeld, CanKeep, CanKeepAll, kept_of, occurrence_of, posting_of}
 
 -- a record that is added is the only new one
 pub one_more : {X : Type 0} (xs : List X) (x z : X) → Has (xs ++ x ∷ []) z → (P : X → Type 0) → (Has xs z → P z) → P x → P z

@@ -1,31 +1,6 @@
 -- Whole tables beside what is expected of them: they are the image of what they hold just where they hold what is expected.
-use Rattle.std.proofs.Common.{◌≡◌, ◌≢◌, ◌∙◌, ◌≤◌, ℕ, ℤ, pos, List, [], ◌∷◌, map, Ordering, Less, refl, sym, ap, ap₂, subst, string_bytes, arith}
-use Rattle.std.specs.Cmp.Lexicographic.{slice_cmp}
+use Rattle.zeb_image.proofs.Cited.{◌≡◌, ◌≢◌, ◌∙◌, ◌≤◌, ℕ, ℤ, pos, List, [], ◌∷◌, map, Ordering, Less, refl, sym, ap, ap₂, subst, string_bytes, arith, slice_cmp, nat_cmp, ordering_then, Int, Text, Blob, Row, column, row_cmp, State, Has, has_contained, has_mapped, mapped_has, Directive, ListedDatabase, ExpectedDatabase, Record, listed_order, name_order, number_order, record_shown, HasDatabase, HasRecord, IsStore, less_is, never_itself, row_cmp_total, one_ident, one_number, strictly_mapped, int_at, up_to, Base, Kept, IsBase, IsKept, AreMade, IsMadeOf, kept_of}
 use Rattle.std.specs.List.Sorted.{IsStrictlySortedBy}
-use Rattle.std.specs.Ordering.{nat_cmp, ordering_then}
-use Rattle.sqlite.specs.declared.types.Value.TheVariants.{Int, Text, Blob}
-use Rattle.sqlite.specs.Order.{Row, column, row_cmp}
-use Rattle.sqlite.specs.State.{State}
-use Rattle.sqlite_rules.specs.Lists.{Has}
-use Rattle.sqlite_rules.proofs.ListLemmas.{has_contained}
-use Rattle.sqlite_rules.proofs.ProbeLemmas.{has_mapped, mapped_has}
-use Rattle.zeb_profile.specs.declared.directives.Directive.{Directive}
-use Rattle.zeb_register.specs.declared.catalog.ListedDatabase.{ListedDatabase}
-use Rattle.zeb_register.specs.declared.expected.ExpectedDatabase.{ExpectedDatabase}
-use Rattle.zeb_register.specs.declared.kept.Record.{Record}
-use Rattle.zeb_register.specs.Catalog.{listed_order}
-use Rattle.zeb_register.specs.Expected.{name_order, number_order}
-use Rattle.zeb_register.specs.Kept.{record_shown}
-use Rattle.zeb_register.specs.Store.{HasDatabase, HasRecord, IsStore}
-use Rattle.zeb_register.proofs.CountLemmas.{less_is}
-use Rattle.zeb_register.proofs.RisingLists.{never_itself}
-use Rattle.sqlite_value.proofs.OrderLemmas.{row_cmp_total}
-use Rattle.zeb_register.proofs.RowsAreLists.{one_ident, one_number}
-use Rattle.zeb_register.proofs.Scans.{strictly_mapped}
-use Rattle.zeb_register.proofs.TermRows.{int_at, up_to}
-use Rattle.zeb_change.specs.Base.{Base, Kept}
-use Rattle.zeb_change.specs.Stored.{IsBase, IsKept}
-use Rattle.zeb_image.specs.PrivateChecking.{AreMade, IsMadeOf, kept_of}
 use Rattle.zeb_image.proofs.CheckedLists.{rises_before, zip_left, zip_right, zip_rises}
 use Rattle.zeb_image.proofs.CheckedRecords.{number_inside}
 

@@ -1,30 +1,6 @@
 -- Tables that hold just what is expected, with the databases that are there, are the image of these.
-use Rattle.std.proofs.Common.{◌≡◌, ◌∙◌, ℕ, ℤ, pos, List, [], ◌∷◌, map, Less, refl, sym, ap, subst, subst₂, inl, inr, string_bytes}
-use Rattle.std.specs.Cmp.Lexicographic.{slice_cmp}
+use Rattle.zeb_image.proofs.Cited.{◌≡◌, ◌∙◌, ℕ, ℤ, pos, List, [], ◌∷◌, map, Less, refl, sym, ap, subst, subst₂, inl, inr, string_bytes, slice_cmp, nat_cmp, IsUtf8-string_bytes, State, Has, all_has, contains_had, has_contained, has_mapped, mapped_has, Directive, canonical_text, IsProfile, Expected, ExpectedDatabase, AreExpected, name_order, Format, version_of, IsStore, registers_rise, strictly_mapped, Base, Kept, IsBase, with_records, at_id, at_other, told_id, AreBases, HasTexts, IsImageOf, IsImageUnder, IsDatabaseName, IsExpectation, kept_of}
 use Rattle.std.specs.List.Sorted.{IsStrictlySortedBy}
-use Rattle.std.specs.Ordering.{nat_cmp}
-use Rattle.std.proofs.lemmas.Str.{IsUtf8-string_bytes}
-use Rattle.sqlite.specs.State.{State}
-use Rattle.sqlite_rules.specs.Lists.{Has}
-use Rattle.sqlite_rules.proofs.ListLemmas.{all_has, contains_had, has_contained}
-use Rattle.sqlite_rules.proofs.ProbeLemmas.{has_mapped, mapped_has}
-use Rattle.zeb_profile.specs.declared.directives.Directive.{Directive}
-use Rattle.zeb_profile.specs.Canonical.{canonical_text}
-use Rattle.zeb_profile.specs.Laws.{IsProfile}
-use Rattle.zeb_register.specs.declared.expected.Expected.{Expected}
-use Rattle.zeb_register.specs.declared.expected.ExpectedDatabase.{ExpectedDatabase}
-use Rattle.zeb_register.specs.Expected.{AreExpected, name_order}
-use Rattle.zeb_register.specs.Formats.{Format, version_of}
-use Rattle.zeb_register.specs.Store.{IsStore}
-use Rattle.zeb_register.proofs.FormatLemmas.{registers_rise}
-use Rattle.zeb_register.proofs.Scans.{strictly_mapped}
-use Rattle.zeb_change.specs.Base.{Base, Kept}
-use Rattle.zeb_change.specs.Stored.{IsBase}
-use Rattle.zeb_change.specs.UnderWay.{with_records}
-use Rattle.zeb_change.proofs.StoredLemmas.{at_id, at_other, told_id}
-use Rattle.zeb_image.specs.Image.{AreBases, HasTexts, IsImageOf, IsImageUnder}
-use Rattle.zeb_image.specs.Names.{IsDatabaseName}
-use Rattle.zeb_image.specs.PrivateChecking.{IsExpectation, kept_of}
 use Rattle.zeb_image.proofs.Bases.{less_differs}
 use Rattle.zeb_image.proofs.CheckedTables.{base_of, listed_there, made_base, names_rise}
 

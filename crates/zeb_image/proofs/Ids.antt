@@ -1,10 +1,5 @@
 -- Tests of the ids of databases, and lists that have nothing in them.
-use Rattle.std.proofs.Common.{◌≡◌, ◌≢◌, ◌⊎◌, ◌∙◌, ℤ, true, false, List, [], ◌∷◌, refl, sym, ap, inl, inr, Ordering, Less, Equal, Greater, int_cmp}
-use Rattle.std.specs.Ordering.{int_eq, is_eq}
-use Rattle.std.specs.Cmp.{tied_itself, int_cmp_total}
-use Rattle.std.specs.List.{Contains}
-use Rattle.std.proofs.lemmas.Map.Lookups.{exact_signed}
-use Rattle.sqlite_rules.proofs.ListLemmas.{contains_had}
+use Rattle.zeb_image.proofs.Cited.{◌≡◌, ◌≢◌, ◌⊎◌, ◌∙◌, ℤ, true, false, List, [], ◌∷◌, refl, sym, ap, inl, inr, Ordering, Less, Equal, Greater, int_cmp, int_eq, is_eq, tied_itself, int_cmp_total, Contains, exact_signed, contains_had}
 
 pub id_same : (a b : ℤ) → a ≡ b → int_eq a b ≡ true
 id_same a b same = ap (λ x. is_eq (int_cmp a x)) (sym same) ∙ ap is_eq (tied_itself int_cmp_total a)

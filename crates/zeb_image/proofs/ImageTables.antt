@@ -1,29 +1,5 @@
 -- Tables that are an image can be read and held, and hold just what is expected.
-use Rattle.std.proofs.Common.{◌≡◌, ◌≢◌, ◌⊎◌, ◌∙◌, ◌≤◌, ℕ, ℤ, pos, List, [], ◌∷◌, map, Option, Some, refl, sym, ap, subst, subst₂, inl, inr, string_bytes, IsUtf8}
-use Rattle.std.specs.List.{Contains}
-use Rattle.std.specs.Option.{option_map}
-use Rattle.sqlite.specs.State.{State}
-use Rattle.sqlite_rules.specs.Lists.{Has}
-use Rattle.sqlite_rules.proofs.ListLemmas.{contains_had, has_contained}
-use Rattle.sqlite_rules.proofs.ProbeLemmas.{has_mapped, mapped_has}
-use Rattle.zeb_profile.specs.declared.directives.Directive.{Directive}
-use Rattle.zeb_profile.specs.Canonical.{canonical_text, pattern_text}
-use Rattle.zeb_profile.specs.Indexes.{identifier_pattern}
-use Rattle.zeb_keys.specs.declared.keys.Occurrence.{Occurrence}
-use Rattle.zeb_register.specs.declared.catalog.ListedDatabase.{ListedDatabase}
-use Rattle.zeb_register.specs.declared.expected.Expected.{Expected}
-use Rattle.zeb_register.specs.declared.expected.ExpectedDatabase.{ExpectedDatabase}
-use Rattle.zeb_register.specs.declared.kept.Record.{Record}
-use Rattle.zeb_register.specs.Expected.{AreExpected}
-use Rattle.zeb_register.specs.Formats.{Format, version_of}
-use Rattle.zeb_register.specs.Store.{HasDatabase, HasRecord, IsStore}
-use Rattle.zeb_change.specs.Base.{Base, Kept}
-use Rattle.zeb_change.specs.Occurs.{OccursIn}
-use Rattle.zeb_change.specs.Stored.{IsKept}
-use Rattle.zeb_change.proofs.StoredLemmas.{told_id}
-use Rattle.zeb_image.specs.Image.{AreBases, HasTexts, IsImageOf}
-use Rattle.zeb_image.specs.Names.{IsDatabaseName}
-use Rattle.zeb_image.specs.PrivateChecking.{CanAllBeHeld, IsExpectation, IsMadeOf, kept_of}
+use Rattle.zeb_image.proofs.Cited.{◌≡◌, ◌≢◌, ◌⊎◌, ◌∙◌, ◌≤◌, ℕ, ℤ, pos, List, [], ◌∷◌, map, Option, Some, refl, sym, ap, subst, subst₂, inl, inr, string_bytes, IsUtf8, Contains, option_map, State, Has, contains_had, has_contained, has_mapped, mapped_has, Directive, canonical_text, pattern_text, identifier_pattern, Occurrence, ListedDatabase, Expected, ExpectedDatabase, Record, AreExpected, Format, version_of, HasDatabase, HasRecord, IsStore, Base, Kept, OccursIn, IsKept, told_id, AreBases, HasTexts, IsImageOf, IsDatabaseName, CanAllBeHeld, IsExpectation, IsMadeOf, kept_of}
 use Rattle.zeb_image.proofs.CheckedRecords.{number_inside}
 use Rattle.zeb_image.proofs.NameTexts.{name_text}
 use Rattle.zeb_image.proofs.CheckedTables.{listed_there, made_there, record_there, row_there, same_kept}

@@ -12,4 +12,4 @@ pub mod OrderedPostings
 pub mod PostedOccurrences
 pub mod RebuiltImages
 pub mod RebuiltPostings
-pub mod RebuiltRoom
+pub mod Cited

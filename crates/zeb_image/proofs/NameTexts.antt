@@ -1,11 +1,5 @@
 -- The names of databases are texts.
-use Rattle.std.proofs.Common.{◌≡◌, ◌||◌, ◌==◌, ℕ, ◌<◌, true, List, length, get_or, IsTrue, IsUtf8, inl, inr, arith}
-use Rattle.std.specs.Char.{is_ascii_alphanumeric}
-use Rattle.std.specs.Int.{is_in_range}
-use Rattle.std.proofs.lemmas.Bool.{and_parts, cases_lt, eqb-true, leb-true, or_cases}
-use Rattle.std.proofs.lemmas.List.{get_or_past}
-use Rattle.std.proofs.lemmas.Str.{IsUtf8-from_ascii}
-use Rattle.zeb_image.specs.Names.{IsDatabaseName, is_name_byte}
+use Rattle.zeb_image.proofs.Cited.{◌≡◌, ◌||◌, ◌==◌, ℕ, ◌<◌, true, List, length, get_or, IsTrue, IsUtf8, inl, inr, arith, is_ascii_alphanumeric, is_in_range, and_parts, cases_lt, eqb-true, leb-true, or_cases, get_or_past, IsUtf8-from_ascii, IsDatabaseName, is_name_byte}
 
 range_low : (lo hi b : ℕ) → hi < 128 → is_in_range lo hi b ≡ true → b < 128
 range_low lo hi b low h = let parts = and_parts _ _ h in omega (arith, low, leb-true b hi parts.1)

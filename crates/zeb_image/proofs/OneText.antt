@@ -1,26 +1,5 @@
 -- Two profiles that say the same have the same images.
-use Rattle.std.proofs.Common.{◌≡◌, ◌∙◌, ℕ, ℤ, List, sym, ap, subst}
-use Rattle.std.proofs.Math.Logic.{∥∥₁_elim}
-use Rattle.std.specs.List.{Contains}
-use Rattle.std.specs.Option.{option_and_then, option_map}
-use Rattle.sqlite.specs.Tree.{Trees}
-use Rattle.zeb_marc.specs.Contents.{units_of}
-use Rattle.zeb_marc.specs.Records.{fields_of}
-use Rattle.zeb_profile.specs.declared.directives.Directive.{Directive}
-use Rattle.zeb_profile.specs.Canonical.{canonical_text, pattern_text}
-use Rattle.zeb_profile.specs.Indexes.{identifier_pattern}
-use Rattle.zeb_profile.specs.Laws.{IsProfile, SaysTheSame}
-use Rattle.zeb_profile.proofs.ProfilesBack.{one_text_says_the_same}
-use Rattle.zeb_profile.proofs.SaysProps.{SaysTheSame-prop}
-use Rattle.zeb_keys.specs.declared.keys.Occurrence.{Occurrence}
-use Rattle.zeb_extract.specs.Identifier.{first_fitting, held_in}
-use Rattle.zeb_register.specs.Content.{Content}
-use Rattle.zeb_change.specs.Occurs.{OccursIn}
-use Rattle.zeb_change.specs.Folding.{ident_in}
-use Rattle.zeb_change.specs.Base.{Base, Kept}
-use Rattle.zeb_image.specs.Image.{AreBases, IsImageOf, IsImageUnder}
-use Rattle.zeb_change.specs.Stored.{ArePosted, IsBase, IsKept}
-use Rattle.zeb_register.specs.Formats.{Format}
+use Rattle.zeb_image.proofs.Cited.{◌≡◌, ◌∙◌, ℕ, ℤ, List, sym, ap, subst, ∥∥₁_elim, Contains, option_and_then, option_map, Trees, units_of, fields_of, Directive, canonical_text, pattern_text, identifier_pattern, IsProfile, SaysTheSame, one_text_says_the_same, SaysTheSame-prop, Occurrence, first_fitting, held_in, Content, OccursIn, ident_in, Base, Kept, AreBases, IsImageOf, IsImageUnder, ArePosted, IsBase, IsKept, Format}
 
 turned_round : (one other : List Directive) → SaysTheSame one other → SaysTheSame other one
 turned_round one other same = record {

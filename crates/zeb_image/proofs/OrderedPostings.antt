@@ -1,29 +1,7 @@
 -- Postings under their keys, put in order: by key, system number, unit and place.
-use Rattle.std.proofs.Common.{◌≡◌, ◌↔◌, ◌∙◌, ◌&&◌, Bool, true, false, List, [], refl, sym, ap, subst, Equal, nat_eq}
-use Rattle.std.specs.Bool.{Decides}
-use Rattle.std.specs.Cmp.{IsTotalOrder, Equal-is, on_total, then_total}
-use Rattle.std.specs.List.Retain.{IsFiltered, DiffersFromLast}
-use Rattle.std.specs.List.Sorted.{IsPermutation, IsSorted, IsStrictlySortedBy}
-use Rattle.std.specs.Ordering.{eq_by_cmp, is_eq}
-use Rattle.std.specs.Str.{bytes_eq}
-use Rattle.std.proofs.lemmas.Bool.{and_from, and_parts, eq-eqb, eqb-true}
+use Rattle.zeb_image.proofs.Cited.{◌≡◌, ◌↔◌, ◌∙◌, ◌&&◌, Bool, true, false, List, [], refl, sym, ap, subst, nat_eq, Decides, IsTotalOrder, Equal-is, on_total, then_total, IsFiltered, DiffersFromLast, IsPermutation, IsSorted, eq_by_cmp, is_eq, bytes_eq, and_from, and_parts, eq-eqb, eqb-true, bytes_eq-Decides, sameb, Has, has_contained, contains_had, Register, Word, Phrase, Number, the_type, Key, TellsApart, key_order, members_from_dedup, rising_from_dedup, key_total, keys_apart, both_equal, KeyPosting, Posting, posting_cmp, key_posting_order, posting_total, postings_apart, same_key}
+use Rattle.std.specs.List.Sorted.{IsStrictlySortedBy}
 use Rattle.std.proofs.lemmas.Cmp.{tied_itself}
-use Rattle.std.proofs.lemmas.Slice.Eq.{bytes_eq-Decides}
-use denote.Enum.Bare.{sameb}
-use Rattle.sqlite_rules.specs.Lists.{Has}
-use Rattle.sqlite_rules.proofs.ListLemmas.{has_contained, contains_had}
-use Rattle.zeb_keys.specs.declared.registers.Register.{Register}
-use Rattle.zeb_keys.specs.declared.registers.Register.TheVariants.{Word, Phrase, Number}
-use Rattle.zeb_keys.specs.contracts.registers.Register.{the_type}
-use Rattle.zeb_keys.specs.declared.keys.Key.{Key}
-use Rattle.zeb_keys.specs.Order.{TellsApart, key_order}
-use Rattle.zeb_keys.proofs.SortedLists.{members_from_dedup, rising_from_dedup}
-use Rattle.zeb_keys.proofs.Rising.{key_total, keys_apart, both_equal}
-use Rattle.zeb_register.specs.declared.expected.KeyPosting.{KeyPosting}
-use Rattle.zeb_register.specs.Content.{Posting, posting_cmp}
-use Rattle.zeb_register.specs.Expected.{key_posting_order}
-use Rattle.zeb_register.proofs.ContentChanges.{posting_total, postings_apart}
-use Rattle.zeb_change.proofs.KeyEquality.{same_key}
 
 pub order_total : IsTotalOrder key_posting_order
 order_total = then_total (on_total (λ (it : KeyPosting). it.key) key_total) (on_total (λ (it : KeyPosting). it.posting) posting_total)

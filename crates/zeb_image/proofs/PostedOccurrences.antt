@@ -1,30 +1,5 @@
 -- The postings of one record's occurrences, noted for registers that have none of it.
-use Rattle.std.proofs.Common.{◌≡◌, ◌≢◌, ◌⊎◌, ◌≤◌, ℕ, ℤ, List, [], inl, inr, sym, subst}
-use Rattle.std.specs.Cmp.{nat_cmp_total}
-use Rattle.std.specs.List.{Contains}
-use Rattle.sqlite.specs.Tree.{Trees}
-use Rattle.sqlite_rules.specs.Lists.{Has}
-use Rattle.sqlite_rules.proofs.ListLemmas.{has_contained}
-use Rattle.zeb_marc.specs.Records.{fields_of}
-use Rattle.zeb_profile.specs.declared.directives.Directive.{Directive}
-use Rattle.zeb_profile.specs.Indexes.{unit_targets}
-use Rattle.zeb_keys.specs.declared.keys.Occurrence.{Occurrence}
-use Rattle.zeb_keys.proofs.Rising.{numbers_apart}
-use Rattle.zeb_register.specs.declared.kept.Record.{Record}
-use Rattle.zeb_register.specs.declared.registers.Place.{Place}
-use Rattle.zeb_register.specs.Content.{Content, HasRisingLists, IsStorable, IsStorablePosting, posting_at}
-use Rattle.zeb_register.specs.Formats.{Format}
-use Rattle.zeb_register.proofs.RisingLists.{told_by}
-use Rattle.zeb_change.specs.declared.pending.Pending.{Pending}
-use Rattle.zeb_change.specs.Noted.{LeadsTo, WillHold}
-use Rattle.zeb_change.specs.Occurs.{AreOccurrencesOf, OccursIn}
-use Rattle.zeb_change.specs.PrivateChangedKeys.{place_in}
-use Rattle.zeb_change.specs.Reposted.{ArePostingsOf, IsReposted, occurrence_at}
-use Rattle.zeb_change.proofs.LeadsToContent.{will_rise}
-use Rattle.zeb_change.proofs.Reposted.{reposted, reposted_is}
-use Rattle.zeb_change.proofs.TermTexts.{occurrence_storable}
-use Rattle.zeb_image.specs.PrivateChecking.{kept_of}
-use Rattle.zeb_image.specs.PrivateRebuilding.{IsRecordPosted, LacksRecord, WillHoldSuch}
+use Rattle.zeb_image.proofs.Cited.{◌≡◌, ◌≢◌, ◌⊎◌, ◌≤◌, ℕ, ℤ, List, [], inl, inr, sym, subst, nat_cmp_total, Contains, Trees, Has, has_contained, fields_of, Directive, unit_targets, Occurrence, numbers_apart, Record, Place, Content, HasRisingLists, IsStorable, IsStorablePosting, posting_at, Format, told_by, Pending, LeadsTo, WillHold, AreOccurrencesOf, OccursIn, place_in, ArePostingsOf, IsReposted, occurrence_at, will_rise, reposted, reposted_is, occurrence_storable, kept_of, IsRecordPosted, LacksRecord, WillHoldSuch}
 use Rattle.zeb_image.proofs.Ids.{ids_told}
 
 -- every layout can store the postings of these occurrences under this number

@@ -1,27 +1,6 @@
 -- Registers made anew from the lists of databases: they make an image of these, and lists of what can be held are sound and can be read.
-use Rattle.std.proofs.Common.{◌≡◌, ◌≢◌, ◌⊎◌, ◌↔◌, ◌∙◌, ℕ, ℤ, pos, List, [], ◌∷◌, ◌++◌, map, inl, inr, refl, sym, ap, subst, string_bytes, IsUtf8, Less, arith}
-use Rattle.std.specs.List.{Contains}
+use Rattle.zeb_image.proofs.Cited.{◌≡◌, ◌≢◌, ◌⊎◌, ◌↔◌, ◌∙◌, ℕ, ℤ, pos, List, [], ◌∷◌, ◌++◌, map, inl, inr, refl, sym, ap, subst, string_bytes, IsUtf8, Less, arith, Contains, nat_cmp, slice_cmp, State, Trees, Has, all_has, has_left, has_right, has_mapped, mapped_has, Directive, Occurrence, ListedDatabase, AreDatabases, AreReadableDatabases, Content, posted, Format, holds_in, HasDatabase, HasRecord, IsStore, KeepsLists, registers_rise, one_last, Base, Kept, OccursIn, occurs, AreBases, AreListsOf, IsImageOf, AreReadableLists, AreSound, IsSound}
 use Rattle.std.specs.List.Sorted.{IsStrictlySortedBy}
-use Rattle.std.specs.Ordering.{nat_cmp}
-use Rattle.std.specs.Cmp.Lexicographic.{slice_cmp}
-use Rattle.sqlite.specs.State.{State}
-use Rattle.sqlite.specs.Tree.{Trees}
-use Rattle.sqlite_rules.specs.Lists.{Has}
-use Rattle.sqlite_rules.proofs.ListLemmas.{all_has, has_left, has_right}
-use Rattle.sqlite_rules.proofs.ProbeLemmas.{has_mapped, mapped_has}
-use Rattle.zeb_profile.specs.declared.directives.Directive.{Directive}
-use Rattle.zeb_keys.specs.declared.keys.Occurrence.{Occurrence}
-use Rattle.zeb_register.specs.declared.catalog.ListedDatabase.{ListedDatabase}
-use Rattle.zeb_register.specs.Catalog.{AreDatabases, AreReadableDatabases}
-use Rattle.zeb_register.specs.Content.{Content, posted}
-use Rattle.zeb_register.specs.Formats.{Format, holds_in}
-use Rattle.zeb_register.specs.Store.{HasDatabase, HasRecord, IsStore, KeepsLists}
-use Rattle.zeb_register.proofs.FormatLemmas.{registers_rise}
-use Rattle.zeb_register.proofs.RowsAreLists.{one_last}
-use Rattle.zeb_change.specs.Base.{Base, Kept}
-use Rattle.zeb_change.specs.Occurs.{OccursIn, occurs}
-use Rattle.zeb_image.specs.Image.{AreBases, AreListsOf, IsImageOf}
-use Rattle.zeb_image.specs.Rebuilding.{AreReadableLists, AreSound, IsSound}
 use Rattle.zeb_image.proofs.Bases.{less_differs}
 use Rattle.zeb_image.proofs.Ids.{ids_told}
 use Rattle.zeb_image.proofs.NameTexts.{name_text}

@@ -1,24 +1,5 @@
 -- Registers made anew: the postings of one record more, of one database more, and of all.
-use Rattle.std.proofs.Common.{◌≡◌, ◌≢◌, ◌⊎◌, ◌↔◌, ℕ, ℤ, pos, ◌+◌, ◌<◌, List, [], ◌∷◌, ◌++◌, Some, None, inl, inr, sym, subst, arith, Option, string_bytes}
-use Rattle.std.specs.Cmp.{nat_cmp_total}
-use Rattle.std.proofs.lemmas.Bool.{cases_lt}
-use Rattle.sqlite.specs.declared.types.Value.TheVariants.{Int, Null, Text}
-use Rattle.sqlite.specs.Order.{Row}
-use Rattle.sqlite.specs.Tree.{Trees}
-use Rattle.sqlite_rules.specs.Lists.{Has}
-use Rattle.sqlite_rules.proofs.ListLemmas.{has_left, has_right, has_either}
-use Rattle.zeb_profile.specs.declared.directives.Directive.{Directive}
-use Rattle.zeb_keys.specs.declared.keys.Occurrence.{Occurrence}
-use Rattle.zeb_keys.proofs.Rising.{numbers_apart}
-use Rattle.zeb_register.specs.declared.kept.Record.{Record}
-use Rattle.zeb_register.specs.Content.{Content, posted}
-use Rattle.zeb_register.specs.Kept.{AreReadable, IsFirstFrom}
-use Rattle.zeb_register.specs.Store.{HasDatabase, HasRecord, KeepsLists, record_row}
-use Rattle.zeb_register.proofs.RisingLists.{told_by}
-use Rattle.zeb_change.specs.Occurs.{OccursIn}
-use Rattle.zeb_image.specs.PrivateChecking.{kept_of}
-use Rattle.zeb_image.specs.PrivateRebuilding.{IsPosted, IsRecordPosted, LacksDatabase, LacksRecord, RowOccurs}
-use Rattle.zeb_image.specs.Rebuilding.{AreSoundIn, IsSound}
+use Rattle.zeb_image.proofs.Cited.{◌≡◌, ◌≢◌, ◌⊎◌, ◌↔◌, ℕ, ℤ, pos, ◌+◌, ◌<◌, List, [], ◌∷◌, ◌++◌, Some, None, inl, inr, sym, subst, arith, Option, string_bytes, nat_cmp_total, cases_lt, Int, Null, Text, Row, Trees, Has, has_left, has_right, has_either, Directive, Occurrence, numbers_apart, Record, Content, posted, AreReadable, IsFirstFrom, HasDatabase, HasRecord, KeepsLists, record_row, told_by, OccursIn, kept_of, IsPosted, IsRecordPosted, LacksDatabase, LacksRecord, RowOccurs, AreSoundIn, IsSound}
 use Rattle.zeb_image.proofs.Ids.{ids_told}
 
 -- ---- lists that are as they were

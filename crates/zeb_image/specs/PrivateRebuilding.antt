@@ -1,26 +1,15 @@
 -- What only the contracts of private functions speak of; no public clause reaches it.
 -- Registers on their way: which of the kept records have their postings in them.
-use Rattle.std.specs.Prelude.{◌≡◌, ◌≢◌, ◌↔◌, ◌+◌, ◌≤◌, ℕ, ℤ, pos, List, Some, Result, Err, OnOk}
-use Rattle.std.specs.List.{Contains}
-use Rattle.sqlite.specs.State.{State}
+use Rattle.std.specs.Prelude.{◌≡◌, ◌≢◌, ◌↔◌, ℕ, ℤ, pos, List}
 use Rattle.sqlite.specs.Tree.{Trees}
 use Rattle.zeb_profile.specs.declared.directives.Directive.{Directive}
 use Rattle.zeb_keys.specs.declared.keys.Occurrence.{Occurrence}
-use Rattle.zeb_register.specs.declared.faults.RegFault.{RegFault}
-use Rattle.zeb_register.specs.declared.faults.RegFault.TheVariants.{Store}
-use Rattle.zeb_register.specs.declared.kept.Record.{Record}
-use Rattle.zeb_register.specs.Calls.{MayRefuse}
-use Rattle.zeb_register.specs.Clauses.{InStore}
 use Rattle.zeb_register.specs.Content.{Content, IsStorable, posted}
 use Rattle.zeb_register.specs.Formats.{Format, holds_in}
-use Rattle.zeb_register.specs.Room.{HasRoom}
 use Rattle.zeb_register.specs.Store.{HasRecord}
 use Rattle.zeb_change.specs.declared.pending.Pending.{Pending}
-use Rattle.zeb_change.specs.Asked.{AsksRecord, PutAmong}
-use Rattle.zeb_change.specs.Base.{Kept}
 use Rattle.zeb_change.specs.Noted.{WillHold}
 use Rattle.zeb_change.specs.Occurs.{OccursIn}
-use Rattle.zeb_image.specs.Rebuilding.{AskKept}
 
 -- the database keeps a record of this number that has the occurrence
 abbrev pub RowOccurs : List Directive → Trees → ℤ → ℕ → Occurrence → Type 0
@@ -59,24 +48,3 @@ LacksDatabase id content = (n : ℕ) → LacksRecord id n content
 pub record IsPosted (profile : List Directive) (lists : Trees) (id : ℤ) (before after : Content) : Type 0 where
   pub part : (n : ℕ) (o : Occurrence) → posted after id n o ↔ RowOccurs profile lists id n o
   pub others : (d : ℤ) (n : ℕ) (o : Occurrence) → d ≢ id → posted after d n o ↔ posted before d n o
-
--- ---- where there is room
-
--- a record is noted whose keys have rows for what is noted with it: it notes no more places than it asks for
-abbrev pub NotesInRoom : {T : Type 0} → List Directive → Record → (old new : Pending) → Result T RegFault → Type 0
-NotesInRoom profile kept old new result =
-    (most places rowids bound n : ℕ) → AsksRecord profile most (Some kept.bytes.items) places rowids → bound ≤ most → PutAmong bound old.notes.entries n
-    → OnOk result ((more : ℕ) × (more ≤ places) × PutAmong bound new.notes.entries (n + more))
-
--- the records of the database are among these
-abbrev pub AreAmong : Trees → ℤ → List Kept → Type 0
-AreAmong trees id records = (n : ℕ) (ident bytes : List ℕ) → HasRecord trees id (pos n) ident bytes
-    → Contains records (record { sysno = n; ident = ident; bytes = bytes })
-
--- The records of a database are posted where there is room for what these ask for and for more, of the most that are ever put: then the
--- store fails for a cause alone, and what an accepted call leaves is room for the rest.
-abbrev pub PostsInRoom : {T : Type 0} → List Directive → ℤ → State → State → Result T RegFault → Type 0
-PostsInRoom profile id old new result =
-    (records : List Kept) (most places rowids spare : ℕ) → AskKept profile most records places rowids → places + spare ≤ most
-    → InStore old new (λ trees. AreAmong trees id records → HasRoom (places + spare) trees
-    → (result ≡ Err Store → MayRefuse old new) × OnOk result (HasRoom spare new.now.trees))

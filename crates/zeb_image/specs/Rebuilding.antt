@@ -1,12 +1,11 @@
 -- What has to hold of the lists of a store for its registers to be made anew under a profile.
-use Rattle.std.specs.Prelude.{◌≤◌, ℕ, ℤ, pos, List, Some}
+use Rattle.std.specs.Prelude.{◌≤◌, ℕ, ℤ, pos, List}
 use Rattle.sqlite.specs.Tree.{Trees}
 use Rattle.zeb_profile.specs.declared.directives.Directive.{Directive}
 use Rattle.zeb_register.specs.Catalog.{AreReadableDatabases}
 use Rattle.zeb_register.specs.Kept.{AreReadable}
 use Rattle.zeb_register.specs.Store.{HasDatabase, HasRecord}
-use Rattle.zeb_change.specs.Asked.{AskInAll, AsksRecord}
-use Rattle.zeb_change.specs.Base.{Base, Kept}
+use Rattle.zeb_change.specs.Base.{Kept}
 use Rattle.zeb_change.specs.Stored.{IsKept}
 
 -- a record of ISO 2709, kept under the identifier that the profile finds in it and under a number that a register can give
@@ -27,14 +26,3 @@ AreSound profile trees = (id : ℤ) (name : List ℕ) (last : ℤ) → HasDataba
 pub record AreReadableLists (trees : Trees) : Type 0 where
   pub databases : AreReadableDatabases trees
   pub records : (id : ℤ) (name : List ℕ) (last : ℤ) → HasDatabase trees id name last → AreReadable trees id
-
--- ---- what kept records ask for
-
--- kept records ask for so many places in all, one for each of their occurrences under the profile, each of whose keys has a row for as many
--- as this bound says
-abbrev pub AskKept : List Directive → (bound : ℕ) → List Kept → (places rowids : ℕ) → Type 0
-AskKept profile bound = AskInAll (λ kept. AsksRecord profile bound (Some kept.bytes))
-
--- the same of the records of databases
-abbrev pub AskBases : List Directive → (bound : ℕ) → List Base → (places rowids : ℕ) → Type 0
-AskBases profile bound = AskInAll (λ base. AskKept profile bound base.records)

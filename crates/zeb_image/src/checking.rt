@@ -1,6 +1,6 @@
 //! Whether whole tables are the image of something that can be held.
 
-ghost use Rattle.std.specs.Prelude.{◌≡◌, ◌≢◌, ◌↔◌, IsSome, IsTrue, IfOk, List};
+ghost use Rattle.std.specs.Prelude.{◌≢◌, ◌↔◌, IsSome, IsTrue, IfOk, List};
 ghost use Rattle.sqlite.specs.Held.{state};
 ghost use Rattle.sqlite.specs.State.{HasCleanDisk};
 ghost use Rattle.zeb_profile.specs.Canonical.{canonical_text};

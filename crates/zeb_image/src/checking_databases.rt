@@ -1,6 +1,6 @@
 //! What is expected of the databases that tables list.
 
-ghost use Rattle.std.specs.Prelude.{◌≡◌, ◌≢◌, IsSome, IfOk};
+ghost use Rattle.std.specs.Prelude.{◌≢◌, IsSome, IfOk};
 ghost use Rattle.sqlite.specs.Held.{state};
 ghost use Rattle.sqlite.specs.State.{HasCleanDisk, IsUnchanged};
 ghost use Rattle.zeb_register.specs.Calls.{Reading};

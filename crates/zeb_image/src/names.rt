@@ -1,6 +1,6 @@
 //! Names of databases.
 
-ghost use Rattle.std.specs.Prelude.{◌≡◌, ◌↔◌, IsSome, IfSome, IsTrue};
+ghost use Rattle.std.specs.Prelude.{◌≡◌, ◌↔◌, IsSome, IfSome};
 ghost use Rattle.zeb_image.specs.Names.{IsDatabaseName, is_name_byte};
 
 use arrayvec::ArrayString;

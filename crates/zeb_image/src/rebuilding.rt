@@ -1,10 +1,9 @@
 //! The registers made anew from the kept records.
 
-ghost use Rattle.std.specs.Prelude.{◌≡◌, ◌≢◌, ℕ, IsTrue, OnOk, List};
+ghost use Rattle.std.specs.Prelude.{◌≡◌, IsTrue, OnOk, List};
 ghost use Rattle.sqlite.specs.Held.{state};
 ghost use Rattle.sqlite.specs.State.{HasCleanDisk, Survives};
-ghost use Rattle.zeb_register.specs.Calls.{GoesOn, Inside, MayRefuse};
-ghost use Rattle.zeb_register.specs.Clauses.{InStore};
+ghost use Rattle.zeb_register.specs.Calls.{GoesOn, Inside};
 ghost use Rattle.zeb_register.specs.Content.{Content, IsStorable};
 ghost use Rattle.zeb_register.specs.Formats.{holds_in};
 ghost use Rattle.zeb_register.specs.Kept.{AreReadable};
@@ -12,8 +11,8 @@ ghost use Rattle.zeb_register.specs.Store.{IsStore, KeepsLists};
 ghost use Rattle.zeb_change.specs.Base.{Base};
 ghost use Rattle.zeb_change.specs.Inside.{StaysInside};
 ghost use Rattle.zeb_image.specs.Image.{AreBases, AreListsOf, IsImageOf};
-ghost use Rattle.zeb_image.specs.Rebuilding.{AreReadableLists, AreSound, AreSoundIn, AskBases};
-ghost use Rattle.zeb_image.specs.PrivateRebuilding.{HoldsSuch, IsPosted, LacksDatabase, PostsInRoom};
+ghost use Rattle.zeb_image.specs.Rebuilding.{AreReadableLists, AreSound, AreSoundIn};
+ghost use Rattle.zeb_image.specs.PrivateRebuilding.{HoldsSuch, IsPosted, LacksDatabase};
 
 use crate::rebuilding_records::record_note;
 use sqlite::{Alter, Transaction};
@@ -60,10 +59,6 @@ pub fn rebuild<S: Alter, L: Layout>(
         → IsStore (state S.Store tx.old.conn.now) → result ≡ Err RegFault.Damaged
         → AreReadableLists (state S.Store tx.old.conn.now).now.trees
         → ¬ AreSound profile.now (state S.Store tx.old.conn.now).now.trees }
-    // Where the lists are those of databases whose records' places fit in the rows of their keys, a failed store has a cause.
-    ensures room { (bases : List Base) (places rowids : ℕ) → AskBases profile.now places bases places rowids
-        → InStore (state S.Store tx.old.conn.now) (state S.Store tx.new.conn.now) (λ trees. AreListsOf trees bases
-        → result ≡ Err RegFault.Store → MayRefuse (state S.Store tx.old.conn.now) (state S.Store tx.new.conn.now)) }
 {
     registers_wipe(tx)?;
     let databases = databases_inside(alloc, tx)?;
@@ -102,7 +97,6 @@ fn database_post<S: Alter, L: Layout>(
         → (before : Content) → holds_in L.format (state S.Store tx.old.conn.now).now.trees before → IsStorable before
         → LacksDatabase db.0 before → AreReadable (state S.Store tx.old.conn.now).now.trees db.0
         → ¬ AreSoundIn profile.now (state S.Store tx.old.conn.now).now.trees db.0 }
-    ensures room { PostsInRoom profile.now db.0 (state S.Store tx.old.conn.now) (state S.Store tx.new.conn.now) result }
 {
     let mut work = Work::default();
     let mut pending = Pending::new(alloc, MOST_NOTED);

@@ -1,15 +1,14 @@
 //! The postings of one kept record, noted for registers that have none of it.
 
-ghost use Rattle.std.specs.Prelude.{◌≡◌, ◌≢◌, ◌≤◌, ℤ, Err, OnOk, IfOk};
+ghost use Rattle.std.specs.Prelude.{◌≡◌, ◌≤◌, ℤ, Err, OnOk};
 ghost use Rattle.sqlite.specs.Tree.{Trees};
 ghost use Rattle.zeb_register.specs.Content.{Content, IsStorable};
 ghost use Rattle.zeb_register.specs.Formats.{Format};
 ghost use Rattle.zeb_change.specs.Noted.{WillHold};
-ghost use Rattle.zeb_change.specs.Occurs.{AreOccurrencesOf, OccursIn};
-ghost use Rattle.zeb_change.specs.Stored.{IsKept};
+ghost use Rattle.zeb_change.specs.Occurs.{OccursIn};
 ghost use Rattle.zeb_image.specs.Rebuilding.{IsSound};
 ghost use Rattle.zeb_image.specs.PrivateChecking.{kept_of};
-ghost use Rattle.zeb_image.specs.PrivateRebuilding.{IsRecordPosted, LacksRecord, NotesInRoom, WillHoldSuch};
+ghost use Rattle.zeb_image.specs.PrivateRebuilding.{IsRecordPosted, LacksRecord, WillHoldSuch};
 
 use std::alloc::Global;
 use zeb_change::{Limits, Pending, kept_occurrences, note_keys};
@@ -32,8 +31,6 @@ pub(crate) fn record_note(
         → IsStorable before → LacksRecord id kept.now.sysno before → WillHoldSuch format trees id pending.new
         (IsRecordPosted id kept.now.sysno (OccursIn profile.now (kept_of kept.now)) before)) }
     ensures damaged { result ≡ Err RegFault.Damaged → ¬ IsSound profile.now (kept_of kept.now) }
-    ensures unstored { result ≢ Err RegFault.Store }
-    ensures room { NotesInRoom profile.now kept.now pending.old pending.new result }
 {
     if kept.sysno < 1 || kept.sysno > Limits::GREATEST.numbers {
         return Err(RegFault::Damaged);

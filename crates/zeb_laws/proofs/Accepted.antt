@@ -1,15 +1,6 @@
 -- An accepted change is a fold of all records of its files.
-use Rattle.std.proofs.Common.{◌≡◌, ℕ, List, Result, Ok, Err, refl}
-use Rattle.zeb_marc.specs.Splits.{Split}
-use Rattle.zeb_change.specs.declared.settings.Kind.{Kind}
-use Rattle.zeb_change.specs.Refused.{Why}
-use Rattle.zeb_engine.specs.Answers.{changed}
-use Rattle.zeb_change.specs.Conditions.{Conditions}
-use Rattle.zeb_laws.specs.Counts.{IsAccepted}
-use Rattle.zeb_change.specs.Folding.{Progress, at_first, files_folded}
-use Rattle.zeb_change.specs.Base.{Base}
-use Rattle.zeb_image.specs.Holdings.{Holdings, base_named}
-use Rattle.zeb_engine.specs.Steps.{change_ends, change_from, changed_by_files, ends, ready, start_of, turned, turned_from}
+use Rattle.zeb_laws.proofs.Cited.{◌≡◌, ℕ, List, Result, Ok, Err, refl, Split, Kind, Why, changed, Conditions, IsAccepted, Progress, at_first, files_folded, Base, Holdings, base_named, change_ends, change_from, ends, start_of, turned_from}
+use Rattle.zeb_engine.specs.Steps.{changed_by_files, ready, turned}
 
 module _ (c : Conditions) (kind : Kind) (name : List ℕ) (files : List Split) (before : Holdings) (inserted updated deleted : ℕ) where
   module _ (bases : List Base) (is_ready : ready c before ≡ Ok bases) where

@@ -1,18 +1,6 @@
 -- After a command that was accepted a check is accepted.
-use Rattle.std.proofs.Common.{◌≡◌, ℕ, List, [], map, Result, Ok, Err, refl, sym, ap, subst, string_bytes}
-use Rattle.zeb_engine.specs.declared.commands.Command.{Command}
-use Rattle.zeb_engine.specs.declared.commands.Command.TheVariants.{Init, Check, Reindex, Upgrade, Create, Drop, Stat, Dump, Change, Find, Scan, Analyse}
-use Rattle.zeb_change.specs.Base.{Base}
-use Rattle.zeb_change.specs.Conditions.{Conditions}
-use Rattle.zeb_change.specs.Folding.{splits_of}
-use Rattle.zeb_change.specs.Refused.{Why}
-use Rattle.zeb_image.specs.Holdings.{Holdings}
-use Rattle.zeb_image.specs.NameOf.{name_bytes}
-use Rattle.zeb_engine.specs.Answers.{Answer, done}
-use Rattle.zeb_engine.specs.Crashes.{Accepts}
-use Rattle.zeb_engine.specs.Steps.{AskedFrom, CountedFrom, FindAnswers, ScanAnswers, Step, Turn, all_stay, changed_by_files, checked_from, created, dropped, dumped_from, ends, holding, initialised, ready, reindexed, ruled, turned, turned_from, upgradable, upgraded}
-use Rattle.zeb_engine.specs.Transactions.{AsksStore}
-use Rattle.zeb_engine.proofs.Ready.{ready_good}
+use Rattle.zeb_laws.proofs.Cited.{◌≡◌, ℕ, List, [], map, Result, Ok, Err, refl, sym, ap, subst, string_bytes, Command, Init, Check, Reindex, Upgrade, Create, Drop, Stat, Dump, Change, Find, Scan, Analyse, Base, Conditions, splits_of, Why, Holdings, name_bytes, Answer, done, Accepts, AskedFrom, CountedFrom, FindAnswers, ScanAnswers, Step, Turn, all_stay, checked_from, created, dropped, dumped_from, ends, holding, ruled, turned_from, upgradable, AsksStore, ready_good}
+use Rattle.zeb_engine.specs.Steps.{changed_by_files, initialised, ready, reindexed, turned, upgraded}
 
 abbrev IsFit : Conditions → Holdings → Type 0
 IsFit c held = (bases : List Base) × (ready c held ≡ Ok bases)

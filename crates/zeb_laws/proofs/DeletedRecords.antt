@@ -1,24 +1,8 @@
 -- Which records a delete leaves.
-use Rattle.std.proofs.Common.{◌≡◌, ◌≢◌, ◌↔◌, ◌∙◌, ℕ, true, false, not, List, [], ◌∷◌, ◌++◌, Option, Some, None, Result, Ok, Err, refl, sym, ap, subst, inl, inr}
-use Rattle.std.specs.List.{Contains}
-use Rattle.std.proofs.lemmas.Bool.{not-true}
-use Rattle.sqlite_rules.proofs.ListLemmas.{has_contained, contains_had, has_filtered, has_kept}
-use Rattle.zeb_marc.specs.declared.faults.MarcFault.{MarcFault}
+use Rattle.zeb_laws.proofs.Cited.{◌≡◌, ◌≢◌, ◌↔◌, ◌∙◌, ℕ, true, false, not, List, [], ◌∷◌, ◌++◌, Option, Some, None, Result, Ok, Err, refl, sym, ap, subst, inl, inr, Contains, not-true, has_contained, contains_had, has_filtered, has_kept, MarcFault, Split, Directive, IdentFault, Kind, Update, Delete, Adelete, PassedOver, Why, unknown, Conditions, FoldsTo, Changed, Progress, changed_by, deleted, ident_in, with_ident, with_record, Base, Kept, has_ident, kept_as, without_ident, NoneHas, slices_in, has_same, is_ident, none_kept, same_has}
 use Rattle.zeb_marc.specs.Records.{first_fault}
-use Rattle.zeb_marc.specs.Splits.{Split}
-use Rattle.zeb_profile.specs.declared.directives.Directive.{Directive}
-use Rattle.zeb_extract.specs.declared.naming.IdentFault.{IdentFault}
-use Rattle.zeb_change.specs.declared.settings.Kind.{Kind}
-use Rattle.zeb_change.specs.declared.settings.Kind.TheVariants.{Update, Delete, Adelete}
-use Rattle.zeb_change.specs.declared.tally.Fate.TheVariants.{PassedOver}
-use Rattle.zeb_change.specs.Refused.{Why, unknown}
-use Rattle.zeb_change.specs.Conditions.{Conditions}
-use Rattle.zeb_laws.specs.Counts.{FoldsTo}
-use Rattle.zeb_change.specs.Folding.{Changed, Progress, changed_by, changed_record, deleted, ident_in, with_ident, with_record}
-use Rattle.zeb_change.specs.Base.{Base, Kept, has_ident, kept_as, without_ident}
-use Rattle.zeb_laws.specs.Lasting.{NoneHas, slices_in}
+use Rattle.zeb_change.specs.Folding.{changed_record}
 use Rattle.zeb_laws.proofs.FoldInduction.{all_folded}
-use Rattle.zeb_change.proofs.KeptLemmas.{has_same, is_ident, none_kept, same_has}
 use Rattle.zeb_laws.proofs.Lasting.{in_left, in_right, the_one, none_in_both, none_in_none, none_in_other}
 
 -- the records that are kept still: those whose identifier no slice has

@@ -1,46 +1,9 @@
 -- Each command has an answer, whatever is held.
-use Rattle.std.proofs.Common.{◌≡◌, ◌↔◌, ◌∙◌, ◌-◌, ℕ, Bool, true, false, cond, ◌&&◌, List, [], ◌∷◌, map, length, find, take, drop, Option, Some, None, Result, Ok, Err, refl, sym, ap, subst, inl, inr, nat_eq, nat_lt, string_bytes}
-use Rattle.std.specs.Cmp.{nat_cmp_total}
-use Rattle.std.specs.Fmt.{decimal}
-use Rattle.std.specs.List.{Contains, flat_map}
-use Rattle.std.specs.Option.{option_map}
-use Rattle.std.proofs.lemmas.Bool.Decides.{Decides-eqb}
-use Rattle.std.proofs.lemmas.List.{take-append-drop}
-use Rattle.sqlite_rules.specs.Lists.{Has}
-use Rattle.sqlite_rules.proofs.ListLemmas.{contains_had, has_contained, has_found, has_right}
-use Rattle.sqlite_rules.proofs.ProbeLemmas.{has_mapped, mapped_has}
-use Rattle.zeb_register.proofs.TermLists.{has_taken}
+use Rattle.zeb_laws.proofs.Cited.{◌≡◌, ◌↔◌, ◌∙◌, ◌-◌, ℕ, Bool, true, false, cond, ◌&&◌, List, [], ◌∷◌, map, length, find, take, drop, Option, Some, None, Result, Ok, Err, refl, sym, ap, subst, inl, inr, nat_eq, nat_lt, string_bytes, nat_cmp_total, decimal, Contains, flat_map, option_map, Decides-eqb, take-append-drop, Has, contains_had, has_contained, has_found, has_right, has_mapped, mapped_has, has_taken, Directive, unit_targets, Refusal, PlanValue, ScanValue, plan_of, scan_of, IsReadable, read_or_faulty, Occurrence, numbers_apart, listing, occurrences_are_listed, Contains-flat_map, Contains-map, from_flat_map, from_map, TreeHolds, AreNumbers, holder_known, Command, Init, Check, Reindex, Upgrade, Create, Drop, Stat, Dump, Change, Find, Scan, Analyse, IsAnalysed, analysis_answer, Answer, Extent, found, refused, scanned, Why, diagnostic, Conditions, IsCounted, IsExtent, Paired, Target, name_of_index, target_list, AreShown, IsAnswered, IsFound, IsNamed, IsPlanned, IsShown, has_name, OccursIn, occurs, Base, Kept, Holdings, base_named, name_bytes, IsScanned, IsScanPlanned, around, AskedFrom, AskedIn, CountedFrom, FindAnswers, ScanAnswers, StatAnswers, Step, created, dropped, dumped_by, no_database, checked, splits_of}
 use Rattle.zeb_marc.specs.Contents.{units_of}
 use Rattle.zeb_marc.specs.Records.{fields_of}
-use Rattle.zeb_profile.specs.declared.directives.Directive.{Directive}
-use Rattle.zeb_profile.specs.Indexes.{unit_targets}
-use Rattle.zeb_query.specs.Checks.{Refusal}
-use Rattle.zeb_query.specs.Plans.{PlanValue, ScanValue, plan_of, scan_of}
-use Rattle.zeb_query.specs.Places.{IsReadable}
-use Rattle.zeb_query.proofs.TextFaults.{read_or_faulty}
-use Rattle.zeb_keys.specs.declared.keys.Occurrence.{Occurrence}
-use Rattle.zeb_keys.proofs.Rising.{numbers_apart}
-use Rattle.zeb_extract.specs.PrivateListing.{listing}
-use Rattle.zeb_extract.proofs.Listed.{occurrences_are_listed}
-use Rattle.zeb_extract.proofs.Members.{Contains-flat_map, Contains-map, from_flat_map, from_map}
-use Rattle.zeb_search.specs.Holds.{TreeHolds}
-use Rattle.zeb_search.specs.Lists.{AreNumbers}
-use Rattle.zeb_search.proofs.KnownHolders.{holder_known}
-use Rattle.zeb_engine.specs.declared.commands.Command.{Command}
-use Rattle.zeb_engine.specs.declared.commands.Command.TheVariants.{Init, Check, Reindex, Upgrade, Create, Drop, Stat, Dump, Change, Find, Scan, Analyse}
-use Rattle.zeb_engine.specs.Analysed.{IsAnalysed, analysis_answer}
-use Rattle.zeb_engine.specs.Answers.{Answer, Extent, counted, found, refused, scanned}
-use Rattle.zeb_change.specs.Refused.{Why, diagnostic}
-use Rattle.zeb_change.specs.Conditions.{Conditions}
-use Rattle.zeb_engine.specs.Counting.{IsCounted, IsExtent, Paired, Target, name_of_index, target_list}
-use Rattle.zeb_engine.specs.Finding.{AreShown, IsAnswered, IsFound, IsNamed, IsPlanned, IsShown, has_name}
-use Rattle.zeb_change.specs.Occurs.{OccursIn, occurs}
-use Rattle.zeb_change.specs.Base.{Base, Kept}
-use Rattle.zeb_image.specs.Holdings.{Holdings, base_named}
-use Rattle.zeb_image.specs.NameOf.{name_bytes}
-use Rattle.zeb_engine.specs.Scanning.{IsScanned, IsScanPlanned, around}
-use Rattle.zeb_engine.specs.Steps.{AskedFrom, AskedIn, CountedFrom, FindAnswers, ScanAnswers, StatAnswers, Step, changed_by_files, created, dropped, dumped_by, initialised, no_database, ready, turned, checked, reindexed, upgraded}
-use Rattle.zeb_change.specs.Folding.{splits_of}
+use Rattle.zeb_engine.specs.Answers.{counted}
+use Rattle.zeb_engine.specs.Steps.{changed_by_files, initialised, ready, turned, reindexed, upgraded}
 use Rattle.zeb_laws.proofs.EveryAnswerAnalyses.{analyses_there}
 use Rattle.zeb_laws.proofs.EveryAnswerHolds.{IsSetOf}
 use Rattle.zeb_laws.proofs.EveryAnswerHolds.{tree_decided}

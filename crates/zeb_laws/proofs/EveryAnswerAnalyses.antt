@@ -1,22 +1,7 @@
 -- What is answered of files is there: the first refusal, or an analysis of each record.
-use Rattle.std.proofs.Common.{◌≡◌, ◌↔◌, ℕ, ◌+◌, Bool, true, false, cond, List, [], ◌∷◌, Option, Some, None, Result, Ok, Err, refl, nat_le}
-use Rattle.std.specs.List.{Contains}
-use Rattle.std.specs.Option.{option_or}
-use Rattle.sqlite_rules.proofs.ListLemmas.{contains_had, has_contained}
-use Rattle.zeb_marc.specs.declared.faults.MarcFault.{MarcFault}
+use Rattle.zeb_laws.proofs.Cited.{◌≡◌, ◌↔◌, ℕ, ◌+◌, Bool, true, false, cond, List, [], ◌∷◌, Option, Some, None, Result, Ok, Err, refl, nat_le, Contains, option_or, contains_had, has_contained, MarcFault, Directive, unit_targets, Occurrence, IdentFault, identifier_of, listing, IsOccurrence, occurrences_are_listed, occurrence_total, occurrences_apart, AnalysisFault, TooManyRecords, Analysed, AnalysesTo, AreAnalysesOf, IsAnalysisOf, Standing, first_refusal, refused_content, refused_name, refused_record, standing_in_all, units_in}
 use Rattle.zeb_marc.specs.Records.{first_fault}
-use Rattle.zeb_profile.specs.declared.directives.Directive.{Directive}
-use Rattle.zeb_profile.specs.Indexes.{unit_targets}
-use Rattle.zeb_keys.specs.declared.keys.Occurrence.{Occurrence}
-use Rattle.zeb_extract.specs.declared.naming.IdentFault.{IdentFault}
-use Rattle.zeb_extract.specs.Identifier.{identifier_of}
-use Rattle.zeb_extract.specs.PrivateListing.{listing}
-use Rattle.zeb_extract.specs.Occurrences.{IsOccurrence}
-use Rattle.zeb_extract.proofs.Listed.{occurrences_are_listed}
-use Rattle.zeb_keys.proofs.Rising.{occurrence_total, occurrences_apart}
-use Rattle.zeb_analysis.specs.declared.faults.AnalysisFault.{AnalysisFault}
-use Rattle.zeb_analysis.specs.declared.faults.AnalysisFault.TheVariants.{TooManyRecords}
-use Rattle.zeb_analysis.specs.Analysing.{Analysed, AnalysesTo, AreAnalysesOf, IsAnalysisOf, Standing, first_refusal, refusal_at, refused_content, refused_name, refused_record, standing_in_all, units_in}
+use Rattle.zeb_analysis.specs.Analysing.{refusal_at}
 use Rattle.zeb_laws.proofs.EveryAnswerLists.{rising_has, rising_of, rising_rises}
 
 -- neither of two refuses

@@ -1,32 +1,12 @@
 -- A query holds or not on each number, where the set of occurrences is that of a list.
-use Rattle.std.proofs.Common.{◌≡◌, ◌≢◌, ◌↔◌, ◌⊎◌, ◌∙◌, ◌<◌, ◌+◌, ◌^◌, ℕ, Bool, true, false, List, [], ◌∷◌, ◌++◌, Some, None, IsUtf8, chars, refl, sym, ap, subst, inl, inr, arith}
-use Rattle.std.specs.Cmp.Lexicographic.{slice_cmp}
-use Rattle.std.specs.Ordering.{nat_cmp}
+use Rattle.zeb_laws.proofs.Cited.{◌≡◌, ◌≢◌, ◌↔◌, ◌⊎◌, ◌∙◌, ◌<◌, ◌+◌, ◌^◌, ℕ, Bool, true, false, List, [], ◌∷◌, ◌++◌, Some, None, IsUtf8, refl, sym, ap, subst, inl, inr, arith, slice_cmp, nat_cmp, IsUtf8-from_is_utf8, is_utf8-from_IsUtf8, Has, Symbol, Char, Star, Matches, number_key, Register, DistanceRelation, Operator, Order, Relation, Separation, PlanValue, TermOf, PairOf, NearOf, TermPlanValue, RecordNumberOf, AlwaysOf, NumberOf, OrderedOf, CompleteOf, PhraseOf, AllWordsOf, AnyWordOf, Key, Occurrence, key_total, keys_apart, occurrence_total, occurrences_apart, key_in, told_by, AreApart, AreSeparated, IsDistant, Precedes, Stands, StandsInOrder, AreJoined, Fits, HasEntry, HasMatch, HasNear, HasPhrase, HasWord, HasWords, IsNumberAt, TermHolds, TreeHolds}
+use Rattle.std.proofs.Common.{chars}
 use Rattle.std.specs.Str.{is_utf8}
-use Rattle.std.proofs.lemmas.Str.{IsUtf8-from_is_utf8, is_utf8-from_IsUtf8}
-use Rattle.sqlite_rules.specs.Lists.{Has}
-use Rattle.zeb_text.specs.Symbols.{Symbol, Char, Star}
-use Rattle.zeb_text.specs.Patterns.{Matches}
-use Rattle.zeb_text.specs.Numbers.{number_key}
-use Rattle.zeb_keys.specs.declared.Register.{Register}
 use Rattle.zeb_keys.specs.declared.Register.TheVariants as register
-use Rattle.zeb_query.specs.declared.plans.DistanceRelation.{DistanceRelation}
 use Rattle.zeb_query.specs.declared.plans.DistanceRelation.TheVariants as at
-use Rattle.zeb_query.specs.declared.plans.Operator.{Operator}
 use Rattle.zeb_query.specs.declared.plans.Operator.TheVariants as operator
-use Rattle.zeb_query.specs.declared.plans.Order.{Order}
 use Rattle.zeb_query.specs.declared.plans.Order.TheVariants as in_order
-use Rattle.zeb_query.specs.declared.plans.Relation.{Relation}
 use Rattle.zeb_query.specs.declared.plans.Relation.TheVariants as relation
-use Rattle.zeb_query.specs.declared.plans.Separation.{Separation}
-use Rattle.zeb_query.specs.Plans.{PlanValue, TermOf, PairOf, NearOf, TermPlanValue, RecordNumberOf, AlwaysOf, NumberOf, OrderedOf, CompleteOf, PhraseOf, AllWordsOf, AnyWordOf}
-use Rattle.zeb_keys.specs.declared.keys.Key.{Key}
-use Rattle.zeb_keys.specs.declared.keys.Occurrence.{Occurrence}
-use Rattle.zeb_keys.proofs.Rising.{key_total, keys_apart, occurrence_total, occurrences_apart}
-use Rattle.zeb_register.specs.Occurring.{key_in}
-use Rattle.zeb_register.proofs.RisingLists.{told_by}
-use Rattle.zeb_search.specs.Comparing.{AreApart, AreSeparated, IsDistant, Precedes, Stands, StandsInOrder}
-use Rattle.zeb_search.specs.Holds.{AreJoined, Fits, HasEntry, HasMatch, HasNear, HasPhrase, HasWord, HasWords, IsNumberAt, TermHolds, TreeHolds}
 use Rattle.zeb_laws.proofs.EveryAnswerLists.{Decided, decided_as, both_decided, either_decided, denied_decided, where_decided, test_decided, less_decided, number_decided, text_decided, below_decided, upto_decided, some_below, some_decided, each_decided}
 
 -- ---- patterns

@@ -1,13 +1,6 @@
 -- What holds or not, over lists; and for each list a rising one with the same members.
-use Rattle.std.proofs.Common.{◌≡◌, ◌↔◌, ◌⊎◌, ◌∙◌, ◌<◌, ◌≤◌, ℕ, zero, suc, Bool, true, false, List, [], ◌∷◌, map, refl, sym, subst, inl, inr, Ordering, Less, Equal, Greater, arith}
-use Rattle.std.specs.Cmp.{IsTotalOrder, nat_cmp_total}
-use Rattle.std.specs.Cmp.Lexicographic.{nat_list_cmp_total}
+use Rattle.zeb_laws.proofs.Cited.{◌≡◌, ◌↔◌, ◌⊎◌, ◌∙◌, ◌<◌, ◌≤◌, ℕ, zero, suc, Bool, true, false, List, [], ◌∷◌, map, refl, sym, subst, inl, inr, Ordering, Less, Equal, Greater, arith, IsTotalOrder, nat_cmp_total, nat_list_cmp_total, Has, all_from, all_has, has_mapped, numbers_apart, texts_apart, all_rise, all_there, told_by, with_all}
 use Rattle.std.specs.List.Sorted.{IsStrictlySortedBy}
-use Rattle.sqlite_rules.specs.Lists.{Has}
-use Rattle.sqlite_rules.proofs.ListLemmas.{all_from, all_has}
-use Rattle.sqlite_rules.proofs.ProbeLemmas.{has_mapped}
-use Rattle.zeb_keys.proofs.Rising.{numbers_apart, texts_apart}
-use Rattle.zeb_register.proofs.RisingLists.{all_rise, all_there, told_by, with_all}
 
 -- ---- what holds or not
 

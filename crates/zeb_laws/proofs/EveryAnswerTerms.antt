@@ -1,20 +1,5 @@
 -- What a register has of a set of occurrences is there, where the set is that of a list: its terms, their counts and its places.
-use Rattle.std.proofs.Common.{◌≡◌, ◌↔◌, ◌∙◌, ℕ, List, length, map, refl, sym, ap, subst, Equal}
-use Rattle.std.specs.Cmp.{nat_cmp_total}
-use Rattle.std.specs.Cmp.Lexicographic.{slice_cmp, nat_list_cmp_total}
-use Rattle.std.specs.Ordering.{nat_cmp}
-use Rattle.sqlite_rules.specs.Lists.{Has}
-use Rattle.sqlite_rules.proofs.ProbeLemmas.{has_mapped, mapped_has}
-use Rattle.zeb_keys.specs.declared.Register.{Register}
-use Rattle.zeb_keys.specs.declared.keys.Key.{Key}
-use Rattle.zeb_keys.specs.declared.keys.Occurrence.{Occurrence}
-use Rattle.zeb_keys.proofs.Rising.{key_total, keys_apart, numbers_apart, both_equal, texts_apart}
-use Rattle.zeb_register.specs.declared.registers.TermCount.{TermCount}
-use Rattle.zeb_register.specs.declared.registers.Totals.{Totals}
-use Rattle.zeb_register.specs.Occurring.{AreSpotsOf, AreTermsOf, AreTotals, HasSpot, IsCount, Spot, TermIn, capped, key_in, spot_cmp, term_cmp}
-use Rattle.zeb_register.proofs.ContentChanges.{postings_apart}
-use Rattle.zeb_register.proofs.OccurringLemmas.{spot_total}
-use Rattle.zeb_register.proofs.RisingLists.{told_by}
+use Rattle.zeb_laws.proofs.Cited.{◌≡◌, ◌↔◌, ◌∙◌, ℕ, List, length, map, refl, sym, ap, subst, Equal, nat_cmp_total, slice_cmp, nat_list_cmp_total, nat_cmp, Has, has_mapped, mapped_has, Register, Key, Occurrence, key_total, keys_apart, numbers_apart, both_equal, texts_apart, TermCount, Totals, AreSpotsOf, AreTermsOf, AreTotals, HasSpot, IsCount, Spot, TermIn, capped, key_in, spot_cmp, term_cmp, postings_apart, spot_total, told_by}
 use Rattle.zeb_laws.proofs.EveryAnswerHolds.{IsSetOf}
 use Rattle.zeb_laws.proofs.EveryAnswerHolds.{IsKeyIn, key_in_decided, key_is_in}
 use Rattle.zeb_laws.proofs.EveryAnswerLists.{Decided, mapped_rises, rising_has, rising_of, rising_rises, those, those_are}

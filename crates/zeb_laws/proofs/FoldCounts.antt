@@ -1,19 +1,7 @@
 -- What a change does to a database, record by record, and so what its counts say.
-use Rattle.std.proofs.Common.{◌≡◌, ◌≢◌, ℕ, ◌+◌, ◌≤◌, Bool, true, false, cond, List, [], ◌∷◌, length, Option, Some, None, Result, Ok, Err, nat_le, refl, sym, ap, subst, arith}
-use Rattle.std.proofs.lemmas.List.Sums.{sum_by-cons}
-use Rattle.zeb_marc.specs.declared.faults.MarcFault.{MarcFault}
+use Rattle.zeb_laws.proofs.Cited.{◌≡◌, ◌≢◌, ℕ, ◌+◌, ◌≤◌, Bool, true, false, cond, List, [], ◌∷◌, length, Option, Some, None, Result, Ok, Err, nat_le, refl, sym, ap, subst, arith, sum_by-cons, MarcFault, Split, IdentFault, Kind, Update, Delete, Adelete, Fate, Inserted, Updated, Deleted, PassedOver, Why, database_full, too_many_records, unknown, Conditions, FoldsTo, records_in, Changed, Progress, at_end, at_first, changed_by, counted, deleted, files_folded, ident_in, slices_folded, updated, with_ident, with_record, ◌then◌, Base, Kept, kept_as, with_new, with_bytes, without_ident}
 use Rattle.zeb_marc.specs.Records.{first_fault}
-use Rattle.zeb_marc.specs.Splits.{Split}
-use Rattle.zeb_extract.specs.declared.naming.IdentFault.{IdentFault}
-use Rattle.zeb_change.specs.declared.settings.Kind.{Kind}
-use Rattle.zeb_change.specs.declared.settings.Kind.TheVariants.{Update, Delete, Adelete}
-use Rattle.zeb_change.specs.declared.tally.Fate.{Fate}
-use Rattle.zeb_change.specs.declared.tally.Fate.TheVariants.{Inserted, Updated, Deleted, PassedOver}
-use Rattle.zeb_change.specs.Refused.{Why, database_full, too_many_records, unknown}
-use Rattle.zeb_change.specs.Conditions.{Conditions}
-use Rattle.zeb_laws.specs.Counts.{FoldsTo, records_in}
-use Rattle.zeb_change.specs.Folding.{Changed, Progress, at_end, at_first, changed_by, changed_record, counted, deleted, file_folded, files_folded, record_folded, ident_in, slices_folded, updated, with_ident, with_record, ◌then◌}
-use Rattle.zeb_change.specs.Base.{Base, Kept, kept_as, with_new, with_bytes, without_ident}
+use Rattle.zeb_change.specs.Folding.{changed_record, file_folded, record_folded}
 
 -- ---- one record
 

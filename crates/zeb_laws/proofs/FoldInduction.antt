@@ -1,16 +1,7 @@
 -- What holds of a database before and after each record of a change, and joins, holds of all slices of its files.
-use Rattle.std.proofs.Common.{◌≡◌, ℕ, ◌+◌, Bool, true, false, cond, List, [], ◌∷◌, ◌++◌, Option, Result, Ok, Err, nat_le, sym, subst}
-use Rattle.zeb_marc.specs.declared.faults.MarcFault.{MarcFault}
-use Rattle.zeb_marc.specs.Splits.{Split}
-use Rattle.zeb_change.specs.declared.settings.Kind.{Kind}
-use Rattle.zeb_change.specs.Refused.{Why, too_many_records}
-use Rattle.zeb_change.specs.Conditions.{Conditions}
-use Rattle.zeb_laws.specs.Counts.{FoldsTo}
-use Rattle.zeb_change.specs.Folding.{Changed, Progress, at_first, changed_record, counted, file_folded, files_folded, record_folded, slices_folded, ◌then◌}
-use Rattle.zeb_change.specs.Base.{Base}
-use Rattle.zeb_laws.specs.Lasting.{slices_in}
+use Rattle.zeb_laws.proofs.Cited.{◌≡◌, ℕ, ◌+◌, Bool, true, false, cond, List, [], ◌∷◌, ◌++◌, Option, Result, Ok, Err, nat_le, sym, subst, MarcFault, Split, Kind, Why, too_many_records, Conditions, FoldsTo, Changed, Progress, at_first, counted, files_folded, slices_folded, ◌then◌, Base, slices_in, counted_in}
+use Rattle.zeb_change.specs.Folding.{changed_record, file_folded, record_folded}
 use Rattle.zeb_laws.proofs.FoldCounts.{then_ok, ends_still}
-use Rattle.zeb_engine.proofs.FoldNames.{counted_in}
 
 module _ (c : Conditions) (kind : Kind) (R : List (List ℕ) → Base → Base → Type 0) (none : (base : Base) → R [] base base)
     (one : (file nth : ℕ) (slice : List ℕ) (base : Base) (changed : Changed) → changed_record c kind file nth slice base ≡ Ok changed → R (slice ∷ []) base changed.0)

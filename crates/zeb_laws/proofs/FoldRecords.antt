@@ -1,25 +1,8 @@
 -- Which records a change leaves, how many, and under which numbers.
-use Rattle.std.proofs.Common.{◌≡◌, ◌≢◌, ◌⊎◌, ◌∙◌, ℕ, ◌+◌, ◌<◌, Bool, true, false, not, cond, List, [], ◌∷◌, ◌++◌, length, map, filter, find, Some, inl, inr, refl, sym, ap, subst, arith, length-append}
-use Rattle.std.specs.Prelude.{⊤, if◌then◌else◌}
-use Rattle.std.specs.List.{Contains}
+use Rattle.zeb_laws.proofs.Cited.{◌≡◌, ◌≢◌, ◌⊎◌, ◌∙◌, ℕ, ◌+◌, ◌<◌, Bool, true, false, not, cond, List, [], ◌∷◌, ◌++◌, length, map, filter, find, Some, inl, inr, refl, sym, ap, subst, arith, length-append, ⊤, if◌then◌else◌, Contains, nat_cmp, nat_tests, length-map, Has, all_has, has_contained, contains_had, has_left, has_either, has_filtered, has_mapped, mapped_has, Split, Kind, Update, Conditions, FoldsTo, HasNamesake, Changed, Progress, at_first, counted, Base, Kept, has_ident, IsBase, AreRisingKept, is_ident, has_same, none_kept}
 use Rattle.std.specs.List.Sorted.{IsStrictlySortedBy}
-use Rattle.std.specs.Ordering.{nat_cmp}
 use Rattle.std.specs.declared.cmp.Ordering.TheVariants.{Less}
-use Rattle.std.proofs.lemmas.Bool.Decides.{nat_tests}
-use Rattle.std.proofs.lemmas.List.{length-map}
-use Rattle.sqlite_rules.specs.Lists.{Has}
-use Rattle.sqlite_rules.proofs.ListLemmas.{all_has, has_contained, contains_had, has_left, has_either, has_filtered}
-use Rattle.sqlite_rules.proofs.ProbeLemmas.{has_mapped, mapped_has}
-use Rattle.zeb_marc.specs.Splits.{Split}
-use Rattle.zeb_change.specs.declared.settings.Kind.{Kind}
-use Rattle.zeb_change.specs.declared.settings.Kind.TheVariants.{Update}
-use Rattle.zeb_change.specs.Conditions.{Conditions}
-use Rattle.zeb_laws.specs.Counts.{FoldsTo, HasNamesake}
-use Rattle.zeb_change.specs.Folding.{Changed, Progress, at_first, counted}
-use Rattle.zeb_change.specs.Base.{Base, Kept, has_ident}
-use Rattle.zeb_change.specs.Stored.{IsBase}
 use Rattle.zeb_laws.proofs.FoldCounts.{DidTo, added, renewed, removed, passed, files_keep}
-use Rattle.zeb_change.proofs.KeptLemmas.{AreRisingKept, is_ident, has_same, none_kept}
 
 -- ---- no identifier twice
 

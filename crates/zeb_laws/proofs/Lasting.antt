@@ -1,25 +1,9 @@
 -- What becomes of the records of an identifier in a change.
-use Rattle.std.proofs.Common.{◌≡◌, ◌≢◌, ◌↔◌, ◌⊎◌, ◌∙◌, ◌+◌, ℕ, Bool, true, false, cond, List, [], ◌∷◌, ◌++◌, Option, Some, None, Result, Ok, Err, nat_le, append_assoc, refl, sym, ap, subst, inl, inr}
-use Rattle.std.specs.List.{Contains}
-use Rattle.sqlite_rules.specs.Lists.{Has}
-use Rattle.sqlite_rules.proofs.ListLemmas.{has_contained, contains_had, has_left, has_right, has_either}
-use Rattle.sqlite_rules.proofs.ProbeLemmas.{has_mapped, mapped_has}
-use Rattle.zeb_marc.specs.declared.faults.MarcFault.{MarcFault}
+use Rattle.zeb_laws.proofs.Cited.{◌≡◌, ◌≢◌, ◌↔◌, ◌⊎◌, ◌∙◌, ◌+◌, ℕ, Bool, true, false, cond, List, [], ◌∷◌, ◌++◌, Option, Some, None, Result, Ok, Err, nat_le, append_assoc, refl, sym, ap, subst, inl, inr, Contains, Has, has_contained, contains_had, has_left, has_right, has_either, has_mapped, mapped_has, MarcFault, Split, Directive, IdentFault, Update, Inserted, Why, database_full, Conditions, FoldsTo, Changed, Progress, ident_in, updated, with_ident, with_record, Base, Kept, kept_as, with_new, with_bytes, IsLastOf, KeepsIdent, NoneHas, SomeHas, slices_in, has_same, is_ident, kept_found, none_kept, same_has}
 use Rattle.zeb_marc.specs.Records.{first_fault}
-use Rattle.zeb_marc.specs.Splits.{Split}
-use Rattle.zeb_profile.specs.declared.directives.Directive.{Directive}
-use Rattle.zeb_extract.specs.declared.naming.IdentFault.{IdentFault}
-use Rattle.zeb_change.specs.declared.settings.Kind.TheVariants.{Update}
-use Rattle.zeb_change.specs.declared.tally.Fate.TheVariants.{Inserted}
-use Rattle.zeb_change.specs.Refused.{Why, database_full}
-use Rattle.zeb_change.specs.Conditions.{Conditions}
-use Rattle.zeb_laws.specs.Counts.{FoldsTo}
-use Rattle.zeb_change.specs.Folding.{Changed, Progress, changed_record, ident_in, updated, with_ident, with_record}
-use Rattle.zeb_change.specs.Base.{Base, Kept, kept_as, with_new, with_bytes}
-use Rattle.zeb_laws.specs.Lasting.{IsLastOf, KeepsIdent, NoneHas, SomeHas, slices_in}
+use Rattle.zeb_change.specs.Folding.{changed_record}
 use Rattle.zeb_laws.proofs.FoldRecords.{with_other, other_ident}
 use Rattle.zeb_laws.proofs.FoldInduction.{all_folded}
-use Rattle.zeb_change.proofs.KeptLemmas.{has_same, is_ident, kept_found, none_kept, same_has}
 
 -- ---- what stands in a list of slices
 

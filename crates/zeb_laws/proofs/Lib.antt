@@ -15,3 +15,4 @@ pub mod EveryAnswerTerms
 pub mod EveryAnswerAnalyses
 pub mod EveryAnswer
 pub mod CheckFollows
+pub mod Cited

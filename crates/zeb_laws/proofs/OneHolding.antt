@@ -1,19 +1,6 @@
 -- Tables are the image of one holding at most.
-use Rattle.std.proofs.Common.{◌≡◌, ◌∙◌, ℕ, pos, List, [], codes, inl, inr, refl, sym, ap, subst}
-use Rattle.std.specs.List.{Contains}
-use Rattle.std.proofs.lemmas.Cmp.{nat_cmp_total, nat_list_cmp_total, on_total}
-use Rattle.sqlite.specs.Tree.{Trees}
-use Rattle.sqlite_rules.proofs.ListLemmas.{has_contained, contains_had}
-use Rattle.zeb_profile.specs.declared.directives.Directive.{Directive}
-use Rattle.zeb_register.specs.Formats.{Format}
-use Rattle.zeb_register.specs.Store.{HasDatabase, HasRecord, meta_tree}
-use Rattle.zeb_register.proofs.RisingLists.{same_list}
-use Rattle.zeb_change.specs.Base.{Base, Kept}
-use Rattle.zeb_image.specs.Holdings.{Holdings, nothing_yet, under}
-use Rattle.zeb_image.specs.Image.{AreBases, IsImage, IsImageOf, IsImageUnder}
-use Rattle.zeb_change.specs.Stored.{IsBase}
-use Rattle.zeb_image.proofs.OneText.{under_other}
-use Rattle.zeb_engine.proofs.Ready.{none_there, profile_is, version_is}
+use Rattle.zeb_laws.proofs.Cited.{◌≡◌, ◌∙◌, ℕ, pos, List, [], codes, inl, inr, refl, sym, ap, subst, Contains, on_total, Trees, has_contained, contains_had, Directive, Format, HasDatabase, HasRecord, meta_tree, same_list, Base, Kept, Holdings, nothing_yet, under, AreBases, IsImage, IsImageOf, IsImageUnder, IsBase, under_other, none_there, profile_is, version_is}
+use Rattle.std.proofs.lemmas.Cmp.{nat_cmp_total, nat_list_cmp_total}
 
 same_record : (one other : Kept) → one.sysno ≡ other.sysno → one.ident ≡ other.ident → one.bytes ≡ other.bytes → one ≡ other
 same_record one other number name text = λ i. record { sysno = number i; ident = name i; bytes = text i }

@@ -1,50 +1,16 @@
 -- "Moby Dick" is kept, and again, refused with what stands behind it, and found.
-use Rattle.std.proofs.Common.{◌≡◌, ◌↔◌, ◌∙◌, ℕ, ◌≤◌, Bool, true, false, not, List, [], ◌∷◌, None, Some, Ok, nat_le, refl, sym, ap, ap₂, subst, inl, inr, codes, IsUtf8, arith}
+use Rattle.zeb_laws.proofs.Cited.{◌≡◌, ◌↔◌, ◌∙◌, ℕ, ◌≤◌, Bool, true, false, not, List, [], ◌∷◌, None, Some, Ok, nat_le, refl, sym, ap, ap₂, subst, inl, inr, codes, IsUtf8, arith, Contains, bytes_eq, has_contained, nat_tests, All-contains, AllPass-from_list_all, unit_targets, LengthDigits, worked_record, worked_fields, Word, Occurrence, PlanValue, HasKey, identifier_of, IsOccurrence, moby_dick, moby_dick_analysis, title_profile, term_at, called, members, Command, Init, Check, Reindex, Upgrade, Create, Drop, Stat, Dump, Change, Find, Scan, Analyse, Update, Delete, Adelete, Limits, Inserted, Updated, Answer, done, changed, refused, found, faulty, Conditions, TreeHolds, AreNumbers, plain_word, AreShown, IsFound, IsNamed, has_name, OccursIn, occurs, Progress, at_first, counted, ident_in, splits_of, Holdings, new_base, Base, Kept, with_new, with_bytes, outcome, found_once, name_once, book, book_base, book_conditions, faulty_file, no_books, one_book, title_plan, title_word, IsUpdateBy}
 use lib.Utf8.{encode}
-use Rattle.std.specs.List.{Contains}
 use Rattle.std.specs.List.Sorted.{IsStrictlySortedBy}
-use Rattle.std.specs.Str.{bytes_eq}
-use Rattle.sqlite_rules.proofs.ListLemmas.{has_contained}
-use Rattle.std.proofs.lemmas.Bool.Decides.{nat_tests}
-use Rattle.std.proofs.lemmas.List.Elements.{All-contains}
-use Rattle.std.proofs.lemmas.List.Sums.{AllPass-from_list_all}
-use Rattle.zeb_profile.specs.Indexes.{unit_targets}
-use Rattle.zeb_marc.specs.declared.faults.MarcFault.TheVariants.{LengthDigits}
 use Rattle.zeb_marc.specs.Contents.{units_of}
 use Rattle.zeb_marc.specs.Leader.{are_digits, number_of, counts, has_counts, ends_directory, has_base_address}
 use Rattle.zeb_marc.specs.Directory.{has_tag_bytes, has_digits, is_in_area}
 use Rattle.zeb_marc.specs.Records.{first_fault, fields_of}
 use Rattle.zeb_marc.specs.Splits.{split_of, next_of}
-use Rattle.zeb_marc.specs.Worked.{worked_record, worked_fields}
-use Rattle.zeb_keys.specs.declared.registers.Register.TheVariants.{Word}
-use Rattle.zeb_keys.specs.declared.keys.Occurrence.{Occurrence}
-use Rattle.zeb_query.specs.Plans.{PlanValue}
-use Rattle.zeb_register.specs.Occurring.{HasKey}
-use Rattle.zeb_extract.specs.Identifier.{identifier_of}
-use Rattle.zeb_extract.specs.Occurrences.{IsOccurrence}
-use Rattle.zeb_extract.specs.Sample.{moby_dick, moby_dick_analysis, title_profile, term_at}
-use Rattle.zeb_extract.proofs.Analysis.{called, members}
-use Rattle.zeb_engine.specs.declared.commands.Command.{Command}
-use Rattle.zeb_engine.specs.declared.commands.Command.TheVariants.{Init, Check, Reindex, Upgrade, Create, Drop, Stat, Dump, Change, Find, Scan, Analyse}
-use Rattle.zeb_change.specs.declared.settings.Kind.TheVariants.{Update, Delete, Adelete}
-use Rattle.zeb_change.specs.declared.settings.Limits.{Limits}
 use Rattle.zeb_change.specs.declared.faults.RecordFault.TheVariants as fault
-use Rattle.zeb_change.specs.declared.tally.Fate.TheVariants.{Inserted, Updated}
-use Rattle.zeb_engine.specs.Answers.{Answer, done, changed, refused, found}
-use Rattle.zeb_change.specs.Refused.{faulty}
-use Rattle.zeb_change.specs.Conditions.{Conditions}
-use Rattle.zeb_search.specs.Holds.{TreeHolds}
-use Rattle.zeb_search.specs.Lists.{AreNumbers}
-use Rattle.zeb_search.proofs.PlainWords.{plain_word}
-use Rattle.zeb_engine.specs.Finding.{AreShown, IsFound, IsNamed, has_name}
-use Rattle.zeb_change.specs.Occurs.{OccursIn, occurs}
-use Rattle.zeb_change.specs.Folding.{Progress, at_first, counted, record_folded, ident_in, splits_of}
-use Rattle.zeb_image.specs.Holdings.{Holdings, new_base, with_base}
-use Rattle.zeb_change.specs.Base.{Base, Kept, with_new, with_bytes}
+use Rattle.zeb_change.specs.Folding.{record_folded}
+use Rattle.zeb_image.specs.Holdings.{with_base}
 use Rattle.zeb_engine.specs.Steps.{initialised, turned, changed_by_files}
-use Rattle.zeb_engine.proofs.StepLemmas.{outcome}
-use Rattle.zeb_engine.proofs.OneAnswer.{found_once, name_once}
-use Rattle.zeb_laws.specs.Worked.{book, book_base, book_conditions, faulty_file, no_books, one_book, title_plan, title_word, IsUpdateBy}
 use Rattle.zeb_laws.proofs.WorkedLemmas.{new_folded, old_folded, whole_file, faulty_file as fault_behind, update_done, update_refused}
 
 -- ---- the record

@@ -1,23 +1,10 @@
 -- An update by one file whose one record has no fault and an identifier.
-use Rattle.std.proofs.Common.{◌≡◌, ◌∙◌, ℕ, false, List, [], ◌∷◌, None, Some, Ok, Err, nat_le, refl, ap}
-use Rattle.std.proofs.lemmas.Slice.Eq.{bytes_eq-Decides}
-use Rattle.zeb_profile.specs.Canonical.{canonical_text}
-use Rattle.zeb_marc.specs.declared.faults.MarcFault.{MarcFault}
+use Rattle.zeb_laws.proofs.Cited.{◌≡◌, ◌∙◌, ℕ, false, List, [], ◌∷◌, None, Some, Ok, Err, nat_le, refl, ap, bytes_eq-Decides, canonical_text, MarcFault, Update, Inserted, Updated, Why, why_of, changed, refused, Conditions, Changed, Progress, at_first, counted, updated, files_folded, ident_in, splits_of, Base, Kept, kept_as, with_new, with_bytes, base_named, marc_refusal, holding, start_of, named_record, folded_ok, step_changed, step_unchanged}
 use Rattle.zeb_marc.specs.Records.{first_fault}
 use Rattle.zeb_marc.specs.Splits.{split_of}
-use Rattle.zeb_change.specs.declared.settings.Kind.TheVariants.{Update}
-use Rattle.zeb_change.specs.declared.tally.Fate.TheVariants.{Inserted, Updated}
-use Rattle.zeb_change.specs.Refused.{Why, why_of}
-use Rattle.zeb_engine.specs.Answers.{changed, refused}
-use Rattle.zeb_change.specs.Conditions.{Conditions}
-use Rattle.zeb_change.specs.Folding.{Changed, Progress, at_first, counted, updated, record_folded, file_folded, files_folded, ident_in, splits_of}
-use Rattle.zeb_change.specs.Base.{Base, Kept, kept_as, with_new, with_bytes}
-use Rattle.zeb_image.specs.Holdings.{with_base, base_named}
-use Rattle.zeb_change.specs.Outcomes.{marc_refusal}
-use Rattle.zeb_engine.specs.Steps.{ready, holding, turned, changed_by_files, start_of}
-use Rattle.zeb_change.proofs.FoldLemmas.{named_record}
-use Rattle.zeb_change.proofs.FoldSteps.{folded_ok}
-use Rattle.zeb_engine.proofs.TurnedOutcomes.{step_changed, step_unchanged}
+use Rattle.zeb_change.specs.Folding.{record_folded, file_folded}
+use Rattle.zeb_image.specs.Holdings.{with_base}
+use Rattle.zeb_engine.specs.Steps.{ready, turned, changed_by_files}
 
 -- what is held under these conditions is ready under them
 pub ready_held : (c : Conditions) (bases : List Base) → ready c (holding c bases) ≡ Ok bases

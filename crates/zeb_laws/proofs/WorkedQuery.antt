@@ -1,5 +1,5 @@
 -- The word of a title, asked for by a query's text.
-use Rattle.std.proofs.Common.{◌≡◌, ◌↔◌, ℕ, List, [], ◌∷◌, None, Ok, inl, inr, refl, sym, subst, codes, string_bytes}
+use Rattle.zeb_laws.proofs.Cited.{◌≡◌, ◌↔◌, ℕ, List, [], ◌∷◌, None, Ok, inl, inr, refl, sym, subst, codes, string_bytes, words_at, unquoted, IsReadable, QueryValue, TermValue, IsQuery, is_term, is_attribute, is_structure, no_head, with_attribute, SpellsQuery, words_are_read, apart, readable, plan_of, title_profile, Command, Init, Check, Reindex, Upgrade, Create, Drop, Stat, Dump, Change, Find, Scan, Analyse, Limits, name_bytes, Answer, Conditions, IsPlanned, Holdings, AskedAmong, FindAnswers, FoundFrom, Step, book_base, book_conditions, one_book, title_plan, IsFindBy, answered_once, name_once}
 use Rattle.std.specs.Str.{chars, is_utf8}
 use lib.Utf8.{encode}
 use Rattle.ucd_category.proofs.Computing.{ucd_category}
@@ -8,25 +8,10 @@ use Rattle.zeb_text.specs.Folding.{folded}
 use Rattle.zeb_text.specs.Words.{is_word_character, runs_of}
 use Rattle.zeb_text.specs.Truncation.{truncated}
 use Rattle.zeb_query.specs.Words.{Word}
-use Rattle.zeb_query.specs.PrivateWalk.{words_at, unquoted}
-use Rattle.zeb_query.specs.Places.{IsReadable}
-use Rattle.zeb_query.specs.Grammar.{QueryValue, TermValue, IsQuery, is_term, is_attribute, is_structure, kind_and_value, no_head, under, with_attribute, SpellsQuery}
+use Rattle.zeb_query.specs.Grammar.{kind_and_value, under}
 use Rattle.zeb_query.specs.Attributes.{holding_of}
-use Rattle.zeb_query.proofs.WordStretches.{words_are_read}
-use Rattle.zeb_query.proofs.TextFaults.{apart, readable}
-use Rattle.zeb_query.specs.Plans.{plan_asked, plan_of}
-use Rattle.zeb_extract.specs.Sample.{title_profile}
-use Rattle.zeb_engine.specs.declared.commands.Command.{Command}
-use Rattle.zeb_engine.specs.declared.commands.Command.TheVariants.{Init, Check, Reindex, Upgrade, Create, Drop, Stat, Dump, Change, Find, Scan, Analyse}
-use Rattle.zeb_change.specs.declared.settings.Limits.{Limits}
-use Rattle.zeb_image.specs.NameOf.{name_bytes}
-use Rattle.zeb_engine.specs.Answers.{Answer}
-use Rattle.zeb_change.specs.Conditions.{Conditions}
-use Rattle.zeb_engine.specs.Finding.{IsPlanned}
-use Rattle.zeb_image.specs.Holdings.{Holdings}
-use Rattle.zeb_engine.specs.Steps.{AskedAmong, FindAnswers, FoundFrom, ready, Step}
-use Rattle.zeb_laws.specs.Worked.{book_base, book_conditions, one_book, title_plan, IsFindBy}
-use Rattle.zeb_engine.proofs.OneAnswer.{answered_once, name_once}
+use Rattle.zeb_query.specs.Plans.{plan_asked}
+use Rattle.zeb_engine.specs.Steps.{ready}
 use Rattle.zeb_laws.proofs.WorkedAnswers.{book_named, book_occurs, one_found, word_found}
 use Rattle.zeb_laws.proofs.WorkedLemmas.{ready_held}
 

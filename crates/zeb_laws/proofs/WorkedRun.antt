@@ -1,16 +1,5 @@
 -- A register is begun, a record is kept in it, and is found.
-use Rattle.std.proofs.Common.{◌≡◌, ℕ, List, [], ◌∷◌, Some, refl, inl, codes}
-use Rattle.zeb_marc.specs.Worked.{worked_record}
-use Rattle.zeb_engine.specs.declared.commands.Command.{Command}
-use Rattle.zeb_engine.specs.declared.commands.Command.TheVariants.{Init, Check, Reindex, Upgrade, Create, Drop, Stat, Dump, Change, Find, Scan, Analyse}
-use Rattle.zeb_change.specs.declared.settings.Kind.TheVariants.{Update, Delete, Adelete}
-use Rattle.zeb_change.specs.declared.settings.Limits.{Limits}
-use Rattle.zeb_engine.specs.Answers.{Answer, done, changed}
-use Rattle.zeb_change.specs.Conditions.{Conditions}
-use Rattle.zeb_image.specs.Holdings.{Holdings, nothing_yet}
-use Rattle.zeb_engine.specs.Steps.{Outcome, Run, Step}
-use Rattle.zeb_engine.proofs.StepLemmas.{outcome, step_is}
-use Rattle.zeb_laws.specs.Worked.{book_conditions, no_books, one_book, IsFindBy, IsUpdateBy}
+use Rattle.zeb_laws.proofs.Cited.{◌≡◌, ℕ, List, [], ◌∷◌, Some, refl, inl, codes, worked_record, Command, Init, Check, Reindex, Upgrade, Create, Drop, Stat, Dump, Change, Find, Scan, Analyse, Update, Delete, Adelete, Limits, Answer, done, changed, Conditions, Holdings, nothing_yet, Outcome, Run, Step, outcome, step_is, book_conditions, no_books, one_book, IsFindBy, IsUpdateBy}
 use Rattle.zeb_laws.proofs.WorkedAnswers.{begun, kept, one_found}
 use Rattle.zeb_laws.proofs.WorkedQuery.{asked}
 

@@ -1,12 +1,8 @@
 -- Lemmas on the entries of a directory.
-use Rattle.std.proofs.Common.{◌≡◌, ℕ, ◌-◌, ◌<◌, ◌≤◌, Bool, true, false, cond, Some, None, List, [], ◌∷◌, ◌++◌, length, take, drop, map, sym, ltb, leb, refl, ap, ◌∙◌, ◌&&◌, ◌==◌, slice_index, arith}
-use Rattle.std.specs.List.{flat_map}
-use Rattle.std.proofs.lemmas.Bool.{ltb-true, leb-true, eqb-true}
-use Rattle.zeb_marc.specs.declared.faults.MarcFault.{MarcFault}
-use Rattle.zeb_marc.specs.declared.faults.MarcFault.TheVariants.{EntryDigits, EntryTag, EntryRange, FieldEnd}
-use Rattle.zeb_marc.specs.Leader.{Check, check, first_failing, number_of}
-use Rattle.zeb_marc.specs.Directory.{Entry, entries_of, end_of, has_digits, has_tag_bytes, is_in_area, entry_checks, directory_checks, field_of, fields_in}
-use Rattle.zeb_marc.specs.PrivateDirectory.{entry_of}
+use Rattle.zeb_marc.proofs.Cited.{◌≡◌, ℕ, ◌-◌, ◌<◌, ◌≤◌, Bool, true, false, cond, Some, None, List, [], ◌∷◌, ◌++◌, length, take, drop, map, sym, ltb, leb, refl, ap, ◌∙◌, ◌&&◌, arith, flat_map, ltb-true, leb-true, eqb-true, MarcFault, EntryDigits, EntryTag, EntryRange, FieldEnd, Check, check, first_failing, Entry, entries_of, end_of, entry_checks, directory_checks, field_of, fields_in, entry_of}
+use Rattle.std.proofs.Common.{◌==◌, slice_index}
+use Rattle.zeb_marc.specs.Leader.{number_of}
+use Rattle.zeb_marc.specs.Directory.{has_digits, has_tag_bytes, is_in_area}
 
 -- a directory of twelve bytes or more begins with an entry
 pub entries_of-more : (directory : List ℕ) → 12 ≤ length directory → entries_of directory ≡ entry_of (take 12 directory) ∷ entries_of (drop 12 directory)

@@ -1,12 +1,7 @@
 -- The faults of a text that is no record, and the numbers of a record's units.
-use Rattle.std.proofs.Common.{◌≡◌, ℕ, zero, suc, ◌+◌, cond, true, false, Some, List, [], ◌∷◌, ◌++◌, ap, sym, subst, ◌∙◌, arith}
-use Rattle.std.specs.Prelude.{slice_get}
-use Rattle.std.specs.List.{AllByRecursion, flat_map}
-use Rattle.zeb_marc.specs.declared.faults.MarcFault.{MarcFault}
-use Rattle.zeb_marc.specs.Leader.{Check, first_failing, leader_checks}
-use Rattle.zeb_marc.specs.Directory.{Entry, FieldText, entries_of, entry_checks, directory_checks}
-use Rattle.zeb_marc.specs.Records.{directory_of, data_area, first_fault, IsRecordFault}
-use Rattle.zeb_marc.specs.Contents.{Content, UnitText, contents_of, numbered_from, units_of}
+use Rattle.zeb_marc.proofs.Cited.{◌≡◌, ℕ, zero, suc, ◌+◌, cond, true, false, Some, List, [], ◌∷◌, ◌++◌, ap, sym, subst, ◌∙◌, arith, slice_get, AllByRecursion, flat_map, MarcFault, Check, first_failing, leader_checks, Entry, FieldText, entries_of, entry_checks, directory_checks, directory_of, data_area, IsRecordFault, Content, UnitText, contents_of, numbered_from}
+use Rattle.zeb_marc.specs.Records.{first_fault}
+use Rattle.zeb_marc.specs.Contents.{units_of}
 use Rattle.zeb_marc.proofs.PartLaws.{all-append}
 
 -- ---- faults

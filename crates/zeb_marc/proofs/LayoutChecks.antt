@@ -1,16 +1,8 @@
 -- A text that is laid out as ISO 2709 says passes each check of a record.
-use Rattle.std.proofs.Common.{◌≡◌, ℕ, ◌+◌, ◌-◌, ◌*◌, ◌<◌, ◌≤◌, Bool, true, cond, ◌&&◌, leb, ltb, None, Some, List, [], ◌∷◌, ◌++◌, length, take, drop, get_or, map, refl, sym, ap, ◌∙◌, append_assoc, length-append, length-take, length-drop, arith}
-use Rattle.std.specs.Prelude.{◌==◌, ◌%◌, slice_index, slice_range}
-use Rattle.std.specs.List.{AllByRecursion, flat_map}
-use Rattle.std.proofs.Math.Seq.{get_or-append_seam}
-use Rattle.std.proofs.lemmas.List.{take_at, drop_at, append-nil, get_or-drop, get_or-take}
-use Rattle.std.proofs.lemmas.Bool.{le-leb, lt-ltb, eq-eqb}
-use Rattle.zeb_marc.specs.declared.faults.MarcFault.TheVariants.{LengthDigits, LengthRange, Truncated, NoTerminator, LeaderCounts, BaseAddress, DirectoryLength, EntryDigits, EntryTag, EntryRange, FieldEnd}
-use Rattle.zeb_marc.specs.Leader.{Check, check, first_failing, are_digits, number_of, last_byte, record_length, base_digits, base_address, has_counts, ends_directory, has_base_address, announced_checks, slice_checks, layout_checks, leader_checks}
-use Rattle.zeb_marc.specs.Directory.{Entry, FieldText, entries_of, end_of, field_of, fields_in, has_digits, has_tag_bytes, is_in_area, directory_checks, entry_checks}
-use Rattle.zeb_marc.specs.PrivateDirectory.{entry_of}
-use Rattle.zeb_marc.specs.Records.{directory_of, data_area, first_fault, fields_of, IsRecord}
-use Rattle.zeb_marc.specs.Layout.{entry_bytes, IsEntryOf, IsLaidOut}
+use Rattle.zeb_marc.proofs.Cited.{◌≡◌, ℕ, ◌+◌, ◌-◌, ◌*◌, ◌<◌, ◌≤◌, Bool, true, cond, ◌&&◌, leb, ltb, None, Some, List, [], ◌∷◌, ◌++◌, length, take, drop, get_or, map, refl, sym, ap, ◌∙◌, append_assoc, length-append, length-take, length-drop, arith, ◌==◌, ◌%◌, slice_index, slice_range, AllByRecursion, flat_map, get_or-append_seam, take_at, drop_at, append-nil, get_or-drop, get_or-take, le-leb, lt-ltb, eq-eqb, LengthDigits, LengthRange, Truncated, NoTerminator, LeaderCounts, BaseAddress, DirectoryLength, EntryDigits, EntryTag, EntryRange, FieldEnd, Check, check, first_failing, last_byte, record_length, base_digits, base_address, announced_checks, slice_checks, layout_checks, leader_checks, Entry, FieldText, entries_of, end_of, field_of, fields_in, directory_checks, entry_checks, entry_of, directory_of, data_area, IsRecord, entry_bytes, IsEntryOf, IsLaidOut}
+use Rattle.zeb_marc.specs.Leader.{are_digits, number_of, has_counts, ends_directory, has_base_address}
+use Rattle.zeb_marc.specs.Directory.{has_digits, has_tag_bytes, is_in_area}
+use Rattle.zeb_marc.specs.Records.{first_fault, fields_of}
 use Rattle.zeb_marc.proofs.Entries.{entries_of-more, first_failing-append_pass}
 
 passes : (c : Check) (checks : List Check) → c.passes ≡ true → first_failing checks ≡ None → first_failing (c ∷ checks) ≡ None

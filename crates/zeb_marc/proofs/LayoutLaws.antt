@@ -1,16 +1,7 @@
 -- A record lies in its bytes as ISO 2709 lays it out.
-use Rattle.std.proofs.Common.{◌≡◌, ℕ, zero, suc, ◌+◌, ◌-◌, ◌*◌, ◌/◌, ◌<◌, ◌≤◌, true, ◌&&◌, leb, ltb, None, List, [], ◌∷◌, ◌++◌, length, take, drop, get_or, sym, ap, subst, ◌∙◌, length-take, length-drop, arith, drop-cons}
-use Rattle.std.specs.Prelude.{◌==◌, ◌%◌, slice_index, slice_range}
-use Rattle.std.specs.List.{AllByRecursion, flat_map}
-use Rattle.std.proofs.Math.Seq.{take-suc}
-use Rattle.std.proofs.lemmas.List.{take-append-drop, take_all, drop_all, drop-drop, get_or-drop}
-use Rattle.std.proofs.lemmas.Bool.{leb-true, ltb-true, eqb-true}
-use Rattle.zeb_marc.specs.declared.faults.MarcFault.TheVariants.{LengthDigits, LengthRange, Truncated, NoTerminator, LeaderCounts, BaseAddress, DirectoryLength}
-use Rattle.zeb_marc.specs.Leader.{check, first_failing, are_digits, number_of, last_byte, record_length, base_digits, base_address, has_counts, ends_directory, has_base_address, announced_checks, slice_checks, layout_checks, leader_checks}
-use Rattle.zeb_marc.specs.Directory.{FieldText, entries_of, end_of, directory_checks, entry_checks}
-use Rattle.zeb_marc.specs.PrivateDirectory.{entry_of}
-use Rattle.zeb_marc.specs.Records.{directory_of, data_area, first_fault, fields_of, IsRecord}
-use Rattle.zeb_marc.specs.Layout.{entry_bytes, IsEntryOf, IsLaidOut}
+use Rattle.zeb_marc.proofs.Cited.{◌≡◌, ℕ, zero, suc, ◌+◌, ◌-◌, ◌*◌, ◌/◌, ◌<◌, ◌≤◌, true, ◌&&◌, leb, ltb, None, List, [], ◌∷◌, ◌++◌, length, take, drop, get_or, sym, ap, subst, ◌∙◌, length-take, length-drop, arith, drop-cons, ◌==◌, ◌%◌, slice_index, slice_range, AllByRecursion, flat_map, take-suc, take-append-drop, take_all, drop_all, drop-drop, get_or-drop, leb-true, ltb-true, eqb-true, LengthDigits, LengthRange, Truncated, NoTerminator, LeaderCounts, BaseAddress, DirectoryLength, check, first_failing, last_byte, record_length, base_digits, base_address, announced_checks, slice_checks, layout_checks, leader_checks, FieldText, entries_of, end_of, directory_checks, entry_checks, entry_of, directory_of, data_area, IsRecord, entry_bytes, IsEntryOf, IsLaidOut}
+use Rattle.zeb_marc.specs.Leader.{are_digits, number_of, has_counts, ends_directory, has_base_address}
+use Rattle.zeb_marc.specs.Records.{first_fault, fields_of}
 use Rattle.zeb_marc.proofs.Entries.{entries_of-more, entries_of-short, first_failing-append_none, first_failing-cons, first_is_sound, others_are_sound, IsSoundEntry-from_checks, both_true}
 
 -- ---- what the checks of a record say

@@ -11,3 +11,4 @@ pub mod LayoutLaws
 pub mod LayoutChecks
 pub mod FaultLaws
 pub mod TakenLaws
+pub mod Cited

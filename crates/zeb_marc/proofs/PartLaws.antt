@@ -1,19 +1,8 @@
 -- The texts of a record's fields and units are parts of it, and 64 bits number its units.
-use Rattle.std.proofs.Common.{◌≡◌, ℕ, suc, ◌-◌, ◌<◌, ◌≤◌, ◌^◌, Bool, true, false, cond, leb, None, List, [], ◌∷◌, ◌++◌, length, map, take, drop, refl, sym, ap, subst, ◌∙◌, append_assoc, length-take, length-drop, arith}
-use Rattle.std.specs.Prelude.{◌==◌}
-use Rattle.std.specs.List.{AllByRecursion, flat_map, slice_split, onto_first, list_all}
-use Rattle.std.specs.Char.{is_ascii_digit, digit_value}
-use Rattle.std.specs.Str.Parse.{AllDigits}
-use Rattle.std.proofs.lemmas.List.{take-append-drop, append-nil}
-use Rattle.std.proofs.lemmas.Bool.{leb-true}
-use Rattle.std.proofs.lemmas.Bool.Decides.{nat_tests}
-use Rattle.std.proofs.lemmas.Int.Digits.{digits_value-lt}
-use Rattle.zeb_marc.specs.declared.faults.MarcFault.TheVariants.{LengthDigits, LengthRange, Truncated}
-use Rattle.zeb_marc.specs.Leader.{check, are_digits, number_of, record_length, base_address, announced_checks, slice_checks, layout_checks, leader_checks}
-use Rattle.zeb_marc.specs.Directory.{Entry, FieldText, entries_of, end_of, field_of, fields_in, directory_checks}
-use Rattle.zeb_marc.specs.Records.{directory_of, data_area, first_fault, fields_of, IsRecord}
-use Rattle.zeb_marc.specs.Contents.{Content, UnitText, is_control, subfield_of, subfields_of, contents_of, numbered_from, units_of}
-use Rattle.zeb_marc.specs.Parts.{IsPart}
+use Rattle.zeb_marc.proofs.Cited.{◌≡◌, ℕ, suc, ◌-◌, ◌<◌, ◌≤◌, ◌^◌, Bool, true, false, cond, leb, None, List, [], ◌∷◌, ◌++◌, length, map, take, drop, refl, sym, ap, subst, ◌∙◌, append_assoc, length-take, length-drop, arith, ◌==◌, AllByRecursion, flat_map, slice_split, onto_first, list_all, is_ascii_digit, digit_value, AllDigits, take-append-drop, append-nil, leb-true, nat_tests, digits_value-lt, LengthDigits, LengthRange, Truncated, check, record_length, base_address, announced_checks, slice_checks, layout_checks, leader_checks, Entry, FieldText, entries_of, end_of, field_of, fields_in, directory_checks, directory_of, data_area, IsRecord, Content, UnitText, is_control, subfield_of, subfields_of, contents_of, numbered_from, IsPart}
+use Rattle.zeb_marc.specs.Leader.{are_digits, number_of}
+use Rattle.zeb_marc.specs.Records.{first_fault, fields_of}
+use Rattle.zeb_marc.specs.Contents.{units_of}
 use Rattle.zeb_marc.proofs.Entries.{first_failing-append_none, first_failing-cons, both_true}
 use Rattle.zeb_marc.proofs.Pieces.{units_fit}
 

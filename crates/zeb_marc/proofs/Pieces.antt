@@ -1,13 +1,6 @@
 -- Lemmas on texts that are cut at each delimiter, and on how many units there are.
-use Rattle.std.proofs.Common.{◌≡◌, ℕ, suc, ◌+◌, ◌-◌, ◌*◌, ◌<◌, ◌≤◌, ◌^◌, Bool, true, false, not, cond, Some, None, List, [], ◌∷◌, ◌++◌, length, map, take, drop, refl, sym, ap, ◌∙◌, length-take, length-drop, length-append, arith, inl, inr}
-use Rattle.std.specs.Prelude.{position, unwrap_or, ◌==◌}
-use Rattle.std.specs.List.{position_or_len, slice_split, onto_first, flat_map}
-use Rattle.std.proofs.lemmas.Bool.{lt-ltb, cases_lt, le-ltb}
-use Rattle.std.proofs.Math.Nat.{mul-le-mul_left, mul-le-mul_right}
-use Rattle.std.proofs.lemmas.List.Sums.{prefix_len-le-length}
-use Rattle.zeb_marc.specs.Directory.{Entry, FieldText, entries_of, end_of, field_of, fields_in}
+use Rattle.zeb_marc.proofs.Cited.{◌≡◌, ℕ, suc, ◌+◌, ◌-◌, ◌*◌, ◌<◌, ◌≤◌, ◌^◌, Bool, true, false, not, cond, Some, None, List, [], ◌∷◌, ◌++◌, length, map, take, drop, refl, sym, ap, ◌∙◌, length-take, length-drop, length-append, arith, inl, inr, position, unwrap_or, ◌==◌, position_or_len, slice_split, onto_first, flat_map, lt-ltb, cases_lt, le-ltb, mul-le-mul_left, mul-le-mul_right, prefix_len-le-length, Entry, FieldText, entries_of, end_of, field_of, fields_in, Content, is_control, subfield_of, subfields_of, contents_of}
 use Rattle.zeb_marc.specs.Leader.{number_of}
-use Rattle.zeb_marc.specs.Contents.{Content, is_control, subfield_of, subfields_of, contents_of}
 
 -- ---- the first place that passes
 

@@ -1,15 +1,7 @@
 -- Lemmas on reading one record from a source, part by part.
-use Rattle.std.proofs.Common.{◌≡◌, ℕ, suc, ◌+◌, ◌<◌, ◌≤◌, Bool, true, false, cond, leb, Option, Some, None, Ok, Err, List, [], ◌∷◌, ◌++◌, length, set, take, drop, refl, sym, ap, subst, ◌∙◌, length-take, length-set, arith, inl, inr, ◌⊎◌}
-use Rattle.std.specs.List.{prefix_len}
-use Rattle.std.proofs.lemmas.List.{take-take, drop-drop}
-use Rattle.std.proofs.lemmas.Slice.{take-put_mid}
-use Rattle.std.proofs.lemmas.Bool.{le-leb, lt-leb, leb-true, le-ltb, lt-ltb}
-use borrow.Rule.Slice.PartMut.{put_mid}
-use Rattle.zeb_marc.specs.declared.faults.MarcFault.{MarcFault}
-use Rattle.zeb_marc.specs.declared.faults.MarcFault.TheVariants.{LengthDigits, LengthRange, Truncated, TooManySeparators, ReadFault}
-use Rattle.zeb_marc.specs.Leader.{Check, check, first_failing, are_digits, number_of, record_length, announced_checks, slice_checks}
-use Rattle.zeb_marc.specs.Splits.{is_separator, next_of, next_if, next_behind, Next, at_end, a_fault, Gives, IsSlice}
-use Rattle.zeb_marc.specs.PrivateReading.{FailsIf, ByteGives, SkipGives, FillGives, SliceGives}
+use Rattle.zeb_marc.proofs.Cited.{◌≡◌, ℕ, suc, ◌+◌, ◌<◌, ◌≤◌, Bool, true, false, cond, leb, Option, Some, None, Ok, Err, List, [], ◌∷◌, ◌++◌, length, set, take, drop, refl, sym, ap, subst, ◌∙◌, length-take, length-set, arith, inl, inr, ◌⊎◌, prefix_len, take-take, drop-drop, take-put_mid, le-leb, lt-leb, leb-true, le-ltb, lt-ltb, put_mid, MarcFault, LengthDigits, LengthRange, Truncated, TooManySeparators, ReadFault, Check, check, first_failing, record_length, announced_checks, slice_checks, is_separator, next_if, next_behind, Next, at_end, a_fault, Gives, IsSlice, FailsIf, ByteGives, SkipGives, FillGives, SliceGives}
+use Rattle.zeb_marc.specs.Leader.{are_digits, number_of}
+use Rattle.zeb_marc.specs.Splits.{next_of}
 use Rattle.zeb_marc.proofs.Entries.{first_failing-append_none, first_failing-cons}
 use Rattle.zeb_marc.proofs.RecordChecks.{slice_cut, slice_fails, slice_passes, one_fails}
 use Rattle.zeb_marc.proofs.Runs.{suc_add}

@@ -1,11 +1,6 @@
 -- Lemmas on the checks of a record, in their order.
-use Rattle.std.proofs.Common.{◌≡◌, ℕ, ◌<◌, ◌≤◌, Bool, true, false, cond, leb, Some, None, List, [], ◌∷◌, length, sym, ap, ◌∙◌, arith}
-use Rattle.std.proofs.lemmas.Bool.{le-leb, lt-leb}
-use Rattle.zeb_marc.specs.declared.faults.MarcFault.{MarcFault}
-use Rattle.zeb_marc.specs.declared.faults.MarcFault.TheVariants.{Truncated, LengthRange}
-use Rattle.zeb_marc.specs.Leader.{Check, check, first_failing, record_length, announced_checks, slice_checks, layout_checks, leader_checks}
-use Rattle.zeb_marc.specs.Directory.{directory_checks, fields_in}
-use Rattle.zeb_marc.specs.Records.{data_area, directory_of, first_fault, fields_of, IsRecord}
+use Rattle.zeb_marc.proofs.Cited.{◌≡◌, ℕ, ◌<◌, ◌≤◌, Bool, true, false, cond, leb, Some, None, List, [], ◌∷◌, length, sym, ap, ◌∙◌, arith, le-leb, lt-leb, MarcFault, Truncated, LengthRange, Check, check, first_failing, record_length, announced_checks, slice_checks, layout_checks, leader_checks, directory_checks, fields_in, data_area, directory_of, IsRecord}
+use Rattle.zeb_marc.specs.Records.{first_fault, fields_of}
 use Rattle.zeb_marc.proofs.Entries.{first_failing-append_pass, first_failing-append_fail}
 
 -- one check alone

@@ -1,10 +1,5 @@
 -- Lemmas on runs of separators, on bytes that a source tells, and on filling a part of a record.
-use Rattle.std.proofs.Common.{◌≡◌, ℕ, zero, suc, ◌+◌, ◌≤◌, Bool, true, false, cond, Option, Some, None, List, [], ◌∷◌, ◌++◌, length, take, drop, refl, sym, ap, subst, ◌∙◌, length-take, length-drop, length-append, arith}
-use Rattle.std.specs.List.{prefix_len}
-use Rattle.std.specs.Io.KnownBytes.{Consumes, IsAtEnd, Keeps}
-use Rattle.std.proofs.lemmas.List.{take_at, drop_at, take-append-le, drop-drop}
-use Rattle.std.proofs.lemmas.List.Sums.{prefix_len-le-length}
-use borrow.Rule.Slice.PartMut.{put_mid}
+use Rattle.zeb_marc.proofs.Cited.{◌≡◌, ℕ, zero, suc, ◌+◌, ◌≤◌, Bool, true, false, cond, Option, Some, None, List, [], ◌∷◌, ◌++◌, length, take, drop, refl, sym, ap, subst, ◌∙◌, length-take, length-drop, length-append, arith, prefix_len, Consumes, IsAtEnd, Keeps, take_at, drop_at, take-append-le, drop-drop, prefix_len-le-length, put_mid}
 
 -- ---- runs
 

@@ -1,15 +1,7 @@
 -- A file is split in one way, which is what reading it from its front on finds.
-use Rattle.std.proofs.Common.{◌≡◌, ◌↔◌, ℕ, zero, suc, ◌+◌, ◌<◌, ◌≤◌, Bool, true, false, cond, ◌&&◌, leb, Option, Some, None, List, [], ◌∷◌, ◌++◌, length, take, drop, refl, sym, ap, subst, ◌∙◌, length-take, length-drop, length-append, arith, inl, inr, ◌⊎◌}
-use Rattle.std.specs.List.{list_all, prefix_len}
-use Rattle.std.specs.Char.{is_ascii_digit}
-use Rattle.std.proofs.lemmas.List.{take_at, drop_at, take_all, drop_all, take-take, take-append-drop, take-append-le, append-nil}
-use Rattle.std.proofs.lemmas.List.Sums.{prefix_len-le-length}
-use Rattle.std.proofs.lemmas.Bool.{cases_lt, leb-true}
-use Rattle.std.proofs.lemmas.Bool.Decides.{nat_tests}
-use Rattle.zeb_marc.specs.declared.faults.MarcFault.{MarcFault}
-use Rattle.zeb_marc.specs.declared.faults.MarcFault.TheVariants.{LengthDigits, LengthRange, Truncated, TooManySeparators}
-use Rattle.zeb_marc.specs.Leader.{check, first_failing, are_digits, record_length, announced_checks, slice_checks}
-use Rattle.zeb_marc.specs.Splits.{is_separator, are_separators, IsRun, IsSlice, IsTooLong, IsNoSlice, EndsAs, IsSplit, Next, at_end, a_slice, a_fault, next_if, next_of, Split, split_next, split_within, split_of}
+use Rattle.zeb_marc.proofs.Cited.{◌≡◌, ◌↔◌, ℕ, zero, suc, ◌+◌, ◌<◌, ◌≤◌, Bool, true, false, cond, ◌&&◌, leb, Option, Some, None, List, [], ◌∷◌, ◌++◌, length, take, drop, refl, sym, ap, subst, ◌∙◌, length-take, length-drop, length-append, arith, inl, inr, ◌⊎◌, list_all, prefix_len, is_ascii_digit, take_at, drop_at, take_all, drop_all, take-take, take-append-drop, take-append-le, append-nil, prefix_len-le-length, cases_lt, leb-true, nat_tests, MarcFault, LengthDigits, LengthRange, Truncated, TooManySeparators, check, first_failing, record_length, announced_checks, slice_checks, is_separator, are_separators, IsRun, IsSlice, IsTooLong, IsNoSlice, EndsAs, IsSplit, Next, at_end, a_slice, a_fault, next_if, Split, split_next, split_within}
+use Rattle.zeb_marc.specs.Leader.{are_digits}
+use Rattle.zeb_marc.specs.Splits.{next_of, split_of}
 use Rattle.zeb_marc.proofs.Entries.{first_failing-append_none, first_failing-cons, both_true}
 use Rattle.zeb_marc.proofs.RecordChecks.{slice_passes}
 use Rattle.zeb_marc.proofs.Runs.{run_more}

@@ -1,12 +1,7 @@
 -- Reading the next record takes no more than separators and one record's bytes off a stream, and asks no more reads.
-use Rattle.std.proofs.Common.{◌≡◌, ℕ, ◌+◌, ◌<◌, ◌≤◌, ◌^◌, Bool, true, false, cond, leb, Option, Some, None, Result, Ok, Err, List, length, take, ap, subst, length-append, length-take, refl, arith, inl, inr, ◌⊎◌}
-use Rattle.std.proofs.lemmas.Bool.{leb-true, leb-false}
-use Rattle.zeb_marc.specs.declared.faults.MarcFault.{MarcFault}
-use Rattle.zeb_marc.specs.declared.faults.MarcFault.TheVariants.{LengthDigits, LengthRange, Truncated, TooManySeparators, ReadFault}
-use Rattle.zeb_marc.specs.Leader.{first_failing, are_digits, record_length, slice_checks}
-use Rattle.zeb_marc.specs.Splits.{IsSlice, EndsAs}
-use Rattle.zeb_marc.specs.Reading.{Keeps, most_reads}
-use Rattle.zeb_marc.specs.Unread.{Takes}
+use Rattle.zeb_marc.proofs.Cited.{◌≡◌, ℕ, ◌+◌, ◌<◌, ◌≤◌, ◌^◌, Bool, true, false, cond, leb, Option, Some, None, Result, Ok, Err, List, length, take, ap, subst, length-append, length-take, refl, arith, inl, inr, ◌⊎◌, leb-true, leb-false, MarcFault, LengthDigits, LengthRange, Truncated, TooManySeparators, ReadFault, first_failing, record_length, slice_checks, IsSlice, EndsAs, most_reads, Takes}
+use Rattle.zeb_marc.specs.Leader.{are_digits}
+use Rattle.zeb_marc.specs.Reading.{Keeps}
 use Rattle.zeb_marc.proofs.PartLaws.{number_of-below}
 use Rattle.zeb_marc.proofs.SplitLaws.{SoundSlice-from_checks}
 

@@ -1,13 +1,5 @@
 -- Lemmas on what reading the next record takes off a stream and what it leaves unread.
-use Rattle.std.proofs.Common.{◌≡◌, ℕ, suc, ◌≤◌, false, Option, Some, None, Ok, Err, List, [], ◌∷◌, ◌++◌, take, drop, refl, sym, ap, subst, ◌∙◌, append_assoc, length-take, arith, inl, inr}
-use Rattle.std.specs.List.{prefix_len}
-use Rattle.std.proofs.lemmas.List.{take-append-drop, append-nil}
-use Rattle.std.proofs.lemmas.List.Sums.{prefix_len-le-length}
-use Rattle.zeb_marc.specs.declared.faults.MarcFault.{MarcFault}
-use Rattle.zeb_marc.specs.declared.faults.MarcFault.TheVariants.{Truncated, TooManySeparators, ReadFault}
-use Rattle.zeb_marc.specs.Splits.{is_separator, IsRun, IsSlice}
-use Rattle.zeb_marc.specs.PrivateReading.{SkipGives, SliceGives}
-use Rattle.zeb_marc.specs.Unread.{LeavesUnread}
+use Rattle.zeb_marc.proofs.Cited.{◌≡◌, ℕ, suc, ◌≤◌, false, Option, Some, None, Ok, Err, List, [], ◌∷◌, ◌++◌, take, drop, refl, sym, ap, subst, ◌∙◌, append_assoc, length-take, arith, inl, inr, prefix_len, take-append-drop, append-nil, prefix_len-le-length, MarcFault, Truncated, TooManySeparators, ReadFault, is_separator, IsRun, IsSlice, SkipGives, SliceGives, LeavesUnread}
 use Rattle.zeb_marc.proofs.ReadingLemmas.{five_fault, slice_whole}
 use Rattle.zeb_marc.proofs.SplitLaws.{list_all-take, stops_there, IsSlice-front, ended}
 

@@ -4,7 +4,7 @@ ghost use Rattle.std.specs.List.{AllByRecursion};
 ghost use Rattle.zeb_marc.specs.declared.faults.MarcFault.{MarcFault};
 ghost use Rattle.zeb_marc.specs.Directory.{FieldText};
 ghost use Rattle.zeb_marc.specs.Contents.{UnitText, units_of};
-ghost use Rattle.zeb_marc.specs.Records.{first_fault, fields_of, IsRecord, IsRecordFault};
+ghost use Rattle.zeb_marc.specs.Records.{first_fault, IsRecord, IsRecordFault};
 ghost use Rattle.zeb_marc.specs.Layout.{IsLaidOut};
 ghost use Rattle.zeb_marc.specs.Splits.{at_end, a_fault, a_slice, next_of, split_next, split_of, EndsAs, IsRun, IsSlice, IsSplit};
 ghost use Rattle.zeb_marc.specs.Reading.{Keeps, most_reads};
@@ -65,14 +65,22 @@ pub fn worked_examples()
 
 /// A text for each further fault of a record. The small record `sound` has no fault, and each other text differs from it in the
 /// place that its fault is about, its lengths following: the digits of its length; a length below 26, or a byte less than is
-/// there; a count in the leader; the base address; a byte too many in the directory; and of its entry the digits, the tag, the
+/// there; each of the five counts in the leader; the base address; a byte too many in the directory; and of its entry the digits, the tag, the
 /// end, and the last byte of its field. For `Truncated` and `NoTerminator` see [`worked_examples`].
+#[tactic(auto, unfolding(crate::specs::Records::first_fault, crate::specs::Leader::are_digits, crate::specs::Leader::number_of, crate::specs::Leader::counts, crate::specs::Leader::has_counts, crate::specs::Leader::ends_directory, crate::specs::Leader::has_base_address, crate::specs::Directory::has_tag_bytes, crate::specs::Directory::has_digits, crate::specs::Directory::is_in_area))]
 pub fn fault_examples()
     ensures sound { first_fault (with_leader (codes "00041nam a2200037 a 4500")) ≡ None }
     ensures length_digits { first_fault (with_leader (codes "0004 nam a2200037 a 4500")) ≡ Some MarcFault.LengthDigits }
     ensures length_range { first_fault (with_leader (codes "00025nam a2200037 a 4500")) ≡ Some MarcFault.LengthRange }
     ensures longer { first_fault (with_leader (codes "00040nam a2200037 a 4500")) ≡ Some MarcFault.LengthRange }
     ensures leader_counts { first_fault (with_leader (codes "00041nam a3200037 a 4500")) ≡ Some MarcFault.LeaderCounts }
+    ensures code_count { first_fault (with_leader (codes "00041nam a2300037 a 4500")) ≡ Some MarcFault.LeaderCounts }
+    ensures length_size { first_fault (with_leader (codes "00041nam a2200037 a 5500")) ≡ Some MarcFault.LeaderCounts }
+    ensures start_size { first_fault (with_leader (codes "00041nam a2200037 a 4400")) ≡ Some MarcFault.LeaderCounts }
+    ensures own_size { first_fault (with_leader (codes "00041nam a2200037 a 4510")) ≡ Some MarcFault.LeaderCounts }
+    // A count that is no digit is read as the one that is wanted.
+    ensures no_counts { first_fault (with_leader (codes "00041nam a  00037 a 4500")) ≡ None }
+    ensures no_entry_map { first_fault (with_leader (codes "00041nam a2200037 a |||0")) ≡ None }
     ensures base_address { first_fault (with_leader (codes "00041nam a2200036 a 4500")) ≡ Some MarcFault.BaseAddress }
     ensures directory_length { first_fault (small_text (codes "00042nam a2200038 a 4500") (codes "0010003000000") (codes "a1" ++ (30 ∷ [])))
         ≡ Some MarcFault.DirectoryLength }

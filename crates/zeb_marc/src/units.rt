@@ -1,5 +1,5 @@
 //! The units of a record: MARC 21 Specifications for Record Structure, "Variable fields".
-ghost use Rattle.std.specs.Prelude.{◌≡◌, ◌==◌, ◌<◌, ◌^◌, ◌≤◌, ◌∷◌, ◌++◌, [], List, ℕ, length, position, MatchOption, Some};
+ghost use Rattle.std.specs.Prelude.{◌≡◌, ◌==◌, ◌<◌, ◌^◌, ◌≤◌, ◌∷◌, [], List, ℕ, length, position, MatchOption};
 ghost use Rattle.std.specs.Iterator.{YieldsFirstBy, item_count};
 ghost use Rattle.std.specs.List.{flat_map, position_or_len};
 ghost use Rattle.zeb_marc.specs.Contents.{contents_of, is_control, subfields_of, units_of};

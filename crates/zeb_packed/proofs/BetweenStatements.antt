@@ -1,24 +1,8 @@
 -- The statements that list rows of the terms from one text to another, each with what it is compiled to.
-use Rattle.std.proofs.Common.{◌≡◌, ℕ, ℤ, true, false, arith, List, [], ◌∷◌, ◌++◌, codes, refl, sym, subst, Ordering, Less, Equal, Greater}
-use Rattle.std.specs.Ordering.{ordering_then}
-use Rattle.sqlite.specs.declared.types.Value.TheVariants.{Text}
-use Rattle.sqlite.specs.Order.{Row, column, value_cmp}
-use Rattle.sqlite.specs.State.{State, Shown}
-use Rattle.sqlite.specs.Command.TheVariants.{Select}
-use Rattle.sqlite.specs.Listing.{understood, reads_listing}
-use Rattle.sqlite.proofs.Callers.{IsPlain, command_of}
+use Rattle.zeb_packed.proofs.Cited.{◌≡◌, ℕ, ℤ, true, false, arith, List, [], ◌∷◌, ◌++◌, codes, refl, sym, subst, Ordering, Less, Equal, Greater, ordering_then, Text, Row, column, State, Shown, Select, reads_listing, IsPlain, command_of, IsRestBetween, IsListOf, IsStore, blocks_tree, store_schema, IsSilent, blocks_keys, register_of, blocks, blocks_static, IsAfter, lists_after, IsFit, IsReasonedQuery, IsWhole, why_refused, list_so, alone, keyed_from, no_limit, reading, rising, shows, between, more}
+use Rattle.sqlite.specs.Order.{value_cmp}
+use Rattle.sqlite.specs.Listing.{understood}
 use Rattle.sqlite_tied.specs.Compute.{everything}
-use Rattle.zeb_register.specs.PrivateBetweenRows.{IsRestBetween}
-use Rattle.zeb_register.specs.Sql.{IsListOf}
-use Rattle.zeb_register.specs.Store.{IsStore, blocks_tree}
-use Rattle.zeb_register.specs.Tables.{store_schema}
-use Rattle.zeb_register.proofs.Calls.{IsSilent}
-use Rattle.zeb_register.proofs.PostingStatements.{blocks_keys, register_of, blocks, blocks_static}
-use Rattle.zeb_register.proofs.PrefixSelects.{IsAfter, lists_after}
-use Rattle.zeb_register.proofs.Refusals.{IsFit, IsReasonedQuery, IsWhole, why_refused}
-use Rattle.zeb_register.proofs.Selects.{list_so}
-use Rattle.zeb_register.proofs.StatementForms.{alone, keyed_from, no_limit, reading, rising, shows}
-use Rattle.zeb_register.proofs.BetweenStatements.{between, more}
 
 -- what is lower by two columns is lower by these and more
 two_lower : (a b c : Ordering) → ordering_then a (ordering_then b Equal) ≡ Less → ordering_then a (ordering_then b c) ≡ Less

@@ -1,31 +1,9 @@
 -- SELECT over one table, ordered by one column, the greatest first: the rows of the table that it lists.
-use Rattle.std.proofs.Common.{◌≡◌, ◌∙◌, ◌+◌, ℕ, suc, true, false, List, [], ◌∷◌, ◌++◌, length, map, refl, sym, ap, subst, Ordering, Less, Equal, Greater}
-use Rattle.std.specs.Ordering.{ordering_reverse, ordering_then}
-use Rattle.std.specs.List.{list_any, range_with_len}
-use Rattle.sqlite.specs.Order.{Row, column, row_cmp, value_cmp}
-use Rattle.sqlite.specs.Table.{Table}
-use Rattle.sqlite.specs.Schema.{Schema}
-use Rattle.sqlite.specs.Term.{Term, col, eval}
+use Rattle.zeb_packed.proofs.Cited.{◌≡◌, ◌∙◌, ◌+◌, ℕ, suc, true, false, List, [], ◌∷◌, ◌++◌, length, map, refl, sym, ap, subst, Ordering, Less, Equal, Greater, ordering_reverse, ordering_then, list_any, range_with_len, Row, column, row_cmp, Table, Schema, Term, col, eval, Select, IsDatabase, reads_listing, State, Shown, IsPlain, command_of, reads_as, value_cmp_total, Has, all_has, has_got, length-map, HasLayout, IsFallingListOf, Condition, keyed_from, passes, reading_by, alone, shows, descending, ordering, IsPlainTable, HasKeys, are_fit, are_comparable, code, codes_of, covers, covered_some, ordering_tied, shares_alone, reads, shows_each, shows_sorted, all_shown, IsSelected, shown_places, IsAfter, after_key, alone_first, keyed_there, codes_there, meets_there}
+use Rattle.sqlite.specs.Order.{value_cmp}
 use Rattle.sqlite.specs.Query.{limited, as_count}
-use Rattle.sqlite.specs.Command.TheVariants.{Select}
-use Rattle.sqlite.specs.Effect.{IsDatabase}
-use Rattle.sqlite.specs.Listing.{understood, reads_listing}
-use Rattle.sqlite.specs.State.{State, Shown}
-use Rattle.sqlite.proofs.Callers.{IsPlain, command_of, reads_as}
+use Rattle.sqlite.specs.Listing.{understood}
 use Rattle.sqlite_value.specs.declared.keys.Key.{Key}
-use Rattle.sqlite_value.proofs.OrderLemmas.{value_cmp_total}
-use Rattle.sqlite_rules.specs.Lists.{Has}
-use Rattle.sqlite_rules.proofs.ListLemmas.{all_has, has_got}
-use Rattle.std.proofs.lemmas.List.{length-map}
-use Rattle.zeb_register.specs.Sql.{HasLayout}
-use Rattle.zeb_packed.specs.PrivatePackedRows.{IsFallingListOf}
-use Rattle.zeb_register.proofs.StatementForms.{Condition, keyed_from, passes, reading_by, alone, shows, descending, ordering}
-use Rattle.zeb_register.proofs.ValueKinds.{IsPlainTable, HasKeys, are_fit, are_comparable, code, codes_of, covers}
-use Rattle.zeb_register.proofs.RowLemmas.{covered_some, ordering_tied, shares_alone}
-use Rattle.zeb_register.proofs.Scans.{reads, shows_each, shows_sorted, all_shown}
-use Rattle.zeb_register.proofs.Selects.{IsSelected, shown_places}
-use Rattle.zeb_register.proofs.PrefixSelects.{IsAfter, after_key, alone_first}
-use Rattle.zeb_register.proofs.Writes.{keyed_there, codes_there, meets_there}
 
 abbrev pub falling : ℕ → List (Term × Key)
 falling place = (col 1 place, descending) ∷ []

@@ -1,23 +1,6 @@
 -- One record's part of a list of postings: taken apart, compared and put together again.
-use Rattle.std.proofs.Common.{◌≡◌, ◌⊎◌, ◌∙◌, ◌+◌, ◌<◌, ◌≤◌, ◌/◌, ◌^◌, ◌==◌, ℕ, suc, nat_lt, true, List, [], ◌∷◌, ◌++◌, drop, drop-cons, get_or, length, map, filter, refl, sym, ap, ap₂, subst, inl, inr, Ordering, Less, Equal, Greater, nat_cmp, arith}
-use Rattle.std.proofs.lemmas.Bool.{eqb-true, eq-eqb}
-use Rattle.std.proofs.lemmas.Bool.Decides.{nat_tests}
-use Rattle.std.specs.Cmp.{nat_cmp_total}
-use Rattle.std.specs.Ordering.{ordering_then}
+use Rattle.zeb_packed.proofs.Cited.{◌≡◌, ◌⊎◌, ◌∙◌, ◌+◌, ◌<◌, ◌≤◌, ◌/◌, ◌^◌, ◌==◌, ℕ, suc, nat_lt, true, List, [], ◌∷◌, ◌++◌, drop, drop-cons, get_or, length, map, filter, refl, sym, ap, subst, inl, inr, Ordering, Less, Equal, Greater, nat_cmp, arith, nat_tests, nat_cmp_total, ordering_then, Has, all_from, all_has, has_either, has_filtered, has_kept, has_left, has_right, has_mapped, mapped_has, numbers_apart, Posting, IsNumbered, LiesIn, Place, AreStorablePlaces, IsListChanged, IsStorablePlace, place_cmp, posting_at, posting_cmp, posting_total, place_total, has_end, less_is, joined_rises, kept_rises, pushed_rises, strictly_mapped, place_is}
 use Rattle.std.specs.List.Sorted.{IsStrictlySortedBy}
-use Rattle.sqlite_rules.specs.Lists.{Has}
-use Rattle.sqlite_rules.proofs.ListLemmas.{all_from, all_has, has_either, has_filtered, has_kept, has_left, has_right}
-use Rattle.sqlite_rules.proofs.ProbeLemmas.{has_mapped, mapped_has}
-use Rattle.zeb_keys.proofs.Rising.{numbers_apart}
-use Rattle.zeb_blocks.specs.declared.postings.Posting.{Posting}
-use Rattle.zeb_blocks.specs.Blocks.{IsNumbered, LiesIn}
-use Rattle.zeb_register.specs.declared.registers.Place.{Place}
-use Rattle.zeb_register.specs.Content.{ArePlacesOf, AreStorablePlaces, IsListChanged, IsStorablePlace, place_cmp, posting_at, posting_cmp}
-use Rattle.zeb_register.proofs.ContentChanges.{posting_total, place_total}
-use Rattle.zeb_register.proofs.CountLemmas.{has_end, less_is}
-use Rattle.zeb_register.proofs.RisingLists.{joined_rises, kept_rises, pushed_rises, same_list}
-use Rattle.zeb_register.proofs.Scans.{strictly_mapped}
-use Rattle.zeb_register.proofs.ListChanges.{place_is, place_of, posting_is}
 
 -- ---- places that rise
 
@@ -75,36 +58,6 @@ places_rise sysno places up = strictly_mapped place_cmp posting_cmp (posting_at 
 
 abbrev pub own_of : ℕ → List Posting → List Posting
 own_of sysno list = filter (λ p. p.sysno == sysno) list
-
--- where these are a record's places in a list, its postings there are those of the places
-pub own_places : (sysno : ℕ) (list : List Posting) (places : List Place) → map (posting_at sysno) places ≡ own_of sysno list → ArePlacesOf sysno places list
-own_places sysno list places same q = (
-  λ h. (has_filtered (λ p. p.sysno == sysno) list (posting_at sysno q) (subst (λ l. Has l (posting_at sysno q)) same (mapped_has (posting_at sysno) places q h))).0,
-  λ h.
-      let kept = has_kept (λ p. p.sysno == sysno) list (posting_at sysno q) h (eq-eqb sysno sysno refl) in
-      let found = has_mapped (posting_at sysno) places (posting_at sysno q) (subst (λ l. Has l (posting_at sysno q)) (sym same) kept) in
-      subst (Has places) (sym (place_is sysno q found.0 found.2)) found.1,
-)
-
-pub places_own : (sysno : ℕ) (list : List Posting) (places : List Place) → IsStrictlySortedBy posting_cmp list → IsStrictlySortedBy place_cmp places → ArePlacesOf sysno places list → map (posting_at sysno) places ≡ own_of sysno list
-places_own sysno list places up rising are =
-    same_list posting_total (map (posting_at sysno) places) (own_of sysno list) (places_rise sysno places rising) (kept_rises posting_total (λ p. p.sysno == sysno) list up)
-    (λ p h.
-    let q = has_mapped (posting_at sysno) places p h in
-    subst (Has (own_of sysno list)) (sym q.2) (has_kept (λ r. r.sysno == sysno) list (posting_at sysno q.0) ((are q.0).0 q.1) (eq-eqb sysno sysno refl)))
-    (λ p h.
-    let it = has_filtered (λ r. r.sysno == sysno) list p h in
-    let is = posting_is p sysno (eqb-true p.sysno sysno it.1) in
-    subst (Has (map (posting_at sysno) places)) (sym is) (mapped_has (posting_at sysno) places (place_of p) ((are (place_of p)).1 (subst (Has list) is it.0))))
-
-pub same_places : (sysno : ℕ) (ps qs : List Place) → map (posting_at sysno) ps ≡ map (posting_at sysno) qs → ps ≡ qs
-same_places sysno [] [] h = refl
-same_places sysno [] (q ∷ qs) h = absurd (cc)
-same_places sysno (p ∷ ps) [] h = absurd (cc)
-same_places sysno (p ∷ ps) (q ∷ qs) h =
-    let first : posting_at sysno p ≡ posting_at sysno q = cc in
-    let rest : map (posting_at sysno) ps ≡ map (posting_at sysno) qs = cc in
-    ap₂ (λ a as'. a ∷ as') (place_is sysno p q first) (same_places sysno ps qs rest)
 
 -- ---- a list put together
 

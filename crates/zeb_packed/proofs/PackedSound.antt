@@ -1,44 +1,7 @@
--- Which rows of the packed tables are sound: those of neighbouring terms, as one statement shows them, and those of a key that is changed.
-use Rattle.std.proofs.Common.{◌≡◌, ◌≢◌, ◌∙◌, ◌/◌, ℕ, ℤ, pos, true, false, List, [], ◌∷◌, ◌++◌, drop, map, take, refl, sym, ap, subst, inl, inr}
-use Rattle.std.specs.Cmp.{nat_cmp_total}
-use Rattle.std.specs.List.{AllByRecursion}
-use Rattle.std.specs.Ordering.{is_lt}
-use Rattle.sqlite.specs.declared.types.Value.{Value}
-use Rattle.sqlite.specs.declared.types.Value.TheVariants.{Null, Int, Real, Text, Blob}
-use Rattle.sqlite.specs.Order.{Row, column, value_cmp}
-use Rattle.sqlite.specs.State.{State}
-use Rattle.sqlite.specs.Tree.{Trees}
-use Rattle.sqlite_rules.specs.Lists.{Has}
-use Rattle.sqlite_rules.proofs.ListLemmas.{all_has, has_either}
-use Rattle.sqlite_rules.proofs.ProbeLemmas.{has_mapped, mapped_has}
-use Rattle.sqlite_value.proofs.OrderLemmas.{value_cmp-Text}
-use Rattle.zeb_blocks.specs.declared.postings.Posting.{Posting}
-use Rattle.zeb_blocks.specs.Blocks.{BlockSpells}
-use Rattle.zeb_keys.specs.declared.keys.Key.{Key}
-use Rattle.zeb_keys.proofs.Rising.{numbers_apart}
-use Rattle.zeb_register.specs.declared.registers.RecordChange.{RecordChange}
-use Rattle.zeb_register.specs.declared.registers.RegisterOf.{RegisterOf}
-use Rattle.zeb_register.specs.Between.{IsBetween}
-use Rattle.zeb_register.specs.PrivateBetweenRows.{IsRestBetween, two_behind}
-use Rattle.zeb_register.specs.PrivateKeyColumns.{register_columns}
-use Rattle.zeb_register.specs.PackedBlocks.{IsRecordNumber, SpellsPart, block_row}
-use Rattle.zeb_packed.specs.PrivatePackedChanges.{IsBlockIn, IsTold, PutsBlock, SpellsIn}
-use Rattle.zeb_packed.specs.PrivatePackedHindrances.{AreRunsSpelled, WereSpelled}
-use Rattle.zeb_register.specs.PrivatePackedRows.{AreSpelled, IsInBlock}
-use Rattle.zeb_packed.specs.PackedSound.{IsBlockSpelled, IsKeyCounted, PlacesIn, had}
-use Rattle.zeb_register.specs.Formats.{packed_blocks}
-use Rattle.zeb_register.specs.Sound.{AreListsSound}
-use Rattle.zeb_register.specs.PlainRows.{key_row}
-use Rattle.zeb_register.specs.PrivateRowStatements.{Gains}
-use Rattle.zeb_register.specs.Sql.{IsListOf}
-use Rattle.zeb_register.specs.Store.{IsRest, IsStore, blocks_tree, dict_tree}
-use Rattle.zeb_register.proofs.BetweenLemmas.{up_to}
-use Rattle.zeb_register.proofs.ListChanges.{run}
-use Rattle.zeb_register.proofs.PackedLists.{all_spelled, each_spelled}
+-- Which rows of neighbouring terms are sound, as one statement shows them; and of a key and a block there is one row, as of a key.
+use Rattle.zeb_packed.proofs.Cited.{◌≡◌, ◌≢◌, ◌∙◌, ℕ, ℤ, true, false, List, [], ◌∷◌, ◌++◌, drop, map, refl, sym, ap, subst, inl, is_lt, Value, Null, Int, Real, Text, Blob, Row, column, State, Trees, Has, has_mapped, mapped_has, value_cmp-Text, Posting, Key, RegisterOf, IsBetween, IsRestBetween, two_behind, register_columns, SpellsPart, AreSpelled, packed_blocks, AreListsSound, key_row, IsListOf, IsRest, IsStore, blocks_tree, dict_tree, up_to, all_spelled, each_spelled, blocks, blocks_keys, blocks_static, dict, dict_keys, dict_static, single}
+use Rattle.sqlite.specs.Order.{value_cmp}
 use Rattle.zeb_packed.proofs.PackedReads.{block_front}
-use Rattle.zeb_register.proofs.PostingStatements.{blocks, blocks_keys, blocks_static, dict, dict_keys, dict_static}
-use Rattle.zeb_register.proofs.RisingLists.{told_by}
-use Rattle.zeb_register.proofs.SharedKeys.{single}
 
 -- a row by its first column
 begins : (row : Row) (v : Value) → column row 0 ≡ v → v ≢ Null → row ≡ v ∷ drop 1 row
@@ -83,10 +46,6 @@ module _ (trees : Trees) (at : RegisterOf) (first last : List ℕ) (rows : List 
 
 -- ---- the rows of a key
 
--- no row of the block is there, and so none spells nothing
-pub absent_spelled : (trees : Trees) (db : ℤ) (key : Key) (block : ℕ) → IsTold false (IsBlockIn db key block) blocks_tree trees → IsBlockSpelled trees db key block
-absent_spelled trees db key block told row there at = absurd (told (key_row db key ++ row) there (refl, refl, refl, refl, at))
-
 module _ (s : State) (store : IsStore s) (db : ℤ) (key : Key) where
   pub one_block : (block : ℕ) (row other : Row) → IsRest blocks_tree (block_front db key block) s.now.trees row → IsRest blocks_tree (block_front db key block) s.now.trees other → row ≡ other
   one_block block row other here there =
@@ -95,57 +54,9 @@ module _ (s : State) (store : IsStore s) (db : ℤ) (key : Key) where
       (inl (refl, (refl, (refl, (refl, (refl, tt)))))) (inl (refl, (refl, (refl, (refl, (refl, tt)))))) in
       ap (drop 6) same
 
-  one_dict : (row other : Row) → IsRest dict_tree (key_row db key) s.now.trees row → IsRest dict_tree (key_row db key) s.now.trees other → row ≡ other
+  pub one_dict : (row other : Row) → IsRest dict_tree (key_row db key) s.now.trees row → IsRest dict_tree (key_row db key) s.now.trees other → row ≡ other
   one_dict row other here there =
       let front = key_row db key in
       let same = single 5 dict dict_static ((1 ∷ 2 ∷ 3 ∷ 4 ∷ []) ∷ []) dict_keys s store here.0 there.0 (front ++ row) (front ++ other) here.1 there.1
       (inl (refl, (refl, (refl, (refl, tt))))) (inl (refl, (refl, (refl, (refl, tt))))) in
       ap (drop 5) same
-
-  -- where the one that is shown spells some postings, each does
-  pub shown_sound : (block : ℕ) (row : Row) (list : List Posting) → IsRest blocks_tree (block_front db key block) s.now.trees row → SpellsIn block row list → IsBlockSpelled s.now.trees db key block
-  shown_sound block row list here spells other there at =
-      let is : other ≡ Int (pos block) ∷ drop 1 other = begins other (Int (pos block)) at (λ none. cc) in
-      let same : drop 1 other ≡ row = one_block block (drop 1 other) row (subst (λ (r : Row). IsRest blocks_tree (key_row db key) s.now.trees r) is there) here in
-      (list, (block, spells.0, at, ap (λ (r : Row). column r 1) is ∙ ap (λ (r : Row). column r 0) same ∙ spells.1, spells.2))
-
-  -- the same of the row of `dict`
-  pub counted_sound : (row : Row) → IsRest dict_tree (key_row db key) s.now.trees row → IsRecordNumber (column row 0) → IsKeyCounted s.now.trees db key
-  counted_sound row here number other there = subst (λ (r : Row). IsRecordNumber (column r 0)) (one_dict row other here there) number
-
-  -- a row that could be put beside the others spells postings, and so do those that share its key
-  pub gained_sound : (block : ℕ) (list : List Posting) (bytes : List ℕ) (old : Trees) → BlockSpells block list bytes → Gains (block_row db key block bytes) blocks_tree old s.now.trees
-      → IsBlockSpelled old db key block × WereSpelled db key old s.now.trees
-  gained_sound block list bytes old spells gained = (
-    λ row there at. shown_sound block (Blob bytes ∷ []) list ((gained (block_row db key block bytes)).1 (inr refl)) (bytes, refl, spells) row ((gained (key_row db key ++ row)).1 (inl there)) at,
-    λ b all row there at. all row ((gained (key_row db key ++ row)).1 (inl there)) at,
-  )
-
-one_number : (m n : ℕ) → Int (pos m) ≡ Int (pos n) → m ≡ n
-one_number m n same = cc
-
--- a row that is put in the place of one that spelled postings leaves those of the other blocks
-pub put_sound : (db : ℤ) (key : Key) (block : ℕ) (list : List Posting) (old new : Trees) → PutsBlock db key block list blocks_tree old new → IsBlockSpelled old db key block → WereSpelled db key old new
-put_sound db key block list old new put spelled b all row there at = elim (told_by nat_cmp_total numbers_apart b block) [
-  | inl same ↦ spelled row there (at ∙ ap (λ (n : ℕ). Int (pos n)) same)
-  | inr differs ↦ all row ((put (key_row db key ++ row)).1 (inl (there, λ in_it. differs (one_number b block (sym at ∙ in_it.4))))) at
-]
-
--- ---- many changes
-
--- one run more
-pub run_sound : (db : ℤ) (key : Key) (xs : List RecordChange) (d n block done : ℕ) (old mid last : Trees) → take done xs ≡ take d xs ++ run xs d n → AllByRecursion (IsInBlock block) (run xs d n)
-    → WereSpelled db key old mid × AreRunsSpelled db key (take d xs) old → IsBlockSpelled mid db key block × WereSpelled db key mid last → WereSpelled db key old last × AreRunsSpelled db key (take done xs) old
-run_sound db key xs d n block done old mid last is inside so_far next = (
-  λ b all. so_far.0 b (next.1 b all),
-  λ change here. elim (has_either (take d xs) (run xs d n) change (subst (λ (l : List RecordChange). Has l change) is here)) [
-    | inl before ↦ so_far.1 change before
-    | inr now ↦ subst (λ b. IsBlockSpelled old db key b) (sym (all_has (IsInBlock block) (run xs d n) change inside now)) (so_far.0 block next.0)
-  ],
-)
-
--- by what the changes say stood there
-pub numbers_sound : (db : ℤ) (key : Key) (xs : List RecordChange) (trees : Trees) → AreRunsSpelled db key xs trees → (it : PlacesIn) → Has (map had xs) it → IsBlockSpelled trees db key (it.0 / 256)
-numbers_sound db key xs trees all it here =
-    let from = has_mapped had xs it here in
-    subst (λ (x : PlacesIn). IsBlockSpelled trees db key (x.0 / 256)) (sym from.2) (all from.0 from.1)

@@ -1,27 +1,10 @@
 -- The statements that list rows of the packed tables, each with what it is compiled to.
-use Rattle.std.proofs.Common.{◌≡◌, ℕ, ℤ, true, false, arith, List, [], ◌∷◌, ◌++◌, codes, refl, sym, ap, subst, Ordering, Less}
-use Rattle.std.specs.Ordering.{ordering_then}
-use Rattle.sqlite.specs.declared.types.Value.TheVariants.{Int, Text}
-use Rattle.sqlite.specs.Order.{Row, column, value_cmp}
+use Rattle.zeb_packed.proofs.Cited.{◌≡◌, ℕ, ℤ, true, false, arith, List, [], ◌∷◌, ◌++◌, codes, refl, sym, ap, subst, Ordering, Less, ordering_then, Int, Text, Row, column, State, Shown, Select, col, reads_listing, IsPlain, command_of, IsRestBefore, IsRestFrom, IsFallingListOf, IsListOf, IsStore, IsRest, blocks_tree, dict_tree, key_of, store_schema, IsSilent, alone_first, IsAfter, lists_after, blocks, blocks_static, dict, dict_static, blocks_keys, dict_keys, register_of, IsFit, IsReasonedQuery, IsWhole, why_refused, list_so, Condition, alone, at_least, keyed_from, less_than, no_limit, reading, reading_by, rising, shows}
+use Rattle.sqlite.specs.Order.{value_cmp}
 use Rattle.sqlite.specs.Query.{limited, as_count}
-use Rattle.sqlite.specs.State.{State, Shown}
-use Rattle.sqlite.specs.Command.TheVariants.{Select}
-use Rattle.sqlite.specs.Term.{col}
-use Rattle.sqlite.specs.Listing.{understood, reads_listing}
-use Rattle.sqlite.proofs.Callers.{IsPlain, command_of}
+use Rattle.sqlite.specs.Listing.{understood}
 use Rattle.sqlite_tied.specs.Compute.{everything}
-use Rattle.zeb_register.specs.PackedBlocks.{IsRestBefore, IsRestFrom}
-use Rattle.zeb_packed.specs.PrivatePackedRows.{IsFallingListOf}
-use Rattle.zeb_register.specs.Sql.{IsListOf}
-use Rattle.zeb_register.specs.Store.{IsStore, IsRest, blocks_tree, dict_tree, key_of}
-use Rattle.zeb_register.specs.Tables.{store_schema}
-use Rattle.zeb_register.proofs.Calls.{IsSilent}
 use Rattle.zeb_packed.proofs.Falling.{falling, falls_after}
-use Rattle.zeb_register.proofs.PrefixSelects.{alone_first, IsAfter, lists_after}
-use Rattle.zeb_register.proofs.PostingStatements.{blocks, blocks_static, dict, dict_static, blocks_keys, dict_keys, register_of}
-use Rattle.zeb_register.proofs.Refusals.{IsFit, IsReasonedQuery, IsWhole, why_refused}
-use Rattle.zeb_register.proofs.Selects.{list_so}
-use Rattle.zeb_register.proofs.StatementForms.{Condition, alone, at_least, keyed_from, less_than, no_limit, reading, reading_by, rising, shows}
 
 then_less : (o p : Ordering) → o ≡ Less → ordering_then o p ≡ Less
 then_less o p is = ap (λ q. ordering_then q p) is

@@ -1,37 +1,7 @@
 -- Rows of `dict` as the terms of a register.
-use Rattle.std.proofs.Common.{◌≡◌, ◌≢◌, ◌↔◌, ◌∙◌, ◌+◌, ◌<◌, ◌≤◌, ◌^◌, ℕ, ℤ, pos, FitsSigned, w64, to_z, of_z, zero, suc, Bool, true, false, not, List, [], ◌∷◌, ◌++◌, ◌⊎◌, length, get_or, map, filter, take, drop, reverse, refl, sym, ap, ap₂, subst, inl, inr, Less, nat_cmp, arith}
-use Rattle.std.proofs.lemmas.List.{length-reverse, map-append, reverse-append, reverse-reverse, take-append-drop, take-map, take_more}
-use Rattle.std.proofs.Math.Facts.{to_z-of_z}
-use Rattle.std.specs.Ordering.{is_lt, ordering_then}
-use Rattle.std.specs.Cmp.Lexicographic.{slice_cmp}
+use Rattle.zeb_packed.proofs.Cited.{◌≡◌, ◌≢◌, ◌↔◌, ◌∙◌, ◌+◌, ◌<◌, ◌≤◌, ◌^◌, ℕ, ℤ, pos, FitsSigned, w64, to_z, of_z, zero, suc, Bool, true, false, not, List, [], ◌∷◌, ◌++◌, ◌⊎◌, length, get_or, map, filter, take, drop, reverse, refl, sym, ap, ap₂, subst, inl, inr, Less, nat_cmp, arith, length-reverse, map-append, reverse-append, reverse-reverse, take-append-drop, take-map, take_more, to_z-of_z, is_lt, ordering_then, slice_cmp, Int, Text, Row, column, row_cmp, Trees, as_count, limited, Has, all_has, has_either, has_filtered, has_kept, has_left, has_right, has_mapped, mapped_has, row_cmp_total, value_cmp-Text, Key, Register, register_code, TermCount, Content, IsStorable, posted, AreTermsBefore, AreTermsFrom, AreTermsOf, HasKey, IsCount, TermIn, is_before, is_from, key_in, last, term_cmp, AreShown, HoldsBlocks, IsRestBefore, IsRestFrom, CountsTerm, count_row, first_two, IsFallingListOf, register_front, TellTerms, IsListOf, IsRest, dict_tree, one_list, same_key, some_posting, count_upto, counted_none, one_count, term_total, key_posted, blocks_have_terms, not_empty, kept_rises, pushed_rises, same_list, strictly_mapped, last_taken}
 use Rattle.std.specs.List.Sorted.{IsStrictlySortedBy}
-use Rattle.sqlite.specs.declared.types.Value.TheVariants.{Int, Text}
-use Rattle.sqlite.specs.Order.{Row, column, row_cmp, value_cmp}
-use Rattle.sqlite.specs.Tree.{Trees}
-use Rattle.sqlite_sql.specs.Query.{as_count, limited}
-use Rattle.sqlite_rules.specs.Lists.{Has}
-use Rattle.sqlite_rules.proofs.ListLemmas.{all_has, has_either, has_filtered, has_kept, has_left, has_right}
-use Rattle.sqlite_rules.proofs.ProbeLemmas.{has_mapped, mapped_has}
-use Rattle.sqlite_value.proofs.OrderLemmas.{row_cmp_total, value_cmp-Text}
-use Rattle.zeb_keys.specs.declared.keys.Key.{Key}
-use Rattle.zeb_keys.specs.declared.Register.{Register}
-use Rattle.zeb_keys.specs.Registers.{register_code}
-use Rattle.zeb_register.specs.declared.registers.TermCount.{TermCount}
-use Rattle.zeb_register.specs.Content.{Content, IsStorable, posted}
-use Rattle.zeb_register.specs.Occurring.{AreTermsBefore, AreTermsFrom, AreTermsOf, HasKey, IsCount, TermIn, is_before, is_from, key_in, last, term_cmp}
-use Rattle.zeb_register.specs.PackedBlocks.{AreShown, HoldsBlocks, IsRestBefore, IsRestFrom, CountsTerm, count_row, first_two}
-use Rattle.zeb_packed.specs.PrivatePackedRows.{IsFallingListOf}
-use Rattle.zeb_register.specs.PlainRows.{register_front}
-use Rattle.zeb_register.specs.Sound.{TellTerms}
-use Rattle.zeb_register.specs.Sql.{IsListOf}
-use Rattle.zeb_register.specs.Store.{IsRest, dict_tree}
-use Rattle.zeb_register.proofs.ContentLemmas.{one_list, same_key, some_posting}
-use Rattle.zeb_register.proofs.CountLemmas.{count_upto, counted_none, one_count, term_total}
-use Rattle.zeb_register.proofs.OccurringLemmas.{key_posted}
-use Rattle.zeb_register.proofs.PackedLemmas.{blocks_have_terms, not_empty}
-use Rattle.zeb_register.proofs.RisingLists.{kept_rises, pushed_rises, same_list}
-use Rattle.zeb_register.proofs.Scans.{strictly_mapped}
-use Rattle.zeb_register.proofs.TermLists.{last_taken}
+use Rattle.sqlite.specs.Order.{value_cmp}
 
 -- ---- a term and its row
 

@@ -1,27 +1,6 @@
 -- What a packed register holds in sum: each term has its postings, and they are counted block by block.
-use Rattle.std.proofs.Common.{◌≡◌, ◌∙◌, ◌≤◌, ℕ, ℤ, List, [], ◌∷◌, ◌++◌, length, map, take, refl, sym, ap, ap₂, subst, inl, inr, Less, nat_cmp, arith, length-append}
-use Rattle.std.proofs.lemmas.Cmp.{tied_itself}
-use Rattle.std.proofs.lemmas.List.{length-map, take_all}
-use Rattle.std.proofs.lemmas.List.Sums.{sum_by-cons}
-use Rattle.std.specs.Cmp.Lexicographic.{slice_cmp, nat_list_cmp_total}
-use Rattle.std.specs.List.{sum_by}
+use Rattle.zeb_packed.proofs.Cited.{◌≡◌, ◌∙◌, ◌≤◌, ℕ, ℤ, List, [], ◌∷◌, ◌++◌, length, map, take, refl, sym, ap, ap₂, subst, inl, inr, Less, nat_cmp, arith, length-append, tied_itself, length-map, take_all, sum_by-cons, slice_cmp, nat_list_cmp_total, sum_by, ordering_then, Text, Row, column, Trees, Has, all_has, has_either, has_left, has_right, has_mapped, mapped_has, Posting, Register, TermCount, Content, posted, posting_cmp, AreSpotsOf, AreTermsOf, Spot, key_in, spot_cmp, term_cmp, AreShown, HoldsBlocks, count_row, first_two, key_posted, spot_total, joined_rises, strictly_mapped}
 use Rattle.std.specs.List.Sorted.{IsStrictlySortedBy}
-use Rattle.std.specs.Ordering.{ordering_then}
-use Rattle.sqlite.specs.declared.types.Value.TheVariants.{Text}
-use Rattle.sqlite.specs.Order.{Row, column}
-use Rattle.sqlite.specs.Tree.{Trees}
-use Rattle.sqlite_rules.specs.Lists.{Has}
-use Rattle.sqlite_rules.proofs.ListLemmas.{all_has, has_either, has_left, has_right}
-use Rattle.sqlite_rules.proofs.ProbeLemmas.{has_mapped, mapped_has}
-use Rattle.zeb_blocks.specs.declared.postings.Posting.{Posting}
-use Rattle.zeb_keys.specs.declared.Register.{Register}
-use Rattle.zeb_register.specs.declared.registers.TermCount.{TermCount}
-use Rattle.zeb_register.specs.Content.{Content, posted, posting_cmp}
-use Rattle.zeb_register.specs.Occurring.{AreSpotsOf, AreTermsOf, Spot, key_in, spot_cmp, term_cmp}
-use Rattle.zeb_register.specs.PackedBlocks.{AreShown, HoldsBlocks, count_row, first_two}
-use Rattle.zeb_register.proofs.OccurringLemmas.{key_posted, spot_total}
-use Rattle.zeb_register.proofs.RisingLists.{joined_rises}
-use Rattle.zeb_register.proofs.Scans.{strictly_mapped}
 
 -- ---- the places of all terms, one term after the other
 

@@ -1,4 +1,6 @@
 pub mod PrivatePackedRows
 pub mod PrivatePackedChanges
-pub mod PrivatePackedHindrances
-pub mod PackedSound
+pub mod Answers
+pub mod Units
+pub mod UnitChanges
+pub mod PrivateUnitCalls

@@ -10,6 +10,7 @@ use Rattle.sqlite_sql.specs.Query.{as_count, limited}
 use Rattle.sqlite_rules.specs.Lists.{Has}
 use Rattle.zeb_register.specs.Sql.{IsListOf}
 use Rattle.zeb_register.specs.Store.{IsStore}
+use Rattle.zeb_packed.specs.Units.{IsMalformed}
 
 -- ---- what statements list
 
@@ -25,3 +26,7 @@ pub record IsFallingListOf (P : Row → Type 0) (rows : List Row) : Type 0 where
 -- the last of the rows that are P of the tables, falling, and at most so many, or all where that is below 0
 abbrev pub ListsLast : ℤ → (Trees → Row → Type 0) → State → State → List Row → Type 0
 ListsLast limit P old new rows = IsUnchanged old new × (IsStore old → (all : List Row) × IsFallingListOf (P old.now.trees) all × (rows ≡ limited (as_count (Int limit)) all))
+
+-- one of the rows is malformed
+abbrev pub SomeMalformed : List Row → Type 0
+SomeMalformed rows = (row : Row) × Has rows row × IsMalformed row

@@ -7,13 +7,15 @@ ghost use Rattle.sqlite.specs.State.{IsUnchanged};
 ghost use Rattle.sqlite_rules.specs.Lists.{Has};
 ghost use Rattle.zeb_blocks.specs.declared.postings.Posting.{Posting};
 ghost use Rattle.zeb_keys.specs.declared.keys.Key.{Key};
-ghost use Rattle.zeb_packed.specs.PackedSound.{AreKeyRowsSound, had};
+ghost use Rattle.zeb_packed.specs.Answers.{Answers, IfDamaged};
+ghost use Rattle.zeb_packed.specs.UnitChanges.{ChangesKey};
+ghost use Rattle.zeb_packed.specs.Units.{HasMalformed, ListsUnits};
 ghost use Rattle.zeb_register.specs.Between.{AreKeysBetween, IsPostingBetween};
 ghost use Rattle.zeb_register.specs.Calls.{GoesOn, Inside, Reading};
-ghost use Rattle.zeb_register.specs.Clauses.{ChangesHeld, DamagedHeld, FindsHeld, InStore, IsHinderedInside, IsHonest};
-ghost use Rattle.zeb_register.specs.Clauses.{IsHonestStorable, IsReasoned, OnStore, TakesRegistersInside, Tells, TellsHeld};
+ghost use Rattle.zeb_register.specs.Clauses.{ChangesHeld, DamagedHeld, FindsHeld, InStore, IsHonest};
+ghost use Rattle.zeb_register.specs.Clauses.{IsHonestStorable, IsReasoned, OnStore, Tells, TellsHeld};
 ghost use Rattle.zeb_register.specs.Content.{AreChangedAt, ArePlacesOf, Content, IsChangedAt, OldsRise, place_cmp, posted};
-ghost use Rattle.zeb_register.specs.Hindrances.{HindersPlaces, IsPlacedAt, KeepsPlaces, KeepsSpelled, SpellsMore, placed, rows_of};
+ghost use Rattle.zeb_register.specs.Hindrances.{IsPlacedAt, KeepsPlaces, KeepsSpelled, SpellsMore, placed};
 ghost use Rattle.zeb_register.specs.Occurring.{AreTermsBefore, AreTermsFrom, AreTermsOf, AreTotals, key_in};
 ghost use Rattle.zeb_register.specs.Formats.{packed_blocks};
 ghost use Rattle.zeb_register.specs.PackedBlocks.{AreAllCounted, AreAllSpelled, AreBeforeCounted, AreFromCounted};
@@ -23,17 +25,16 @@ ghost use Rattle.zeb_register.specs.Sound.{AreListsSound, KeepsMalformed, KeepsR
 ghost use Rattle.zeb_register.specs.Tallies.{Works};
 ghost use Rattle.zeb_register.specs.declared.registers.TermCount.{TermCount};
 
-use crate::packed::{counted, counts_in, limit_of, postings_in};
+use crate::packed::{counted, counts_in, key_postings, limit_of};
 use crate::packed_between::blocks_between;
-use crate::packed_parts::check_changes;
-use crate::packed_runs::{changes_put, count_rows};
+use crate::packed_runs::changes_made;
 use crate::packed_totals::term_postings;
-use crate::statements::packed::{block_rows, dict_rows, dict_rows_before, dict_rows_from};
+use crate::statements::packed::{dict_rows, dict_rows_before, dict_rows_from};
 use sqlite::{Alter, Connection, Transaction};
 use std::alloc::Global;
 use zeb_blocks::Posting;
 use zeb_keys::Key;
-use zeb_register::for_layouts::{blocks_agree, database_drop_whole, nothing_inside};
+use zeb_register::for_layouts::{blocks_agree, database_drop_whole};
 use zeb_register::{
     DatabaseId, Expected, Layout, Place, RecordChange, RegFault, RegisterOf, TermCount, Totals,
     Work,
@@ -81,8 +82,9 @@ impl Layout for Blocks {
             (λ content. ArePlacesOf sysno old.now (content db.0 key.now)) }
         ensures damaged { DamagedHeld HoldsBlocks (state S.Store tx.old.conn.now) (state S.Store tx.new.conn.now) result
             (IsStrictlySortedBy place_cmp old.now) (λ content. ¬ ArePlacesOf sysno old.now (content db.0 key.now)) }
-        ensures sound { InStore (state S.Store tx.old.conn.now) (state S.Store tx.new.conn.now) (λ trees. OnOk result
-            (AreKeyRowsSound trees db.0 key.now ((sysno, old.now) ∷ []))) }
+        ensures units { ChangesKey db.0 key.now
+            (record { sysno = sysno; old = old.entry; new = new.entry } ∷ [])
+            (state S.Store tx.old.conn.now) (state S.Store tx.new.conn.now) result }
         ensures text { OnOk result (IsUtf8 key.now.term) }
         ensures malformed { InStore (state S.Store tx.old.conn.now) (state S.Store tx.new.conn.now) (λ trees. OnOk result
             (KeepsMalformed trees (state S.Store tx.new.conn.now).now.trees)) }
@@ -94,10 +96,6 @@ impl Layout for Blocks {
             (KeepsSpelled db.0 key.now ((sysno, new.now) ∷ []) trees (state S.Store tx.new.conn.now).now.trees)) }
         ensures places { InStore (state S.Store tx.old.conn.now) (state S.Store tx.new.conn.now) (λ trees. OnOk result
             (KeepsPlaces db.0 key.now ((sysno, new.now) ∷ []) trees (state S.Store tx.new.conn.now).now.trees)) }
-        ensures refused { IsHinderedInside (state S.Store tx.old.conn.now) (state S.Store tx.new.conn.now) result
-            (HindersPlaces db.0 key.now ((sysno, new.now) ∷ [])) }
-        ensures rowids { TakesRegistersInside (state S.Store tx.old.conn.now) (state S.Store tx.new.conn.now) result
-            (rows_of ((sysno, new.now) ∷ [])) }
         ensures work { FindsHeld HoldsBlocks (state S.Store tx.old.conn.now) (state S.Store tx.new.conn.now) result
             (λ _. Works 1 1 1 1 work.old work.new) }
     {
@@ -105,9 +103,10 @@ impl Layout for Blocks {
         Self::key_changes(tx, work, db, key, &[change])
     }
 
-    /// `Damaged` also where the rows that are read can't be those of a content that every layout can store; `Store` also where one of the
-    /// places `new` is 0, or these don't rise. So no change is accepted where the row of the key in `dict` doesn't say 1 to 999,999,999,
-    /// where the row of a changed record's block spells no postings, or where it has other places in the record than its first change says.
+    /// `Damaged` just where the rows that are read don't allow the changes: the row of the key in `dict` doesn't say 1 to 999,999,999, the row
+    /// of a changed record's block spells no postings, or where it has other places in the record than its change says; where a block has a
+    /// row, but the key none in `dict`; and where no record would be left to count, or more than 999,999,999. `Store` also where a number is 0
+    /// or above 999,999,999, one of the places `new` is 0, or these don't rise.
     fn key_changes<S: Alter>(
         tx: &mut Transaction<'_, S>,
         work: &mut Work,
@@ -123,8 +122,8 @@ impl Layout for Blocks {
             (λ content. (after : Content) × AreChangedAt db.0 key.now changes.now content after) }
         ensures damaged { DamagedHeld HoldsBlocks (state S.Store tx.old.conn.now) (state S.Store tx.new.conn.now) result
             (OldsRise changes.now) (λ content. (after : Content) → ¬ AreChangedAt db.0 key.now changes.now content after) }
-        ensures sound { InStore (state S.Store tx.old.conn.now) (state S.Store tx.new.conn.now) (λ trees. OnOk result
-            (changes.now ≢ [] → AreKeyRowsSound trees db.0 key.now (map had changes.now))) }
+        ensures units { ChangesKey db.0 key.now changes.now
+            (state S.Store tx.old.conn.now) (state S.Store tx.new.conn.now) result }
         ensures text { OnOk result (changes.now ≢ [] → IsUtf8 key.now.term) }
         ensures malformed { InStore (state S.Store tx.old.conn.now) (state S.Store tx.new.conn.now) (λ trees. OnOk result
             (KeepsMalformed trees (state S.Store tx.new.conn.now).now.trees)) }
@@ -136,23 +135,11 @@ impl Layout for Blocks {
             (KeepsSpelled db.0 key.now (map placed changes.now) trees (state S.Store tx.new.conn.now).now.trees)) }
         ensures places { InStore (state S.Store tx.old.conn.now) (state S.Store tx.new.conn.now) (λ trees. OnOk result
             (KeepsPlaces db.0 key.now (map placed changes.now) trees (state S.Store tx.new.conn.now).now.trees)) }
-        ensures refused { IsHinderedInside (state S.Store tx.old.conn.now) (state S.Store tx.new.conn.now) result
-            (HindersPlaces db.0 key.now (map placed changes.now)) }
-        ensures rowids { TakesRegistersInside (state S.Store tx.old.conn.now) (state S.Store tx.new.conn.now) result
-            (rows_of (map placed changes.now)) }
         ensures work { FindsHeld HoldsBlocks (state S.Store tx.old.conn.now) (state S.Store tx.new.conn.now) result
             (λ _. Works (1 * length changes.now) (1 * length changes.now) (1 * length changes.now) (1 * length changes.now)
             work.old work.new) }
     {
-        check_changes(changes)?;
-        if changes.is_empty() {
-            // A closed connection is refused also where there is no change.
-            nothing_inside(tx)?;
-            return Ok(());
-        }
-        changes_put(tx, db, key, changes)?;
-        count_rows(work, changes.len());
-        Ok(())
+        changes_made(tx, work, db, key, changes)
     }
 
     fn database_take<S: Alter>(
@@ -170,6 +157,9 @@ impl Layout for Blocks {
         db: DatabaseId,
         key: &Key,
     ) -> Result<Vec<Posting>, RegFault>
+        ensures units { OnStore (state S.Store conn.old) (state S.Store conn.new) (λ trees. Answers
+            (IfDamaged (HasMalformed trees db.0 key.now))
+            (λ list. ListsUnits trees db.0 key.now work.old work.new list.items) result) }
         ensures call { Reading (state S.Store conn.old) (state S.Store conn.new) result (λ _. IsUnchanged) }
         ensures value { TellsHeld HoldsBlocks (state S.Store conn.old) (state S.Store conn.new) result
             (λ content list. list.items ≡ content db.0 key.now) }
@@ -182,15 +172,7 @@ impl Layout for Blocks {
         ensures work { TellsHeld HoldsBlocks (state S.Store conn.old) (state S.Store conn.new) result
             (λ content list. Works 0 0 (blocks_of list.items) 0 work.old work.new) }
     {
-        let at = RegisterOf {
-            db,
-            index: key.index,
-            register: key.register,
-        };
-        let rows = block_rows(conn, at, key.term.as_str())?;
-        let list = postings_in(alloc, &rows)?;
-        work.block_read = counted(work.block_read, rows.len());
-        Ok(list)
+        key_postings(alloc, conn, work, db, key)
     }
 
     /// The postings of the terms from `first` to `last`. Never accepted where a row of their blocks spells none, and `Damaged` only there.

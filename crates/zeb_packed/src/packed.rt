@@ -1,6 +1,6 @@
 //! Registers packed in blocks: a row of `blocks` for each block of a key's postings, and a row of `dict` for each key.
 
-ghost use Rattle.std.specs.Prelude.{◌≡◌, ◌≢◌, ◌^◌, ◌<◌, ◌≤◌, ◌++◌, List, length, map, pos, take, IfOk, IfErr, OnOk, FitsSigned};
+ghost use Rattle.std.specs.Prelude.{◌≡◌, ◌≢◌, ◌^◌, ◌<◌, ◌≤◌, ◌++◌, List, length, pos, take, IfOk, IfErr, OnOk, FitsSigned};
 ghost use Rattle.std.specs.Int.{w64};
 ghost use Rattle.sqlite.specs.Order.{Row as Columns, column};
 ghost use Rattle.sqlite.specs.declared.types.Value.TheVariants.{Int};
@@ -9,17 +9,25 @@ ghost use Rattle.sqlite_sql.specs.Query.{as_count, limited};
 ghost use Rattle.zeb_register.specs.PackedBlocks.{AreShown, CountsTerm, IsRecordNumber, SpellsPart, count_row, first_two};
 ghost use Rattle.zeb_register.specs.PrivatePackedRows.{AreSpelled};
 ghost use Rattle.zeb_blocks.specs.Blocks.{BlockSpells};
+ghost use Rattle.zeb_packed.specs.PrivatePackedRows.{SomeMalformed};
+ghost use Rattle.zeb_packed.specs.Answers.{Answers, IfDamaged};
+ghost use Rattle.zeb_packed.specs.Units.{HasMalformed, ListsUnits};
+ghost use Rattle.sqlite.specs.Held.{state};
+ghost use Rattle.sqlite.specs.State.{IsUnchanged};
+ghost use Rattle.zeb_register.specs.Calls.{Reading};
+ghost use Rattle.zeb_register.specs.Clauses.{IsReasoned, OnStore};
 ghost use Rattle.zeb_register.specs.Tallies.{Rises};
 
+use crate::statements::packed::block_rows;
 use sqlite::{Alter, Connection, Row};
 use std::alloc::Global;
 use zeb_blocks::{Damaged, Posting, push_block};
-use zeb_keys::{Register, Term};
+use zeb_keys::{Key, Term};
 use zeb_register::for_layouts::{read, read_bytes, read_number};
-use zeb_register::{DatabaseId, RegFault, TermCount};
+use zeb_register::{DatabaseId, RegFault, RegisterOf, TermCount, Work};
 
 /// How many records a database has at most, since each has a number of 1 to this.
-const MOST_RECORDS: u64 = 999_999_999;
+pub(crate) const MOST_RECORDS: u64 = 999_999_999;
 
 /// A count with so many rows more; it stays at its greatest value.
 pub(crate) fn counted(count: u64, rows: usize) -> u64
@@ -29,11 +37,36 @@ pub(crate) fn counted(count: u64, rows: usize) -> u64
     count.saturating_add(rows as u64)
 }
 
+/// The postings of a key, by its units. `work` counts the rows of `blocks` that are read.
+pub(crate) fn key_postings<S: Alter>(
+    alloc: Global,
+    conn: &mut Connection<S>,
+    work: &mut Work,
+    db: DatabaseId,
+    key: &Key,
+) -> Result<Vec<Posting>, RegFault>
+    ensures call { Reading (state S.Store conn.old) (state S.Store conn.new) result
+        (λ _. IsUnchanged) }
+    ensures lists { OnStore (state S.Store conn.old) (state S.Store conn.new) (λ trees. Answers
+        (IfDamaged (HasMalformed trees db.0 key.now))
+        (λ list. ListsUnits trees db.0 key.now work.old work.new list.items) result) }
+    ensures refused { IsReasoned (state S.Store conn.old) (state S.Store conn.new) result }
+{
+    let at = RegisterOf {
+        db,
+        index: key.index,
+        register: key.register,
+    };
+    let rows = block_rows(conn, at, key.term.as_str())?;
+    let list = postings_in(alloc, &rows)?;
+    work.block_read = counted(work.block_read, rows.len());
+    Ok(list)
+}
+
 /// The postings that blocks spell, one block behind the other.
-pub(crate) fn postings_in(alloc: Global, rows: &[Row]) -> Result<Vec<Posting>, RegFault>
-    ensures ok { IfOk result (λ list. AreSpelled rows.now list.items) }
-    ensures honest { result ≡ Err RegFault.Damaged → (list : List _) → ¬ AreSpelled rows.now list }
-    ensures unstored { result ≢ Err RegFault.Store }
+fn postings_in(alloc: Global, rows: &[Row]) -> Result<Vec<Posting>, RegFault>
+    ensures { Answers (λ fault. (fault ≢ RegFault.Store) × IfDamaged (SomeMalformed rows.now) fault)
+        (λ list. AreSpelled rows.now list.items) result }
 {
     let mut postings = Vec::new(alloc);
     for row in rows {

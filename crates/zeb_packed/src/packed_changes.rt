@@ -1,27 +1,23 @@
 //! One row of a key in packed registers, read and written inside a transaction: that of a block, and that of `dict`.
 
-ghost use Rattle.std.specs.Prelude.{IsUtf8, ◌≡◌, ◌≢◌, ◌⊎◌, ◌<◌, ◌≤◌, ◌==◌, ◌^◌, ◌/◌, ℕ, List, true, false, length, not, pos, IfOk, IfErr, OnOk};
+ghost use Rattle.std.specs.Prelude.{IsUtf8, ◌≡◌, ◌≢◌, ◌<◌, ◌≤◌, ◌^◌, ℕ, List, true, false, pos, IfOk, IfErr, OnOk};
 ghost use Rattle.sqlite.specs.declared.error.Error.TheVariants.{SqliteFailure};
 ghost use Rattle.sqlite.specs.declared.error.ErrorCode.TheVariants.{ConstraintViolation};
 ghost use Rattle.sqlite.specs.declared.types.Value.TheVariants.{Int};
 ghost use Rattle.sqlite.specs.Held.{state};
 ghost use Rattle.sqlite.specs.Order.{column};
-ghost use Rattle.sqlite_rules.specs.Lists.{Has};
 ghost use Rattle.sqlite_schema.specs.declared.schema.Constraint.{Constraint};
 ghost use Rattle.zeb_blocks.specs.Blocks.{LiesIn};
-ghost use Rattle.zeb_blocks.specs.declared.postings.Posting.{Posting};
 ghost use Rattle.zeb_register.specs.Calls.{Inside, OnlyReads};
-ghost use Rattle.zeb_register.specs.Clauses.{InStore, IsHinderedInside, IsReasonedInside, TakesInside, TellsHeldInside, TellsInside};
-ghost use Rattle.zeb_register.specs.Clauses.{Writes};
-ghost use Rattle.zeb_register.specs.Content.{Content, IsStorable};
-ghost use Rattle.zeb_register.specs.Hindrances.{IsSpelledAt, SpellsMore};
+ghost use Rattle.zeb_register.specs.Clauses.{InStore, Writes};
 ghost use Rattle.zeb_register.specs.PrivateKeyColumns.{IsOfNumbered, IsDictIn};
-ghost use Rattle.zeb_register.specs.PackedBlocks.{HoldsBlocks, IsRecordNumber, part_in};
-ghost use Rattle.zeb_packed.specs.PrivatePackedChanges.{IfTold, IsBlockIn, IsKnown, IsTold, PutsBlock, PutsCount, SpellsIn};
-ghost use Rattle.zeb_register.specs.PrivatePackedRows.{HoldsBlockRows};
-ghost use Rattle.zeb_packed.specs.PrivatePackedHindrances.{FindsSpelled, HindersBlock, HindersCount, IsMistold, new_rows};
-ghost use Rattle.zeb_packed.specs.PackedSound.{IsBlockSpelled, IsKeyCounted};
+ghost use Rattle.zeb_register.specs.PackedBlocks.{IsRecordNumber};
 ghost use Rattle.zeb_register.specs.Store.{blocks_tree, dict_tree};
+ghost use Rattle.zeb_packed.specs.PrivateUnitCalls.{IsBlockMalformed};
+ghost use Rattle.zeb_packed.specs.UnitChanges.{IsBlockIn, IsTold, PutsCount};
+ghost use Rattle.zeb_packed.specs.Answers.{Answers, IfDamaged};
+ghost use Rattle.zeb_packed.specs.PrivatePackedChanges.{IfTold, IsClearFrom, PutsBlock, SpellsIn};
+ghost use Rattle.zeb_packed.specs.Units.{BlockReads, CountsAs};
 
 use crate::packed::{add_spelled, records_at};
 use crate::statements::packed_changes::{
@@ -44,20 +40,10 @@ pub(crate) fn block_list<S: Alter>(
     requires { block < 2 ^ 63 }
     ensures same { tx.new.conn.ghost_name ≡ tx.old.conn.ghost_name }
     ensures call { Inside (state S.Store tx.old.conn.now) (state S.Store tx.new.conn.now) result (λ _. OnlyReads) }
-    ensures value { TellsHeldInside HoldsBlockRows (state S.Store tx.old.conn.now) (state S.Store tx.new.conn.now) result
-        (λ content list. list.items ≡ part_in block (content db.0 key.now)) }
+    ensures reads { InStore (state S.Store tx.old.conn.now) (state S.Store tx.new.conn.now)
+        (λ trees. Answers (IfDamaged (IsBlockMalformed trees db.0 key.now block))
+        (λ list. BlockReads trees db.0 key.now block list.items) result) }
     ensures lies { IfOk result (λ list. LiesIn block list.items) }
-    ensures honest { InStore (state S.Store tx.old.conn.now) (state S.Store tx.new.conn.now) (λ trees. result ≡ Err RegFault.Damaged
-        → (content : Content) → ¬ HoldsBlockRows trees content) }
-    ensures told { TellsInside (state S.Store tx.old.conn.now) (state S.Store tx.new.conn.now) result
-        (λ trees list. IsTold (not (length list.items == 0)) (IsBlockIn db.0 key.now block) blocks_tree trees) }
-    ensures spelled { TellsInside (state S.Store tx.old.conn.now) (state S.Store tx.new.conn.now) result
-        (λ trees list. (p : Posting) → Has list.items p → IsSpelledAt db.0 key.now trees p) }
-    ensures whole { TellsInside (state S.Store tx.old.conn.now) (state S.Store tx.new.conn.now) result
-        (λ trees list. (p : Posting) → p.sysno / 256 ≡ block → IsSpelledAt db.0 key.now trees p → Has list.items p) }
-    ensures sound { InStore (state S.Store tx.old.conn.now) (state S.Store tx.new.conn.now) (λ trees. OnOk result
-        (IsBlockSpelled trees db.0 key.now block)) }
-    ensures refused { IsReasonedInside (state S.Store tx.old.conn.now) (state S.Store tx.new.conn.now) result }
 {
     let number = stored(block)?;
     let rows = block_bytes(tx, KeyOf { db, key }, number)?;
@@ -72,7 +58,6 @@ pub(crate) fn block_list<S: Alter>(
 fn spelled_list(alloc: Global, row: &Row, block: u64) -> Result<Vec<Posting>, RegFault>
     ensures ok { IfOk result (λ list. SpellsIn block row.now list.items) }
     ensures honest { result ≡ Err RegFault.Damaged → (list : List _) → ¬ SpellsIn block row.now list }
-    ensures unstored { result ≢ Err RegFault.Store }
 {
     let bytes: Vec<u8> = read(row, 0)?;
     let mut list = Vec::new(alloc);
@@ -117,18 +102,11 @@ pub(crate) fn key_known<S: Alter>(
 ) -> Result<Known, RegFault>
     ensures same { tx.new.conn.ghost_name ≡ tx.old.conn.ghost_name }
     ensures call { Inside (state S.Store tx.old.conn.now) (state S.Store tx.new.conn.now) result (λ _. OnlyReads) }
-    ensures value { TellsHeldInside HoldsBlocks (state S.Store tx.old.conn.now) (state S.Store tx.new.conn.now) result
-        (λ content known. IsKnown known (content db.0 key.now)) }
-    ensures honest { InStore (state S.Store tx.old.conn.now) (state S.Store tx.new.conn.now) (λ trees. result ≡ Err RegFault.Damaged
-        → (content : Content) → IsStorable content → ¬ HoldsBlocks trees content) }
     ensures text { OnOk result (IsUtf8 key.now.term) }
-    ensures told { TellsInside (state S.Store tx.old.conn.now) (state S.Store tx.new.conn.now) result
-        (λ trees known. IsTold (not (known.records == 0)) (IsDictIn db.0 key.now) dict_tree trees) }
-    ensures few { IfOk result (λ known. known.records ≤ 999999999) }
-    ensures clear { IfOk result (λ known. known.records ≡ 0 → known.clear_from ≡ 0) }
-    ensures sound { InStore (state S.Store tx.old.conn.now) (state S.Store tx.new.conn.now) (λ trees. OnOk result
-        (IsKeyCounted trees db.0 key.now)) }
-    ensures refused { IsReasonedInside (state S.Store tx.old.conn.now) (state S.Store tx.new.conn.now) result }
+    ensures knows { InStore (state S.Store tx.old.conn.now) (state S.Store tx.new.conn.now)
+        (λ trees. Answers (IfDamaged ((records : ℕ) → ¬ CountsAs trees db.0 key.now records))
+        (λ known. CountsAs trees db.0 key.now known.records) result) }
+    ensures clear { IfOk result (λ known. (known.records ≤ 999999999) × IsClearFrom known) }
 {
     let rows = dict_records(tx, KeyOf { db, key })?;
     let alloc = *rows.allocator();
@@ -145,9 +123,8 @@ pub(crate) fn key_known<S: Alter>(
 /// What a row of `dict` tells of its key: how many records have it, and nothing of its blocks. It takes no memory: it is refused as `Damaged`
 /// alone.
 fn known_at(alloc: Global, row: &Row) -> Result<Known, RegFault>
-    ensures ok { IfOk result (λ known. (column row.now 0 ≡ Int (pos known.records)) × (2 ^ 56 ≤ known.clear_from)) }
-    ensures number { IfOk result (λ known. (1 ≤ known.records) × (known.records ≤ 999999999)) }
-    ensures sound { OnOk result (IsRecordNumber (column row.now 0)) }
+    ensures ok { IfOk result (λ known. (column row.now 0 ≡ Int (pos known.records))
+        × (1 ≤ known.records) × (known.records ≤ 999999999) × (2 ^ 56 ≤ known.clear_from)) }
     ensures refused { IfErr result (λ fault. (fault ≡ RegFault.Damaged) × ¬ IsRecordNumber (column row.now 0)) }
 {
     let records = records_at(row, 0)?;
@@ -174,11 +151,6 @@ pub(crate) fn block_write<S: Alter>(
     ensures call { Writes blocks_tree (IfTold is_there (IsBlockIn db.0 key.now block) (PutsBlock db.0 key.now block list.now))
         (state S.Store tx.old.conn.now) (state S.Store tx.new.conn.now) result }
     ensures honest { result ≢ Err RegFault.Damaged }
-    ensures refused { IsHinderedInside (state S.Store tx.old.conn.now) (state S.Store tx.new.conn.now) result
-        (λ trees. IsMistold is_there (IsBlockIn db.0 key.now block) blocks_tree trees
-        ⊎ HindersBlock is_there key.now block list.now trees) }
-    ensures rowids { TakesInside (state S.Store tx.old.conn.now) (state S.Store tx.new.conn.now) result
-        (new_rows is_there (length list.now)) blocks_tree }
 {
     let number = stored(block)?;
     let at = KeyOf { db, key };
@@ -211,15 +183,8 @@ pub(crate) fn block_begin<S: Alter>(
         (state S.Store tx.old.conn.now) (state S.Store tx.new.conn.now) result }
     ensures honest { InStore (state S.Store tx.old.conn.now) (state S.Store tx.new.conn.now) (λ trees. result ≡ Err RegFault.Damaged
         → ¬ IsTold false (IsBlockIn db.0 key.now block) blocks_tree trees) }
-    ensures spelled { InStore (state S.Store tx.old.conn.now) (state S.Store tx.new.conn.now) (λ trees. OnOk result
-        (SpellsMore db.0 key.now (Has list.now) trees (state S.Store tx.new.conn.now).now.trees)) }
-    ensures sound { FindsSpelled db.0 key.now block (state S.Store tx.old.conn.now) (state S.Store tx.new.conn.now) result }
     ensures absent { InStore (state S.Store tx.old.conn.now) (state S.Store tx.new.conn.now) (λ trees. OnOk result
         (IsTold false (IsBlockIn db.0 key.now block) blocks_tree trees)) }
-    ensures refused { IsHinderedInside (state S.Store tx.old.conn.now) (state S.Store tx.new.conn.now) result
-        (HindersBlock false key.now block list.now) }
-    ensures rowids { TakesInside (state S.Store tx.old.conn.now) (state S.Store tx.new.conn.now) result
-        (new_rows false (length list.now)) blocks_tree }
 {
     let number = stored(block)?;
     let at = KeyOf { db, key };
@@ -262,7 +227,6 @@ fn block_absent<S: Alter>(
         → ¬ IsTold false (IsOfNumbered at.entry number) blocks_tree trees) }
     ensures absent { InStore (state S.Store tx.old.conn.now) (state S.Store tx.new.conn.now) (λ trees. OnOk result
         (IsTold false (IsOfNumbered at.entry number) blocks_tree trees)) }
-    ensures refused { IsReasonedInside (state S.Store tx.old.conn.now) (state S.Store tx.new.conn.now) result }
 {
     let rows = block_bytes(tx, at, number)?;
     match rows.first() {
@@ -283,10 +247,6 @@ pub(crate) fn dict_write<S: Alter>(
     ensures call { Writes dict_tree (IfTold is_there (IsDictIn db.0 key.now) (PutsCount db.0 key.now records))
         (state S.Store tx.old.conn.now) (state S.Store tx.new.conn.now) result }
     ensures honest { result ≢ Err RegFault.Damaged }
-    ensures refused { IsHinderedInside (state S.Store tx.old.conn.now) (state S.Store tx.new.conn.now) result
-        (HindersCount is_there db.0 key.now records) }
-    ensures rowids { TakesInside (state S.Store tx.old.conn.now) (state S.Store tx.new.conn.now) result
-        (new_rows is_there records) dict_tree }
 {
     let number = stored(records)?;
     let at = KeyOf { db, key };

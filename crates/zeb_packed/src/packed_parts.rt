@@ -1,21 +1,19 @@
 //! What the packed tables hold of a key in one block, and what they hold of it after records' places are changed.
 
-ghost use Rattle.std.specs.Prelude.{◌≡◌, ◌≢◌, ◌↔◌, ◌⊎◌, ◌<◌, ◌≤◌, ◌+◌, ◌++◌, ◌^◌, ◌==◌, ◌∷◌, [], ℕ, List};
-ghost use Rattle.std.specs.Prelude.{filter, length, map, true, false, IfOk, MatchOption, OnOk};
+ghost use Rattle.std.specs.Prelude.{◌≡◌, ◌≢◌, ◌≤◌, ◌++◌, ◌∷◌, [], ℕ, List};
+ghost use Rattle.std.specs.Prelude.{map, true, false, IfOk, MatchOption, OnOk};
 ghost use Rattle.std.specs.declared.cmp.Ordering.TheVariants.{Less};
 ghost use Rattle.std.specs.List.{AllByRecursion};
-ghost use Rattle.std.specs.List.Sorted.{IsStrictlySortedBy};
-ghost use Rattle.sqlite_rules.specs.Lists.{Has};
 ghost use Rattle.zeb_blocks.specs.Blocks.{LiesIn};
 ghost use Rattle.zeb_blocks.specs.declared.postings.Posting.{Posting};
-ghost use Rattle.zeb_register.specs.Content.{AreListChanges, ArePlacesOf, AreStorablePlaces, IsListChanged, IsStorablePlace};
-ghost use Rattle.zeb_register.specs.Content.{OldsRise, place_cmp, posting_at, posting_cmp};
-ghost use Rattle.zeb_register.specs.Hindrances.{AreOfOthers, FitsEachLayout, placed, rows_of};
-ghost use Rattle.zeb_packed.specs.PackedSound.{IsOfFirsts, had};
-ghost use Rattle.zeb_packed.specs.PrivatePackedChanges.{CountsOn, IsHeld, IsParted, IsStorableChange};
+ghost use Rattle.zeb_register.specs.Content.{AreStorablePlaces, IsStorablePlace, place_cmp, posting_at};
 ghost use Rattle.zeb_register.specs.PrivatePackedRows.{IsInBlock};
-ghost use Rattle.zeb_packed.specs.PrivatePackedHindrances.{IsPut};
+ghost use Rattle.zeb_packed.specs.PrivateUnitCalls.{units_of};
+ghost use Rattle.zeb_packed.specs.Answers.{Answers, IfDamaged};
+ghost use Rattle.zeb_packed.specs.PrivatePackedChanges.{IsParted};
+ghost use Rattle.zeb_packed.specs.UnitChanges.{CountsOn, IsStorableChange, KeyUnits, TurnsUnit, TurnsUnits};
 
+use crate::packed::MOST_RECORDS;
 use std::alloc::Global;
 use zeb_blocks::Posting;
 use zeb_register::for_layouts::stored;
@@ -32,24 +30,20 @@ pub(crate) struct Held {
 impl Held {
     /// What is held after changes of records of the block, one after the other.
     ///
-    /// `Damaged` where a record has other places than the change says, or where no record has a key with a posting.
+    /// `Damaged` where a record has other places than the change says, or where the number of the records that have the key can't follow: it
+    /// is 0 though the block has a posting, none is left to take from, or it would pass 999,999,999.
     pub(crate) fn changed_by(self, changes: &[RecordChange<'_>]) -> Result<Held, RegFault>
         requires lies { LiesIn self.block self.list.items }
         requires inside { AllByRecursion (IsInBlock self.block) changes.now }
         requires stored { AllByRecursion IsStorableChange changes.now }
-        ensures held { IfOk result (λ held. (old : List Posting) → IsStrictlySortedBy posting_cmp old → IsHeld old self
-            → (new : List Posting) × AreListChanges changes.now old new × IsHeld new held) }
+        requires few { self.records ≤ 999999999 }
+        ensures turned { Answers
+            (IfDamaged ((are : KeyUnits)
+            → ¬ TurnsUnits changes.now (units_of self.list.items self.records) are))
+            (λ held. TurnsUnits changes.now (units_of self.list.items self.records)
+            (units_of held.list.items held.records))
+            result }
         ensures lies { IfOk result (λ held. LiesIn self.block held.list.items) }
-        ensures block { IfOk result (λ held. held.block ≡ self.block) }
-        ensures damaged { result ≡ Err RegFault.Damaged → OldsRise changes.now
-            → (old new : List Posting) → IsStrictlySortedBy posting_cmp old → IsHeld old self → ¬ AreListChanges changes.now old new }
-        ensures made { IfOk result (λ held. (p : Posting) → Has held.list.items p → Has self.list.items p ⊎ IsPut changes.now p) }
-        ensures found { OnOk result (IsOfFirsts (λ it. ArePlacesOf it.0 it.1 self.list.items) (map had changes.now)) }
-        ensures kept { IfOk result (λ held. (p : Posting) → AreOfOthers (map had changes.now) p.sysno
-            → Has held.list.items p ↔ Has self.list.items p) }
-        ensures counted { IfOk result (λ held. 1 ≤ length changes.now → held.list.items ≢ [] → 1 ≤ held.records) }
-        ensures grows { IfOk result (λ held. held.records ≤ self.records + rows_of (map placed changes.now)) }
-        ensures refused { result ≡ Err RegFault.Store → 2 ^ 63 ≤ self.records + rows_of (map placed changes.now) }
     {
         let mut held = self;
         for change in changes {
@@ -58,26 +52,21 @@ impl Held {
         Ok(held)
     }
 
-    /// What is held after a change of a record of the block.
-    ///
-    /// `Damaged` where the record has other places than the change says, or where no record has a key with a posting. `Store` where more
-    /// records have the key than a column stores.
+    /// What is held after a change of a record of the block. `Damaged` as of several.
     fn changed(&self, change: &RecordChange<'_>) -> Result<Held, RegFault>
         requires lies { LiesIn self.now.block self.now.list.items }
         requires inside { IsInBlock self.now.block change.now }
         requires stored { IsStorableChange change.now }
-        ensures list { IfOk result (λ held. IsListChanged change.now.sysno change.now.new.now self.now.list.items held.list.items) }
+        requires few { self.now.records ≤ 999999999 }
+        ensures turned { Answers
+            (IfDamaged ((are : KeyUnits)
+            → ¬ TurnsUnit change.now (units_of self.now.list.items self.now.records) are))
+            (λ held. TurnsUnit change.now (units_of self.now.list.items self.now.records)
+            (units_of held.list.items held.records))
+            result }
         ensures lies { IfOk result (λ held. LiesIn self.now.block held.list.items) }
         ensures block { IfOk result (λ held. held.block ≡ self.now.block) }
-        ensures own { OnOk result (map (posting_at change.now.sysno) change.now.old.now
-            ≡ filter (λ p. p.sysno == change.now.sysno) self.now.list.items) }
-        ensures count { IfOk result (λ held. CountsOn change.now.old.now change.now.new.now self.now.records held.records) }
-        ensures counted { IfOk result (λ held. held.list.items ≢ [] → 1 ≤ held.records) }
-        ensures damaged { result ≡ Err RegFault.Damaged → IsStrictlySortedBy place_cmp change.now.old.now → (list : List Posting)
-            → IsStrictlySortedBy posting_cmp list → IsHeld list self.now → ¬ ArePlacesOf change.now.sysno change.now.old.now list }
-        ensures refused { result ≡ Err RegFault.Store → 2 ^ 63 ≤ self.now.records }
     {
-        stored(self.records)?;
         let parted = parted_at(*self.list.allocator(), &self.list, change.sysno)?;
         if !are_same(&parted.own, change.old) || self.lacks_records() {
             return Err(RegFault::Damaged);
@@ -121,7 +110,6 @@ impl Parted {
         ensures parted { OnOk result ((list : List Posting) → IsParted sysno list self.old
             → IsParted sysno (list ++ posting ∷ []) self.new) }
         ensures honest { result ≢ Err RegFault.Damaged }
-        ensures unstored { result ≢ Err RegFault.Store }
     {
         if posting.sysno < sysno {
             self.before.push(posting)?;
@@ -141,7 +129,6 @@ impl Parted {
 fn parted_at(alloc: Global, list: &[Posting], sysno: u64) -> Result<Parted, RegFault>
     ensures parted { IfOk result (IsParted sysno list.now) }
     ensures honest { result ≢ Err RegFault.Damaged }
-    ensures unstored { result ≢ Err RegFault.Store }
 {
     let mut parted = Parted {
         before: Vec::new(alloc),
@@ -171,7 +158,6 @@ fn joined(
 ) -> Result<Vec<Posting>, RegFault>
     ensures list { IfOk result (λ list. list.items ≡ before.items ++ (map (posting_at sysno) places.now ++ behind.now)) }
     ensures honest { result ≢ Err RegFault.Damaged }
-    ensures unstored { result ≢ Err RegFault.Store }
 {
     let mut list = before;
     for place in places {
@@ -185,23 +171,26 @@ fn joined(
     Ok(list)
 }
 
-/// How many records have a key after one record's places are changed; `None` where none had it, and this one did.
+/// How many records have a key after one record's places are changed; `None` where none had it, and this one did, or where a database has
+/// no numbers for so many.
 fn records_after(records: u64, old: &[Place], new: &[Place]) -> Option<u64>
-    requires { records < 2 ^ 63 }
-    ensures { MatchOption result ((after : ℕ) → ¬ CountsOn old.now new.now records after) (CountsOn old.now new.now records) }
+    requires { records ≤ 999999999 }
+    ensures { MatchOption result
+        ((after : ℕ) → CountsOn old.now new.now records after → ¬ (after ≤ 999999999))
+        (λ after. CountsOn old.now new.now records after × (after ≤ 999999999)) }
 {
     match (old.is_empty(), new.is_empty()) {
+        (true, false) if records == MOST_RECORDS => None,
         (true, false) => Some(records + 1),
         (false, true) => records.checked_sub(1),
         _ => Some(records),
     }
 }
 
-/// Refuses changes that no row has, as `Store`: one with a number of 0 or above `2^63 - 1`, and one to places that don't rise.
+/// Refuses changes that no row has, as `Store`: one with a number of 0 or above 999,999,999, and one to places that don't rise.
 pub(crate) fn check_changes(changes: &[RecordChange<'_>]) -> Result<(), RegFault>
     ensures stored { OnOk result (AllByRecursion IsStorableChange changes.now) }
     ensures honest { result ≢ Err RegFault.Damaged }
-    ensures refused { result ≡ Err RegFault.Store → ¬ AllByRecursion FitsEachLayout (map placed changes.now) }
 {
     for change in changes {
         check_numbers(change.sysno, change.new)?;
@@ -209,15 +198,13 @@ pub(crate) fn check_changes(changes: &[RecordChange<'_>]) -> Result<(), RegFault
     Ok(())
 }
 
-/// Refuses what no row has, as `Store`: a number of 0 or above `2^63 - 1`, and places that don't rise.
+/// Refuses what no row has, as `Store`: a number that no record has, and places that don't rise.
 fn check_numbers(sysno: u64, places: &[Place]) -> Result<(), RegFault>
-    ensures number { OnOk result ((1 ≤ sysno) × (sysno < 2 ^ 63)) }
+    ensures number { OnOk result ((1 ≤ sysno) × (sysno ≤ 999999999)) }
     ensures stored { OnOk result (AreStorablePlaces places.now) }
     ensures honest { result ≢ Err RegFault.Damaged }
-    ensures refused { result ≡ Err RegFault.Store → ¬ FitsEachLayout (sysno, places.now) }
 {
-    stored(sysno)?;
-    if sysno == 0 {
+    if sysno == 0 || sysno > MOST_RECORDS {
         return Err(RegFault::Store);
     }
     let mut before = Place { seq: 0, pos: 0 };
@@ -232,7 +219,6 @@ fn check_numbers(sysno: u64, places: &[Place]) -> Result<(), RegFault>
 fn check_place(before: Place, place: Place) -> Result<(), RegFault>
     ensures ok { OnOk result (IsStorablePlace place × (place_cmp before place ≡ Less)) }
     ensures honest { result ≢ Err RegFault.Damaged }
-    ensures refused { result ≡ Err RegFault.Store → ¬ (IsStorablePlace place × (place_cmp before place ≡ Less)) }
 {
     stored(place.seq)?;
     stored(place.pos)?;

@@ -1,39 +1,59 @@
 //! A key's places changed in many records, in packed registers: the row of a block is read and written once for the records of it that
 //! stand next to each other, and the row of `dict` once for all. A block that the key can have no row for is only written.
 
-ghost use Rattle.std.specs.Prelude.{IsUtf8, ◌≡◌, ◌<◌, ◌≤◌, ◌+◌, ◌^◌, ◌∷◌, List, length, map, take, IfOk, IsTrue, OnOk};
+ghost use Rattle.std.specs.Prelude.{IsTrue, IsUtf8, ◌≡◌, ◌≢◌, ◌<◌, ◌≤◌, ◌^◌, ◌∷◌, [], List, length, take, IfOk, OnOk};
 ghost use Rattle.std.specs.List.{AllByRecursion};
 ghost use Rattle.sqlite.specs.Held.{state};
-ghost use Rattle.zeb_blocks.specs.declared.postings.Posting.{Posting};
 ghost use Rattle.zeb_register.specs.Calls.{GoesOn, Inside};
-ghost use Rattle.zeb_register.specs.Clauses.{ChangesTable, DamagedHeld, InStore, IsHinderedInside, TakesInside, TakesRegistersInside};
-ghost use Rattle.zeb_register.specs.Content.{AreChangedAt, AreListChanges, Content, OldsRise};
-ghost use Rattle.zeb_register.specs.Hindrances.{HindersPlaces, IsPlacedAt, KeepsPlaces, KeepsSpelled, SpellsMore, placed, rows_of};
-ghost use Rattle.zeb_register.specs.PackedBlocks.{HoldsBlocks};
-ghost use Rattle.zeb_register.specs.PlainRows.{key_row};
-ghost use Rattle.zeb_packed.specs.PrivatePackedChanges.{IsClear, HasSoManyRecords, IsHonestRun, IsKnown, IsStorableChange, PutsChanges};
-ghost use Rattle.zeb_packed.specs.PrivatePackedChanges.{PutsRun};
+ghost use Rattle.zeb_register.specs.Clauses.{ChangesTable, InStore};
 ghost use Rattle.zeb_register.specs.PrivatePackedRows.{IsInBlock};
-ghost use Rattle.zeb_packed.specs.PrivatePackedHindrances.{AreRunsSpelled, FindsOld, FindsSpelled, HindersChanges, IsHinderedRun, LacksBlock, SpellsRun};
-ghost use Rattle.zeb_packed.specs.PrivatePackedHindrances.{WereClear};
-ghost use Rattle.zeb_packed.specs.PackedSound.{AreKeyRowsSound, AreSpelledIn, IsOfFirsts, had};
-ghost use Rattle.zeb_register.specs.Sound.{KeepsMalformed, KeepsRowsBeside};
-ghost use Rattle.zeb_register.specs.Store.{IsStore, KeepsLists, blocks_tree};
+ghost use Rattle.zeb_register.specs.Store.{blocks_tree};
 ghost use Rattle.zeb_register.specs.Tallies.{Works};
+ghost use Rattle.zeb_packed.specs.PrivateUnitCalls.{AllowsBlocks, ChangesUnits, IsHonestRun, PutsRun, TurnsBlocks};
+ghost use Rattle.zeb_packed.specs.UnitChanges.{ChangesKey, IsStorableChange};
 
 use crate::packed::counted;
 use crate::packed_changes::{Known, block_begin, block_list, block_write, dict_write, key_known};
-use crate::packed_parts::Held;
+use crate::packed_parts::{Held, check_changes};
 use sqlite::{Alter, Transaction};
 use std::alloc::Global;
 use zeb_keys::Key;
+use zeb_register::for_layouts::nothing_inside;
 use zeb_register::{DatabaseId, RecordChange, RegFault, Work};
 
 /// How many system numbers belong to one block.
 const BLOCK_RECORDS: u64 = 256;
 
+/// Puts changes of a key into its rows, and counts a row of each table, read and written, for each. Without a change no row is read.
+pub(crate) fn changes_made<S: Alter>(
+    tx: &mut Transaction<'_, S>,
+    work: &mut Work,
+    db: DatabaseId,
+    key: &Key,
+    changes: &[RecordChange<'_>],
+) -> Result<(), RegFault>
+    ensures same { tx.new.conn.ghost_name ≡ tx.old.conn.ghost_name }
+    ensures call { Inside (state S.Store tx.old.conn.now) (state S.Store tx.new.conn.now) result
+        (λ _. GoesOn) }
+    ensures units { ChangesKey db.0 key.now changes.now
+        (state S.Store tx.old.conn.now) (state S.Store tx.new.conn.now) result }
+    ensures text { OnOk result (changes.now ≢ [] → IsUtf8 key.now.term) }
+    ensures work { OnOk result (Works (length changes.now) (length changes.now)
+        (length changes.now) (length changes.now) work.old work.new) }
+{
+    check_changes(changes)?;
+    if changes.is_empty() {
+        // A closed connection is refused also where there is no change.
+        nothing_inside(tx)?;
+        return Ok(());
+    }
+    changes_put(tx, db, key, changes)?;
+    count_rows(work, changes.len());
+    Ok(())
+}
+
 /// Counts so many rows of `dict` and so many of `blocks`, read and written.
-pub(crate) fn count_rows(work: &mut Work, rows: usize)
+fn count_rows(work: &mut Work, rows: usize)
     ensures { Works rows rows rows rows work.old work.new }
 {
     work.dict_read = counted(work.dict_read, rows);
@@ -43,7 +63,7 @@ pub(crate) fn count_rows(work: &mut Work, rows: usize)
 }
 
 /// Puts changes into the rows of a key: that of `dict` is read first, and written when all its blocks are.
-pub(crate) fn changes_put<S: Alter>(
+fn changes_put<S: Alter>(
     tx: &mut Transaction<'_, S>,
     db: DatabaseId,
     key: &Key,
@@ -52,29 +72,9 @@ pub(crate) fn changes_put<S: Alter>(
     requires stored { AllByRecursion IsStorableChange changes.now }
     ensures same { tx.new.conn.ghost_name ≡ tx.old.conn.ghost_name }
     ensures call { Inside (state S.Store tx.old.conn.now) (state S.Store tx.new.conn.now) result (λ _. GoesOn) }
-    ensures change { InStore (state S.Store tx.old.conn.now) (state S.Store tx.new.conn.now) (λ trees. OnOk result
-        (IsStore (state S.Store tx.new.conn.now) × KeepsLists trees (state S.Store tx.new.conn.now).now.trees
-        × ((before : Content) → HoldsBlocks trees before → (after : Content) × AreChangedAt db.0 key.now changes.now before after
-        × HoldsBlocks (state S.Store tx.new.conn.now).now.trees after))) }
-    ensures damaged { DamagedHeld HoldsBlocks (state S.Store tx.old.conn.now) (state S.Store tx.new.conn.now) result
-        (OldsRise changes.now) (λ content. (new : List Posting) → ¬ AreListChanges changes.now (content db.0 key.now) new) }
+    ensures units { ChangesUnits db.0 key.now changes.now
+        (state S.Store tx.old.conn.now) (state S.Store tx.new.conn.now) result }
     ensures text { OnOk result (IsUtf8 key.now.term) }
-    ensures sound { InStore (state S.Store tx.old.conn.now) (state S.Store tx.new.conn.now) (λ trees. OnOk result
-        (AreKeyRowsSound trees db.0 key.now (map had changes.now))) }
-    ensures malformed { InStore (state S.Store tx.old.conn.now) (state S.Store tx.new.conn.now) (λ trees. OnOk result
-        (KeepsMalformed trees (state S.Store tx.new.conn.now).now.trees)) }
-    ensures others { InStore (state S.Store tx.old.conn.now) (state S.Store tx.new.conn.now) (λ trees. OnOk result
-        (KeepsRowsBeside (key_row db.0 key.now) trees (state S.Store tx.new.conn.now).now.trees)) }
-    ensures spelled { InStore (state S.Store tx.old.conn.now) (state S.Store tx.new.conn.now) (λ trees. OnOk result
-        (SpellsMore db.0 key.now (IsPlacedAt (map placed changes.now)) trees (state S.Store tx.new.conn.now).now.trees)) }
-    ensures still { InStore (state S.Store tx.old.conn.now) (state S.Store tx.new.conn.now) (λ trees. OnOk result
-        (KeepsSpelled db.0 key.now (map placed changes.now) trees (state S.Store tx.new.conn.now).now.trees)) }
-    ensures places { InStore (state S.Store tx.old.conn.now) (state S.Store tx.new.conn.now) (λ trees. OnOk result
-        (KeepsPlaces db.0 key.now (map placed changes.now) trees (state S.Store tx.new.conn.now).now.trees)) }
-    ensures refused { IsHinderedInside (state S.Store tx.old.conn.now) (state S.Store tx.new.conn.now) result
-        (HindersPlaces db.0 key.now (map placed changes.now)) }
-    ensures rowids { TakesRegistersInside (state S.Store tx.old.conn.now) (state S.Store tx.new.conn.now) result
-        (rows_of (map placed changes.now)) }
 {
     let known = key_known(tx, db, key)?;
     let after = runs_put(tx, db, key, known, changes)?;
@@ -89,31 +89,17 @@ fn runs_put<S: Alter>(
     known: Known,
     changes: &[RecordChange<'_>],
 ) -> Result<u64, RegFault>
-    requires { AllByRecursion IsStorableChange changes.now }
+    requires stored { AllByRecursion IsStorableChange changes.now }
+    requires few { known.records ≤ 999999999 }
     ensures same { tx.new.conn.ghost_name ≡ tx.old.conn.ghost_name }
     ensures call { Inside (state S.Store tx.old.conn.now) (state S.Store tx.new.conn.now) result (λ _ a b. IsTrue a.is_open → GoesOn a b) }
-    ensures put { ChangesTable blocks_tree (state S.Store tx.old.conn.now) (state S.Store tx.new.conn.now) result
-        (λ after. PutsChanges db.0 key.now changes.now (IsKnown known) (HasSoManyRecords after)) }
-    ensures damaged { IsHonestRun db.0 key.now changes.now (IsKnown known)
-        (state S.Store tx.old.conn.now) (state S.Store tx.new.conn.now) result }
-    ensures grows { IfOk result (λ after. after ≤ known.records + rows_of (map placed changes.now)) }
-    ensures sound { InStore (state S.Store tx.old.conn.now) (state S.Store tx.new.conn.now) (λ trees. OnOk result
-        (AreRunsSpelled db.0 key.now changes.now trees)) }
-    ensures old { InStore (state S.Store tx.old.conn.now) (state S.Store tx.new.conn.now) (λ trees. OnOk result
-        (IsOfFirsts (AreSpelledIn trees db.0 key.now) (map had changes.now))) }
-    ensures clear { InStore (state S.Store tx.old.conn.now) (state S.Store tx.new.conn.now) (λ trees. OnOk result
-        (WereClear db.0 key.now known.clear_from changes.now trees)) }
-    ensures malformed { InStore (state S.Store tx.old.conn.now) (state S.Store tx.new.conn.now) (λ trees. OnOk result
-        (IsUtf8 key.now.term → KeepsMalformed trees (state S.Store tx.new.conn.now).now.trees)) }
-    ensures others { InStore (state S.Store tx.old.conn.now) (state S.Store tx.new.conn.now) (λ trees. OnOk result
-        (KeepsRowsBeside (key_row db.0 key.now) trees (state S.Store tx.new.conn.now).now.trees)) }
-    ensures spelled { SpellsRun db.0 key.now changes.now (state S.Store tx.old.conn.now) (state S.Store tx.new.conn.now) result }
-    ensures still { InStore (state S.Store tx.old.conn.now) (state S.Store tx.new.conn.now) (λ trees. OnOk result
-        (KeepsSpelled db.0 key.now (map placed changes.now) trees (state S.Store tx.new.conn.now).now.trees)) }
-    ensures refused { IsHinderedInside (state S.Store tx.old.conn.now) (state S.Store tx.new.conn.now) result
-        (HindersChanges db.0 key.now known.records changes.now) }
-    ensures rowids { TakesInside (state S.Store tx.old.conn.now) (state S.Store tx.new.conn.now) result
-        (rows_of (map placed changes.now)) blocks_tree }
+    ensures turned { ChangesTable blocks_tree
+        (state S.Store tx.old.conn.now) (state S.Store tx.new.conn.now) result
+        (λ after _. TurnsBlocks db.0 key.now changes.now (λ block. known.clear_from ≤ block)
+        known.records after) }
+    ensures damaged { InStore (state S.Store tx.old.conn.now) (state S.Store tx.new.conn.now)
+        (λ trees. result ≡ Err RegFault.Damaged → ¬ AllowsBlocks db.0 key.now changes.now
+        (λ block. known.clear_from ≤ block) known.records trees) }
 {
     let mut known = known;
     let mut done = 0;
@@ -154,21 +140,14 @@ fn run_put<S: Alter>(
     requires stored { AllByRecursion IsStorableChange run.now }
     requires inside { AllByRecursion (IsInBlock block) run.now }
     requires small { block < 2 ^ 63 }
+    requires few { known.records ≤ 999999999 }
     ensures same { tx.new.conn.ghost_name ≡ tx.old.conn.ghost_name }
-    ensures call { PutsRun db.0 key.now run.now (IsKnown known)
+    ensures call { PutsRun db.0 key.now block run.now known.records (known.clear_from ≤ block)
         (state S.Store tx.old.conn.now) (state S.Store tx.new.conn.now) result }
-    ensures damaged { IsHonestRun db.0 key.now run.now (IsKnown known)
+    ensures damaged { IsHonestRun db.0 key.now block run.now
+        known.records (known.clear_from ≤ block)
         (state S.Store tx.old.conn.now) (state S.Store tx.new.conn.now) result }
-    ensures grows { IfOk result (λ after. after ≤ known.records + rows_of (map placed run.now)) }
-    ensures refused { IsHinderedRun db.0 key.now run.now known.records
-        (state S.Store tx.old.conn.now) (state S.Store tx.new.conn.now) result }
-    ensures rowids { TakesInside (state S.Store tx.old.conn.now) (state S.Store tx.new.conn.now) result
-        (rows_of (map placed run.now)) blocks_tree }
-    ensures spelled { SpellsRun db.0 key.now run.now (state S.Store tx.old.conn.now) (state S.Store tx.new.conn.now) result }
-    ensures sound { FindsSpelled db.0 key.now block (state S.Store tx.old.conn.now) (state S.Store tx.new.conn.now) result }
-    ensures old { FindsOld db.0 key.now block run.now (state S.Store tx.old.conn.now) (state S.Store tx.new.conn.now) result }
-    ensures absent { InStore (state S.Store tx.old.conn.now) (state S.Store tx.new.conn.now) (λ trees. OnOk result
-        (known.clear_from ≤ block → LacksBlock db.0 key.now block trees)) }
+    ensures few { IfOk result (λ after. after ≤ 999999999) }
 {
     if block < known.clear_from {
         return row_renew(tx, db, key, block, known.records, run);
@@ -188,19 +167,13 @@ fn row_renew<S: Alter>(
     requires stored { AllByRecursion IsStorableChange run.now }
     requires inside { AllByRecursion (IsInBlock block) run.now }
     requires small { block < 2 ^ 63 }
+    requires few { records ≤ 999999999 }
     ensures same { tx.new.conn.ghost_name ≡ tx.old.conn.ghost_name }
-    ensures call { PutsRun db.0 key.now run.now (HasSoManyRecords records)
+    ensures call { PutsRun db.0 key.now block run.now records (⊥)
         (state S.Store tx.old.conn.now) (state S.Store tx.new.conn.now) result }
-    ensures damaged { IsHonestRun db.0 key.now run.now (HasSoManyRecords records)
+    ensures damaged { IsHonestRun db.0 key.now block run.now records (⊥)
         (state S.Store tx.old.conn.now) (state S.Store tx.new.conn.now) result }
-    ensures grows { IfOk result (λ after. after ≤ records + rows_of (map placed run.now)) }
-    ensures refused { IsHinderedRun db.0 key.now run.now records
-        (state S.Store tx.old.conn.now) (state S.Store tx.new.conn.now) result }
-    ensures rowids { TakesInside (state S.Store tx.old.conn.now) (state S.Store tx.new.conn.now) result
-        (rows_of (map placed run.now)) blocks_tree }
-    ensures spelled { SpellsRun db.0 key.now run.now (state S.Store tx.old.conn.now) (state S.Store tx.new.conn.now) result }
-    ensures sound { FindsSpelled db.0 key.now block (state S.Store tx.old.conn.now) (state S.Store tx.new.conn.now) result }
-    ensures old { FindsOld db.0 key.now block run.now (state S.Store tx.old.conn.now) (state S.Store tx.new.conn.now) result }
+    ensures few { IfOk result (λ after. after ≤ 999999999) }
 {
     let list = block_list(tx, db, key, block)?;
     let is_there = !list.is_empty();
@@ -228,21 +201,13 @@ fn row_begin<S: Alter>(
     requires stored { AllByRecursion IsStorableChange run.now }
     requires inside { AllByRecursion (IsInBlock block) run.now }
     requires small { block < 2 ^ 63 }
+    requires few { records ≤ 999999999 }
     ensures same { tx.new.conn.ghost_name ≡ tx.old.conn.ghost_name }
-    ensures call { PutsRun db.0 key.now run.now (IsClear block records)
+    ensures call { PutsRun db.0 key.now block run.now records (Unit {0})
         (state S.Store tx.old.conn.now) (state S.Store tx.new.conn.now) result }
-    ensures damaged { IsHonestRun db.0 key.now run.now (IsClear block records)
+    ensures damaged { IsHonestRun db.0 key.now block run.now records (Unit {0})
         (state S.Store tx.old.conn.now) (state S.Store tx.new.conn.now) result }
-    ensures grows { IfOk result (λ after. after ≤ records + rows_of (map placed run.now)) }
-    ensures refused { IsHinderedRun db.0 key.now run.now records
-        (state S.Store tx.old.conn.now) (state S.Store tx.new.conn.now) result }
-    ensures rowids { TakesInside (state S.Store tx.old.conn.now) (state S.Store tx.new.conn.now) result
-        (rows_of (map placed run.now)) blocks_tree }
-    ensures spelled { SpellsRun db.0 key.now run.now (state S.Store tx.old.conn.now) (state S.Store tx.new.conn.now) result }
-    ensures sound { FindsSpelled db.0 key.now block (state S.Store tx.old.conn.now) (state S.Store tx.new.conn.now) result }
-    ensures old { FindsOld db.0 key.now block run.now (state S.Store tx.old.conn.now) (state S.Store tx.new.conn.now) result }
-    ensures absent { InStore (state S.Store tx.old.conn.now) (state S.Store tx.new.conn.now) (λ trees. OnOk result
-        (LacksBlock db.0 key.now block trees)) }
+    ensures few { IfOk result (λ after. after ≤ 999999999) }
 {
     let held = Held {
         block,

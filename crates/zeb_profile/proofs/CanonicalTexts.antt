@@ -1,9 +1,5 @@
 -- The parts of a canonical text, one after another.
-use Rattle.std.proofs.Common.{◌≡◌, ℕ, List, [], ◌∷◌, ◌++◌, ap, sym}
-use Rattle.std.specs.List.{flat_map}
-use Rattle.zeb_profile.specs.declared.directives.Target.{Target}
-use Rattle.std.proofs.lemmas.List.{append-nil}
-use Rattle.zeb_profile.specs.Canonical.{target_text, targets_text}
+use Rattle.zeb_profile.proofs.Cited.{◌≡◌, ℕ, List, [], ◌∷◌, ◌++◌, ap, sym, flat_map, Target, append-nil, target_text, targets_text}
 
 -- the targets behind the first, each behind a comma
 abbrev pub further_text : List Target → List ℕ

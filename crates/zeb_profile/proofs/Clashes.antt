@@ -1,15 +1,5 @@
 -- What is noted of the lines read so far refuses just what they refuse.
-use Rattle.std.proofs.Common.{◌≡◌, ℕ, List, [], ◌∷◌, ◌++◌, true, false, Bool, cond, Option, Some, None, refl, sym, ◌∙◌, ap, if◌then◌else◌}
-use Rattle.std.proofs.Math.Path.{fun_ext}
-use Rattle.std.proofs.lemmas.List.{map-append}
-use Rattle.zeb_profile.specs.declared.directives.Directive.{Directive}
-use Rattle.zeb_profile.specs.declared.directives.Placed.{Placed}
-use Rattle.zeb_profile.specs.declared.faults.ProfileFaultKind.{ProfileFaultKind}
-use Rattle.zeb_profile.specs.declared.repeats.Repeats.{Repeats}
-use Rattle.zeb_profile.specs.Directives.{directive_of}
-use Rattle.zeb_profile.specs.Outcomes.{◌>>=◌}
-use Rattle.zeb_profile.specs.Profiles.{clash, directive_after, directives_in, first_clash, first_of, unless}
-use Rattle.zeb_profile.specs.PrivateRepeats.{NotesAlso, NotesClashes, directive_beside, noted_clash}
+use Rattle.zeb_profile.proofs.Cited.{◌≡◌, ℕ, List, [], ◌∷◌, ◌++◌, true, false, Bool, cond, Option, Some, None, refl, sym, ◌∙◌, ap, if◌then◌else◌, fun_ext, map-append, Directive, Placed, ProfileFaultKind, Repeats, directive_of, ◌>>=◌, clash, directive_after, directives_in, first_clash, first_of, unless, NotesAlso, NotesClashes, directive_beside, noted_clash}
 
 first_of-assoc : (a b c : Option ProfileFaultKind) → first_of (first_of a b) c ≡ first_of a (first_of b c)
 first_of-assoc None b c = refl

@@ -1,11 +1,5 @@
 -- Texts with the same telling lines are one profile.
-use Rattle.std.proofs.Common.{◌≡◌, ℕ, List, [], ◌∷◌, ◌++◌, map, None, Ok, false, refl, ap, subst, sym, ◌∙◌}
-use Rattle.std.specs.List.{find, list_any}
-use Rattle.zeb_profile.specs.declared.directives.Directive.{Directive}
-use Rattle.zeb_profile.specs.declared.directives.Placed.{Placed}
-use Rattle.zeb_profile.specs.Laws.{CommentsSayNothing}
-use Rattle.zeb_profile.specs.Outcomes.{◌>>=◌}
-use Rattle.zeb_profile.specs.Profiles.{at_line, directive_after, directives_in, has_room, is_identifier, is_store, lack_of, placed_after, placed_lines, telling_lines, ties_unknown, unless}
+use Rattle.zeb_profile.proofs.Cited.{◌≡◌, ℕ, List, [], ◌∷◌, ◌++◌, map, None, Ok, false, refl, ap, subst, sym, ◌∙◌, find, list_any, Directive, Placed, CommentsSayNothing, ◌>>=◌, at_line, directive_after, directives_in, has_room, is_identifier, is_store, lack_of, placed_after, placed_lines, telling_lines, ties_unknown, unless}
 use Rattle.zeb_profile.proofs.Lacks.{lack_none}
 use Rattle.zeb_profile.proofs.ProfilesBack.{any_placed, directives_push, find_none, lacks_nothing, line_ok, none_found, unless_none}
 use Rattle.zeb_profile.proofs.TargetsBack.{step_ok}

@@ -1,11 +1,5 @@
 -- Where a text is cut at blanks.
-use Rattle.std.proofs.Common.{◌≡◌, ℕ, ◌+◌, ◌-◌, ◌<◌, ◌≤◌, List, [], ◌∷◌, length, take, drop, get_or, Bool, true, false, not, nat_lt, nat_eq, arith, refl, ap, sym, ◌∙◌, suc, subst, inl, inr}
-use Rattle.std.specs.List.{position_or_len, prefix_len, slice_split, filter}
-use Rattle.std.specs.Str.{IsUtf8, IsCharBoundary}
-use Rattle.std.proofs.lemmas.Str.{IsCharBoundary-start, IsCharBoundary-after_ascii}
-use Rattle.std.proofs.lemmas.List.Sums.{fails_before_first, passes_at_first, prefix_len-le-length, position_or_len_is}
-use Rattle.std.proofs.lemmas.Bool.{cases_eq, lt-ltb, cases_Bool, eqb-true, or_cases, not-false, not-true}
-use Rattle.zeb_profile.specs.Lines.{is_blank, is_no_blank, without_leading_blanks, words_of}
+use Rattle.zeb_profile.proofs.Cited.{◌≡◌, ℕ, ◌+◌, ◌-◌, ◌<◌, ◌≤◌, List, [], ◌∷◌, length, take, drop, get_or, Bool, true, false, not, nat_lt, nat_eq, arith, refl, ap, sym, ◌∙◌, suc, subst, inl, inr, position_or_len, prefix_len, slice_split, filter, IsUtf8, IsCharBoundary, IsCharBoundary-start, IsCharBoundary-after_ascii, fails_before_first, passes_at_first, prefix_len-le-length, position_or_len_is, cases_eq, lt-ltb, cases_Bool, eqb-true, or_cases, not-false, not-true, is_blank, is_no_blank, without_leading_blanks, words_of}
 
 -- a blank is an ASCII byte
 pub blank_is_ascii : (byte : ℕ) → is_blank byte ≡ true → byte < 128

@@ -1,18 +1,5 @@
 -- A line's directive, written as the canonical text writes it, is read again from what is written.
-use Rattle.std.proofs.Common.{◌≡◌, ℕ, codes, inl, inr, ◌<◌, List, [], ◌∷◌, length, true, Ok, arith, refl, ap, sym, ◌∙◌, subst}
-use Rattle.std.specs.Fmt.{decimal}
-use Rattle.std.specs.Option.{ok_or}
-use Rattle.std.specs.Str.{bytes_eq}
-use Rattle.std.proofs.lemmas.Bool.{cases_Bool}
-use Rattle.zeb_profile.specs.declared.directives.Directive.{Directive}
-use Rattle.zeb_profile.specs.declared.directives.Directive.TheVariants.{Store, Identifier, Att, Melm, All as AllUnits}
-use Rattle.zeb_profile.specs.declared.patterns.UnitPattern.{UnitPattern}
-use Rattle.zeb_profile.specs.declared.faults.ProfileFaultKind.TheVariants.{Directive as FaultyDirective}
-use Rattle.zeb_profile.specs.Canonical.{pattern_text, targets_text}
-use Rattle.zeb_profile.specs.Directives.{all_of, att_of, directive_from, directive_of, identifier_of, melm_of, one_word, store_of, two_words}
-use Rattle.zeb_profile.specs.Lines.{after_word, trimmed, words_of}
-use Rattle.zeb_profile.specs.Outcomes.{◌>>=◌}
-use Rattle.zeb_profile.specs.Words.{is_name, name_of, number_of, pattern_of, targets_of}
+use Rattle.zeb_profile.proofs.Cited.{◌≡◌, ℕ, codes, inl, inr, ◌<◌, List, [], ◌∷◌, length, true, Ok, arith, refl, ap, sym, ◌∙◌, subst, decimal, ok_or, bytes_eq, cases_Bool, Directive, Store, Identifier, Att, Melm, AllUnits, UnitPattern, FaultyDirective, pattern_text, targets_text, all_of, att_of, directive_from, directive_of, identifier_of, melm_of, one_word, store_of, two_words, after_word, trimmed, words_of, ◌>>=◌, is_name, name_of, number_of, pattern_of, targets_of}
 use Rattle.zeb_profile.proofs.LinesBack.{IsOneLine}
 use Rattle.zeb_profile.proofs.PlainWords.{IsPlain}
 use Rattle.zeb_profile.proofs.StorePaths.{IsTrimmed, rest_one_line, trimmed_ends, words_of-after}

@@ -1,14 +1,5 @@
 -- A text's fault is that of its first faulty line, or what all its lines lack.
-use Rattle.std.proofs.Common.{◌≡◌, ◌⊎◌, ℕ, List, [], ◌∷◌, ◌++◌, Option, Some, None, Result, Ok, Err, refl, ap, subst, sym, ◌∙◌, map, append_assoc, inl, inr}
-use Rattle.std.proofs.lemmas.List.{append-nil}
-use Rattle.zeb_profile.specs.declared.directives.Directive.{Directive}
-use Rattle.zeb_profile.specs.declared.directives.Placed.{Placed}
-use Rattle.zeb_profile.specs.declared.faults.ProfileFault.{ProfileFault}
-use Rattle.zeb_profile.specs.declared.faults.ProfileFaultKind.{ProfileFaultKind}
-use Rattle.zeb_profile.specs.Directives.{directive_of}
-use Rattle.zeb_profile.specs.Laws.{AreSaid, FirstFaultIsAnswered, IsFirstFaulty, LacksSomething, said_alone, said_soundly}
-use Rattle.zeb_profile.specs.Outcomes.{◌>>=◌}
-use Rattle.zeb_profile.specs.Profiles.{at_line, directive_after, directives_in, first_clash, lack_of, placed_after, telling_lines, unless}
+use Rattle.zeb_profile.proofs.Cited.{◌≡◌, ◌⊎◌, ℕ, List, [], ◌∷◌, ◌++◌, Option, Some, None, Result, Ok, Err, refl, ap, subst, sym, ◌∙◌, map, append_assoc, inl, inr, append-nil, Directive, Placed, ProfileFault, ProfileFaultKind, directive_of, AreSaid, FirstFaultIsAnswered, IsFirstFaulty, LacksSomething, said_alone, said_soundly, ◌>>=◌, at_line, directive_after, directives_in, first_clash, lack_of, placed_after, telling_lines, unless}
 use Rattle.zeb_profile.proofs.ProfilesBack.{directives_push, line_ok, unless_none}
 use Rattle.zeb_profile.proofs.SoundLists.{Behind}
 use Rattle.zeb_profile.proofs.TargetsBack.{step_ok}

@@ -1,11 +1,5 @@
 -- Places and first finds in a list.
-use Rattle.std.proofs.Common.{◌≡◌, ℕ, ◌+◌, ◌<◌, List, ◌++◌, length, drop, get_or, suc, add-one, drop-cons, true, false, Bool, Some, None, unwrap_or, refl, arith, inl, inr, not}
-use Rattle.std.specs.List.{position, position_or_len, flat_map}
-use Rattle.std.proofs.lemmas.List.Sums.{position_or_len_is, prefix_len-le-length}
-use Rattle.std.proofs.lemmas.Bool.{cases_lt, lt-ltb, le-ltb}
-use Rattle.zeb_profile.specs.declared.directives.Placed.{Placed}
-use Rattle.zeb_profile.specs.Indexes.{names_in}
-use Rattle.zeb_profile.specs.Profiles.{directives_in}
+use Rattle.zeb_profile.proofs.Cited.{◌≡◌, ℕ, ◌+◌, ◌<◌, List, ◌++◌, length, drop, get_or, suc, add-one, drop-cons, true, false, Bool, Some, None, unwrap_or, refl, arith, inl, inr, not, position, position_or_len, flat_map, position_or_len_is, prefix_len-le-length, cases_lt, lt-ltb, le-ltb, Placed, names_in, directives_in}
 
 pub position_at : {X : Type 0} (p : X → Bool) (xs : List X) (i : ℕ) (d : X) → i < length xs → ((k : ℕ) → k < i → p (get_or xs k d) ≡ false) → p (get_or xs i d) ≡ true → Some i ≡ position p xs
 position_at p xs i d within before at =

@@ -1,22 +1,6 @@
 -- A set that holds just the keys of a list.
-use Rattle.std.proofs.Common.{◌≡◌, ℕ, List, [], ◌∷◌, ◌++◌, map, true, false, Bool, cond, ◌||◌, ◌&&◌, not, String, refl, sym, ◌∙◌, inl, inr}
-use Rattle.std.specs.BTreeSet.{BTreeSet, Updates, UpdatesBy, contains, contains_text}
-use Rattle.std.specs.Cmp.Lexicographic.{slice_cmp}
-use Rattle.std.specs.List.{list_any}
-use Rattle.std.specs.Ordering.{nat_cmp}
-use Rattle.std.specs.Str.{bytes_eq}
-use Rattle.std.specs.String.{string_bytes, string_cmp}
-use Rattle.std.proofs.lemmas.Bool.{cases_Bool, false_from_ne_true}
-use Rattle.std.proofs.lemmas.List.{map-append}
-use Rattle.std.proofs.lemmas.List.Folds.{list_any-append}
-use Rattle.std.proofs.lemmas.Map.Text.{btree_set_updates_text}
-use Rattle.std.proofs.lemmas.Slice.Eq.{bytes_eq-Decides}
-use Rattle.zeb_profile.specs.declared.directives.Target.{Target}
-use Rattle.zeb_keys.specs.declared.registers.Register.{Register}
-use Rattle.zeb_keys.specs.declared.registers.Register.TheVariants.{Word, Phrase, Number}
-use Rattle.zeb_keys.specs.Registers.{register_text}
-use Rattle.zeb_profile.specs.PrivateKeys.{HoldsKeys, name_key, target_key}
-use Rattle.zeb_profile.specs.Words.{same_name, same_register, same_target}
+use Rattle.zeb_profile.proofs.Cited.{◌≡◌, ℕ, List, [], ◌∷◌, ◌++◌, map, true, false, Bool, cond, ◌||◌, ◌&&◌, not, String, refl, sym, ◌∙◌, inl, inr, BTreeSet, Updates, UpdatesBy, contains, contains_text, slice_cmp, list_any, nat_cmp, bytes_eq, string_cmp, cases_Bool, false_from_ne_true, map-append, list_any-append, btree_set_updates_text, bytes_eq-Decides, Target, Register, Word, Phrase, Number, register_text, HoldsKeys, name_key, target_key, same_name, same_register, same_target}
+use Rattle.std.specs.String.{string_bytes}
 
 pub bytes_eq-sym : (a b : List ℕ) → bytes_eq a b ≡ bytes_eq b a
 bytes_eq-sym a b =

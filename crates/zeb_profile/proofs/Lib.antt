@@ -25,3 +25,6 @@ pub mod NumberedKeys
 pub mod Spellings
 pub mod Clashes
 pub mod TargetKeys
+pub mod ResolvedLines
+pub mod NamesByNumber
+pub mod Cited

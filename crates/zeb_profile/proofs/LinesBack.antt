@@ -1,11 +1,5 @@
 -- The lines of a text that is made of lines.
-use Rattle.std.proofs.Common.{◌≡◌, ℕ, ◌==◌, inl, inr, ◌-◌, ◌<◌, ◌≢◌, List, [], ◌∷◌, ◌++◌, length, Bool, false, arith, refl, ap, ◌∙◌, get_or}
-use Rattle.std.specs.List.{All, position_or_len, slice_split, suffix_len, onto_first}
-use Rattle.std.specs.Str.Lines.{lines, lines_of_parts, strip_carriage_return}
-use Rattle.std.proofs.lemmas.Bool.{cases_Bool, ne_eqb}
-use Rattle.std.proofs.lemmas.List.Elements.{All-cons, All-drop, All-head, All-nil, All-tail, All-take}
-use Rattle.std.proofs.lemmas.List.Splits.{slice_split_at, slice_split_none, slice_split-cons_no, slice_split-cons_yes}
-use Rattle.zeb_profile.specs.Lines.{is_blank, is_no_blank, trimmed, without_leading_blanks}
+use Rattle.zeb_profile.proofs.Cited.{◌≡◌, ℕ, ◌==◌, inl, inr, ◌-◌, ◌<◌, ◌≢◌, List, [], ◌∷◌, ◌++◌, length, Bool, false, arith, refl, ap, ◌∙◌, get_or, All, position_or_len, slice_split, suffix_len, onto_first, lines, lines_of_parts, strip_carriage_return, cases_Bool, ne_eqb, All-cons, All-drop, All-head, All-nil, All-tail, All-take, slice_split_at, slice_split_none, slice_split-cons_no, slice_split-cons_yes, is_blank, is_no_blank, trimmed, without_leading_blanks}
 
 -- the test of an LF
 abbrev pub is_line_feed : ℕ → Bool

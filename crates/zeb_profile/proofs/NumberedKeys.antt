@@ -1,12 +1,6 @@
 -- The keys of the names that have a number.
-use Rattle.std.proofs.Common.{◌≡◌, ℕ, List, [], ◌∷◌, ◌++◌, map, true, String, refl, sym, ◌∙◌}
-use Rattle.std.specs.BTreeSet.{BTreeSet, Updates, IsUnchanged, contains, contains_text}
-use Rattle.std.specs.List.{list_any}
-use Rattle.std.specs.Str.{bytes_eq}
-use Rattle.std.specs.String.{string_bytes, string_cmp}
-use Rattle.std.proofs.lemmas.List.{map-append}
-use Rattle.zeb_profile.specs.PrivateKeys.{HoldsKeys, name_key}
-use Rattle.zeb_profile.specs.Words.{same_name}
+use Rattle.zeb_profile.proofs.Cited.{◌≡◌, ℕ, List, [], ◌∷◌, ◌++◌, map, true, String, refl, sym, ◌∙◌, BTreeSet, Updates, IsUnchanged, contains, contains_text, list_any, bytes_eq, string_cmp, map-append, HoldsKeys, name_key, same_name}
+use Rattle.std.specs.String.{string_bytes}
 use Rattle.zeb_profile.proofs.KnownKeys.{holds_keys-push}
 use Rattle.zeb_profile.proofs.Numbering.{same_lower}
 

@@ -1,17 +1,5 @@
 -- Names get their numbers one after another.
-use Rattle.std.proofs.Common.{◌≡◌, ℕ, ◌+◌, ◌<◌, ◌≤◌, List, [], ◌∷◌, ◌++◌, length, drop, get_or, map, suc, add-one, drop-cons, refl, sym, ◌∙◌, ap, append_assoc, Bool, true, false, not, ◌||◌, cond, inl, inr, unwrap_or}
-use Rattle.std.specs.List.{fold, list_any, filter, find, flat_map}
-use Rattle.std.specs.Str.{bytes_eq, str_to_ascii_lowercase}
-use Rattle.std.proofs.lemmas.Slice.Eq.{bytes_eq-Decides}
-use Rattle.std.proofs.lemmas.Bool.{cases_Bool, not-false, false_from_ne_true}
-use Rattle.std.proofs.lemmas.List.Folds.{list_any-append}
-use Rattle.std.proofs.lemmas.List.{map-append, append-nil, drop_all}
-use Rattle.zeb_profile.specs.declared.directives.Placed.{Placed}
-use Rattle.zeb_profile.specs.declared.directives.Directive.{Directive}
-use Rattle.zeb_profile.specs.Indexes.{first_spelling, index_names, names_in}
-use Rattle.zeb_profile.specs.PrivateIndexes.{numbered}
-use Rattle.zeb_profile.specs.Profiles.{all_targets, directives_in, targets_in}
-use Rattle.zeb_profile.specs.Words.{distinct_names, same_name}
+use Rattle.zeb_profile.proofs.Cited.{◌≡◌, ℕ, ◌+◌, ◌<◌, ◌≤◌, List, [], ◌∷◌, ◌++◌, length, drop, get_or, map, suc, add-one, drop-cons, refl, sym, ◌∙◌, ap, append_assoc, Bool, true, false, not, ◌||◌, cond, inl, inr, unwrap_or, fold, list_any, filter, find, flat_map, bytes_eq, str_to_ascii_lowercase, bytes_eq-Decides, cases_Bool, not-false, false_from_ne_true, list_any-append, map-append, append-nil, drop_all, Placed, Directive, first_spelling, index_names, names_in, numbered, all_targets, directives_in, targets_in, distinct_names, same_name}
 
 -- ---- names are the same by their lower case
 pub same_lower : (a b : List ℕ) → same_name a b ≡ true → str_to_ascii_lowercase a ≡ str_to_ascii_lowercase b

@@ -1,13 +1,5 @@
 -- Words of graphic characters, and what lines that are built from them read as.
-use Rattle.std.proofs.Common.{◌≡◌, ℕ, ◌+◌, ◌-◌, ◌<◌, ◌≤◌, List, [], ◌∷◌, ◌++◌, length, get_or, drop, take, true, false, arith, refl, ap, ◌∙◌, append_assoc, length-append, nat_lt}
-use Rattle.std.specs.List.{All, list_all, filter, position_or_len, slice_split, suffix_len}
-use Rattle.std.specs.Char.{is_ascii_graphic}
-use Rattle.std.proofs.lemmas.Bool.{and_parts, leb-true, lt-ltb, ne_eqb, or_from, not_from_false}
-use Rattle.std.proofs.lemmas.List.{get_or-append_right, take_all}
-use Rattle.std.proofs.lemmas.List.Elements.{All-get_or, All-weaker}
-use Rattle.std.proofs.lemmas.List.Splits.{slice_split_at, slice_split_none}
-use Rattle.std.proofs.lemmas.List.Sums.{AllPass-from_list_all, position_or_len_is, suffix_len_is}
-use Rattle.zeb_profile.specs.Lines.{is_blank, is_no_blank, trimmed, without_leading_blanks, without_trailing_blanks, words_of}
+use Rattle.zeb_profile.proofs.Cited.{◌≡◌, ℕ, ◌+◌, ◌-◌, ◌<◌, ◌≤◌, List, [], ◌∷◌, ◌++◌, length, get_or, drop, take, true, false, arith, refl, ap, ◌∙◌, append_assoc, length-append, nat_lt, All, list_all, filter, position_or_len, slice_split, suffix_len, is_ascii_graphic, and_parts, leb-true, lt-ltb, ne_eqb, or_from, not_from_false, get_or-append_right, take_all, All-get_or, All-weaker, slice_split_at, slice_split_none, AllPass-from_list_all, position_or_len_is, suffix_len_is, is_blank, is_no_blank, trimmed, without_leading_blanks, without_trailing_blanks, words_of}
 
 -- one graphic character or more
 pub record IsPlain (word : List ℕ) : Type 0 where

@@ -1,22 +1,5 @@
 -- What a read profile meets, and the reading of its canonical text.
-use Rattle.std.proofs.Common.{◌≡◌, ℕ, codes, ◌+◌, List, [], ◌∷◌, ◌++◌, Bool, true, false, ◌||◌, Option, Some, None, Result, Ok, Err, refl, ap, subst, sym, ◌∙◌, map, append_assoc, arith, inl, inr, length-append}
-use Rattle.std.specs.List.{All, enumerate_from, filter, find, list_any}
-use Rattle.std.specs.Str.Lines.{lines}
-use Rattle.std.proofs.lemmas.Bool.{cases_Bool}
-use Rattle.std.proofs.lemmas.List.{append-nil, append_cancel_right, map-append}
-use Rattle.std.proofs.lemmas.List.Elements.{All-cons, All-filter, All-head, All-nil, All-tail}
-use Rattle.zeb_profile.specs.declared.directives.Directive.{Directive}
-use Rattle.zeb_profile.specs.declared.directives.Directive.TheVariants.{Store, Identifier, Att, Melm, All as AllUnits}
-use Rattle.zeb_profile.specs.declared.directives.Placed.{Placed}
-use Rattle.zeb_profile.specs.declared.faults.ProfileFault.{ProfileFault}
-use Rattle.zeb_profile.specs.declared.faults.ProfileFaultKind.{ProfileFaultKind}
-use Rattle.zeb_profile.specs.Canonical.{canonical_text}
-use Rattle.zeb_profile.specs.Directives.{directive_of}
-use Rattle.zeb_profile.specs.Indexes.{all_pairs, identifier_pattern, index_by_use, index_names, store_path, unit_targets}
-use Rattle.zeb_profile.specs.Laws.{CanonicalTextReadsBack, IsProfile, OneTextSaysTheSame, SaysTheSame, text_with_store, without_store}
-use Rattle.zeb_profile.specs.Lines.{says_something, trimmed}
-use Rattle.zeb_profile.specs.Outcomes.{◌>>=◌}
-use Rattle.zeb_profile.specs.Profiles.{at_line, directive_after, directives_in, first_clash, first_lack, has_room, is_identifier, is_store, lack_of, placed_after, placed_lines, profile_of, telling_lines, ties_unknown, unless}
+use Rattle.zeb_profile.proofs.Cited.{◌≡◌, ℕ, codes, ◌+◌, List, [], ◌∷◌, ◌++◌, Bool, true, false, ◌||◌, Option, Some, None, Result, Ok, Err, refl, ap, subst, sym, ◌∙◌, map, append_assoc, arith, inl, inr, length-append, All, enumerate_from, filter, find, list_any, lines, cases_Bool, append-nil, append_cancel_right, map-append, All-cons, All-filter, All-head, All-nil, All-tail, Directive, Store, Identifier, Att, Melm, AllUnits, Placed, ProfileFault, ProfileFaultKind, canonical_text, directive_of, all_pairs, identifier_pattern, index_by_use, index_names, store_path, unit_targets, CanonicalTextReadsBack, IsProfile, OneTextSaysTheSame, SaysTheSame, text_with_store, without_store, says_something, trimmed, ◌>>=◌, at_line, directive_after, directives_in, first_clash, first_lack, has_room, is_identifier, is_store, lack_of, placed_after, placed_lines, profile_of, telling_lines, ties_unknown, unless}
 use Rattle.zeb_profile.proofs.DirectivesBack.{IsRead, line_read}
 use Rattle.zeb_profile.proofs.Lacks.{lack_none}
 use Rattle.zeb_profile.proofs.LinesBack.{IsOneLine, lines_one_line, trimmed_one_line}

@@ -1,13 +1,7 @@
 -- That two lists of directives say the same holds in one way at most, so it comes out of a truncated invariant.
-use denote.Struct.Props.{props}
-use base.Stored.{Coded-set}
-use Rattle.std.proofs.Common.{List}
+use Rattle.zeb_profile.proofs.Cited.{props, Coded-set, List, Directive, UnitPattern, Register, SaysTheSame}
 use Rattle.zeb_profile.specs.contracts.patterns.UnitPattern as pattern_row
 use Rattle.zeb_keys.specs.contracts.registers.Register as register_row
-use Rattle.zeb_profile.specs.declared.directives.Directive.{Directive}
-use Rattle.zeb_profile.specs.declared.patterns.UnitPattern.{UnitPattern}
-use Rattle.zeb_keys.specs.declared.registers.Register.{Register}
-use Rattle.zeb_profile.specs.Laws.{SaysTheSame}
 
 pattern_set : IsSet UnitPattern
 pattern_set = Coded-set pattern_row.the_row.coded

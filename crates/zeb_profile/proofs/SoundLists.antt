@@ -1,19 +1,5 @@
 -- What the directives of a profile meet together, and that it stays where the store is moved to their end.
-use Rattle.std.proofs.Common.{◌≡◌, ℕ, List, [], ◌∷◌, ◌++◌, Bool, true, false, ◌||◌, not, length, nat_le, Option, Some, None, refl, ap, subst, sym, ◌∙◌, append_assoc, inl, inr}
-use Rattle.std.specs.List.{filter, list_any}
-use Rattle.std.proofs.lemmas.Bool.{cases_Bool}
-use Rattle.std.proofs.lemmas.List.{append-nil}
-use Rattle.std.proofs.lemmas.List.Concat.{flat_map-append}
-use Rattle.std.proofs.lemmas.List.Elements.{filter-append}
-use Rattle.std.proofs.lemmas.List.Folds.{list_any-append}
-use Rattle.zeb_profile.specs.declared.directives.Directive.{Directive}
-use Rattle.zeb_profile.specs.declared.directives.Directive.TheVariants.{Store, Identifier, Att, Melm, All as AllUnits}
-use Rattle.zeb_profile.specs.declared.directives.Target.{Target}
-use Rattle.zeb_profile.specs.declared.faults.ProfileFaultKind.{ProfileFaultKind}
-use Rattle.zeb_profile.specs.Indexes.{store_path}
-use Rattle.zeb_profile.specs.Laws.{without_store}
-use Rattle.zeb_profile.specs.Profiles.{all_targets, clash, first_clash, first_of, has_room, is_identifier, is_store, most_indexes, targets_in, ties_unknown}
-use Rattle.zeb_profile.specs.Words.{same_name, target_names}
+use Rattle.zeb_profile.proofs.Cited.{◌≡◌, ℕ, List, [], ◌∷◌, ◌++◌, Bool, true, false, ◌||◌, not, length, nat_le, Option, Some, None, refl, ap, subst, sym, ◌∙◌, append_assoc, inl, inr, filter, list_any, cases_Bool, append-nil, flat_map-append, filter-append, list_any-append, Directive, Store, Identifier, Att, Melm, AllUnits, Target, ProfileFaultKind, store_path, without_store, all_targets, clash, first_clash, first_of, has_room, is_identifier, is_store, most_indexes, targets_in, ties_unknown, same_name, target_names}
 use Rattle.zeb_profile.proofs.DirectivesBack.{IsRead}
 use Rattle.zeb_profile.proofs.StoreLaws.{all_targets-without_store, stays}
 use Rattle.zeb_profile.proofs.WrittenLines.{AllRead}

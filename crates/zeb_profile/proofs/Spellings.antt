@@ -1,15 +1,7 @@
 -- The first spellings of names, at their keys.
-use Rattle.std.proofs.Common.{◌≡◌, ℕ, List, [], ◌∷◌, ◌++◌, true, false, cond, Bor, String, Option, Some, None, option_map, refl, inl, inr}
-use Rattle.std.specs.BTreeMap.{BTreeMap, Updates, get_by_text}
-use Rattle.std.specs.List.{find}
-use Rattle.std.specs.Option.{option_or, is_some}
-use Rattle.std.specs.Str.{bytes_eq}
-use Rattle.std.specs.String.{string_bytes, string_cmp}
-use Rattle.std.proofs.lemmas.Bool.{cases_Bool}
-use Rattle.std.proofs.lemmas.List.Folds.{find-append}
-use Rattle.std.proofs.lemmas.Map.Text.{btree_map_updates_text}
-use Rattle.std.proofs.lemmas.Slice.Eq.{bytes_eq-Decides}
-use Rattle.zeb_profile.specs.PrivateKeys.{NotesSpellings, name_key, spelled_at, spelled_with}
+use Rattle.zeb_profile.proofs.Cited.{◌≡◌, ℕ, List, [], ◌∷◌, ◌++◌, true, false, cond, Bor, String, Option, Some, None, option_map, refl, inl, inr, BTreeMap, get_by_text, find, option_or, is_some, bytes_eq, string_cmp, cases_Bool, find-append, btree_map_updates_text, bytes_eq-Decides, NotesSpellings, name_key, spelled_at, spelled_with}
+use Rattle.std.specs.BTreeMap.{Updates}
+use Rattle.std.specs.String.{string_bytes}
 use Rattle.zeb_profile.proofs.KnownKeys.{bytes_eq-sym}
 
 option_or-assoc : {X : Type 0} (a b c : Option X) → option_or (option_or a b) c ≡ option_or a (option_or b c)

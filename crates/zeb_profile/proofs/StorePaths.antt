@@ -1,13 +1,5 @@
 -- The path of a `store` line: what its ends are, and the line read again.
-use Rattle.std.proofs.Common.{◌≡◌, ℕ, codes, inl, inr, ◌+◌, ◌-◌, ◌<◌, List, [], ◌∷◌, ◌++◌, length, true, false, Ok, arith, refl, ap, sym, ◌∙◌, suc, take, drop, get_or, reverse}
-use Rattle.std.specs.List.{position_or_len, suffix_len}
-use Rattle.std.proofs.lemmas.Bool.{cases_lt, both_ways, not-true}
-use Rattle.std.proofs.lemmas.List.{get_or-reverse, get_or-take, length-reverse, length-take-le}
-use Rattle.std.proofs.lemmas.List.Elements.{All-drop}
-use Rattle.std.proofs.lemmas.List.Sums.{prefix_len_passes, prefix_len_stops}
-use Rattle.zeb_profile.specs.declared.directives.Directive.TheVariants.{Store}
-use Rattle.zeb_profile.specs.Directives.{directive_from, directive_of}
-use Rattle.zeb_profile.specs.Lines.{after_word, is_blank, is_no_blank, trimmed, without_leading_blanks, without_trailing_blanks, words_of}
+use Rattle.zeb_profile.proofs.Cited.{◌≡◌, ℕ, codes, inl, inr, ◌+◌, ◌-◌, ◌<◌, List, [], ◌∷◌, ◌++◌, length, true, false, Ok, arith, refl, ap, sym, ◌∙◌, suc, take, drop, get_or, reverse, position_or_len, suffix_len, cases_lt, both_ways, not-true, get_or-reverse, get_or-take, length-reverse, length-take-le, All-drop, prefix_len_passes, prefix_len_stops, Store, directive_from, directive_of, after_word, is_blank, is_no_blank, trimmed, without_leading_blanks, without_trailing_blanks, words_of}
 use Rattle.zeb_profile.proofs.Cuts.{BeginsWith, begins_at_first, words_of-blank, words_of-cut, words_of-first}
 use Rattle.zeb_profile.proofs.LinesBack.{IsOneLine, is_line_feed, trimmed_one_line}
 use Rattle.zeb_profile.proofs.PlainWords.{IsPlain, last_of, trimmed-same, words_of-plain_first}

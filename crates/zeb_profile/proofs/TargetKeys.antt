@@ -1,17 +1,7 @@
 -- The keys of the names of all targets.
-use Rattle.std.proofs.Common.{◌≡◌, ℕ, List, [], ◌∷◌, ◌++◌, map, true, false, Bool, not, cond, ◌||◌, String, refl, sym, ◌∙◌, ap}
-use Rattle.std.specs.BTreeSet.{BTreeSet, Updates, contains_text}
-use Rattle.std.specs.List.{list_any}
-use Rattle.std.specs.Str.{bytes_eq}
-use Rattle.std.specs.String.{string_bytes, string_cmp}
-use Rattle.std.proofs.lemmas.List.Folds.{list_any-append}
-use Rattle.std.proofs.lemmas.Map.Text.{btree_set_updates_text}
-use Rattle.zeb_profile.specs.declared.directives.Directive.{Directive}
-use Rattle.zeb_profile.specs.declared.directives.Directive.TheVariants.{Store, Identifier, Att, Melm, All}
-use Rattle.zeb_profile.specs.declared.directives.Target.{Target}
-use Rattle.zeb_profile.specs.PrivateKeys.{AddsKeys, held_with, name_key, ties_beside}
-use Rattle.zeb_profile.specs.Profiles.{all_targets, ties_unknown}
-use Rattle.zeb_profile.specs.Words.{same_name}
+use Rattle.zeb_profile.proofs.Cited.{◌≡◌, ℕ, List, [], ◌∷◌, ◌++◌, map, true, false, Bool, not, cond, ◌||◌, String, refl, sym, ◌∙◌, ap, BTreeSet, Updates, contains_text, list_any, bytes_eq, string_cmp, list_any-append, btree_set_updates_text, Directive, Store, Identifier, Att, Melm, Target, AddsKeys, held_with, name_key, ties_beside, all_targets, ties_unknown, same_name}
+use Rattle.std.specs.String.{string_bytes}
+use Rattle.zeb_profile.specs.declared.directives.Directive.TheVariants.{All}
 use Rattle.zeb_profile.proofs.KnownKeys.{bytes_eq-sym, or_as_cond, or_false}
 
 or-assoc : (a b c : Bool) → ((a || b) || c) ≡ (a || (b || c))

@@ -1,21 +1,5 @@
 -- What the targets of a line were read as, written and read again.
-use Rattle.std.proofs.Common.{◌≡◌, ℕ, ◌==◌, codes, subst, ◌+◌, ◌<◌, List, [], ◌∷◌, ◌++◌, length, Bool, true, false, Result, Ok, Err, arith, refl, ap, sym, ◌∙◌, cond, map, suc, take, drop, append_assoc, length-append}
-use Rattle.std.specs.List.{All, after_first, before_first, list_all, list_any, position_or_len, slice_split}
-use Rattle.std.specs.Char.{is_ascii_graphic}
-use Rattle.std.proofs.lemmas.Bool.{and_from, and_parts, lt-ltb, ne_eqb}
-use Rattle.std.proofs.lemmas.List.{append-nil, drop_at, get_or_append_left, get_or_at, take_at}
-use Rattle.std.proofs.lemmas.List.Elements.{All-append, All-cons, All-nil, All-weaker}
-use Rattle.std.proofs.lemmas.List.Folds.{list_all-append}
-use Rattle.std.proofs.lemmas.List.Splits.{length-slice_split, slice_split_at, slice_split_none}
-use Rattle.std.proofs.lemmas.List.Sums.{AllPass-from_list_all, position_or_len_is}
-use Rattle.zeb_profile.specs.declared.directives.Target.{Target}
-use Rattle.zeb_profile.specs.declared.faults.ProfileFaultKind.TheVariants.{DuplicateTarget}
-use Rattle.zeb_keys.specs.declared.registers.Register.{Register}
-use Rattle.zeb_keys.specs.declared.registers.Register.TheVariants.{Word, Phrase, Number}
-use Rattle.zeb_profile.specs.Canonical.{target_text, targets_text}
-use Rattle.zeb_keys.specs.Registers.{register_text}
-use Rattle.zeb_profile.specs.Outcomes.{◌>>=◌}
-use Rattle.zeb_profile.specs.Words.{is_colon, is_comma, is_name, is_name_byte, name_of, register_after_colon, register_of, same_target, target_of, targets_after, targets_of}
+use Rattle.zeb_profile.proofs.Cited.{◌≡◌, ℕ, ◌==◌, codes, subst, ◌+◌, ◌<◌, List, [], ◌∷◌, ◌++◌, length, Bool, true, false, Result, Ok, Err, arith, refl, ap, sym, ◌∙◌, cond, map, suc, take, drop, append_assoc, length-append, All, after_first, before_first, list_all, list_any, position_or_len, slice_split, is_ascii_graphic, and_from, and_parts, lt-ltb, ne_eqb, append-nil, drop_at, get_or_append_left, get_or_at, take_at, All-append, All-cons, All-nil, All-weaker, list_all-append, length-slice_split, slice_split_at, slice_split_none, AllPass-from_list_all, position_or_len_is, Target, DuplicateTarget, Register, Word, Phrase, Number, target_text, targets_text, register_text, ◌>>=◌, is_colon, is_comma, is_name, is_name_byte, name_of, register_after_colon, register_of, same_target, target_of, targets_after, targets_of}
 use Rattle.zeb_profile.proofs.PlainWords.{IsPlain}
 use Rattle.zeb_profile.proofs.WordsBack.{name_back, name_plain, name_word}
 

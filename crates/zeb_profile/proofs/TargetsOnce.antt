@@ -1,20 +1,6 @@
 -- The targets of a unit are each there once.
-use Rattle.std.proofs.Common.{◌≡◌, ℕ, ◌+◌, ◌==◌, List, [], ◌∷◌, ◌++◌, Bool, true, false, not, ◌&&◌, ◌||◌, Option, Ok, Err, refl, ap, arith, sym, ◌∙◌, append_assoc, cond, map, inl, inr, subst, if◌then◌else◌}
-use Rattle.std.specs.List.{AllByRecursion, IsDistinct, filter, list_any, position_or_len, slice_split}
-use Rattle.std.proofs.lemmas.Bool.{and_from, and_parts, cases_Bool, eq-eqb, eqb-false, eqb-true, false_from_ne_true, ne_eqb, or_parts}
-use Rattle.std.proofs.lemmas.List.Folds.{list_any-append}
-use Rattle.std.proofs.lemmas.Map.Views.{any-filter_same}
-use Rattle.zeb_profile.specs.declared.directives.Directive.{Directive}
-use Rattle.zeb_profile.specs.declared.directives.Directive.TheVariants.{Store, Identifier, Att, Melm, All as AllUnits}
-use Rattle.zeb_profile.specs.declared.directives.Target.{Target}
-use Rattle.zeb_profile.specs.declared.faults.ProfileFaultKind.TheVariants.{DuplicateTarget}
-use Rattle.zeb_keys.specs.declared.registers.Register.{Register}
-use Rattle.zeb_keys.specs.declared.registers.Register.TheVariants.{Word, Phrase, Number}
-use Rattle.zeb_profile.specs.Canonical.{targets_text}
-use Rattle.zeb_profile.specs.Indexes.{all_line_targets, first_spelling, fits, further_pairs, index_names, is_control_tag, melm_targets, pair_of, same_pair}
-use Rattle.zeb_profile.specs.Laws.{EachTargetOnce}
-use Rattle.zeb_profile.specs.Profiles.{all_targets}
-use Rattle.zeb_profile.specs.Words.{distinct_names, is_comma, same_name, same_register, same_target, target_of, targets_after, targets_of}
+use Rattle.zeb_profile.proofs.Cited.{◌≡◌, ℕ, ◌+◌, ◌==◌, List, [], ◌∷◌, ◌++◌, Bool, true, false, not, ◌&&◌, ◌||◌, Option, Ok, Err, refl, ap, arith, sym, ◌∙◌, append_assoc, cond, map, inl, inr, subst, if◌then◌else◌, AllByRecursion, filter, list_any, position_or_len, slice_split, and_from, and_parts, cases_Bool, eq-eqb, eqb-false, eqb-true, false_from_ne_true, ne_eqb, or_parts, list_any-append, any-filter_same, Directive, Store, Identifier, Att, Melm, AllUnits, Target, DuplicateTarget, Register, Word, Phrase, Number, targets_text, all_line_targets, first_spelling, fits, further_pairs, index_names, is_control_tag, melm_targets, pair_of, same_pair, EachTargetOnce, all_targets, distinct_names, is_comma, same_name, same_register, same_target, target_of, targets_after, targets_of}
+use Rattle.std.specs.List.{IsDistinct}
 use Rattle.zeb_profile.proofs.Numbering.{first_spelling-same, same_name-along, same_name-refl, same_name-sym}
 use Rattle.zeb_profile.proofs.ProfilesBack.{profile_sound}
 use Rattle.zeb_profile.proofs.TargetsBack.{step_ok, unless_ok}
@@ -30,11 +16,11 @@ module _ {X : Type 0} where
   all_joined P [] ys h k = k
   all_joined P (x ∷ xs) ys h k = (h.0, all_joined P xs ys h.1 k)
 
-  all_front : (P : X → Type 0) (xs ys : List X) → AllByRecursion P (xs ++ ys) → AllByRecursion P xs
+  pub all_front : (P : X → Type 0) (xs ys : List X) → AllByRecursion P (xs ++ ys) → AllByRecursion P xs
   all_front P [] ys h = tt
   all_front P (x ∷ xs) ys h = (h.0, all_front P xs ys h.1)
 
-  all_back : (P : X → Type 0) (xs ys : List X) → AllByRecursion P (xs ++ ys) → AllByRecursion P ys
+  pub all_back : (P : X → Type 0) (xs ys : List X) → AllByRecursion P (xs ++ ys) → AllByRecursion P ys
   all_back P [] ys h = h
   all_back P (x ∷ xs) ys h = all_back P xs ys h.1
 
@@ -120,7 +106,7 @@ same_place p q (x ∷ xs) some h =
     ]
 
 -- ---- targets whose names are known, and their pairs
-abbrev Known : List (List ℕ) → List Target → Type 0
+abbrev pub Known : List (List ℕ) → List Target → Type 0
 Known names targets = AllByRecursion (λ target. list_any (same_name target.name) names ≡ true) targets
 
 apart_pair : (names : List (List ℕ)) (a b : Target) → list_any (same_name a.name) names ≡ true → same_target a b ≡ false → same_pair (pair_of names a) (pair_of names b) ≡ false
@@ -217,7 +203,7 @@ named_behind before (first ∷ targets) =
       subst (λ (all : List (List ℕ)). Known all targets) (append_assoc before (first.name ∷ []) names) (named_behind (before ++ first.name ∷ []) targets),
     )
 
-all_known : (ds : List Directive) → Known (index_names ds) (all_targets ds)
+pub all_known : (ds : List Directive) → Known (index_names ds) (all_targets ds)
 all_known ds =
     let names = map (λ (target : Target). target.name) (all_targets ds) in
     all_weaker (λ target known. any_spelled (first_spelling ds) (first_spelling-same ds) target.name (distinct_names names) ∙ any_distinct target.name names ∙ known)

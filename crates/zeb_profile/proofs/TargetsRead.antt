@@ -1,13 +1,5 @@
 -- A word of targets is read as those of its parts, or has the fault of its first faulty part.
-use Rattle.std.proofs.Common.{◌≡◌, ◌⊎◌, ℕ, Bool, true, false, cond, List, [], ◌∷◌, ◌++◌, Result, Ok, Err, refl, ap, subst, sym, ◌∙◌, map, append_assoc, inl, inr}
-use Rattle.std.specs.List.{list_any, slice_split}
-use Rattle.std.proofs.lemmas.List.{append-nil}
-use Rattle.zeb_profile.specs.declared.directives.Target.{Target}
-use Rattle.zeb_profile.specs.declared.faults.ProfileFaultKind.{ProfileFaultKind}
-use Rattle.zeb_profile.specs.declared.faults.ProfileFaultKind.TheVariants.{DuplicateTarget}
-use Rattle.zeb_profile.specs.Laws.{AreTargets, IsFaultyPart, IsFirstFaultyPart, TargetsAreRead, read_soundly}
-use Rattle.zeb_profile.specs.Outcomes.{◌>>=◌}
-use Rattle.zeb_profile.specs.Words.{is_comma, same_target, target_of, targets_after}
+use Rattle.zeb_profile.proofs.Cited.{◌≡◌, ◌⊎◌, ℕ, Bool, true, false, cond, List, [], ◌∷◌, ◌++◌, Result, Ok, Err, refl, ap, subst, sym, ◌∙◌, map, append_assoc, inl, inr, list_any, slice_split, append-nil, Target, ProfileFaultKind, DuplicateTarget, AreTargets, IsFaultyPart, IsFirstFaultyPart, TargetsAreRead, read_soundly, ◌>>=◌, is_comma, same_target, target_of, targets_after}
 use Rattle.zeb_profile.proofs.FirstFault.{cons_parts, step_err}
 use Rattle.zeb_profile.proofs.TargetsBack.{step_ok, unless_ok}
 

@@ -1,16 +1,5 @@
 -- The lines that say something, from one of them on.
-use Rattle.std.proofs.Common.{◌≡◌, ℕ, ◌+◌, ◌<◌, List, [], ◌∷◌, ◌++◌, length, drop, get_or, map, suc, add-one, drop-cons, Bor, cond, refl, true, false, ap, sym, ◌∙◌, Ok, Err, ◌≢◌}
-use Rattle.std.specs.List.{enumerate_from, filter}
-use Rattle.std.specs.Str.Lines.{lines as lines_of}
-use Rattle.zeb_profile.specs.declared.directives.Directive.{Directive}
-use Rattle.zeb_profile.specs.declared.directives.Placed.{Placed}
-use Rattle.zeb_profile.specs.declared.faults.ProfileFault.{ProfileFault}
-use Rattle.zeb_profile.specs.declared.faults.ProfileFaultKind.{ProfileFaultKind}
-use Rattle.zeb_profile.specs.declared.faults.ProfileFaultKind.TheVariants.{Memory}
-use Rattle.zeb_profile.specs.Outcomes.{FailsPlaced}
-use Rattle.zeb_profile.specs.PrivateOutcomes.{Fails}
-use Rattle.zeb_profile.specs.Profiles.{placed_after, placed_lines, directive_after, directives_in}
-use Rattle.zeb_profile.specs.Lines.{trimmed, says_something}
+use Rattle.zeb_profile.proofs.Cited.{◌≡◌, ℕ, ◌+◌, ◌<◌, List, [], ◌∷◌, ◌++◌, length, drop, get_or, map, suc, add-one, drop-cons, Bor, cond, refl, true, false, ap, sym, ◌∙◌, Ok, Err, ◌≢◌, enumerate_from, filter, lines_of, Directive, Placed, ProfileFault, ProfileFaultKind, Memory, FailsPlaced, Fails, placed_after, placed_lines, directive_after, directives_in, trimmed, says_something}
 
 -- the telling lines from the i-th line on, lines counted from 0
 abbrev pub telling_from : ℕ → List (Bor (List ℕ)) → List (ℕ × List ℕ)

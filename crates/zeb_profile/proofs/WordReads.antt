@@ -1,13 +1,5 @@
 -- Reading words one after another.
-use Rattle.std.proofs.Common.{◌≡◌, ℕ, ◌+◌, ◌<◌, ◌≤◌, List, [], ◌∷◌, ◌++◌, length, drop, get_or, map, suc, true, false, refl, ◌∙◌, arith, rules, add-one, drop-cons, Result, Ok, Err, Bor, if◌then◌else◌}
-use Rattle.std.specs.List.{list_all, list_any}
-use Rattle.std.specs.Char.{is_ascii_digit}
-use Rattle.std.specs.Str.Parse.{digits_value, ParsesUnsigned}
-use Rattle.std.proofs.lemmas.Str.Parse.{IsNumeralModel, numerals_by_value, parse_gives, digits_value_short}
-use Rattle.zeb_profile.specs.declared.directives.Target.{Target}
-use Rattle.zeb_profile.specs.declared.faults.ProfileFaultKind.TheVariants.{DuplicateTarget}
-use Rattle.zeb_profile.specs.Outcomes.{◌>>=◌}
-use Rattle.zeb_profile.specs.Words.{target_of, same_target, targets_after}
+use Rattle.zeb_profile.proofs.Cited.{◌≡◌, ℕ, ◌+◌, ◌<◌, ◌≤◌, List, [], ◌∷◌, ◌++◌, length, drop, get_or, map, suc, true, false, refl, ◌∙◌, arith, rules, add-one, drop-cons, Result, Ok, Err, Bor, if◌then◌else◌, list_all, list_any, is_ascii_digit, digits_value, ParsesUnsigned, IsNumeralModel, numerals_by_value, parse_gives, digits_value_short, Target, DuplicateTarget, ◌>>=◌, target_of, same_target, targets_after}
 
 -- the texts of ASCII digits, and their values
 pub numerals : IsNumeralModel (λ ds. list_all is_ascii_digit ds ≡ true) (digits_value 10)

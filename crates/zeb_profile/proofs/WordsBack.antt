@@ -1,20 +1,5 @@
 -- What a word was read as, written and read again.
-use Rattle.std.proofs.Common.{◌≡◌, ℕ, ◌==◌, codes, subst, inl, inr, ◌<◌, ◌≤◌, ◌^◌, List, [], ◌∷◌, ◌++◌, length, Bool, true, ◌&&◌, ◌||◌, Some, None, Ok, arith, refl, ap, ◌∙◌}
-use Rattle.std.specs.List.{list_all}
-use Rattle.std.specs.Char.{is_ascii_alphabetic, is_ascii_alphanumeric, is_ascii_digit, is_ascii_graphic}
-use Rattle.std.specs.Int.{is_in_range}
-use Rattle.std.specs.Fmt.{decimal}
-use Rattle.std.specs.Str.{encode_utf8_all}
-use Rattle.std.specs.Str.Parse.{digits_value}
-use Rattle.std.proofs.lemmas.Bool.{and_from, and_parts, cases_Bool, eqb-true, le-leb, leb-true, lt-ltb, ltb-true, or_cases}
-use Rattle.std.proofs.lemmas.Fmt.{decimal_nonempty, digits_decimal, digits_value-decimal, length-decimal-le}
-use Rattle.std.proofs.lemmas.List.Elements.{All-weaker}
-use Rattle.std.proofs.lemmas.List.Sums.{AllPass-from_list_all, list_all-from_AllPass}
-use Rattle.std.proofs.lemmas.Str.{encode_ascii}
-use Rattle.std.proofs.lemmas.Str.Parse.{digits_value_short}
-use Rattle.zeb_profile.specs.declared.patterns.UnitPattern.{UnitPattern}
-use Rattle.zeb_profile.specs.Canonical.{pattern_text}
-use Rattle.zeb_profile.specs.Words.{is_name, is_name_byte, is_tag, is_use_number, name_of, number_of, pattern_of}
+use Rattle.zeb_profile.proofs.Cited.{◌≡◌, ℕ, ◌==◌, codes, subst, inl, inr, ◌<◌, ◌≤◌, ◌^◌, List, [], ◌∷◌, ◌++◌, length, Bool, true, ◌&&◌, ◌||◌, Some, None, Ok, arith, refl, ap, ◌∙◌, list_all, is_ascii_alphabetic, is_ascii_alphanumeric, is_ascii_digit, is_ascii_graphic, is_in_range, decimal, encode_utf8_all, digits_value, and_from, and_parts, cases_Bool, eqb-true, le-leb, leb-true, lt-ltb, ltb-true, or_cases, decimal_nonempty, digits_decimal, digits_value-decimal, length-decimal-le, All-weaker, AllPass-from_list_all, list_all-from_AllPass, encode_ascii, digits_value_short, UnitPattern, pattern_text, is_name, is_name_byte, is_tag, is_use_number, name_of, number_of, pattern_of}
 use Rattle.zeb_profile.proofs.PlainWords.{IsPlain, graphic_range}
 use Rattle.zeb_profile.proofs.WordReads.{numerals}
 

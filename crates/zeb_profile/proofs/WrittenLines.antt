@@ -1,19 +1,5 @@
 -- The lines that directives are written on, and what each says when it is read.
-use Rattle.std.proofs.Common.{◌≡◌, ◌==◌, ℕ, codes, ◌-◌, ◌<◌, ◌≢◌, List, [], ◌∷◌, ◌++◌, length, true, false, Ok, not, arith, refl, ap, ◌∙◌, get_or, append_assoc, map}
-use Rattle.std.specs.Fmt.{decimal}
-use Rattle.std.specs.List.{list_all}
-use Rattle.std.specs.Str.Lines.{lines}
-use Rattle.std.specs.Char.{is_ascii_graphic}
-use Rattle.std.proofs.lemmas.Bool.{ne_eqb, not-true}
-use Rattle.std.proofs.lemmas.List.Elements.{All-append, All-get_or, All-weaker}
-use Rattle.std.proofs.lemmas.List.Sums.{AllPass-from_list_all}
-use Rattle.zeb_profile.specs.declared.directives.Directive.{Directive}
-use Rattle.zeb_profile.specs.declared.directives.Directive.TheVariants.{Store, Identifier, Att, Melm, All as AllUnits}
-use Rattle.zeb_profile.specs.Canonical.{canonical_line, canonical_text, pattern_text, targets_text}
-use Rattle.zeb_profile.specs.Directives.{directive_from, directive_of}
-use Rattle.zeb_profile.specs.Laws.{without_store}
-use Rattle.zeb_profile.specs.Lines.{after_word, says_something, trimmed}
-use Rattle.zeb_profile.specs.Profiles.{is_store}
+use Rattle.zeb_profile.proofs.Cited.{◌≡◌, ◌==◌, ℕ, codes, ◌-◌, ◌<◌, ◌≢◌, List, [], ◌∷◌, ◌++◌, length, true, false, Ok, not, arith, refl, ap, ◌∙◌, get_or, append_assoc, map, decimal, list_all, lines, is_ascii_graphic, ne_eqb, not-true, All-append, All-get_or, All-weaker, AllPass-from_list_all, Directive, Store, Identifier, Att, Melm, AllUnits, canonical_line, canonical_text, pattern_text, targets_text, directive_from, directive_of, without_store, after_word, says_something, trimmed, is_store}
 use Rattle.zeb_profile.proofs.DirectivesBack.{IsRead}
 use Rattle.zeb_profile.proofs.LinesBack.{IsOneLine, is_line_feed, lines-first, lines-last}
 use Rattle.zeb_profile.proofs.PlainWords.{IsPlain, graphic_range, last_of, trimmed-line, words_of-three, words_of-two}

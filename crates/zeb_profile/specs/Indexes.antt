@@ -4,7 +4,7 @@
 -- `identifier` say.
 use Rattle.std.specs.Prelude.{ℕ, Bool, true, false, not, ◌&&◌, List, [], ◌∷◌, ◌++◌, ◌==◌, map, filter, Option, Some, None, unwrap_or, slice_index, if◌then◌else◌}
 use Rattle.std.specs.List.{find, list_any, flat_map, position, position_or_len}
-use Rattle.std.specs.Option.{option_and_then}
+use Rattle.std.specs.Option.{option_and_then, option_or}
 use Rattle.std.specs.Str.{bytes_eq}
 use Rattle.zeb_profile.specs.declared.directives.Directive.{Directive}
 use Rattle.zeb_profile.specs.declared.directives.Directive.TheVariants.{Store, Identifier, Att, Melm, All}
@@ -29,14 +29,18 @@ index_names directives = map (first_spelling directives) (target_names (all_targ
 abbrev pub index_by_name : List Directive → List ℕ → Option ℕ
 index_by_name directives name = position (same_name name) (index_names directives)
 
+-- what the first directive tells of those that tell anything
+abbrev pub first_told : {A : Type 0} → (Directive → Option A) → List Directive → Option A
+first_told told [] = None
+first_told told (directive ∷ others) = option_or (told directive) (first_told told others)
+
 -- the name that a use attribute is tied to
+abbrev pub name_told : ℕ → Directive → Option (List ℕ)
+name_told number (Att tied name) = if tied == number then Some name else None
+name_told number _ = None
+
 abbrev pub use_name : ℕ → List Directive → Option (List ℕ)
-use_name number [] = None
-use_name number (Att tied name ∷ others) = if tied == number then Some name else use_name number others
-use_name number (Melm pattern targets ∷ others) = use_name number others
-use_name number (All targets ∷ others) = use_name number others
-use_name number (Identifier pattern ∷ others) = use_name number others
-use_name number (Store path ∷ others) = use_name number others
+use_name number directives = first_told (name_told number) directives
 
 abbrev pub index_by_use : List Directive → ℕ → Option ℕ
 index_by_use directives number = option_and_then (index_by_name directives) (use_name number directives)
@@ -64,22 +68,20 @@ abbrev pub fits : UnitPattern → List ℕ → Option ℕ → Bool
 fits pattern tag code = bytes_eq pattern.tag tag && code_fits pattern.code code
 
 -- the targets of the first `melm` line that fits
+abbrev pub melm_told : List ℕ → Option ℕ → Directive → Option (List Target)
+melm_told tag code (Melm pattern targets) = if fits pattern tag code then Some targets else None
+melm_told tag code _ = None
+
 abbrev pub melm_targets : List ℕ → Option ℕ → List Directive → List Target
-melm_targets tag code [] = []
-melm_targets tag code (Melm pattern targets ∷ others) = if fits pattern tag code then targets else melm_targets tag code others
-melm_targets tag code (Att number name ∷ others) = melm_targets tag code others
-melm_targets tag code (All targets ∷ others) = melm_targets tag code others
-melm_targets tag code (Identifier pattern ∷ others) = melm_targets tag code others
-melm_targets tag code (Store path ∷ others) = melm_targets tag code others
+melm_targets tag code directives = unwrap_or (first_told (melm_told tag code) directives) []
 
 -- the targets of the `all` line
+abbrev pub all_told : Directive → Option (List Target)
+all_told (All targets) = Some targets
+all_told _ = None
+
 abbrev pub all_line_targets : List Directive → List Target
-all_line_targets [] = []
-all_line_targets (All targets ∷ others) = targets
-all_line_targets (Melm pattern targets ∷ others) = all_line_targets others
-all_line_targets (Att number name ∷ others) = all_line_targets others
-all_line_targets (Identifier pattern ∷ others) = all_line_targets others
-all_line_targets (Store path ∷ others) = all_line_targets others
+all_line_targets directives = unwrap_or (first_told all_told directives) []
 
 -- the tag of a control field begins with two zeros (48)
 abbrev pub is_control_tag : List ℕ → Bool
@@ -97,18 +99,18 @@ unit_targets directives tag code =
     let further = map pair (if is_control_tag tag then [] else all_line_targets directives) in
     first ++ further_pairs first further
 
+-- the pattern of the `identifier` line
+abbrev pub identifier_told : Directive → Option UnitPattern
+identifier_told (Identifier pattern) = Some pattern
+identifier_told _ = None
+
 abbrev pub identifier_pattern : List Directive → Option UnitPattern
-identifier_pattern [] = None
-identifier_pattern (Identifier pattern ∷ others) = Some pattern
-identifier_pattern (Melm pattern targets ∷ others) = identifier_pattern others
-identifier_pattern (Att number name ∷ others) = identifier_pattern others
-identifier_pattern (All targets ∷ others) = identifier_pattern others
-identifier_pattern (Store path ∷ others) = identifier_pattern others
+identifier_pattern directives = first_told identifier_told directives
+
+-- the path of the `store` line
+abbrev pub path_told : Directive → Option (List ℕ)
+path_told (Store path) = Some path
+path_told _ = None
 
 abbrev pub store_path : List Directive → Option (List ℕ)
-store_path [] = None
-store_path (Store path ∷ others) = Some path
-store_path (Melm pattern targets ∷ others) = store_path others
-store_path (Att number name ∷ others) = store_path others
-store_path (All targets ∷ others) = store_path others
-store_path (Identifier pattern ∷ others) = store_path others
+store_path directives = first_told path_told directives

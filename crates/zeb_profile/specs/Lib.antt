@@ -11,5 +11,7 @@ pub mod Outcomes
 pub mod PrivateOutcomes
 pub mod Profiles
 pub mod PrivateRepeats
+pub mod PrivateResolved
+pub mod PrivateSettled
 pub mod TargetsLeft
 pub mod Words

@@ -1,12 +1,12 @@
 -- What only the contracts of private functions speak of; no public clause reaches it.
 -- The keys by which names and targets are looked up while a profile is read: a name in lower case, and a target as its
--- register's letter with the key of its name behind it.
-use Rattle.std.specs.Prelude.{◌≡◌, ℕ, Bool, false, not, ◌||◌, List, ◌++◌, Option, option_map, unwrap_or, String}
+-- register's letter with the key of its name behind it. And the numbers of names, each at its key.
+use Rattle.std.specs.Prelude.{◌≡◌, ℕ, Bool, false, not, ◌||◌, List, ◌++◌, Option, Some, None, option_map, unwrap_or, String, if◌then◌else◌}
 use Rattle.std.specs.Borrow.{Bor}
 use Rattle.std.specs.BTreeMap.{BTreeMap, get_by_text}
 use Rattle.std.specs.BTreeSet.{BTreeSet, contains_text}
-use Rattle.std.specs.List.{find, list_any}
-use Rattle.std.specs.Option.{option_or}
+use Rattle.std.specs.List.{find, list_any, position}
+use Rattle.std.specs.Option.{is_some, option_or}
 use Rattle.std.specs.Str.{bytes_eq, str_to_ascii_lowercase}
 use Rattle.zeb_keys.specs.Registers.{register_text}
 use Rattle.zeb_profile.specs.declared.directives.Directive.{Directive}
@@ -52,3 +52,15 @@ module _ {Y : Type 0} where
   -- of these names each whose key has no spelling yet is noted at its key
   abbrev pub NotesSpellings : BTreeMap (String Y) (Bor (List ℕ)) → BTreeMap (String Y) (Bor (List ℕ)) → List (List ℕ) → Type 0
   NotesSpellings old new names = (key : List ℕ) → spelled_at new key ≡ spelled_with old names key
+
+  abbrev pub has_number : BTreeMap (String Y) ℕ → List ℕ → Bool
+  has_number numbers name = is_some (get_by_text numbers (name_key name))
+
+  -- a name's number is noted at its key, unless one was noted there
+  abbrev pub NotesNumber : BTreeMap (String Y) ℕ → BTreeMap (String Y) ℕ → List ℕ → ℕ → Type 0
+  NotesNumber old new name number = (key : List ℕ)
+      → get_by_text new key ≡ option_or (get_by_text old key) (if bytes_eq key (name_key name) then Some number else None)
+
+  -- at each key stands the place of the first of these names that has it
+  abbrev pub NumbersNames : BTreeMap (String Y) ℕ → List (List ℕ) → Type 0
+  NumbersNames numbers names = (key : List ℕ) → get_by_text numbers key ≡ position (λ name. bytes_eq key (name_key name)) names

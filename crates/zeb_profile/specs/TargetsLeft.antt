@@ -1,10 +1,9 @@
 -- What an iterator over a unit's targets has left.
-use Rattle.std.specs.Prelude.{ℕ, List, ◌++◌, map}
+use Rattle.std.specs.Prelude.{ℕ, List, ◌++◌}
 use Rattle.zeb_profile.specs.declared.unit_targets.Targets.{Targets}
 use Rattle.zeb_keys.specs.declared.registers.Register.{Register}
-use Rattle.zeb_profile.specs.Indexes.{pair_of, further_pairs}
+use Rattle.zeb_profile.specs.Indexes.{further_pairs}
 
 -- the targets of the `melm` line that are left, and those of `all` that the line lacks
 abbrev pub targets_left : Targets → List (ℕ × Register)
-targets_left targets = let pair = pair_of targets.names.now in
-    map pair targets.left.now ++ further_pairs (map pair targets.first.now) (map pair targets.all.now)
+targets_left targets = targets.left.now ++ further_pairs targets.first.now targets.all.now

@@ -1,8 +1,7 @@
 //! The canonical text of a profile, written line by line.
 
-ghost use Rattle.std.specs.Prelude.{◌≡◌, ◌++◌, List, ℕ, map, IfOk, OnOk, string_bytes};
-ghost use Rattle.std.specs.List.{flat_map};
-ghost use Rattle.zeb_profile.specs.Canonical.{canonical_line, canonical_text, pattern_text, target_text, targets_text};
+ghost use Rattle.std.specs.Prelude.{◌≡◌, ◌++◌, IfOk, OnOk, string_bytes};
+ghost use Rattle.zeb_profile.specs.Canonical.{canonical_line, canonical_text, target_text, targets_text};
 ghost use Rattle.zeb_profile.specs.Profiles.{directives_in};
 
 use crate::UnitPattern;

@@ -1,6 +1,6 @@
 //! What one line of a profile says: the directives, and how each is read from its words.
 
-ghost use Rattle.std.specs.Prelude.{◌≡◌, ◌∷◌, [], List, ℕ, map, Ok, Err, IfOk, option_map, Option, string_bytes};
+ghost use Rattle.std.specs.Prelude.{◌≡◌, List, ℕ, map, IfOk, option_map, string_bytes};
 ghost use Rattle.std.specs.List.{list_all, slice_split};
 ghost use Rattle.std.specs.Char.{is_ascii_digit};
 ghost use Rattle.zeb_profile.specs.PrivateKeys.{target_key};
@@ -8,7 +8,9 @@ ghost use Rattle.zeb_profile.specs.PrivateOutcomes.{Gives};
 ghost use Rattle.zeb_profile.specs.Lines.{words_of, trimmed};
 ghost use Rattle.zeb_profile.specs.Words.{target_of, targets_of as targets_in_word, number_of, is_comma};
 ghost use Rattle.zeb_profile.specs.Directives.{one_word, two_words, store_of, identifier_of, att_of, melm_of, all_of, directive_of};
-ghost use Rattle.zeb_profile.specs.Profiles.{targets_in, is_identifier as identifier_test, is_store as store_test};
+ghost use Rattle.zeb_profile.specs.Indexes.{identifier_told, name_told, path_told};
+ghost use Rattle.zeb_profile.specs.PrivateResolved.{is_all as all_test, is_melm_for as melm_for};
+ghost use Rattle.zeb_profile.specs.Profiles.{targets_in};
 
 use crate::lines::{first_word, trim};
 use crate::names::Name;
@@ -171,16 +173,50 @@ impl Directive {
         }
     }
 
-    pub fn is_identifier(&self) -> bool
-        ensures { result ≡ identifier_test self.now }
+    /// The pattern of an `identifier` line.
+    pub fn identifier(&self) -> Option<&UnitPattern>
+        ensures { option_map (λ pattern. pattern.now) result ≡ identifier_told self.now }
     {
-        matches!(self, Directive::Identifier(_))
+        match self {
+            Directive::Identifier(pattern) => Some(pattern),
+            _ => None,
+        }
     }
 
-    pub fn is_store(&self) -> bool
-        ensures { result ≡ store_test self.now }
+    /// The path of a `store` line.
+    pub fn store(&self) -> Option<&str>
+        ensures { option_map (λ path. path.now) result ≡ path_told self.now }
     {
-        matches!(self, Directive::Store(_))
+        match self {
+            Directive::Store(path) => Some(path.as_str()),
+            _ => None,
+        }
+    }
+
+    /// The name that the line ties to a use attribute.
+    pub fn tied_to(&self, number: u32) -> Option<&Name>
+        ensures { option_map (λ name. name.now) result ≡ name_told number self.now }
+    {
+        match self {
+            Directive::Att(tied, name) if *tied == number => Some(name),
+            _ => None,
+        }
+    }
+
+    /// Whether it is a `melm` line that fits a unit.
+    pub fn is_melm_for(&self, tag: &[u8; 3], code: Option<u8>) -> bool
+        ensures { result ≡ melm_for tag.now code self.now }
+    {
+        match self {
+            Directive::Melm(pattern, _) => pattern.fits(tag, code),
+            _ => false,
+        }
+    }
+
+    pub fn is_all(&self) -> bool
+        ensures { result ≡ all_test self.now }
+    {
+        matches!(self, Directive::All(_))
     }
 }
 

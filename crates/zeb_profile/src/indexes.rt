@@ -2,7 +2,7 @@
 
 ghost use Rattle.std.specs.Prelude.{◌≡◌, ◌<◌, ◌^◌, ◌∷◌, [], List, ℕ, length, map, IfOk, OnOk, true, unwrap_or};
 ghost use Rattle.std.specs.List.{position};
-ghost use Rattle.zeb_profile.specs.Indexes.{index_names as index_names_of, first_spelling as first_spelling_of, names_in, pair_of};
+ghost use Rattle.zeb_profile.specs.Indexes.{index_names as index_names_of, first_spelling as first_spelling_of, names_in};
 ghost use Rattle.zeb_profile.specs.PrivateIndexes.{numbered};
 ghost use Rattle.zeb_profile.specs.PrivateKeys.{HoldsKeys, NotesSpellings, name_key, spelled, spelled_at};
 ghost use Rattle.zeb_profile.specs.Profiles.{directives_in};
@@ -124,12 +124,4 @@ pub(crate) fn position_of(names: &[Name], name: &str) -> Option<u32>
         }
     }
     None
-}
-
-/// A target's index, which is the number of the names where none is the target's, and its register.
-pub(crate) fn index_of(names: &[Name], target: &Target) -> u32
-    requires { length names.now < 2 ^ 32 }
-    ensures { result ≡ (pair_of names.now target.now).0 }
-{
-    position_of(names, target.name.as_str()).unwrap_or(names.len() as u32)
 }

@@ -16,6 +16,7 @@ mod patterns;
 mod reading;
 mod registers;
 mod repeats;
+mod resolved;
 mod searches;
 mod unit_targets;
 

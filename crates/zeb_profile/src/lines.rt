@@ -1,6 +1,6 @@
 //! Blanks of a line: what stands between them, and the first word.
 
-ghost use Rattle.std.specs.Prelude.{◌≡◌, ◌-◌, ◌<◌, true, slice_index, ◌∷◌, [], IfSome, IfNone, List, ℕ, length};
+ghost use Rattle.std.specs.Prelude.{◌≡◌, ◌-◌, ◌<◌, true, slice_index, ◌∷◌, [], IfSome, IfNone, length};
 ghost use Rattle.std.specs.List.{suffix_len, position_or_len};
 ghost use Rattle.zeb_profile.specs.Lines.{is_blank as blank_test, is_no_blank, without_leading_blanks, without_trailing_blanks, trimmed, words_of, after_word};
 

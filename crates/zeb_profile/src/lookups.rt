@@ -1,25 +1,22 @@
 //! A profile that was read, and what may be asked of it.
 
-ghost use Rattle.std.specs.Prelude.{◌≡◌, ◌<◌, ◌^◌, List, ℕ, length, map, Option, Some, slice_get, IfOk, IfErr, MatchResult, option_map};
-ghost use Rattle.std.specs.List.{list_any, position};
+ghost use Rattle.std.specs.Prelude.{◌≡◌, length, Some, slice_get, option_map};
 ghost use Rattle.zeb_profile.specs.Indexes as indexes;
 ghost use Rattle.zeb_profile.specs.Canonical.{canonical_text};
 ghost use Rattle.zeb_profile.specs.Laws.{IsProfile, SaysTheSame};
 ghost use Rattle.zeb_profile.specs.Outcomes.{GivesPlaced};
-ghost use Rattle.zeb_profile.specs.Profiles.{profile_of, directives_in};
+ghost use Rattle.zeb_profile.specs.Profiles.{profile_of};
 ghost use Rattle.zeb_profile.specs.TargetsLeft.{targets_left};
 
 use crate::canonical::canonical;
-use crate::directives::{Directive, Placed};
 use crate::indexes::{index_names, position_of};
 use crate::names::Name;
-use crate::reading::{lack_of, read_lines};
-use crate::searches::{
-    further_targets, has_pair, identifier_pattern, melm_targets, store_path, use_name,
-};
+use crate::reading::{read_lines, settle};
+use crate::resolved::{Line, has_pair, resolve};
+use crate::searches::use_name;
 use crate::unit_targets::Targets;
 use crate::{ProfileFault, UnitPattern};
-use std::alloc::{AllocError, Global};
+use std::alloc::Global;
 use std::marker::Model;
 use zeb_keys::Register;
 
@@ -27,8 +24,10 @@ use zeb_keys::Register;
 /// which indexes. Contracts see it as the list of its directives.
 #[derive(Debug, Drop)]
 pub struct Profile {
-    directives: Vec<Directive>,
+    lines: Vec<Line>,
     names: Vec<Name>,
+    identifier: UnitPattern,
+    store: String,
     text: String,
 }
 
@@ -38,20 +37,24 @@ impl Model for Profile {
 
     ghost Value = { List Directive };
 
-    ghost use Rattle.std.specs.Prelude.{◌≡◌, ◌<◌, ◌^◌, length, string_bytes, IsSome};
+    ghost use Rattle.std.specs.Prelude.{◌≡◌, ◌<◌, ◌^◌, ℕ, length, map, string_bytes, Some};
+    ghost use Rattle.zeb_keys.specs.declared.registers.Register.{Register};
     ghost use Rattle.zeb_profile.specs.Indexes as indexes;
     ghost use Rattle.zeb_profile.specs.Canonical.{canonical_text};
     ghost use Rattle.zeb_profile.specs.Laws.{IsProfile};
+    ghost use Rattle.zeb_profile.specs.Profiles.{targets_in};
 
-    ghost view = { λ profile. profile.directives.items };
+    ghost view = { λ profile. map (λ line. line.directive) profile.lines.items };
 
-    ghost invariant = { λ profile.
-        (profile.names.items ≡ indexes.index_names profile.directives.items)
+    ghost invariant = { λ profile. let directives = map (λ line. line.directive) profile.lines.items in
+        (profile.names.items ≡ indexes.index_names directives)
         × (length profile.names.items < 2 ^ 32)
-        × (string_bytes profile.text ≡ canonical_text profile.directives.items)
-        × IsSome (indexes.identifier_pattern profile.directives.items)
-        × IsSome (indexes.store_path profile.directives.items)
-        × ∥ IsProfile profile.directives.items ∥₁ };
+        × (map {B = Directive × List (ℕ × Register)} (λ line. (line.directive, line.pairs.items)) profile.lines.items
+        ≡ map {B = Directive × List (ℕ × Register)} (λ directive. (directive, map (indexes.pair_of profile.names.items) (targets_in directive))) directives)
+        × (indexes.identifier_pattern directives ≡ Some profile.identifier)
+        × (indexes.store_path directives ≡ Some (string_bytes profile.store))
+        × (string_bytes profile.text ≡ canonical_text directives)
+        × ∥ IsProfile directives ∥₁ };
 }
 
 impl Profile {
@@ -63,14 +66,16 @@ impl Profile {
     {
         let placed = read_lines(alloc, text)?;
         let names = index_names(alloc, &placed)?;
-        if let Some(fault) = lack_of(alloc, &placed, names.len())? {
-            return Err(fault);
-        }
+        let settled = settle(alloc, &placed, names.len())?;
+        let identifier = settled.identifier;
+        let store = String::from_str(alloc, settled.store)?;
         let text = canonical(alloc, &placed)?;
-        let directives = directives_of(alloc, placed)?;
+        let lines = resolve(alloc, placed, &names)?;
         Ok(Profile {
-            directives,
+            lines,
             names,
+            identifier,
+            store,
             text,
         })
     }
@@ -86,7 +91,7 @@ impl Profile {
     pub fn index_by_use(&self, number: u32) -> Option<u32>
         ensures { result ≡ indexes.index_by_use self.now number }
     {
-        let name = use_name(&self.directives, number)?;
+        let name = use_name(&self.lines, number)?;
         position_of(&self.names, name.as_str())
     }
 
@@ -108,21 +113,21 @@ impl Profile {
     pub fn has(&self, index: u32, register: Register) -> bool
         ensures { result ≡ indexes.has_pair self.now (index, register) }
     {
-        has_pair(&self.directives, &self.names, index, register)
+        has_pair(&self.lines, index, register)
     }
 
     /// Where a record's identifier stands.
     pub fn identifier_rule(&self) -> &UnitPattern
         ensures { indexes.identifier_pattern self.now ≡ Some result.now }
     {
-        identifier_pattern(&self.directives).unwrap()
+        &self.identifier
     }
 
     /// The path of the register's file, without blanks at its ends.
     pub fn store_path(&self) -> &str
         ensures { indexes.store_path self.now ≡ Some result.now }
     {
-        store_path(&self.directives).unwrap()
+        &self.store
     }
 
     /// The canonical text: each directive but `store` on a line of its own, with one space between words, registers
@@ -138,9 +143,7 @@ impl Profile {
     pub fn targets(&self, tag: &[u8; 3], code: Option<u8>) -> Targets<'_>
         ensures { targets_left result ≡ indexes.unit_targets self.now tag.now code }
     {
-        let first = melm_targets(&self.directives, tag, code);
-        let all = further_targets(&self.directives, tag);
-        Targets::new(&self.names, first, all)
+        Targets::of_unit(&self.lines, tag, code)
     }
 
     /// A law: every profile is the directives of some text. Contracts see a profile as its directives; what is true of its
@@ -148,7 +151,7 @@ impl Profile {
     pub fn is_of_some_text(&self)
         ensures { ∥ IsProfile self.now ∥₁ }
     {
-        let _ = &self.directives;
+        let _ = &self.lines;
     }
 
     /// A law: two profiles that show one text say the same of indexes, units and identifiers.
@@ -158,10 +161,4 @@ impl Profile {
         self.is_of_some_text();
         other.is_of_some_text();
     }
-}
-
-fn directives_of(alloc: Global, placed: Vec<Placed>) -> Result<Vec<Directive>, AllocError>
-    ensures { IfOk result (λ directives. directives.items ≡ directives_in placed.items) }
-{
-    placed.into_iter().map(|line| line.directive).collect(alloc)
 }

@@ -1,6 +1,6 @@
 //! Patterns of units: a tag, or a tag and a subfield code.
 
-ghost use Rattle.std.specs.Prelude.{◌≡◌, List, ℕ};
+ghost use Rattle.std.specs.Prelude.{◌≡◌};
 ghost use Rattle.std.specs.List.{list_all};
 ghost use Rattle.std.specs.Char.{is_ascii_alphanumeric};
 ghost use Rattle.zeb_profile.specs.Words.{pattern_of};

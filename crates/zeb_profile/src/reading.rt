@@ -1,22 +1,24 @@
 //! Reading a profile line by line, and what its lines lack together.
 
-ghost use Rattle.std.specs.Prelude.{◌≡◌, ◌∷◌, [], length, map, IfOk, OnOk, option_map};
-ghost use Rattle.std.specs.List.{list_any, find};
+ghost use Rattle.std.specs.Prelude.{◌≡◌, ◌∷◌, [], length, map, IfOk, IfErr, OnOk, option_map};
+ghost use Rattle.std.specs.List.{find};
 ghost use Rattle.std.specs.Str.Lines.{lines as lines_of};
 ghost use Rattle.zeb_profile.specs.declared.directives.Directive.{Directive as Told};
 ghost use Rattle.zeb_profile.specs.Indexes.{index_names};
 ghost use Rattle.zeb_profile.specs.PrivateKeys.{AddsKeys, ties_beside};
 ghost use Rattle.zeb_profile.specs.Lines.{says_something as tells};
-ghost use Rattle.zeb_profile.specs.Outcomes.{GivesPlaced};
+ghost use Rattle.zeb_profile.specs.Outcomes.{FailsPlaced, GivesPlaced};
 ghost use Rattle.zeb_profile.specs.PrivateOutcomes.{Gives};
-ghost use Rattle.zeb_profile.specs.Profiles.{directives_in, placed_lines, ties_unknown as ties_unknown_index, is_identifier, is_store, lack_of as lack};
+ghost use Rattle.zeb_profile.specs.Profiles.{directives_in, placed_lines, ties_unknown as ties_unknown_index, lack_of, unless};
+ghost use Rattle.zeb_profile.specs.PrivateSettled.{Settles};
 ghost use Rattle.zeb_profile.specs.PrivateRepeats.{NotesAlso, directive_beside};
 
 use crate::directives::{Directive, Placed, Target};
 use crate::lines::trim;
 use crate::names::Name;
 use crate::repeats::Repeats;
-use crate::{ProfileFault, ProfileFaultKind};
+use crate::searches::{identifier_pattern, store_path};
+use crate::{ProfileFault, ProfileFaultKind, UnitPattern};
 use std::alloc::{AllocError, Global};
 use std::collections::BTreeSet;
 
@@ -75,41 +77,40 @@ fn read_line(
     }
 }
 
-/// What the lines of a profile lack together: the index of a use attribute, the identifier, the store, and room for their
-/// indexes, of which the caller has the number.
-pub(crate) fn lack_of(
+/// What each profile has once.
+#[derive(Clone, Copy)]
+pub(crate) struct Settled<'a> {
+    pub identifier: UnitPattern,
+    pub store: &'a str,
+}
+
+/// What the lines of a profile settle together, or the fault of what they lack: the index of a use attribute, the
+/// identifier, the store, and room for their indexes, of which the caller has the number.
+pub(crate) fn settle<'a>(
     alloc: Global,
-    placed: &[Placed],
+    placed: &'a [Placed],
     index_count: usize,
-) -> Result<Option<ProfileFault>, AllocError>
+) -> Result<Settled<'a>, ProfileFault>
     requires { index_count ≡ length (index_names (directives_in placed.now)) }
-    ensures { IfOk result (λ found. found ≡ lack placed.now) }
+    ensures settled { IfOk result (λ settled. Settles placed.now settled) }
+    ensures lacks { IfErr result (λ fault. FailsPlaced fault (unless (lack_of placed.now) placed.now)) }
 {
     if let Some(line) = unknown_use(alloc, placed)? {
-        return Ok(Some(ProfileFault {
-            line,
-            kind: ProfileFaultKind::UnknownIndex,
-        }));
+        return Err(ProfileFault::at_line(line, ProfileFaultKind::UnknownIndex));
     }
-    if !has_identifier(placed) {
-        return Ok(Some(ProfileFault {
-            line: 0,
-            kind: ProfileFaultKind::NoIdentifier,
-        }));
-    }
-    if !has_store(placed) {
-        return Ok(Some(ProfileFault {
-            line: 0,
-            kind: ProfileFaultKind::NoStore,
-        }));
-    }
+    let Some(identifier) = identifier_pattern(placed) else {
+        return Err(ProfileFault::at_line(0, ProfileFaultKind::NoIdentifier));
+    };
+    let Some(store) = store_path(placed) else {
+        return Err(ProfileFault::at_line(0, ProfileFaultKind::NoStore));
+    };
     if index_count > u32::MAX as usize {
-        return Ok(Some(ProfileFault {
-            line: 0,
-            kind: ProfileFaultKind::TooManyIndexes,
-        }));
+        return Err(ProfileFault::at_line(0, ProfileFaultKind::TooManyIndexes));
     }
-    Ok(None)
+    Ok(Settled {
+        identifier: *identifier,
+        store,
+    })
 }
 
 /// The first line that ties a use attribute to an index that no line has as a target. The targets' names are looked up
@@ -173,16 +174,4 @@ fn add_key(alloc: Global, keys: &mut BTreeSet<String>, name: &Name) -> Result<()
 {
     keys.insert(name.key(alloc)?)?;
     Ok(())
-}
-
-fn has_identifier(placed: &[Placed]) -> bool
-    ensures { result ≡ list_any (λ line. is_identifier line.directive) placed.now }
-{
-    placed.iter().any(|line| line.directive.is_identifier())
-}
-
-fn has_store(placed: &[Placed]) -> bool
-    ensures { result ≡ list_any (λ line. is_store line.directive) placed.now }
-{
-    placed.iter().any(|line| line.directive.is_store())
 }

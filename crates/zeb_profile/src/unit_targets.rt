@@ -1,40 +1,51 @@
 //! The targets of a unit, one after the other.
 
-ghost use Rattle.std.specs.Prelude.{◌≡◌, ◌<◌, ◌^◌, ◌++◌, ◌∷◌, [], List, ℕ, length, map, drop, IfSome, IfNone};
-ghost use Rattle.zeb_profile.specs.Indexes.{pair_of, further_pairs};
+ghost use Rattle.std.specs.Prelude.{◌≡◌, ◌++◌, ◌∷◌, [], if◌then◌else◌, IfSome, IfNone};
+ghost use Rattle.zeb_profile.specs.Indexes.{further_pairs, is_control_tag as control_tag};
+ghost use Rattle.zeb_profile.specs.PrivateResolved.{first_pairs, is_all, is_melm_for};
 
-use crate::directives::Target;
-use crate::indexes::index_of;
-use crate::names::Name;
-use crate::searches::names_pair;
+use crate::resolved::{Line, all_pairs, is_among, melm_pairs};
 use zeb_keys::Register;
 
 /// The targets of a unit, each pair of an index number and a register once.
 #[derive(Drop)]
 pub struct Targets<'a> {
-    names: &'a [Name],
-    first: &'a [Target],
-    left: &'a [Target],
-    all: &'a [Target],
-    ghost bound: { length names.now < 2 ^ 32 },
+    /// Those of the `melm` line, and which of them are left.
+    first: &'a [(u32, Register)],
+    left: &'a [(u32, Register)],
+    /// Those of the `all` line that are left.
+    all: &'a [(u32, Register)],
 }
 
 impl<'a> Targets<'a> {
     ghost use Rattle.zeb_profile.specs.TargetsLeft.{targets_left};
 
-    /// The targets of the `melm` line, and then those of the `all` line that are not among them.
-    pub(crate) fn new(names: &'a [Name], melm: &'a [Target], all: &'a [Target]) -> Targets<'a>
-        requires { length names.now < 2 ^ 32 }
-        ensures { let pair = pair_of names.now in
-            targets_left result ≡ map pair melm.now ++ further_pairs (map pair melm.now) (map pair all.now) }
+    /// The targets of the first `melm` line that fits a unit, and then, for a data field, those of the `all` line that are
+    /// not among them.
+    pub(crate) fn of_unit(lines: &'a [Line], tag: &[u8; 3], code: Option<u8>) -> Targets<'a>
+        ensures { let first = first_pairs (is_melm_for tag.now code) lines.now in
+            let further = (if control_tag tag.now then [] else first_pairs is_all lines.now) in
+            targets_left result ≡ first ++ further_pairs first further }
     {
+        let first = melm_pairs(lines, tag, code);
+        let all = if is_control_tag(tag) {
+            &[]
+        } else {
+            all_pairs(lines)
+        };
         Targets {
-            names,
-            first: melm,
-            left: melm,
+            first,
+            left: first,
             all,
         }
     }
+}
+
+/// Whether a tag is a control field's: it begins with two zeros.
+fn is_control_tag(tag: &[u8; 3]) -> bool
+    ensures { result ≡ control_tag tag.now }
+{
+    tag[0] == b'0' && tag[1] == b'0'
 }
 
 impl<'a> Iterator for Targets<'a> {
@@ -49,12 +60,12 @@ impl<'a> Iterator for Targets<'a> {
 
     fn next(&mut self) -> Option<(u32, Register)> {
         match self.left.split_first() {
-            Some((target, others)) => {
+            Some((pair, others)) => {
                 self.left = others;
-                Some((index_of(self.names, target), target.register))
+                Some(*pair)
             }
             None => {
-                let (pair, others) = next_further(self.names, self.first, self.all)?;
+                let (pair, others) = next_further(self.first, self.all)?;
                 self.all = others;
                 Some(pair)
             }
@@ -62,21 +73,18 @@ impl<'a> Iterator for Targets<'a> {
     }
 }
 
-/// The first of all targets that is not among the first ones, and the targets behind it.
+/// The first of all pairs that is not among the first ones, and the pairs behind it.
 fn next_further<'a>(
-    names: &[Name],
-    first: &[Target],
-    all: &'a [Target],
-) -> Option<((u32, Register), &'a [Target])>
-    requires { length names.now < 2 ^ 32 }
-    ensures some { IfSome result (λ next. let pair = pair_of names.now in further_pairs (map pair first.now) (map pair all.now)
-        ≡ next.0 ∷ further_pairs (map pair first.now) (map pair next.1.now)) }
-    ensures none { IfNone result (let pair = pair_of names.now in further_pairs (map pair first.now) (map pair all.now) ≡ []) }
+    first: &[(u32, Register)],
+    all: &'a [(u32, Register)],
+) -> Option<((u32, Register), &'a [(u32, Register)])>
+    ensures some { IfSome result (λ next.
+        further_pairs first.now all.now ≡ next.0 ∷ further_pairs first.now next.1.now) }
+    ensures none { IfNone result (further_pairs first.now all.now ≡ []) }
 {
-    for (index, target) in all.iter().enumerate() {
-        let number = index_of(names, target);
-        if !names_pair(first, names, number, target.register) {
-            return Some(((number, target.register), &all[index + 1..]));
+    for (place, (index, register)) in all.iter().enumerate() {
+        if !is_among(first, *index, *register) {
+            return Some(((*index, *register), &all[place + 1..]));
         }
     }
     None

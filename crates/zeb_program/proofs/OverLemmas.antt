@@ -23,7 +23,6 @@ use Rattle.zeb_image.specs.declared.names.DbName.{DbName}
 use Rattle.zeb_engine.specs.Analysed.{AnswersAnalysis}
 use Rattle.zeb_engine.specs.AnyAnswers.{CommandLeaves, IsAnswerOver}
 use Rattle.zeb_engine.specs.AnyTables.{ChangesReady, LeavesWhole, LosesNamed}
-use Rattle.zeb_engine.specs.Causes.{ChangesInRoom}
 use Rattle.zeb_engine.specs.Readiness.{GoesByTexts}
 use Rattle.zeb_engine.specs.Refusals.{refusal_text, status_of}
 use Rattle.zeb_engine.specs.Replies.{reply_text}
@@ -90,11 +89,6 @@ given_refused : (P : Type 0) (r : Result Reply Refusal) → OnErr r P → OnErr 
 given_refused P (Ok reply) p = p
 given_refused P (Err refusal) p = p
 
--- a refusal for a reader that failed isn't that the store did
-not_store : {R : Type 0} (has_failed : R → Bool) (readers : List R) (r : Result Reply Refusal) → IsErrAnd r (NamesFailed has_failed readers) → r ≡ Err Store → ⊥
-not_store has_failed readers (Ok reply) failed is = absurd failed
-not_store has_failed readers (Err refusal) failed is = absurd (cc (failed.3, is))
-
 damaged : (r : Result Reply Refusal) → given r ≡ Err (fault.Refused Damaged) → r ≡ Err Damaged
 damaged (Ok reply) is = absurd (cc is)
 damaged (Err refusal) is = cc is
@@ -136,21 +130,14 @@ module _ (told : List ℕ → Option (List ℕ)) (c : Conditions) (kind : Kind) 
       → ((texts : List (List ℕ)) → map remaining before ≡ map Some texts → NoneFailed has_failed after → ServesBy (TakesFiles c kind name texts) old new r)
       → LeavesWhole c.profile kind name old new r
       → ((texts : List (List ℕ)) → map remaining before ≡ map Some texts → LosesNamed c.profile name texts old new r)
-      → ((texts : List (List ℕ)) → map remaining before ≡ map Some texts → NoneFailed has_failed after → ChangesInRoom c.profile kind name texts old new r)
       → PathsLeave told c kind name paths old new (given r)
-  changed_leaves remaining has_failed before after r all same sound nothing serves loses named room = record {
+  changed_leaves remaining has_failed before after r all same sound nothing serves loses named = record {
     refused = given_refused (ChangesNothing old new) r nothing;
     loses = inr (gives (LeavesWhole c.profile kind name old new) r loses);
     serves = λ files known held keeps. gives (λ answer. (later : Holdings) × ChangesBy c kind name files held answer later × Keeps new later) r
         (served_files remaining has_failed c kind name files old new before after r (all files known) same serves sound nothing held keeps);
     named = λ files known. gives (LosesNamed c.profile name files old new) r (named files (all files known));
-    room = λ files known. gives (ChangesInRoom c.profile kind name files old new) r (for_cause files (all files known) sound);
   }
-    where
-      for_cause : (files : List (List ℕ)) → map remaining before ≡ map Some files → NoneFailed has_failed after ⊎ IsErrAnd r (NamesFailed has_failed after)
-          → ChangesInRoom c.profile kind name files old new r
-      for_cause files met (inl fine) = room files met fine
-      for_cause files met (inr failed) = λ store has is. absurd (not_store has_failed after r failed is)
 
   -- a path couldn't be read, or memory ran out in the program itself
   pub unread_leaves : (why : Fault) → IsUnread why → ((files : List (List ℕ)) → AreTold told paths files → why ≡ fault.Memory) → ChangesNothing old new
@@ -160,14 +147,12 @@ module _ (told : List ℕ → Option (List ℕ)) (c : Conditions) (kind : Kind) 
     loses = inl tt;
     serves = λ files known. absurd (cc (memory files known));
     named = λ files known. absurd (cc (memory files known));
-    room = λ files known. absurd (cc (memory files known));
   }
   unread_leaves fault.Memory unread memory nothing = record {
     refused = nothing;
     loses = inr tt;
     serves = λ files known held keeps. tt;
     named = λ files known. tt;
-    room = λ files known. tt;
   }
   unread_leaves (fault.Profile file why) unread memory nothing = absurd unread
   unread_leaves (fault.Refused refusal) unread memory nothing = absurd unread

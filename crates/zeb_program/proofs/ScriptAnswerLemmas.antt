@@ -29,8 +29,7 @@ use Rattle.zeb_program.proofs.AnswerLemmas.{Appends-nil}
 
 unopened : (refusal : Refusal) (bytes : List ℕ) (status : ℕ) → IsOpeningFailure refusal → (bytes ≡ refusal_line refusal) × (status ≡ status_of refusal) → IsUnopened bytes status
 unopened refusal bytes status (inl is) said = (inl (said.0 ∙ ap refusal_line is), said.1 ∙ ap status_of is)
-unopened refusal bytes status (inr (inl is)) said = (inl (said.0 ∙ ap refusal_line is), said.1 ∙ ap status_of is)
-unopened refusal bytes status (inr (inr is)) said = (inr (said.0 ∙ ap refusal_line is), said.1 ∙ ap status_of is)
+unopened refusal bytes status (inr is) said = (inr (said.0 ∙ ap refusal_line is), said.1 ∙ ap status_of is)
 
 pub refused_opening : (tells : List ℕ → Option (List ℕ)) (failed : Bool) (old new : Option (List ℕ)) (directives : List Directive) (n : ℕ) (batch : List ℕ) (refusal : Refusal) (r : Result ℕ AllocError) → IsOpeningFailure refusal
     → IfOk r (λ status. failed ≡ false → Writes old new (λ bytes. (bytes ≡ refusal_text refusal ++ 10 ∷ []) × (status ≡ status_of refusal)))

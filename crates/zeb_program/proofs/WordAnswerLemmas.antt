@@ -7,7 +7,7 @@ use Rattle.std.specs.declared.alloc.Global.{Global}
 use Rattle.std.specs.Io.KnownBytes.{Appends, IsAtEnd, Keeps}
 use Rattle.std.proofs.KnownBytes.{Appends-kept, Keeps-refl, Keeps-trans}
 use Rattle.zeb_change.specs.declared.refusals.Refusal.{Refusal}
-use Rattle.zeb_change.specs.declared.refusals.Refusal.TheVariants.{NotInitialised, OldFormat, ProfileChanged, Diagnostic, Exists, Record, Unknown, DatabaseFull, TooManyRecords, Damaged, IdentifierRuleChanged, ReadFault, Store, Commit, Memory}
+use Rattle.zeb_change.specs.declared.refusals.Refusal.TheVariants.{NotInitialised, OldFormat, ProfileChanged, Diagnostic, Exists, Record, Unknown, DatabaseFull, TooManyRecords, Damaged, IdentifierRuleChanged, ReadFault, Store, Memory}
 use Rattle.zeb_engine.specs.Refusals.{status_of}
 use Rattle.zeb_words.specs.declared.words.Usage.{Usage}
 use Rattle.zeb_words.specs.declared.words.Usage.TheVariants as usage
@@ -33,7 +33,6 @@ refusal_status Damaged = inl refl
 refusal_status IdentifierRuleChanged = inl refl
 refusal_status (ReadFault file) = inr refl
 refusal_status Store = inr refl
-refusal_status Commit = inr refl
 refusal_status Memory = inr refl
 
 -- what is passed on stays what it was

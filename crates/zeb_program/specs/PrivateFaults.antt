@@ -22,9 +22,9 @@ IsUnreadable (Err (Unreadable path)) = ⊤
 IsUnreadable (Err (Refused refusal)) = ⊥
 IsUnreadable (Err Memory) = ⊥
 
--- a failure by which a register isn't opened: of the store, of the commit of its tables or of the memory
+-- a failure by which a register isn't opened: of the store or of the memory
 abbrev pub IsOpeningFailure : Refusal → Type 0
-IsOpeningFailure why = (why ≡ refusal.Store) ⊎ ((why ≡ refusal.Commit) ⊎ (why ≡ refusal.Memory))
+IsOpeningFailure why = (why ≡ refusal.Store) ⊎ (why ≡ refusal.Memory)
 
 -- the register wasn't opened for such a failure
 abbrev pub IsOpeningFault : Fault → Type 0

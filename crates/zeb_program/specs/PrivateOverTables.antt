@@ -20,7 +20,6 @@ use Rattle.zeb_engine.specs.Analysed.{IsAnalysed}
 use Rattle.zeb_engine.specs.Answers.{answer_of}
 use Rattle.zeb_engine.specs.AnyAnswers.{CommandLeaves, IsAnswerOver}
 use Rattle.zeb_engine.specs.AnyTables.{ChangesReady, LeavesWhole, LosesNamed}
-use Rattle.zeb_engine.specs.Causes.{ChangesInRoom}
 use Rattle.zeb_engine.specs.Readiness.{GoesByTexts}
 use Rattle.zeb_engine.specs.declared.commands.Command.{Command}
 use Rattle.zeb_engine.specs.declared.replies.Reply.{Reply}
@@ -64,7 +63,7 @@ pub record IsAnalysisOver (told : List ℕ → Option (List ℕ)) (profile : Lis
   pub short : AreShort texts
   pub these : (files : List (List ℕ)) → AreTold told paths files → texts ≡ files
 
--- what a change of the database of this name by the files at these paths leaves of any tables, and why its store failed
+-- what a change of the database of this name by the files at these paths leaves of any tables
 pub record PathsLeave (told : List ℕ → Option (List ℕ)) (c : Conditions) (kind : Kind) (name : List ℕ) (paths : List (List ℕ)) (old new : State) (result : Result Reply Fault) : Type 0 where
   -- nothing changes where it isn't accepted
   pub refused : OnErr result (ChangesNothing old new)
@@ -73,10 +72,8 @@ pub record PathsLeave (told : List ℕ → Option (List ℕ)) (c : Conditions) (
   -- Where the bytes of a file at each path are told, it is answered from tables that keep what a register holds as a change by these, and they
   -- keep what is held then.
   pub serves : (files : List (List ℕ)) → AreTold told paths files → AnswersFrom old new result (ChangesBy c kind name files)
-  -- Then it has lost no record but under identifiers that records of the files have; and a failed store has a cause, where the tables have room
-  -- for what these records ask for.
+  -- Then it has lost no record but under identifiers that records of the files have.
   pub named : (files : List (List ℕ)) → AreTold told paths files → GivesAnswer (LosesNamed c.profile name files old new) result
-  pub room : (files : List (List ℕ)) → AreTold told paths files → GivesAnswer (ChangesInRoom c.profile kind name files old new) result
 
 -- a path of an analysis can't be read, or it is answered so
 abbrev pub AnalysesOver : (List ℕ → Option (List ℕ)) → List Directive → ℕ → List (List ℕ) → Result Reply Fault → Type 0

@@ -1,6 +1,6 @@
 //! Reading a source whole.
 
-ghost use Rattle.std.specs.Prelude.{◌≡◌, ◌≤◌, ◌+◌, true, false, length, vec_len, string_bytes, string_len, IfOk, IfErr, IfSome};
+ghost use Rattle.std.specs.Prelude.{◌≡◌, ◌≤◌, ◌+◌, true, false, length, vec_len, string_bytes, string_len, IfOk, IfSome};
 ghost use Rattle.std.specs.Io.KnownBytes.{Consumes, IsAtEnd};
 ghost use Rattle.zeb_program.specs.Inputs.{IsTextWithin, TakesAtMost};
 ghost use Rattle.zeb_program.specs.declared.input.InputFault.TheVariants.{Unreadable, Memory};

@@ -1,6 +1,6 @@
 //! The lines of a batch, each of which names a command.
 
-ghost use Rattle.std.specs.Prelude.{◌≡◌, IfOk, MatchOption};
+ghost use Rattle.std.specs.Prelude.{IfOk, MatchOption};
 ghost use Rattle.zeb_engine.specs.declared.commands.Command.{Command};
 ghost use Rattle.zeb_program.specs.Batches.{Names, HasChange, HasFind, HasScan};
 ghost use Rattle.zeb_program.specs.PrivateBatches.{IsChange, IsFind, IsScan};

@@ -1,12 +1,5 @@
 -- Lists of checks: the first that applies, over lists one after the other.
-use Rattle.std.proofs.Common.{◌≡◌, ℕ, Bool, true, false, cond, eqb, List, [], ◌∷◌, ◌++◌, Option, Some, None, refl, ap, sym, subst, ◌∙◌}
-use Rattle.std.specs.Prelude.{Result, Ok, Err, IfOk, not, map, ◌||◌, option_and_then}
-use Rattle.std.specs.Option.{is_none, unwrap_or}
-use Rattle.std.proofs.lemmas.Bool.{eqb-true}
-use Rattle.zeb_query.specs.Attributes.{kept, is_among}
-use Rattle.zeb_query.specs.Checks.{Check, check, checked_by, first_that_applies, written, Refusal, Gives, answered}
-use Rattle.zeb_query.specs.PrivatePlanning.{kept_or}
-use Rattle.zeb_query.specs.declared.faults.QueryFault.{QueryFault}
+use Rattle.zeb_query.proofs.Cited.{◌≡◌, ℕ, Bool, true, false, cond, eqb, List, [], ◌∷◌, ◌++◌, Option, Some, None, refl, ap, sym, subst, ◌∙◌, Result, Ok, Err, IfOk, not, map, ◌||◌, option_and_then, is_none, unwrap_or, eqb-true, kept, is_among, Check, check, checked_by, first_that_applies, written, Refusal, Gives, answered, kept_or, QueryFault}
 
 -- a part after another, unless that one was refused
 infixl 10 ◌>>=◌

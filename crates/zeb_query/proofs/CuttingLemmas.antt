@@ -1,9 +1,5 @@
 -- One character further in a text, seen as the words of the whole text.
-use Rattle.std.proofs.Common.{◌≡◌, ℕ, ◌+◌, ◌<◌, List, ◌∷◌, length, get_or, drop, sym, ap, ◌∙◌}
-use Rattle.std.specs.Char.{len_utf8}
-use Rattle.std.proofs.lemmas.List.{at_drop_more}
-use Rattle.zeb_query.specs.declared.words.Cutter.{Cutter}
-use Rattle.zeb_query.specs.PrivateReading.{words_with}
+use Rattle.zeb_query.proofs.Cited.{◌≡◌, ℕ, ◌+◌, ◌<◌, List, ◌∷◌, length, get_or, drop, sym, ap, ◌∙◌, len_utf8, at_drop_more, Cutter, words_with}
 
 pub words_with-more : (old new : Cutter) (place width c : ℕ) (cs : List ℕ) (n m : ℕ) → (n < length cs) × (c ≡ get_or cs n c) → width ≡ len_utf8 c → m ≡ n + 1 → ((rest : List ℕ) → words_with new (place + len_utf8 c) rest ≡ words_with old place (c ∷ rest)) → words_with new (place + width) (drop m cs) ≡ words_with old place (drop n cs)
 words_with-more old new place width c cs n m at wide next step =

@@ -1,13 +1,6 @@
 -- What `parse` reads where a text is a number.
-use Rattle.std.proofs.Common.{◌≡◌, ℕ, ◌<◌, ◌≤◌, ◌^◌, Bool, true, false, List, [], ◌∷◌, ◌&&◌, Result, Ok, Option, Some, length, refl, ap, sym, ◌∙◌, arith}
-use Rattle.std.specs.Prelude.{IfSome, nat_lt, nat_le}
-use Rattle.std.specs.List.{list_all}
-use Rattle.std.specs.Char.{is_ascii_digit}
-use Rattle.std.specs.Str.{all_ascii_digits}
-use Rattle.std.specs.Str.Parse.{digits_value, ParsesUnsigned}
-use Rattle.std.proofs.lemmas.Str.Parse.{numerals_by_value, tells_all_ascii_digits, IsNumeralModel, parse_gives, digits_value_short}
-use Rattle.std.proofs.lemmas.Bool.Decides.{nat_tests}
-use Rattle.zeb_query.specs.Grammar.{is_number, number_of}
+use Rattle.zeb_query.proofs.Cited.{◌≡◌, ℕ, ◌<◌, ◌≤◌, ◌^◌, Bool, true, false, List, [], ◌∷◌, Option, Some, length, refl, ap, sym, ◌∙◌, arith, IfSome, nat_lt, nat_le, list_all, is_ascii_digit, all_ascii_digits, digits_value, ParsesUnsigned, numerals_by_value, tells_all_ascii_digits, IsNumeralModel, parse_gives, digits_value_short, nat_tests, is_number, number_of}
+use Rattle.std.proofs.Common.{◌&&◌, Result, Ok}
 
 all_digits : (text : List ℕ) → list_all is_ascii_digit text ≡ all_ascii_digits text
 all_digits [] = refl

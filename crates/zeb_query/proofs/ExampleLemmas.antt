@@ -1,17 +1,8 @@
 -- Queries' texts and what they spell, word by word.
-use Rattle.std.proofs.Common.{◌≡◌, ℕ, true, false, List, [], ◌∷◌, ◌++◌, Some, None, length, map, codes, refl, subst}
-use Rattle.std.specs.Prelude.{Result, chars}
-use Rattle.std.specs.List.{list_all}
-use Rattle.zeb_query.specs.declared.words.Spelling.TheVariants.{Plain, Quoted}
-use Rattle.zeb_query.specs.declared.keywords.Keyword.TheVariants.{Operator}
-use Rattle.zeb_query.specs.declared.queries.Connective.{Connective}
-use Rattle.zeb_profile.specs.declared.directives.Directive.{Directive}
-use Rattle.zeb_query.specs.Words.{Word, AreWords}
-use Rattle.zeb_query.specs.PrivateWalk.{words_at}
-use Rattle.zeb_query.specs.Grammar.{TreeValue, TermValue, NamedValue, PairValue, QueryValue, IsStructure, is_term, is_named, is_attribute, is_attribute_of_set, is_typed, is_pair, IsQuery, is_structure_of_set, keyword_spelled, kind_and_value, has_equals, is_good, text_of, parameter_count, under, with_attribute, with_type, no_head, SpellsQuery}
-use Rattle.zeb_query.specs.Plans.{PlanValue, ScanValue, plan_of, scan_of}
-use Rattle.zeb_query.specs.Checks.{Refusal}
-use Rattle.zeb_query.specs.Worked.{sample_profile, PlansUnder, PlansAs, ScansAs}
+use Rattle.zeb_query.proofs.Cited.{◌≡◌, ℕ, true, false, List, [], ◌∷◌, ◌++◌, Some, None, length, codes, refl, subst, Result, list_all, Plain, Quoted, Operator, Connective, Directive, Word, AreWords, words_at, TreeValue, TermValue, NamedValue, PairValue, QueryValue, IsStructure, is_term, is_named, is_attribute, is_attribute_of_set, is_typed, is_pair, IsQuery, is_structure_of_set, keyword_spelled, has_equals, is_good, text_of, parameter_count, under, with_attribute, with_type, no_head, SpellsQuery, PlanValue, ScanValue, plan_of, scan_of, Refusal, sample_profile, PlansUnder, PlansAs, ScansAs}
+use Rattle.std.proofs.Common.{map}
+use Rattle.std.specs.Prelude.{chars}
+use Rattle.zeb_query.specs.Grammar.{kind_and_value}
 use Rattle.zeb_query.proofs.WordStretches.{words_are_read}
 
 abbrev pub plain : ℕ → List ℕ → Word

@@ -1,15 +1,7 @@
 -- Where a text's fault stands: past a front that some query begins with, at a word that none has there or none has room
 -- for, or at the end.
-use Rattle.std.proofs.Common.{◌≡◌, ◌≢◌, ℕ, zero, suc, ◌⊎◌, inl, inr, Bool, true, false, List, [], ◌∷◌, ◌++◌, Option, Some, None, refl, ap, sym, subst, ◌∙◌, arith, append_assoc}
-use Rattle.std.specs.Prelude.{slice_get}
-use Rattle.std.specs.Option.{option_map}
-use Rattle.zeb_query.specs.declared.queries.Connective.{Connective}
-use Rattle.zeb_query.specs.declared.keywords.Keyword.{Keyword}
-use Rattle.zeb_query.specs.declared.keywords.Keyword.TheVariants.{AttributeSet, Attribute, TermType, ResultSet, Operator}
-use Rattle.zeb_query.specs.Words.{Word}
-use Rattle.zeb_query.specs.Grammar.{keyword_of, IsQuery, is_good, has_equals, kind_and_value, parameter_count, QueryValue}
-use Rattle.zeb_query.specs.PrivateWalk.{Due, Start, Structures, SetOrSpec, Spec, MoreWords, words_then, fault, fault_at_end, Step, Allowed, Refused, step, good_step, structure_step, start_step, spec_step}
-use Rattle.zeb_query.specs.Places.{IsBeginning, IsQueryWithin, IsBeginningWithin, IsStrange, IsUnfinished, IsUnspelled, IsCrowded, operators}
+use Rattle.zeb_query.proofs.Cited.{◌≡◌, ◌≢◌, ℕ, zero, suc, ◌⊎◌, inl, inr, Bool, true, false, List, [], ◌∷◌, ◌++◌, Option, Some, None, refl, ap, sym, subst, ◌∙◌, arith, append_assoc, slice_get, option_map, Connective, Keyword, AttributeSet, Attribute, TermType, ResultSet, Operator, Word, keyword_of, IsQuery, is_good, has_equals, parameter_count, QueryValue, Due, Start, Structures, SetOrSpec, Spec, MoreWords, words_then, fault, fault_at_end, Step, Allowed, Refused, step, good_step, structure_step, start_step, spec_step, IsBeginning, IsQueryWithin, IsBeginningWithin, IsStrange, IsUnfinished, IsUnspelled, IsCrowded, operators}
+use Rattle.zeb_query.specs.Grammar.{kind_and_value}
 use Rattle.zeb_query.proofs.GrammarLemmas.{append-nil, step-start, fault-step}
 use Rattle.zeb_query.proofs.GrammarLaws.{over_query}
 use Rattle.zeb_query.proofs.GrammarOnce.{somes_same}

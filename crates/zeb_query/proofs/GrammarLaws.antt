@@ -1,15 +1,7 @@
 -- A structure is read to its end and no further, and one text is one structure.
-use Rattle.std.proofs.Common.{◌≡◌, ◌≢◌, ℕ, zero, suc, ◌+◌, ◌-◌, ◌≤◌, Bool, true, false, ◌||◌, true≢false, List, [], ◌∷◌, ◌++◌, Some, None, length, refl, ap, sym, ◌∙◌, arith, append_assoc, length-append}
-use Rattle.std.specs.List.{list_all, list_any, position_or_len}
-use Rattle.std.proofs.Math.Numerals.{one-add}
-use Rattle.zeb_query.specs.declared.queries.Connective.{Connective}
-use Rattle.zeb_query.specs.declared.keywords.Keyword.{Keyword}
-use Rattle.zeb_query.specs.declared.keywords.Keyword.TheVariants.{AttributeSet, Attribute, TermType, ResultSet, Operator}
-use Rattle.zeb_query.specs.Words.{Word}
-use Rattle.zeb_query.specs.Grammar.{keyword_of, IsStructure, is_term, is_named, is_attribute, is_attribute_of_set, is_typed, is_pair, IsQuery, is_structure, is_structure_of_set, is_good, has_equals, is_equals_sign, kind_and_value, parameter_count, under, with_attribute, with_type, HeadValue, TreeValue, TermValue, NamedValue, PairValue, QueryValue}
-use Rattle.zeb_query.specs.PrivateWalk.{Due, Start, Structures, SetOrSpec, Spec, MoreWords, words_then, fault, Allowed, step, structure_step, start_step}
-use Rattle.zeb_query.specs.Places.{operators}
-use Rattle.zeb_query.specs.PrivateReading.{first_keyword}
+use Rattle.zeb_query.proofs.Cited.{◌≡◌, ◌≢◌, ℕ, zero, suc, ◌+◌, ◌-◌, ◌≤◌, Bool, true, false, true≢false, List, [], ◌∷◌, ◌++◌, Some, None, length, refl, ap, sym, ◌∙◌, arith, append_assoc, length-append, list_all, list_any, position_or_len, one-add, Connective, Keyword, AttributeSet, Attribute, TermType, ResultSet, Operator, Word, keyword_of, IsStructure, is_term, is_named, is_attribute, is_attribute_of_set, is_typed, is_pair, IsQuery, is_structure, is_structure_of_set, is_good, has_equals, is_equals_sign, parameter_count, under, with_attribute, with_type, HeadValue, TreeValue, TermValue, NamedValue, PairValue, QueryValue, Due, Start, Structures, SetOrSpec, Spec, MoreWords, words_then, fault, Allowed, step, structure_step, start_step, operators, first_keyword}
+use Rattle.std.proofs.Common.{◌||◌}
+use Rattle.zeb_query.specs.Grammar.{kind_and_value}
 use Rattle.zeb_query.proofs.DigitLemmas.{and_parts}
 use Rattle.zeb_query.proofs.GrammarLemmas.{kind_and_value-none, append-nil, fault-start, fault-step, step-structure, good_from_keyword}
 

@@ -1,21 +1,7 @@
 -- Steps of a reader of queries, in the words of the grammar.
-use Rattle.std.proofs.Common.{◌≡◌, ◌≢◌, ℕ, suc, ◌+◌, ◌-◌, ◌<◌, Bool, true, false, List, [], ◌∷◌, ◌++◌, Option, Some, None, length, cond, eqb, refl, ap, sym, subst, ◌∙◌, arith, append_assoc}
-use Rattle.std.specs.Prelude.{option_and_then, nat_lt, map}
-use Rattle.std.specs.List.{list_all, before_first, after_first, position_or_len}
-use Rattle.std.proofs.lemmas.Bool.Decides.{nat_tests}
-use Rattle.std.proofs.lemmas.List.{length_push, map-append, nil_from_length, length-map}
+use Rattle.zeb_query.proofs.Cited.{◌≡◌, ◌≢◌, ℕ, suc, ◌+◌, ◌-◌, ◌<◌, Bool, true, false, List, [], ◌∷◌, ◌++◌, Option, Some, None, length, cond, eqb, refl, ap, sym, subst, ◌∙◌, arith, append_assoc, option_and_then, nat_lt, map, list_all, before_first, after_first, position_or_len, nat_tests, length_push, map-append, nil_from_length, length-map, Rest, QueryFault, Spelling, Plain, Quoted, Bad, Connective, Keyword, AttributeSet, Attribute, TermType, ResultSet, Operator, number_of, keyword_of, keyword_by, if_any, is_equals_sign, has_equals, is_good, is_good_spelling, IsStructure, is_attribute, is_attribute_of_set, is_typed, under, heads, no_head, inner_type, with_type, text_of, is_term, is_named, is_pair, parameter_count, IsQuery, is_structure, is_structure_of_set, AttributeValue, HeadValue, TreeValue, TermValue, NamedValue, PairValue, Word, word_of, left, fault_of, first_keyword, IsAfterFirst, ReadsFirst, ReadsWord, SpellsSpec, SpellsAttribute, SpellsHead, SpellsParameters, SpellsOperator, SpellsSet, Spells, first_place, IsFault, Due, Start, Structures, SetOrSpec, Spec, MoreWords, words_then, fault, Step, Allowed, Refused, step, structure_step, operator_step, start_step}
 use Rattle.zeb_query.proofs.DigitLemmas.{and_parts}
-use Rattle.zeb_query.specs.declared.grammar.Rest.{Rest}
-use Rattle.zeb_query.specs.declared.faults.QueryFault.{QueryFault}
-use Rattle.zeb_query.specs.declared.words.Spelling.{Spelling}
-use Rattle.zeb_query.specs.declared.words.Spelling.TheVariants.{Plain, Quoted, Bad}
-use Rattle.zeb_query.specs.declared.queries.Connective.{Connective}
-use Rattle.zeb_query.specs.declared.keywords.Keyword.{Keyword}
-use Rattle.zeb_query.specs.declared.keywords.Keyword.TheVariants.{AttributeSet, Attribute, TermType, ResultSet, Operator}
-use Rattle.zeb_query.specs.Grammar.{number_of, keyword_of, keyword_by, kind_and_value, if_any, is_equals_sign, has_equals, is_good, is_good_spelling, IsStructure, is_attribute, is_attribute_of_set, is_typed, under, heads, no_head, inner_type, with_type, text_of, is_term, is_named, is_pair, parameter_count, IsQuery, is_structure, is_structure_of_set, AttributeValue, HeadValue, TreeValue, TermValue, NamedValue, PairValue}
-use Rattle.zeb_query.specs.Words.{Word}
-use Rattle.zeb_query.specs.PrivateReading.{word_of, left, fault_of, first_keyword, IsAfterFirst, ReadsFirst, ReadsWord, SpellsSpec, SpellsAttribute, SpellsHead, SpellsParameters, SpellsOperator, SpellsSet, Spells, first_place, IsFault}
-use Rattle.zeb_query.specs.PrivateWalk.{Due, Start, Structures, SetOrSpec, Spec, MoreWords, words_then, fault, Step, Allowed, Refused, step, structure_step, operator_step, start_step}
+use Rattle.zeb_query.specs.Grammar.{kind_and_value}
 
 -- the type and value of a word without `=`, and of one with it
 pub kind_and_value-none : (text : List ℕ) → position_or_len is_equals_sign text ≡ length text → kind_and_value text ≡ None

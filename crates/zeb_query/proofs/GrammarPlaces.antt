@@ -1,15 +1,7 @@
 -- Which words may follow: a word is allowed exactly where some text goes on with it, unless there is no room for an operator.
-use Rattle.std.proofs.Common.{◌≡◌, ℕ, zero, suc, ◌⊎◌, inl, inr, Bool, true, false, List, [], ◌∷◌, ◌++◌, Option, Some, None, length, refl, ap, sym, subst, ◌∙◌, arith, append_assoc}
+use Rattle.zeb_query.proofs.Cited.{◌≡◌, ℕ, zero, suc, ◌⊎◌, inl, inr, Bool, true, false, List, [], ◌∷◌, ◌++◌, Option, Some, None, length, refl, ap, sym, subst, ◌∙◌, arith, append_assoc, list_all, Connective, Plain, Keyword, AttributeSet, Attribute, TermType, ResultSet, Operator, Word, keyword_of, IsStructure, is_term, is_named, is_attribute, is_attribute_of_set, is_typed, is_pair, IsQuery, is_structure, is_structure_of_set, is_good, has_equals, parameter_count, under, no_head, with_attribute, TreeValue, TermValue, QueryValue, Due, Start, Structures, SetOrSpec, Spec, MoreWords, words_then, fault, fault_at_end, Step, Allowed, Refused, step, good_step, structure_step, start_step, spec_step, operator_step, first_keyword}
 use Rattle.std.specs.Prelude.{codes}
-use Rattle.std.specs.List.{list_all}
-use Rattle.zeb_query.specs.declared.queries.Connective.{Connective}
-use Rattle.zeb_query.specs.declared.words.Spelling.TheVariants.{Plain}
-use Rattle.zeb_query.specs.declared.keywords.Keyword.{Keyword}
-use Rattle.zeb_query.specs.declared.keywords.Keyword.TheVariants.{AttributeSet, Attribute, TermType, ResultSet, Operator}
-use Rattle.zeb_query.specs.Words.{Word}
-use Rattle.zeb_query.specs.Grammar.{keyword_of, IsStructure, is_term, is_named, is_attribute, is_attribute_of_set, is_typed, is_pair, IsQuery, is_structure, is_structure_of_set, is_good, has_equals, kind_and_value, parameter_count, under, no_head, with_attribute, TreeValue, TermValue, QueryValue}
-use Rattle.zeb_query.specs.PrivateWalk.{Due, Start, Structures, SetOrSpec, Spec, MoreWords, words_then, fault, fault_at_end, Step, Allowed, Refused, step, good_step, structure_step, start_step, spec_step, operator_step}
-use Rattle.zeb_query.specs.PrivateReading.{first_keyword}
+use Rattle.zeb_query.specs.Grammar.{kind_and_value}
 use Rattle.zeb_query.proofs.DigitLemmas.{and_parts}
 use Rattle.zeb_query.proofs.GrammarLemmas.{append-nil, step-start, step-structure, good_from_keyword}
 use Rattle.zeb_query.proofs.GrammarLaws.{has_equals_from_read, not_set_first, over-words, over-set_or_spec, over-spec}

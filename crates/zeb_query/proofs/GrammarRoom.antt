@@ -1,13 +1,5 @@
 -- Operators that there is no room for: a query's fault is 6 at the first of them, if there is one.
-use Rattle.std.proofs.Common.{◌≡◌, ℕ, zero, suc, ◌+◌, ◌<◌, ◌≤◌, ◌⊎◌, inl, inr, List, [], ◌∷◌, ◌++◌, Option, Some, None, length, refl, ap, sym, subst, ◌∙◌, arith, append_assoc, length-append}
-use Rattle.std.specs.Prelude.{slice_get}
-use Rattle.std.specs.Option.{option_map}
-use Rattle.std.proofs.lemmas.Option.{slice_get_past}
-use Rattle.zeb_query.specs.declared.keywords.Keyword.TheVariants.{AttributeSet, Attribute, TermType, Operator}
-use Rattle.zeb_query.specs.Words.{Word}
-use Rattle.zeb_query.specs.Grammar.{TreeValue, QueryValue, IsStructure, is_term, is_named, is_attribute, is_attribute_of_set, is_typed, is_pair, IsQuery, is_structure, is_structure_of_set, parameter_count, with_attribute, with_type}
-use Rattle.zeb_query.specs.PrivateWalk.{Start, Structures, SetOrSpec, MoreWords, words_then, fault, Refused, structure_step, start_step}
-use Rattle.zeb_query.specs.Places.{operators}
+use Rattle.zeb_query.proofs.Cited.{◌≡◌, ℕ, zero, suc, ◌+◌, ◌<◌, ◌≤◌, ◌⊎◌, inl, inr, List, [], ◌∷◌, ◌++◌, Option, Some, None, length, refl, ap, sym, subst, ◌∙◌, arith, append_assoc, length-append, slice_get, option_map, slice_get_past, AttributeSet, Attribute, TermType, Operator, Word, TreeValue, QueryValue, IsStructure, is_term, is_named, is_attribute, is_attribute_of_set, is_typed, is_pair, IsQuery, is_structure, is_structure_of_set, parameter_count, with_attribute, with_type, Start, Structures, SetOrSpec, MoreWords, words_then, fault, Refused, structure_step, start_step, operators}
 use Rattle.zeb_query.proofs.GrammarLemmas.{append-nil, fault-start, fault-step, step-structure, good_from_keyword}
 use Rattle.zeb_query.proofs.GrammarLaws.{operators-under, over, over-keyword, over-word, over-words, over-set, over-spec, over-set_or_spec, over-operator, over_structure, over_query, not_set_first}
 

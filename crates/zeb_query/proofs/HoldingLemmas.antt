@@ -1,14 +1,7 @@
 -- The attributes that hold, one attribute after another.
-use Rattle.std.proofs.Common.{◌≡◌, ℕ, ◌+◌, ◌<◌, Bool, true, false, List, [], ◌∷◌, ◌++◌, Option, Some, None, length, get_or, take, cond, eqb, arith, ◌≤◌, refl, ap, sym, ◌∙◌, append_assoc}
-use Rattle.std.specs.Prelude.{map, not}
-use Rattle.std.specs.Option.{option_to_list}
-use Rattle.std.specs.List.{find}
-use Rattle.std.proofs.lemmas.List.{map-append, take_more}
-use Rattle.std.proofs.lemmas.Grind.{common_steps}
+use Rattle.zeb_query.proofs.Cited.{◌≡◌, ℕ, ◌+◌, ◌<◌, Bool, true, false, List, [], ◌∷◌, ◌++◌, Option, Some, None, length, get_or, take, cond, eqb, arith, ◌≤◌, refl, ap, sym, ◌∙◌, append_assoc, map, not, option_to_list, find, map-append, take_more, common_steps, AttributeValue, HeadValue, attribute_value, no_head, HoldingValue, is_bib1, is_other_set, is_other_kind, sets_in, kind_of, or_else, value_held, held_with, first_set, first_set_of}
 use Rattle.zeb_query.specs.declared.queries.Attribute.{Attribute}
-use Rattle.zeb_query.specs.Grammar.{AttributeValue, HeadValue, attribute_value, no_head}
-use Rattle.zeb_query.specs.Attributes.{HoldingValue, holding_of, is_bib1, is_other_set, is_other_kind, sets_in, kind_of, or_else, value_held}
-use Rattle.zeb_query.specs.PrivateReading.{held_with, first_set, first_set_of}
+use Rattle.zeb_query.specs.Attributes.{holding_of}
 use Rattle.zeb_query.proofs.GrammarLemmas.{append-nil}
 
 same_holding : {a a' : Option (List ℕ)} {b b' : Option ℕ} {c c' d d' e e' f f' g g' h h' i i' : Option (List ℕ)} → a ≡ a' → b ≡ b' → c ≡ c' → d ≡ d' → e ≡ e' → f ≡ f' → g ≡ g' → h ≡ h' → i ≡ i' →

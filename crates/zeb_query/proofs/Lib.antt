@@ -23,3 +23,4 @@ pub mod TreeSteps
 pub mod LookLemmas
 pub mod PlanNumbers
 pub mod ExampleLemmas
+pub mod Cited

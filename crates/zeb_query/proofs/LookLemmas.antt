@@ -1,21 +1,9 @@
 -- In which register a term's plan looks.
-use Rattle.std.proofs.Common.{◌≡◌, ℕ, Bool, true, false, cond, eqb, List, [], ◌∷◌, ◌++◌, Option, Some, None, refl, ap, sym, subst, ◌∙◌}
-use Rattle.std.specs.Prelude.{Ok, not, ◌&&◌, codes}
-use Rattle.std.specs.Option.{is_none, unwrap_or}
-use Rattle.std.proofs.lemmas.Bool.{eqb-true}
-use Rattle.std.specs.Str.Parse.{digits_value}
-use Rattle.zeb_profile.specs.declared.Profile.{Profile}
-use Rattle.zeb_keys.specs.declared.Register.{Register}
+use Rattle.zeb_query.proofs.Cited.{◌≡◌, ℕ, Bool, true, false, cond, eqb, List, [], ◌∷◌, ◌++◌, Option, Some, None, refl, ap, sym, subst, ◌∙◌, Ok, not, ◌&&◌, is_none, unwrap_or, eqb-true, digits_value, Profile, Register, has_pair, Symbol, Relation, Order, And, Or, Not, Proximity, HeadValue, TreeValue, TermValue, NamedValue, PairValue, QueryValue, heads, no_head, HoldingValue, number_or, is_among, relation_is, structure_is, position_is, completeness_is, index_used, index_held, register_searched, patterns_held, relation_held, order_held, joined_words_if_any, joined_if_any, Check, check, first_that_applies, one_of, has_target, head_checks, value_checks, words_checks, clash_checks, near_clash_checks, register_checks, number_checks, term_checks, find_checks, Operand, operand_of, parameter_checks, operand_checks, operands_checks, proximity_checks, checks_in, query_checks, Refusal, TermPlanValue, PlanValue, RecordNumberOf, AlwaysOf, NumberOf, OrderedOf, CompleteOf, PhraseOf, AllWordsOf, AnyWordOf, near_asked, tree_asked, plan_of, plan_register, held_in, looked_into, AllLookInto, LooksInto}
+use Rattle.std.specs.Prelude.{codes}
 use Rattle.zeb_keys.specs.declared.Register.TheVariants as register
-use Rattle.zeb_profile.specs.Indexes.{has_pair}
-use Rattle.zeb_text.specs.Symbols.{Symbol}
-use Rattle.zeb_query.specs.declared.plans.Relation.{Relation}
-use Rattle.zeb_query.specs.declared.plans.Order.{Order}
-use Rattle.zeb_query.specs.declared.queries.Connective.TheVariants.{And, Or, Not, Proximity}
-use Rattle.zeb_query.specs.Grammar.{HeadValue, TreeValue, TermValue, NamedValue, PairValue, QueryValue, heads, no_head}
-use Rattle.zeb_query.specs.Attributes.{HoldingValue, holding_of, number_or, is_among, relation_is, structure_is, position_is, completeness_is, index_used, index_held, register_searched, patterns_held, relation_held, order_held, joined_words_if_any, joined_if_any}
-use Rattle.zeb_query.specs.Checks.{Check, check, first_that_applies, one_of, has_target, head_checks, value_checks, words_checks, clash_checks, near_clash_checks, register_checks, number_checks, term_checks, find_checks, Operand, operand_of, parameter_checks, operand_checks, operands_checks, proximity_checks, checks_in, query_checks, Refusal}
-use Rattle.zeb_query.specs.Plans.{TermPlanValue, PlanValue, RecordNumberOf, AlwaysOf, NumberOf, OrderedOf, CompleteOf, PhraseOf, AllWordsOf, AnyWordOf, plan_asked, near_asked, tree_asked, plan_of, plan_register, held_in, looked_into, AllLookInto, LooksInto}
+use Rattle.zeb_query.specs.Attributes.{holding_of}
+use Rattle.zeb_query.specs.Plans.{plan_asked}
 use Rattle.zeb_query.proofs.CheckLemmas.{answered_ok, none-cons, none-append, by_value}
 
 abbrev register_by : Bool → Bool → Register

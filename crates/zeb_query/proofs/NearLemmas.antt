@@ -1,31 +1,9 @@
 -- What is read of `@prox` and of its operands is what their checks say.
-use Rattle.std.proofs.Common.{◌≡◌, ℕ, Bool, true, false, cond, eqb, List, [], ◌∷◌, ◌++◌, Option, Some, None, refl, ap, sym, ◌∙◌, ◌≢◌}
-use Rattle.std.specs.Prelude.{Result, Ok, not, ◌||◌, ◌&&◌, codes}
-use Rattle.std.specs.Option.{is_none, unwrap_or}
-use Rattle.std.specs.Str.{bytes_eq}
-use Rattle.std.specs.Str.Parse.{digits_value}
-use Rattle.zeb_profile.specs.declared.Profile.{Profile}
-use Rattle.zeb_profile.specs.Indexes.{has_pair}
-use Rattle.zeb_text.specs.Symbols.{Symbol}
-use Rattle.std.proofs.Math.Dec.{T, eqb_refl}
-use Rattle.std.proofs.lemmas.Bool.{eqb-true}
-use Rattle.zeb_query.specs.declared.faults.QueryFault.{QueryFault}
-use Rattle.zeb_query.specs.declared.faults.QueryFault.TheVariants.{Diagnostic, Memory}
-use Rattle.zeb_query.specs.PrivateReading.{IsDiagnostic}
-use Rattle.zeb_query.specs.declared.plans.Separation.{Separation}
+use Rattle.zeb_query.proofs.Cited.{◌≡◌, ℕ, Bool, true, false, cond, eqb, List, [], ◌∷◌, ◌++◌, Option, Some, None, refl, ap, sym, ◌∙◌, ◌≢◌, Result, Ok, not, ◌||◌, ◌&&◌, is_none, unwrap_or, bytes_eq, digits_value, Profile, has_pair, Symbol, T, eqb_refl, eqb-true, QueryFault, Diagnostic, Memory, IsDiagnostic, Separation, Less, LessOrEqual, Equal, GreaterOrEqual, Greater, Asked, Compared, Always, Structure, Phrase, WordList, FreeForm, LocalNumber, Numeric, Values, HeadValue, is_number, number_of, HoldingValue, index_held, patterns_held, Check, check, first_that_applies, one_of, clash_checks, near_clash_checks, register_checks, number_checks, near_checks, Operand, kept_text, orderings, distance_relations, parameter_checks, separation_of, operand_checks, operands_checks, Refusal, Fails, refused, answered, checked_by, operand_pattern, NearOf, near_asked, asks_equal, is_phrase, is_local, register_of, values_held, patterns_if, kept_or}
+use Rattle.std.specs.Prelude.{codes}
 use Rattle.zeb_query.specs.declared.plans.DistanceRelation.TheVariants as in_distance
-use Rattle.zeb_query.specs.declared.plans.Relation.TheVariants.{Less, LessOrEqual, Equal, GreaterOrEqual, Greater}
-use Rattle.zeb_query.specs.declared.attributes.Asked.{Asked}
-use Rattle.zeb_query.specs.declared.attributes.Asked.TheVariants.{Compared, Always}
-use Rattle.zeb_query.specs.declared.attributes.Structure.{Structure}
-use Rattle.zeb_query.specs.declared.attributes.Structure.TheVariants.{Phrase, WordList, FreeForm, LocalNumber, Numeric}
-use Rattle.zeb_query.specs.declared.terms.Values.{Values}
-use Rattle.zeb_query.specs.Grammar.{HeadValue, is_number, number_of}
-use Rattle.zeb_query.specs.Attributes.{HoldingValue, holding_of, index_held, patterns_held}
-use Rattle.zeb_query.specs.Checks.{Check, check, first_that_applies, one_of, clash_checks, near_clash_checks, register_checks, number_checks, near_checks, Operand, kept_text, orderings, distance_relations, parameter_checks, separation_of, operand_checks, operands_checks, Refusal, Fails, refused, answered, checked_by}
-use Rattle.zeb_query.specs.Plans.{operand_pattern, NearOf, near_asked}
-use Rattle.zeb_query.specs.PrivateValues.{asks_equal, is_phrase, is_local, register_of, values_held, patterns_if}
-use Rattle.zeb_query.specs.PrivatePlanning.{kept_or, term_read, word_near, near_plan}
+use Rattle.zeb_query.specs.Attributes.{holding_of}
+use Rattle.zeb_query.specs.PrivatePlanning.{term_read, word_near, near_plan}
 use Rattle.zeb_query.proofs.NearSteps.{parameter_kept, separation_read, found_near, term_near, operands_plan}
 use Rattle.zeb_query.proofs.CheckLemmas.{◌>>=◌, then_checks, kept_by}
 use Rattle.zeb_query.proofs.TermCheckLemmas.{AreHeld, reading_checks, term_held}

@@ -1,17 +1,8 @@
 -- How `@prox` and its operands are read, step by step.
-use Rattle.std.specs.Prelude.{ℕ, List, [], ◌∷◌, Option, Some, None, if◌then◌else◌, ◌||◌, ◌==◌, Bool, Result, Ok, codes}
-use Rattle.std.specs.Str.{bytes_eq}
-use Rattle.zeb_profile.specs.Indexes.{has_pair}
-use Rattle.zeb_profile.specs.declared.Profile.{Profile}
-use Rattle.zeb_text.specs.Symbols.{Symbol}
-use Rattle.zeb_query.specs.declared.terms.Values.{Values}
-use Rattle.zeb_query.specs.declared.plans.Separation.{Separation}
-use Rattle.zeb_query.specs.Grammar.{number_of}
-use Rattle.zeb_query.specs.Checks.{one_of, kept_text, orderings, distance_relations, Operand, Refusal, refused}
-use Rattle.zeb_query.specs.Plans.{PlanValue, NearOf}
+use Rattle.zeb_query.proofs.Cited.{if◌then◌else◌, ◌||◌, ◌==◌, Result, Ok, bytes_eq, has_pair, Profile, Symbol, Values, Separation, number_of, one_of, kept_text, orderings, distance_relations, Operand, Refusal, refused, PlanValue, NearOf, clashes_near, register_of, kept_or}
+use Rattle.std.specs.Prelude.{ℕ, List, [], ◌∷◌, Option, Some, None, Bool, codes}
 use Rattle.zeb_query.proofs.CheckLemmas.{◌>>=◌}
-use Rattle.zeb_query.specs.PrivateValues.{clashes_near, register_of}
-use Rattle.zeb_query.specs.PrivatePlanning.{kept_or, word_near}
+use Rattle.zeb_query.specs.PrivatePlanning.{word_near}
 
 -- the parameters of `@prox`, one after the other
 abbrev pub parameter_kept : ℕ → List ℕ → Bool → Result (Unit {0}) Refusal

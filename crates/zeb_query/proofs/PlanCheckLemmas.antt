@@ -1,31 +1,14 @@
 -- Where none of a term's checks applies its plan is the one that its attributes ask for, and else the first that applies
 -- refuses it. What the attributes say by their numbers and by the values that are kept is carried by the same facts.
-use Rattle.std.proofs.Common.{◌≡◌, ℕ, Bool, true, false, cond, List, [], ◌∷◌, ◌++◌, Option, Some, None, refl, ap, sym, ◌∙◌}
-use Rattle.std.specs.Prelude.{Result, Ok, not, chars, ◌||◌, ◌&&◌}
-use Rattle.std.specs.Str.Parse.{digits_value}
-use Rattle.zeb_profile.specs.declared.Profile.{Profile}
-use Rattle.zeb_keys.specs.declared.Register.{Register}
+use Rattle.zeb_query.proofs.Cited.{◌≡◌, ℕ, Bool, true, false, cond, List, [], ◌∷◌, ◌++◌, Option, Some, None, refl, ap, sym, ◌∙◌, Result, Ok, not, ◌||◌, ◌&&◌, digits_value, Profile, Register, has_pair, Symbol, patterns_of, Relation, Less, LessOrEqual, Equal, GreaterOrEqual, Greater, Order, Asked, Compared, Always, Structure, Phrase, WordList, FreeForm, LocalNumber, Numeric, Values, HeadValue, is_number, HoldingValue, relation_is, structure_is, position_is, truncation_is, completeness_is, index_used, register_searched, patterns_held, index_held, relation_held, order_held, order_of, joined_words, joined_words_if_any, joined_if_any, Check, check, first_that_applies, has_target, clash_checks, scan_clash_checks, register_checks, number_checks, find_checks, scan_checks, Refusal, refused, answered, checked_by, is_always, asks_equal, is_ordered, is_first, is_truncated, is_complete, is_local, is_numeric, is_list, is_phrase, register_of, spread_of, values_held, patterns_if, kept_or, ordered_plan, TermPlanValue, RecordNumberOf, AlwaysOf, NumberOf, OrderedOf, CompleteOf, PhraseOf, AllWordsOf, AnyWordOf, ScanValue}
+use Rattle.std.specs.Prelude.{chars}
 use Rattle.zeb_keys.specs.declared.Register.TheVariants as register
-use Rattle.zeb_profile.specs.Indexes.{has_pair}
-use Rattle.zeb_text.specs.Symbols.{Symbol}
 use Rattle.zeb_text.specs.Numbers.{number_key}
-use Rattle.zeb_text.specs.Truncation.{patterns_of}
-use Rattle.zeb_query.specs.declared.plans.Relation.{Relation}
-use Rattle.zeb_query.specs.declared.plans.Relation.TheVariants.{Less, LessOrEqual, Equal, GreaterOrEqual, Greater}
-use Rattle.zeb_query.specs.declared.plans.Order.{Order}
-use Rattle.zeb_query.specs.declared.attributes.Asked.{Asked}
-use Rattle.zeb_query.specs.declared.attributes.Asked.TheVariants.{Compared, Always}
-use Rattle.zeb_query.specs.declared.attributes.Structure.{Structure}
-use Rattle.zeb_query.specs.declared.attributes.Structure.TheVariants.{Phrase, WordList, FreeForm, LocalNumber, Numeric}
-use Rattle.zeb_query.specs.declared.terms.Values.{Values}
-use Rattle.zeb_query.specs.Grammar.{HeadValue, is_number}
-use Rattle.zeb_query.specs.Attributes.{HoldingValue, holding_of, relation_is, structure_is, position_is, truncation_is, completeness_is, index_used, register_searched, patterns_held, index_held, relation_held, order_held, order_of, joined_words, joined_words_if_any, joined_if_any}
-use Rattle.zeb_query.specs.Checks.{Check, check, first_that_applies, has_target, clash_checks, scan_clash_checks, register_checks, number_checks, find_checks, scan_checks, Refusal, refused, answered, checked_by}
-use Rattle.zeb_query.specs.PrivateValues.{is_always, asks_equal, is_ordered, is_first, is_truncated, is_complete, is_local, is_numeric, is_list, is_phrase, register_of, spread_of, values_held, patterns_if}
-use Rattle.zeb_query.specs.PrivatePlanning.{kept_or, term_read, number_in, ordered_plan, compared_plan, scan_start, leaf_plan, leaf_scan}
+use Rattle.zeb_query.specs.Attributes.{holding_of}
+use Rattle.zeb_query.specs.PrivatePlanning.{term_read, number_in, compared_plan, scan_start, leaf_plan, leaf_scan}
 use Rattle.zeb_query.proofs.TermSteps.{number_parts, compared_parts, start_parts}
 use Rattle.zeb_query.proofs.PlanSteps.{related_plan, indexed_plan, term_plan, indexed_scan, term_scan}
-use Rattle.zeb_query.specs.Plans.{TermPlanValue, RecordNumberOf, AlwaysOf, NumberOf, OrderedOf, CompleteOf, PhraseOf, AllWordsOf, AnyWordOf, plan_asked, ScanValue, scan_asked}
+use Rattle.zeb_query.specs.Plans.{plan_asked, scan_asked}
 use Rattle.zeb_query.proofs.CheckLemmas.{◌>>=◌, answered_then, then_checks}
 use Rattle.zeb_query.proofs.ValueLemmas.{compared_by, ordered_by, is_word_list, is_free_form}
 use Rattle.zeb_query.proofs.TermCheckLemmas.{AreHeld, reading_checks, term_held}

@@ -1,21 +1,10 @@
 -- How great the numbers of a plan are, and where a scan of numbers begins.
-use Rattle.std.proofs.Common.{◌≡◌, ℕ, ◌<◌, ◌^◌, Bool, true, false, cond, List, [], ◌∷◌, Option, Some, None, refl, subst}
-use Rattle.std.specs.Prelude.{Ok, not, ◌&&◌, ◌||◌, codes}
-use Rattle.std.specs.Option.{is_none}
-use Rattle.std.specs.Str.{bytes_eq}
-use Rattle.std.specs.Str.Parse.{digits_value}
-use Rattle.zeb_profile.specs.declared.Profile.{Profile}
-use Rattle.zeb_keys.specs.declared.Register.{Register}
+use Rattle.zeb_query.proofs.Cited.{◌≡◌, ℕ, ◌<◌, ◌^◌, Bool, true, false, cond, List, [], ◌∷◌, Option, Some, None, refl, subst, Ok, not, ◌&&◌, ◌||◌, is_none, bytes_eq, digits_value, Profile, Register, Symbol, Relation, Order, And, Or, Not, Proximity, is_number, heads, no_head, HeadValue, TreeValue, TermValue, NamedValue, PairValue, QueryValue, number_or, HoldingValue, is_among, relation_is, structure_is, position_is, truncation_is, completeness_is, register_searched, patterns_held, index_held, relation_held, order_held, joined_words, joined_words_if_any, joined_if_any, Check, check, first_that_applies, scan_clash_checks, number_checks, find_checks, scan_checks, Operand, kept_text, orderings, distance_relations, operand_of, parameter_checks, separation_of, operands_checks, proximity_checks, checks_in, query_checks, TermPlanValue, PlanValue, RecordNumberOf, AlwaysOf, NumberOf, OrderedOf, CompleteOf, PhraseOf, AllWordsOf, AnyWordOf, near_asked, tree_asked, plan_of, HasSmallNumber, HasSmallNumbers, ScanValue, BeginsAtKey}
+use Rattle.std.specs.Prelude.{codes}
 use Rattle.zeb_keys.specs.declared.Register.TheVariants as register
-use Rattle.zeb_text.specs.Symbols.{Symbol}
 use Rattle.zeb_text.specs.Numbers.{number_key}
-use Rattle.zeb_query.specs.declared.plans.Relation.{Relation}
-use Rattle.zeb_query.specs.declared.plans.Order.{Order}
-use Rattle.zeb_query.specs.declared.queries.Connective.TheVariants.{And, Or, Not, Proximity}
-use Rattle.zeb_query.specs.Grammar.{is_number, heads, no_head, HeadValue, TreeValue, TermValue, NamedValue, PairValue, QueryValue}
-use Rattle.zeb_query.specs.Attributes.{number_or, HoldingValue, holding_of, is_among, relation_is, structure_is, position_is, truncation_is, completeness_is, register_searched, patterns_held, index_held, relation_held, order_held, joined_words, joined_words_if_any, joined_if_any}
-use Rattle.zeb_query.specs.Checks.{Check, check, first_that_applies, scan_clash_checks, number_checks, find_checks, scan_checks, Operand, kept_text, orderings, distance_relations, operand_of, parameter_checks, separation_of, operands_checks, proximity_checks, checks_in, query_checks}
-use Rattle.zeb_query.specs.Plans.{TermPlanValue, PlanValue, RecordNumberOf, AlwaysOf, NumberOf, OrderedOf, CompleteOf, PhraseOf, AllWordsOf, AnyWordOf, plan_asked, near_asked, tree_asked, plan_of, HasSmallNumber, HasSmallNumbers, ScanValue, scan_asked, BeginsAtKey}
+use Rattle.zeb_query.specs.Attributes.{holding_of}
+use Rattle.zeb_query.specs.Plans.{plan_asked, scan_asked}
 use Rattle.zeb_query.specs.PrivatePlanning.{leaf_scan}
 use Rattle.zeb_query.proofs.DigitLemmas.{number_below}
 use Rattle.zeb_query.proofs.CheckLemmas.{answered_ok, none-cons, none-append, by_value}

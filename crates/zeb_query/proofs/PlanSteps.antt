@@ -1,16 +1,8 @@
 -- The plan of a term that was read, and where a scan begins at it, step by step.
-use Rattle.std.specs.Prelude.{ℕ, List, [], Option, Some, None, if◌then◌else◌, Result, Ok}
-use Rattle.zeb_profile.specs.Indexes.{has_pair}
-use Rattle.zeb_profile.specs.declared.Profile.{Profile}
-use Rattle.zeb_text.specs.Symbols.{Symbol}
-use Rattle.zeb_query.specs.declared.attributes.Asked.{Asked}
-use Rattle.zeb_query.specs.declared.attributes.Asked.TheVariants.{Compared, Always}
-use Rattle.zeb_query.specs.declared.terms.Values.{Values}
+use Rattle.zeb_query.proofs.Cited.{if◌then◌else◌, Result, Ok, has_pair, Profile, Symbol, Asked, Compared, Always, Values, Refusal, refused, TermPlanValue, RecordNumberOf, AlwaysOf, ScanValue, PlanValue, PairOf, clashes, clashes_in_scan, register_of}
+use Rattle.std.specs.Prelude.{ℕ, List, [], Option, Some, None}
 use Rattle.zeb_query.specs.declared.plans.Operator.{Operator}
-use Rattle.zeb_query.specs.Checks.{Refusal, refused}
-use Rattle.zeb_query.specs.Plans.{TermPlanValue, RecordNumberOf, AlwaysOf, ScanValue, PlanValue, PairOf}
 use Rattle.zeb_query.proofs.CheckLemmas.{◌>>=◌}
-use Rattle.zeb_query.specs.PrivateValues.{clashes, clashes_in_scan, register_of}
 use Rattle.zeb_query.specs.PrivatePlanning.{number_in, compared_plan, scan_start}
 
 abbrev pub related_plan : ℕ → List ℕ → Values → ℕ → List (List Symbol) → Asked → Result TermPlanValue Refusal

@@ -1,25 +1,9 @@
 -- A term is refused by the first of its checks that applies, and else has its values.
-use Rattle.std.proofs.Common.{◌≡◌, ℕ, Bool, true, false, cond, List, [], ◌∷◌, ◌++◌, Option, Some, None, refl, ap, sym, ◌∙◌, length}
-use Rattle.std.specs.Prelude.{Ok, not, chars, nat_lt, ◌||◌, ◌&&◌}
-use Rattle.std.specs.Option.{is_some, is_none, unwrap_or}
-use Rattle.zeb_profile.specs.declared.Profile.{Profile}
-use Rattle.zeb_keys.specs.declared.Register.{Register}
-use Rattle.zeb_profile.specs.Indexes.{has_pair}
+use Rattle.zeb_query.proofs.Cited.{◌≡◌, ℕ, Bool, true, false, cond, List, [], ◌∷◌, ◌++◌, Option, Some, None, refl, ap, sym, ◌∙◌, length, Ok, not, nat_lt, ◌||◌, ◌&&◌, is_some, is_none, unwrap_or, Profile, Register, has_pair, Symbol, patterns_of, Equal, Compared, Any, Structure, Phrase, WordList, FreeForm, LocalNumber, Numeric, Incomplete, Values, relations, positions, structures, completenesses, values_held, patterns_if, is_always, is_first, is_truncated, is_complete, is_local, is_numeric, spread_of, is_local_if, kept_or, patterns_read, truncations, number_or, value_of, HoldingValue, relation_is, structure_is, position_is, truncation_is, completeness_is, index_used, index_held, Check, check, first_that_applies, written, has_target, head_checks, use_checks, value_checks, words_checks, checked_by}
+use Rattle.std.specs.Prelude.{chars}
 use Rattle.zeb_text.specs.declared.Cut.TheVariants as cut
-use Rattle.zeb_text.specs.Symbols.{Symbol}
-use Rattle.zeb_text.specs.Truncation.{patterns_of}
-use Rattle.zeb_query.specs.declared.plans.Relation.TheVariants.{Equal}
-use Rattle.zeb_query.specs.declared.attributes.Asked.TheVariants.{Compared}
-use Rattle.zeb_query.specs.declared.attributes.Position.TheVariants.{Any}
-use Rattle.zeb_query.specs.declared.attributes.Structure.{Structure}
-use Rattle.zeb_query.specs.declared.attributes.Structure.TheVariants.{Phrase, WordList, FreeForm, LocalNumber, Numeric}
-use Rattle.zeb_query.specs.declared.attributes.Completeness.TheVariants.{Incomplete}
-use Rattle.zeb_query.specs.declared.terms.Values.{Values}
-use Rattle.zeb_query.specs.PrivateValues.{relations, positions, structures, completenesses, values_held, patterns_if, is_always, is_first, is_truncated, is_complete, is_local, is_numeric, spread_of, is_local_if}
-use Rattle.zeb_query.specs.PrivatePlanning.{kept_or, head_read, index_read, values_read, patterns_read, term_read}
+use Rattle.zeb_query.specs.PrivatePlanning.{head_read, index_read, values_read, term_read}
 use Rattle.zeb_query.proofs.TermSteps.{type_check, set_check, kind_check, head_parts, index_parts, value_parts, term_parts}
-use Rattle.zeb_query.specs.Attributes.{truncations, number_or, value_of, HoldingValue, relation_is, structure_is, position_is, truncation_is, completeness_is, index_used, index_held}
-use Rattle.zeb_query.specs.Checks.{Check, check, first_that_applies, written, has_target, head_checks, use_checks, value_checks, words_checks, checked_by}
 use Rattle.zeb_query.proofs.CheckLemmas.{◌>>=◌, then_checks, none-cons, none-append, unkept, kept_by}
 use Rattle.zeb_query.proofs.ValueLemmas.{RelationIs, relation_value, position_value, StructureIs, structure_value, truncation_value, completeness_value, local_value}
 

@@ -1,19 +1,8 @@
 -- How a term is read, step by step: its head, its values one after another, its words; and its number.
-use Rattle.std.specs.Option.{is_some}
-use Rattle.std.specs.Prelude.{ℕ, List, [], ◌∷◌, Option, Some, None, if◌then◌else◌, Result, Ok}
-use Rattle.zeb_profile.specs.declared.Profile.{Profile}
-use Rattle.zeb_text.specs.Symbols.{Symbol}
+use Rattle.zeb_query.proofs.Cited.{is_some, if◌then◌else◌, Result, Ok, Profile, Symbol, Structure, LocalNumber, Relation, Values, number_of, HoldingValue, default_completeness, default_position, default_relation, default_structure, default_truncation, index_used, joined_words, order_of, truncations, value_of, Check, Refusal, check, checked_by, is_other_type, numeral, written, NumberOf, TermPlanValue, completenesses, is_numeric, positions, relations, structures, kept_or, ordered_plan, patterns_read}
+use Rattle.std.specs.Prelude.{ℕ, List, [], ◌∷◌, Option, Some, None}
 use Rattle.zeb_text.specs.Numbers.{number_key}
-use Rattle.zeb_query.specs.declared.attributes.Structure.{Structure}
-use Rattle.zeb_query.specs.declared.attributes.Structure.TheVariants.{LocalNumber}
-use Rattle.zeb_query.specs.declared.plans.Relation.{Relation}
-use Rattle.zeb_query.specs.declared.terms.Values.{Values}
-use Rattle.zeb_query.specs.Grammar.{number_of}
-use Rattle.zeb_query.specs.Attributes.{HoldingValue, default_completeness, default_position, default_relation, default_structure, default_truncation, index_used, joined_words, order_of, truncations, value_of}
-use Rattle.zeb_query.specs.Checks.{Check, Refusal, check, checked_by, is_other_type, numeral, written}
-use Rattle.zeb_query.specs.Plans.{NumberOf, TermPlanValue}
-use Rattle.zeb_query.specs.PrivateValues.{completenesses, is_numeric, positions, relations, structures}
-use Rattle.zeb_query.specs.PrivatePlanning.{head_read, index_read, kept_or, number_in, ordered_plan, patterns_read, values_read}
+use Rattle.zeb_query.specs.PrivatePlanning.{head_read, index_read, number_in, values_read}
 use Rattle.zeb_query.proofs.CheckLemmas.{◌>>=◌}
 
 abbrev pub type_check : ℕ → HoldingValue → Check

@@ -1,15 +1,7 @@
 -- What a text is: the query that it spells, or its fault.
-use Rattle.std.proofs.Common.{◌≡◌, ◌⊎◌, ℕ, ◌<◌, ◌≤◌, Bool, true, false, cond, List, Option, Some, None, inl, inr, length, refl, ap, sym, subst, ◌∙◌, arith}
-use Rattle.std.specs.Prelude.{nat_lt, chars, [], if◌then◌else◌, Result, Ok, Err}
-use Rattle.std.specs.Result.{OnOk, IfOk, IfErr}
-use Rattle.std.proofs.lemmas.Bool.Decides.{nat_tests}
-use Rattle.zeb_query.specs.Words.{Word, AreWords}
-use Rattle.zeb_query.specs.PrivateWalk.{words_at, Start, fault}
-use Rattle.zeb_query.specs.Grammar.{IsQuery, QueryValue, SpellsQuery}
-use Rattle.zeb_query.specs.declared.faults.QueryFault.{QueryFault}
-use Rattle.zeb_query.specs.declared.faults.QueryFault.TheVariants.{Diagnostic, Memory}
-use Rattle.zeb_query.specs.PrivateReading.{IsFault, IsDiagnostic}
-use Rattle.zeb_query.specs.Places.{IsFaultOf, IsUnspelled, IsReadable, IsFaulty, is_long, is_unspelled, is_crowded}
+use Rattle.zeb_query.proofs.Cited.{◌≡◌, ◌⊎◌, ℕ, ◌<◌, ◌≤◌, Bool, true, false, cond, List, Option, Some, None, inl, inr, length, refl, ap, sym, subst, ◌∙◌, arith, nat_lt, if◌then◌else◌, Result, Ok, Err, OnOk, IfErr, nat_tests, Word, AreWords, words_at, Start, fault, IsQuery, QueryValue, SpellsQuery, QueryFault, Diagnostic, Memory, IsFault, IsDiagnostic, IsFaultOf, IsUnspelled, IsReadable, IsFaulty, is_long, is_unspelled, is_crowded}
+use Rattle.std.specs.Prelude.{chars, []}
+use Rattle.std.specs.Result.{IfOk}
 use Rattle.zeb_query.proofs.WordStretches.{words_read_are, words_are_read}
 use Rattle.zeb_query.proofs.GrammarOnce.{same_query}
 use Rattle.zeb_query.proofs.GrammarLaws.{over_query}

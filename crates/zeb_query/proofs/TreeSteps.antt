@@ -1,16 +1,10 @@
 -- The checks of a structure and what it asks for are those of its parts.
-use Rattle.std.proofs.Common.{◌≡◌, ℕ, List, ◌++◌, Option, refl, sym}
-use Rattle.std.specs.Prelude.{Ok}
-use Rattle.zeb_profile.specs.declared.Profile.{Profile}
+use Rattle.zeb_query.proofs.Cited.{◌≡◌, ℕ, List, ◌++◌, Option, refl, sym, Ok, Profile, Connective, And, Or, Not, Proximity, HeadValue, TreeValue, TermValue, NamedValue, PairValue, heads, first_that_applies, find_checks, checks_in, operand_of, Check, checked_by, refused, PlanValue, TermOf, PairOf, tree_asked, operator_of}
 use Rattle.zeb_query.specs.declared.plans.Operator.TheVariants as operator
 use Rattle.zeb_query.specs.declared.plans.Operator.{Operator}
-use Rattle.zeb_query.specs.declared.queries.Connective.{Connective}
-use Rattle.zeb_query.specs.declared.queries.Connective.TheVariants.{And, Or, Not, Proximity}
-use Rattle.zeb_query.specs.Grammar.{HeadValue, TreeValue, TermValue, NamedValue, PairValue, heads}
 use Rattle.zeb_query.specs.Attributes.{holding_of}
-use Rattle.zeb_query.specs.Checks.{first_that_applies, find_checks, checks_in, operand_of, Check, checked_by, refused}
-use Rattle.zeb_query.specs.Plans.{PlanValue, TermOf, PairOf, plan_asked, tree_asked}
-use Rattle.zeb_query.specs.PrivatePlanning.{leaf_plan, near_plan, tree_plan, operator_of}
+use Rattle.zeb_query.specs.Plans.{plan_asked}
+use Rattle.zeb_query.specs.PrivatePlanning.{leaf_plan, near_plan, tree_plan}
 use Rattle.zeb_query.proofs.PlanSteps.{pair_plan}
 use Rattle.zeb_query.proofs.CheckLemmas.{answered_then, then_checks, ◌>>=◌}
 

@@ -1,22 +1,7 @@
 -- The values of a term's attributes as numbers, and as what they stand for.
-use Rattle.std.proofs.Common.{◌≡◌, ℕ, Bool, true, false, eqb, [], ◌∷◌, Option, Some, None, refl, ap, sym, ◌∙◌}
-use Rattle.std.specs.Prelude.{not, ◌||◌, option_and_then, if◌then◌else◌}
-use Rattle.std.specs.Option.{is_none, unwrap_or}
+use Rattle.zeb_query.proofs.Cited.{◌≡◌, ℕ, Bool, true, false, eqb, [], ◌∷◌, Option, Some, None, refl, ap, sym, ◌∙◌, not, ◌||◌, option_and_then, if◌then◌else◌, is_none, unwrap_or, Spread, Ends, Each, Relation, Equal, Order, Asked, Compared, Always, Any, Structure, Phrase, WordList, FreeForm, LocalNumber, Numeric, Incomplete, relations, positions, structures, completenesses, is_first, is_complete, is_truncated, is_ordered, asks_equal, is_always, is_local, is_numeric, is_list, is_phrase, spread_of, kept_in, is_local_if, order_of, truncations, kept, is_among, comparisons}
 use Rattle.zeb_text.specs.declared.Cut.TheVariants as cut
-use Rattle.zeb_text.specs.declared.Spread.{Spread}
-use Rattle.zeb_text.specs.declared.Spread.TheVariants.{Ends, Each}
-use Rattle.zeb_query.specs.declared.plans.Relation.{Relation}
-use Rattle.zeb_query.specs.declared.plans.Relation.TheVariants.{Equal}
-use Rattle.zeb_query.specs.declared.plans.Order.{Order}
 use Rattle.zeb_query.specs.declared.plans.Order.TheVariants as in_order
-use Rattle.zeb_query.specs.declared.attributes.Asked.{Asked}
-use Rattle.zeb_query.specs.declared.attributes.Asked.TheVariants.{Compared, Always}
-use Rattle.zeb_query.specs.declared.attributes.Position.TheVariants.{Any}
-use Rattle.zeb_query.specs.declared.attributes.Structure.{Structure}
-use Rattle.zeb_query.specs.declared.attributes.Structure.TheVariants.{Phrase, WordList, FreeForm, LocalNumber, Numeric}
-use Rattle.zeb_query.specs.declared.attributes.Completeness.TheVariants.{Incomplete}
-use Rattle.zeb_query.specs.PrivateValues.{relations, positions, structures, completenesses, is_first, is_complete, is_truncated, is_ordered, asks_equal, is_always, is_local, is_numeric, is_list, is_phrase, spread_of, kept_in, is_local_if}
-use Rattle.zeb_query.specs.Attributes.{order_of, truncations, kept, is_among, comparisons}
 use Rattle.zeb_query.proofs.CheckLemmas.{unkept, by_value}
 
 abbrev pub compared_by : Asked → Relation

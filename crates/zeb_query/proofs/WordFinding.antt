@@ -1,15 +1,5 @@
 -- Every text has words that stand in it one after another.
-use Rattle.std.proofs.Common.{◌≡◌, ◌≢◌, ℕ, zero, suc, ◌<◌, ◌≤◌, true, false, List, [], ◌∷◌, ◌++◌, ◌⊎◌, length, eqb, encode_utf8_all, inl, inr, refl, sym, ap, subst, ◌∙◌, arith, append_assoc, length-append}
-use Rattle.std.specs.Prelude.{map}
-use Rattle.std.specs.List.{AllPass, flat_map}
-use Rattle.std.specs.Str.{NonePass}
-use Rattle.std.proofs.lemmas.Bool.{cases_Bool, eqb-false}
-use Rattle.std.proofs.lemmas.Map.Views.{exact_unsigned_eq}
-use Rattle.std.proofs.lemmas.List.{append-nil}
-use Rattle.std.proofs.lemmas.List.Elements.{All-cons, All-nil}
-use Rattle.zeb_query.specs.declared.words.Spelling.{Spelling}
-use Rattle.zeb_query.specs.declared.words.Spelling.TheVariants.{Plain, Quoted, Bad}
-use Rattle.zeb_query.specs.Words.{Word, is_blank, Sign, Itself, Escaped, sign_text, meant, is_sign, IsCutOff, IsWritten, is_plain, is_braced, is_quoted, is_open}
+use Rattle.zeb_query.proofs.Cited.{◌≡◌, ◌≢◌, ℕ, zero, suc, ◌<◌, ◌≤◌, true, false, List, [], ◌∷◌, ◌++◌, ◌⊎◌, length, eqb, encode_utf8_all, inl, inr, refl, sym, ap, subst, ◌∙◌, arith, append_assoc, length-append, map, AllPass, flat_map, NonePass, cases_Bool, eqb-false, exact_unsigned_eq, append-nil, All-cons, All-nil, Spelling, Plain, Quoted, Bad, Word, is_blank, Sign, Itself, Escaped, sign_text, meant, is_sign, IsCutOff, IsWritten, is_plain, is_braced, is_quoted, is_open}
 use Rattle.zeb_query.proofs.WordReading.{AreWordsAfter, bytes}
 
 -- a text as characters that aren't blanks, and what follows them

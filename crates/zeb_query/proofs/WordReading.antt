@@ -1,17 +1,5 @@
 -- Words that stand in a text one after another are those that are read.
-use Rattle.std.proofs.Common.{◌≡◌, ◌≢◌, ℕ, ◌+◌, ◌<◌, Bool, true, false, List, [], ◌∷◌, ◌++◌, ◌⊎◌, length, get_or, eqb, encode_utf8, encode_utf8_all, inl, inr, refl, sym, ap, ◌∙◌, arith, append_assoc, length-append}
-use Rattle.std.specs.Prelude.{map, not, ◌||◌}
-use Rattle.std.specs.Char.{len_utf8}
-use Rattle.std.specs.List.{AllPass, flat_map}
-use Rattle.std.specs.Str.{NonePass}
-use Rattle.std.proofs.lemmas.Bool.{ne_eqb}
-use Rattle.std.proofs.lemmas.List.{append-nil}
-use Rattle.std.proofs.lemmas.List.Elements.{All-head, All-tail}
-use Rattle.std.proofs.lemmas.Str.{length-encode, encode_ascii, encodes-append, char_from_byte}
-use Rattle.zeb_query.specs.declared.words.Spelling.{Spelling}
-use Rattle.zeb_query.specs.declared.words.Spelling.TheVariants.{Plain, Quoted, Bad}
-use Rattle.zeb_query.specs.Words.{Word, is_blank, Sign, Itself, Escaped, sign_text, meant, is_sign, IsCutOff, IsWritten, is_plain, is_braced, is_quoted, is_open}
-use Rattle.zeb_query.specs.PrivateWalk.{Begun, unquoted, words_at, in_word, in_quotes, plain_word, quoted_word, with_front}
+use Rattle.zeb_query.proofs.Cited.{◌≡◌, ◌≢◌, ℕ, ◌+◌, ◌<◌, Bool, true, false, List, [], ◌∷◌, ◌++◌, ◌⊎◌, length, get_or, eqb, encode_utf8, encode_utf8_all, inl, inr, refl, sym, ap, ◌∙◌, arith, append_assoc, length-append, map, not, ◌||◌, len_utf8, AllPass, flat_map, NonePass, ne_eqb, append-nil, All-head, All-tail, length-encode, encode_ascii, encodes-append, char_from_byte, Spelling, Plain, Quoted, Bad, Word, is_blank, Sign, Itself, Escaped, sign_text, meant, is_sign, IsCutOff, IsWritten, is_plain, is_braced, is_quoted, is_open, Begun, unquoted, words_at, in_word, in_quotes, plain_word, quoted_word, with_front}
 
 -- the words of a text that stands after the front, one word after another
 abbrev pub AreWordsAfter : List ℕ → List ℕ → List Word → Type 0

@@ -1,10 +1,5 @@
 -- The stretches of a text, one after another, and so its words.
-use Rattle.std.proofs.Common.{◌≡◌, ℕ, List, [], ◌∷◌, ◌++◌, length, refl, sym, ap, subst, ◌∙◌, arith, append_assoc}
-use Rattle.std.specs.Prelude.{map}
-use Rattle.std.specs.List.{AllPass, flat_map}
-use Rattle.std.proofs.lemmas.List.{append-nil}
-use Rattle.zeb_query.specs.Words.{Word, is_blank, IsWritten, Stretch, stretch_text, stretch_word, IsStretch, AreWords}
-use Rattle.zeb_query.specs.PrivateWalk.{words_at}
+use Rattle.zeb_query.proofs.Cited.{◌≡◌, ℕ, List, [], ◌∷◌, ◌++◌, length, refl, sym, ap, subst, ◌∙◌, arith, append_assoc, map, AllPass, flat_map, append-nil, Word, is_blank, IsWritten, Stretch, stretch_text, stretch_word, IsStretch, AreWords, words_at}
 use Rattle.zeb_query.proofs.WordReading.{AreWordsAfter, bytes, words_read}
 use Rattle.zeb_query.proofs.WordFinding.{words_within}
 

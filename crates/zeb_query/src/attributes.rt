@@ -1,5 +1,5 @@
 //! The values of a term's attributes that are kept, each type an enum of its own.
-ghost use Rattle.std.specs.Prelude.{◌≡◌, IfSome, ◌<◌, ◌^◌};
+ghost use Rattle.std.specs.Prelude.{◌≡◌};
 ghost use Rattle.std.specs.Option.{option_map};
 ghost use Rattle.zeb_query.specs.PrivateValues.{relations, positions, structures, completenesses};
 ghost use Rattle.zeb_query.specs.Attributes.{default_completeness, default_position, default_relation, default_structure, default_truncation, truncations, number_or, value_of};

@@ -1,5 +1,6 @@
 //! Why a text is no query, or a query has no plan.
 use std::alloc::{AllocError, AllocFailed, Global};
+use std::fmt;
 use thiserror::Error;
 
 /// Why a text is no query, or a query has no plan.
@@ -7,7 +8,7 @@ use thiserror::Error;
 pub enum QueryFault {
     /// A diagnostic by its number in the list of Bib-1 (ANSI/NISO Z39.50-2003, Appendix ERR). Which fault has which number
     /// is this project's own choice.
-    #[error("diagnostic {number} at {place}: {addinfo}")]
+    #[error("diagnostic {number} at {place}{}", Told(.addinfo.as_str()))]
     Diagnostic {
         /// The diagnostic's number.
         number: u32,
@@ -21,6 +22,20 @@ pub enum QueryFault {
     /// Memory ran out.
     #[error("out of memory")]
     Memory,
+}
+
+/// An addinfo as it is printed, behind a colon; nothing where there is none.
+#[derive(Clone, Copy)]
+struct Told<'a>(&'a str);
+
+impl fmt::Display for Told<'_> {
+    fn fmt<W: fmt::Write>(&self, f: &mut fmt::Formatter<W>) -> fmt::Result {
+        if self.0.is_empty() {
+            return Ok(());
+        }
+        f.write_str(": ")?;
+        f.write_str(self.0)
+    }
 }
 
 impl QueryFault {

@@ -1,5 +1,5 @@
 //! Reading the words of a text as a query, from the left, an operator before its operands.
-ghost use Rattle.std.specs.Prelude.{◌≡◌, ◌≢◌, ◌+◌, ◌<◌, ◌≤◌, ℕ, suc, ◌∷◌, Some, None, length, map, IfOk, OnOk, IfErr, IfSome, true, string_bytes, []};
+ghost use Rattle.std.specs.Prelude.{◌≡◌, ◌≢◌, ◌<◌, ◌≤◌, ℕ, suc, ◌∷◌, Some, None, length, map, IfOk, OnOk, IfErr, IfSome, true, string_bytes, []};
 ghost use Rattle.zeb_query.specs.declared.keywords.Keyword.TheVariants.{Attribute as AttributeKeyword, TermType as TermTypeKeyword, Operator};
 ghost use Rattle.std.specs.Option.{option_map};
 ghost use Rattle.zeb_query.specs.PrivateReading.{IsFault, word_of, left, first_keyword, fault_of, pair_value, SpellsSpec, SpellsAttribute};
@@ -29,7 +29,7 @@ struct Rest<'a> {
 impl<'a> Rest<'a> {
     ghost use Rattle.std.specs.Prelude.{◌≡◌, ◌≢◌, ◌<◌, ℕ, ◌∷◌, [], Some, length, IfOk, IfErr, IfSome, IfNone, true, string_bytes};
     ghost use Rattle.zeb_query.specs.PrivateReading.{IsFault, word_of, left, first_place, first_keyword, fault_of, ReadsWord, ReadsFirst};
-    ghost use Rattle.zeb_query.specs.Grammar.{keyword_of, is_good};
+    ghost use Rattle.zeb_query.specs.Grammar.{is_good};
     ghost use Rattle.zeb_query.specs.PrivateWalk.{Due, fault_at_end};
 
     /// The fault that the first of these words is one that no query has here, or that there is none.

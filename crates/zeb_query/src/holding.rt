@@ -26,8 +26,7 @@ pub(crate) struct Holding<'a> {
 }
 
 impl<'a> Holding<'a> {
-    ghost use Rattle.std.specs.Prelude.{◌≡◌, ◌∷◌, ◌++◌, [], List, ℕ, Option, None, Some};
-    ghost use Rattle.std.specs.Option.{option_map};
+    ghost use Rattle.std.specs.Prelude.{◌≡◌, List, ℕ, Option, Some};
     ghost use Rattle.zeb_query.specs.Grammar.{attribute_value, head_value, query_value, HeadValue, heads, no_head};
     ghost use Rattle.zeb_query.specs.PrivateReading.{holding_value, held_with, first_set};
     ghost use Rattle.zeb_query.specs.Attributes.{holding_of};

@@ -16,6 +16,23 @@ pub(crate) enum Keyword {
     Operator(Connective),
 }
 
+impl Connective {
+    ghost use Rattle.std.specs.Prelude.{◌≡◌};
+    ghost use Rattle.zeb_query.specs.Grammar.{operator_word};
+
+    /// The operator's word.
+    pub(crate) fn as_str(self) -> &'static str
+        ensures { result.now ≡ operator_word self }
+    {
+        match self {
+            Connective::And => "@and",
+            Connective::Or => "@or",
+            Connective::Not => "@not",
+            Connective::Proximity => "@prox",
+        }
+    }
+}
+
 impl Word {
     ghost use Rattle.std.specs.Prelude.{◌≡◌};
     ghost use Rattle.zeb_query.specs.PrivateReading.{word_of};

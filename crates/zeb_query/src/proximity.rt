@@ -1,6 +1,5 @@
 //! The plan of `@prox`: two words near each other in one unit.
 ghost use Rattle.std.specs.Prelude.{◌≡◌, List, ℕ, Option, map, string_bytes, if◌then◌else◌};
-ghost use Rattle.zeb_text.specs.Symbols.{Symbol};
 ghost use Rattle.zeb_query.specs.Grammar.{HeadValue, tree_value, head_value, heads};
 ghost use Rattle.zeb_query.specs.Checks.{Gives, refused, one_of, operand_of, kept_text, orderings, distance_relations, checked_by, parameter_checks, separation_of};
 ghost use Rattle.zeb_query.specs.Attributes.{holding_of};
@@ -36,8 +35,8 @@ pub(crate) fn plan_near(
     let (Tree::Term(left), Tree::Term(right)) = (left, right) else {
         return Err(QueryFault::about(alloc, 110, place, "@prox"));
     };
-    let (index, left) = word_of(alloc, left, over, profile)?;
-    let (other, right) = word_of(alloc, right, over, profile)?;
+    let (index, left) = near_operand(alloc, left, over, profile)?;
+    let (other, right) = near_operand(alloc, right, over, profile)?;
     if index != other {
         return Err(QueryFault::diagnostic(alloc, 123, place));
     }
@@ -72,25 +71,21 @@ fn separation_of(
     };
     let exclusion = exclusion.as_str();
     check(alloc, place, exclusion, exclusion == "0")?;
-    let distance = distance.as_str();
-    let least = kept(alloc, 110, place, Some(distance), number_of(distance, 9))?;
-    let ordered = ordered.as_str();
-    let before = kept(alloc, 110, place, Some(ordered), ordering_of(ordered))?;
-    let relation = relation.as_str();
-    let compared = kept(alloc, 110, place, Some(relation), relation_of(relation))?;
+    let text = distance.as_str();
+    let distance = kept(alloc, 110, place, Some(text), number_of(text, 9))?;
+    let text = ordered.as_str();
+    let ordered = kept(alloc, 110, place, Some(text), ordering_of(text))?;
+    let text = relation.as_str();
+    let relation = kept(alloc, 110, place, Some(text), distance_relation_of(text))?;
     let which_code = which_code.as_str();
-    check(
-        alloc,
-        place,
-        which_code,
-        which_code == "k" || which_code == "known",
-    )?;
+    let is_known = which_code == "k" || which_code == "known";
+    check(alloc, place, which_code, is_known)?;
     let unit_code = unit_code.as_str();
     check(alloc, place, unit_code, unit_code == "2")?;
     Ok(Separation {
-        distance: least,
-        ordered: before,
-        relation: compared,
+        distance,
+        ordered,
+        relation,
     })
 }
 
@@ -117,7 +112,7 @@ fn ordering_of(text: &str) -> Option<bool>
 }
 
 /// The relation by its number.
-fn relation_of(text: &str) -> Option<DistanceRelation>
+fn distance_relation_of(text: &str) -> Option<DistanceRelation>
     ensures { result ≡ kept_text distance_relations text.now }
 {
     match text {
@@ -133,7 +128,7 @@ fn relation_of(text: &str) -> Option<DistanceRelation>
 
 /// The index of an operand, and the pattern of its one word.
 #[tactic(auto, using(crate::proofs::NearLemmas::near_steps), unfolding(crate::proofs::NearSteps::term_near))]
-fn word_of(
+fn near_operand(
     alloc: Global,
     leaf: &Leaf,
     over: Holding<'_>,

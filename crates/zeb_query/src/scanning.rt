@@ -1,6 +1,6 @@
 //! The plan of a scan, which begins at a term.
-ghost use Rattle.std.specs.Prelude.{◌≡◌, IfOk, string_bytes};
-ghost use Rattle.zeb_query.specs.Grammar.{query_value, head_value, heads, no_head, operator_word};
+ghost use Rattle.std.specs.Prelude.{IfOk, string_bytes};
+ghost use Rattle.zeb_query.specs.Grammar.{query_value, head_value, heads, no_head};
 ghost use Rattle.zeb_query.specs.Checks.{Gives};
 ghost use Rattle.zeb_query.specs.Plans as scans;
 ghost use Rattle.zeb_query.specs.PrivatePlanning as steps;
@@ -8,7 +8,7 @@ ghost use Rattle.zeb_query.specs.PrivatePlanning as steps;
 use crate::holding::Holding;
 use crate::planning::{joined_words, number_in};
 use crate::terms::{Values, read_term};
-use crate::{Connective, Leaf, Query, QueryFault, ScanPlan, Tree};
+use crate::{Leaf, Query, QueryFault, ScanPlan, Tree};
 use std::alloc::Global;
 use zeb_profile::Profile;
 use zeb_text::key_of_number;
@@ -30,7 +30,7 @@ pub fn plan_scan(alloc: Global, query: &Query, profile: &Profile) -> Result<Scan
             place,
             connective,
             ..
-        } => Err(QueryFault::about(alloc, 110, *place, word_of(*connective))),
+        } => Err(QueryFault::about(alloc, 110, *place, connective.as_str())),
     }
 }
 
@@ -75,17 +75,5 @@ fn start_of(alloc: Global, leaf: &Leaf, values: &Values) -> Result<String, Query
         Ok(key_of_number(alloc, number)?)
     } else {
         Ok(joined_words(alloc, leaf)?)
-    }
-}
-
-/// The word of an operator.
-fn word_of(connective: Connective) -> &'static str
-    ensures { result.now ≡ operator_word connective }
-{
-    match connective {
-        Connective::And => "@and",
-        Connective::Or => "@or",
-        Connective::Not => "@not",
-        Connective::Proximity => "@prox",
     }
 }

@@ -1,5 +1,5 @@
 //! Reading a term: the values of its attributes, its index and the patterns of its words, or its first diagnostic.
-ghost use Rattle.std.specs.Prelude.{◌≡◌, ◌∷◌, [], Option, Some, None, string_bytes};
+ghost use Rattle.std.specs.Prelude.{◌≡◌, ◌∷◌, [], string_bytes};
 ghost use Rattle.std.specs.Option.{option_map};
 ghost use Rattle.zeb_query.specs.Checks.{Gives};
 ghost use Rattle.zeb_query.specs.PrivateReading.{holding_value};

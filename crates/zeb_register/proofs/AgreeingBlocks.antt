@@ -1,27 +1,5 @@
 -- What is expected of whole tables, with packed blocks.
-use Rattle.std.proofs.Common.{◌≡◌, ◌≢◌, ◌↔◌, ◌∙◌, ℕ, ℤ, pos, List, [], ◌∷◌, ◌++◌, drop, refl, sym, ap, subst, inl}
-use Rattle.sqlite.specs.declared.types.Value.TheVariants.{Int, Blob}
-use Rattle.sqlite.specs.Order.{Row}
-use Rattle.sqlite.specs.State.{State}
-use Rattle.sqlite.specs.Tree.{Trees}
-use Rattle.sqlite_rules.specs.Lists.{Has}
-use Rattle.zeb_blocks.specs.declared.postings.Posting.{Posting}
-use Rattle.zeb_blocks.specs.Blocks.{BlockSpells}
-use Rattle.zeb_keys.specs.declared.keys.Key.{Key}
-use Rattle.zeb_register.specs.declared.agreeing.Table.TheVariants.{Blocks, Dict}
-use Rattle.zeb_register.specs.declared.catalog.ListedDatabase.{ListedDatabase}
-use Rattle.zeb_register.specs.declared.expected.Expected.{Expected}
-use Rattle.zeb_register.specs.declared.expected.ExpectedDatabase.{ExpectedDatabase}
-use Rattle.zeb_register.specs.Catalog.{AreDatabases}
-use Rattle.zeb_register.specs.Content.{posted}
-use Rattle.zeb_register.specs.Expected.{AreExpected, IsOrdered}
-use Rattle.zeb_register.specs.Formats.{packed_blocks}
-use Rattle.zeb_register.specs.Occurring.{HasKey}
-use Rattle.zeb_register.specs.PackedBlocks.{HoldsBlocks, part_in}
-use Rattle.zeb_register.specs.PrivateRowExpected.{BelongsTo, HoldsThere, IsBlockRest, IsDictRest, IsThere, ListsAgree, key_shown, list_under, with_key}
-use Rattle.zeb_register.specs.PrivateRowTerms.{IsInRecord}
-use Rattle.zeb_register.specs.Sql.{HasRow}
-use Rattle.zeb_register.specs.Store.{IsStore, blocks_tree, dict_tree, postings_tree}
+use Rattle.zeb_register.proofs.Cited.{Row, State, Trees, Int, Blob, Has, ◌≡◌, ◌≢◌, ◌↔◌, ◌∙◌, ℕ, ℤ, pos, List, [], ◌∷◌, ◌++◌, drop, refl, sym, ap, subst, inl, Posting, BlockSpells, Key, Blocks, Dict, ListedDatabase, Expected, ExpectedDatabase, AreDatabases, posted, AreExpected, IsOrdered, packed_blocks, HasKey, HoldsBlocks, part_in, BelongsTo, HoldsThere, IsBlockRest, IsDictRest, IsThere, ListsAgree, key_shown, list_under, with_key, IsInRecord, HasRow, IsStore, blocks_tree, dict_tree, postings_tree}
 use Rattle.zeb_register.proofs.CountLemmas.{count_so}
 use Rattle.zeb_register.proofs.ExpectedStatements.{owner_row}
 use Rattle.zeb_register.proofs.AgreeingTables.{content, content_at, content_there, content_up, id_is, posted_as, put_together, there_is, there_of}

@@ -1,25 +1,5 @@
 -- What is expected of whole tables, with a row for each posting.
-use Rattle.std.proofs.Common.{◌≡◌, ◌∙◌, ℕ, ℤ, List, [], ◌∷◌, ◌++◌, map, drop, refl, sym, ap, subst, inl}
-use Rattle.sqlite.specs.declared.types.Value.TheVariants.{Int}
-use Rattle.sqlite.specs.Order.{Row, column}
-use Rattle.sqlite.specs.State.{State}
-use Rattle.sqlite.specs.Table.{Table}
-use Rattle.sqlite.specs.Tree.{Trees}
-use Rattle.sqlite_rules.specs.Lists.{Has}
-use Rattle.sqlite_rules.proofs.ProbeLemmas.{has_mapped, mapped_has}
-use Rattle.zeb_keys.specs.declared.keys.Key.{Key}
-use Rattle.zeb_register.specs.declared.agreeing.Table.TheVariants.{Postings}
-use Rattle.zeb_register.specs.declared.catalog.ListedDatabase.{ListedDatabase}
-use Rattle.zeb_register.specs.declared.expected.Expected.{Expected}
-use Rattle.zeb_register.specs.declared.expected.ExpectedDatabase.{ExpectedDatabase}
-use Rattle.zeb_register.specs.Catalog.{AreDatabases}
-use Rattle.zeb_register.specs.Expected.{AreExpected, IsOrdered}
-use Rattle.zeb_register.specs.Formats.{plain_rows}
-use Rattle.zeb_register.specs.PlainRows.{HoldsRows, key_row, posting_row}
-use Rattle.zeb_register.specs.PrivateRowExpected.{BelongsTo, HoldsThere, IsThere, LacksPacked, ListsAgree, key_shown, posting_shown, with_key}
-use Rattle.zeb_register.specs.Sql.{HasRow}
-use Rattle.zeb_register.specs.Store.{IsStore, blocks_tree, dict_tree, postings_tree}
-use Rattle.zeb_register.specs.Tables.{store_schema}
+use Rattle.zeb_register.proofs.Cited.{Row, column, State, Trees, Int, has_mapped, mapped_has, Has, ◌≡◌, ◌∙◌, ℕ, ℤ, List, [], ◌∷◌, ◌++◌, map, drop, refl, sym, ap, subst, inl, Table, Key, Postings, ListedDatabase, Expected, ExpectedDatabase, AreDatabases, AreExpected, IsOrdered, plain_rows, HoldsRows, key_row, posting_row, BelongsTo, HoldsThere, IsThere, LacksPacked, ListsAgree, key_shown, posting_shown, with_key, HasRow, IsStore, blocks_tree, dict_tree, postings_tree, store_schema}
 use Rattle.zeb_register.proofs.ExpectedStatements.{owner_row}
 use Rattle.zeb_register.proofs.AgreeingTables.{as_expected, content, content_up, id_is, one_of, posted_as, put_together, there_is, there_of}
 use Rattle.zeb_register.proofs.PostingStatements.{blocks, blocks_static, dict, dict_static, postings, postings_static}

@@ -1,34 +1,6 @@
 -- What is expected of whole tables, put together of what is said table by table, in either format.
-use Rattle.std.proofs.Common.{◌≡◌, ◌↔◌, ◌∙◌, ℕ, ℤ, pos, Bool, true, false, cond, List, [], ◌∷◌, map, filter, string_bytes, refl, sym, ap, ap₂, subst, inl, inr, Ordering, Less, Equal, nat_cmp}
-use Rattle.std.proofs.lemmas.Bool.Decides.{Decides-int_eq}
-use Rattle.std.proofs.lemmas.Cmp.{tied_itself}
-use Rattle.std.specs.Cmp.{IsTotalOrder, on_total, then_total}
-use Rattle.std.specs.Cmp.Lexicographic.{slice_cmp, nat_list_cmp_total}
+use Rattle.zeb_register.proofs.Cited.{Row, column, State, Trees, Int, Text, Blob, all_has, has_filtered, has_kept, has_mapped, mapped_has, Has, ◌≡◌, ◌↔◌, ◌∙◌, ℕ, ℤ, pos, Bool, true, false, cond, List, [], ◌∷◌, map, filter, string_bytes, refl, sym, ap, ap₂, subst, inl, inr, Ordering, Less, Equal, nat_cmp, is_eq, Decides-int_eq, tied_itself, IsTotalOrder, on_total, then_total, slice_cmp, nat_list_cmp_total, int_eq, ordering_reverse, ordering_then, Posting, Key, key_order, key_total, keys_apart, ListedDatabase, Expected, ExpectedDatabase, KeyPosting, AreDatabases, Content, HasRisingLists, posting_cmp, AreExpected, IsExpectedAs, IsOrdered, IsPostingExpected, key_posting_order, Format, holds_in, record_shown, IsThere, ListsAgree, list_under, with_key, HasRow, HasDatabase, IsStore, records_tree}
 use Rattle.std.specs.List.Sorted.{IsStrictlySortedBy}
-use Rattle.std.specs.Ordering.{int_eq, is_eq, ordering_reverse, ordering_then}
-use Rattle.sqlite.specs.declared.types.Value.TheVariants.{Int, Text, Blob}
-use Rattle.sqlite.specs.Order.{Row, column}
-use Rattle.sqlite.specs.State.{State}
-use Rattle.sqlite.specs.Tree.{Trees}
-use Rattle.sqlite_rules.specs.Lists.{Has}
-use Rattle.sqlite_rules.proofs.ListLemmas.{all_has, has_filtered, has_kept}
-use Rattle.sqlite_rules.proofs.ProbeLemmas.{has_mapped, mapped_has}
-use Rattle.zeb_blocks.specs.declared.postings.Posting.{Posting}
-use Rattle.zeb_keys.specs.declared.keys.Key.{Key}
-use Rattle.zeb_keys.specs.Order.{key_order}
-use Rattle.zeb_keys.proofs.Rising.{key_total, keys_apart}
-use Rattle.zeb_register.specs.declared.catalog.ListedDatabase.{ListedDatabase}
-use Rattle.zeb_register.specs.declared.expected.Expected.{Expected}
-use Rattle.zeb_register.specs.declared.expected.ExpectedDatabase.{ExpectedDatabase}
-use Rattle.zeb_register.specs.declared.expected.KeyPosting.{KeyPosting}
-use Rattle.zeb_register.specs.Catalog.{AreDatabases}
-use Rattle.zeb_register.specs.Content.{Content, HasRisingLists, posting_cmp}
-use Rattle.zeb_register.specs.Expected.{AreExpected, IsExpectedAs, IsOrdered, IsPostingExpected, key_posting_order}
-use Rattle.zeb_register.specs.Formats.{Format, holds_in}
-use Rattle.zeb_register.specs.Kept.{record_shown}
-use Rattle.zeb_register.specs.PrivateRowExpected.{IsThere, ListsAgree, list_under, with_key}
-use Rattle.zeb_register.specs.Sql.{HasRow}
-use Rattle.zeb_register.specs.Store.{HasDatabase, IsStore, records_tree}
 use Rattle.zeb_register.proofs.ContentChanges.{posting_total}
 use Rattle.zeb_register.proofs.DatabaseStatements.{one_name}
 use Rattle.zeb_register.proofs.RecordStatements.{record_rest}

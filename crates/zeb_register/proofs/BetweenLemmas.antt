@@ -1,38 +1,6 @@
 -- Rows of the terms from one text to another, as the postings of a content.
-use Rattle.std.proofs.Common.{◌≡◌, ◌≢◌, ◌↔◌, ◌∙◌, ◌+◌, ◌<◌, ◌/◌, ℕ, pos, Bool, true, false, not, List, [], ◌∷◌, ◌++◌, length, map, filter, take, drop, get_or, refl, sym, ap, ap₂, subst, inl, inr, Ordering, Less, Equal, Greater, nat_cmp, arith, is_eq}
-use Rattle.std.proofs.lemmas.Bool.{cases_Bool}
-use Rattle.std.proofs.lemmas.Cmp.{tied_itself}
-use Rattle.std.proofs.lemmas.List.{length-map, map-append, take_more}
-use Rattle.std.proofs.lemmas.List.Filters.{length-filter_both}
-use Rattle.std.proofs.lemmas.List.Sums.{sum_by-cons}
-use Rattle.std.specs.Cmp.Lexicographic.{slice_cmp, nat_list_cmp_total}
-use Rattle.std.specs.List.{sum_by}
+use Rattle.zeb_register.proofs.Cited.{Row, column, row_cmp, value_cmp, Trees, Value, Blob, Int, Text, all_has, has_either, has_filtered, has_kept, has_left, has_right, has_mapped, mapped_has, Has, row_cmp_total, value_cmp_total, value_cmp-Text, ◌≡◌, ◌≢◌, ◌↔◌, ◌∙◌, ◌+◌, ◌<◌, ◌/◌, ℕ, pos, Bool, true, false, not, List, [], ◌∷◌, ◌++◌, length, map, filter, take, drop, get_or, refl, sym, ap, ap₂, subst, inl, inr, Ordering, Less, Equal, Greater, nat_cmp, arith, is_eq, cases_Bool, tied_itself, length-map, map-append, take_more, length-filter_both, sum_by-cons, slice_cmp, nat_list_cmp_total, sum_by, is_lt, ordering_then, Posting, BlockSpells, spelled_from, start_of, Key, register_code, RegisterOf, AreKeysBetween, IsBetween, IsPostingBetween, term_list, IsRestBetween, three_behind, two_behind, Content, register_columns, key_in, HoldsBlocks, SpellsPart, blocks_of, part_in, AreSpelled, HoldsRows, key_row, posting_row, IsThreeNumbers, IsListOf, IsRest, blocks_tree, postings_tree}
 use Rattle.std.specs.List.Sorted.{IsStrictlySortedBy}
-use Rattle.std.specs.Ordering.{is_lt, ordering_then}
-use Rattle.sqlite.specs.declared.types.Value.{Value}
-use Rattle.sqlite.specs.declared.types.Value.TheVariants.{Blob, Int, Text}
-use Rattle.sqlite.specs.Order.{Row, column, row_cmp, value_cmp}
-use Rattle.sqlite.specs.Tree.{Trees}
-use Rattle.sqlite_rules.specs.Lists.{Has}
-use Rattle.sqlite_rules.proofs.ListLemmas.{all_has, has_either, has_filtered, has_kept, has_left, has_right}
-use Rattle.sqlite_rules.proofs.ProbeLemmas.{has_mapped, mapped_has}
-use Rattle.sqlite_value.proofs.OrderLemmas.{row_cmp_total, value_cmp_total, value_cmp-Text}
-use Rattle.zeb_blocks.specs.declared.postings.Posting.{Posting}
-use Rattle.zeb_blocks.specs.Blocks.{BlockSpells, spelled_from, start_of}
-use Rattle.zeb_keys.specs.declared.keys.Key.{Key}
-use Rattle.zeb_keys.specs.Registers.{register_code}
-use Rattle.zeb_register.specs.declared.registers.RegisterOf.{RegisterOf}
-use Rattle.zeb_register.specs.Between.{AreKeysBetween, IsBetween, IsPostingBetween, term_list}
-use Rattle.zeb_register.specs.PrivateBetweenRows.{IsRestBetween, three_behind, two_behind}
-use Rattle.zeb_register.specs.Content.{Content}
-use Rattle.zeb_register.specs.PrivateKeyColumns.{register_columns}
-use Rattle.zeb_register.specs.Occurring.{key_in}
-use Rattle.zeb_register.specs.PackedBlocks.{HoldsBlocks, SpellsPart, blocks_of, part_in}
-use Rattle.zeb_register.specs.PrivatePackedRows.{AreSpelled}
-use Rattle.zeb_register.specs.PlainRows.{HoldsRows, key_row, posting_row}
-use Rattle.zeb_register.specs.PrivateRowPlaces.{IsThreeNumbers}
-use Rattle.zeb_register.specs.Sql.{IsListOf}
-use Rattle.zeb_register.specs.Store.{IsRest, blocks_tree, postings_tree}
 use Rattle.zeb_register.proofs.ContentLemmas.{same_key, same_posting, some_posting}
 use Rattle.zeb_register.proofs.PackedLemmas.{block_rows, block_there, in_part, part_in_list}
 use Rattle.zeb_register.proofs.PackedLists.{all_spelled, key_blocks, key_spelled, one_part, spelled_behind}

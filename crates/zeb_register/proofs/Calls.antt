@@ -1,31 +1,11 @@
 -- What each call on the tables does to a connection, whatever its text is.
-use Rattle.std.proofs.Common.{◌≡◌, ◌≢◌, ◌⊎◌, ◌+◌, ℕ, List, [], ◌∷◌, true, false, not, Bool, IsTrue, None, IsSome, Result, Ok, Err, OnOk, OnErr, IfOk, IfErr, inl, inr, refl, sym, ap, subst, ◌∙◌, arith}
-use Rattle.sqlite.specs.Order.{Row}
-use Rattle.sqlite.specs.Tree.{Trees}
-use Rattle.sqlite.specs.Schema.{Schema}
-use Rattle.sqlite.specs.Table.{Table}
-use Rattle.sqlite.specs.Command.{Command}
-use Rattle.sqlite.specs.Compile.{compiled, first, returning, planned, meaning, command, with_command, small, timed as timed_in}
-use Rattle.sqlite.specs.Listing.{understood, reads_listing, listing_schema, is_select, if_select}
-use Rattle.sqlite.specs.declared.error.Error.{Error}
-use Rattle.sqlite.specs.State.{State, HasCleanDisk, IsUnchanged, IsRolledBack, KeepsCommit, Survives, Executes, ExecutesInside, Shown, ShowsRows, FailsToQuery, FailsToShow, IsNotRun, CommitsShowing, IsTooLate}
-use Rattle.sqlite.specs.Clock.{timed}
-use Rattle.sqlite.proofs.StateLemmas.{survives_weaker}
-use Rattle.sqlite_resolve.specs.Lowering.{and_then}
-use Rattle.sqlite_resolve.specs.declared.compiled.Compiled.{Compiled}
-use Rattle.sqlite_resolve.specs.declared.error.CompileError.{CompileError}
-use Rattle.std.proofs.lemmas.Bool.{cases_Bool}
+use Rattle.zeb_register.proofs.Cited.{unchanged_then, survives_weaker, timed, Command, first, with_command, small, Database, IsDatabase, reads_listing, listing_schema, is_select, if_select, Row, Schema, State, HasCleanDisk, IsUnchanged, IsRolledBack, KeepsCommit, Survives, Executes, ExecutesInside, ShowsRows, FailsToShow, IsTooLate, Trees, Error, and_then, Compiled, CompileError, ◌≡◌, ◌≢◌, ◌⊎◌, ◌+◌, ℕ, List, [], ◌∷◌, true, false, not, Bool, IsTrue, None, IsSome, Result, Ok, Err, OnOk, OnErr, IfOk, IfErr, inl, inr, refl, sym, ap, subst, ◌∙◌, arith, cases_Bool, AllByRecursion, Table, timed_in, store_schema, IsKeyed, KeepsOthers, IsListOf, IsStore, Changes, GoesOn, OnlyReads, ChangesNothing, Alters, Inside, Reading, LooksUp, Ran, Lists, ListsInside, ReadsRows, ReadsInside}
+use Rattle.sqlite.specs.Compile.{compiled, returning, planned, meaning, command}
+use Rattle.sqlite.specs.Listing.{understood}
+use Rattle.sqlite.specs.State.{Shown, FailsToQuery, IsNotRun, CommitsShowing}
 use Rattle.zeb_register.proofs.WrittenRows.{same_value}
 use Rattle.zeb_register.proofs.CallsInTurn.{inside_keeps, quiet_then}
-use Rattle.sqlite.proofs.Callers.{unchanged_then}
-use Rattle.std.specs.List.{AllByRecursion}
-use Rattle.sqlite.specs.Effect.{Database, IsDatabase}
-use Rattle.zeb_register.specs.Tables.{store_schema}
-use Rattle.zeb_register.specs.Sql.{IsKeyed, KeepsOthers, IsListOf}
-use Rattle.zeb_register.specs.Store.{IsStore, Changes}
-use Rattle.zeb_register.specs.Calls.{GoesOn, OnlyReads, ChangesNothing, Alters, Inside, Reading}
-use Rattle.zeb_register.specs.PrivateRowStatements.{Lists, ListsInside}
-use Rattle.zeb_register.specs.PrivateRowTerms.{ReadsRows, ReadsInside}
+pub use Rattle.zeb_register.specs.Queries.{IsSilent}
 
 -- any number of writes inside a transaction, none too
 pub record Stays (old new : State) : Type 0 where
@@ -34,9 +14,6 @@ pub record Stays (old new : State) : Type 0 where
   pub inside : IsTrue new.in_transaction
 
 -- ---- a text that is a query under every schema
-
-abbrev pub IsSilent : List ℕ → Type 0
-IsSilent text = (schema : Schema) (base : ℕ) → and_then (first text) (λ p. returning schema base p.statement) ≡ Ok None
 
 pub got : {A B : Type 0} (r : Result A CompileError) (f : A → Result B CompileError) (b : B) → and_then r f ≡ Ok b → (a : A) × (r ≡ Ok a) × (f a ≡ Ok b)
 got (Ok a) f b h = (a, refl, h)
@@ -122,6 +99,24 @@ nothing rows sql params old new (Err e) auto silent is settled shown failed idle
       (was, undone.0 ∙ sym (settled (is ∙ ap not idle) was), undone.1)
 ]
 
+pub shown_each : {A : Type 0} (rows : A → List Row) (sql : List ℕ) (params : Row) (old new : State) (r : Result A Error) → IsSilent sql → IfOk r (λ x. Shown sql params old new (rows x)) → IfOk r (λ _. IsUnchanged old new)
+shown_each rows sql params old new (Ok x) silent shown = shown_alone sql params old new (rows x) silent shown
+shown_each rows sql params old new (Err e) silent shown = tt
+
+-- ---- what a look-up tells
+
+module _ {A : Type 0} {rows : A → List Row} {sql : List ℕ} {params : Row} where
+  pub lists_read : (P : Trees → Row → Type 0) (old new : State) (r : Result A Error) → ((all : List Row) → IsStore old → Shown sql params old new all → IsListOf (P old.now.trees) all) → LooksUp rows sql params old new r
+      → Reading old new r (λ x a b. Lists P a b (rows x))
+  lists_read P old new (Ok x) means looks = record { idle = looks.call.idle; ok = λ clean. (looks.call.ok clean, λ store. means (rows x) store (looks.ok clean)); same = looks.call.same; crash = looks.call.crash }
+  lists_read P old new (Err e) means looks = record { idle = looks.call.idle; ok = λ clean. tt; same = looks.call.same; crash = looks.call.crash }
+
+  -- the same for what is said of all rows at once
+  pub all_read : (P : Trees → List Row → Type 0) (old new : State) (r : Result A Error) → ((all : List Row) → IsStore old → Shown sql params old new all → P old.now.trees all) → LooksUp rows sql params old new r
+      → Reading old new r (λ x a b. ReadsRows P a b (rows x))
+  all_read P old new (Ok x) means looks = record { idle = looks.call.idle; ok = λ clean. (looks.call.ok clean, λ store. means (rows x) store (looks.ok clean)); same = looks.call.same; crash = looks.call.crash }
+  all_read P old new (Err e) means looks = record { idle = looks.call.idle; ok = λ clean. tt; same = looks.call.same; crash = looks.call.crash }
+
 -- ---- queries inside a transaction
 
 pub alone_inside : (sql : List ℕ) (params : Row) (old new : State) (rows : List Row) → IsSilent sql → Shown sql params old new rows → IsTrue old.in_transaction → OnlyReads old new
@@ -162,6 +157,12 @@ pub refused_keeps : (sql : List ℕ) (params : Row) (old new : State) (r : Resul
 refused_keeps sql params old new (Ok count) ran = tt
 refused_keeps sql params old new (Err e) ran = inside_keeps sql params old new (Err e) ran
 
+-- what a statement that was carried out makes of a table
+pub written : {A E : Type 0} {sql : List ℕ} {params : Row} (tree : ℕ) (Rows : ℕ → Trees → Trees → Type 0) (old new : State) (r : Result A E) → ((count : ℕ) → IsStore old → Executes sql params old new (Ok count) → Changes tree Rows old new)
+    → Ran sql params old new r → Inside old new r (λ _. Alters tree Rows)
+written tree Rows old new (Ok x) means it = record { ok = λ clean inside. let ran = it.ok clean inside in record { on = ran.2; rows = λ store. means ran.0 store ran.1 }; err = λ clean inside. tt; crash = it.crash }
+written tree Rows old new (Err e) means it = record { ok = λ clean inside. tt; err = it.err; crash = it.crash }
+
 -- ---- one call after the other
 
 pub stays_still : (s : State) → IsTrue s.in_transaction → Stays s s
@@ -173,15 +174,6 @@ stays_then a b c before next = record {
   open_still = λ _. next.is_open;
   inside = next.mode;
 }
-
-pub stays_keeps : (a b c : State) → Stays a b → KeepsCommit b c → KeepsCommit a c
-stays_keeps a b c before next = record {
-  was_open = λ o. before.kept.was_open (next.was_open o);
-  committed = λ o. next.committed o ∙ before.kept.committed (next.was_open o);
-}
-
-pub stays_goes : (a b : State) → Stays a b → IsTrue a.is_open → GoesOn a b
-stays_goes a b stays was = record { was_open = was; is_open = stays.open_still was; now_is = refl; committed_is = stays.kept.committed (stays.open_still was); mode = stays.inside }
 
 pub nothing_still : (s : State) → ChangesNothing s s
 nothing_still s o = (o, refl, refl)

@@ -1,23 +1,7 @@
 -- From one statement to the next.
-use Rattle.std.proofs.Common.{◌≡◌, refl, sym, ℕ, ◌∙◌, ap, inl, inr, List, IsTrue, Bool, true, false, Result, Ok, Err, IfErr, arith}
-use Rattle.std.specs.Prelude.{MatchBool}
-use Rattle.sqlite.specs.Order.{Row}
-use Rattle.sqlite.specs.Effect.{Database}
-use Rattle.sqlite.specs.declared.error.Error.{Error}
-use Rattle.sqlite.specs.declared.error.Error.TheVariants.{ExecuteReturnedResults, SqliteFailure}
-use Rattle.sqlite.specs.declared.error.ErrorCode.TheVariants.{ConstraintViolation}
-use Rattle.sqlite.specs.Clock.{timed}
-use Rattle.sqlite.specs.State.{State, Executes, ExecutesIn, ExecutesInside, IsNotRun, IsUnchanged, KeepsCommit, RunsCommand, Survives, shows_rows, store_error}
-use Rattle.sqlite_resolve.specs.declared.compiled.Compiled.{Compiled}
-use Rattle.sqlite_schema.specs.declared.schema.Constraint.{Constraint}
-use Rattle.sqlite_trees.specs.declared.error.StoreError.{StoreError}
+use Rattle.zeb_register.proofs.Cited.{survives_then, timed, Row, State, Executes, ExecutesInside, IsUnchanged, KeepsCommit, RunsCommand, Survives, shows_rows, store_error, Error, ExecuteReturnedResults, SqliteFailure, ConstraintViolation, Compiled, Constraint, StoreError, ◌≡◌, refl, sym, ℕ, ◌∙◌, inl, inr, List, IsTrue, Bool, true, false, Result, Ok, Err, IfErr, arith, MatchBool, store_schema, OnlyReads, IsMade, IsEmptyStore}
+use Rattle.sqlite.specs.State.{ExecutesIn, IsNotRun}
 use Rattle.sqlite_trees.specs.declared.error.StoreError.TheVariants as cause
-use Rattle.sqlite.proofs.StateLemmas.{survives_then}
-use Rattle.sqlite.proofs.Callers.{unchanged_then}
-use Rattle.zeb_register.specs.Tables.{store_schema}
-use Rattle.zeb_register.specs.Calls.{OnlyReads}
-use Rattle.zeb_register.specs.PrivateRowStatements.{IsMade}
-use Rattle.zeb_register.specs.Store.{IsEmptyStore}
 use Rattle.zeb_register.proofs.CreateTable.{made_layout}
 
 pub quiet_then : (a b c : State) → Survives a b (λ _. ⊥) → Survives b c (λ _. ⊥) → Survives a c (λ _. ⊥)
@@ -25,9 +9,6 @@ quiet_then a b c p q = survives_then a b c (λ _. ⊥) (λ _. ⊥) (λ _. ⊥) (
 
 pub quiet_still : (s : State) → Survives s s (λ _. ⊥)
 quiet_still s = record { clean = omega arith; shield = λ h. h; counts = omega arith; limit = refl; closes = λ _ was. inl was; crash = λ _ db may. inl may }
-
-pub still_unchanged : (a b c : State) → IsTrue a.in_transaction → a.now.schema ≡ store_schema → IsUnchanged a b → (b.now.schema ≡ store_schema → IsTrue b.in_transaction → IsUnchanged b c) → IsUnchanged a c
-still_unchanged a b c inside has first next = unchanged_then a b c first (next (ap (λ (d : Database). d.schema) first.0.now_is ∙ has) (first.0.mode ∙ inside))
 
 pub made_store : (s : State) → IsMade store_schema s → IsEmptyStore s
 made_store s made = (made_layout store_schema s made, made.inside, made.empty)

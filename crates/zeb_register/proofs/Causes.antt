@@ -1,13 +1,5 @@
 -- Why the store may have failed, one call after the other.
-use Rattle.std.proofs.Common.{◌≡◌, ◌⊎◌, ◌∙◌, true, false, IsTrue, IsSome, Result, Err, inl, inr, sym, subst, arith}
-use Rattle.std.proofs.lemmas.Bool.{cases_Bool}
-use Rattle.sqlite.specs.State.{State, HasCleanDisk, IsUnchanged, Survives}
-use Rattle.zeb_register.specs.declared.faults.RegFault.{RegFault}
-use Rattle.zeb_register.specs.declared.faults.RegFault.TheVariants.{Store}
-use Rattle.sqlite.specs.Tree.{Trees}
-use Rattle.zeb_register.specs.Calls.{MayRefuse, OnlyReads}
-use Rattle.zeb_register.specs.Clauses.{IsReasoned}
-use Rattle.zeb_register.specs.Store.{IsStore}
+use Rattle.zeb_register.proofs.Cited.{State, HasCleanDisk, IsUnchanged, Survives, ◌≡◌, ◌∙◌, true, false, IsTrue, IsSome, Result, Err, inl, inr, sym, subst, arith, cases_Bool, RegFault, Store, MayRefuse, IsReasoned, IsStore}
 use Rattle.zeb_register.proofs.Calls.{store_same}
 
 -- a call behind others that have left an open connection open
@@ -21,11 +13,6 @@ may_after old mid new survives opened caused = elim (cases_Bool old.is_open) [
   ]
   | inr shut ↦ inl shut
 ]
-
--- a call that writes behind one that only read
-pub hindered_after : (old mid new : State) (Hindering : Trees → Type 0) → OnlyReads old mid → Survives old mid (λ _. ⊥) → MayRefuse mid new ⊎ Hindering mid.now.trees → MayRefuse old new ⊎ Hindering old.now.trees
-hindered_after old mid new Hindering reads survives (inl cause) = inl (may_after old mid new survives (λ _. reads.is_open) (λ _. cause))
-hindered_after old mid new Hindering reads survives (inr hinders) = inr (subst (λ d. Hindering d.trees) reads.now_is hinders)
 
 -- a call on the tables of a store behind others that changed nothing
 pub reasoned_after : {A : Type 0} (old mid new : State) (result : Result A RegFault) → Survives old mid (λ _. ⊥) → (HasCleanDisk mid → IsUnchanged old mid) → Survives mid new (λ _. ⊥)

@@ -1,15 +1,5 @@
 -- Numbers as columns store them, and lists of rows that begin with such columns.
-use Rattle.std.proofs.Common.{◌≡◌, ◌∙◌, ◌++◌, [], ◌∷◌, ℕ, ℤ, List, pos, subst, to_z, of_z, w64}
-use Rattle.std.proofs.Math.Facts.{to_z-of_z}
-use Rattle.std.specs.Prelude.{FitsSigned}
-use Rattle.sqlite.specs.declared.types.Value.TheVariants.{Int}
-use Rattle.sqlite.specs.Order.{Row}
-use Rattle.sqlite.specs.Tree.{Trees}
-use Rattle.zeb_keys.specs.declared.keys.Key.{Key}
-use Rattle.zeb_register.specs.PlainRows.{key_row}
-use Rattle.zeb_register.specs.PrivateRowStatements.{IsRestAtLeast}
-use Rattle.zeb_register.specs.Sql.{IsListOf}
-use Rattle.zeb_register.specs.Store.{IsRest}
+use Rattle.zeb_register.proofs.Cited.{Row, Trees, Int, ◌≡◌, ◌∙◌, ◌++◌, [], ◌∷◌, ℕ, ℤ, List, pos, subst, to_z, of_z, w64, FitsSigned, to_z-of_z, Key, key_row, IsRestAtLeast, IsListOf, IsRest}
 
 -- a number that fits its column is stored as it is
 pub column_is : {z d : ℤ} → FitsSigned w64 z → z ≡ d → to_z w64 (of_z w64 z) ≡ d

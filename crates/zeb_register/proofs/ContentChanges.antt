@@ -1,17 +1,6 @@
 -- Contents that differ in one place: a content that is changed at one key, or from which a database is taken, is there, and there is one; and a content is told by its postings.
-use Rattle.std.proofs.Common.{◌≡◌, ◌≢◌, ◌↔◌, ◌⊎◌, ℕ, ℤ, Bool, true, not, List, [], map, filter, refl, sym, ap, subst, inl, inr, Equal, nat_eq, int_cmp, arith}
-use Rattle.std.specs.Cmp.{IsTotalOrder, then_total, on_total, nat_cmp_total, int_cmp_total}
+use Rattle.zeb_register.proofs.Cited.{has_filtered, has_kept, has_mapped, mapped_has, Has, ◌≡◌, ◌≢◌, ◌↔◌, ◌⊎◌, ℕ, ℤ, Bool, true, not, List, [], map, filter, refl, sym, ap, subst, inl, inr, Equal, nat_eq, int_cmp, arith, nat_tests, int_ranked, IsTotalOrder, then_total, on_total, nat_cmp_total, int_cmp_total, Key, Place, Posting, key_total, keys_apart, both_equal, numbers_apart, Content, posting_cmp, HasRisingLists, posting_at, ArePlacesOf, IsChangedAt, IsWithout, place_cmp}
 use Rattle.std.specs.List.Sorted.{IsStrictlySortedBy}
-use Rattle.std.proofs.lemmas.Cmp.{int_ranked}
-use Rattle.std.proofs.lemmas.Bool.Decides.{nat_tests}
-use Rattle.sqlite_rules.specs.Lists.{Has}
-use Rattle.sqlite_rules.proofs.ListLemmas.{has_filtered, has_kept}
-use Rattle.sqlite_rules.proofs.ProbeLemmas.{has_mapped, mapped_has}
-use Rattle.zeb_keys.specs.declared.keys.Key.{Key}
-use Rattle.zeb_register.specs.declared.registers.Place.{Place}
-use Rattle.zeb_blocks.specs.declared.postings.Posting.{Posting}
-use Rattle.zeb_keys.proofs.Rising.{key_total, keys_apart, both_equal, numbers_apart}
-use Rattle.zeb_register.specs.Content.{Content, posting_cmp, HasRisingLists, posting_at, ArePlacesOf, IsChangedAt, IsWithout, place_cmp}
 use Rattle.zeb_register.proofs.RisingLists.{same_list, kept_rises, told_by, with_all, all_there, all_rise}
 
 -- ---- orders that tell apart

@@ -1,25 +1,6 @@
 -- Rows of postings as the postings of a content.
-use Rattle.std.proofs.Common.{int_cmp, zero, suc, get_or, length, ◌<◌, ◌≡◌, ◌∙◌, ℕ, ℤ, pos, List, [], ◌∷◌, ◌++◌, map, drop, inl, inr, refl, sym, ap, ap₂, subst, Ordering, Less, Equal, Greater, arith, ◌≢◌}
+use Rattle.zeb_register.proofs.Cited.{Row, column, row_cmp, Trees, Int, Text, has_mapped, mapped_has, Has, row_cmp_total, value_cmp-Int, int_cmp, zero, suc, get_or, length, ◌<◌, ◌≡◌, ◌∙◌, ℕ, ℤ, pos, List, [], ◌∷◌, ◌++◌, map, drop, inl, inr, refl, sym, ap, ap₂, subst, Ordering, Less, Equal, Greater, arith, ◌≢◌, nat_cmp, nat_tests, AllByRecursion, ordering_then, Key, Register, Word, Phrase, Number, Posting, register_code, IsListOf, postings_tree, IsRest, Content, posting_cmp, key_row, posting_row, HoldsRows, first_three, IsThreeNumbers}
 use Rattle.std.specs.List.Sorted.{IsStrictlySortedBy}
-use Rattle.std.specs.List.{AllByRecursion}
-use Rattle.std.proofs.lemmas.Bool.Decides.{nat_tests}
-use Rattle.std.specs.Ordering.{nat_cmp, ordering_then}
-use Rattle.sqlite.specs.declared.types.Value.TheVariants.{Int, Text}
-use Rattle.sqlite.specs.Order.{Row, column, row_cmp}
-use Rattle.sqlite.specs.Tree.{Trees}
-use Rattle.sqlite_rules.specs.Lists.{Has}
-use Rattle.sqlite_rules.proofs.ProbeLemmas.{has_mapped, mapped_has}
-use Rattle.sqlite_value.proofs.OrderLemmas.{row_cmp_total, value_cmp-Int}
-use Rattle.zeb_keys.specs.declared.keys.Key.{Key}
-use Rattle.zeb_keys.specs.declared.Register.{Register}
-use Rattle.zeb_keys.specs.declared.Register.TheVariants.{Word, Phrase, Number}
-use Rattle.zeb_blocks.specs.declared.postings.Posting.{Posting}
-use Rattle.zeb_keys.specs.Registers.{register_code}
-use Rattle.zeb_register.specs.Sql.{IsListOf}
-use Rattle.zeb_register.specs.Store.{postings_tree, IsRest}
-use Rattle.zeb_register.specs.Content.{Content, posting_cmp}
-use Rattle.zeb_register.specs.PlainRows.{key_row, posting_row, HoldsRows}
-use Rattle.zeb_register.specs.PrivateRowPlaces.{first_three, IsThreeNumbers}
 use Rattle.zeb_register.proofs.RisingLists.{same_list}
 
 pub lower_then : (x y z : Ordering) → ordering_then x (ordering_then y z) ≡ Less → ordering_then x (ordering_then y (ordering_then z Equal)) ≡ Less

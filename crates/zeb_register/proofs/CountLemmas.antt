@@ -1,18 +1,6 @@
 -- Counting occurrences that come in the order of their terms and then of their numbers.
-use Rattle.std.proofs.Common.{◌≡◌, ◌≢◌, ◌↔◌, ◌⊎◌, ◌∙◌, ◌<◌, ◌≤◌, ◌+◌, ℕ, List, [], ◌∷◌, ◌++◌, length, refl, sym, ap, subst, inl, inr, Less, Equal, nat_cmp, arith, length-append, ◌^◌}
-use Rattle.std.specs.Cmp.{IsTotalOrder, on_total, nat_cmp_total}
-use Rattle.std.specs.Cmp.Lexicographic.{slice_cmp, nat_list_cmp_total}
-use Rattle.std.specs.List.{sum_by}
+use Rattle.zeb_register.proofs.Cited.{all_has, has_left, has_right, has_either, Has, ◌≡◌, ◌≢◌, ◌↔◌, ◌⊎◌, ◌∙◌, ◌<◌, ◌≤◌, ◌+◌, ℕ, List, [], ◌∷◌, ◌++◌, length, refl, sym, ap, subst, inl, inr, Less, Equal, nat_cmp, arith, length-append, ◌^◌, nat_tests, ranked, tied_itself, sum_by-cons, IsTotalOrder, on_total, nat_cmp_total, slice_cmp, nat_list_cmp_total, sum_by, TermCount, IsCount, AreCounts, term_cmp, IsCountedIn, term_with, Rises}
 use Rattle.std.specs.List.Sorted.{IsStrictlySortedBy}
-use Rattle.std.proofs.lemmas.Cmp.{ranked, tied_itself}
-use Rattle.std.proofs.lemmas.List.Sums.{sum_by-cons}
-use Rattle.std.proofs.lemmas.Bool.Decides.{nat_tests}
-use Rattle.sqlite_rules.specs.Lists.{Has}
-use Rattle.sqlite_rules.proofs.ListLemmas.{all_has, has_left, has_right, has_either}
-use Rattle.zeb_register.specs.declared.registers.TermCount.{TermCount}
-use Rattle.zeb_register.specs.Occurring.{IsCount, AreCounts, term_cmp}
-use Rattle.zeb_register.specs.PrivateRowTerms.{IsCountedIn, term_with}
-use Rattle.zeb_register.specs.Tallies.{Rises}
 use Rattle.zeb_register.proofs.RisingLists.{same_list, pushed_rises, before_last, front_rises, snoc_of, same_last}
 
 pub term_total : IsTotalOrder term_cmp

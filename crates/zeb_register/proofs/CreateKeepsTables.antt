@@ -1,31 +1,11 @@
 -- CREATE TABLE IF NOT EXISTS under any schema: each table that is there stays, with its rows.
-use Rattle.std.proofs.Common.{◌≡◌, ◌⊎◌, ◌+◌, ℕ, Bool, true, false, not, ◌&&◌, ◌==◌, if◌then◌else◌, List, [], length, None, Result, Ok, Err, refl, sym, ap, subst, ◌∙◌, inl, inr}
-use Rattle.std.proofs.lemmas.Bool.{cases_Bool}
-use Rattle.sqlite_ast.specs.declared.Statement.{Statement}
+use Rattle.zeb_register.proofs.Cited.{timed, Command, CreateTable, Nothing, first, with_command, small, is_attached, lacks_sequence, Database, reads_listing, listing_schema, is_select, if_select, Row, Schema, State, Runs, Writes, Executes, shows_rows, Statement, CreatesTable, and_then, Compiled, CompileError, Unsupported, all_has, has_left, Has, table_named, index_named, view_named, ◌≡◌, ◌⊎◌, ◌+◌, ℕ, Bool, true, false, not, ◌&&◌, ◌==◌, if◌then◌else◌, List, [], length, None, Result, Ok, Err, refl, sym, ap, subst, ◌∙◌, inl, inr, cases_Bool, option_or, Written, Table, creates, timed_in, KeepsTables}
+use Rattle.sqlite.specs.Compile.{compiled, returning, planned, meaning, command, create_table}
+use Rattle.sqlite.specs.Listing.{understood}
+use Rattle.sqlite.specs.State.{ExecutesIn}
 use Rattle.sqlite_ast.specs.declared.Statement.TheVariants as written
-use Rattle.sqlite_ast.specs.declared.CreateTable.{CreateTable as Written}
 use Rattle.sqlite_resolve.specs.Define as define
-use Rattle.sqlite_resolve.specs.Lowering.{and_then}
-use Rattle.sqlite_schema.specs.Names.{table_named, index_named, view_named}
-use Rattle.std.specs.Option.{option_or}
-use Rattle.sqlite_resolve.specs.declared.compiled.Compiled.{Compiled}
-use Rattle.sqlite_resolve.specs.declared.error.CompileError.{CompileError}
-use Rattle.sqlite_resolve.specs.declared.error.CompileError.TheVariants.{Unsupported}
-use Rattle.sqlite.specs.Schema.{Schema}
-use Rattle.sqlite.specs.Table.{Table}
-use Rattle.sqlite.specs.Order.{Row}
-use Rattle.sqlite.specs.Command.{Command}
-use Rattle.sqlite.specs.Command.TheVariants.{CreateTable, Nothing}
-use Rattle.sqlite.specs.Compile.{compiled, first, returning, planned, meaning, command, with_command, small, create_table, creates, is_attached, timed as timed_in}
-use Rattle.sqlite.specs.Clock.{timed}
-use Rattle.sqlite.specs.Does.{lacks_sequence}
-use Rattle.sqlite.specs.Effect.{Database}
-use Rattle.sqlite.specs.Listing.{understood, reads_listing, listing_schema, is_select, if_select}
-use Rattle.sqlite.specs.State.{State, Runs, Writes, Executes, ExecutesIn, shows_rows, text_of}
-use Rattle.sqlite_catalog.specs.Calls.{CreatesTable}
-use Rattle.sqlite_rules.specs.Lists.{Has}
-use Rattle.sqlite_rules.proofs.ListLemmas.{all_has, has_left}
-use Rattle.zeb_register.specs.Sql.{KeepsTables}
+use Rattle.sqlite.specs.State.{text_of}
 use Rattle.zeb_register.proofs.Calls.{got}
 use Rattle.zeb_register.proofs.WrittenRows.{went, same_value}
 

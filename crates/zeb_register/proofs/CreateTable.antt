@@ -1,19 +1,6 @@
 -- CREATE TABLE IF NOT EXISTS.
-use Rattle.std.proofs.Common.{◌≡◌, ℕ, List, [], ◌∷◌, ◌++◌, Ok, sym, ap, subst, ◌∙◌, None, false, IsTrue}
-use Rattle.std.specs.List.{AllByRecursion}
-use Rattle.sqlite.specs.Table.{Table}
-use Rattle.sqlite.specs.Schema.{Schema}
-use Rattle.sqlite.specs.Change.{created, next_tree, KeepsRows}
-use Rattle.sqlite.specs.Compile.{table_defined_by}
-use Rattle.sqlite.specs.Command.TheVariants.{CreateTable, Nothing}
-use Rattle.sqlite.specs.Does.{Tally, lacks_sequence}
-use Rattle.sqlite.specs.Effect.{Database}
+use Rattle.zeb_register.proofs.Cited.{IsPlain, command_of, statement_of, runs_as, created, next_tree, KeepsRows, CreateTable, Nothing, table_defined_by, Tally, lacks_sequence, Database, Schema, State, Writes, Executes, IsUnchanged, all_has, all_from, ◌≡◌, ℕ, List, [], ◌∷◌, ◌++◌, Ok, sym, ap, subst, ◌∙◌, None, false, IsTrue, AllByRecursion, Table, HasLayout, IsKeyed, IsMade}
 use Rattle.sqlite.specs.Listing.{understood}
-use Rattle.sqlite.specs.State.{State, Writes, Executes, IsUnchanged}
-use Rattle.sqlite.proofs.Callers.{IsPlain, command_of, statement_of, runs_as}
-use Rattle.sqlite_rules.proofs.ListLemmas.{all_has, all_from}
-use Rattle.zeb_register.specs.Sql.{HasLayout, IsKeyed}
-use Rattle.zeb_register.specs.PrivateRowStatements.{IsMade}
 use Rattle.zeb_register.proofs.WrittenRows.{went, same_value}
 
 all_append : {X : Type 0} (P : X → Type 0) (xs : List X) (x : X) → AllByRecursion P xs → P x → AllByRecursion P (xs ++ x ∷ [])

@@ -1,42 +1,23 @@
 -- The statement that lists all databases, and its rows as the list of them.
-use Rattle.std.proofs.Common.{◌≡◌, ◌∙◌, ℕ, pos, true, false, List, [], ◌∷◌, map, codes, refl, sym, ap, ap₂, subst, inl, inr, Ordering, Less, Equal, Greater, nat_cmp, string_bytes, arith}
-use Rattle.std.specs.Cmp.Lexicographic.{slice_cmp}
-use Rattle.std.specs.List.Sorted.{IsStrictlySortedBy}
-use Rattle.std.specs.Ordering.{ordering_then}
-use Rattle.sqlite.specs.declared.types.Value.TheVariants.{Null, Int, Text}
-use Rattle.sqlite.specs.Command.TheVariants.{Select}
-use Rattle.sqlite.specs.Listing.{understood, reads_listing}
-use Rattle.sqlite.specs.Order.{Row, column, row_cmp}
-use Rattle.sqlite.specs.State.{State, Shown}
-use Rattle.sqlite.proofs.Callers.{IsPlain, command_of}
-use Rattle.sqlite_rules.specs.Lists.{Has}
-use Rattle.sqlite_rules.proofs.ListLemmas.{all_from, all_has}
-use Rattle.sqlite_rules.proofs.ProbeLemmas.{has_mapped, mapped_has}
+use Rattle.zeb_register.proofs.Cited.{Row, column, row_cmp, State, Null, Int, Text, all_from, all_has, has_mapped, mapped_has, Has, row_cmp_total, value_cmp-Text, ◌≡◌, ◌∙◌, ℕ, pos, true, false, List, [], ◌∷◌, map, codes, refl, sym, ap, ap₂, subst, inl, inr, Ordering, Less, Equal, Greater, nat_cmp, string_bytes, arith, slice_cmp, ordering_then, LISTED, ListedDatabase, AreDatabases, AreReadableDatabases, listed_order, listed_row, first_three, IsDatabaseShown, IsListedRow, IsListOf, HasDatabase, IsStore, store_schema}
+use Rattle.sqlite.specs.Listing.{understood}
+use Rattle.sqlite.specs.State.{Shown}
 use Rattle.sqlite_tied.specs.Compute.{everything}
-use Rattle.sqlite_value.proofs.OrderLemmas.{row_cmp_total, value_cmp-Text}
-use Rattle.zeb_register.specs.declared.catalog.ListedDatabase.{ListedDatabase}
-use Rattle.zeb_register.specs.Catalog.{AreDatabases, AreReadableDatabases, listed_order}
-use Rattle.zeb_register.specs.PrivateCatalog.{listed_row}
-use Rattle.zeb_register.specs.PrivateRowPlaces.{first_three}
-use Rattle.zeb_register.specs.PrivateRowStatements.{IsDatabaseShown, IsListedRow}
-use Rattle.zeb_register.specs.Sql.{IsListOf}
-use Rattle.zeb_register.specs.Store.{HasDatabase, IsStore}
-use Rattle.zeb_register.specs.Tables.{store_schema}
-use Rattle.zeb_register.proofs.Calls.{IsSilent}
+use Rattle.std.specs.List.Sorted.{IsStrictlySortedBy}
 use Rattle.zeb_register.proofs.DatabaseStatements.{database_row, databases, databases_keys, databases_static, one_name}
 use Rattle.zeb_register.proofs.PrefixSelects.{first_lower}
-use Rattle.zeb_register.proofs.Refusals.{IsWhole, IsFit, IsReasonedQuery, why_refused}
+use Rattle.zeb_register.proofs.Refusals.{IsQuery}
 use Rattle.zeb_register.proofs.RisingLists.{never_itself}
 use Rattle.zeb_register.proofs.RowLemmas.{same_bytes}
 use Rattle.zeb_register.proofs.RowsAreLists.{one_last}
 use Rattle.zeb_register.proofs.Selects.{IsSelected, selects, list_so}
-use Rattle.zeb_register.proofs.StatementForms.{reading, rising, alone, shows, no_limit}
+use Rattle.zeb_register.proofs.StatementForms.{rising, shows, no_limit}
 use Rattle.zeb_register.proofs.Writes.{codes_there}
 
 -- ---- the statement
 
 abbrev pub list_text : List ℕ
-list_text = codes "SELECT name, id, last FROM databases ORDER BY name"
+list_text = LISTED.now
 
 abbrev list_shows : List ℕ
 list_shows = 2 ∷ 0 ∷ 3 ∷ []
@@ -44,35 +25,15 @@ list_shows = 2 ∷ 0 ∷ 3 ∷ []
 abbrev list_names : List (List ℕ)
 list_names = codes "name" ∷ codes "id" ∷ codes "last" ∷ []
 
-list_is : command_of (understood store_schema list_text) ≡ Select (alone (reading 2 [] (shows list_shows) (2 ∷ []) no_limit)) list_names
+pub list_query : IsQuery list_text [] 2 [] (shows list_shows) (rising (2 ∷ [])) no_limit list_names
 unfolding understood everything
-list_is = refl
-
-list_plain : IsPlain (understood store_schema list_text) × (reads_listing store_schema list_text ≡ false)
-unfolding understood everything
-list_plain = ((refl, refl), refl)
-
-pub list_silent : IsSilent list_text
-unfolding everything
-list_silent = λ schema base. refl
-
-list_whole : IsWhole list_text 0 (understood store_schema list_text)
-unfolding understood everything
-list_whole = (omega arith, refl)
-
-list_fit : IsFit (alone (reading 2 [] (shows list_shows) (2 ∷ []) no_limit)) []
-unfolding everything
-list_fit trees mistyped = absurd (let t : true ≡ false = mistyped in cc)
-
-pub list_refused : IsReasonedQuery list_text []
-list_refused old new e store told failed =
-    why_refused list_text [] 2 [] (shows list_shows) (rising (2 ∷ [])) no_limit list_names list_is list_plain.0 list_plain.1 list_whole list_fit old new store e told failed
+list_query = record { is = refl; plain = (refl, refl); unlisted = refl; silent = λ schema base. refl; whole = (omega arith, refl); fit = λ trees mistyped. absurd (let t : true ≡ false = mistyped in cc) }
 
 pub lists_databases : (old new : State) (rows : List Row) → IsStore old → Shown list_text [] old new rows → IsListOf (IsListedRow old.now.trees) rows
 lists_databases old new rows store shown =
     let db = old.now.trees 2 in
     let P = IsSelected db [] [] list_shows in
-    let got = selects store_schema 1 databases databases_static _ databases_keys list_text [] [] list_shows (2 ∷ []) no_limit list_names list_is list_plain.0 list_plain.1 refl refl refl (λ r s lower. first_lower _ _ lower) old new rows store shown in
+    let got = selects store_schema 1 databases databases_static _ databases_keys list_text [] [] list_shows (2 ∷ []) no_limit list_names list_query.is list_query.plain list_query.unlisted refl refl refl (λ r s lower. first_lower _ _ lower) old new rows store shown in
     list_so P (IsListedRow old.now.trees) rows (λ x. (
       λ h.
           let was = database_row h.0 (codes_there store_schema 1 databases databases_static old h.0 store h.1) in

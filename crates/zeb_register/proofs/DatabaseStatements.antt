@@ -1,46 +1,14 @@
 -- The statements on databases, each with what it is compiled to.
-use Rattle.std.proofs.Common.{◌≡◌, ◌∙◌, arith, sym, ap, ap₂, subst, map, ℕ, List, [], ◌∷◌, codes, refl, false, true, ℤ, Ok, inl, inr, Ordering, Less, Equal, Greater}
-use Rattle.sqlite.specs.declared.types.Value.TheVariants.{Null, Int, Text}
-use Rattle.sqlite.specs.State.{State, Executes, Shown}
-use Rattle.sqlite.specs.Command.TheVariants.{Update, Select, Delete, Insert}
-use Rattle.sqlite.specs.Source.TheVariants.{Values}
-use Rattle.sqlite.specs.Edit.{next_rowid}
-use Rattle.sqlite.specs.Term.{Term, lit, col}
-use Rattle.sqlite.specs.Listing.{understood, reads_listing}
-use Rattle.sqlite.proofs.Callers.{IsPlain, command_of}
+use Rattle.zeb_register.proofs.Cited.{BY_NAME, ADD, SET_LAST, TAKE, IsPlain, command_of, Update, Delete, Insert, next_rowid, IsDatabase, Row, column, value_cmp, Values, State, Executes, Term, lit, col, Trees, rowid, is_int, Null, Int, Text, has_got, tied_same, Has, value_cmp_total, ◌≡◌, ◌∙◌, arith, sym, ap, ap₂, subst, map, ℕ, List, [], ◌∷◌, codes, refl, false, true, ℤ, Ok, inl, inr, Ordering, Less, Equal, Greater, tied_itself, ordering_reverse, store_schema, databases_table, IsListOf, Table, IsStore, Changes, databases_tree, HasDatabase, TakesDatabase, AddsDatabase, SetsLast, IsDatabaseRow, PutsDatabase}
+use Rattle.sqlite.specs.Listing.{understood}
+use Rattle.sqlite.specs.State.{Shown}
 use Rattle.sqlite_tied.specs.Compute.{everything}
-use Rattle.zeb_register.specs.Tables.{store_schema, databases_table}
 use Rattle.zeb_register.proofs.StatementForms.{Condition, equals, reading, alone, shows, no_limit}
-use Rattle.zeb_register.specs.Sql.{IsListOf}
 use Rattle.zeb_register.proofs.ValueKinds.{codes_of, IsPlainTable, HasKeys, code}
-use Rattle.sqlite.specs.Table.{Table}
-use Rattle.zeb_register.specs.Store.{IsStore, Changes, database_columns, databases_tree, HasDatabase, TakesDatabase}
-use Rattle.zeb_register.specs.PrivateRowStatements.{AddsDatabase, SetsLast, IsDatabaseRow}
 use Rattle.zeb_register.proofs.Writes.{next_free, GainsRow, LosesRows, RemakesRows, updates, changed_so, deletes, inserts, codes_there}
 use Rattle.zeb_register.proofs.RowLemmas.{null_of, spread, code_at, int_of, text_of}
 use Rattle.zeb_register.proofs.Selects.{IsSelected, selects, list_so}
-use Rattle.zeb_register.proofs.Calls.{IsSilent}
-use Rattle.zeb_register.proofs.Refusals.{IsWhole, IsFit, IsReasonedQuery, why_refused}
-use Rattle.zeb_register.specs.Hindrances.{IsTooLarge}
-use Rattle.zeb_register.specs.PrivateHindrances.{HindersLast, HindersNew}
-use Rattle.zeb_register.proofs.InsertRefusals.{why_insert_hindered}
-use Rattle.zeb_register.proofs.NewRows.{IsRowFor}
-use Rattle.zeb_register.proofs.UpdateRefusals.{why_update_hindered}
-use Rattle.zeb_register.proofs.WriteRefusals.{IsHinderedWrite, IsReasonedWrite, why_delete_refused}
-use Rattle.zeb_register.proofs.WriteRowids.{IsTakingWrite, insert_takes, update_takes}
-use Rattle.sqlite.specs.Order.{Row, column}
-use Rattle.sqlite.specs.Tree.{Trees}
-use Rattle.sqlite_rules.specs.Lists.{Has}
-use Rattle.sqlite_rules.proofs.ListLemmas.{has_got}
-use Rattle.sqlite_rules.proofs.PlaceLemmas.{tied_same}
-use Rattle.sqlite.specs.Effect.{IsDatabase}
-use Rattle.sqlite.specs.Order.{value_cmp}
-use Rattle.sqlite.specs.Tree.{rowid}
-use Rattle.sqlite.specs.View.{is_int}
-use Rattle.sqlite_value.proofs.OrderLemmas.{value_cmp_total}
-use Rattle.std.proofs.lemmas.Cmp.{tied_itself}
-use Rattle.std.specs.Ordering.{ordering_reverse}
-use Rattle.zeb_register.specs.Catalog.{PutsDatabase}
+use Rattle.zeb_register.proofs.Refusals.{IsQuery}
 use Rattle.zeb_register.proofs.Writes.{keyed_there}
 use Rattle.zeb_register.proofs.RowLemmas.{shares_alone}
 
@@ -51,7 +19,7 @@ pub databases_static : IsPlainTable store_schema 1 databases
 databases_static = record { there = refl; whole = refl; free = λ olds news. refl; uncounted = refl; unstamped = refl }
 
 abbrev pub last_text : List ℕ
-last_text = codes "UPDATE databases SET last = ?2 WHERE id = ?1"
+last_text = SET_LAST.now
 
 last_is : command_of (understood store_schema last_text) ≡ Update 1 (alone (reading 2 (equals 0 0 ∷ []) (col 1 0 ∷ col 1 0 ∷ lit Null ∷ col 1 2 ∷ col 0 1 ∷ []) [] no_limit))
 unfolding understood everything
@@ -98,7 +66,7 @@ sets_last id last old new count store ran =
 -- ---- INSERT of a row whose rowid is its key
 
 abbrev pub add_text : List ℕ
-add_text = codes "INSERT INTO databases (name, last) VALUES (?1, ?2)"
+add_text = ADD.now
 
 abbrev add_terms : List Term
 add_terms = lit Null ∷ lit Null ∷ col 0 0 ∷ col 0 1 ∷ []
@@ -127,56 +95,12 @@ adds name last old new count store ran =
 pub databases_keys : HasKeys store_schema databases ((2 ∷ []) ∷ [])
 databases_keys = record { are = λ r new. refl; comparable = refl }
 
-add_whole : IsWhole add_text 2 (understood store_schema add_text)
-unfolding understood everything
-add_whole = (omega arith, refl)
-
-database_fits : (name : List ℕ) (last : ℤ) → IsRowFor databases (Null ∷ Text name ∷ Int last ∷ [])
-database_fits name last = record {
-  passed = λ trees id. (refl, refl, refl);
-  coded = λ id. refl;
-  plain = (refl, refl);
-  few = (omega arith, omega arith);
-}
-
-pub add_refused : (name : List ℕ) (last : ℤ) → IsHinderedWrite add_text (Text name ∷ Int last ∷ []) (HindersNew (λ was. column was 1 ≡ Text name) databases_tree (database_columns name last))
-add_refused name last =
-    why_insert_hindered 1 databases databases_static _ databases_keys (database_columns name last) (λ was. column was 1 ≡ Text name) (database_fits name last)
-    (λ id other was shares. elim shares [ inl m ↦ m.0 | inr none ↦ absurd none ])
-    (Text name ∷ Int last ∷ []) add_terms 4 refl refl (λ trees. (refl, refl)) add_text add_is add_plain add_whole
-
-pub add_takes : (name : List ℕ) (last : ℤ) → IsTakingWrite 1 databases_tree add_text (Text name ∷ Int last ∷ [])
-add_takes name last = insert_takes 1 databases databases_static (Text name ∷ Int last ∷ []) add_terms 4 (database_columns name last) refl refl add_text add_is add_plain
-
 -- ---- the UPDATE by the rowid: what it takes, and why it is refused
-
-pub last_takes : (id last : ℤ) → IsTakingWrite 0 databases_tree last_text (Int id ∷ Int last ∷ [])
-last_takes id last = update_takes 1 databases databases_static last_text (Int id ∷ Int last ∷ []) (equals 0 0 ∷ []) (lit Null ∷ col 1 2 ∷ col 0 1 ∷ []) last_is last_plain refl refl refl
-
-last_whole : IsWhole last_text 2 (understood store_schema last_text)
-unfolding understood everything
-last_whole = (omega arith, refl)
-
-pub last_refused : (id last : ℤ) → IsHinderedWrite last_text (Int id ∷ Int last ∷ []) (HindersLast id last)
-last_refused id last =
-    let params = Int id ∷ Int last ∷ [] in
-    let wheres = equals 0 0 ∷ [] in
-    let shown = λ (was : Row) (it : (i : ℤ) × (name : List ℕ) × (n : ℤ) × (was ≡ Int i ∷ Null ∷ Text name ∷ Int n ∷ [])). ap (λ (r : Row). Null ∷ column r 2 ∷ Int last ∷ []) it.3 in
-    why_update_hindered 1 databases databases_static _ databases_keys params wheres (lit Null ∷ col 1 2 ∷ col 0 1 ∷ []) refl refl (λ r s m n. inr (m.0 ∙ sym n.0))
-    (λ was coded m. let it = database_row was coded in subst (IsRowFor databases) (sym (shown was it)) (database_fits it.1 last)) (λ other was i h. h)
-    (HindersLast id last) (λ old store h. elim h [
-      | inl none ↦ inl none
-      | inr large ↦
-          let it = database_row large.0 (codes_there store_schema 1 databases databases_static old large.0 store large.1) in
-          let key : Int it.0 ≡ Int id = ap (λ (r : Row). column r 0) (sym it.3) ∙ large.2.0 in
-          inr (it.1, it.2, subst (Has (old.now.trees 2)) (it.3 ∙ ap (λ v. v ∷ database_columns it.1 it.2) key) large.1, subst IsTooLarge (shown large.0 it) large.3)
-    ])
-    last_text last_is last_plain last_whole (λ trees mistyped. absurd (let t : true ≡ false = mistyped in cc))
 
 -- ---- DELETE by the rowid
 
 abbrev pub cut_text : List ℕ
-cut_text = codes "DELETE FROM databases WHERE id = ?1"
+cut_text = TAKE.now
 
 cut_is : command_of (understood store_schema cut_text) ≡ Delete 1 (alone (reading 2 (equals 0 0 ∷ []) (shows (0 ∷ [])) [] no_limit))
 unfolding understood everything
@@ -194,20 +118,10 @@ cuts id old new count store ran =
       λ h. (each (Int i ∷ Null ∷ Text name ∷ Int last ∷ [])).1 (h.0, λ m. h.1 (let e : i ≡ id = let f = m.0 in cc in e)),
     )) (deletes store_schema 1 databases databases_static cut_text (Int id ∷ []) wheres cut_is cut_plain refl old new count store ran)
 
-cut_whole : IsWhole cut_text 1 (understood store_schema cut_text)
-unfolding understood everything
-cut_whole = (omega arith, refl)
-
-cut_fit : (id : ℤ) → IsFit (alone (reading 2 (equals 0 0 ∷ []) (shows (0 ∷ [])) [] no_limit)) (Int id ∷ [])
-cut_fit id trees mistyped = absurd (let t : true ≡ false = mistyped in cc)
-
-pub cut_refused : (id : ℤ) → IsReasonedWrite cut_text (Int id ∷ [])
-cut_refused id = why_delete_refused cut_text (Int id ∷ []) 1 databases databases_static (equals 0 0 ∷ []) cut_is cut_plain cut_whole (cut_fit id)
-
 -- ---- SELECT by name
 
 abbrev pub named_text : List ℕ
-named_text = codes "SELECT id, last FROM databases WHERE name = ?1"
+named_text = BY_NAME.now
 
 abbrev named_wheres : List Condition
 named_wheres = equals 2 0 ∷ []
@@ -215,34 +129,15 @@ named_wheres = equals 2 0 ∷ []
 abbrev named_shows : List ℕ
 named_shows = 0 ∷ 3 ∷ []
 
-named_is : command_of (understood store_schema named_text) ≡ Select (alone (reading 2 named_wheres (shows named_shows) [] no_limit)) (codes "id" ∷ codes "last" ∷ [])
+pub named_query : (name : List ℕ) → IsQuery named_text (Text name ∷ []) 2 named_wheres (shows named_shows) [] no_limit (codes "id" ∷ codes "last" ∷ [])
 unfolding understood everything
-named_is = refl
-
-named_plain : IsPlain (understood store_schema named_text) × (reads_listing store_schema named_text ≡ false)
-unfolding understood everything
-named_plain = ((refl, refl), refl)
-
-pub named_silent : IsSilent named_text
-unfolding everything
-named_silent = λ schema base. refl
-
-named_whole : IsWhole named_text 1 (understood store_schema named_text)
-unfolding understood everything
-named_whole = (omega arith, refl)
-
-named_fit : (name : List ℕ) → IsFit (alone (reading 2 named_wheres (shows named_shows) [] no_limit)) (Text name ∷ [])
-unfolding everything
-named_fit name trees mistyped = absurd (let t : true ≡ false = mistyped in cc)
-
-pub named_refused : (name : List ℕ) → IsReasonedQuery named_text (Text name ∷ [])
-named_refused name old new e store told failed = why_refused named_text (Text name ∷ []) 2 named_wheres (shows named_shows) [] no_limit (codes "id" ∷ codes "last" ∷ []) named_is named_plain.0 named_plain.1 named_whole (named_fit name) old new store e told failed
+named_query name = record { is = refl; plain = (refl, refl); unlisted = refl; silent = λ schema base. refl; whole = (omega arith, refl); fit = λ trees mistyped. absurd (let t : true ≡ false = mistyped in cc) }
 
 pub lists_named : (name : List ℕ) (old new : State) (rows : List Row) → IsStore old → Shown named_text (Text name ∷ []) old new rows → IsListOf (IsDatabaseRow old.now.trees name) rows
 lists_named name old new rows store shown =
     let db = old.now.trees 2 in
     let P = IsSelected db named_wheres (Text name ∷ []) named_shows in
-    let got = selects store_schema 1 databases databases_static _ databases_keys named_text (Text name ∷ []) named_wheres named_shows [] no_limit _ named_is named_plain.0 named_plain.1 refl refl refl (λ r s lower. absurd cc) old new rows store shown in
+    let got = selects store_schema 1 databases databases_static _ databases_keys named_text (Text name ∷ []) named_wheres named_shows [] no_limit _ (named_query name).is (named_query name).plain (named_query name).unlisted refl refl refl (λ r s lower. absurd cc) old new rows store shown in
     list_so P (IsDatabaseRow old.now.trees name) rows (λ x. (
       λ h.
           let was = database_row h.0 (codes_there store_schema 1 databases databases_static old h.0 store h.1) in

@@ -1,25 +1,7 @@
 -- What a step of a statement makes of a table's rows.
-use Rattle.std.proofs.Common.{◌≡◌, ◌≢◌, ◌⊎◌, ◌↔◌, inl, inr, ℕ, ℤ, Bool, true, false, not, List, [], ◌∷◌, refl, sym, ap, subst, ◌∙◌, Ordering, Less, Equal, Greater, is_eq}
-use Rattle.std.specs.List.{AllByRecursion}
-use Rattle.std.proofs.lemmas.Bool.{cases_Bool, cases_eq, and_parts, not-true, both_ways}
-use Rattle.std.proofs.lemmas.Cmp.{tied_itself}
-use Rattle.sqlite.specs.Order.{Row, value_cmp}
-use Rattle.sqlite.specs.Tree.{Trees, rowid, has_rowid, put_row, without_rowid}
-use Rattle.sqlite.specs.View.{is_int}
-use Rattle.sqlite.specs.Table.{Table}
-use Rattle.sqlite.specs.Schema.{Schema}
-use Rattle.sqlite.specs.Edit.{Edit, Applies, id_in, without_all, put_all, left_by, have_rowids}
-use Rattle.sqlite_value.proofs.OrderLemmas.{value_cmp_total}
+use Rattle.zeb_register.proofs.Cited.{Edit, Applies, without_all, put_all, left_by, have_rowids, Row, value_cmp, Schema, Trees, rowid, has_rowid, put_row, without_rowid, is_int, all_has, has_filtered, has_kept, tied_same, has_mapped, mapped_has, int_is, put_all_has, put_all_keeps, put_all_adds, ids_of, Has, Keys, IsShaped-filter, IsShaped-put_row, value_cmp_total, ◌≡◌, ◌≢◌, ◌⊎◌, ◌↔◌, inl, inr, ℕ, ℤ, Bool, true, false, not, List, [], ◌∷◌, refl, sym, ap, subst, ◌∙◌, Ordering, Less, Equal, Greater, is_eq, cases_Bool, cases_eq, and_parts, not-true, both_ways, tied_itself, AllByRecursion, Table, IsKeyed}
+use Rattle.sqlite.specs.Edit.{id_in}
 use Rattle.sqlite_trees.specs.declared.store.Shape.TheVariants as shape
-use Rattle.sqlite_trees.proofs.TreeLemmas.{IsShaped-filter, IsShaped-put_row}
-use Rattle.sqlite_schema.specs.declared.schema.Keys.{Keys}
-use Rattle.sqlite_rules.specs.Lists.{Has}
-use Rattle.sqlite_rules.specs.Calls.{ids_of}
-use Rattle.sqlite_rules.proofs.ListLemmas.{all_has, has_filtered, has_kept}
-use Rattle.sqlite_rules.proofs.ProbeLemmas.{has_mapped, mapped_has}
-use Rattle.sqlite_rules.proofs.PlaceLemmas.{tied_same}
-use Rattle.sqlite_rules.proofs.TableLemmas.{int_is, put_all_has, put_all_keeps, put_all_adds}
-use Rattle.zeb_register.specs.Sql.{IsKeyed}
 
 -- ---- the rows that are left
 

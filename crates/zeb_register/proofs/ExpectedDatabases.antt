@@ -1,22 +1,7 @@
 -- The databases that are there beside the expected ones, by names and last numbers.
-use Rattle.std.proofs.Common.{◌≡◌, ◌↔◌, ◌∙◌, ℕ, ℤ, pos, List, map, Some, string_bytes, refl, sym, ap, ap₂, subst, Ordering, nat_cmp}
-use Rattle.std.specs.Prelude.{IsUtf8}
-use Rattle.std.proofs.lemmas.Str.{IsUtf8-string_bytes}
-use Rattle.std.specs.Cmp.{IsTotalOrder, on_total}
-use Rattle.std.specs.Cmp.Lexicographic.{slice_cmp, nat_list_cmp_total}
+use Rattle.zeb_register.proofs.Cited.{State, Trees, has_got, has_mapped, mapped_has, Has, ◌≡◌, ◌↔◌, ◌∙◌, ℕ, ℤ, pos, List, map, Some, string_bytes, refl, sym, ap, ap₂, subst, Ordering, nat_cmp, IsUtf8, IsUtf8-string_bytes, IsTotalOrder, on_total, slice_cmp, nat_list_cmp_total, ListedDatabase, ExpectedDatabase, AreDatabases, AreReadableDatabases, listed_order, name_order, AsExpected, BelongsThere, BelongsTo, EachAsExpected, EachThere, HasNames, HoldsExpected, HoldsThere, IsPair, IsThere, expected_name, listed_name, tree_of, HasDatabase, IsStore}
 use Rattle.std.specs.List.Sorted.{IsStrictlySortedBy}
-use Rattle.sqlite.specs.State.{State}
-use Rattle.sqlite.specs.Tree.{Trees}
-use Rattle.sqlite_rules.specs.Lists.{Has}
-use Rattle.sqlite_rules.proofs.ListLemmas.{has_got}
-use Rattle.sqlite_rules.proofs.ProbeLemmas.{has_mapped, mapped_has}
-use Rattle.zeb_register.specs.declared.catalog.ListedDatabase.{ListedDatabase}
-use Rattle.zeb_register.specs.declared.expected.ExpectedDatabase.{ExpectedDatabase}
-use Rattle.zeb_register.specs.Catalog.{AreDatabases, AreReadableDatabases, listed_order}
-use Rattle.zeb_register.specs.Expected.{name_order}
-use Rattle.zeb_register.specs.PrivateRowExpected.{AsExpected, BelongsThere, BelongsTo, EachAsExpected, EachThere, HasNames, HoldsExpected, HoldsThere, IsPair, IsThere, expected_name, listed_name, tree_of}
 use Rattle.zeb_register.specs.declared.agreeing.Table.{Table}
-use Rattle.zeb_register.specs.Store.{HasDatabase, IsStore}
 use Rattle.zeb_register.proofs.ListsInStep.{got_alike, got_had}
 use Rattle.zeb_register.proofs.DatabaseStatements.{one_name}
 use Rattle.zeb_register.proofs.RisingLists.{same_list}

@@ -1,24 +1,6 @@
 -- Rows of whole tables beside what is expected of them.
-use Rattle.std.proofs.Common.{◌≡◌, ◌∙◌, ℕ, ℤ, pos, List, [], ◌∷◌, map, drop, codes, string_bytes, refl, sym, ap, ap₂, subst, inl, inr, Ordering, Less, Equal, Greater, nat_cmp}
-use Rattle.std.specs.Cmp.Lexicographic.{slice_cmp}
+use Rattle.zeb_register.proofs.Cited.{Row, column, row_cmp, State, Trees, Int, Text, Blob, Has, row_cmp_total, value_cmp-Int, value_cmp-Text, ◌≡◌, ◌∙◌, ℕ, ℤ, pos, List, [], ◌∷◌, map, drop, codes, string_bytes, refl, sym, ap, ap₂, subst, inl, inr, Ordering, Less, Equal, Greater, nat_cmp, slice_cmp, ordering_then, register_code, Expected, KeyPosting, Record, IsTextOf, key_posting_order, number_order, record_shown, KeepsExpectedTexts, HoldsUnder, posting_shown, text_rows, HasRow, IsListOf, IsRest, IsStore, entry, meta_tree, store_schema, meta_table}
 use Rattle.std.specs.List.Sorted.{IsStrictlySortedBy}
-use Rattle.std.specs.Ordering.{ordering_then}
-use Rattle.sqlite.specs.declared.types.Value.TheVariants.{Int, Text, Blob}
-use Rattle.sqlite.specs.Order.{Row, column, row_cmp}
-use Rattle.sqlite.specs.State.{State}
-use Rattle.sqlite.specs.Tree.{Trees}
-use Rattle.sqlite_rules.specs.Lists.{Has}
-use Rattle.sqlite_value.proofs.OrderLemmas.{row_cmp_total, value_cmp-Int, value_cmp-Text}
-use Rattle.zeb_keys.specs.Registers.{register_code}
-use Rattle.zeb_register.specs.declared.expected.Expected.{Expected}
-use Rattle.zeb_register.specs.declared.expected.KeyPosting.{KeyPosting}
-use Rattle.zeb_register.specs.declared.kept.Record.{Record}
-use Rattle.zeb_register.specs.Expected.{IsTextOf, key_posting_order, number_order}
-use Rattle.zeb_register.specs.Kept.{record_shown}
-use Rattle.zeb_register.specs.PrivateRowExpected.{KeepsExpectedTexts, HoldsUnder, posting_shown, text_rows}
-use Rattle.zeb_register.specs.Sql.{HasRow, IsListOf}
-use Rattle.zeb_register.specs.Store.{IsRest, IsStore, entry, meta_tree}
-use Rattle.zeb_register.specs.Tables.{store_schema, meta_table}
 use Rattle.zeb_register.proofs.ContentLemmas.{ints_order, lower_then}
 use Rattle.zeb_register.proofs.RisingLists.{same_list}
 use Rattle.zeb_register.proofs.RowLemmas.{code_at, spread, text_of}

@@ -1,31 +1,13 @@
 -- The statements that list whole tables, or all rows of a database, each with what it is compiled to.
-use Rattle.std.proofs.Common.{◌≡◌, ◌∙◌, ℕ, ℤ, false, List, [], ◌∷◌, map, codes, refl, sym, ap₂, subst, true, arith, Ordering, Less, Equal, Greater}
-use Rattle.std.specs.Ordering.{ordering_then}
-use Rattle.sqlite.specs.declared.error.Error.{Error}
-use Rattle.sqlite.specs.declared.types.Value.TheVariants.{Int}
-use Rattle.sqlite.specs.Command.TheVariants.{Select}
-use Rattle.sqlite.specs.Listing.{understood, reads_listing}
-use Rattle.sqlite.specs.Order.{Row, column, value_cmp}
-use Rattle.sqlite.specs.State.{FailsToQuery, State, Shown}
-use Rattle.sqlite.specs.Table.{Table}
-use Rattle.sqlite.proofs.Callers.{IsPlain, command_of}
-use Rattle.sqlite_rules.specs.Lists.{Has}
+use Rattle.zeb_register.proofs.Cited.{Row, column, value_cmp, State, Int, Has, ◌≡◌, ◌∙◌, ℕ, ℤ, false, List, [], ◌∷◌, map, codes, refl, ap₂, true, arith, Ordering, Less, Equal, Greater, ordering_then, Table, ALL_TEXTS, Postings, Blocks, Dict, rests_text, HasRow, IsListOf, IsStore, IsRest, blocks_tree, dict_tree, meta_tree, postings_tree, store_schema, meta_table}
+use Rattle.sqlite.specs.Listing.{understood}
+use Rattle.sqlite.specs.State.{Shown}
 use Rattle.sqlite_tied.specs.Compute.{everything}
-use Rattle.zeb_register.specs.declared.agreeing.Table.TheVariants.{Postings, Blocks, Dict}
-use Rattle.zeb_register.specs.declared.faults.RegFault.TheVariants.{Store}
-use Rattle.zeb_register.specs.Calls.{MayRefuse}
-use Rattle.zeb_register.specs.Faults.{fault_of}
-use Rattle.zeb_register.specs.PrivateRowReads.{rests_text}
-use Rattle.zeb_register.specs.Sql.{HasRow, IsListOf}
-use Rattle.zeb_register.specs.Store.{IsStore, IsRest, blocks_tree, dict_tree, meta_tree, postings_tree}
-use Rattle.zeb_register.specs.Tables.{store_schema, meta_table}
-use Rattle.zeb_register.proofs.Calls.{IsSilent}
-use Rattle.zeb_register.proofs.PrefixSelects.{IsAfter, lists_after, first_lower}
+use Rattle.zeb_register.proofs.PrefixSelects.{first_lower, lists_rest}
 use Rattle.zeb_register.proofs.PostingStatements.{blocks, blocks_static, dict, dict_static, postings, postings_keys, postings_static, blocks_keys, dict_keys}
-use Rattle.zeb_register.proofs.Refusals.{IsFit, IsWhole, why_refused}
+use Rattle.zeb_register.proofs.Refusals.{IsQuery}
 use Rattle.zeb_register.proofs.RowLemmas.{int_of}
-use Rattle.zeb_register.proofs.Selects.{list_so}
-use Rattle.zeb_register.proofs.StatementForms.{alone, keyed_from, no_limit, reading, rising, shows}
+use Rattle.zeb_register.proofs.StatementForms.{keyed_from, no_limit, rising, shows}
 use Rattle.zeb_register.proofs.TextStatements.{meta_keys, meta_static}
 use Rattle.zeb_register.proofs.ValueKinds.{IsPlainTable, code, codes_of}
 use Rattle.zeb_register.proofs.Writes.{codes_there}
@@ -33,28 +15,17 @@ use Rattle.zeb_register.proofs.Writes.{codes_there}
 -- ---- all texts
 
 abbrev pub texts_text : List ℕ
-texts_text = codes "SELECT name, value FROM meta ORDER BY name"
+texts_text = ALL_TEXTS.now
 
 abbrev texts_names : List (List ℕ)
 texts_names = codes "name" ∷ codes "value" ∷ []
 
-texts_is : command_of (understood store_schema texts_text) ≡ Select (alone (reading 0 [] (shows (1 ∷ 2 ∷ [])) (1 ∷ []) no_limit)) texts_names
+pub texts_query : IsQuery texts_text [] 0 [] (shows (1 ∷ 2 ∷ [])) (rising (1 ∷ [])) no_limit texts_names
 unfolding understood everything
-texts_is = refl
-
-texts_plain : IsPlain (understood store_schema texts_text) × (reads_listing store_schema texts_text ≡ false)
-unfolding understood everything
-texts_plain = ((refl, refl), refl)
-
-pub texts_silent : IsSilent texts_text
-unfolding everything
-texts_silent = λ schema base. refl
+texts_query = record { is = refl; plain = (refl, refl); unlisted = refl; silent = λ schema base. refl; whole = (omega arith, refl); fit = λ trees mistyped. absurd (let t : true ≡ false = mistyped in cc) }
 
 pub lists_texts : (old new : State) (rows : List Row) → IsStore old → Shown texts_text [] old new rows → IsListOf (HasRow old.now.trees meta_tree) rows
-lists_texts old new rows store shown =
-    let P = IsAfter (old.now.trees 0) [] [] [] in
-    let got = lists_after store_schema 0 meta_table meta_static _ meta_keys texts_text [] [] [] 2 (1 ∷ []) no_limit texts_names texts_is texts_plain.0 texts_plain.1 refl refl refl refl (λ r s lower. first_lower _ _ lower) old new rows store shown in
-    list_so P (HasRow old.now.trees meta_tree) rows (λ x. (λ h. (h.0, h.1), λ h. (h.0, h.1, tt))) (subst (IsListOf P) (sym got.2) got.1)
+lists_texts = lists_rest 0 meta_table meta_static _ meta_keys texts_text [] 2 (1 ∷ []) texts_names texts_query refl refl refl refl (λ r s lower. first_lower _ _ lower)
 
 -- ---- all postings of a database
 
@@ -67,24 +38,12 @@ posting_columns = 2 ∷ 3 ∷ 4 ∷ 5 ∷ 6 ∷ 7 ∷ []
 abbrev pub posting_names : List (List ℕ)
 posting_names = codes "idx" ∷ codes "reg" ∷ codes "term" ∷ codes "sysno" ∷ codes "seq" ∷ codes "pos" ∷ []
 
-pub postings_is : command_of (understood store_schema postings_text) ≡ Select (alone (reading 7 (keyed_from 1 0 1) (shows posting_columns) posting_columns no_limit)) posting_names
+pub postings_query : (db : ℤ) → IsQuery postings_text (Int db ∷ []) 7 (keyed_from 1 0 1) (shows posting_columns) (rising posting_columns) no_limit posting_names
 unfolding understood everything
-postings_is = refl
-
-postings_plain : IsPlain (understood store_schema postings_text) × (reads_listing store_schema postings_text ≡ false)
-unfolding understood everything
-postings_plain = ((refl, refl), refl)
-
-pub postings_silent : IsSilent postings_text
-unfolding everything
-postings_silent = λ schema base. refl
+postings_query db = record { is = refl; plain = (refl, refl); unlisted = refl; silent = λ schema base. refl; whole = (omega arith, refl); fit = λ trees mistyped. absurd (let t : true ≡ false = mistyped in cc) }
 
 pub lists_postings : (db : ℤ) (old new : State) (rows : List Row) → IsStore old → Shown postings_text (Int db ∷ []) old new rows → IsListOf (IsRest postings_tree (Int db ∷ []) old.now.trees) rows
-lists_postings db old new rows store shown =
-    let key = Int db ∷ [] in
-    let P = IsAfter (old.now.trees 7) key [] [] in
-    let got = lists_after store_schema 3 postings postings_static _ postings_keys postings_text key [] [] 6 posting_columns no_limit posting_names postings_is postings_plain.0 postings_plain.1 refl refl refl refl (λ r s lower. lower) old new rows store shown in
-    list_so P (IsRest 7 key old.now.trees) rows (λ x. (λ h. (h.0, h.1), λ h. (h.0, h.1, tt))) (subst (IsListOf P) (sym got.2) got.1)
+lists_postings db = lists_rest 3 postings postings_static _ postings_keys postings_text (Int db ∷ []) 6 posting_columns posting_names (postings_query db) refl refl refl refl (λ r s lower. lower)
 
 -- ---- all blocks of a database, and all its keys
 
@@ -97,17 +56,9 @@ block_columns = 2 ∷ 3 ∷ 4 ∷ 5 ∷ 6 ∷ []
 abbrev pub block_names : List (List ℕ)
 block_names = codes "idx" ∷ codes "reg" ∷ codes "term" ∷ codes "block" ∷ codes "data" ∷ []
 
-pub blocks_is : command_of (understood store_schema blocks_text) ≡ Select (alone (reading 9 (keyed_from 1 0 1) (shows block_columns) (2 ∷ 3 ∷ 4 ∷ 5 ∷ []) no_limit)) block_names
+pub blocks_query : (db : ℤ) → IsQuery blocks_text (Int db ∷ []) 9 (keyed_from 1 0 1) (shows block_columns) (rising (2 ∷ 3 ∷ 4 ∷ 5 ∷ [])) no_limit block_names
 unfolding understood everything
-blocks_is = refl
-
-blocks_plain : IsPlain (understood store_schema blocks_text) × (reads_listing store_schema blocks_text ≡ false)
-unfolding understood everything
-blocks_plain = ((refl, refl), refl)
-
-pub blocks_silent : IsSilent blocks_text
-unfolding everything
-blocks_silent = λ schema base. refl
+blocks_query db = record { is = refl; plain = (refl, refl); unlisted = refl; silent = λ schema base. refl; whole = (omega arith, refl); fit = λ trees mistyped. absurd (let t : true ≡ false = mistyped in cc) }
 
 -- what ends an order may be followed by more
 then_less : (o p q : Ordering) → (p ≡ Less → q ≡ Less) → ordering_then o p ≡ Less → ordering_then o q ≡ Less
@@ -116,12 +67,8 @@ then_less Equal p q so h = so h
 then_less Greater p q so h = absurd (let e : Greater ≡ Less = h in cc)
 
 pub lists_blocks : (db : ℤ) (old new : State) (rows : List Row) → IsStore old → Shown blocks_text (Int db ∷ []) old new rows → IsListOf (IsRest blocks_tree (Int db ∷ []) old.now.trees) rows
-lists_blocks db old new rows store shown =
-    let key = Int db ∷ [] in
-    let P = IsAfter (old.now.trees 9) key [] [] in
-    let got = lists_after store_schema 4 blocks blocks_static _ blocks_keys blocks_text key [] [] 5 (2 ∷ 3 ∷ 4 ∷ 5 ∷ []) no_limit block_names blocks_is blocks_plain.0 blocks_plain.1 refl refl refl refl
-    (λ r s lower. then_less (value_cmp (column r 2) (column s 2)) _ _ (then_less (value_cmp (column r 3) (column s 3)) _ _ (then_less (value_cmp (column r 4) (column s 4)) _ _ (first_lower (value_cmp (column r 5) (column s 5)) _))) lower) old new rows store shown in
-    list_so P (IsRest 9 key old.now.trees) rows (λ x. (λ h. (h.0, h.1), λ h. (h.0, h.1, tt))) (subst (IsListOf P) (sym got.2) got.1)
+lists_blocks db = lists_rest 4 blocks blocks_static _ blocks_keys blocks_text (Int db ∷ []) 5 (2 ∷ 3 ∷ 4 ∷ 5 ∷ []) block_names (blocks_query db) refl refl refl refl
+    (λ r s lower. then_less (value_cmp (column r 2) (column s 2)) _ _ (then_less (value_cmp (column r 3) (column s 3)) _ _ (then_less (value_cmp (column r 4) (column s 4)) _ _ (first_lower (value_cmp (column r 5) (column s 5)) _))) lower)
 
 abbrev pub keys_text : List ℕ
 keys_text = rests_text Dict
@@ -132,25 +79,13 @@ key_columns = 2 ∷ 3 ∷ 4 ∷ 5 ∷ []
 abbrev pub key_names : List (List ℕ)
 key_names = codes "idx" ∷ codes "reg" ∷ codes "term" ∷ codes "records" ∷ []
 
-pub keys_is : command_of (understood store_schema keys_text) ≡ Select (alone (reading 11 (keyed_from 1 0 1) (shows key_columns) (2 ∷ 3 ∷ 4 ∷ []) no_limit)) key_names
+pub keys_query : (db : ℤ) → IsQuery keys_text (Int db ∷ []) 11 (keyed_from 1 0 1) (shows key_columns) (rising (2 ∷ 3 ∷ 4 ∷ [])) no_limit key_names
 unfolding understood everything
-keys_is = refl
-
-keys_plain : IsPlain (understood store_schema keys_text) × (reads_listing store_schema keys_text ≡ false)
-unfolding understood everything
-keys_plain = ((refl, refl), refl)
-
-pub keys_silent : IsSilent keys_text
-unfolding everything
-keys_silent = λ schema base. refl
+keys_query db = record { is = refl; plain = (refl, refl); unlisted = refl; silent = λ schema base. refl; whole = (omega arith, refl); fit = λ trees mistyped. absurd (let t : true ≡ false = mistyped in cc) }
 
 pub lists_keys : (db : ℤ) (old new : State) (rows : List Row) → IsStore old → Shown keys_text (Int db ∷ []) old new rows → IsListOf (IsRest dict_tree (Int db ∷ []) old.now.trees) rows
-lists_keys db old new rows store shown =
-    let key = Int db ∷ [] in
-    let P = IsAfter (old.now.trees 11) key [] [] in
-    let got = lists_after store_schema 5 dict dict_static _ dict_keys keys_text key [] [] 4 (2 ∷ 3 ∷ 4 ∷ []) no_limit key_names keys_is keys_plain.0 keys_plain.1 refl refl refl refl
-    (λ r s lower. then_less (value_cmp (column r 2) (column s 2)) _ _ (then_less (value_cmp (column r 3) (column s 3)) _ _ (first_lower (value_cmp (column r 4) (column s 4)) _)) lower) old new rows store shown in
-    list_so P (IsRest 11 key old.now.trees) rows (λ x. (λ h. (h.0, h.1), λ h. (h.0, h.1, tt))) (subst (IsListOf P) (sym got.2) got.1)
+lists_keys db = lists_rest 5 dict dict_static _ dict_keys keys_text (Int db ∷ []) 4 (2 ∷ 3 ∷ 4 ∷ []) key_names (keys_query db) refl refl refl refl
+    (λ r s lower. then_less (value_cmp (column r 2) (column s 2)) _ _ (then_less (value_cmp (column r 3) (column s 3)) _ _ (first_lower (value_cmp (column r 4) (column s 4)) _)) lower)
 
 -- ---- whose each row is
 
@@ -169,50 +104,3 @@ module _ (at : ℕ) (table : Table) (static : IsPlainTable store_schema at table
   owner_row s r store here = two_first r more (codes_there store_schema at table static s r store here ∙ codes_are)
 
 -- ---- why they are refused
-
-texts_whole : IsWhole texts_text 0 (understood store_schema texts_text)
-unfolding understood everything
-texts_whole = (omega arith, refl)
-
-texts_fit : IsFit (alone (reading 0 [] (shows (1 ∷ 2 ∷ [])) (1 ∷ []) no_limit)) []
-unfolding everything
-texts_fit trees mistyped = absurd (let e : true ≡ false = mistyped in cc)
-
-pub texts_refused : (old new : State) (e : Error) → IsStore old → fault_of e ≡ Store → FailsToQuery texts_text [] old new e → MayRefuse old new
-texts_refused old new e store told failed = why_refused texts_text [] 0 [] (shows (1 ∷ 2 ∷ [])) (rising (1 ∷ [])) no_limit texts_names texts_is texts_plain.0 texts_plain.1 texts_whole texts_fit old new store e told failed
-
-postings_whole : IsWhole postings_text 1 (understood store_schema postings_text)
-unfolding understood everything
-postings_whole = (omega arith, refl)
-
-postings_fit : (db : ℤ) → IsFit (alone (reading 7 (keyed_from 1 0 1) (shows posting_columns) posting_columns no_limit)) (Int db ∷ [])
-unfolding everything
-postings_fit db trees mistyped = absurd (let e : true ≡ false = mistyped in cc)
-
-pub postings_refused : (db : ℤ) (old new : State) (e : Error) → IsStore old → fault_of e ≡ Store → FailsToQuery postings_text (Int db ∷ []) old new e → MayRefuse old new
-postings_refused db old new e store told failed =
-    why_refused postings_text (Int db ∷ []) 7 (keyed_from 1 0 1) (shows posting_columns) (rising posting_columns) no_limit posting_names postings_is postings_plain.0 postings_plain.1 postings_whole (postings_fit db) old new store e told failed
-
-blocks_whole : IsWhole blocks_text 1 (understood store_schema blocks_text)
-unfolding understood everything
-blocks_whole = (omega arith, refl)
-
-blocks_fit : (db : ℤ) → IsFit (alone (reading 9 (keyed_from 1 0 1) (shows block_columns) (2 ∷ 3 ∷ 4 ∷ 5 ∷ []) no_limit)) (Int db ∷ [])
-unfolding everything
-blocks_fit db trees mistyped = absurd (let e : true ≡ false = mistyped in cc)
-
-pub blocks_refused : (db : ℤ) (old new : State) (e : Error) → IsStore old → fault_of e ≡ Store → FailsToQuery blocks_text (Int db ∷ []) old new e → MayRefuse old new
-blocks_refused db old new e store told failed =
-    why_refused blocks_text (Int db ∷ []) 9 (keyed_from 1 0 1) (shows block_columns) (rising (2 ∷ 3 ∷ 4 ∷ 5 ∷ [])) no_limit block_names blocks_is blocks_plain.0 blocks_plain.1 blocks_whole (blocks_fit db) old new store e told failed
-
-keys_whole : IsWhole keys_text 1 (understood store_schema keys_text)
-unfolding understood everything
-keys_whole = (omega arith, refl)
-
-keys_fit : (db : ℤ) → IsFit (alone (reading 11 (keyed_from 1 0 1) (shows key_columns) (2 ∷ 3 ∷ 4 ∷ []) no_limit)) (Int db ∷ [])
-unfolding everything
-keys_fit db trees mistyped = absurd (let e : true ≡ false = mistyped in cc)
-
-pub keys_refused : (db : ℤ) (old new : State) (e : Error) → IsStore old → fault_of e ≡ Store → FailsToQuery keys_text (Int db ∷ []) old new e → MayRefuse old new
-keys_refused db old new e store told failed =
-    why_refused keys_text (Int db ∷ []) 11 (keyed_from 1 0 1) (shows key_columns) (rising (2 ∷ 3 ∷ 4 ∷ [])) no_limit key_names keys_is keys_plain.0 keys_plain.1 keys_whole (keys_fit db) old new store e told failed

@@ -1,15 +1,6 @@
 -- SELECT .. ORDER BY .. LIMIT 1: no row where none passes, else one that no other comes before.
-use Rattle.std.proofs.Common.{◌≡◌, ◌⊎◌, List, [], ◌∷◌, map, take, Ordering, true, false, inl, inr, refl, sym, ap, subst, ◌∙◌, arith}
-use Rattle.std.specs.Prelude.{IsSorted}
-use Rattle.std.specs.Ordering.{is_lt}
-use Rattle.std.proofs.lemmas.List.Sorted.{sorted_far, ranks_by}
-use Rattle.sqlite.specs.Order.{Row}
-use Rattle.sqlite.specs.Query.{Output, output_cmp}
-use Rattle.sqlite.specs.Term.{Term, eval_all}
-use Rattle.sqlite_sql.proofs.QueryLemmas.{output_cmp_total}
+use Rattle.zeb_register.proofs.Cited.{Row, Output, output_cmp, Term, eval_all, contains_had, Has, output_cmp_total, ◌≡◌, ◌⊎◌, List, [], ◌∷◌, map, take, Ordering, true, false, inl, inr, refl, sym, ap, subst, ◌∙◌, arith, sorted_far, ranks_by, is_lt, IsSorted}
 use Rattle.sqlite_value.specs.declared.keys.Key.{Key}
-use Rattle.sqlite_rules.specs.Lists.{Has}
-use Rattle.sqlite_rules.proofs.ListLemmas.{contains_had}
 use Rattle.zeb_register.proofs.StatementForms.{Condition, passes, reading_by, shown_of, one_row, IsReading}
 use Rattle.zeb_register.proofs.Scans.{origin, in_order}
 

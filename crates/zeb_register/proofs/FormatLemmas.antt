@@ -1,19 +1,6 @@
 -- What holds of registers in every format.
-use Rattle.std.proofs.Common.{◌≡◌, ◌∙◌, ℕ, ℤ, List, [], ◌∷◌, sym, ap, subst, refl, get_or, arith}
+use Rattle.zeb_register.proofs.Cited.{State, Trees, Int, Has, ◌≡◌, ◌∙◌, ℕ, ℤ, List, [], ◌∷◌, sym, ap, subst, refl, get_or, arith, Register, TermCount, Content, HasRisingLists, IsWithout, posted, Format, plain_rows, packed_blocks, version_of, holds_in, AreTermsOf, HoldsRows, DropsRegisters, Loses, Changes, IsRecordIn, KeepsRegisters, LacksRegisters, TakesDatabase, databases_tree, records_tree}
 use Rattle.std.specs.List.Sorted.{IsStrictlySortedBy}
-use Rattle.sqlite.specs.declared.types.Value.TheVariants.{Int}
-use Rattle.sqlite.specs.Tree.{Trees}
-use Rattle.sqlite_rules.specs.Lists.{Has}
-use Rattle.sqlite.specs.State.{State}
-use Rattle.zeb_keys.specs.declared.Register.{Register}
-use Rattle.zeb_register.specs.declared.registers.TermCount.{TermCount}
-use Rattle.zeb_register.specs.Content.{Content, HasRisingLists, IsWithout, posted}
-use Rattle.zeb_register.specs.Formats.{Format, plain_rows, packed_blocks, version_of, holds_in}
-use Rattle.zeb_register.specs.Occurring.{AreTermsOf}
-use Rattle.zeb_register.specs.PlainRows.{HoldsRows}
-use Rattle.zeb_register.specs.PrivateRowPlaces.{DropsRegisters}
-use Rattle.zeb_register.specs.Sql.{Loses}
-use Rattle.zeb_register.specs.Store.{Changes, IsRecordIn, KeepsRegisters, LacksRegisters, TakesDatabase, databases_tree, records_tree}
 use Rattle.zeb_register.proofs.ContentLemmas.{one_content}
 use Rattle.zeb_register.proofs.PackedLemmas.{blocks_empty, blocks_have_terms, blocks_hold_one, blocks_stay, blocks_without}
 use Rattle.zeb_register.proofs.PlaceLemmas.{rows_without}

@@ -1,30 +1,6 @@
 -- The rows of `dict` of a database beside the postings that are expected of it: each row beside the run of its key.
-use Rattle.std.proofs.Common.{◌≡◌, ◌≢◌, ◌↔◌, ◌⊎◌, ◌∙◌, ◌<◌, ◌≤◌, ◌+◌, ℕ, pos, List, [], ◌∷◌, ◌++◌, map, take, drop, length, get_or, refl, sym, ap, ap₂, subst, inl, inr, Ordering, Less, Equal, Greater, nat_cmp, arith}
-use Rattle.std.specs.Cmp.Lexicographic.{slice_cmp}
-use Rattle.std.specs.List.{AllByRecursion}
+use Rattle.zeb_register.proofs.Cited.{Row, column, row_cmp, Int, Text, all_has, has_either, has_left, has_right, has_mapped, mapped_has, Has, row_cmp_total, value_cmp-Int, value_cmp-Text, ◌≡◌, ◌≢◌, ◌↔◌, ◌⊎◌, ◌∙◌, ◌<◌, ◌≤◌, ◌+◌, ℕ, pos, List, [], ◌∷◌, ◌++◌, map, take, drop, length, get_or, refl, sym, ap, ap₂, subst, inl, inr, Ordering, Less, Equal, Greater, nat_cmp, arith, nat_tests, tied_itself, slice_cmp, AllByRecursion, ordering_then, Posting, Key, register_code, key_order, key_total, keys_apart, numbers_apart, KeyPosting, posting_cmp, key_posting_order, IsCount, IsDictRest, TakeAll, key_shown, list_under, with_key, BeginsOther, IsFrontOf, IsRunBefore, IsRunFrom, dict_rest, first_three, IsInRecord}
 use Rattle.std.specs.List.Sorted.{IsStrictlySortedBy}
-use Rattle.std.specs.Ordering.{ordering_then}
-use Rattle.std.proofs.lemmas.Bool.Decides.{nat_tests}
-use Rattle.std.proofs.lemmas.Cmp.{tied_itself}
-use Rattle.sqlite.specs.declared.types.Value.TheVariants.{Int, Text}
-use Rattle.sqlite.specs.Order.{Row, column, row_cmp}
-use Rattle.sqlite_rules.specs.Lists.{Has}
-use Rattle.sqlite_rules.proofs.ListLemmas.{all_has, has_either, has_left, has_right}
-use Rattle.sqlite_rules.proofs.ProbeLemmas.{has_mapped, mapped_has}
-use Rattle.sqlite_value.proofs.OrderLemmas.{row_cmp_total, value_cmp-Int, value_cmp-Text}
-use Rattle.zeb_blocks.specs.declared.postings.Posting.{Posting}
-use Rattle.zeb_keys.specs.declared.keys.Key.{Key}
-use Rattle.zeb_keys.specs.Registers.{register_code}
-use Rattle.zeb_keys.specs.Order.{key_order}
-use Rattle.zeb_keys.proofs.Rising.{key_total, keys_apart, numbers_apart}
-use Rattle.zeb_register.specs.declared.expected.KeyPosting.{KeyPosting}
-use Rattle.zeb_register.specs.Content.{posting_cmp}
-use Rattle.zeb_register.specs.Expected.{key_posting_order}
-use Rattle.zeb_register.specs.Occurring.{IsCount}
-use Rattle.zeb_register.specs.PrivateRowExpected.{IsDictRest, TakeAll, key_shown, list_under, with_key}
-use Rattle.zeb_register.specs.PrivateRowKeys.{BeginsOther, IsFrontOf, IsRunBefore, IsRunFrom, dict_rest}
-use Rattle.zeb_register.specs.PrivateRowPlaces.{first_three}
-use Rattle.zeb_register.specs.PrivateRowTerms.{IsInRecord}
 use Rattle.zeb_register.proofs.ContentLemmas.{ints_order, same_key}
 use Rattle.zeb_register.proofs.CountLemmas.{IsNewest, above_newest, count_more, count_none, count_so, has_end, less_is, is_less, newest_is, newest_stays, one_count}
 use Rattle.zeb_register.proofs.AgreeingTables.{key_posting_total, under_has, under_rises}

@@ -15,7 +15,6 @@ pub mod CallsInTurn
 pub mod Calls
 pub mod Causes
 pub mod CreateKeepsTables
-pub mod CreateRefusals
 pub mod TextStatements
 pub mod DatabaseStatements
 pub mod DatabaseLists
@@ -25,7 +24,7 @@ pub mod RowsAreLists
 pub mod PostingStatements
 pub mod TermStatements
 pub mod BetweenStatements
-pub mod WipeStatements
+pub mod WholeStatements
 pub mod LookUps
 pub mod FormatLemmas
 pub mod RisingLists
@@ -41,23 +40,9 @@ pub mod PackedLists
 pub mod ListChanges
 pub mod BetweenLemmas
 pub mod PlaceLemmas
-pub mod RowCounts
-pub mod PlaceRefusals
 pub mod RecordLemmas
 pub mod RecordReadings
 pub mod Refusals
-pub mod StatementRefusals
-pub mod WriteRefusals
-pub mod RowSizes
-pub mod UniqueKeyClashes
-pub mod NewRows
-pub mod TakenRowids
-pub mod Room
-pub mod WriteRowids
-pub mod InsertRefusals
-pub mod UpdateRefusals
-pub mod ReplaceRefusals
-pub mod DatabaseRefusals
 pub mod ListsInStep
 pub mod YesNoAnswers
 pub mod ExpectedStatements
@@ -72,3 +57,4 @@ pub mod RowReads
 pub mod OwnerStatements
 pub mod OwnersListed
 pub mod Malformed
+pub mod Cited

@@ -1,20 +1,6 @@
 -- Changes of one key's list in turn: there is one outcome, and a change of a record stays in its block.
-use Rattle.std.proofs.Common.{◌≡◌, ◌≢◌, ◌⊎◌, ◌∙◌, ◌+◌, ◌-◌, ◌/◌, ◌<◌, ◌≤◌, ◌==◌, ℕ, ℤ, zero, suc, arith, length-drop, List, [], ◌∷◌, ◌++◌, drop, get_or, length, take, refl, sym, ap, ap₂, subst, inl, inr}
-use Rattle.std.proofs.Math.Seq.{drop-cons, split_at, take-add}
-use Rattle.std.proofs.lemmas.List.{length-take, length-take-le, take-append-drop, take_more, take_rest}
-use Rattle.std.specs.Cmp.{nat_cmp_total}
-use Rattle.std.specs.List.{AllByRecursion}
+use Rattle.zeb_register.proofs.Cited.{Has, ◌≡◌, ◌≢◌, ◌⊎◌, ◌∙◌, ◌+◌, ◌-◌, ◌/◌, ◌<◌, ◌≤◌, ◌==◌, ℕ, ℤ, zero, suc, arith, length-drop, List, [], ◌∷◌, ◌++◌, drop, get_or, length, take, refl, sym, ap, ap₂, subst, inl, inr, drop-cons, split_at, take-add, length-take, length-take-le, take-append-drop, take_more, take_rest, nat_cmp_total, AllByRecursion, Posting, LiesIn, Key, numbers_apart, Place, RecordChange, AreChangedAt, AreListChanges, ArePlacesOf, Content, IsChangedAt, IsListChanged, HasRisingLists, posting_cmp, posting_at, part_in, IsInBlock}
 use Rattle.std.specs.List.Sorted.{IsStrictlySortedBy}
-use Rattle.sqlite_rules.specs.Lists.{Has}
-use Rattle.zeb_blocks.specs.declared.postings.Posting.{Posting}
-use Rattle.zeb_blocks.specs.Blocks.{LiesIn}
-use Rattle.zeb_keys.specs.declared.keys.Key.{Key}
-use Rattle.zeb_keys.proofs.Rising.{numbers_apart}
-use Rattle.zeb_register.specs.declared.registers.Place.{Place}
-use Rattle.zeb_register.specs.declared.registers.RecordChange.{RecordChange}
-use Rattle.zeb_register.specs.Content.{AreChangedAt, AreListChanges, ArePlacesOf, Content, IsChangedAt, IsListChanged, HasRisingLists, posting_cmp, posting_at}
-use Rattle.zeb_register.specs.PackedBlocks.{part_in}
-use Rattle.zeb_register.specs.PrivatePackedRows.{IsInBlock}
 use Rattle.zeb_register.proofs.ContentChanges.{at_sysno, at_sysno_others, at_sysno_part, at_sysno_rises, changed_at, change_is, posting_total, told_spot, with_list, with_list_here, with_list_there}
 use Rattle.zeb_register.proofs.PackedLemmas.{in_part, part_in_block, part_in_list}
 use Rattle.zeb_register.proofs.RisingLists.{kept_rises, same_list, told_by}

@@ -1,9 +1,5 @@
 -- Two lists, item by item: what is read of one beside what is said of the other.
-use Rattle.std.proofs.Common.{◌≡◌, ◌∙◌, ◌+◌, ◌<◌, ◌≤◌, ◌⊎◌, ℕ, zero, suc, List, [], ◌∷◌, ◌++◌, map, take, length, get_or, slice_get, Some, inl, inr, refl, sym, ap, ap₂, subst, arith}
-use Rattle.sqlite_rules.specs.Lists.{Has}
-use Rattle.sqlite_rules.proofs.ListLemmas.{has_either}
-use Rattle.std.proofs.lemmas.Bool.Decides.{eqb_tells}
-use Rattle.std.proofs.lemmas.List.{take_more, map-append}
+use Rattle.zeb_register.proofs.Cited.{has_either, Has, ◌≡◌, ◌∙◌, ◌+◌, ◌<◌, ◌≤◌, ◌⊎◌, ℕ, zero, suc, List, [], ◌∷◌, ◌++◌, map, take, length, get_or, slice_get, Some, inl, inr, refl, sym, ap, ap₂, subst, arith, eqb_tells, take_more, map-append}
 
 module _ {A B C : Type 0} (f : A → C) (g : B → C) where
   pub alike_more : (xs : List A) (ys : List B) (i : ℕ) (x : A) (y : B) → x ≡ get_or xs i x → y ≡ get_or ys i y → i < length xs → i < length ys → map f (take i xs) ≡ map g (take i ys) → f x ≡ g y
@@ -20,16 +16,6 @@ module _ {A B C : Type 0} (f : A → C) (g : B → C) where
 
   pub alike_at : (xs : List A) (ys : List B) (i : ℕ) (x : A) (y : B) → x ≡ get_or xs i x → y ≡ get_or ys i y → i < length xs → i < length ys → map f xs ≡ map g ys → f x ≡ g y
   alike_at xs ys i x y here there left right same = ap f here ∙ alike_got xs ys i x y left right same ∙ ap g (sym there)
-
-  pub alike_long : (xs : List A) (ys : List B) → map f xs ≡ map g ys → length xs ≡ length ys
-  alike_long [] [] same = refl
-  alike_long [] (b ∷ ys) same = absurd (cc)
-  alike_long (a ∷ xs) [] same = absurd (cc)
-  alike_long (a ∷ xs) (b ∷ ys) same = ap suc (alike_long xs ys (let e : map f xs ≡ map g ys = cc in e))
-
-pub as_they_are : {A : Type 0} (xs : List A) → map (λ x. x) xs ≡ xs
-as_they_are [] = refl
-as_they_are (x ∷ xs) = ap (λ l. x ∷ l) (as_they_are xs)
 
 pub take_all : {X : Type 0} (n : ℕ) (xs : List X) → length xs ≤ n → take n xs ≡ xs
 take_all zero [] few = refl

@@ -1,15 +1,5 @@
 -- What the first row of an answer says of the tables.
-use Rattle.std.proofs.Common.{◌≡◌, ◌<◌, ◌∙◌, ℕ, ℤ, pos, List, [], ◌∷◌, length, slice_get, Some, None, refl, sym, ap, subst, arith, IsUtf8}
-use Rattle.sqlite.specs.declared.types.Value.TheVariants.{Int, Text, Blob}
-use Rattle.sqlite.specs.Order.{Row, column}
-use Rattle.sqlite.specs.Tree.{Trees}
-use Rattle.sqlite_rules.specs.Lists.{Has}
-use Rattle.sqlite_rules.proofs.ListLemmas.{has_got}
-use Rattle.zeb_register.specs.Sql.{IsListOf}
-use Rattle.zeb_register.specs.Store.{AreReadableTexts, HasDatabase, HasRecord}
-use Rattle.zeb_register.specs.PrivateRowStatements.{IsValueRow, IsDatabaseRow, IsElderRow, IsIdentRow}
-use Rattle.zeb_register.specs.Catalog.{AreCountedDatabases}
-use Rattle.zeb_register.specs.Kept.{AreNumbered, AreReadableIdents}
+use Rattle.zeb_register.proofs.Cited.{Row, column, Trees, Int, Text, Blob, has_got, Has, ◌≡◌, ◌<◌, ◌∙◌, ℕ, ℤ, pos, List, [], ◌∷◌, length, slice_get, Some, None, refl, sym, ap, subst, arith, IsUtf8, IsListOf, AreReadableTexts, HasDatabase, HasRecord, IsValueRow, IsDatabaseRow, IsElderRow, IsIdentRow, AreCountedDatabases, AreNumbered, AreReadableIdents}
 
 pub first_is : (P : Row → Type 0) (rows : List Row) (row : Row) → IsListOf P rows → slice_get rows 0 ≡ Some row → P row
 first_is P rows row list first = (list.each row).0 (has_got rows 0 row first)

@@ -1,19 +1,5 @@
 -- Rows of the registers that are there still: malformed ones, those beside the rows of one key, and those that spell postings.
-use Rattle.std.proofs.Common.{◌≡◌, ◌≢◌, ◌∷◌, ◌++◌, [], ℕ, ℤ, pos, List, ap, sym, subst, inl, inr}
-use Rattle.sqlite.specs.declared.types.Value.TheVariants.{Int, Null, Text}
-use Rattle.sqlite.specs.Effect.{Database}
-use Rattle.sqlite.specs.Order.{Row, column}
-use Rattle.sqlite.specs.Tree.{Trees}
-use Rattle.sqlite_rules.specs.Lists.{Has}
-use Rattle.zeb_blocks.specs.declared.postings.Posting.{Posting}
-use Rattle.zeb_keys.specs.declared.keys.Key.{Key}
-use Rattle.zeb_keys.specs.Registers.{register_code}
-use Rattle.zeb_register.specs.Hindrances.{IsSpelledAt, KeepsPlaces, KeepsSpelled, Placed, SpellsMore}
-use Rattle.zeb_register.specs.PackedBlocks.{block_row}
-use Rattle.zeb_register.specs.PlainRows.{key_row}
-use Rattle.zeb_register.specs.Sound.{KeepsBeside, KeepsMalformed, KeepsRowsBeside}
-use Rattle.zeb_register.specs.Sql.{HasRow}
-use Rattle.zeb_register.specs.Store.{KeepsRegisters, blocks_tree, dict_tree, postings_tree}
+use Rattle.zeb_register.proofs.Cited.{Database, Row, column, Trees, Int, Null, Text, Has, ◌≡◌, ◌≢◌, ◌∷◌, ◌++◌, [], ℕ, ℤ, pos, List, ap, sym, subst, inl, inr, Posting, Key, register_code, IsSpelledAt, KeepsPlaces, KeepsSpelled, Placed, SpellsMore, block_row, key_row, KeepsBeside, KeepsMalformed, KeepsRowsBeside, HasRow, KeepsRegisters, blocks_tree, dict_tree, postings_tree}
 
 pub row_same : (tree : ℕ) (old new : Trees) → new tree ≡ old tree → (row : Row) → HasRow old tree row → HasRow new tree row
 row_same tree old new same row there = (there.0, subst (λ (rows : List Row). Has rows (Int there.0 ∷ row)) (sym same) there.1)

@@ -1,16 +1,5 @@
 -- What a register has of a set of occurrences is one thing, and is told by its occurrences.
-use Rattle.std.proofs.Common.{◌≡◌, ◌↔◌, ◌∙◌, ℕ, ℤ, List, refl, sym, ap, subst}
-use Rattle.std.specs.Cmp.{IsTotalOrder, then_total, on_total}
-use Rattle.std.specs.Cmp.Lexicographic.{nat_list_cmp_total}
-use Rattle.sqlite_rules.specs.Lists.{Has}
-use Rattle.zeb_keys.specs.declared.keys.Key.{Key}
-use Rattle.zeb_keys.specs.declared.keys.Occurrence.{Occurrence}
-use Rattle.zeb_keys.specs.declared.Register.{Register}
-use Rattle.zeb_register.specs.declared.registers.TermCount.{TermCount}
-use Rattle.zeb_register.specs.declared.registers.Totals.{Totals}
-use Rattle.zeb_register.specs.Content.{Content, posted}
-use Rattle.zeb_register.specs.Occurring.{HasKey, Spot, spot_cmp, capped, TermIn, AreTermsOf, AreSpotsOf, AreTotals}
-use Rattle.zeb_register.specs.PrivateRowTerms.{IsInRecord}
+use Rattle.zeb_register.proofs.Cited.{Has, ◌≡◌, ◌↔◌, ◌∙◌, ℕ, ℤ, List, refl, sym, ap, subst, IsTotalOrder, then_total, on_total, nat_list_cmp_total, Key, Occurrence, Register, TermCount, Totals, Content, posted, HasKey, Spot, spot_cmp, capped, TermIn, AreTermsOf, AreSpotsOf, AreTotals, IsInRecord}
 use Rattle.zeb_register.proofs.ContentChanges.{posting_total}
 use Rattle.zeb_register.proofs.CountLemmas.{counts_so}
 use Rattle.zeb_register.proofs.RisingLists.{same_list}

@@ -1,36 +1,15 @@
 -- The statements that find the ids of databases with which rows of a table begin, one after the other, each with what it is compiled to.
-use Rattle.std.proofs.Common.{◌≡◌, ◌↔◌, ◌∙◌, ◌≤ℤ◌, ◌<ℤ◌, ℕ, ℤ, true, false, List, [], ◌∷◌, codes, refl, sym, ap, subst, inl, inr, Ordering, Less, Equal, Greater, arith}
-use Rattle.std.specs.Ordering.{int_cmp, is_lt, ordering_then}
-use Rattle.std.proofs.lemmas.Cmp.{int_ranked}
-use Rattle.std.proofs.lemmas.Int.{ints}
-use Rattle.std.specs.Cmp.{int_cmp_is}
-use Rattle.sqlite.specs.declared.error.Error.{Error}
-use Rattle.sqlite.specs.declared.types.Value.TheVariants.{Int}
-use Rattle.sqlite.specs.Order.{Row, column, value_cmp}
-use Rattle.sqlite.specs.State.{FailsToQuery, State, Shown}
-use Rattle.sqlite.specs.Term.{Term, col}
-use Rattle.sqlite.specs.Command.TheVariants.{Select}
-use Rattle.sqlite.specs.Listing.{understood, reads_listing}
-use Rattle.sqlite.proofs.Callers.{IsPlain, command_of, reads_as}
+use Rattle.zeb_register.proofs.Cited.{reads_as, Select, Row, column, value_cmp, State, Term, col, Int, Has, value_cmp-Int, then-Equal, ◌≡◌, ◌↔◌, ◌∙◌, ◌≤ℤ◌, ◌<ℤ◌, ℤ, true, false, List, [], ◌∷◌, codes, refl, sym, ap, subst, inl, inr, Ordering, Less, Equal, Greater, arith, int_cmp, int_ranked, ints, int_cmp_is, is_lt, ordering_then, Records, Postings, Blocks, Dict, Owns, tree_of, ShowsFirst, greatest_text, least_text, next_text, IsStore, store_schema}
+use Rattle.sqlite.specs.Listing.{understood}
+use Rattle.sqlite.specs.State.{Shown}
 use Rattle.sqlite_tied.specs.Compute.{everything}
 use Rattle.sqlite_value.specs.declared.keys.Key.{Key}
-use Rattle.sqlite_value.proofs.OrderLemmas.{value_cmp-Int, then-Equal}
-use Rattle.sqlite_rules.specs.Lists.{Has}
 use Rattle.zeb_register.specs.declared.agreeing.Table.{Table}
-use Rattle.zeb_register.specs.declared.agreeing.Table.TheVariants.{Records, Postings, Blocks, Dict}
-use Rattle.zeb_register.specs.declared.faults.RegFault.TheVariants.{Store}
-use Rattle.zeb_register.specs.Calls.{MayRefuse}
-use Rattle.zeb_register.specs.Faults.{fault_of}
-use Rattle.zeb_register.specs.PrivateRowExpected.{Owns, tree_of}
-use Rattle.zeb_register.specs.PrivateRowReads.{ShowsFirst, greatest_text, least_text, next_text}
-use Rattle.zeb_register.specs.Store.{IsStore}
-use Rattle.zeb_register.specs.Tables.{store_schema}
-use Rattle.zeb_register.proofs.Calls.{IsSilent}
 use Rattle.zeb_register.proofs.ExpectedStatements.{owner_row}
 use Rattle.zeb_register.proofs.FirstRows.{first_shown}
 use Rattle.zeb_register.proofs.PostingStatements.{blocks, blocks_static, dict, dict_static, postings, postings_static}
 use Rattle.zeb_register.proofs.RecordStatements.{records, records_static}
-use Rattle.zeb_register.proofs.Refusals.{IsFit, IsWhole, why_refused}
+use Rattle.zeb_register.proofs.Refusals.{IsQuery}
 use Rattle.zeb_register.proofs.Scans.{reads}
 use Rattle.zeb_register.proofs.StatementForms.{Condition, MeetsAll, alone, ascending, at_least, descending, one_row, passes, reading_by, shows}
 use Rattle.zeb_register.proofs.Writes.{meets_there}
@@ -46,112 +25,26 @@ from_start = at_least 1 0 ∷ []
 
 -- ---- what each is compiled to
 
-abbrev IsCompiledTo : (Table → List ℕ) → List Condition → List (Term × Key) → Table → Type 0
-IsCompiledTo text wheres keys t = command_of (understood store_schema (text t)) ≡ Select (alone (reading_by (tree_of t) wheres (shows (1 ∷ [])) keys one_row)) (codes "db" ∷ [])
-
-abbrev IsOrdinary : (Table → List ℕ) → ℕ → Table → Type 0
-IsOrdinary text count t = IsPlain (understood store_schema (text t)) × (reads_listing store_schema (text t) ≡ false) × IsWhole (text t) count (understood store_schema (text t))
-
-least_is : (t : Table) → IsCompiledTo least_text [] upward t
+pub least_query : (t : Table) → IsQuery (least_text t) [] (tree_of t) [] (shows (1 ∷ [])) upward one_row (codes "db" ∷ [])
 unfolding understood everything
-least_is Records = refl
-least_is Postings = refl
-least_is Blocks = refl
-least_is Dict = refl
+least_query Records = record { is = refl; plain = (refl, refl); unlisted = refl; silent = λ schema base. refl; whole = (omega arith, refl); fit = λ trees mistyped. absurd (let e : true ≡ false = mistyped in cc) }
+least_query Postings = record { is = refl; plain = (refl, refl); unlisted = refl; silent = λ schema base. refl; whole = (omega arith, refl); fit = λ trees mistyped. absurd (let e : true ≡ false = mistyped in cc) }
+least_query Blocks = record { is = refl; plain = (refl, refl); unlisted = refl; silent = λ schema base. refl; whole = (omega arith, refl); fit = λ trees mistyped. absurd (let e : true ≡ false = mistyped in cc) }
+least_query Dict = record { is = refl; plain = (refl, refl); unlisted = refl; silent = λ schema base. refl; whole = (omega arith, refl); fit = λ trees mistyped. absurd (let e : true ≡ false = mistyped in cc) }
 
-greatest_is : (t : Table) → IsCompiledTo greatest_text [] downward t
+pub greatest_query : (t : Table) → IsQuery (greatest_text t) [] (tree_of t) [] (shows (1 ∷ [])) downward one_row (codes "db" ∷ [])
 unfolding understood everything
-greatest_is Records = refl
-greatest_is Postings = refl
-greatest_is Blocks = refl
-greatest_is Dict = refl
+greatest_query Records = record { is = refl; plain = (refl, refl); unlisted = refl; silent = λ schema base. refl; whole = (omega arith, refl); fit = λ trees mistyped. absurd (let e : true ≡ false = mistyped in cc) }
+greatest_query Postings = record { is = refl; plain = (refl, refl); unlisted = refl; silent = λ schema base. refl; whole = (omega arith, refl); fit = λ trees mistyped. absurd (let e : true ≡ false = mistyped in cc) }
+greatest_query Blocks = record { is = refl; plain = (refl, refl); unlisted = refl; silent = λ schema base. refl; whole = (omega arith, refl); fit = λ trees mistyped. absurd (let e : true ≡ false = mistyped in cc) }
+greatest_query Dict = record { is = refl; plain = (refl, refl); unlisted = refl; silent = λ schema base. refl; whole = (omega arith, refl); fit = λ trees mistyped. absurd (let e : true ≡ false = mistyped in cc) }
 
-next_is : (t : Table) → IsCompiledTo next_text from_start upward t
+pub next_query : (t : Table) (start : ℤ) → IsQuery (next_text t) (Int start ∷ []) (tree_of t) from_start (shows (1 ∷ [])) upward one_row (codes "db" ∷ [])
 unfolding understood everything
-next_is Records = refl
-next_is Postings = refl
-next_is Blocks = refl
-next_is Dict = refl
-
-least_ordinary : (t : Table) → IsOrdinary least_text 0 t
-unfolding understood everything
-least_ordinary Records = ((refl, refl), refl, (omega arith, refl))
-least_ordinary Postings = ((refl, refl), refl, (omega arith, refl))
-least_ordinary Blocks = ((refl, refl), refl, (omega arith, refl))
-least_ordinary Dict = ((refl, refl), refl, (omega arith, refl))
-
-greatest_ordinary : (t : Table) → IsOrdinary greatest_text 0 t
-unfolding understood everything
-greatest_ordinary Records = ((refl, refl), refl, (omega arith, refl))
-greatest_ordinary Postings = ((refl, refl), refl, (omega arith, refl))
-greatest_ordinary Blocks = ((refl, refl), refl, (omega arith, refl))
-greatest_ordinary Dict = ((refl, refl), refl, (omega arith, refl))
-
-next_ordinary : (t : Table) → IsOrdinary next_text 1 t
-unfolding understood everything
-next_ordinary Records = ((refl, refl), refl, (omega arith, refl))
-next_ordinary Postings = ((refl, refl), refl, (omega arith, refl))
-next_ordinary Blocks = ((refl, refl), refl, (omega arith, refl))
-next_ordinary Dict = ((refl, refl), refl, (omega arith, refl))
-
-pub least_silent : (t : Table) → IsSilent (least_text t)
-unfolding everything
-least_silent Records = λ schema base. refl
-least_silent Postings = λ schema base. refl
-least_silent Blocks = λ schema base. refl
-least_silent Dict = λ schema base. refl
-
-pub greatest_silent : (t : Table) → IsSilent (greatest_text t)
-unfolding everything
-greatest_silent Records = λ schema base. refl
-greatest_silent Postings = λ schema base. refl
-greatest_silent Blocks = λ schema base. refl
-greatest_silent Dict = λ schema base. refl
-
-pub next_silent : (t : Table) → IsSilent (next_text t)
-unfolding everything
-next_silent Records = λ schema base. refl
-next_silent Postings = λ schema base. refl
-next_silent Blocks = λ schema base. refl
-next_silent Dict = λ schema base. refl
-
--- ---- why each is refused
-
-least_fit : (t : Table) → IsFit (alone (reading_by (tree_of t) [] (shows (1 ∷ [])) upward one_row)) []
-unfolding everything
-least_fit Records trees mistyped = absurd (let e : true ≡ false = mistyped in cc)
-least_fit Postings trees mistyped = absurd (let e : true ≡ false = mistyped in cc)
-least_fit Blocks trees mistyped = absurd (let e : true ≡ false = mistyped in cc)
-least_fit Dict trees mistyped = absurd (let e : true ≡ false = mistyped in cc)
-
-greatest_fit : (t : Table) → IsFit (alone (reading_by (tree_of t) [] (shows (1 ∷ [])) downward one_row)) []
-unfolding everything
-greatest_fit Records trees mistyped = absurd (let e : true ≡ false = mistyped in cc)
-greatest_fit Postings trees mistyped = absurd (let e : true ≡ false = mistyped in cc)
-greatest_fit Blocks trees mistyped = absurd (let e : true ≡ false = mistyped in cc)
-greatest_fit Dict trees mistyped = absurd (let e : true ≡ false = mistyped in cc)
-
-next_fit : (t : Table) (start : ℤ) → IsFit (alone (reading_by (tree_of t) from_start (shows (1 ∷ [])) upward one_row)) (Int start ∷ [])
-unfolding everything
-next_fit Records start trees mistyped = absurd (let e : true ≡ false = mistyped in cc)
-next_fit Postings start trees mistyped = absurd (let e : true ≡ false = mistyped in cc)
-next_fit Blocks start trees mistyped = absurd (let e : true ≡ false = mistyped in cc)
-next_fit Dict start trees mistyped = absurd (let e : true ≡ false = mistyped in cc)
-
-pub least_refused : (t : Table) (old new : State) (e : Error) → IsStore old → fault_of e ≡ Store → FailsToQuery (least_text t) [] old new e → MayRefuse old new
-least_refused t old new e store told failed =
-    let it = least_ordinary t in
-    why_refused (least_text t) [] (tree_of t) [] (shows (1 ∷ [])) upward one_row (codes "db" ∷ []) (least_is t) it.0 it.1 it.2 (least_fit t) old new store e told failed
-
-pub greatest_refused : (t : Table) (old new : State) (e : Error) → IsStore old → fault_of e ≡ Store → FailsToQuery (greatest_text t) [] old new e → MayRefuse old new
-greatest_refused t old new e store told failed =
-    let it = greatest_ordinary t in
-    why_refused (greatest_text t) [] (tree_of t) [] (shows (1 ∷ [])) downward one_row (codes "db" ∷ []) (greatest_is t) it.0 it.1 it.2 (greatest_fit t) old new store e told failed
-
-pub next_refused : (t : Table) (start : ℤ) (old new : State) (e : Error) → IsStore old → fault_of e ≡ Store → FailsToQuery (next_text t) (Int start ∷ []) old new e → MayRefuse old new
-next_refused t start old new e store told failed =
-    let it = next_ordinary t in
-    why_refused (next_text t) (Int start ∷ []) (tree_of t) from_start (shows (1 ∷ [])) upward one_row (codes "db" ∷ []) (next_is t) it.0 it.1 it.2 (next_fit t start) old new store e told failed
+next_query Records start = record { is = refl; plain = (refl, refl); unlisted = refl; silent = λ schema base. refl; whole = (omega arith, refl); fit = λ trees mistyped. absurd (let e : true ≡ false = mistyped in cc) }
+next_query Postings start = record { is = refl; plain = (refl, refl); unlisted = refl; silent = λ schema base. refl; whole = (omega arith, refl); fit = λ trees mistyped. absurd (let e : true ≡ false = mistyped in cc) }
+next_query Blocks start = record { is = refl; plain = (refl, refl); unlisted = refl; silent = λ schema base. refl; whole = (omega arith, refl); fit = λ trees mistyped. absurd (let e : true ≡ false = mistyped in cc) }
+next_query Dict start = record { is = refl; plain = (refl, refl); unlisted = refl; silent = λ schema base. refl; whole = (omega arith, refl); fit = λ trees mistyped. absurd (let e : true ≡ false = mistyped in cc) }
 
 -- ---- what each shows
 
@@ -203,8 +96,8 @@ module _ (t : Table) (old : State) (store : IsStore old) where
 
   pub shows_least : (new : State) (rows : List Row) → Shown (least_text t) [] old new rows → ShowsFirst (λ id other. id ≤ℤ other) Owned rows
   shows_least new rows shown =
-      let it = least_ordinary t in
-      let read = reads_as (least_text t) [] old new store_schema store.is (Select (alone (reading_by (tree_of t) [] (shows (1 ∷ [])) upward one_row)) (codes "db" ∷ [])) (least_is t) it.0 it.1 rows shown in
+      let it = least_query t in
+      let read = reads_as (least_text t) [] old new store_schema store.is (Select (alone (reading_by (tree_of t) [] (shows (1 ∷ [])) upward one_row)) (codes "db" ∷ [])) it.is it.plain it.unlisted rows shown in
       elim (first_shown (old.now.trees (tree_of t)) [] (shows (1 ∷ [])) upward [] rows (reads old.now (tree_of t) [] (shows (1 ∷ [])) upward one_row [] rows read)) [
         | inl none ↦ subst (ShowsFirst (λ id other. id ≤ℤ other) Owned) (sym none.0) (λ id there. none.1 (owned_row id there) there.1.1 refl)
         | inr first ↦
@@ -214,8 +107,8 @@ module _ (t : Table) (old : State) (store : IsStore old) where
 
   pub shows_greatest : (new : State) (rows : List Row) → Shown (greatest_text t) [] old new rows → ShowsFirst (λ id other. other ≤ℤ id) Owned rows
   shows_greatest new rows shown =
-      let it = greatest_ordinary t in
-      let read = reads_as (greatest_text t) [] old new store_schema store.is (Select (alone (reading_by (tree_of t) [] (shows (1 ∷ [])) downward one_row)) (codes "db" ∷ [])) (greatest_is t) it.0 it.1 rows shown in
+      let it = greatest_query t in
+      let read = reads_as (greatest_text t) [] old new store_schema store.is (Select (alone (reading_by (tree_of t) [] (shows (1 ∷ [])) downward one_row)) (codes "db" ∷ [])) it.is it.plain it.unlisted rows shown in
       elim (first_shown (old.now.trees (tree_of t)) [] (shows (1 ∷ [])) downward [] rows (reads old.now (tree_of t) [] (shows (1 ∷ [])) downward one_row [] rows read)) [
         | inl none ↦ subst (ShowsFirst (λ id other. other ≤ℤ id) Owned) (sym none.0) (λ id there. none.1 (owned_row id there) there.1.1 refl)
         | inr first ↦
@@ -241,8 +134,8 @@ module _ (t : Table) (old : State) (store : IsStore old) where
 
     pub shows_next : (new : State) (rows : List Row) → Shown (next_text t) (Int start ∷ []) old new rows → ShowsFirst (λ id other. id ≤ℤ other) FromStart rows
     shows_next new rows shown =
-        let it = next_ordinary t in
-        let read = reads_as (next_text t) (Int start ∷ []) old new store_schema store.is (Select (alone (reading_by (tree_of t) from_start (shows (1 ∷ [])) upward one_row)) (codes "db" ∷ [])) (next_is t) it.0 it.1 rows shown in
+        let it = next_query t start in
+        let read = reads_as (next_text t) (Int start ∷ []) old new store_schema store.is (Select (alone (reading_by (tree_of t) from_start (shows (1 ∷ [])) upward one_row)) (codes "db" ∷ [])) it.is it.plain it.unlisted rows shown in
         elim (first_shown (old.now.trees (tree_of t)) from_start (shows (1 ∷ [])) upward (Int start ∷ []) rows (reads old.now (tree_of t) from_start (shows (1 ∷ [])) upward one_row (Int start ∷ []) rows read)) [
           | inl none ↦ subst (ShowsFirst (λ id other. id ≤ℤ other) FromStart) (sym none.0) (λ id there. none.1 (owned_row id there.0) there.0.1.1 (passed id there))
           | inr first ↦

@@ -1,30 +1,6 @@
 -- Rows of packed blocks as the postings of a content.
-use Rattle.std.proofs.Common.{◌≡◌, ◌≢◌, ◌↔◌, ◌∙◌, ◌/◌, ℕ, ℤ, pos, List, [], ◌∷◌, ◌++◌, map, refl, sym, ap, ap₂, subst, inl, nat_eq, arith}
-use Rattle.std.proofs.lemmas.Bool.{eqb-true, eq-eqb}
+use Rattle.zeb_register.proofs.Cited.{Row, column, State, Trees, Int, Blob, all_from, has_filtered, has_kept, mapped_has, Has, ◌≡◌, ◌≢◌, ◌↔◌, ◌∙◌, ◌/◌, ℕ, ℤ, pos, List, [], ◌∷◌, ◌++◌, map, refl, sym, ap, ap₂, subst, inl, nat_eq, arith, eqb-true, eq-eqb, Posting, BlockSpells, IsNumbered, LiesIn, spelled_from, start_of, one_list_spelled, spells_start, Key, Register, TermCount, Content, HasRisingLists, IsWithout, posted, posting_cmp, AreTermsOf, HasKey, key_in, HoldsBlocks, IsBlockRow, IsDictRow, block_row, dict_row, part_in, HoldsBlockRows, key_row, DropsRegisters, IsInRecord, HasRow, Loses, Changes, IsPostingIn, IsRecordIn, KeepsRegisters, LacksRegisters, TakesDatabase, blocks_tree, databases_tree, dict_tree, postings_tree, records_tree}
 use Rattle.std.specs.List.Sorted.{IsStrictlySortedBy}
-use Rattle.sqlite.specs.declared.types.Value.TheVariants.{Int, Blob}
-use Rattle.sqlite.specs.Order.{Row, column}
-use Rattle.sqlite.specs.State.{State}
-use Rattle.sqlite.specs.Tree.{Trees}
-use Rattle.sqlite_rules.specs.Lists.{Has}
-use Rattle.sqlite_rules.proofs.ListLemmas.{all_from, has_filtered, has_kept}
-use Rattle.sqlite_rules.proofs.ProbeLemmas.{mapped_has}
-use Rattle.zeb_blocks.specs.declared.postings.Posting.{Posting}
-use Rattle.zeb_blocks.specs.Blocks.{BlockSpells, IsNumbered, LiesIn, spelled_from, start_of}
-use Rattle.zeb_blocks.proofs.Lists.{same_list as one_list_spelled}
-use Rattle.zeb_blocks.proofs.Taking.{spells_start}
-use Rattle.zeb_keys.specs.declared.keys.Key.{Key}
-use Rattle.zeb_keys.specs.declared.Register.{Register}
-use Rattle.zeb_register.specs.declared.registers.TermCount.{TermCount}
-use Rattle.zeb_register.specs.Content.{Content, HasRisingLists, IsWithout, posted, posting_cmp}
-use Rattle.zeb_register.specs.Occurring.{AreTermsOf, HasKey, key_in}
-use Rattle.zeb_register.specs.PackedBlocks.{HoldsBlocks, IsBlockRow, IsDictRow, block_row, dict_row, part_in}
-use Rattle.zeb_register.specs.PrivatePackedRows.{HoldsBlockRows}
-use Rattle.zeb_register.specs.PlainRows.{key_row}
-use Rattle.zeb_register.specs.PrivateRowPlaces.{DropsRegisters}
-use Rattle.zeb_register.specs.PrivateRowTerms.{IsInRecord}
-use Rattle.zeb_register.specs.Sql.{HasRow, Loses}
-use Rattle.zeb_register.specs.Store.{Changes, IsPostingIn, IsRecordIn, KeepsRegisters, LacksRegisters, TakesDatabase, blocks_tree, databases_tree, dict_tree, postings_tree, records_tree}
 use Rattle.zeb_register.proofs.ContentChanges.{posting_total}
 use Rattle.zeb_register.proofs.ContentLemmas.{told_apart}
 use Rattle.zeb_register.proofs.CountLemmas.{count_so}

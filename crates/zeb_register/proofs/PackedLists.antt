@@ -1,28 +1,6 @@
 -- Rows of a key's blocks as its list of postings.
-use Rattle.std.proofs.Common.{◌≡◌, ◌∙◌, ◌<◌, ◌+◌, ◌/◌, ℕ, ℤ, pos, List, [], ◌∷◌, ◌++◌, length, take, get_or, refl, sym, ap, ap₂, subst, inl, inr, Ordering, Less, Equal, Greater, nat_cmp, arith}
-use Rattle.std.specs.Prelude.{◌≢◌, ◌==◌, if◌then◌else◌, Bool}
-use Rattle.std.proofs.lemmas.Bool.{eq-eqb}
-use Rattle.std.proofs.lemmas.Bool.Decides.{eqb_tells}
-use Rattle.std.proofs.lemmas.List.{take_more, append_assoc, append-nil}
-use Rattle.std.specs.Ordering.{ordering_then}
+use Rattle.zeb_register.proofs.Cited.{Row, column, row_cmp, Trees, Int, Blob, all_has, has_left, has_right, has_either, Has, row_cmp_total, value_cmp-Int, ◌≡◌, ◌∙◌, ◌<◌, ◌+◌, ◌/◌, ℕ, ℤ, pos, List, [], ◌∷◌, ◌++◌, length, take, get_or, refl, sym, ap, ap₂, subst, inl, inr, Ordering, Less, Equal, Greater, nat_cmp, arith, ◌≢◌, ◌==◌, if◌then◌else◌, Bool, append_assoc, append-nil, eq-eqb, eqb_tells, take_more, ordering_then, Posting, BlockSpells, spelled_from, start_of, Key, numbers_apart, Content, posting_cmp, HoldsBlocks, SpellsPart, blocks_of, part_in, AreSpelled, key_in, key_row, IsListOf, IsRest, blocks_tree}
 use Rattle.std.specs.List.Sorted.{IsStrictlySortedBy}
-use Rattle.sqlite.specs.declared.types.Value.TheVariants.{Int, Blob}
-use Rattle.sqlite.specs.Order.{Row, column, row_cmp}
-use Rattle.sqlite.specs.Tree.{Trees}
-use Rattle.sqlite_rules.specs.Lists.{Has}
-use Rattle.sqlite_rules.proofs.ListLemmas.{all_has, has_left, has_right, has_either}
-use Rattle.sqlite_value.proofs.OrderLemmas.{row_cmp_total, value_cmp-Int}
-use Rattle.zeb_blocks.specs.declared.postings.Posting.{Posting}
-use Rattle.zeb_blocks.specs.Blocks.{BlockSpells, spelled_from, start_of}
-use Rattle.zeb_keys.specs.declared.keys.Key.{Key}
-use Rattle.zeb_keys.proofs.Rising.{numbers_apart}
-use Rattle.zeb_register.specs.Content.{Content, posting_cmp}
-use Rattle.zeb_register.specs.PackedBlocks.{HoldsBlocks, SpellsPart, blocks_of, part_in}
-use Rattle.zeb_register.specs.PrivatePackedRows.{AreSpelled}
-use Rattle.zeb_register.specs.Occurring.{key_in}
-use Rattle.zeb_register.specs.PlainRows.{key_row}
-use Rattle.zeb_register.specs.Sql.{IsListOf}
-use Rattle.zeb_register.specs.Store.{IsRest, blocks_tree}
 use Rattle.zeb_register.proofs.ContentChanges.{posting_total}
 use Rattle.zeb_register.proofs.ContentLemmas.{ints_order, told_apart}
 use Rattle.zeb_register.proofs.CountLemmas.{is_less}
@@ -76,13 +54,6 @@ all_spelled (row ∷ rows) each =
     let first = each row (inl refl) in
     let rest = all_spelled rows (λ r h. each r (inr h)) in
     (first.0 ++ rest.0, (first.0, rest.0, first.1, rest.1, refl))
-
-take_whole : {X : Type 0} (xs : List X) → take (length xs) xs ≡ xs
-take_whole [] = refl
-take_whole (x ∷ xs) = ap (λ l. x ∷ l) (take_whole xs)
-
-pub spelled_whole : (rows : List Row) (list : List Posting) → AreSpelled (take (length rows) rows) list → AreSpelled rows list
-spelled_whole rows list are = subst (λ (rs : List Row). AreSpelled rs list) (take_whole rows) are
 
 -- ---- the rows of a key
 

@@ -1,39 +1,8 @@
 -- Rows of one record's places.
-use Rattle.std.proofs.Common.{true, ◌≡◌, ◌≢◌, ◌↔◌, ◌⊎◌, ◌∙◌, ◌<◌, ◌+◌, zero, suc, ℕ, ℤ, pos, List, [], ◌∷◌, ◌++◌, map, take, drop, Ordering, Less, Equal, Greater, length, get_or, inl, inr, refl, sym, ap, ap₂, subst, arith}
-use Rattle.std.proofs.lemmas.List.{take_more, map-append}
-use Rattle.sqlite.specs.declared.types.Value.TheVariants.{Null, Int, Text}
-use Rattle.sqlite.specs.Order.{Row, column}
+use Rattle.zeb_register.proofs.Cited.{Row, column, row_cmp, value_cmp, State, Trees, rowid, is_int, Value, Null, Int, Text, all_has, has_mapped, mapped_has, Has, value_cmp-Int, value_cmp_total, true, ◌≡◌, ◌≢◌, ◌↔◌, ◌⊎◌, ◌∙◌, ◌<◌, ◌+◌, zero, suc, ℕ, ℤ, pos, List, [], ◌∷◌, ◌++◌, map, take, drop, Ordering, Less, Equal, Greater, length, get_or, inl, inr, refl, sym, ap, ap₂, subst, arith, nat_cmp, tied_itself, take_more, map-append, AllByRecursion, ordering_then, Key, register_code, Place, Posting, HasRow, KeepsOthers, IsKeyed, Loses, IsListOf, Gains, place_key, postings_tree, IsRest, Changes, blocks_tree, dict_tree, databases_tree, records_tree, TakesDatabase, IsRecordIn, IsPostingIn, KeepsPlaces, Content, ArePlacesOf, posting_at, place_cmp, IsWithout, TakesWhole, IsChangedAt, HoldsRows, posting_row, key_row, first_two, IsTwoNumbers, place_row, DropsRegisters, KeepsBesidePostings, GainsPlaces, Puts, posting_columns, IsPlaceIn, store_schema, KeepsRowsBeside}
 use Rattle.std.specs.List.Sorted.{IsStrictlySortedBy}
-use Rattle.std.specs.List.{AllByRecursion}
-use Rattle.std.specs.Ordering.{nat_cmp, ordering_then}
-use Rattle.sqlite.specs.Order.{row_cmp}
-use Rattle.sqlite.specs.Tree.{Trees, rowid}
-use Rattle.sqlite.specs.View.{is_int}
-use Rattle.sqlite_rules.proofs.ListLemmas.{all_has}
-use Rattle.sqlite_rules.specs.Lists.{Has}
-use Rattle.sqlite_rules.proofs.ProbeLemmas.{has_mapped, mapped_has}
-use Rattle.sqlite_value.proofs.OrderLemmas.{value_cmp-Int}
-use Rattle.zeb_keys.specs.declared.keys.Key.{Key}
-use Rattle.zeb_keys.specs.Registers.{register_code}
-use Rattle.zeb_register.specs.declared.registers.Place.{Place}
-use Rattle.zeb_blocks.specs.declared.postings.Posting.{Posting}
-use Rattle.zeb_register.specs.Sql.{HasRow, KeepsOthers, IsKeyed, Loses, IsListOf}
-use Rattle.zeb_register.specs.PrivateRowStatements.{Gains, place_key}
-use Rattle.zeb_register.specs.Store.{postings_tree, IsRest, Changes, blocks_tree, dict_tree, databases_tree, records_tree, TakesDatabase, IsRecordIn, IsPostingIn}
-use Rattle.zeb_register.specs.Hindrances.{KeepsPlaces}
-use Rattle.zeb_register.specs.Content.{Content, ArePlacesOf, posting_at, place_cmp, IsWithout, TakesWhole, IsChangedAt}
-use Rattle.zeb_register.specs.PlainRows.{HoldsRows, posting_row, key_row}
-use Rattle.zeb_register.specs.PackedBlocks.{first_two}
-use Rattle.zeb_register.specs.PrivateRowPlaces.{IsTwoNumbers, place_row, DropsRegisters, KeepsBesidePostings, GainsPlaces, Puts, posting_columns, IsPlaceIn}
-use Rattle.sqlite.specs.declared.types.Value.{Value}
-use Rattle.sqlite.specs.Order.{value_cmp}
-use Rattle.sqlite.specs.State.{State}
-use Rattle.sqlite_value.proofs.OrderLemmas.{value_cmp_total}
-use Rattle.std.proofs.lemmas.Cmp.{tied_itself}
-use Rattle.zeb_register.specs.Tables.{store_schema}
 use Rattle.zeb_register.proofs.ValueKinds.{code, is_exact}
 use Rattle.zeb_register.proofs.RowLemmas.{tied_is}
-use Rattle.zeb_register.specs.Sound.{KeepsRowsBeside}
 use Rattle.zeb_register.proofs.ContentLemmas.{told_apart, one_list, ints_order, same_key}
 use Rattle.zeb_register.proofs.Malformed.{key_begins, table_same}
 

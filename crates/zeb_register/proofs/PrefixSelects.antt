@@ -1,31 +1,14 @@
 -- SELECT of the other columns WHERE the first columns are equal to parameters.
-use Rattle.std.proofs.Common.{◌≡◌, ◌↔◌, ℕ, ℤ, zero, suc, ◌+◌, ◌≤◌, true, false, List, [], ◌∷◌, ◌++◌, length, map, refl, sym, ap, ap₂, subst, ◌∙◌, arith, Less, length-append, Ordering, Equal, Greater}
-use Rattle.std.proofs.lemmas.List.{length-map}
-use Rattle.std.specs.List.{list_any, range_with_len}
-use Rattle.sqlite.specs.declared.types.Value.{Value}
-use Rattle.sqlite.specs.declared.types.Value.TheVariants.{Int}
-use Rattle.sqlite.specs.Order.{Row, column, row_cmp}
-use Rattle.sqlite.specs.Table.{Table}
-use Rattle.sqlite.specs.Schema.{Schema}
-use Rattle.sqlite.specs.Term.{Term, eval}
-use Rattle.sqlite.specs.Tree.{rowid}
-use Rattle.sqlite.specs.View.{is_int}
+use Rattle.zeb_register.proofs.Cited.{IsPlain, command_of, Select, reads_listing, Row, column, row_cmp, limited, as_count, Schema, State, Term, eval, rowid, is_int, Value, Int, all_has, int_is, Has, ◌≡◌, ◌↔◌, ℕ, ℤ, zero, suc, ◌+◌, ◌≤◌, true, false, List, [], ◌∷◌, ◌++◌, length, map, refl, sym, ap, ap₂, subst, ◌∙◌, arith, Less, length-append, Ordering, Equal, Greater, length-map, list_any, range_with_len, ordering_then, Table, HasLayout, IsListOf, IsRest, IsStore, store_schema}
 use Rattle.sqlite.specs.Edit.{id_in}
-use Rattle.sqlite.specs.Query.{limited, as_count}
-use Rattle.sqlite.specs.Command.TheVariants.{Select}
-use Rattle.sqlite.specs.Listing.{understood, reads_listing}
-use Rattle.sqlite.specs.State.{State, Shown}
-use Rattle.sqlite.proofs.Callers.{IsPlain, command_of}
-use Rattle.sqlite_rules.specs.Lists.{Has}
-use Rattle.sqlite_rules.proofs.ListLemmas.{all_has}
-use Rattle.sqlite_rules.proofs.TableLemmas.{int_is}
-use Rattle.zeb_register.specs.Sql.{HasLayout, IsListOf}
-use Rattle.zeb_register.proofs.StatementForms.{Condition, MeetsAll, keyed_from, reading, alone, shows, ordering}
+use Rattle.sqlite.specs.Listing.{understood}
+use Rattle.sqlite.specs.State.{Shown}
+use Rattle.zeb_register.proofs.Refusals.{IsQuery}
+use Rattle.zeb_register.proofs.StatementForms.{Condition, MeetsAll, keyed_from, no_limit, reading, rising, alone, shows, ordering}
 use Rattle.zeb_register.proofs.ValueKinds.{IsPlainTable, HasKeys, are_fit, are_comparable, code, codes_of, covers}
 use Rattle.zeb_register.proofs.RowLemmas.{later_columns}
 use Rattle.zeb_register.proofs.Writes.{keyed_there, codes_there}
 use Rattle.zeb_register.proofs.Selects.{IsSelected, selects, list_so}
-use Rattle.std.specs.Ordering.{ordering_then}
 
 shift_both : (v w : Value) (params row : Row) (p f n : ℕ) → MeetsAll (v ∷ params) (w ∷ row) (keyed_from (suc p) (suc f) n) ↔ MeetsAll params row (keyed_from p f n)
 shift_both v w params row p f zero = (λ h. h, λ h. h)
@@ -105,6 +88,18 @@ module _ (schema : Schema) (at : ℕ) (table : Table) (static : IsPlainTable sch
         ))) got.1,
         got.2,
       )
+
+-- a query for all rows that begin with the key
+module _ (at : ℕ) (table : Table) (static : IsPlainTable store_schema at table) (keys : List (List ℕ)) (has : HasKeys store_schema table keys) where
+  pub lists_rest : (sql : List ℕ) (key : Row) (n : ℕ) (order : List ℕ) (names : List (List ℕ)) → let wheres = keyed_from 1 0 (length key) ++ [] in let show = range_with_len (suc (length key)) n in
+      IsQuery sql (key ++ []) table.tree wheres (shows show) (rising order) no_limit names
+      → are_fit table (key ++ []) wheres ≡ true → are_comparable (codes_of table) (codes_of table) order ≡ true → list_any (covers wheres order) keys ≡ true → length (codes_of table) ≡ suc (length key + n)
+      → ((r s : Row) → ordering order r s ≡ Less → row_cmp (map (column r) show) (map (column s) show) ≡ Less)
+      → (old new : State) (rows : List Row) → IsStore old → Shown sql (key ++ []) old new rows → IsListOf (IsRest table.tree key old.now.trees) rows
+  lists_rest sql key n order names q fit comparable covered size rises old new rows store shown =
+      let P = IsAfter (old.now.trees table.tree) key [] [] in
+      let got = lists_after store_schema at table static keys has sql key [] [] n order no_limit names q.is q.plain q.unlisted fit comparable covered size rises old new rows store shown in
+      list_so P (IsRest table.tree key old.now.trees) rows (λ x. (λ h. (h.0, h.1), λ h. (h.0, h.1, tt))) (subst (IsListOf P) (sym got.2) got.1)
 
 pub alone_first : (o : Ordering) → ordering_then o Equal ≡ Less → o ≡ Less
 alone_first Less h = refl

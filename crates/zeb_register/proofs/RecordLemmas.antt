@@ -1,19 +1,6 @@
 -- Rows of records as the list of a database's records, and as one of them.
-use Rattle.std.proofs.Common.{◌≡◌, ◌⊎◌, ◌∙◌, ◌<◌, ◌≤◌, ℕ, ℤ, pos, false, List, [], ◌∷◌, map, take, slice_get, Some, None, string_bytes, inl, inr, refl, sym, ap, ap₂, subst, Ordering, Less, Equal, Greater, nat_cmp, arith}
-use Rattle.std.proofs.lemmas.Cmp.{ranked}
+use Rattle.zeb_register.proofs.Cited.{Row, column, row_cmp, value_cmp, State, Int, Text, Blob, all_has, Has, ◌≡◌, ◌⊎◌, ◌∙◌, ◌<◌, ◌≤◌, ℕ, ℤ, pos, false, List, [], ◌∷◌, map, take, slice_get, Some, None, string_bytes, inl, inr, refl, sym, ap, ap₂, subst, Ordering, Less, Equal, Greater, nat_cmp, arith, ranked, is_lt, ordering_then, Record, HasRow, IsListOf, IsStore, records_tree, IsRest, first_three, AreReadable, IsFirstFrom, IsNumberOf, record_shown, IsRecordShown, IsRestAtLeast}
 use Rattle.std.specs.List.Sorted.{IsStrictlySortedBy}
-use Rattle.std.specs.Ordering.{is_lt, ordering_then}
-use Rattle.sqlite.specs.declared.types.Value.TheVariants.{Int, Text, Blob}
-use Rattle.sqlite.specs.Order.{Row, column, row_cmp, value_cmp}
-use Rattle.sqlite.specs.State.{State}
-use Rattle.sqlite_rules.specs.Lists.{Has}
-use Rattle.sqlite_rules.proofs.ListLemmas.{all_has}
-use Rattle.zeb_register.specs.declared.kept.Record.{Record}
-use Rattle.zeb_register.specs.Sql.{HasRow, IsListOf}
-use Rattle.zeb_register.specs.Store.{IsStore, records_tree, IsRest}
-use Rattle.zeb_register.specs.PrivateRowPlaces.{first_three}
-use Rattle.zeb_register.specs.Kept.{AreReadable, IsFirstFrom, IsNumberOf, record_shown}
-use Rattle.zeb_register.specs.PrivateRowStatements.{IsRecordShown, IsRestAtLeast}
 use Rattle.zeb_register.proofs.RecordStatements.{record_rest}
 use Rattle.zeb_register.proofs.TermRows.{int_at, up_to}
 

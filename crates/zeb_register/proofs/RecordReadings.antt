@@ -1,43 +1,13 @@
 -- The statements that count the records of a database and that read one after the other.
-use Rattle.std.proofs.Common.{◌≡◌, ◌↔◌, ◌∙◌, ℕ, ℤ, pos, true, false, List, [], ◌∷◌, ◌++◌, length, map, min, take, codes, refl, sym, ap, subst, inl, inr, None, Some, Less, Equal, arith}
-use Rattle.std.specs.Prelude.{filter, IsPermutation}
-use Rattle.std.specs.List.{AllZip, Any, IsDistinct, list_all}
-use Rattle.std.specs.Ordering.{eq_by_cmp, int_cmp}
-use Rattle.std.proofs.lemmas.Cmp.{int_ranked}
-use Rattle.std.proofs.lemmas.Bool.{cases_Bool}
-use Rattle.std.proofs.lemmas.List.{length-map}
-use Rattle.std.proofs.lemmas.List.Sorted.{length_permutation}
-use Rattle.sqlite.specs.declared.types.Value.{Value}
-use Rattle.sqlite.specs.declared.types.Value.TheVariants.{Null, Int, Real, Text, Blob}
-use Rattle.sqlite.specs.Order.{Row, column, value_cmp}
-use Rattle.sqlite.specs.Query.{IsAnswer, Output, matches_as, output}
-use Rattle.sqlite.specs.Program.{overlay}
-use Rattle.sqlite.specs.Effect.{Answers, Database, IsDatabase}
-use Rattle.sqlite.specs.State.{Shown, State}
-use Rattle.sqlite.specs.Term.{Env, eval, holds, lit}
-use Rattle.sqlite.specs.Tree.{rowid}
-use Rattle.sqlite.specs.Command.TheVariants.{Select}
-use Rattle.sqlite.specs.Listing.{understood, reads_listing}
-use Rattle.sqlite.proofs.Callers.{IsPlain, command_of, one_permutation, reads_as}
-use Rattle.sqlite_catalog.proofs.LayoutLemmas.{ascending_filter}
-use Rattle.sqlite_rules.specs.Lists.{Has}
-use Rattle.sqlite_rules.proofs.ListLemmas.{all_has, any_has, has_filtered, has_got, has_kept}
-use Rattle.sqlite_rules.proofs.ProbeLemmas.{has_mapped, mapped_has}
-use Rattle.sqlite.specs.Collation.TheVariants.{Binary}
-use Rattle.sqlite_sql.specs.Aggregate.{count}
-use Rattle.sqlite_sql.specs.declared.aggregate.AggregateOp.TheVariants.{CountRows}
-use Rattle.sqlite_sql.specs.Group.{Aggregate, Grouping, IsSummary, value_over}
+use Rattle.zeb_register.proofs.Cited.{IsPlain, command_of, one_permutation, reads_as, Binary, Select, Answers, Database, IsDatabase, reads_listing, Row, column, value_cmp, overlay, IsAnswer, Output, matches_as, output, State, Env, eval, holds, lit, rowid, Value, Null, Int, Real, Text, Blob, ascending_filter, all_has, any_has, has_filtered, has_got, has_kept, has_mapped, mapped_has, Has, count, Aggregate, Grouping, IsSummary, value_over, CountRows, counting, ◌≡◌, ◌↔◌, ◌∙◌, ℕ, ℤ, pos, true, false, List, [], ◌∷◌, ◌++◌, length, map, min, take, codes, refl, sym, ap, subst, inl, inr, None, Some, Less, Equal, arith, filter, int_cmp, cases_Bool, int_ranked, length-map, length_permutation, AllZip, Any, list_all, eq_by_cmp, IsPermutation, COUNT, FIRST_FROM, IsNumberOf, IsRestAtLeast, ShowsCount, IsListOf, HasRecord, IsStore, record_row, records_tree, store_schema}
+use Rattle.sqlite.specs.Listing.{understood}
+use Rattle.sqlite.specs.State.{Shown}
 use Rattle.sqlite_tied.specs.Compute.{everything}
-use Rattle.sqlite_tied.specs.Listing.{counting}
-use Rattle.zeb_register.specs.Kept.{IsNumberOf}
-use Rattle.zeb_register.specs.PrivateRowStatements.{IsRestAtLeast, ShowsCount}
-use Rattle.zeb_register.specs.Sql.{IsListOf}
-use Rattle.zeb_register.specs.Store.{HasRecord, IsStore, record_row, records_tree}
-use Rattle.zeb_register.specs.Tables.{store_schema}
+use Rattle.std.specs.List.{IsDistinct}
 use Rattle.zeb_register.proofs.Calls.{IsSilent}
 use Rattle.zeb_register.proofs.PrefixSelects.{IsAfter, lists_after, first_lower}
 use Rattle.zeb_register.proofs.RecordStatements.{records, records_keys, records_static, row_of}
-use Rattle.zeb_register.proofs.Refusals.{IsFit, IsReasonedQuery, IsSure, IsWhole, why_query_refused, why_refused}
+use Rattle.zeb_register.proofs.Refusals.{IsFit, IsReasonedQuery, IsSure, IsWhole, why_query_refused, IsQuery}
 use Rattle.zeb_register.proofs.RowLemmas.{shares_alone}
 use Rattle.zeb_register.proofs.Scans.{distinct_mapped, matched, plain, tied}
 use Rattle.zeb_register.proofs.Selects.{list_so}
@@ -86,7 +56,7 @@ counted now tree wheres params rows h =
 -- ---- the records of a database
 
 abbrev pub count_text : List ℕ
-count_text = codes "SELECT count(*) FROM records WHERE db = ?1"
+count_text = COUNT.now
 
 abbrev in_base : List Condition
 in_base = equals 1 0 ∷ []
@@ -201,7 +171,7 @@ module _ (s : State) (db : ℤ) (store : IsStore s) where
 -- ---- one record after the other
 
 abbrev pub from_text : List ℕ
-from_text = codes "SELECT sysno, ident, bytes FROM records WHERE db = ?1 AND sysno >= ?2 ORDER BY sysno LIMIT 1"
+from_text = FIRST_FROM.now
 
 abbrev from_more : List Condition
 from_more = at_least 2 1 ∷ []
@@ -209,17 +179,9 @@ from_more = at_least 2 1 ∷ []
 abbrev from_names : List (List ℕ)
 from_names = codes "sysno" ∷ codes "ident" ∷ codes "bytes" ∷ []
 
-from_is : command_of (understood store_schema from_text) ≡ Select (alone (reading 4 (keyed_from 1 0 1 ++ from_more) (shows (2 ∷ 3 ∷ 4 ∷ [])) (2 ∷ []) one_row)) from_names
+pub from_query : (db start : ℤ) → IsQuery from_text (Int db ∷ Int start ∷ []) 4 (keyed_from 1 0 1 ++ from_more) (shows (2 ∷ 3 ∷ 4 ∷ [])) (rising (2 ∷ [])) one_row from_names
 unfolding understood everything
-from_is = refl
-
-from_plain : IsPlain (understood store_schema from_text) × (reads_listing store_schema from_text ≡ false)
-unfolding understood everything
-from_plain = ((refl, refl), refl)
-
-pub from_silent : IsSilent from_text
-unfolding everything
-from_silent = λ schema base. refl
+from_query db start = record { is = refl; plain = (refl, refl); unlisted = refl; silent = λ schema base. refl; whole = (omega arith, refl); fit = λ trees mistyped. absurd (let t : true ≡ false = mistyped in cc) }
 
 pub lists_from : (db start : ℤ) (old new : State) (rows : List Row) → IsStore old → Shown from_text (Int db ∷ Int start ∷ []) old new rows
     → (all : List Row) × IsListOf (IsRestAtLeast records_tree (Int db ∷ []) start old.now.trees) all × (rows ≡ take 1 all)
@@ -227,16 +189,5 @@ lists_from db start old new rows store shown =
     let key = Int db ∷ [] in
     let rest = Int start ∷ [] in
     let P = IsAfter (old.now.trees 4) key rest from_more in
-    let got = lists_after store_schema 2 records records_static _ records_keys from_text key rest from_more 3 (2 ∷ []) one_row from_names from_is from_plain.0 from_plain.1 refl refl refl refl (λ r s lower. first_lower _ _ lower) old new rows store shown in
+    let got = lists_after store_schema 2 records records_static _ records_keys from_text key rest from_more 3 (2 ∷ []) one_row from_names (from_query db start).is (from_query db start).plain (from_query db start).unlisted refl refl refl refl (λ r s lower. first_lower _ _ lower) old new rows store shown in
     (got.0, list_so P (IsRestAtLeast 4 key start old.now.trees) got.0 (λ x. (λ h. ((h.0, h.1), h.2.0), λ h. (h.0.0, h.0.1, (h.1, tt)))) got.1, got.2)
-
-from_whole : IsWhole from_text 2 (understood store_schema from_text)
-unfolding understood everything
-from_whole = (omega arith, refl)
-
-from_fit : (db start : ℤ) → IsFit (alone (reading 4 (keyed_from 1 0 1 ++ from_more) (shows (2 ∷ 3 ∷ 4 ∷ [])) (2 ∷ []) one_row)) (Int db ∷ Int start ∷ [])
-unfolding everything
-from_fit db start trees mistyped = absurd (let t : true ≡ false = mistyped in cc)
-
-pub from_refused : (db start : ℤ) → IsReasonedQuery from_text (Int db ∷ Int start ∷ [])
-from_refused db start old new e store told failed = why_refused from_text (Int db ∷ Int start ∷ []) 4 (keyed_from 1 0 1 ++ from_more) (shows (2 ∷ 3 ∷ 4 ∷ [])) (rising (2 ∷ [])) one_row from_names from_is from_plain.0 from_plain.1 from_whole (from_fit db start) old new store e told failed

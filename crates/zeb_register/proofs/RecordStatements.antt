@@ -1,34 +1,16 @@
 -- The statements on records, each with what it is compiled to.
-use Rattle.std.proofs.Common.{◌≡◌, ◌∙◌, arith, sym, ap, ap₂, subst, map, drop, ℕ, List, [], ◌∷◌, codes, refl, true, false, ℤ, Ok, inl, inr}
-use Rattle.sqlite.specs.declared.types.Value.TheVariants.{Null, Int, Text, Blob}
-use Rattle.sqlite.specs.State.{State, Executes, Shown}
-use Rattle.sqlite.specs.Command.TheVariants.{Select, Delete, InsertOr}
-use Rattle.sqlite.specs.Source.TheVariants.{Values}
-use Rattle.sqlite.specs.Term.{Term, lit, col}
-use Rattle.sqlite_schema.specs.declared.command.Conflict.TheVariants.{Replace}
-use Rattle.sqlite.specs.Listing.{understood, reads_listing}
-use Rattle.sqlite.proofs.Callers.{IsPlain, command_of}
+use Rattle.zeb_register.proofs.Cited.{BY_IDENT, IDENT, ALL, IsPlain, command_of, Delete, InsertOr, Row, column, Values, State, Executes, Term, lit, col, Null, Int, Text, Blob, Has, Replace, ◌≡◌, ◌∙◌, arith, sym, ap, ap₂, subst, map, drop, ℕ, List, [], ◌∷◌, codes, refl, true, false, ℤ, Ok, inl, inr, store_schema, records_table, Loses, Replaces, HasRow, IsListOf, Table, IsStore, Changes, records_tree, record_row, HasNumber, SharesRecord, IsRest, IsElderRow, IsIdentRow}
+use Rattle.zeb_register.specs.declared.kept.TheConstants.{PUT, TAKE}
+use Rattle.sqlite.specs.Listing.{understood}
+use Rattle.sqlite.specs.State.{Shown}
 use Rattle.sqlite_tied.specs.Compute.{everything}
-use Rattle.zeb_register.specs.Tables.{store_schema, records_table}
-use Rattle.zeb_register.specs.Sql.{Loses, Replaces, HasRow, IsListOf}
 use Rattle.zeb_register.proofs.StatementForms.{Condition, equals, reading, alone, keyed_from, rising, shows, no_limit}
 use Rattle.zeb_register.proofs.ValueKinds.{codes_of, IsPlainTable, HasKeys, code}
-use Rattle.sqlite.specs.Table.{Table}
-use Rattle.zeb_register.specs.Store.{IsStore, Changes, records_tree, record_row, HasNumber, SharesRecord, IsRecordIn, IsRest}
-use Rattle.zeb_register.specs.PrivateRowStatements.{IsElderRow, IsIdentRow}
 use Rattle.zeb_register.proofs.Writes.{deletes, replaces, loses, takes_place, codes_there}
 use Rattle.zeb_register.proofs.RowLemmas.{spread, code_at, int_of, text_of, blob_of}
 use Rattle.zeb_register.proofs.Selects.{IsSelected, selects, list_so}
-use Rattle.zeb_register.proofs.PrefixSelects.{IsAfter, lists_after, first_lower}
-use Rattle.zeb_register.proofs.Calls.{IsSilent}
-use Rattle.zeb_register.proofs.Refusals.{IsWhole, IsFit, IsReasonedQuery, why_refused}
-use Rattle.zeb_register.specs.Hindrances.{Hinders}
-use Rattle.zeb_register.proofs.NewRows.{IsRowFor}
-use Rattle.zeb_register.proofs.ReplaceRefusals.{why_replace_hindered}
-use Rattle.zeb_register.proofs.WriteRefusals.{IsHinderedWrite, IsReasonedWrite, why_delete_refused}
-use Rattle.zeb_register.proofs.WriteRowids.{IsTakingWrite, delete_takes, replace_takes}
-use Rattle.sqlite.specs.Order.{Row, column}
-use Rattle.sqlite_rules.specs.Lists.{Has}
+use Rattle.zeb_register.proofs.PrefixSelects.{first_lower, lists_rest}
+use Rattle.zeb_register.proofs.Refusals.{IsQuery}
 
 abbrev pub records : Table
 records = record records_table { tree = 4 }
@@ -53,7 +35,7 @@ row_of r typed =
 -- ---- INSERT OR REPLACE
 
 abbrev pub keep_text : List ℕ
-keep_text = codes "INSERT OR REPLACE INTO records VALUES (?1, ?2, ?3, ?4)"
+keep_text = PUT.now
 
 abbrev keep_terms : List Term
 keep_terms = lit Null ∷ col 0 0 ∷ col 0 1 ∷ col 0 2 ∷ col 0 3 ∷ []
@@ -76,31 +58,10 @@ keeps_record db sysno ident bytes old new count store ran =
       λ p. elim p [ inl m ↦ inl (m.0, (m.1, tt)) | inr m ↦ inr (inl (m.0, (m.1, tt))) ],
     )) (replaces store_schema 2 records records_static keep_text row keep_terms 5 row keys keep_is keep_plain refl refl (λ id. refl) records_keys old new count store ran).0
 
-keep_whole : IsWhole keep_text 4 (understood store_schema keep_text)
-unfolding understood everything
-keep_whole = (omega arith, refl)
-
-record_fits : (db sysno : ℤ) (ident bytes : List ℕ) → IsRowFor records (record_row db sysno ident bytes)
-record_fits db sysno ident bytes = record {
-  passed = λ trees id. (refl, refl, refl);
-  coded = λ id. refl;
-  plain = (refl, refl);
-  few = (omega arith, omega arith);
-}
-
-pub keep_refused : (db sysno : ℤ) (ident bytes : List ℕ) → IsHinderedWrite keep_text (record_row db sysno ident bytes) (Hinders 1 records_tree (record_row db sysno ident bytes))
-keep_refused db sysno ident bytes =
-    let row = record_row db sysno ident bytes in
-    why_replace_hindered 2 records records_static _ records_keys row (record_fits db sysno ident bytes) refl row keep_terms 5 refl (λ trees. (refl, refl)) keep_text keep_is keep_plain keep_whole
-
-pub keep_takes : (db sysno : ℤ) (ident bytes : List ℕ) → IsTakingWrite 1 records_tree keep_text (record_row db sysno ident bytes)
-keep_takes db sysno ident bytes =
-    let row = record_row db sysno ident bytes in replace_takes 2 records records_static row keep_terms 5 row ((1 ∷ 2 ∷ []) ∷ (1 ∷ 3 ∷ []) ∷ []) refl refl (λ id. refl) records_keys keep_text keep_is keep_plain
-
 -- ---- DELETE
 
 abbrev pub remove_text : List ℕ
-remove_text = codes "DELETE FROM records WHERE db = ?1 AND sysno = ?2"
+remove_text = TAKE.now
 
 abbrev number_wheres : List Condition
 number_wheres = equals 1 0 ∷ equals 2 1 ∷ []
@@ -118,50 +79,10 @@ removes db sysno old new count store ran =
     loses store_schema 4 old new (Int db ∷ Int sysno ∷ []) number_wheres (HasNumber db sysno) (λ id columns. (λ m. (m.0, m.1.0), λ p. (p.0, (p.1, tt))))
     (deletes store_schema 2 records records_static remove_text (Int db ∷ Int sysno ∷ []) number_wheres remove_is remove_plain refl old new count store ran)
 
-remove_whole : IsWhole remove_text 2 (understood store_schema remove_text)
-unfolding understood everything
-remove_whole = (omega arith, refl)
-
-remove_fit : (db sysno : ℤ) → IsFit (alone (reading 4 number_wheres (shows (0 ∷ [])) [] no_limit)) (Int db ∷ Int sysno ∷ [])
-remove_fit db sysno trees mistyped = absurd (let t : true ≡ false = mistyped in cc)
-
-pub remove_refused : (db sysno : ℤ) → IsReasonedWrite remove_text (Int db ∷ Int sysno ∷ [])
-remove_refused db sysno = why_delete_refused remove_text (Int db ∷ Int sysno ∷ []) 2 records records_static number_wheres remove_is remove_plain remove_whole (remove_fit db sysno)
-
-pub remove_takes : (db sysno : ℤ) → IsTakingWrite 0 records_tree remove_text (Int db ∷ Int sysno ∷ [])
-remove_takes db sysno = delete_takes 2 records records_static remove_text (Int db ∷ Int sysno ∷ []) number_wheres remove_is remove_plain refl
-
-abbrev pub clear_text : List ℕ
-clear_text = codes "DELETE FROM records WHERE db = ?1"
-
-clear_is : command_of (understood store_schema clear_text) ≡ Delete 2 (alone (reading 4 (equals 1 0 ∷ []) (shows (0 ∷ [])) [] no_limit))
-unfolding understood everything
-clear_is = refl
-
-clear_plain : IsPlain (understood store_schema clear_text)
-unfolding understood everything
-clear_plain = (refl, refl)
-
-pub clears : (db : ℤ) (old new : State) (count : ℕ) → IsStore old → Executes clear_text (Int db ∷ []) old new (Ok count) → Changes records_tree (Loses (IsRecordIn db)) old new
-clears db old new count store ran =
-    let wheres = equals 1 0 ∷ [] in
-    loses store_schema 4 old new (Int db ∷ []) wheres (IsRecordIn db) (λ id columns. (λ m. m.0, λ p. (p, tt)))
-    (deletes store_schema 2 records records_static clear_text (Int db ∷ []) wheres clear_is clear_plain refl old new count store ran)
-
-clear_whole : IsWhole clear_text 1 (understood store_schema clear_text)
-unfolding understood everything
-clear_whole = (omega arith, refl)
-
-clear_fit : (db : ℤ) → IsFit (alone (reading 4 (equals 1 0 ∷ []) (shows (0 ∷ [])) [] no_limit)) (Int db ∷ [])
-clear_fit db trees mistyped = absurd (let t : true ≡ false = mistyped in cc)
-
-pub clear_refused : (db : ℤ) → IsReasonedWrite clear_text (Int db ∷ [])
-clear_refused db = why_delete_refused clear_text (Int db ∷ []) 2 records records_static (equals 1 0 ∷ []) clear_is clear_plain clear_whole (clear_fit db)
-
 -- ---- SELECT
 
 abbrev pub elder_text : List ℕ
-elder_text = codes "SELECT sysno, bytes FROM records WHERE db = ?1 AND ident = ?2"
+elder_text = BY_IDENT.now
 
 abbrev elder_wheres : List Condition
 elder_wheres = equals 1 0 ∷ equals 3 1 ∷ []
@@ -169,36 +90,16 @@ elder_wheres = equals 1 0 ∷ equals 3 1 ∷ []
 abbrev elder_shows : List ℕ
 elder_shows = 2 ∷ 4 ∷ []
 
-elder_is : command_of (understood store_schema elder_text) ≡ Select (alone (reading 4 elder_wheres (shows elder_shows) [] no_limit)) (codes "sysno" ∷ codes "bytes" ∷ [])
+pub elder_query : (db : ℤ) (ident : List ℕ) → IsQuery elder_text (Int db ∷ Text ident ∷ []) 4 elder_wheres (shows elder_shows) [] no_limit (codes "sysno" ∷ codes "bytes" ∷ [])
 unfolding understood everything
-elder_is = refl
-
-elder_plain : IsPlain (understood store_schema elder_text) × (reads_listing store_schema elder_text ≡ false)
-unfolding understood everything
-elder_plain = ((refl, refl), refl)
-
-pub elder_silent : IsSilent elder_text
-unfolding everything
-elder_silent = λ schema base. refl
-
-elder_whole : IsWhole elder_text 2 (understood store_schema elder_text)
-unfolding understood everything
-elder_whole = (omega arith, refl)
-
-elder_fit : (db : ℤ) (ident : List ℕ) → IsFit (alone (reading 4 elder_wheres (shows elder_shows) [] no_limit)) (Int db ∷ Text ident ∷ [])
-unfolding everything
-elder_fit db ident trees mistyped = absurd (let t : true ≡ false = mistyped in cc)
-
-pub elder_refused : (db : ℤ) (ident : List ℕ) → IsReasonedQuery elder_text (Int db ∷ Text ident ∷ [])
-elder_refused db ident old new e store told failed =
-    why_refused elder_text (Int db ∷ Text ident ∷ []) 4 elder_wheres (shows elder_shows) [] no_limit (codes "sysno" ∷ codes "bytes" ∷ []) elder_is elder_plain.0 elder_plain.1 elder_whole (elder_fit db ident) old new store e told failed
+elder_query db ident = record { is = refl; plain = (refl, refl); unlisted = refl; silent = λ schema base. refl; whole = (omega arith, refl); fit = λ trees mistyped. absurd (let t : true ≡ false = mistyped in cc) }
 
 pub lists_elder : (db : ℤ) (ident : List ℕ) (old new : State) (rows : List Row) → IsStore old → Shown elder_text (Int db ∷ Text ident ∷ []) old new rows → IsListOf (IsElderRow db ident old.now.trees) rows
 lists_elder db ident old new rows store shown =
     let all = old.now.trees 4 in
     let params = Int db ∷ Text ident ∷ [] in
     let P = IsSelected all elder_wheres params elder_shows in
-    let got = selects store_schema 2 records records_static _ records_keys elder_text params elder_wheres elder_shows [] no_limit _ elder_is elder_plain.0 elder_plain.1 refl refl refl (λ r s lower. absurd cc) old new rows store shown in
+    let got = selects store_schema 2 records records_static _ records_keys elder_text params elder_wheres elder_shows [] no_limit _ (elder_query db ident).is (elder_query db ident).plain (elder_query db ident).unlisted refl refl refl (λ r s lower. absurd cc) old new rows store shown in
     list_so P (IsElderRow db ident old.now.trees) rows (λ x. (
       λ h.
           let was = row_of h.0 (codes_there store_schema 2 records records_static old h.0 store h.1) in
@@ -209,37 +110,18 @@ lists_elder db ident old new rows store shown =
     )) (subst (IsListOf P) (sym got.2) got.1)
 
 abbrev pub ident_text : List ℕ
-ident_text = codes "SELECT ident FROM records WHERE db = ?1 AND sysno = ?2"
+ident_text = IDENT.now
 
-ident_is : command_of (understood store_schema ident_text) ≡ Select (alone (reading 4 number_wheres (shows (3 ∷ [])) [] no_limit)) (codes "ident" ∷ [])
+pub ident_query : (db sysno : ℤ) → IsQuery ident_text (Int db ∷ Int sysno ∷ []) 4 number_wheres (shows (3 ∷ [])) [] no_limit (codes "ident" ∷ [])
 unfolding understood everything
-ident_is = refl
-
-ident_plain : IsPlain (understood store_schema ident_text) × (reads_listing store_schema ident_text ≡ false)
-unfolding understood everything
-ident_plain = ((refl, refl), refl)
-
-pub ident_silent : IsSilent ident_text
-unfolding everything
-ident_silent = λ schema base. refl
-
-ident_whole : IsWhole ident_text 2 (understood store_schema ident_text)
-unfolding understood everything
-ident_whole = (omega arith, refl)
-
-ident_fit : (db sysno : ℤ) → IsFit (alone (reading 4 number_wheres (shows (3 ∷ [])) [] no_limit)) (Int db ∷ Int sysno ∷ [])
-unfolding everything
-ident_fit db sysno trees mistyped = absurd (let t : true ≡ false = mistyped in cc)
-
-pub ident_refused : (db sysno : ℤ) → IsReasonedQuery ident_text (Int db ∷ Int sysno ∷ [])
-ident_refused db sysno old new e store told failed = why_refused ident_text (Int db ∷ Int sysno ∷ []) 4 number_wheres (shows (3 ∷ [])) [] no_limit (codes "ident" ∷ []) ident_is ident_plain.0 ident_plain.1 ident_whole (ident_fit db sysno) old new store e told failed
+ident_query db sysno = record { is = refl; plain = (refl, refl); unlisted = refl; silent = λ schema base. refl; whole = (omega arith, refl); fit = λ trees mistyped. absurd (let t : true ≡ false = mistyped in cc) }
 
 pub lists_ident : (db sysno : ℤ) (old new : State) (rows : List Row) → IsStore old → Shown ident_text (Int db ∷ Int sysno ∷ []) old new rows → IsListOf (IsIdentRow db sysno old.now.trees) rows
 lists_ident db sysno old new rows store shown =
     let all = old.now.trees 4 in
     let params = Int db ∷ Int sysno ∷ [] in
     let P = IsSelected all number_wheres params (3 ∷ []) in
-    let got = selects store_schema 2 records records_static _ records_keys ident_text params number_wheres (3 ∷ []) [] no_limit _ ident_is ident_plain.0 ident_plain.1 refl refl refl (λ r s lower. absurd cc) old new rows store shown in
+    let got = selects store_schema 2 records records_static _ records_keys ident_text params number_wheres (3 ∷ []) [] no_limit _ (ident_query db sysno).is (ident_query db sysno).plain (ident_query db sysno).unlisted refl refl refl (λ r s lower. absurd cc) old new rows store shown in
     list_so P (IsIdentRow db sysno old.now.trees) rows (λ x. (
       λ h.
           let was = row_of h.0 (codes_there store_schema 2 records records_static old h.0 store h.1) in
@@ -250,37 +132,14 @@ lists_ident db sysno old new rows store shown =
     )) (subst (IsListOf P) (sym got.2) got.1)
 
 abbrev pub all_text : List ℕ
-all_text = codes "SELECT sysno, ident, bytes FROM records WHERE db = ?1 ORDER BY sysno"
+all_text = ALL.now
 
-pub all_is : command_of (understood store_schema all_text) ≡ Select (alone (reading 4 (keyed_from 1 0 1) (shows (2 ∷ 3 ∷ 4 ∷ [])) (2 ∷ []) no_limit)) (codes "sysno" ∷ codes "ident" ∷ codes "bytes" ∷ [])
+pub all_query : (db : ℤ) → IsQuery all_text (Int db ∷ []) 4 (keyed_from 1 0 1) (shows (2 ∷ 3 ∷ 4 ∷ [])) (rising (2 ∷ [])) no_limit (codes "sysno" ∷ codes "ident" ∷ codes "bytes" ∷ [])
 unfolding understood everything
-all_is = refl
-
-all_plain : IsPlain (understood store_schema all_text) × (reads_listing store_schema all_text ≡ false)
-unfolding understood everything
-all_plain = ((refl, refl), refl)
-
-pub all_silent : IsSilent all_text
-unfolding everything
-all_silent = λ schema base. refl
-
-all_whole : IsWhole all_text 1 (understood store_schema all_text)
-unfolding understood everything
-all_whole = (omega arith, refl)
-
-all_fit : (db : ℤ) → IsFit (alone (reading 4 (keyed_from 1 0 1) (shows (2 ∷ 3 ∷ 4 ∷ [])) (2 ∷ []) no_limit)) (Int db ∷ [])
-unfolding everything
-all_fit db trees mistyped = absurd (let t : true ≡ false = mistyped in cc)
-
-pub all_refused : (db : ℤ) → IsReasonedQuery all_text (Int db ∷ [])
-all_refused db old new e store told failed = why_refused all_text (Int db ∷ []) 4 (keyed_from 1 0 1) (shows (2 ∷ 3 ∷ 4 ∷ [])) (rising (2 ∷ [])) no_limit (codes "sysno" ∷ codes "ident" ∷ codes "bytes" ∷ []) all_is all_plain.0 all_plain.1 all_whole (all_fit db) old new store e told failed
+all_query db = record { is = refl; plain = (refl, refl); unlisted = refl; silent = λ schema base. refl; whole = (omega arith, refl); fit = λ trees mistyped. absurd (let t : true ≡ false = mistyped in cc) }
 
 pub lists_all : (db : ℤ) (old new : State) (rows : List Row) → IsStore old → Shown all_text (Int db ∷ []) old new rows → IsListOf (IsRest records_tree (Int db ∷ []) old.now.trees) rows
-lists_all db old new rows store shown =
-    let key = Int db ∷ [] in
-    let P = IsAfter (old.now.trees 4) key [] [] in
-    let got = lists_after store_schema 2 records records_static _ records_keys all_text key [] [] 3 (2 ∷ []) no_limit _ all_is all_plain.0 all_plain.1 refl refl refl refl (λ r s lower. first_lower _ _ lower) old new rows store shown in
-    list_so P (IsRest 4 key old.now.trees) rows (λ x. (λ h. (h.0, h.1), λ h. (h.0, h.1, tt))) (subst (IsListOf P) (sym got.2) got.1)
+lists_all db = lists_rest 2 records records_static _ records_keys all_text (Int db ∷ []) 3 (2 ∷ []) _ (all_query db) refl refl refl refl (λ r s lower. first_lower _ _ lower)
 
 -- what the other columns of a record of the database are
 pub record_rest : (s : State) (db : ℤ) (r : Row) → IsStore s → HasRow s.now.trees records_tree (Int db ∷ r) → (sysno : ℤ) × (ident : List ℕ) × (bytes : List ℕ) × (r ≡ Int sysno ∷ Text ident ∷ Blob bytes ∷ [])

@@ -1,28 +1,11 @@
 -- Why a query that fits the tables is refused.
-use Rattle.std.proofs.Common.{◌≡◌, ◌⊎◌, ◌∙◌, ◌≤◌, ℕ, List, length, Ok, Err, Result, IsTrue, inl, inr, None, true, false, sym, ap, subst, subst₂, append-nil}
-use Rattle.sqlite.specs.Order.{Row}
-use Rattle.sqlite.specs.Tree.{Trees}
-use Rattle.sqlite_schema.specs.declared.program.Program.{Program}
-use Rattle.sqlite_sql.specs.Program.{QueryOverflows}
-use Rattle.sqlite.specs.Query.{Query}
-use Rattle.sqlite.specs.Term.{Term}
+use Rattle.zeb_register.proofs.Cited.{IsPlain, command_of, Select, RefusesToRead, reads_listing, IsSourceOf, Row, Query, State, HasCause, IsTooLate, store_error, Term, Trees, Error, Compiled, CompileError, Program, QueryOverflows, StoreError, ◌≡◌, ◌⊎◌, ◌∙◌, ◌≤◌, ℕ, List, length, Ok, Err, Result, IsTrue, inl, inr, None, true, false, sym, ap, subst, subst₂, append-nil, Store, fault_of, store_schema, IsStore, MayRefuse, IsReasonedError, IsSilent, LooksUp}
+use Rattle.sqlite.specs.Listing.{understood}
+use Rattle.sqlite.specs.State.{FailsToQuery, IsNotRun}
 use Rattle.sqlite_value.specs.declared.keys.Key.{Key}
-use Rattle.sqlite.specs.Command.TheVariants.{Select}
-use Rattle.sqlite.specs.Effect.{IsShown, RefusesToRead}
-use Rattle.sqlite.specs.Listing.{understood, reads_listing, IsSourceOf}
-use Rattle.sqlite.specs.State.{State, HasCause, FailsToQuery, IsNotRun, IsTooLate, store_error}
-use Rattle.sqlite.specs.declared.error.Error.{Error}
-use Rattle.sqlite.proofs.Callers.{IsPlain, command_of}
-use Rattle.sqlite_resolve.specs.declared.compiled.Compiled.{Compiled}
-use Rattle.sqlite_resolve.specs.declared.error.CompileError.{CompileError}
-use Rattle.sqlite_trees.specs.declared.error.StoreError.{StoreError}
+use Rattle.sqlite.specs.Effect.{IsShown}
 use Rattle.sqlite_trees.specs.declared.error.StoreError.TheVariants as cause
-use Rattle.zeb_register.specs.declared.faults.RegFault.TheVariants.{Store}
-use Rattle.zeb_register.specs.Faults.{fault_of}
-use Rattle.zeb_register.specs.Tables.{store_schema}
 use Rattle.zeb_register.proofs.StatementForms.{Condition, reading_by, alone}
-use Rattle.zeb_register.specs.Store.{IsStore}
-use Rattle.zeb_register.specs.Calls.{MayRefuse}
 
 -- the text is one statement with so many parameters
 abbrev pub IsWhole : List ℕ → ℕ → Result Compiled CompileError → Type 0
@@ -96,3 +79,20 @@ module _ (sql : List ℕ) (params : Row) (tree : ℕ) (wheres : List Condition) 
     (old new : State) (store : IsStore old) where
   pub why_refused : (e : Error) → fault_of e ≡ Store → FailsToQuery sql params old new e → MayRefuse old new
   why_refused = why_query_refused sql params (reading_by tree wheres project keys limit) names is plain unlisted whole fit (λ trees over. elim over [ inl none ↦ none | inr some ↦ some.4 ]) old new store
+
+-- ---- a query on the tables of a store, with what it is compiled to
+
+pub record IsQuery (sql : List ℕ) (params : Row) (tree : ℕ) (wheres : List Condition) (project : List Term) (keys : List (Term × Key)) (limit : Term) (names : List (List ℕ)) : Type 0 where
+  pub is : command_of (understood store_schema sql) ≡ Select (alone (reading_by tree wheres project keys limit)) names
+  pub plain : IsPlain (understood store_schema sql)
+  pub unlisted : reads_listing store_schema sql ≡ false
+  pub silent : IsSilent sql
+  pub whole : IsWhole sql (length params) (understood store_schema sql)
+  pub fit : IsFit (alone (reading_by tree wheres project keys limit)) params
+
+pub refused : {sql : List ℕ} {params : Row} {tree : ℕ} {wheres : List Condition} {project : List Term} {keys : List (Term × Key)} {limit : Term} {names : List (List ℕ)} → IsQuery sql params tree wheres project keys limit names → IsReasonedQuery sql params
+refused {sql} {params} {tree} {wheres} {project} {keys} {limit} {names} q old new e store told failed = why_refused sql params tree wheres project keys limit names q.is q.plain q.unlisted q.whole q.fit old new store e told failed
+
+pub why_failed : {A : Type 0} {rows : A → List Row} {sql : List ℕ} {params : Row} → IsReasonedQuery sql params → (old new : State) (r : Result A Error) → LooksUp rows sql params old new r → IsReasonedError old new r
+why_failed reasoned old new (Ok x) looks clean store = tt
+why_failed reasoned old new (Err e) looks clean store = λ told. reasoned old new e store told (looks.err clean)

@@ -1,11 +1,6 @@
 -- Lists that rise in an order that tells values apart: each is told by its members, and for each list of members there is one.
-use Rattle.std.proofs.Common.{◌≡◌, ◌≢◌, ◌↔◌, ◌⊎◌, ◌∙◌, Bool, true, false, cond, suc, length, List, [], ◌∷◌, ◌++◌, refl, sym, ap, ap₂, subst, inl, inr, Ordering, Less, Equal, Greater, filter}
-use Rattle.std.specs.Ordering.{ordering_reverse}
-use Rattle.std.specs.Cmp.{IsTotalOrder}
+use Rattle.zeb_register.proofs.Cited.{all_has, all_from, has_filtered, has_left, has_right, has_either, Has, ◌≡◌, ◌≢◌, ◌↔◌, ◌⊎◌, ◌∙◌, Bool, true, false, cond, suc, length, List, [], ◌∷◌, ◌++◌, refl, sym, ap, ap₂, subst, inl, inr, Ordering, Less, Equal, Greater, filter, tied_itself, IsTotalOrder, ordering_reverse}
 use Rattle.std.specs.List.Sorted.{IsStrictlySortedBy}
-use Rattle.std.proofs.lemmas.Cmp.{tied_itself}
-use Rattle.sqlite_rules.specs.Lists.{Has}
-use Rattle.sqlite_rules.proofs.ListLemmas.{all_has, all_from, has_filtered, has_left, has_right, has_either}
 
 module _ {K : Type 0} {R : K → K → Ordering} (o : IsTotalOrder R) where
   pub never_itself : (x : K) → R x x ≡ Less → ⊥

@@ -1,40 +1,7 @@
 -- The rows of a STRICT table whose columns are never NULL, and the conditions that they meet.
-use Rattle.std.proofs.Common.{◌≡◌, ◌↔◌, inl, inr, ℕ, zero, suc, ◌+◌, Bool, true, false, cond, not, ◌&&◌, ◌||◌, List, [], ◌∷◌, length, map, Some, None, Option, refl, sym, ap, ap₂, subst, ◌∙◌, arith, eqb, Ordering, Less, Equal, Greater, is_eq, true≢false, get_or, int_cmp, nat_cmp, ℤ}
-use Rattle.std.specs.Ordering.{is_lt, is_ge}
-use Rattle.std.specs.Cmp.Lexicographic.{slice_cmp}
-use Rattle.std.specs.List.{AllByRecursion, list_all, list_any, range_with_len}
-use Rattle.std.proofs.lemmas.Bool.{and_parts, and_from, or_cases, or_left, or_right, eqb-true, ltb-true, not-true, both_ways}
-use Rattle.std.proofs.lemmas.Cmp.{tied_itself, int_ranked}
-use Rattle.std.proofs.lemmas.Map.Text.{is_eq-slice_cmp}
-use Rattle.std.proofs.lemmas.Slice.Eq.{bytes_eq-Decides}
-use Rattle.sqlite.specs.declared.types.Value.{Value}
-use Rattle.sqlite.specs.declared.types.Value.TheVariants.{Null, Int, Real, Text, Blob}
-use Rattle.sqlite.specs.Order.{Row, column, value_cmp}
-use Rattle.sqlite.specs.Ops.{binary, is_null, is_true, from_truth}
-use Rattle.sqlite.specs.Term.{Term, lit, col, eval, eval_all, holds}
-use Rattle.sqlite.specs.Kind.{Kind}
+use Rattle.zeb_register.proofs.Cited.{Binary, Kind, is_null, is_true, from_truth, Row, column, value_cmp, key_cmp, Schema, Term, lit, col, eval, eval_all, holds, Trees, rowid, is_int, Value, Null, Int, Real, Text, Blob, IsSound, some_has, some_from, test_has, keeps_at, aims, Has, is_key, kind_code, suits, are_typed, are_present, agree, guards, clashes, differ, Column, Datatype, NotNull, Unique, key_cmp_shift, Compare, Eq, Ge, Lt, first_key-plain, then_tied, value_cmp_total, value_cmp-Int, value_cmp-Text, value_cmp-Blob, first_key, ◌≡◌, ◌↔◌, inl, inr, ℕ, zero, suc, ◌+◌, Bool, true, false, cond, not, ◌&&◌, ◌||◌, List, [], ◌∷◌, length, map, Some, None, Option, refl, sym, ap, ap₂, subst, ◌∙◌, arith, eqb, Ordering, Less, Equal, Greater, is_eq, true≢false, get_or, int_cmp, nat_cmp, ℤ, and_parts, and_from, or_cases, or_left, or_right, eqb-true, ltb-true, not-true, both_ways, tied_itself, int_ranked, is_eq-slice_cmp, bytes_eq-Decides, slice_cmp, AllByRecursion, list_all, list_any, range_with_len, is_lt, is_ge, Table, plain, shares_key}
+use Rattle.sqlite.specs.Ops.{binary}
 use Rattle.sqlite.specs.Kind.TheVariants as kind
-use Rattle.sqlite_sql.specs.declared.ops.BinaryOp.TheVariants.{Compare}
-use Rattle.sqlite_sql.specs.declared.ops.CompareOp.TheVariants.{Eq, Ge, Lt}
-use Rattle.sqlite.specs.Collation.TheVariants.{Binary}
-use Rattle.sqlite.specs.Tree.{Trees, rowid}
-use Rattle.sqlite.specs.View.{is_int}
-use Rattle.sqlite.specs.Table.{Table}
-use Rattle.sqlite.specs.Schema.{Schema}
-use Rattle.sqlite_value.proofs.OrderLemmas.{value_cmp_total, value_cmp-Int, value_cmp-Text, value_cmp-Blob}
-use Rattle.sqlite_schema.specs.declared.schema.Column.{Column}
-use Rattle.sqlite_schema.specs.declared.schema.Constraint.TheVariants.{Datatype, NotNull, Unique}
-use Rattle.sqlite_schema.specs.Names.{is_key}
-use Rattle.sqlite_schema.specs.Rules.{kind_code, suits, are_typed, are_present, agree, guards, clashes, differ}
-use Rattle.sqlite_value.specs.Keys.{plain, first_key}
-use Rattle.sqlite_value.proofs.KeyLemmas.{first_key-plain, then_tied}
-use Rattle.sqlite.specs.Query.{key_cmp}
-use Rattle.sqlite_sql.proofs.QueryLemmas.{key_cmp_shift}
-use Rattle.sqlite_rules.specs.Keys.{aims, shares as shares_key}
-use Rattle.sqlite_rules.proofs.ListLemmas.{some_has, some_from, test_has}
-use Rattle.sqlite_rules.specs.Lists.{Has}
-use Rattle.sqlite_rules.proofs.RuleLemmas.{keeps_at}
-use Rattle.sqlite_catalog.specs.Listing.{IsSound}
 use Rattle.zeb_register.proofs.StatementForms.{Condition, equals, at_least, less_than, term_of, Meets, MeetsAll, passes, ascending, ordering}
 use Rattle.zeb_register.proofs.ValueKinds.{keeps, keeps_all, term_code, is_plain_term, holds_code, store_all, code, codes_from, codes_of, is_empty, are_whole, is_whole, is_exact, fits, are_comparable, SharesKey, HasKeys, is_at, covers}
 

@@ -1,40 +1,16 @@
 -- Rows that are read one at a time, beside what is expected of them.
-use Rattle.std.proofs.Common.{◌≡◌, ◌↔◌, ◌⊎◌, ◌∙◌, ◌≤◌, ℕ, ℤ, Bool, true, false, IsTrue, IsSome, List, [], ◌∷◌, ◌++◌, length, map, drop, Option, Some, None, Result, Ok, Err, MatchOption, inl, inr, refl, sym, ap, subst, append_assoc, append-nil, arith}
+use Rattle.zeb_register.proofs.Cited.{EndsIn, begins_shown, command_of, given_begin, unchanged_then, timed, Select, Database, HasBegun, HasGiven, Returns, Held, state, reads_listing, IsSourceOf, Row, Query, State, Fails, IsStatement, IsUnchanged, Error, Int, Compiled, CompileError, ◌≡◌, ◌↔◌, ◌⊎◌, ◌∙◌, ◌≤◌, ℕ, ℤ, Bool, true, false, IsTrue, IsSome, List, [], ◌∷◌, ◌++◌, length, map, drop, pos, Option, Some, None, Result, Ok, Err, MatchOption, inl, inr, refl, sym, ap, subst, append_assoc, append-nil, arith, Records, Postings, Blocks, Dict, ExpectedDatabase, KeyPosting, Store, ChangesNothing, MayRefuse, fault_of, record_shown, AsExpected, IsBlockBefore, IsInOrder, posting_shown, tree_of, TakeAll, IsRunBefore, Fits, rests_text, size_of, IsListOf, IsRest, IsStore, postings_tree, records_tree, store_schema}
+use Rattle.sqlite.specs.Listing.{understood}
+use Rattle.sqlite.specs.State.{FailsToQuery, Shown}
 use Rattle.sqlite_trees.specs.declared.store.Store as store
-use Rattle.sqlite.specs.Clock.{timed}
-use Rattle.sqlite.specs.Command.TheVariants.{Select}
-use Rattle.sqlite.specs.Effect.{Database}
-use Rattle.sqlite.specs.Given.{HasBegun, HasGiven, Returns}
-use Rattle.sqlite.specs.Held.{Held, state}
-use Rattle.sqlite.specs.Listing.{understood, reads_listing, IsSourceOf}
-use Rattle.sqlite.specs.Order.{Row}
-use Rattle.sqlite.specs.Query.{Query}
-use Rattle.sqlite.specs.State.{State, Fails, FailsToQuery, IsStatement, IsUnchanged, Shown}
-use Rattle.sqlite.specs.declared.error.Error.{Error}
-use Rattle.sqlite.specs.declared.types.Value.TheVariants.{Int}
-use Rattle.sqlite.proofs.Callers.{EndsIn, begins_shown, command_of, given_begin, unchanged_then}
-use Rattle.sqlite_resolve.specs.declared.compiled.Compiled.{Compiled}
-use Rattle.sqlite_resolve.specs.declared.error.CompileError.{CompileError}
 use Rattle.zeb_register.specs.declared.agreeing.Table.{Table}
-use Rattle.zeb_register.specs.declared.agreeing.Table.TheVariants.{Records, Postings, Blocks, Dict}
-use Rattle.zeb_register.specs.declared.expected.ExpectedDatabase.{ExpectedDatabase}
-use Rattle.zeb_register.specs.declared.expected.KeyPosting.{KeyPosting}
-use Rattle.zeb_register.specs.declared.faults.RegFault.TheVariants.{Store}
-use Rattle.zeb_register.specs.Calls.{ChangesNothing, MayRefuse}
-use Rattle.zeb_register.specs.Faults.{fault_of}
-use Rattle.zeb_register.specs.Kept.{record_shown}
-use Rattle.zeb_register.specs.PrivateRowExpected.{AsExpected, IsBlockBefore, IsInOrder, posting_shown, tree_of, TakeAll}
-use Rattle.zeb_register.specs.PrivateRowKeys.{IsRunBefore}
-use Rattle.zeb_register.specs.PrivateRowReads.{Fits, rests_text, size_of}
-use Rattle.zeb_register.specs.Sql.{IsListOf}
-use Rattle.zeb_register.specs.Store.{IsRest, IsStore, postings_tree, records_tree}
-use Rattle.zeb_register.specs.Tables.{store_schema}
 use Rattle.zeb_register.proofs.Calls.{IsSilent, never_returns, store_same}
 use Rattle.zeb_register.proofs.ExpectedLists.{postings_rise, records_rise, rows_under, under_rows}
-use Rattle.zeb_register.proofs.ExpectedStatements.{blocks_is, blocks_refused, blocks_silent, keys_is, keys_refused, keys_silent, lists_blocks, lists_keys, lists_postings, postings_is, postings_refused, postings_silent}
+use Rattle.zeb_register.proofs.ExpectedStatements.{lists_blocks, lists_keys, lists_postings, postings_query, blocks_query, keys_query}
 use Rattle.zeb_register.proofs.KeyRuns.{one_run, runs_all, runs_rest}
 use Rattle.zeb_register.proofs.PackedBeside.{all_numbered, blocks_all, blocks_rest, drop_none, drop_over, map_none, one_before}
-use Rattle.zeb_register.proofs.RecordStatements.{all_is, all_refused, all_silent, lists_all}
+use Rattle.zeb_register.proofs.RecordStatements.{lists_all, all_query}
+use Rattle.zeb_register.proofs.Refusals.{refused}
 use Rattle.zeb_register.proofs.StatementForms.{alone}
 use Rattle.zeb_register.proofs.YesNoAnswers.{told_so}
 
@@ -76,16 +52,16 @@ failed_nothing a b c e first (inl failed) settled open' =
 -- ---- the queries
 
 pub rests_silent : (t : Table) → IsSilent (rests_text t)
-rests_silent Records = all_silent
-rests_silent Postings = postings_silent
-rests_silent Blocks = blocks_silent
-rests_silent Dict = keys_silent
+rests_silent Records = (all_query (pos 0)).silent
+rests_silent Postings = (postings_query (pos 0)).silent
+rests_silent Blocks = (blocks_query (pos 0)).silent
+rests_silent Dict = (keys_query (pos 0)).silent
 
 rests_is : (t : Table) → (q : Query) × (names : List (List ℕ)) × (command_of (understood store_schema (rests_text t)) ≡ Select (alone q) names)
-rests_is Records = (_, _, all_is)
-rests_is Postings = (_, _, postings_is)
-rests_is Blocks = (_, _, blocks_is)
-rests_is Dict = (_, _, keys_is)
+rests_is Records = (_, _, (all_query (pos 0)).is)
+rests_is Postings = (_, _, (postings_query (pos 0)).is)
+rests_is Blocks = (_, _, (blocks_query (pos 0)).is)
+rests_is Dict = (_, _, (keys_query (pos 0)).is)
 
 lists_rests : (t : Table) (id : ℤ) (old new : State) (rows : List Row) → IsStore old → Shown (rests_text t) (Int id ∷ []) old new rows → IsListOf (IsRest (tree_of t) (Int id ∷ []) old.now.trees) rows
 lists_rests Records = lists_all
@@ -94,10 +70,10 @@ lists_rests Blocks = lists_blocks
 lists_rests Dict = lists_keys
 
 pub rests_refused : (t : Table) (id : ℤ) (old new : State) (e : Error) → IsStore old → fault_of e ≡ Store → FailsToQuery (rests_text t) (Int id ∷ []) old new e → MayRefuse old new
-rests_refused Records = all_refused
-rests_refused Postings = postings_refused
-rests_refused Blocks = blocks_refused
-rests_refused Dict = keys_refused
+rests_refused Records id = refused (all_query id)
+rests_refused Postings id = refused (postings_query id)
+rests_refused Blocks id = refused (blocks_query id)
+rests_refused Dict id = refused (keys_query id)
 
 -- ---- one row more
 

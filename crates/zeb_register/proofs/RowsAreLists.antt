@@ -1,14 +1,5 @@
 -- In a table no two rows share a key: so what its rows say is a list.
-use Rattle.std.proofs.Common.{◌≡◌, ℕ, ℤ, List, [], ◌∷◌, refl, ap, inl, inr}
-use Rattle.sqlite.specs.declared.types.Value.TheVariants.{Int, Text, Blob}
-use Rattle.sqlite.specs.Order.{Row, column}
-use Rattle.sqlite.specs.State.{State}
-use Rattle.sqlite_rules.proofs.PlaceLemmas.{tied_same}
-use Rattle.sqlite_value.proofs.OrderLemmas.{value_cmp_total}
-use Rattle.std.proofs.lemmas.Cmp.{tied_itself}
-use Rattle.zeb_register.specs.Sql.{HasRow}
-use Rattle.zeb_register.specs.Store.{IsStore, meta_tree, entry, HasDatabase, HasRecord}
-use Rattle.zeb_register.specs.Tables.{store_schema, meta_table}
+use Rattle.zeb_register.proofs.Cited.{Row, column, State, Int, Text, Blob, tied_same, value_cmp_total, ◌≡◌, ℕ, ℤ, List, [], ◌∷◌, refl, ap, inl, inr, tied_itself, HasRow, IsStore, meta_tree, entry, HasDatabase, HasRecord, store_schema, meta_table}
 use Rattle.zeb_register.proofs.SharedKeys.{single}
 use Rattle.zeb_register.proofs.Writes.{keyed_there}
 use Rattle.zeb_register.proofs.TextStatements.{meta_static, meta_keys}

@@ -1,29 +1,8 @@
 -- What SELECT over one table answers.
-use Rattle.std.proofs.Common.{◌≡◌, ◌↔◌, inl, inr, ℕ, suc, ◌+◌, ◌^◌, get_or, arith, Ordering, Less, Equal, Greater, is_eq, ◌≢◌, Bool, true, false, List, [], ◌∷◌, map, refl, sym, ap, subst, ◌∙◌, leb}
-use Rattle.std.specs.Prelude.{filter, flat_map, IsPermutation, IsSorted}
-use Rattle.std.specs.Cmp.{IsTotalOrder}
-use Rattle.std.specs.Ordering.{is_lt, eq_by_cmp, ordering_reverse}
+use Rattle.zeb_register.proofs.Cited.{Database, Answers, Row, column, value_cmp, row_cmp, overlay, Output, output_cmp, end, IsAnswer, output, matches_as, Term, Env, eval_all, Trees, IsTable, IsAscending, rowid, Value, Null, ascending_filter, all_has, all_from, contains_had, has_filtered, has_kept, has_mapped, mapped_has, Has, output_cmp_total, map-map, all-permutation, ◌≡◌, ◌↔◌, inl, inr, ℕ, suc, ◌+◌, ◌^◌, get_or, arith, Ordering, Less, Equal, Greater, is_eq, ◌≢◌, Bool, true, false, List, [], ◌∷◌, map, refl, sym, ap, subst, ◌∙◌, leb, filter, cases_Bool, eq_by_cmp_equiv, IsPermutation-sym, sorted_far, ranks_by, IsDistinct-IsPermutation, IsTotalOrder, is_lt, eq_by_cmp, ordering_reverse, flat_map, IsPermutation, IsSorted}
 use Rattle.std.specs.List.{IsDistinct}
 use Rattle.std.specs.List.Sorted.{IsStrictlySortedBy}
-use Rattle.std.proofs.lemmas.Bool.{cases_Bool}
-use Rattle.std.proofs.lemmas.List.Sorted.{IsPermutation-sym, sorted_far, ranks_by}
-use Rattle.sqlite.specs.declared.types.Value.{Value}
-use Rattle.sqlite.specs.declared.types.Value.TheVariants.{Null}
-use Rattle.sqlite.specs.Order.{Row, column, value_cmp, row_cmp}
-use Rattle.sqlite.specs.Query.{Output, output_cmp, end, IsAnswer, output, matches_as}
-use Rattle.sqlite.specs.Term.{Term, Env, eval_all}
-use Rattle.sqlite.specs.Tree.{Trees, IsTable, IsAscending, rowid}
 use Rattle.sqlite_value.specs.declared.keys.Key.{Key}
-use Rattle.sqlite.specs.Program.{overlay}
-use Rattle.sqlite.specs.Effect.{Database, Answers}
-use Rattle.std.proofs.lemmas.Cmp.{eq_by_cmp_equiv}
-use Rattle.std.proofs.lemmas.Map.Keys.{IsDistinct-IsPermutation}
-use Rattle.sqlite_sql.proofs.QueryLemmas.{output_cmp_total}
-use Rattle.sqlite_catalog.proofs.LayoutLemmas.{ascending_filter}
-use Rattle.sqlite_trees.proofs.ListLemmas.{map-map, all-permutation}
-use Rattle.sqlite_rules.specs.Lists.{Has}
-use Rattle.sqlite_rules.proofs.ListLemmas.{all_has, all_from, contains_had, has_filtered, has_kept}
-use Rattle.sqlite_rules.proofs.ProbeLemmas.{has_mapped, mapped_has}
 use Rattle.zeb_register.proofs.StatementForms.{Condition, term_of, passes, reading, reading_by, alone, rising, ascending, ordering, shown_of, IsReading}
 
 -- ---- sorted lists

@@ -1,21 +1,7 @@
 -- SELECT over one table, as the rows of the table that it lists.
-use Rattle.std.proofs.Common.{◌≡◌, ◌↔◌, ℕ, true, false, List, [], ◌∷◌, map, arith, refl, sym, ap, subst, ◌∙◌, Less, Equal}
-use Rattle.std.specs.List.{list_any}
-use Rattle.sqlite.specs.Order.{Row, column, row_cmp}
-use Rattle.sqlite.specs.Table.{Table}
-use Rattle.sqlite.specs.Schema.{Schema}
-use Rattle.sqlite.specs.Term.{Term, eval, eval_all}
-use Rattle.sqlite.specs.Query.{limited, as_count}
-use Rattle.sqlite.specs.Command.TheVariants.{Select}
-use Rattle.sqlite.specs.Effect.{IsDatabase}
-use Rattle.sqlite.specs.Listing.{understood, reads_listing}
-use Rattle.sqlite.specs.State.{State, HasCleanDisk, Survives, CommitsShowing, Shown, ShowsRows, IsUnchanged}
-use Rattle.sqlite.specs.Clock.{timed}
-use Rattle.sqlite.proofs.Callers.{never_commits, IsPlain, command_of, reads_as}
-use Rattle.sqlite.proofs.StateLemmas.{survives_weaker}
-use Rattle.sqlite_rules.specs.Lists.{Has}
-use Rattle.sqlite_rules.proofs.ListLemmas.{all_has, has_got}
-use Rattle.zeb_register.specs.Sql.{HasLayout, IsListOf}
+use Rattle.zeb_register.proofs.Cited.{IsPlain, command_of, reads_as, Select, IsDatabase, reads_listing, Row, column, row_cmp, limited, as_count, Schema, State, Term, eval, eval_all, all_has, has_got, Has, ◌≡◌, ◌↔◌, ℕ, true, false, List, [], ◌∷◌, map, refl, sym, ap, subst, ◌∙◌, Less, Equal, list_any, Table, HasLayout, IsListOf}
+use Rattle.sqlite.specs.Listing.{understood}
+use Rattle.sqlite.specs.State.{Shown}
 use Rattle.zeb_register.proofs.StatementForms.{Condition, MeetsAll, passes, reading, alone, rising, shows, ordering}
 use Rattle.zeb_register.proofs.ValueKinds.{IsPlainTable, HasKeys, are_fit, are_comparable, codes_of, covers}
 use Rattle.zeb_register.proofs.RowLemmas.{covered_some, ordering_tied, shares_alone}
@@ -25,13 +11,6 @@ use Rattle.zeb_register.proofs.Writes.{keyed_there, codes_there, meets_there}
 pub shown_places : (params r : Row) (show : List ℕ) → eval_all (shows show) (params ∷ r ∷ []) ≡ map (column r) show
 shown_places params r [] = refl
 shown_places params r (place ∷ show) = ap (λ vs. column r place ∷ vs) (shown_places params r show)
-
--- a query leaves the database as it was
-pub shown_unchanged : (sql : List ℕ) (params : Row) (old new : State) (rows : List Row) → IsPlain (understood old.now.schema sql) → Shown sql params old new rows → IsUnchanged old new
-unfolding Shown
-shown_unchanged sql params old new rows plain h =
-    let none = (subst IsPlain h.1.is plain).0 in
-    let it = subst (ShowsRows old new sql h.0 (timed params h.0.formats h.1.now) rows) none h.2 in it.3
 
 -- the rows of a table that meet conditions, by the columns that are shown
 abbrev pub IsSelected : List Row → List Condition → Row → List ℕ → Row → Type 0
@@ -72,11 +51,3 @@ module _ (schema : Schema) (at : ℕ) (table : Table) (static : IsPlainTable sch
 
 pub list_so : (P Q : Row → Type 0) (rows : List Row) → ((x : Row) → P x ↔ Q x) → IsListOf P rows → IsListOf Q rows
 list_so P Q rows so h = record { each = λ x. (λ there. (so x).0 ((h.each x).0 there), λ q. (h.each x).1 ((so x).1 q)); rising = h.rising }
-
--- a query commits nothing
-pub reads_survive : (sql : List ℕ) (params : Row) (schema : Schema) (old new : State) → (HasCleanDisk old → HasLayout schema old) → IsPlain (understood schema sql) → Survives old new (CommitsShowing sql params old) → Survives old new (λ _. ⊥)
-reads_survive sql params schema old new layout plain h =
-    survives_weaker old new _ _ (λ clean db. never_commits sql params old db (subst (λ s. IsPlain (understood s sql)) (sym (layout (omega (arith, h.clean))).is) plain)) h
-
-pub reads_unchanged : (sql : List ℕ) (params : Row) (schema : Schema) (old new : State) (rows : List Row) → HasLayout schema old → IsPlain (understood schema sql) → Shown sql params old new rows → IsUnchanged old new
-reads_unchanged sql params schema old new rows layout plain = shown_unchanged sql params old new rows (subst (λ s. IsPlain (understood s sql)) (sym layout.is) plain)

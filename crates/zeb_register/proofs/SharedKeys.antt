@@ -1,20 +1,6 @@
 -- In a table two rows that share a key are one.
-use Rattle.std.proofs.Common.{◌≡◌, ◌∙◌, ℕ, ℤ, List, ◌∷◌, true, Ordering, Less, Equal, Greater, refl, ap, subst}
-use Rattle.std.specs.Ordering.{ordering_reverse}
-use Rattle.sqlite.specs.declared.types.Value.TheVariants.{Int}
-use Rattle.sqlite.specs.Effect.{IsDatabase}
-use Rattle.sqlite.specs.Order.{Row, value_cmp}
-use Rattle.sqlite.specs.State.{State}
-use Rattle.sqlite.specs.Table.{Table}
-use Rattle.sqlite.specs.Tree.{rowid}
-use Rattle.sqlite.specs.View.{is_int}
-use Rattle.sqlite_rules.specs.Lists.{Has}
-use Rattle.sqlite_rules.proofs.ListLemmas.{has_got}
-use Rattle.sqlite_rules.proofs.PlaceLemmas.{tied_same}
-use Rattle.sqlite_value.proofs.OrderLemmas.{value_cmp_total}
+use Rattle.zeb_register.proofs.Cited.{IsDatabase, Row, value_cmp, State, rowid, is_int, Int, has_got, tied_same, Has, value_cmp_total, ◌≡◌, ◌∙◌, ℕ, ℤ, List, ◌∷◌, true, Ordering, Less, Equal, Greater, refl, ap, subst, ordering_reverse, Table, IsStore, store_schema}
 use Rattle.zeb_register.proofs.ValueKinds.{IsPlainTable, HasKeys, SharesKey}
-use Rattle.zeb_register.specs.Store.{IsStore}
-use Rattle.zeb_register.specs.Tables.{store_schema}
 use Rattle.zeb_register.proofs.RowLemmas.{shares_alone}
 use Rattle.zeb_register.proofs.Writes.{keyed_there, codes_there}
 

@@ -1,16 +1,5 @@
 -- The forms of statement that are used here: which rows a WHERE passes, and which list a SELECT shows.
-use Rattle.std.specs.Prelude.{◌≡◌, ℕ, zero, suc, Bool, true, false, List, [], ◌∷◌, map, filter, pos, negsuc, None, IsPermutation, IsSorted}
-use Rattle.std.specs.List.{AllByRecursion, list_all}
-use Rattle.std.specs.declared.cmp.Ordering.{Ordering}
-use Rattle.std.specs.Ordering.{is_lt}
-use Rattle.sqlite.specs.declared.types.Value.TheVariants.{Int}
-use Rattle.sqlite.specs.Collation.TheVariants.{Binary}
-use Rattle.sqlite.specs.Order.{Row, column, value_cmp}
-use Rattle.sqlite.specs.Query.{Query, inner, end, Output, output_cmp, key_cmp, limited, as_count}
-use Rattle.sqlite.specs.Term.{Term, lit, col, op2, eval, eval_all, holds}
-use Rattle.sqlite_schema.specs.declared.program.Program.{Program}
-use Rattle.sqlite_sql.specs.declared.ops.BinaryOp.TheVariants.{Compare}
-use Rattle.sqlite_sql.specs.declared.ops.CompareOp.TheVariants.{Eq, Ge, Lt}
+use Rattle.zeb_register.proofs.Cited.{Binary, Row, column, value_cmp, Query, inner, end, Output, output_cmp, key_cmp, limited, as_count, Term, lit, col, op2, eval, eval_all, holds, Int, Program, Compare, Eq, Ge, Lt, ◌≡◌, ℕ, zero, suc, Bool, true, false, List, [], ◌∷◌, map, filter, pos, negsuc, None, Ordering, AllByRecursion, list_all, is_lt, IsPermutation, IsSorted}
 use Rattle.sqlite_value.specs.declared.keys.Key.{Key}
 
 -- ---- WHERE: conditions on the places of a row, whose rowid is at place 0, by parameters from 0 on

@@ -1,20 +1,8 @@
 -- The list of a register's terms: there is one, and what its parts next to a text are.
-use Rattle.std.proofs.Common.{◌≡◌, ◌⊎◌, ◌∙◌, ◌<◌, ◌≤◌, ◌+◌, ◌-◌, ℕ, zero, suc, Bool, true, false, not, List, [], ◌∷◌, ◌++◌, length, filter, take, drop, reverse, refl, sym, ap, subst, inl, inr, Ordering, Less, Equal, Greater, nat_cmp, arith, append_assoc, Some, None, String, string_bytes}
-use Rattle.std.specs.declared.alloc.Global.{Global}
-use Rattle.std.specs.Ordering.{is_lt, ordering_then, ordering_reverse}
-use Rattle.std.specs.Cmp.{nat_cmp_total}
-use Rattle.std.specs.Cmp.Lexicographic.{slice_cmp, nat_list_cmp_total}
+use Rattle.zeb_register.proofs.Cited.{all_from, has_filtered, has_kept, has_left, has_right, has_either, Has, ◌≡◌, ◌⊎◌, ◌∙◌, ◌<◌, ◌≤◌, ◌+◌, ◌-◌, ℕ, zero, suc, Bool, true, false, not, List, [], ◌∷◌, ◌++◌, length, filter, take, drop, reverse, refl, sym, ap, subst, inl, inr, Ordering, Less, Equal, Greater, nat_cmp, arith, append_assoc, Some, None, String, string_bytes, cases_Bool, reverse-append, length-reverse, nat_cmp_total, slice_cmp, nat_list_cmp_total, is_lt, ordering_then, ordering_reverse, Global, TermCount, IsCount, AreCounts, term_cmp, is_before, is_from, last, IsTerm, IsLeastTerm, IsGreatestTerm}
 use Rattle.std.specs.List.Sorted.{IsStrictlySortedBy}
-use Rattle.std.proofs.lemmas.Cmp.{tied_itself}
-use Rattle.std.proofs.lemmas.Bool.{cases_Bool}
-use Rattle.std.proofs.lemmas.List.{reverse-append, length-reverse}
-use Rattle.sqlite_rules.specs.Lists.{Has}
-use Rattle.sqlite_rules.proofs.ListLemmas.{all_from, has_filtered, has_kept, has_left, has_right, has_either}
-use Rattle.zeb_register.specs.declared.registers.TermCount.{TermCount}
-use Rattle.zeb_register.specs.Occurring.{IsCount, AreCounts, term_cmp, is_before, is_from, last}
-use Rattle.zeb_register.specs.PrivateRowTerms.{IsTerm, IsLeastTerm, IsGreatestTerm}
 use Rattle.zeb_register.proofs.RowLemmas.{same_bytes}
-use Rattle.zeb_register.proofs.RisingLists.{same_list, kept_rises, pushed_rises, never_back}
+use Rattle.zeb_register.proofs.RisingLists.{same_list, kept_rises, pushed_rises}
 use Rattle.zeb_register.proofs.CountLemmas.{is_less, term_total, one_count}
 
 -- ---- texts next to each other
@@ -75,12 +63,6 @@ not_lower_then s t u up low = elim (cases_Bool (lower s u)) [
   | inr is ↦ is
   | inl is ↦ absurd (let e : true ≡ false = sym (ap is_lt (nat_list_cmp_total.trans t s u up (lower_less s u is))) ∙ low in cc)
 ]
-
-never_lower : (s t : List ℕ) → slice_cmp nat_cmp s t ≡ Less → lower t s ≡ false
-never_lower s t h = elim (cases_Bool (lower t s)) [ inr is ↦ is | inl is ↦ absurd (never_back nat_list_cmp_total s t h (lower_less t s is)) ]
-
-lower_itself : (s : List ℕ) → lower s s ≡ false
-lower_itself s = ap is_lt (tied_itself nat_list_cmp_total s)
 
 not_true_is : (b : Bool) → not b ≡ true → b ≡ false
 not_true_is true h = absurd (cc)

@@ -1,31 +1,6 @@
 -- Rows of a register as the terms of a content.
-use Rattle.std.proofs.Common.{◌≡◌, ◌≢◌, ◌↔◌, ◌⊎◌, ◌∙◌, ◌<◌, ◌≤◌, ◌+◌, ℕ, ℤ, pos, negsuc, zero, suc, true, false, List, [], ◌∷◌, ◌++◌, length, map, take, drop, get_or, refl, sym, ap, ap₂, subst, inl, inr, Ordering, Less, Equal, Greater, nat_cmp, arith, Option, Some, None, String, string_bytes, IsUtf8}
-use Rattle.std.proofs.lemmas.List.{take_more}
-use Rattle.std.specs.List.{slice_set}
-use Rattle.std.specs.Ordering.{is_lt, ordering_then}
-use Rattle.std.specs.Cmp.{nat_cmp_total}
-use Rattle.std.specs.Cmp.Lexicographic.{slice_cmp}
+use Rattle.zeb_register.proofs.Cited.{Row, column, value_cmp, row_cmp, Trees, Value, Null, Int, Real, Text, Blob, has_left, has_right, has_either, has_mapped, mapped_has, Has, row_cmp_total, value_cmp-Int, value_cmp-Text, ◌≡◌, ◌≢◌, ◌↔◌, ◌⊎◌, ◌∙◌, ◌<◌, ◌≤◌, ◌+◌, ℕ, ℤ, pos, negsuc, zero, suc, true, false, List, [], ◌∷◌, ◌++◌, length, map, take, drop, get_or, refl, sym, ap, ap₂, subst, inl, inr, Ordering, Less, Equal, Greater, nat_cmp, arith, Option, Some, None, String, string_bytes, IsUtf8, take_more, slice_cmp, slice_set, is_lt, ordering_then, Global, Register, Posting, register_code, numbers_apart, TermCount, HasRow, IsListOf, postings_tree, key_of, IsRest, Content, IsStorable, posted, posting_cmp, HoldsRows, posting_row, register_front, IsCount, AreCounts, AreSpotsOf, AreTermsOf, HasSpot, Spot, TermIn, key_in, spot_cmp, IsInRecord, IsTerm, HasTerm, ShowsOccurrence, IsOccurrenceRow, IsShown, ShowsTerm, IsTermRow, ShowsLeast, ShowsGreatest, IsLeastTerm, IsGreatestTerm}
 use Rattle.std.specs.List.Sorted.{IsStrictlySortedBy}
-use Rattle.std.specs.declared.alloc.Global.{Global}
-use Rattle.sqlite.specs.declared.types.Value.{Value}
-use Rattle.sqlite.specs.declared.types.Value.TheVariants.{Null, Int, Real, Text, Blob}
-use Rattle.sqlite.specs.Order.{Row, column, value_cmp, row_cmp}
-use Rattle.sqlite.specs.Tree.{Trees}
-use Rattle.sqlite_rules.specs.Lists.{Has}
-use Rattle.sqlite_rules.proofs.ListLemmas.{has_left, has_right, has_either}
-use Rattle.sqlite_rules.proofs.ProbeLemmas.{has_mapped, mapped_has}
-use Rattle.sqlite_value.proofs.OrderLemmas.{row_cmp_total, value_cmp-Int, value_cmp-Text}
-use Rattle.zeb_keys.specs.declared.Register.{Register}
-use Rattle.zeb_blocks.specs.declared.postings.Posting.{Posting}
-use Rattle.zeb_keys.specs.Registers.{register_code}
-use Rattle.zeb_keys.proofs.Rising.{numbers_apart}
-use Rattle.zeb_register.specs.declared.registers.TermCount.{TermCount}
-use Rattle.zeb_register.specs.Sql.{HasRow, IsListOf}
-use Rattle.zeb_register.specs.Store.{postings_tree, key_of, IsRest}
-use Rattle.zeb_register.specs.Content.{Content, IsStorable, posted, posting_cmp}
-use Rattle.zeb_register.specs.PlainRows.{HoldsRows, posting_row, register_front}
-use Rattle.zeb_register.specs.Occurring.{IsCount, AreCounts, AreSpotsOf, AreTermsOf, HasSpot, Spot, TermIn, key_in, spot_cmp}
-use Rattle.zeb_register.specs.PrivateRowTerms.{IsInRecord, IsTerm, HasTerm, ShowsOccurrence, IsOccurrenceRow, IsShown, ShowsTerm, IsTermRow, ShowsLeast, ShowsGreatest, IsLeastTerm, IsGreatestTerm}
 use Rattle.zeb_register.proofs.RisingLists.{front_rises, before_last}
 use Rattle.zeb_register.proofs.RowLemmas.{same_bytes}
 use Rattle.zeb_register.proofs.Scans.{strictly_mapped}

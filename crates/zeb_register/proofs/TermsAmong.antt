@@ -1,18 +1,6 @@
 -- A register has a list of its terms where these are among the texts of a list.
-use Rattle.std.proofs.Common.{◌≡◌, ℕ, ℤ, Bool, true, false, List, [], ◌∷◌, length, map, filter, refl, sym, ap, subst, inl, inr, nat_cmp}
-use Rattle.std.specs.Cmp.{nat_cmp_total}
-use Rattle.std.specs.Cmp.Lexicographic.{slice_cmp, nat_list_cmp_total}
+use Rattle.zeb_register.proofs.Cited.{has_filtered, has_kept, has_mapped, mapped_has, Has, ◌≡◌, ℕ, ℤ, Bool, true, false, List, [], ◌∷◌, length, map, filter, refl, sym, ap, subst, inl, inr, nat_cmp, nat_cmp_total, slice_cmp, nat_list_cmp_total, Register, numbers_apart, Posting, TermCount, Content, posted, IsCount, AreTermsOf, TermIn, key_in, term_cmp, IsInRecord, term_with}
 use Rattle.std.specs.List.Sorted.{IsStrictlySortedBy}
-use Rattle.sqlite_rules.specs.Lists.{Has}
-use Rattle.sqlite_rules.proofs.ListLemmas.{has_filtered, has_kept}
-use Rattle.sqlite_rules.proofs.ProbeLemmas.{has_mapped, mapped_has}
-use Rattle.zeb_keys.specs.declared.Register.{Register}
-use Rattle.zeb_keys.proofs.Rising.{numbers_apart}
-use Rattle.zeb_blocks.specs.declared.postings.Posting.{Posting}
-use Rattle.zeb_register.specs.declared.registers.TermCount.{TermCount}
-use Rattle.zeb_register.specs.Content.{Content, posted}
-use Rattle.zeb_register.specs.Occurring.{IsCount, AreTermsOf, TermIn, key_in, term_cmp}
-use Rattle.zeb_register.specs.PrivateRowTerms.{IsInRecord, term_with}
 use Rattle.zeb_register.proofs.RisingLists.{kept_rises, with_all, all_there, all_rise}
 use Rattle.zeb_register.proofs.RowLemmas.{same_bytes}
 use Rattle.zeb_register.proofs.Scans.{strictly_mapped}

@@ -1,22 +1,6 @@
 -- Which type each value of a row has, as a number, and which conditions compare values of one type.
-use Rattle.std.specs.Prelude.{zero, suc, nat_lt, ◌≡◌, ◌⊎◌, None, Some, slice_get, ℕ, ◌+◌, Bool, true, false, not, ◌&&◌, ◌||◌, ◌==◌, if◌then◌else◌, List, [], ◌∷◌, Option, slice_index_or}
-use Rattle.std.specs.List.{list_all, list_any, AllByRecursion}
-use Rattle.sqlite.specs.declared.types.Value.{Value}
-use Rattle.sqlite.specs.declared.types.Value.TheVariants.{Null, Int, Text}
-use Rattle.sqlite.specs.Kind.{Kind}
+use Rattle.zeb_register.proofs.Cited.{Kind, is_null, Row, column, Schema, Term, lit, col, Value, Null, Int, Text, works, shares, is_key, kind_of, kind_code, agree, Column, Enforced, zero, suc, ◌≡◌, ◌⊎◌, None, Some, slice_get, ℕ, ◌+◌, Bool, true, false, not, ◌&&◌, ◌||◌, ◌==◌, if◌then◌else◌, List, [], ◌∷◌, Option, list_all, list_any, AllByRecursion, nat_lt, slice_index_or, plain, Table}
 use Rattle.sqlite.specs.Kind.TheVariants as kind
-use Rattle.sqlite.specs.Ops.{is_null}
-use Rattle.sqlite_value.specs.Keys.{plain}
-use Rattle.sqlite_rules.specs.Keys.{shares}
-use Rattle.sqlite.specs.Order.{Row, column}
-use Rattle.sqlite.specs.Term.{Term, lit, col}
-use Rattle.sqlite.specs.Table.{Table}
-use Rattle.sqlite_schema.specs.declared.schema.Column.{Column}
-use Rattle.sqlite.specs.Schema.{Schema}
-use Rattle.sqlite_schema.specs.declared.schema.Keys.TheVariants.{Enforced}
-use Rattle.sqlite_rules.specs.Action.{works}
-use Rattle.sqlite_schema.specs.Names.{is_key}
-use Rattle.sqlite_schema.specs.Rules.{kind_of, kind_code, agree}
 use Rattle.zeb_register.proofs.StatementForms.{Condition, equals, at_least, less_than}
 
 -- 0 NULL, 1 an integer, 2 a float, 3 a text, 4 a blob

@@ -1,38 +1,7 @@
 -- DELETE, INSERT and INSERT OR REPLACE on a table, as what they make of its rows.
-use Rattle.std.proofs.Common.{drop, eqb, ◌&&◌, unwrap_or, is_eq, ◌≡◌, ◌⊎◌, ◌↔◌, ℕ, ℤ, ◌/◌, true, List, [], ◌∷◌, length, map, Ok, inl, inr, refl, sym, ap, subst, ◌∙◌, None}
-use Rattle.std.proofs.lemmas.Bool.{cases_Bool, both_ways, or_right, or_cases}
-use Rattle.sqlite.specs.declared.types.Value.TheVariants.{Null, Int}
-use Rattle.sqlite.specs.Order.{Row, value_cmp}
-use Rattle.sqlite_value.specs.Keys.{plain}
-use Rattle.sqlite_schema.specs.Rules.{agree}
-use Rattle.sqlite_schema.specs.declared.schema.Keys.TheVariants.{Enforced}
-use Rattle.sqlite.specs.Tree.{Trees, rowid}
-use Rattle.sqlite.specs.Table.{Table}
-use Rattle.sqlite.specs.Schema.{Schema}
-use Rattle.sqlite.specs.Term.{Term, col, eval, eval_all}
-use Rattle.sqlite.specs.Cast.{cast_row}
-use Rattle.sqlite_rules.proofs.ProbeLemmas.{has_mapped, mapped_has}
-use Rattle.std.proofs.lemmas.Bool.{and_parts, eqb-true}
-use Rattle.std.proofs.lemmas.Cmp.{tied_itself}
-use Rattle.sqlite_value.proofs.OrderLemmas.{value_cmp_total}
-use Rattle.sqlite.specs.Command.{Command}
-use Rattle.sqlite.specs.Command.TheVariants.{Delete, Update, Insert, InsertOr}
-use Rattle.sqlite.specs.Source.TheVariants.{Values}
-use Rattle.sqlite.specs.Rowids.TheVariants.{Given, Chosen}
-use Rattle.sqlite.specs.Edit.{Edit, edit_of, next_rowid}
-use Rattle.sqlite.specs.Effect.{IsDatabase, value_rows}
+use Rattle.zeb_register.proofs.Cited.{IsPlain, command_of, statement_of, runs_as, cast_row, Command, Delete, Update, Insert, InsertOr, Edit, edit_of, next_rowid, IsDatabase, value_rows, Row, value_cmp, Given, Chosen, Schema, Values, State, mode_of, Executes, Writes, Term, col, eval, eval_all, Trees, rowid, Null, Int, all_has, all_from, has_got, some_from, next_is_free, has_mapped, mapped_has, ids_of, conflicts, Has, agree, Replace, Enforced, value_cmp_total, drop, eqb, ◌&&◌, unwrap_or, is_eq, ◌≡◌, ◌⊎◌, ◌↔◌, ℕ, ℤ, ◌/◌, true, List, [], ◌∷◌, length, map, Ok, inl, inr, refl, sym, ap, subst, ◌∙◌, None, cases_Bool, both_ways, or_right, or_cases, and_parts, eqb-true, tied_itself, plain, Table, Loses, Replaces, KeepsOthers, IsKeyed, HasLayout, ChangesOneTable, Gains}
 use Rattle.sqlite.specs.Listing.{understood}
-use Rattle.sqlite.specs.State.{State, mode_of, Executes, Writes}
-use Rattle.sqlite.proofs.Callers.{IsPlain, command_of, statement_of, runs_as}
-use Rattle.sqlite_schema.specs.declared.command.Conflict.TheVariants.{Replace}
-use Rattle.sqlite_rules.specs.Lists.{Has}
-use Rattle.sqlite_rules.specs.Calls.{ids_of}
-use Rattle.sqlite_rules.specs.Keys.{conflicts}
-use Rattle.sqlite_rules.proofs.ListLemmas.{all_has, all_from, has_got, some_from}
-use Rattle.sqlite_rules.proofs.PlaceLemmas.{next_is_free}
-use Rattle.zeb_register.specs.Sql.{Loses, Replaces, KeepsOthers, IsKeyed, HasLayout, ChangesOneTable}
 use Rattle.zeb_register.proofs.StatementForms.{Condition, MeetsAll, passes, reading, alone, shows, no_limit}
-use Rattle.zeb_register.specs.PrivateRowStatements.{Gains}
 use Rattle.zeb_register.proofs.ValueKinds.{is_plain_term, term_code, store_all, IsPlainTable, HasKeys, SharesKey, are_fit, is_stored, keeps_all, codes_of, code}
 use Rattle.zeb_register.proofs.RowLemmas.{int_kept, term_is, stores, tied_rowid, row_codes, meets, shares_means}
 use Rattle.zeb_register.proofs.Scans.{reads, shows_each}

@@ -1,38 +1,10 @@
 -- What a write that went through made of the database, part by part.
-use Rattle.std.proofs.Common.{◌≡◌, ◌⊎◌, inl, inr, ℕ, ℤ, ◌+◌, ◌/◌, Bool, true, false, cond, not, ◌&&◌, ◌||◌, ap₂, length, append-nil, map, drop, List, [], ◌∷◌, slice_get, Option, Some, None, Result, Ok, Err, refl, sym, ap, subst, ◌∙◌}
-use Rattle.std.proofs.lemmas.Bool.{and_parts}
-use Rattle.sqlite.specs.declared.types.Value.{Value}
-use Rattle.sqlite.specs.declared.types.Value.TheVariants.{Null, Int, Text}
-use Rattle.sqlite.specs.Kind.{Kind}
+use Rattle.zeb_register.proofs.Cited.{one_step, cast, cast_all, cast_row, Delete, Update, Insert, InsertOr, Tally, Does, without_all, Edit, next_rowid, numbered, with_rowid, edit_of, taken_by, Applies, Database, Answers, value_rows, Kind, is_null, Row, Given, Chosen, Clears, Judged, Tries, TriesEach, Outcome, Task, Counts, stamped, mended_from, mended, rowids_for, count_of, last_id, Schema, Values, Term, Trees, Mode, Value, Null, Int, Text, works, ids_of, AreConflicts, Refusal, is_key, Replace, Program, Column, Keys, ◌≡◌, ◌⊎◌, inl, inr, ℕ, ℤ, ◌+◌, ◌/◌, Bool, true, false, cond, not, ◌&&◌, ◌||◌, ap₂, length, append-nil, map, drop, List, [], ◌∷◌, slice_get, Option, Some, None, Result, Ok, Err, refl, sym, ap, subst, ◌∙◌, and_parts, option_or, Table, nothing, all_given}
+use Rattle.sqlite.specs.Ops.{unary}
+use Rattle.sqlite.specs.Rows.{Written}
 use Rattle.sqlite.specs.Kind.TheVariants as kind
-use Rattle.sqlite.specs.Ops.{unary, is_null}
-use Rattle.sqlite.specs.Cast.{cast, cast_all, cast_row}
-use Rattle.sqlite.specs.Term.{Term}
-use Rattle.sqlite.specs.Source.TheVariants.{Values}
-use Rattle.sqlite_schema.specs.declared.schema.Column.{Column}
-use Rattle.sqlite_schema.specs.declared.command.Conflict.TheVariants.{Replace}
-use Rattle.sqlite_schema.specs.Names.{is_key}
 use Rattle.zeb_register.proofs.ValueKinds.{keeps, keeps_all, fills, is_stored}
-use Rattle.sqlite.specs.Order.{Row}
-use Rattle.sqlite.specs.Tree.{Trees}
-use Rattle.sqlite.specs.Table.{Table}
-use Rattle.sqlite.specs.Schema.{Schema}
-use Rattle.sqlite.specs.Command.TheVariants.{Delete, Update, Insert, InsertOr}
-use Rattle.sqlite.specs.Rowids.TheVariants.{Given, Chosen}
-use Rattle.sqlite.specs.Edit.{without_all, Edit, next_rowid, numbered, with_rowid, edit_of, taken_by, Applies}
-use Rattle.sqlite.specs.Effect.{Database, Answers, value_rows}
-use Rattle.sqlite.specs.Rows.{nothing, Puts, Clears, Judged, Tries, TriesEach, Outcome, Task, Counts, stamped, Written, mended_from, mended, rowids_for, count_of, last_id}
-use Rattle.sqlite.specs.Does.{Tally, Does}
-use Rattle.sqlite.specs.declared.run.Mode.{Mode}
-use Rattle.sqlite.proofs.Callers.{one_step}
-use Rattle.sqlite_schema.specs.declared.program.Program.{Program}
-use Rattle.sqlite_schema.specs.declared.schema.Keys.{Keys}
-use Rattle.std.specs.Option.{option_or}
-use Rattle.sqlite_rules.specs.declared.error.Refusal.{Refusal}
-use Rattle.sqlite_rules.specs.Keys.{AreConflicts}
-use Rattle.sqlite_rules.proofs.PlaceLemmas.{given as all_given}
-use Rattle.sqlite_rules.specs.Action.{works}
-use Rattle.sqlite_rules.specs.Calls.{ids_of}
+use Rattle.sqlite.specs.Rows.{Puts}
 
 -- a part that gave a value did not stop on the way
 pub went : {B E R : Type 0} {b : B} {Stops : E → Type 0} → ((stop : E) × Stops stop × (Ok b ≡ Err stop)) ⊎ R → R

@@ -1,6 +1,5 @@
 -- Answers of yes and no.
-use Rattle.std.proofs.Common.{◌≡◌, ◌↔◌, Bool, true, false, IsTrue, Option, Some, None, refl}
-use Rattle.std.specs.Prelude.{IfSome, MatchOption}
+use Rattle.zeb_register.proofs.Cited.{◌≡◌, ◌↔◌, Bool, true, false, IsTrue, Option, Some, None, refl, IfSome, MatchOption}
 
 pub told : (P : Type 0) (answer : Bool) → (answer ≡ true → P) → (answer ≡ false → ¬ P) → IsTrue answer ↔ P
 told P true yes' no' = (λ _. yes' refl, λ _. refl)

@@ -2,7 +2,7 @@
 --
 -- What a call returns is known where the disk has given back what was written to it. `OnStore` is said of a call outside a transaction
 -- on the tables of a store, `InStore` of one inside a transaction.
-use Rattle.std.specs.Prelude.{◌≡◌, ◌↔◌, ◌⊎◌, ℕ, Bool, IsTrue, Result, Err, IfErr, IfOk, OnOk}
+use Rattle.std.specs.Prelude.{◌≡◌, ◌↔◌, ℕ, Bool, IsTrue, Result, Err, IfErr, IfOk, OnOk}
 use Rattle.sqlite.specs.declared.error.Error.{Error}
 use Rattle.sqlite.specs.Schema.{Schema}
 use Rattle.sqlite.specs.Tree.{Trees}
@@ -12,10 +12,8 @@ use Rattle.zeb_register.specs.declared.faults.RegFault.TheVariants.{Damaged, Sto
 use Rattle.zeb_register.specs.Calls.{Alters, Inside, MayRefuse}
 use Rattle.zeb_register.specs.Content.{Content, IsStorable}
 use Rattle.zeb_register.specs.Faults.{fault_of}
-use Rattle.zeb_register.specs.Hindrances.{TakesRegisterRowids, TakesRowids}
 use Rattle.zeb_register.specs.Sql.{KeepsTables}
 use Rattle.zeb_register.specs.Store.{IsStore, Changes, KeepsLists}
-use Rattle.zeb_register.specs.Tables.{no_schema, store_schema}
 
 -- this is said of the tables as they were before the call
 abbrev pub OnStore : State → State → (Trees → Type 0) → Type 0
@@ -76,18 +74,6 @@ IsReasonedErrorInside old new result = InStore old new (λ _. IfErr result (λ e
 
 -- ---- why a call that writes rows is refused
 
--- on the tables of a store a failure of it has a reason, or this of the tables hinders the row
-abbrev pub IsHinderedInside : {A : Type 0} → State → State → Result A RegFault → (Trees → Type 0) → Type 0
-IsHinderedInside old new result Hindering = InStore old new (λ trees. result ≡ Err Store → MayRefuse old new ⊎ Hindering trees)
-
--- where it is accepted, it takes at most so many of the rowids above the last of this table
-abbrev pub TakesInside : {A E : Type 0} → State → State → Result A E → ℕ → ℕ → Type 0
-TakesInside old new result count tree = InStore old new (λ trees. OnOk result (TakesRowids count tree trees new.now.trees))
-
--- the same of each table of the registers
-abbrev pub TakesRegistersInside : {A E : Type 0} → State → State → Result A E → ℕ → Type 0
-TakesRegistersInside old new result count = InStore old new (λ trees. OnOk result (TakesRegisterRowids count trees new.now.trees))
-
 -- ---- calls on tables that hold a content in some format
 
 module _ (Holds : Trees → Content → Type 0) where
@@ -130,8 +116,3 @@ DoneUnder schema old new result Done = HasCleanDisk new → IsTrue old.in_transa
 -- an accepted call inside a transaction keeps each table that is there, with its rows
 abbrev pub KeepsAllTables : {A E : Type 0} → State → State → Result A E → Type 0
 KeepsAllTables old new result = HasCleanDisk new → IsTrue old.in_transaction → OnOk result (KeepsTables old.now new.now)
-
--- on a database without a table, or with just those of a store, a failure of it inside a transaction has a reason
-abbrev pub IsReasonedMaking : {A : Type 0} → State → State → Result A RegFault → Type 0
-IsReasonedMaking old new result =
-    HasCleanDisk new → IsTrue old.in_transaction → (old.now.schema ≡ no_schema) ⊎ (old.now.schema ≡ store_schema) → result ≡ Err Store → MayRefuse old new

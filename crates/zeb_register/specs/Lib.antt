@@ -1,7 +1,6 @@
 pub mod Tables
 pub mod Sql
 pub mod Hindrances
-pub mod PrivateHindrances
 pub mod Store
 pub mod Faults
 pub mod Calls
@@ -11,6 +10,7 @@ pub mod Kept
 pub mod Content
 pub mod Clauses
 pub mod PrivateClauses
+pub mod Queries
 pub mod Occurring
 pub mod Tallies
 pub mod PlainRows
@@ -21,7 +21,6 @@ pub mod PrivateRowPlaces
 pub mod PrivatePackedRows
 pub mod Formats
 pub mod Sound
-pub mod Room
 pub mod Expected
 pub mod PrivateRowExpected
 pub mod PrivateRowKeys
@@ -30,3 +29,4 @@ pub mod PrivateKeyColumns
 pub mod PrivateTableForms
 pub mod Between
 pub mod PrivateBetweenRows
+pub mod PrivateStoreTables

@@ -1,7 +1,6 @@
 -- What only the contracts of private functions speak of; no public clause reaches it.
 -- The places of one record as rows of `postings` show them.
-use Rattle.std.specs.Prelude.{◌≡◌, ◌↔◌, ◌⊎◌, ◌+◌, ◌<◌, ◌≤◌, ◌^◌, ℕ, ℤ, pos, List, [], ◌∷◌, ◌++◌, length}
-use Rattle.std.specs.List.{AllByRecursion}
+use Rattle.std.specs.Prelude.{◌≡◌, ◌↔◌, ◌⊎◌, ℕ, ℤ, pos, List, [], ◌∷◌, ◌++◌}
 use Rattle.sqlite.specs.declared.types.Value.TheVariants.{Int}
 use Rattle.sqlite.specs.Order.{Row, column}
 use Rattle.sqlite.specs.Tree.{Trees}
@@ -10,8 +9,6 @@ use Rattle.sqlite_rules.specs.Lists.{Has}
 use Rattle.zeb_keys.specs.declared.keys.Key.{Key}
 use Rattle.zeb_keys.specs.Registers.{register_code}
 use Rattle.zeb_register.specs.declared.registers.Place.{Place}
-use Rattle.zeb_register.specs.Hindrances.{FitsEachLayout, LacksRowids, Placed, rows_of}
-use Rattle.zeb_register.specs.PrivateHindrances.{HindersNew}
 use Rattle.zeb_register.specs.Sql.{HasRow, Loses}
 use Rattle.zeb_register.specs.Store.{IsStore, IsPostingIn, postings_tree, blocks_tree, dict_tree, KeepsLists}
 use Rattle.zeb_register.specs.PrivateRowStatements.{IsPlaceOf}
@@ -49,27 +46,6 @@ GainsPlaces db key sysno places old new =
 -- each table but `postings` is as it was
 abbrev pub KeepsBesidePostings : Trees → Trees → Type 0
 KeepsBesidePostings old new = KeepsLists old new × (new 9 ≡ old 9) × (new 11 ≡ old 11)
-
--- some posting of the key in the record is there
-abbrev pub HasPlaceIn : ℤ → Key → ℕ → Trees → Type 0
-HasPlaceIn db key sysno trees = (was : Row) × HasRow trees postings_tree was × IsPlaceIn db key sysno was
-
--- such a posting, at this place
-abbrev pub IsPlaceAt : ℤ → Key → ℕ → Place → Row → Type 0
-IsPlaceAt db key sysno place was = IsPlaceIn db key sysno was × (column was 5 ≡ Int (pos place.seq)) × (column was 6 ≡ Int (pos place.pos))
-
--- this posting may not be put: a number is none that a column stores, it is there, no rowid is left, or it is too large
-abbrev pub HindersPut : ℤ → Key → ℕ → Place → Trees → Type 0
-HindersPut db key sysno place trees =
-    ((2 ^ 63 ≤ sysno) ⊎ ((2 ^ 63 ≤ place.seq) ⊎ (2 ^ 63 ≤ place.pos)))
-    ⊎ HindersNew (IsPlaceAt db key sysno place) postings_tree (posting_columns db key sysno place) trees
-
--- These places of a key may not be put in records that have none: a number or an order is none that each layout stores, so also where a
--- place is given twice; too few rowids are left; or a row is too large, which its text alone decides.
-abbrev pub HindersRows : Key → List Placed → Trees → Type 0
-HindersRows key given trees =
-    (¬ AllByRecursion FitsEachLayout given)
-    ⊎ ((2 ^ 63 ≤ rows_of given) ⊎ (LacksRowids (rows_of given) postings_tree trees ⊎ (10 ^ 9 < 300 + length key.term)))
 
 -- these postings are put, and nothing else is changed
 pub record Puts (db : ℤ) (key : Key) (sysno : ℕ) (places : List Place) (old new : State) : Type 0 where

@@ -1,10 +1,12 @@
 -- What only the contracts of private functions speak of; no public clause reaches it.
 -- The rows of one table, read one at a time, beside what is expected.
-use Rattle.std.specs.Prelude.{◌≡◌, ◌↔◌, ℕ, ℤ, Bool, IsTrue, List, [], ◌∷◌, length, map, drop, codes, ◌≤ℤ◌, Option, Some, None}
+use Rattle.std.specs.Prelude.{◌≡◌, ◌↔◌, ℕ, ℤ, Bool, IsTrue, List, [], ◌∷◌, length, map, drop, ◌≤ℤ◌, Option, Some, None}
 use Rattle.sqlite.specs.declared.types.Value.TheVariants.{Int}
 use Rattle.sqlite.specs.Order.{Row}
 use Rattle.sqlite.specs.State.{State, IsUnchanged}
 use Rattle.sqlite.specs.Tree.{Trees}
+use Rattle.zeb_register.specs.declared.read_beside.TheConstants.{RESTS_RECORDS, RESTS_POSTINGS, RESTS_BLOCKS, RESTS_DICT}
+use Rattle.zeb_register.specs.declared.statements.owners.TheConstants.{LEAST_RECORDS, LEAST_POSTINGS, LEAST_BLOCKS, LEAST_DICT, GREATEST_RECORDS, GREATEST_POSTINGS, GREATEST_BLOCKS, GREATEST_DICT, NEXT_RECORDS, NEXT_POSTINGS, NEXT_BLOCKS, NEXT_DICT}
 use Rattle.zeb_register.specs.declared.agreeing.Table.{Table}
 use Rattle.zeb_register.specs.declared.agreeing.Table.TheVariants.{Records, Postings, Blocks, Dict}
 use Rattle.zeb_register.specs.declared.belonging.Ends.{Ends}
@@ -17,29 +19,29 @@ use Rattle.zeb_register.specs.Store.{IsRest, IsStore}
 
 -- the query for the rows of a table under the id of a database, in the order of the table's key
 abbrev pub rests_text : Table → List ℕ
-rests_text Records = codes "SELECT sysno, ident, bytes FROM records WHERE db = ?1 ORDER BY sysno"
-rests_text Postings = codes "SELECT idx, reg, term, sysno, seq, pos FROM postings WHERE db = ?1 ORDER BY idx, reg, term, sysno, seq, pos"
-rests_text Blocks = codes "SELECT idx, reg, term, block, data FROM blocks WHERE db = ?1 ORDER BY idx, reg, term, block"
-rests_text Dict = codes "SELECT idx, reg, term, records FROM dict WHERE db = ?1 ORDER BY idx, reg, term"
+rests_text Records = RESTS_RECORDS.now
+rests_text Postings = RESTS_POSTINGS.now
+rests_text Blocks = RESTS_BLOCKS.now
+rests_text Dict = RESTS_DICT.now
 
 -- the queries for the least id with which a row of the table begins, for the greatest, and for the least from one on
 abbrev pub least_text : Table → List ℕ
-least_text Records = codes "SELECT db FROM records ORDER BY db LIMIT 1"
-least_text Postings = codes "SELECT db FROM postings ORDER BY db LIMIT 1"
-least_text Blocks = codes "SELECT db FROM blocks ORDER BY db LIMIT 1"
-least_text Dict = codes "SELECT db FROM dict ORDER BY db LIMIT 1"
+least_text Records = LEAST_RECORDS.now
+least_text Postings = LEAST_POSTINGS.now
+least_text Blocks = LEAST_BLOCKS.now
+least_text Dict = LEAST_DICT.now
 
 abbrev pub greatest_text : Table → List ℕ
-greatest_text Records = codes "SELECT db FROM records ORDER BY db DESC LIMIT 1"
-greatest_text Postings = codes "SELECT db FROM postings ORDER BY db DESC LIMIT 1"
-greatest_text Blocks = codes "SELECT db FROM blocks ORDER BY db DESC LIMIT 1"
-greatest_text Dict = codes "SELECT db FROM dict ORDER BY db DESC LIMIT 1"
+greatest_text Records = GREATEST_RECORDS.now
+greatest_text Postings = GREATEST_POSTINGS.now
+greatest_text Blocks = GREATEST_BLOCKS.now
+greatest_text Dict = GREATEST_DICT.now
 
 abbrev pub next_text : Table → List ℕ
-next_text Records = codes "SELECT db FROM records WHERE db >= ?1 ORDER BY db LIMIT 1"
-next_text Postings = codes "SELECT db FROM postings WHERE db >= ?1 ORDER BY db LIMIT 1"
-next_text Blocks = codes "SELECT db FROM blocks WHERE db >= ?1 ORDER BY db LIMIT 1"
-next_text Dict = codes "SELECT db FROM dict WHERE db >= ?1 ORDER BY db LIMIT 1"
+next_text Records = NEXT_RECORDS.now
+next_text Postings = NEXT_POSTINGS.now
+next_text Blocks = NEXT_BLOCKS.now
+next_text Dict = NEXT_DICT.now
 
 -- at most one row, and it shows the id that is P and is so to each other that is P
 abbrev pub ShowsFirst : (ℤ → ℤ → Type 0) → (ℤ → Type 0) → List Row → Type 0

@@ -13,10 +13,7 @@ use Rattle.sqlite.specs.declared.error.Error.{Error}
 use Rattle.sqlite.specs.declared.error.Error.TheVariants.{SqliteFailure}
 use Rattle.sqlite.specs.declared.error.ErrorCode.TheVariants.{ConstraintViolation}
 use Rattle.sqlite_schema.specs.declared.schema.Constraint.{Constraint}
-use Rattle.zeb_register.specs.declared.faults.RegFault.TheVariants.{Store}
-use Rattle.zeb_register.specs.Calls.{MayRefuse, OnlyReads}
-use Rattle.zeb_register.specs.Clauses.{InStore}
-use Rattle.zeb_register.specs.Faults.{fault_of}
+use Rattle.zeb_register.specs.Calls.{OnlyReads}
 use Rattle.zeb_register.specs.Kept.{IsRecordCount}
 use Rattle.zeb_register.specs.Sql.{HasRow, IsListOf, Replaces}
 use Rattle.zeb_register.specs.Store.{HasDatabase, HasRecord, IsRest, IsStore, entry, meta_tree}
@@ -29,11 +26,6 @@ Gains row tree old new = (columns : Row) → HasRow new tree columns ↔ (HasRow
 abbrev pub IsUnchangedByViolation : {A : Type 0} → State → State → Result A Error → Type 0
 IsUnchangedByViolation old new result =
     HasCleanDisk new → IsTrue old.in_transaction → IfErr result (λ e. (rule : Constraint) → e ≡ SqliteFailure (ConstraintViolation rule) → OnlyReads old new)
-
--- one on the tables of a store that no rule of theirs refuses has a reason for a failure, or this of the tables hinders the row
-abbrev pub IsHinderedUnbroken : {A : Type 0} → State → State → Result A Error → (Trees → Type 0) → Type 0
-IsHinderedUnbroken old new result Hindering =
-    InStore old new (λ trees. IfErr result (λ e. fault_of e ≡ Store → ((rule : Constraint) → e ≢ SqliteFailure (ConstraintViolation rule)) → MayRefuse old new ⊎ Hindering trees))
 
 -- the tables of the schema are there, with no row, and the transaction goes on
 pub record IsMade (schema : Schema) (s : State) : Type 0 where

@@ -1,15 +1,14 @@
 //! Whole tables beside what is expected of them, one table after the other.
 
-ghost use Rattle.std.specs.Prelude.{◌≡◌, ◌≢◌, ◌↔◌, true, false, length, MatchOption, IfSome, IsTrue, IfOk};
+ghost use Rattle.std.specs.Prelude.{◌≡◌, ◌≢◌, ◌↔◌, length, MatchOption, IfSome, IsTrue, IfOk};
 ghost use Rattle.sqlite.specs.Held.{state};
 ghost use Rattle.sqlite.specs.State.{IsUnchanged};
 ghost use Rattle.std.specs.List.Sorted.{IsStrictlySortedBy};
 ghost use Rattle.zeb_register.specs.Calls.{Reading};
 ghost use Rattle.zeb_register.specs.Clauses.{IsReasoned, OnStore, Tells, TellsWhether};
 ghost use Rattle.zeb_register.specs.Expected.{IsOrdered, name_order};
-ghost use Rattle.zeb_register.specs.PrivateRowExpected.{AreBeside, AreInOrder, AsExpected, BelongsTo, EachAsExpected, HasNames};
+ghost use Rattle.zeb_register.specs.PrivateRowExpected.{AreBeside, AreInOrder, AsExpected, EachAsExpected, HasNames};
 ghost use Rattle.zeb_register.specs.PrivateRowExpected.{KeepsExpectedTexts, HoldsExpected, HoldsThere, IsInOrder, LacksPacked, ListsAgree};
-ghost use Rattle.zeb_register.specs.PrivateRowExpected.{tree_of};
 
 use crate::belonging::belongs;
 use crate::catalog::databases_in;

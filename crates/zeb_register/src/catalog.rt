@@ -1,10 +1,10 @@
 //! The databases of the store.
 
-ghost use Rattle.std.specs.Prelude.{◌≡◌, ◌≢◌, ℤ, pos, map, IfOk, OnOk, FitsSigned, ◌<◌, ◌^◌};
+ghost use Rattle.std.specs.Prelude.{◌≡◌, ◌≢◌, pos, map, IfOk, FitsSigned};
 ghost use Rattle.std.specs.Int.{w64};
 ghost use Rattle.sqlite.specs.Held.{state};
 ghost use Rattle.sqlite.specs.State.{IsUnchanged};
-ghost use Rattle.zeb_register.specs.Store.{database_columns, databases_tree, HasDatabase, TakesDatabase};
+ghost use Rattle.zeb_register.specs.Store.{databases_tree, TakesDatabase};
 ghost use Rattle.zeb_register.specs.Catalog.{IsDatabaseOf, AreCountedDatabases, PutsDatabase};
 ghost use Rattle.zeb_register.specs.Catalog.{AreDatabases, AreReadableDatabases};
 ghost use Rattle.zeb_register.specs.PrivateCatalog.{listed_row};
@@ -14,17 +14,18 @@ ghost use Rattle.sqlite_rules.specs.Lists.{Has};
 ghost use Rattle.zeb_register.specs.Calls.{GoesOn, OnlyReads, Inside, Reading};
 ghost use Rattle.zeb_register.specs.Clauses.{Writes};
 ghost use Rattle.zeb_register.specs.Clauses.{ChangesTable, InStore, IsHonest, IsHonestInside, IsOpenDamage, IsOpenDamageInside};
-ghost use Rattle.zeb_register.specs.Clauses.{IsHinderedInside, IsReasoned, IsReasonedInside, TakesInside, Tells, TellsInside};
-ghost use Rattle.zeb_register.specs.Hindrances.{Hinders, TakesRowids};
+ghost use Rattle.zeb_register.specs.Clauses.{IsReasoned, IsReasonedInside, Tells, TellsInside};
 
 use crate::RegFault;
 use crate::statements::databases::{
-    database_add, database_cut, database_rows, database_rows_inside, last_set, listed_rows,
-    listed_rows_inside,
+    database_add, database_rows, database_rows_inside, last_set, listed_rows, listed_rows_inside,
 };
+use crate::statements::writing::write;
 use crate::values::{read, read_integer, read_number, stored};
-use sqlite::{Alter, Connection, Row, Transaction};
+use sqlite::{Alter, Connection, Row, Transaction, params};
 use std::alloc::Global;
+
+const TAKE: &str = "DELETE FROM databases WHERE id = ?1";
 
 /// What the tables know a database by. It stays the same as long as the database is there.
 #[derive(Clone, Copy, Debug, PartialEq, Eq)]
@@ -152,12 +153,6 @@ pub fn database_put<S: Alter>(
         (λ id. PutsDatabase id.0 name.now (pos last)) }
     ensures honest { InStore (state S.Store tx.old.conn.now) (state S.Store tx.new.conn.now) (λ _. result ≢ Err RegFault.Damaged) }
     ensures opened { IsOpenDamageInside (state S.Store tx.old.conn.now) (state S.Store tx.new.conn.now) result }
-    ensures refused { last < 2 ^ 63 → IsHinderedInside (state S.Store tx.old.conn.now) (state S.Store tx.new.conn.now) result
-        (Hinders 1 databases_tree (database_columns name.now (pos last))) }
-    ensures rowids { TakesInside (state S.Store tx.old.conn.now) (state S.Store tx.new.conn.now) result 1 databases_tree }
-    ensures last_rowids { InStore (state S.Store tx.old.conn.now) (state S.Store tx.new.conn.now) (λ trees. (id before : ℤ)
-        → HasDatabase trees id name.now before
-        → OnOk result (TakesRowids 0 databases_tree trees (state S.Store tx.new.conn.now).now.trees)) }
 {
     let last = stored(last)?;
     let rows = database_rows_inside(tx, name)?;
@@ -182,8 +177,7 @@ pub(crate) fn database_drop<S: Alter>(
     ensures same { tx.new.conn.ghost_name ≡ tx.old.conn.ghost_name }
     ensures call { Writes databases_tree (TakesDatabase db.0) (state S.Store tx.old.conn.now) (state S.Store tx.new.conn.now) result }
     ensures honest { result ≢ Err RegFault.Damaged }
-    ensures refused { IsReasonedInside (state S.Store tx.old.conn.now) (state S.Store tx.new.conn.now) result }
 {
-    database_cut(tx, db.column())?;
-    Ok(())
+    let id = db.column();
+    write(tx, TAKE, params![id])
 }

@@ -3,16 +3,15 @@
 ghost use Rattle.std.specs.Prelude.{◌≡◌, ◌≢◌, OnOk};
 ghost use Rattle.sqlite.specs.Held.{state};
 ghost use Rattle.zeb_register.specs.Calls.{GoesOn, Inside};
-ghost use Rattle.zeb_register.specs.Clauses.{InStore, IsReasonedInside};
+ghost use Rattle.zeb_register.specs.Clauses.{InStore};
 ghost use Rattle.zeb_register.specs.Content.{Content, IsWithout, TakesWhole};
 ghost use Rattle.zeb_register.specs.Formats.{Format, holds_in};
 ghost use Rattle.zeb_register.specs.PrivateRowPlaces.{DropsRegisters};
 ghost use Rattle.zeb_register.specs.Store.{IsStore};
 
+use crate::agreeing::Table;
 use crate::catalog::database_drop;
-use crate::kept::records_drop;
-use crate::statements::packed::{blocks_clear, dict_clear};
-use crate::statements::postings::postings_clear;
+use crate::statements::whole::table_clear;
 use crate::{DatabaseId, RegFault};
 use sqlite::{Alter, Transaction};
 
@@ -27,10 +26,9 @@ pub fn database_drop_whole<S: Alter>(
         (TakesWhole db.0 (state S.Store tx.old.conn.now) (state S.Store tx.new.conn.now) × ((format : Format) (before after : Content)
         → holds_in format trees before → IsWithout db.0 before after → holds_in format (state S.Store tx.new.conn.now).now.trees after))) }
     ensures honest { result ≢ Err RegFault.Damaged }
-    ensures refused { IsReasonedInside (state S.Store tx.old.conn.now) (state S.Store tx.new.conn.now) result }
 {
     registers_drop(tx, db)?;
-    records_drop(tx, db)?;
+    table_clear(tx, Table::Records, db)?;
     database_drop(tx, db)
 }
 
@@ -40,10 +38,8 @@ fn registers_drop<S: Alter>(tx: &mut Transaction<'_, S>, db: DatabaseId) -> Resu
     ensures call { Inside (state S.Store tx.old.conn.now) (state S.Store tx.new.conn.now) result
         (λ _ a b. GoesOn a b × (IsStore a → DropsRegisters db.0 a b)) }
     ensures honest { result ≢ Err RegFault.Damaged }
-    ensures refused { IsReasonedInside (state S.Store tx.old.conn.now) (state S.Store tx.new.conn.now) result }
 {
-    postings_clear(tx, db.column())?;
-    blocks_clear(tx, db.column())?;
-    dict_clear(tx, db.column())?;
-    Ok(())
+    table_clear(tx, Table::Postings, db)?;
+    table_clear(tx, Table::Blocks, db)?;
+    table_clear(tx, Table::Dict, db)
 }

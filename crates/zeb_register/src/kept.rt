@@ -5,7 +5,7 @@ ghost use Rattle.sqlite.specs.Held.{state};
 ghost use Rattle.sqlite.specs.State.{IsUnchanged};
 ghost use Rattle.sqlite.specs.declared.types.Value.TheVariants.{Int};
 ghost use Rattle.zeb_register.specs.Sql.{Loses, Replaces, IsListOf};
-ghost use Rattle.zeb_register.specs.Store.{records_tree, record_row, HasNumber, SharesRecord, IsRecordIn, IsRest};
+ghost use Rattle.zeb_register.specs.Store.{records_tree, record_row, HasNumber, SharesRecord, IsRest};
 ghost use Rattle.sqlite_rules.specs.Lists.{Has};
 ghost use Rattle.zeb_register.specs.PrivateRowPlaces.{first_three};
 ghost use Rattle.zeb_register.specs.Kept.{IsElderOf, IsIdentOf, AreNumbered, AreReadableIdents, AreReadable, record_shown};
@@ -14,19 +14,20 @@ ghost use Rattle.zeb_register.specs.PrivateRowStatements.{IsRecordShown};
 ghost use Rattle.zeb_register.specs.Calls.{OnlyReads, Inside, Reading};
 ghost use Rattle.zeb_register.specs.Clauses.{Writes};
 ghost use Rattle.zeb_register.specs.Clauses.{InStore, IsHonest, IsHonestInside, IsOpenDamage, IsOpenDamageInside, IsReasoned, IsReasonedInside};
-ghost use Rattle.zeb_register.specs.Clauses.{IsHinderedInside, OnStore, TakesInside, Tells, TellsInside};
-ghost use Rattle.zeb_register.specs.Hindrances.{Hinders};
+ghost use Rattle.zeb_register.specs.Clauses.{OnStore, Tells, TellsInside};
 
 use crate::statements::inside::{nothing_inside, rows_from_inside};
 use crate::statements::postings::nothing_of;
-use crate::statements::records::{
-    count_rows, elder_rows, ident_rows, record_keep, record_remove, record_rows, records_clear,
-    rows_from,
-};
+use crate::statements::records::{count_rows, elder_rows, ident_rows, record_rows, rows_from};
+use crate::statements::writing::write;
 use crate::values::{read, read_number, stored};
 use crate::{DatabaseId, RegFault};
-use sqlite::{Alter, Connection, Row, Transaction};
+use sqlite::{Alter, Connection, Row, Transaction, params};
 use std::alloc::Global;
+
+const PUT: &str = "INSERT OR REPLACE INTO records VALUES (?1, ?2, ?3, ?4)";
+
+const TAKE: &str = "DELETE FROM records WHERE db = ?1 AND sysno = ?2";
 
 /// A kept record: its system number, its identifier and its bytes (ISO 2709).
 #[derive(Debug, PartialEq, Eq, Drop)]
@@ -57,13 +58,10 @@ pub fn record_put<S: Alter>(
     ensures call { Writes records_tree (Replaces (SharesRecord db.0 (pos sysno) ident.now)
         (record_row db.0 (pos sysno) ident.now bytes.now)) (state S.Store tx.old.conn.now) (state S.Store tx.new.conn.now) result }
     ensures honest { result ≢ Err RegFault.Damaged }
-    ensures refused { sysno < 2 ^ 63 → IsHinderedInside (state S.Store tx.old.conn.now) (state S.Store tx.new.conn.now) result
-        (Hinders 1 records_tree (record_row db.0 (pos sysno) ident.now bytes.now)) }
-    ensures rowids { TakesInside (state S.Store tx.old.conn.now) (state S.Store tx.new.conn.now) result 1 records_tree }
 {
     let sysno = stored(sysno)?;
-    record_keep(tx, db.column(), sysno, ident, bytes)?;
-    Ok(())
+    let id = db.column();
+    write(tx, PUT, params![id, sysno, ident, bytes])
 }
 
 /// Takes the record of a system number out. Where there is none, nothing changes.
@@ -78,12 +76,10 @@ pub fn record_take<S: Alter>(
     ensures call { Writes records_tree (Loses (HasNumber db.0 (pos sysno)))
         (state S.Store tx.old.conn.now) (state S.Store tx.new.conn.now) result }
     ensures honest { result ≢ Err RegFault.Damaged }
-    ensures refused { sysno < 2 ^ 63 → IsReasonedInside (state S.Store tx.old.conn.now) (state S.Store tx.new.conn.now) result }
-    ensures rowids { TakesInside (state S.Store tx.old.conn.now) (state S.Store tx.new.conn.now) result 0 records_tree }
 {
     let sysno = stored(sysno)?;
-    record_remove(tx, db.column(), sysno)?;
-    Ok(())
+    let id = db.column();
+    write(tx, TAKE, params![id, sysno])
 }
 
 /// The number and the bytes of the record that is kept under an identifier, or `None`. Identifiers are compared byte by byte.
@@ -129,8 +125,6 @@ pub fn ident_of<S: Alter>(
     ensures opened { IsOpenDamage (state S.Store conn.old) (state S.Store conn.new) result }
     ensures refused { IsReasoned (state S.Store conn.old) (state S.Store conn.new) result }
 {
-    // What is seen outside a transaction is what was committed.
-    let _idle = conn.is_autocommit();
     let Ok(sysno) = stored(sysno) else {
         // A closed connection is refused for such a number too.
         nothing_of(conn)?;
@@ -178,8 +172,6 @@ pub fn record_from<S: Alter>(
     ensures opened { IsOpenDamage (state S.Store conn.old) (state S.Store conn.new) result }
     ensures refused { IsReasoned (state S.Store conn.old) (state S.Store conn.new) result }
 {
-    // What is seen outside a transaction is what was committed.
-    let _idle = conn.is_autocommit();
     let Ok(start) = stored(start) else {
         // A closed connection is refused for such a number too.
         nothing_of(conn)?;
@@ -263,18 +255,4 @@ fn record_of(row: &Row) -> Result<Record, RegFault>
         ident: read(row, 1)?,
         bytes: read(row, 2)?,
     })
-}
-
-/// Takes every record of the database out.
-pub(crate) fn records_drop<S: Alter>(
-    tx: &mut Transaction<'_, S>,
-    db: DatabaseId,
-) -> Result<(), RegFault>
-    ensures same { tx.new.conn.ghost_name ≡ tx.old.conn.ghost_name }
-    ensures call { Writes records_tree (Loses (IsRecordIn db.0)) (state S.Store tx.old.conn.now) (state S.Store tx.new.conn.now) result }
-    ensures honest { result ≢ Err RegFault.Damaged }
-    ensures refused { IsReasonedInside (state S.Store tx.old.conn.now) (state S.Store tx.new.conn.now) result }
-{
-    records_clear(tx, db.column())?;
-    Ok(())
 }

@@ -7,13 +7,15 @@ ghost use Rattle.zeb_register.specs.Sql.{Replaces};
 ghost use Rattle.zeb_register.specs.Store.{meta_tree, entry, IsEntryOf, IsValueOf, AreReadableTexts};
 ghost use Rattle.zeb_register.specs.Calls.{Reading};
 ghost use Rattle.zeb_register.specs.Clauses.{Writes};
-ghost use Rattle.zeb_register.specs.Clauses.{IsHinderedInside, IsHonest, IsOpenDamage, IsReasoned, TakesInside, Tells};
-ghost use Rattle.zeb_register.specs.Hindrances.{Hinders};
+ghost use Rattle.zeb_register.specs.Clauses.{IsHonest, IsOpenDamage, IsReasoned, Tells};
 
 use crate::RegFault;
-use crate::statements::texts::{text_rows, text_set};
+use crate::statements::texts::text_rows;
+use crate::statements::writing::write;
 use crate::values::read;
-use sqlite::{Alter, Connection, Transaction};
+use sqlite::{Alter, Connection, Transaction, params};
+
+const PUT: &str = "INSERT OR REPLACE INTO meta VALUES (?1, ?2)";
 
 /// The text that is kept under a name, or `None`.
 ///
@@ -42,10 +44,6 @@ pub fn meta_put<S: Alter>(
     ensures call { Writes meta_tree (Replaces (IsEntryOf name.now) (entry name.now value.now))
         (state S.Store tx.old.conn.now) (state S.Store tx.new.conn.now) result }
     ensures honest { result ≢ Err RegFault.Damaged }
-    ensures refused { IsHinderedInside (state S.Store tx.old.conn.now) (state S.Store tx.new.conn.now) result
-        (Hinders 1 meta_tree (entry name.now value.now)) }
-    ensures rowids { TakesInside (state S.Store tx.old.conn.now) (state S.Store tx.new.conn.now) result 1 meta_tree }
 {
-    text_set(tx, name, value)?;
-    Ok(())
+    write(tx, PUT, params![name, value])
 }

@@ -1,19 +1,17 @@
 //! A key's places in records changed, in registers with one row for each posting.
 
-ghost use Rattle.std.specs.Prelude.{IsUtf8, ◌≡◌, ◌≢◌, ◌⊎◌, ◌≤◌, ◌^◌, [], ◌∷◌, length, map, true, false, IsTrue, IfErr, OnOk};
+ghost use Rattle.std.specs.Prelude.{IsUtf8, ◌≡◌, ◌≢◌, [], ◌∷◌, map, true, false, IsTrue, IfErr, OnOk};
 ghost use Rattle.std.specs.List.Sorted.{IsStrictlySortedBy};
 ghost use Rattle.sqlite_rules.specs.Lists.{Has};
 ghost use Rattle.sqlite.specs.Held.{state};
 ghost use Rattle.zeb_register.specs.Calls.{GoesOn, OnlyReads, Inside};
 ghost use Rattle.zeb_register.specs.Clauses.{Writes};
 ghost use Rattle.zeb_register.specs.Clauses.{ChangesHeld, FindsHeld, InStore};
-ghost use Rattle.zeb_register.specs.Clauses.{IsHinderedInside, TakesInside, TakesRegistersInside};
 ghost use Rattle.zeb_register.specs.Content.{ArePlacesOf, Content, IsChangedAt, place_cmp};
-ghost use Rattle.zeb_register.specs.Hindrances.{KeepsPlaces, rows_of};
+ghost use Rattle.zeb_register.specs.Hindrances.{KeepsPlaces};
 ghost use Rattle.zeb_register.specs.PlainRows.{HoldsRows, key_row};
 ghost use Rattle.zeb_register.specs.PackedBlocks.{first_two};
-ghost use Rattle.zeb_register.specs.PrivateRowPlaces.{place_row, IsTwoNumbers, IsPlaceIn, posting_columns, Puts, HasPlaceIn, HindersPut};
-ghost use Rattle.zeb_register.specs.PrivateRowPlaces.{HindersRows};
+ghost use Rattle.zeb_register.specs.PrivateRowPlaces.{place_row, IsTwoNumbers, IsPlaceIn, posting_columns, Puts};
 ghost use Rattle.zeb_register.specs.PrivateRowStatements.{Gains};
 ghost use Rattle.zeb_register.specs.Sql.{Loses};
 ghost use Rattle.zeb_register.specs.Sound.{KeepsMalformed, KeepsRowsBeside};
@@ -21,11 +19,17 @@ ghost use Rattle.zeb_register.specs.Store.{blocks_tree, postings_tree};
 
 use crate::registers::Place;
 use crate::statements::keys::KeyOf;
-use crate::statements::postings::{place_rows, places_lift, posting_put};
+use crate::statements::postings::place_rows;
+use crate::statements::writing::write;
 use crate::values::{read_number, stored};
 use crate::{DatabaseId, RegFault};
-use sqlite::{Alter, Row, Transaction};
+use sqlite::{Alter, Row, Transaction, params};
 use zeb_keys::Key;
+
+const PUT: &str = "INSERT INTO postings VALUES (?1, ?2, ?3, ?4, ?5, ?6, ?7)";
+
+const TAKE: &str =
+    "DELETE FROM postings WHERE db = ?1 AND idx = ?2 AND reg = ?3 AND term = ?4 AND sysno = ?5";
 
 /// Puts the places `new` of a key in a record where `old` stood. Both lists rise. It fails as `key_change` of
 /// `Layout` does.
@@ -55,10 +59,6 @@ pub(crate) fn key_change_plain<S: Alter>(
         ((state S.Store tx.new.conn.now).now.trees blocks_tree ≡ trees blocks_tree)) }
     ensures places { InStore (state S.Store tx.old.conn.now) (state S.Store tx.new.conn.now) (λ trees. OnOk result
         (KeepsPlaces db.0 key.now ((sysno, new.now) ∷ []) trees (state S.Store tx.new.conn.now).now.trees)) }
-    ensures refused { IsHinderedInside (state S.Store tx.old.conn.now) (state S.Store tx.new.conn.now) result
-        (HindersRows key.now ((sysno, new.now) ∷ [])) }
-    ensures rowids { TakesRegistersInside (state S.Store tx.old.conn.now) (state S.Store tx.new.conn.now) result
-        (rows_of ((sysno, new.now) ∷ [])) }
 {
     if !holds_places(tx, db, key, sysno, old)? {
         return Err(RegFault::Damaged);
@@ -113,7 +113,6 @@ fn holds_places<S: Alter>(
     ensures honest { InStore (state S.Store tx.old.conn.now) (state S.Store tx.new.conn.now) (λ trees. (content : Content)
         → HoldsRows trees content → result ≢ Err RegFault.Damaged) }
     ensures text { OnOk result (IsUtf8 key.now.term) }
-    ensures refused { IsHinderedInside (state S.Store tx.old.conn.now) (state S.Store tx.new.conn.now) result (λ _. 2 ^ 63 ≤ sysno) }
 {
     let number = stored(sysno)?;
     let rows = place_rows(tx, KeyOf { db, key }, number)?;
@@ -131,12 +130,12 @@ fn places_take<S: Alter>(
     ensures call { Writes postings_tree (Loses (IsPlaceIn db.0 key.now sysno))
         (state S.Store tx.old.conn.now) (state S.Store tx.new.conn.now) result }
     ensures honest { result ≢ Err RegFault.Damaged }
-    ensures refused { IsHinderedInside (state S.Store tx.old.conn.now) (state S.Store tx.new.conn.now) result (λ _. 2 ^ 63 ≤ sysno) }
-    ensures rowids { TakesInside (state S.Store tx.old.conn.now) (state S.Store tx.new.conn.now) result 0 postings_tree }
 {
     let number = stored(sysno)?;
-    places_lift(tx, KeyOf { db, key }, number)?;
-    Ok(())
+    let id = db.column();
+    let reg = u32::from(key.register.code());
+    let term = key.term.as_str();
+    write(tx, TAKE, params![id, key.index, reg, term, number])
 }
 
 /// Puts places of the key in the record.
@@ -152,9 +151,6 @@ fn places_put<S: Alter>(
     ensures put { InStore (state S.Store tx.old.conn.now) (state S.Store tx.new.conn.now) (λ _. OnOk result
         (Puts db.0 key.now sysno places.now (state S.Store tx.old.conn.now) (state S.Store tx.new.conn.now))) }
     ensures honest { result ≢ Err RegFault.Damaged }
-    ensures refused { IsHinderedInside (state S.Store tx.old.conn.now) (state S.Store tx.new.conn.now) result
-        (λ trees. HasPlaceIn db.0 key.now sysno trees ⊎ HindersRows key.now ((sysno, places.now) ∷ []) trees) }
-    ensures rowids { TakesInside (state S.Store tx.old.conn.now) (state S.Store tx.new.conn.now) result (length places.now) postings_tree }
 {
     for place in places {
         place_put(tx, db, key, sysno, *place)?;
@@ -174,13 +170,12 @@ fn place_put<S: Alter>(
     ensures call { Writes postings_tree (Gains (posting_columns db.0 key.now sysno place))
         (state S.Store tx.old.conn.now) (state S.Store tx.new.conn.now) result }
     ensures honest { result ≢ Err RegFault.Damaged }
-    ensures refused { IsHinderedInside (state S.Store tx.old.conn.now) (state S.Store tx.new.conn.now) result
-        (HindersPut db.0 key.now sysno place) }
-    ensures rowids { TakesInside (state S.Store tx.old.conn.now) (state S.Store tx.new.conn.now) result 1 postings_tree }
 {
     let number = stored(sysno)?;
     let seq = stored(place.seq)?;
     let pos = stored(place.pos)?;
-    posting_put(tx, KeyOf { db, key }, number, seq, pos)?;
-    Ok(())
+    let id = db.column();
+    let reg = u32::from(key.register.code());
+    let term = key.term.as_str();
+    write(tx, PUT, params![id, key.index, reg, term, number, seq, pos])
 }

@@ -16,6 +16,17 @@ use crate::packed_agreeing::block_end;
 use crate::{ExpectedDatabase, KeyPosting, Record, RegFault};
 use sqlite::{Alter, Connection, Row, params};
 
+const RESTS_RECORDS: &str = "SELECT sysno, ident, bytes FROM records WHERE db = ?1 ORDER BY sysno";
+
+const RESTS_POSTINGS: &str =
+    "SELECT idx, reg, term, sysno, seq, pos FROM postings WHERE db = ?1 ORDER BY idx, reg, term, sysno, seq, pos";
+
+const RESTS_BLOCKS: &str =
+    "SELECT idx, reg, term, block, data FROM blocks WHERE db = ?1 ORDER BY idx, reg, term, block";
+
+const RESTS_DICT: &str =
+    "SELECT idx, reg, term, records FROM dict WHERE db = ?1 ORDER BY idx, reg, term";
+
 /// Whether the rows of a table under this id are just the expected ones. One row is held at a time.
 pub(crate) fn rests_agree<S: Alter>(
     conn: &mut Connection<S>,
@@ -50,16 +61,10 @@ fn rests_text(table: Table) -> &'static str
     ensures { result.now ≡ rests_text table }
 {
     match table {
-        Table::Records => "SELECT sysno, ident, bytes FROM records WHERE db = ?1 ORDER BY sysno",
-        Table::Postings => {
-            "SELECT idx, reg, term, sysno, seq, pos FROM postings WHERE db = ?1 ORDER BY idx, reg, term, sysno, seq, pos"
-        }
-        Table::Blocks => {
-            "SELECT idx, reg, term, block, data FROM blocks WHERE db = ?1 ORDER BY idx, reg, term, block"
-        }
-        Table::Dict => {
-            "SELECT idx, reg, term, records FROM dict WHERE db = ?1 ORDER BY idx, reg, term"
-        }
+        Table::Records => RESTS_RECORDS,
+        Table::Postings => RESTS_POSTINGS,
+        Table::Blocks => RESTS_BLOCKS,
+        Table::Dict => RESTS_DICT,
     }
 }
 

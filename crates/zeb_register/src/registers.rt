@@ -1,12 +1,12 @@
 //! What a layout of the registers has to do, whatever tables it keeps them in.
 
-ghost use Rattle.std.specs.Prelude.{◌≡◌, ◌≢◌, ◌↔◌, ◌+◌, ◌*◌, ℕ, ℤ, List, [], length, IsUtf8, OnOk};
+ghost use Rattle.std.specs.Prelude.{◌≡◌, ◌≢◌, ◌↔◌, ◌*◌, ℕ, ℤ, List, [], length, IsUtf8, OnOk};
 ghost use Rattle.sqlite.specs.Held.{state};
 ghost use Rattle.sqlite.specs.State.{IsUnchanged};
 ghost use Rattle.sqlite_rules.specs.Lists.{Has};
 ghost use Rattle.zeb_register.specs.Calls.{GoesOn, Inside, Reading};
 ghost use Rattle.zeb_register.specs.Clauses.{ChangesHeld, DamagedHeld, FindsHeld, InStore, IsHonest, IsHonestStorable};
-ghost use Rattle.zeb_register.specs.Clauses.{IsHinderedInside, IsReasoned, IsReasonedInside, OnStore, TakesRegistersInside};
+ghost use Rattle.zeb_register.specs.Clauses.{IsReasoned, OnStore};
 ghost use Rattle.zeb_register.specs.Clauses.{Tells, TellsHeld, TellsWhether};
 ghost use Rattle.sqlite.specs.Tree.{Trees};
 ghost use Rattle.zeb_register.specs.Content.{Content, HasRisingLists, IsChangedAt, IsWithout};
@@ -88,7 +88,7 @@ pub trait Layout {
     ghost use Rattle.zeb_register.specs.PlainRows.{key_row, register_front};
     ghost use Rattle.zeb_register.specs.Sound.{AreListsSound, AreTermsSound, InPacked, IsListSound, KeepsMalformed, KeepsRowsBeside};
     ghost use Rattle.zeb_register.specs.Sound.{TellsBefore, TellsFrom, TellsRegister};
-    ghost use Rattle.zeb_register.specs.Hindrances.{HindersPlaces, IsPlacedAt, KeepsPlaces, KeepsSpelled, SpellsMore, placed, rows_of};
+    ghost use Rattle.zeb_register.specs.Hindrances.{IsPlacedAt, KeepsPlaces, KeepsSpelled, SpellsMore, placed};
     ghost use Rattle.zeb_keys.specs.declared.keys.Key.{Key};
     ghost use Rattle.zeb_blocks.specs.declared.postings.Posting.{Posting};
 
@@ -137,10 +137,6 @@ pub trait Layout {
             (KeepsSpelled db.0 key.now ((sysno, new.now) ∷ []) trees (state S.Store tx.new.conn.now).now.trees)) }
         ensures places { InStore (state S.Store tx.old.conn.now) (state S.Store tx.new.conn.now) (λ trees. OnOk result
             (KeepsPlaces db.0 key.now ((sysno, new.now) ∷ []) trees (state S.Store tx.new.conn.now).now.trees)) }
-        ensures refused { IsHinderedInside (state S.Store tx.old.conn.now) (state S.Store tx.new.conn.now) result
-            (HindersPlaces db.0 key.now ((sysno, new.now) ∷ [])) }
-        ensures rowids { TakesRegistersInside (state S.Store tx.old.conn.now) (state S.Store tx.new.conn.now) result
-            (rows_of ((sysno, new.now) ∷ [])) }
         ensures work { FindsHeld (holds_in format) (state S.Store tx.old.conn.now) (state S.Store tx.new.conn.now) result
             (λ _. Works row_work row_work row_work row_work work.old work.new) }
         ensures no_work { row_work ≡ 0 → work.new ≡ work.old };
@@ -176,10 +172,6 @@ pub trait Layout {
             (KeepsSpelled db.0 key.now (map placed changes.now) trees (state S.Store tx.new.conn.now).now.trees)) }
         ensures places { InStore (state S.Store tx.old.conn.now) (state S.Store tx.new.conn.now) (λ trees. OnOk result
             (KeepsPlaces db.0 key.now (map placed changes.now) trees (state S.Store tx.new.conn.now).now.trees)) }
-        ensures refused { IsHinderedInside (state S.Store tx.old.conn.now) (state S.Store tx.new.conn.now) result
-            (HindersPlaces db.0 key.now (map placed changes.now)) }
-        ensures rowids { TakesRegistersInside (state S.Store tx.old.conn.now) (state S.Store tx.new.conn.now) result
-            (rows_of (map placed changes.now)) }
         ensures work { FindsHeld (holds_in format) (state S.Store tx.old.conn.now) (state S.Store tx.new.conn.now) result
             (λ _. Works (row_work * length changes.now) (row_work * length changes.now) (row_work * length changes.now)
             (row_work * length changes.now) work.old work.new) }
@@ -193,8 +185,7 @@ pub trait Layout {
             (TakesWhole db.0 (state S.Store tx.old.conn.now) (state S.Store tx.new.conn.now)
             × ((before after : Content) → holds_in format trees before → IsWithout db.0 before after
             → holds_in format (state S.Store tx.new.conn.now).now.trees after))) }
-        ensures honest { result ≢ Err RegFault.Damaged }
-        ensures refused { IsReasonedInside (state S.Store tx.old.conn.now) (state S.Store tx.new.conn.now) result };
+        ensures honest { result ≢ Err RegFault.Damaged };
 
     /// The postings of a key, rising.
     fn key_list<S: Alter>(

@@ -1,6 +1,6 @@
 //! Whether a store has this store's six tables and nothing else.
 
-ghost use Rattle.std.specs.Prelude.{◌≡◌, ◌↔◌, [], map, IsTrue};
+ghost use Rattle.std.specs.Prelude.{◌≡◌, ◌↔◌, map, IsTrue};
 ghost use Rattle.std.specs.Bool.{Decides};
 ghost use Rattle.zeb_register.specs.Tables.{no_schema, store_schema};
 ghost use Rattle.zeb_register.specs.PrivateTableForms.{HasNoMore, column_of, column_with, columns_of, index_of, places_of, table_of};

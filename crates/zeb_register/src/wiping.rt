@@ -4,12 +4,10 @@ ghost use Rattle.std.specs.Prelude.{◌≡◌, ◌≢◌};
 ghost use Rattle.sqlite.specs.Held.{state};
 ghost use Rattle.zeb_register.specs.Store.{IsStore, IsEmptyStore, LacksLists, LacksRegisters, KeepsLists};
 ghost use Rattle.zeb_register.specs.Calls.{GoesOn, Inside};
-ghost use Rattle.zeb_register.specs.Clauses.{IsReasonedInside};
 
 use crate::RegFault;
-use crate::statements::wipes::{
-    blocks_wipe, databases_wipe, dict_wipe, meta_wipe, postings_wipe, records_wipe,
-};
+use crate::statements::whole::table_wipe;
+use crate::tables::StoreTable;
 use sqlite::{Alter, Transaction};
 
 /// Takes every row out of every table.
@@ -18,7 +16,6 @@ pub fn wipe<S: Alter>(tx: &mut Transaction<'_, S>) -> Result<(), RegFault>
     ensures call { Inside (state S.Store tx.old.conn.now) (state S.Store tx.new.conn.now) result
         (λ _ a b. GoesOn a b × (IsStore a → IsEmptyStore b)) }
     ensures honest { result ≢ Err RegFault.Damaged }
-    ensures refused { IsReasonedInside (state S.Store tx.old.conn.now) (state S.Store tx.new.conn.now) result }
 {
     lists_wipe(tx)?;
     registers_wipe(tx)
@@ -30,11 +27,10 @@ fn lists_wipe<S: Alter>(tx: &mut Transaction<'_, S>) -> Result<(), RegFault>
     ensures call { Inside (state S.Store tx.old.conn.now) (state S.Store tx.new.conn.now) result
         (λ _ a b. GoesOn a b × (IsStore a → IsStore b × LacksLists b.now.trees)) }
     ensures honest { result ≢ Err RegFault.Damaged }
-    ensures refused { IsReasonedInside (state S.Store tx.old.conn.now) (state S.Store tx.new.conn.now) result }
 {
-    meta_wipe(tx)?;
-    databases_wipe(tx)?;
-    records_wipe(tx)?;
+    table_wipe(tx, StoreTable::Meta)?;
+    table_wipe(tx, StoreTable::Databases)?;
+    table_wipe(tx, StoreTable::Records)?;
     Ok(())
 }
 
@@ -44,10 +40,9 @@ pub fn registers_wipe<S: Alter>(tx: &mut Transaction<'_, S>) -> Result<(), RegFa
     ensures call { Inside (state S.Store tx.old.conn.now) (state S.Store tx.new.conn.now) result
         (λ _ a b. GoesOn a b × (IsStore a → IsStore b × LacksRegisters b.now.trees × KeepsLists a.now.trees b.now.trees)) }
     ensures honest { result ≢ Err RegFault.Damaged }
-    ensures refused { IsReasonedInside (state S.Store tx.old.conn.now) (state S.Store tx.new.conn.now) result }
 {
-    postings_wipe(tx)?;
-    blocks_wipe(tx)?;
-    dict_wipe(tx)?;
+    table_wipe(tx, StoreTable::Postings)?;
+    table_wipe(tx, StoreTable::Blocks)?;
+    table_wipe(tx, StoreTable::Dict)?;
     Ok(())
 }

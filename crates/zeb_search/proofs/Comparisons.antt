@@ -1,14 +1,6 @@
 -- Texts compared by their bytes.
-use Rattle.std.proofs.Common.{◌≡◌, ◌↔◌, ◌⊎◌, ◌∙◌, ◌++◌, ◌<◌, ℕ, List, [], ◌∷◌, IsTrue, true, false, refl, sym, ap, subst, inl, inr, Ordering, Less, Equal, Greater, arith}
-use Rattle.std.specs.Cmp.Lexicographic.{slice_cmp, nat_list_cmp_total}
-use Rattle.std.specs.Ordering.{nat_cmp, is_lt, is_le, is_ge, is_gt, ordering_reverse, ordering_then}
-use Rattle.std.proofs.lemmas.Bool.Decides.{nat_tests}
-use Rattle.std.proofs.lemmas.Cmp.{tied_itself}
+use Rattle.zeb_search.proofs.Cited.{◌≡◌, ◌↔◌, ◌⊎◌, ◌∙◌, ◌++◌, ◌<◌, ℕ, List, [], ◌∷◌, IsTrue, true, false, refl, sym, ap, subst, inl, inr, Ordering, Less, Equal, Greater, arith, slice_cmp, nat_list_cmp_total, nat_cmp, is_lt, is_le, is_ge, is_gt, ordering_reverse, ordering_then, nat_tests, tied_itself, never_back, never_itself, same_bytes, above_least, least_above, Precedes, StandsInOrder}
 use Rattle.zeb_query.specs.declared.plans.Order.TheVariants as in_order
-use Rattle.zeb_register.proofs.RisingLists.{never_back, never_itself}
-use Rattle.zeb_register.proofs.RowLemmas.{same_bytes}
-use Rattle.zeb_register.proofs.TermLists.{above_least, least_above}
-use Rattle.zeb_search.specs.Comparing.{Precedes, StandsInOrder}
 
 pub turned : (a b : List ℕ) → slice_cmp nat_cmp a b ≡ Greater → Precedes b a
 turned a b h = nat_list_cmp_total.antisymm b a ∙ ap ordering_reverse h

@@ -1,19 +1,6 @@
 -- The postings of a list behind which one of another list stands, found in one walk over both, which rise.
-use Rattle.std.proofs.Common.{◌≡◌, ◌∙◌, ◌↔◌, ◌⊎◌, ◌≤◌, ◌<◌, ℕ, zero, suc, ◌+◌, Bool, true, false, cond, length, get_or, take, List, [], ◌∷◌, ◌++◌, IsTrue, Option, Some, None, ◌-◌, Ordering, Less, refl, sym, ap, subst, inl, inr, arith}
+use Rattle.zeb_search.proofs.Cited.{◌≡◌, ◌∙◌, ◌↔◌, ◌⊎◌, ◌≤◌, ◌<◌, ℕ, zero, suc, ◌+◌, Bool, true, false, cond, length, get_or, take, List, [], ◌∷◌, ◌++◌, IsTrue, Option, Some, None, ◌-◌, Ordering, Less, refl, sym, ap, subst, inl, inr, arith, nat_cmp, ordering_then, cases_lt, nat_tests, get_or_default, Has, all_has, has_at, has_left, has_right, has_either, contains_had, posting_cmp, Posting, posting_total, pushed_rises, taken_below, taken_more, ArePostings, Words, HasWithin, IsBefore, IsBehind, IsUpTo, IsWithin}
 use Rattle.std.specs.List.Sorted.{IsStrictlySortedBy}
-use Rattle.std.specs.Ordering.{nat_cmp, ordering_then}
-use Rattle.std.proofs.lemmas.Bool.{cases_lt}
-use Rattle.std.proofs.lemmas.Bool.Decides.{nat_tests}
-use Rattle.std.proofs.lemmas.List.{get_or_default}
-use Rattle.sqlite_rules.specs.Lists.{Has}
-use Rattle.sqlite_rules.proofs.ListLemmas.{all_has, has_at, has_left, has_right, has_either, contains_had}
-use Rattle.zeb_register.specs.Content.{posting_cmp, Posting}
-use Rattle.zeb_register.proofs.ContentChanges.{posting_total}
-use Rattle.zeb_register.proofs.RisingLists.{pushed_rises}
-use Rattle.zeb_register.proofs.TermRows.{taken_below, taken_more}
-use Rattle.zeb_search.specs.PrivateLists.{ArePostings}
-use Rattle.zeb_search.specs.declared.lists.Words.{Words}
-use Rattle.zeb_search.specs.PrivateWalks.{HasWithin, IsBefore, IsBehind, IsUpTo, IsWithin}
 use Rattle.zeb_search.proofs.Comparisons.{ranked_numbers}
 
 -- ---- postings in order

@@ -1,8 +1,5 @@
 -- Lists that gather what each element of another list gives.
-use Rattle.std.proofs.Common.{◌↔◌, List, [], ◌∷◌, ◌++◌, refl, subst, inl, inr}
-use Rattle.std.proofs.lemmas.List.{append-nil}
-use Rattle.sqlite_rules.specs.Lists.{Has}
-use Rattle.sqlite_rules.proofs.ListLemmas.{has_left, has_right, has_either}
+use Rattle.zeb_search.proofs.Cited.{◌↔◌, List, [], ◌∷◌, ◌++◌, refl, subst, inl, inr, append-nil, Has, has_left, has_right, has_either}
 
 module _ {X Y : Type 0} (R : X → Y → Type 0) where
   -- just what the elements give

@@ -1,13 +1,6 @@
 -- Where two sets have the same occurrences and the same records are kept, a query holds on the same records.
-use Rattle.std.proofs.Common.{◌↔◌, ℕ, List, [], ◌∷◌, Some, None, inl, inr}
-use Rattle.zeb_text.specs.Symbols.{Symbol}
-use Rattle.zeb_keys.specs.declared.Register.{Register}
-use Rattle.zeb_query.specs.declared.plans.Operator.{Operator}
+use Rattle.zeb_search.proofs.Cited.{◌↔◌, ℕ, List, [], ◌∷◌, Some, None, inl, inr, Symbol, Register, Operator, Separation, PlanValue, TermOf, PairOf, NearOf, TermPlanValue, RecordNumberOf, AlwaysOf, NumberOf, OrderedOf, CompleteOf, PhraseOf, AllWordsOf, AnyWordOf, Occurrence, AreJoined, HasEntry, HasWord, HasWords, HasNear, TermHolds, TreeHolds}
 use Rattle.zeb_query.specs.declared.plans.Operator.TheVariants as operator
-use Rattle.zeb_query.specs.declared.plans.Separation.{Separation}
-use Rattle.zeb_query.specs.Plans.{PlanValue, TermOf, PairOf, NearOf, TermPlanValue, RecordNumberOf, AlwaysOf, NumberOf, OrderedOf, CompleteOf, PhraseOf, AllWordsOf, AnyWordOf}
-use Rattle.zeb_keys.specs.declared.keys.Occurrence.{Occurrence}
-use Rattle.zeb_search.specs.Holds.{AreJoined, HasEntry, HasWord, HasWords, HasNear, TermHolds, TreeHolds}
 
 -- ---- what holds by fewer occurrences holds by more
 

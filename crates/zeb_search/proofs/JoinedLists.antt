@@ -1,21 +1,6 @@
 -- Two lists of numbers that rise, joined under an operator in one walk.
-use Rattle.std.proofs.Common.{◌≡◌, ◌∙◌, ◌↔◌, ◌⊎◌, ◌≤◌, ◌<◌, ℕ, ◌+◌, Bool, true, false, cond, length, get_or, take, List, [], ◌∷◌, ◌++◌, IsTrue, Less, refl, sym, ap, subst, inl, inr, arith}
-use mir.Val.{bool_byte}
-use Rattle.std.specs.Cmp.{nat_cmp_total}
+use Rattle.zeb_search.proofs.Cited.{◌≡◌, ◌∙◌, ◌↔◌, ◌⊎◌, ◌≤◌, ◌<◌, ℕ, ◌+◌, Bool, true, false, cond, length, get_or, take, List, [], ◌∷◌, ◌++◌, IsTrue, Less, refl, sym, ap, subst, inl, inr, arith, bool_byte, nat_cmp_total, nat_cmp, cases_lt, nat_tests, get_or_default_zero, below_from_sorted, Has, has_left, has_right, has_either, Operator, And, Or, Not, pushed_rises, taken_below, taken_more, AreJoined, AreNumbers}
 use Rattle.std.specs.List.Sorted.{IsStrictlySortedBy}
-use Rattle.std.specs.Ordering.{nat_cmp}
-use Rattle.std.proofs.lemmas.Bool.{cases_lt}
-use Rattle.std.proofs.lemmas.Bool.Decides.{nat_tests}
-use Rattle.std.proofs.lemmas.Grind.{get_or_default_zero}
-use Rattle.std.proofs.lemmas.Map.Keys.{below_from_sorted}
-use Rattle.sqlite_rules.specs.Lists.{Has}
-use Rattle.sqlite_rules.proofs.ListLemmas.{has_left, has_right, has_either}
-use Rattle.zeb_query.specs.declared.plans.Operator.{Operator}
-use Rattle.zeb_query.specs.declared.plans.Operator.TheVariants.{And, Or, Not}
-use Rattle.zeb_register.proofs.RisingLists.{pushed_rises}
-use Rattle.zeb_register.proofs.TermRows.{taken_below, taken_more}
-use Rattle.zeb_search.specs.Holds.{AreJoined}
-use Rattle.zeb_search.specs.Lists.{AreNumbers}
 
 -- ---- one number more
 

@@ -1,14 +1,7 @@
 -- Lists that have just the members that are P.
-use Rattle.std.proofs.Common.{◌≡◌, ◌↔◌, ◌⊎◌, ◌∙◌, ℕ, ◌+◌, ◌<◌, List, [], ◌∷◌, ◌++◌, Ordering, take, length, get_or, refl, sym, ap, subst, inl, inr}
+use Rattle.zeb_search.proofs.Cited.{◌≡◌, ◌↔◌, ◌⊎◌, ◌∙◌, ℕ, ◌+◌, ◌<◌, List, [], ◌∷◌, ◌++◌, Ordering, take, length, get_or, refl, sym, ap, subst, inl, inr, nat_cmp, take_more, Has, has_either, has_left, has_right, Operator, AreJoined, AreJust, AreNumbers}
 use Rattle.std.specs.List.Sorted.{IsStrictlySortedBy}
-use Rattle.std.specs.Ordering.{nat_cmp}
-use Rattle.std.proofs.lemmas.List.{take_more}
-use Rattle.sqlite_rules.specs.Lists.{Has}
-use Rattle.sqlite_rules.proofs.ListLemmas.{has_either, has_left, has_right}
-use Rattle.zeb_query.specs.declared.plans.Operator.{Operator}
 use Rattle.zeb_query.specs.declared.plans.Operator.TheVariants as operator
-use Rattle.zeb_search.specs.Holds.{AreJoined}
-use Rattle.zeb_search.specs.Lists.{AreJust, AreNumbers}
 
 module _ {X : Type 0} {cmp : X → X → Ordering} where
   pub just_same : (P Q : X → Type 0) (list : List X) → ((x : X) → P x ↔ Q x) → AreJust cmp P list → AreJust cmp Q list

@@ -1,11 +1,6 @@
 -- A query holds on no record but those that have an occurrence or are kept.
-use Rattle.std.proofs.Common.{◌⊎◌, ℕ, List, [], ◌∷◌, Some, None, inl, inr, refl}
-use Rattle.zeb_keys.specs.declared.Register.{Register}
-use Rattle.zeb_text.specs.Symbols.{Symbol}
+use Rattle.zeb_search.proofs.Cited.{◌⊎◌, ℕ, List, [], ◌∷◌, Some, None, inl, inr, refl, Register, Symbol, PlanValue, TermOf, PairOf, NearOf, TermPlanValue, RecordNumberOf, AlwaysOf, NumberOf, OrderedOf, CompleteOf, PhraseOf, AllWordsOf, AnyWordOf, Occurrence, HasEntry, HasWord, TermHolds, TreeHolds}
 use Rattle.zeb_query.specs.declared.plans.Operator.TheVariants as operator
-use Rattle.zeb_query.specs.Plans.{PlanValue, TermOf, PairOf, NearOf, TermPlanValue, RecordNumberOf, AlwaysOf, NumberOf, OrderedOf, CompleteOf, PhraseOf, AllWordsOf, AnyWordOf}
-use Rattle.zeb_keys.specs.declared.keys.Occurrence.{Occurrence}
-use Rattle.zeb_search.specs.Holds.{HasEntry, HasWord, TermHolds, TreeHolds}
 
 module _ (O : ℕ → Occurrence → Type 0) (K : ℕ → Type 0) where
   -- the record has some occurrence, or it is kept

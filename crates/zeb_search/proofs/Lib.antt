@@ -27,3 +27,4 @@ pub mod RunLemmas
 pub mod SeparatedPostings
 pub mod TermLemmas
 pub mod WordCounts
+pub mod Cited

@@ -1,35 +1,6 @@
 -- The rows of a register's terms that a search has met, page by page.
-use Rattle.std.proofs.Common.{◌≡◌, ◌≢◌, ◌⊎◌, ◌∙◌, ◌<◌, ℕ, ℤ, true, false, List, [], ◌∷◌, ◌++◌, map, take, drop, refl, sym, ap, ap₂, subst, inl, inr, Ordering, Less, Equal, Greater, None, Some, String, string_bytes}
-use Rattle.std.specs.declared.alloc.Global.{Global}
-use Rattle.std.specs.Ordering.{nat_cmp, is_lt, ordering_then}
-use Rattle.std.specs.Cmp.Lexicographic.{slice_cmp}
+use Rattle.zeb_search.proofs.Cited.{◌≡◌, ◌≢◌, ◌⊎◌, ◌∙◌, ◌<◌, ℕ, ℤ, true, false, List, [], ◌∷◌, ◌++◌, map, take, drop, refl, sym, ap, ap₂, subst, inl, inr, Ordering, Less, Equal, Greater, None, Some, String, string_bytes, Global, nat_cmp, is_lt, ordering_then, slice_cmp, append_assoc, take-append-drop, Value, Null, Text, Row, column, row_cmp, value_cmp, State, Has, all_from, all_has, has_either, has_left, has_right, has_mapped, mapped_has, row_cmp_total, value_cmp-Text, Register, TermCount, AreShown, CountsTerm, count_row, first_two, register_front, TellTerms, IsListOf, IsStore, dict, dict_keys, dict_static, never_itself, same_bytes, single, has_taken, take_rises, Precedes, Wanted, HasMetRows, IsTermRest, ShowsWanted, BeginsAt, IsAmong, LeadsTo, TermsRise}
 use Rattle.std.specs.List.Sorted.{IsStrictlySortedBy}
-use Rattle.std.proofs.lemmas.List.{append_assoc, take-append-drop}
-use Rattle.sqlite.specs.declared.types.Value.{Value}
-use Rattle.sqlite.specs.declared.types.Value.TheVariants.{Null, Text}
-use Rattle.sqlite.specs.Order.{Row, column, row_cmp, value_cmp}
-use Rattle.sqlite.specs.State.{State}
-use Rattle.sqlite_rules.specs.Lists.{Has}
-use Rattle.sqlite_rules.proofs.ListLemmas.{all_from, all_has, has_either, has_left, has_right}
-use Rattle.sqlite_rules.proofs.ProbeLemmas.{has_mapped, mapped_has}
-use Rattle.sqlite_value.proofs.OrderLemmas.{row_cmp_total, value_cmp-Text}
-use Rattle.zeb_keys.specs.declared.Register.{Register}
-use Rattle.zeb_register.specs.declared.registers.TermCount.{TermCount}
-use Rattle.zeb_register.specs.PackedBlocks.{AreShown, CountsTerm, count_row, first_two}
-use Rattle.zeb_register.specs.PlainRows.{register_front}
-use Rattle.zeb_register.specs.Sound.{TellTerms}
-use Rattle.zeb_register.specs.Sql.{IsListOf}
-use Rattle.zeb_register.specs.Store.{IsStore}
-use Rattle.zeb_register.proofs.PostingStatements.{dict, dict_keys, dict_static}
-use Rattle.zeb_register.proofs.RisingLists.{never_itself}
-use Rattle.zeb_register.proofs.RowLemmas.{same_bytes}
-use Rattle.zeb_register.proofs.SharedKeys.{single}
-use Rattle.zeb_register.proofs.TermLists.{has_taken}
-use Rattle.zeb_register.proofs.TermRows.{take_rises}
-use Rattle.zeb_search.specs.Comparing.{Precedes}
-use Rattle.zeb_search.specs.declared.terms.Wanted.{Wanted}
-use Rattle.zeb_search.specs.PrivateMet.{HasMetRows, IsTermRest, ShowsWanted}
-use Rattle.zeb_search.specs.PrivateTerms.{BeginsAt, IsAmong, LeadsTo, TermsRise}
 use Rattle.zeb_search.proofs.Comparisons.{below_others, none_between}
 use Rattle.zeb_search.proofs.NeighbourLemmas.{not_lower}
 use Rattle.zeb_search.proofs.PageLemmas.{below_above, cut_rises, some_taken}

@@ -1,16 +1,6 @@
 -- Which rows reading calls have met that were accepted one after the other, and those of a search that asks for words.
-use Rattle.std.proofs.Common.{◌≡◌, ◌++◌, ◌∷◌, [], ℕ, ℤ, List, Result, Ok, Err, OnOk, inl, inr, subst, sym}
-use Rattle.sqlite.specs.Tree.{Trees}
-use Rattle.sqlite.specs.State.{State, Survives}
-use Rattle.sqlite_rules.specs.Lists.{Has}
-use Rattle.sqlite_rules.proofs.ListLemmas.{has_either}
-use Rattle.zeb_text.specs.Symbols.{Symbol}
+use Rattle.zeb_search.proofs.Cited.{◌≡◌, ◌++◌, ◌∷◌, [], ℕ, ℤ, List, Result, Ok, Err, OnOk, inl, inr, subst, sym, Trees, State, Survives, Has, has_either, Symbol, OnStore, Format, Fits, HasNoStar, AreEntriesSound, AreWordsSound}
 use Rattle.zeb_keys.specs.declared.Register.TheVariants as register
-use Rattle.zeb_register.specs.Clauses.{OnStore}
-use Rattle.zeb_register.specs.Formats.{Format}
-use Rattle.zeb_search.specs.Holds.{Fits}
-use Rattle.zeb_search.specs.SearchCounts.{HasNoStar}
-use Rattle.zeb_search.specs.SearchRows.{AreEntriesSound, AreWordsSound}
 use Rattle.zeb_search.proofs.ReadLemmas.{IsRead, clean_before, still_store, still_trees}
 
 -- what holds anyway

@@ -1,24 +1,5 @@
 -- What a step of a search has met, in each format: the rows of a register's terms, and the lists of their keys.
-use Rattle.std.proofs.Common.{◌≡◌, ◌↔◌, ◌∙◌, ◌<◌, ◌++◌, ◌∷◌, [], ℕ, ℤ, List, None, Some, String, ap, get_or, inl, inr, length, string_bytes, subst, sym}
-use Rattle.std.specs.declared.alloc.Global.{Global}
-use Rattle.sqlite.specs.State.{State, Survives}
-use Rattle.sqlite.specs.Tree.{Trees}
-use Rattle.sqlite_rules.specs.Lists.{Has}
-use Rattle.sqlite_rules.proofs.ListLemmas.{has_either, has_left, has_right}
-use Rattle.zeb_keys.specs.declared.Register.{Register}
-use Rattle.zeb_keys.specs.declared.keys.Key.{Key}
-use Rattle.zeb_register.specs.declared.registers.RegisterOf.{RegisterOf}
-use Rattle.zeb_register.specs.declared.registers.TermCount.{TermCount}
-use Rattle.zeb_register.specs.Clauses.{OnStore}
-use Rattle.zeb_register.specs.Formats.{Format, plain_rows, packed_blocks}
-use Rattle.zeb_register.specs.Occurring.{key_in}
-use Rattle.zeb_register.specs.Sound.{AreListsSound, IsListSound, TellsFrom, TellsRegister}
-use Rattle.zeb_register.specs.Store.{IsStore}
-use Rattle.zeb_search.specs.Lists.{Rise}
-use Rattle.zeb_search.specs.declared.terms.Wanted.{Wanted}
-use Rattle.zeb_search.specs.PrivateMet.{AreKeyListsSound, AreKeysIn, AreMet, HasMet, IsTermRest}
-use Rattle.zeb_search.specs.PrivateTerms.{AreTaken, BeginsAt, IsWanted, LeadsTo, NamesEntry}
-use Rattle.zeb_search.specs.SearchRows.{AreEntriesSound}
+use Rattle.zeb_search.proofs.Cited.{◌≡◌, ◌↔◌, ◌∙◌, ◌<◌, ◌++◌, ◌∷◌, [], ℕ, ℤ, List, None, Some, String, ap, get_or, inl, inr, length, string_bytes, subst, sym, Global, State, Survives, Trees, Has, has_either, has_left, has_right, Register, Key, RegisterOf, TermCount, OnStore, Format, plain_rows, packed_blocks, key_in, AreListsSound, IsListSound, TellsFrom, TellsRegister, IsStore, Rise, Wanted, AreKeyListsSound, AreKeysIn, AreMet, HasMet, IsTermRest, AreTaken, BeginsAt, IsWanted, LeadsTo, NamesEntry, AreEntriesSound}
 use Rattle.zeb_search.proofs.MetPages.{MetUpTo, all_met, last_met, next_met, none_met, one_row}
 use Rattle.zeb_search.proofs.MetRows.{met_later}
 use Rattle.zeb_search.proofs.NeighbourLemmas.{HaveEnds, from_first, not_lower, up_to_last}

@@ -1,38 +1,9 @@
 -- Terms that stand next to each other in a register, and the postings of such a run.
-use Rattle.std.proofs.Common.{◌≡◌, ◌↔◌, ◌⊎◌, ◌∙◌, ◌+◌, ◌-◌, ◌≤◌, ℕ, ℤ, suc, Bool, true, false, IsTrue, List, [], ◌∷◌, ◌++◌, Result, Ok, Err, Vec, OnOk, drop, get_or, length, map, take, refl, sym, ap, subst, subst₂, inl, inr, Ordering, Less, Equal, Greater, arith}
-use Rattle.std.specs.Ordering.{nat_cmp, is_lt}
-use Rattle.std.specs.Cmp.Lexicographic.{slice_cmp}
+use Rattle.zeb_search.proofs.Cited.{◌≡◌, ◌↔◌, ◌⊎◌, ◌∙◌, ◌+◌, ◌-◌, ◌≤◌, ℕ, ℤ, suc, Bool, true, false, IsTrue, List, [], ◌∷◌, ◌++◌, Result, Ok, Err, Vec, OnOk, drop, get_or, length, map, take, refl, sym, ap, subst, subst₂, inl, inr, Ordering, Less, Equal, Greater, arith, nat_cmp, is_lt, slice_cmp, take-append-drop, Global, State, HasCleanDisk, Survives, Has, all_has, has_either, has_right, mapped_has, Key, RegisterOf, TermCount, Work, AreKeysBetween, IsPostingBetween, OnStore, TellsHeld, Content, Posting, posted, Format, holds_in, key_in, IsStore, Works, RegFault, Precedes, CountsByContent, CountsAtMost, NoRows, FoundKeys, Wanted, AreKeysOf, EntryRows, rows_under, Rise, AreFound, AreNeighbours, AreRun, AreTaken, HasWanted, IsPostingOf, IsWanted, StandTogether, StandsWithin, TermsRise, last_view}
 use Rattle.std.specs.List.Sorted.{IsStrictlySortedBy}
-use Rattle.std.proofs.lemmas.List.{take-append-drop}
-use Rattle.std.specs.declared.alloc.Global.{Global}
-use Rattle.sqlite.specs.State.{State, HasCleanDisk, Survives}
-use Rattle.sqlite_rules.specs.Lists.{Has}
-use Rattle.sqlite_rules.proofs.ListLemmas.{all_has, has_either, has_right}
-use Rattle.sqlite_rules.proofs.ProbeLemmas.{mapped_has}
-use Rattle.zeb_keys.specs.declared.keys.Key.{Key}
-use Rattle.zeb_register.specs.declared.registers.RegisterOf.{RegisterOf}
-use Rattle.zeb_register.specs.declared.registers.TermCount.{TermCount}
-use Rattle.zeb_register.specs.declared.registers.Work.{Work}
-use Rattle.zeb_register.specs.Between.{AreKeysBetween, IsPostingBetween}
-use Rattle.zeb_register.specs.Clauses.{OnStore, TellsHeld}
-use Rattle.zeb_register.specs.Content.{Content, Posting, posted}
-use Rattle.zeb_register.specs.Formats.{Format, holds_in}
-use Rattle.zeb_register.specs.Occurring.{key_in}
-use Rattle.zeb_register.specs.Store.{IsStore}
-use Rattle.zeb_register.specs.Tallies.{Works}
-use Rattle.zeb_register.specs.declared.RegFault.{RegFault}
-use Rattle.zeb_search.specs.Comparing.{Precedes}
-use Rattle.zeb_search.specs.SearchCounts.{CountsByContent, CountsAtMost}
-use Rattle.zeb_search.specs.PrivateSearchCounts.{NoRows}
-use Rattle.zeb_search.specs.declared.keys.FoundKeys.{FoundKeys}
-use Rattle.zeb_search.specs.declared.terms.Wanted.{Wanted}
-use Rattle.zeb_search.specs.ListRows.{AreKeysOf, EntryRows, rows_under}
-use Rattle.zeb_search.specs.Lists.{Rise}
-use Rattle.zeb_search.specs.PrivateTerms.{AreFound, AreNeighbours, AreRun, AreTaken, HasWanted, IsPostingOf, IsWanted, StandTogether, StandsWithin, TermsRise}
 use Rattle.zeb_search.proofs.Comparisons.{never_after, never_before_itself}
 use Rattle.zeb_search.proofs.SearchCountLemmas.{counts_then, list_counts}
 use Rattle.zeb_search.proofs.ReadLemmas.{IsRead, clean_before, still_store, still_trees}
-use Rattle.zeb_register.proofs.TermRows.{last_view}
 use Rattle.zeb_search.proofs.RisingTexts.{before_last_text, front_rise}
 
 -- ---- a walk over terms

@@ -1,21 +1,5 @@
 -- The list of a key that is the only one.
-use Rattle.std.proofs.Common.{◌≡◌, ◌↔◌, ◌∙◌, ◌∷◌, [], ℕ, ℤ, List, Result, Ok, Err, Vec, OnOk, arith, ap, get_or, inl, inr, length, refl, subst, sym}
-use Rattle.std.specs.declared.alloc.Global.{Global}
-use Rattle.sqlite.specs.State.{State}
-use Rattle.sqlite_rules.specs.Lists.{Has}
-use Rattle.zeb_keys.specs.declared.keys.Key.{Key}
-use Rattle.zeb_register.specs.Clauses.{TellsHeld}
-use Rattle.zeb_register.specs.Content.{Content, Posting}
-use Rattle.zeb_register.specs.Formats.{Format, holds_in}
-use Rattle.zeb_register.specs.Tallies.{Works}
-use Rattle.zeb_register.specs.declared.RegFault.{RegFault}
-use Rattle.zeb_register.specs.declared.registers.Work.{Work}
-use Rattle.zeb_register.proofs.FormatLemmas.{registers_rise}
-use Rattle.zeb_search.specs.SearchCounts.{CountsByContent}
-use Rattle.zeb_search.specs.PrivateSearchCounts.{NoRows}
-use Rattle.zeb_search.specs.ListRows.{rows_under}
-use Rattle.zeb_search.specs.PrivateLists.{ArePostings}
-use Rattle.zeb_search.specs.PrivateTerms.{IsPostingOf}
+use Rattle.zeb_search.proofs.Cited.{◌≡◌, ◌↔◌, ◌∙◌, ◌∷◌, [], ℕ, ℤ, List, Result, Ok, Err, Vec, OnOk, arith, ap, get_or, inl, inr, length, refl, subst, sym, Global, State, Has, Key, TellsHeld, Content, Posting, Format, holds_in, Works, RegFault, Work, registers_rise, CountsByContent, NoRows, rows_under, ArePostings, IsPostingOf}
 use Rattle.zeb_search.proofs.SearchCountLemmas.{list_counts}
 
 pub one_alone : {X : Type 0} (keys : List X) (key : X) → length keys ≡ 1 → key ≡ get_or keys 0 key → keys ≡ key ∷ []

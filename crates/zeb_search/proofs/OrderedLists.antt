@@ -1,22 +1,6 @@
 -- Lists that a sort and a `dedup` put in order.
-use Rattle.std.proofs.Common.{◌≡◌, ◌∙◌, ℕ, zero, suc, ◌+◌, ◌&&◌, Bool, false, get_or, List, [], ◌∷◌, map, Ordering, Less, Equal, Greater, refl, sym, ap, subst, arith, nat_eq}
-use Rattle.std.specs.Cmp.{IsTotalOrder, nat_cmp_total}
-use Rattle.std.specs.List.Retain.{IsFiltered, DiffersFromLast}
-use Rattle.std.specs.List.Sorted.{IsPermutation, IsSorted, IsStrictlySortedBy}
-use Rattle.std.specs.Ordering.{nat_cmp, ordering_then, eq_by_cmp, is_lt}
-use Rattle.std.proofs.lemmas.Bool.Decides.{nat_tests}
-use Rattle.std.proofs.lemmas.List.Sorted.{IsPermutation-refl}
-use Rattle.sqlite_rules.specs.Lists.{Has}
-use Rattle.sqlite_rules.proofs.ListLemmas.{has_contained, contains_had}
-use Rattle.sqlite_rules.proofs.ProbeLemmas.{has_mapped, mapped_has}
-use Rattle.zeb_keys.specs.Order.{TellsApart}
-use Rattle.zeb_keys.proofs.SortedLists.{rising_from_dedup, members_from_dedup}
-use Rattle.zeb_keys.proofs.Rising.{numbers_apart}
-use Rattle.zeb_register.specs.Content.{posting_cmp, Posting}
-use Rattle.zeb_register.proofs.ContentChanges.{posting_total, postings_apart}
-use Rattle.zeb_search.specs.Lists.{AreJust, AreNumbers}
-use Rattle.zeb_search.specs.PrivateLists.{ArePostings}
-use Rattle.zeb_search.specs.PrivateTerms.{HasPosting}
+use Rattle.zeb_search.proofs.Cited.{◌≡◌, ◌∙◌, ℕ, zero, suc, ◌+◌, ◌&&◌, Bool, false, get_or, List, [], ◌∷◌, map, Ordering, Less, Equal, Greater, refl, sym, ap, subst, arith, nat_eq, IsTotalOrder, nat_cmp_total, IsFiltered, DiffersFromLast, IsPermutation, IsSorted, nat_cmp, ordering_then, eq_by_cmp, is_lt, nat_tests, IsPermutation-refl, Has, has_contained, contains_had, has_mapped, mapped_has, TellsApart, rising_from_dedup, members_from_dedup, numbers_apart, posting_cmp, Posting, posting_total, postings_apart, AreJust, AreNumbers, ArePostings, HasPosting}
+use Rattle.std.specs.List.Sorted.{IsStrictlySortedBy}
 
 -- ---- after a sort
 

@@ -1,24 +1,6 @@
 -- The terms that are asked for, read page by page.
-use Rattle.std.proofs.Common.{◌≡◌, ◌≢◌, ◌⊎◌, ◌∙◌, ◌<◌, ℕ, ℤ, zero, suc, true, false, not, List, [], ◌∷◌, ◌++◌, filter, take, drop, refl, sym, ap, subst, inl, inr, Ordering, Less, Equal, Greater, arith, Some, None, String, string_bytes}
-use Rattle.std.specs.declared.alloc.Global.{Global}
-use Rattle.std.specs.Ordering.{nat_cmp, is_lt}
-use Rattle.std.specs.Cmp.Lexicographic.{slice_cmp}
+use Rattle.zeb_search.proofs.Cited.{◌≡◌, ◌≢◌, ◌⊎◌, ◌∙◌, ◌<◌, ℕ, ℤ, zero, suc, true, false, not, List, [], ◌∷◌, ◌++◌, filter, take, drop, refl, sym, ap, subst, inl, inr, Ordering, Less, Equal, Greater, arith, Some, None, String, string_bytes, Global, nat_cmp, is_lt, slice_cmp, append_assoc, take-append-drop, IsStrictlySortedBy-filter, State, HasCleanDisk, Survives, Has, all_has, has_either, has_filtered, has_kept, has_left, has_right, Register, Occurrence, TermCount, Content, posted, Format, holds_in, IsStore, AreTermsFrom, TermIn, is_from, term_cmp, Precedes, Wanted, BeginsAt, HasWanted, IsAmong, IsWanted, LeadsTo, TermsRise}
 use Rattle.std.specs.List.Sorted.{IsStrictlySortedBy}
-use Rattle.std.proofs.lemmas.List.{append_assoc, take-append-drop}
-use Rattle.std.proofs.lemmas.List.Kept.{IsStrictlySortedBy-filter}
-use Rattle.sqlite.specs.State.{State, HasCleanDisk, Survives}
-use Rattle.sqlite_rules.specs.Lists.{Has}
-use Rattle.sqlite_rules.proofs.ListLemmas.{all_has, has_either, has_filtered, has_kept, has_left, has_right}
-use Rattle.zeb_keys.specs.declared.Register.{Register}
-use Rattle.zeb_keys.specs.declared.keys.Occurrence.{Occurrence}
-use Rattle.zeb_register.specs.declared.registers.TermCount.{TermCount}
-use Rattle.zeb_register.specs.Content.{Content, posted}
-use Rattle.zeb_register.specs.Formats.{Format, holds_in}
-use Rattle.zeb_register.specs.Store.{IsStore}
-use Rattle.zeb_register.specs.Occurring.{AreTermsFrom, TermIn, is_from, term_cmp}
-use Rattle.zeb_search.specs.Comparing.{Precedes}
-use Rattle.zeb_search.specs.declared.terms.Wanted.{Wanted}
-use Rattle.zeb_search.specs.PrivateTerms.{BeginsAt, HasWanted, IsAmong, IsWanted, LeadsTo, TermsRise}
 use Rattle.zeb_search.proofs.Comparisons.{below_next, below_others, none_between, precedes_then}
 use Rattle.zeb_search.proofs.ReadLemmas.{IsRead, clean_before, told_behind}
 use Rattle.zeb_search.proofs.RisingTexts.{before_last_text, front_rise, joined_rise, none_rises, terms_rise}

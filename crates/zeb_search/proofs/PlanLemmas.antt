@@ -1,30 +1,8 @@
 -- What the places of words tell of the records on which a plan holds.
-use Rattle.std.proofs.Common.{◌≡◌, ◌≢◌, ◌⊎◌, ◌∙◌, ℕ, ℤ, pos, Option, Some, None, String, string_bytes, ◌+◌, ◌<◌, true, false, ◌==◌, List, [], ◌∷◌, Ordering, filter, length, get_or, take, arith, refl, sym, ap, subst, inl, inr, eqb-true, eq-eqb}
-use Rattle.std.specs.declared.alloc.Global.{Global}
+use Rattle.zeb_search.proofs.Cited.{◌≡◌, ◌≢◌, ◌⊎◌, ◌∙◌, ℕ, ℤ, pos, Option, Some, None, String, string_bytes, ◌+◌, ◌<◌, true, false, ◌==◌, List, [], ◌∷◌, Ordering, filter, length, get_or, take, arith, refl, sym, ap, subst, inl, inr, eqb-true, eq-eqb, Global, Trees, Has, has_filtered, has_kept, IsStrictlySortedBy-filter, Symbol, Register, Order, Separation, TermPlan, TermOf, term_plan_value, Key, Occurrence, Content, posting_cmp, Posting, IsIdentOf, key_in, HasRecord, HasMatch, HasNear, HasPhrase, HasWord, HasWords, AreJust, AreNumbers, ArePostings, HasBehind, HasPosting, IsNear, HoldsIn, is_kept_in}
 use Rattle.std.specs.List.Sorted.{IsStrictlySortedBy}
-use Rattle.sqlite.specs.Tree.{Trees}
-use Rattle.sqlite_rules.specs.Lists.{Has}
-use Rattle.sqlite_rules.proofs.ListLemmas.{has_filtered, has_kept}
-use Rattle.std.proofs.lemmas.List.Kept.{IsStrictlySortedBy-filter}
-use Rattle.zeb_text.specs.Symbols.{Symbol}
-use Rattle.zeb_keys.specs.declared.Register.{Register}
 use Rattle.zeb_keys.specs.declared.Register.TheVariants as register
-use Rattle.zeb_query.specs.declared.plans.Order.{Order}
-use Rattle.zeb_query.specs.declared.plans.Separation.{Separation}
-use Rattle.zeb_query.specs.declared.plans.TermPlan.{TermPlan}
 use Rattle.zeb_query.specs.declared.plans.TermPlan.TheVariants as term
-use Rattle.zeb_query.specs.Plans.{TermOf, term_plan_value}
-use Rattle.zeb_keys.specs.declared.keys.Key.{Key}
-use Rattle.zeb_keys.specs.declared.keys.Occurrence.{Occurrence}
-use Rattle.zeb_register.specs.Content.{Content, posting_cmp, Posting}
-use Rattle.zeb_register.specs.Kept.{IsIdentOf}
-use Rattle.zeb_register.specs.Occurring.{key_in}
-use Rattle.zeb_register.specs.Store.{HasRecord}
-use Rattle.zeb_search.specs.Holds.{HasMatch, HasNear, HasPhrase, HasWord, HasWords}
-use Rattle.zeb_search.specs.Lists.{AreJust, AreNumbers}
-use Rattle.zeb_search.specs.PrivateLists.{ArePostings}
-use Rattle.zeb_search.specs.PrivateTerms.{HasBehind, HasPosting, IsNear}
-use Rattle.zeb_search.specs.Registers.{HoldsIn, is_kept_in}
 use Rattle.zeb_search.proofs.JustLemmas.{just_none, just_same, some_more, each_more}
 
 pub some_patterns : (pattern : List Symbol) (patterns : List (List Symbol)) → (pattern ∷ patterns) ≢ []

@@ -1,18 +1,7 @@
 -- What the postings of keys tell of the records that have them.
-use Rattle.std.proofs.Common.{◌≡◌, ◌↔◌, ℕ, ℤ, List, refl, subst, sym}
+use Rattle.zeb_search.proofs.Cited.{◌≡◌, ◌↔◌, ℕ, ℤ, List, refl, subst, sym, Has, Register, Key, Symbol, Content, posted, posting_cmp, Posting, key_in, Fits, HasEntry, HasWord, AreNumbers, ArePostings, AreKeysOf, HasPosting, IsPostingOf}
 use Rattle.std.specs.List.Sorted.{IsStrictlySortedBy}
-use Rattle.sqlite_rules.specs.Lists.{Has}
-use Rattle.zeb_keys.specs.declared.Register.{Register}
 use Rattle.zeb_keys.specs.declared.Register.TheVariants as register
-use Rattle.zeb_keys.specs.declared.keys.Key.{Key}
-use Rattle.zeb_text.specs.Symbols.{Symbol}
-use Rattle.zeb_register.specs.Content.{Content, posted, posting_cmp, Posting}
-use Rattle.zeb_register.specs.Occurring.{key_in}
-use Rattle.zeb_search.specs.Holds.{Fits, HasEntry, HasWord}
-use Rattle.zeb_search.specs.Lists.{AreNumbers}
-use Rattle.zeb_search.specs.PrivateLists.{ArePostings}
-use Rattle.zeb_search.specs.ListRows.{AreKeysOf}
-use Rattle.zeb_search.specs.PrivateTerms.{HasPosting, IsPostingOf}
 
 module _ (content : Content) (db : ℤ) (index : ℕ) (register : Register) (P : List ℕ → Type 0) (keys : List Key) (are : AreKeysOf (posted content db) index register P keys) where
   -- a posting of one of the keys is one of an entry that is P

@@ -1,21 +1,7 @@
 -- Where the entries that are asked for begin and end, in the order of their bytes.
-use Rattle.std.proofs.Common.{◌≡◌, ◌⊎◌, ◌∙◌, ◌<◌, ◌≤◌, ◌^◌, ◌++◌, ℕ, min, Bool, true, false, not, IsTrue, MatchBool, None, List, [], ◌∷◌, sym, subst, inl, inr, arith, Ordering, IsUtf8, chars, encode_utf8_all}
-use Rattle.std.proofs.lemmas.List.{append-nil}
-use Rattle.std.specs.Str.Pattern.{FindsTextPrefix, HasPrefixMatch}
-use Rattle.std.specs.Ordering.{nat_cmp, is_ge}
-use Rattle.std.specs.Cmp.Lexicographic.{slice_cmp}
-use Rattle.zeb_text.specs.Numbers.{number_key}
-use Rattle.zeb_text.specs.Patterns.{Matches}
-use Rattle.zeb_text.specs.Symbols.{Symbol, Star, literal}
-use Rattle.zeb_text.proofs.KeyLemmas.{keys_order}
-use Rattle.zeb_text.proofs.MatchLemmas.{after_literal, cut_bytes, literal-same}
-use Rattle.zeb_query.specs.declared.plans.Order.{Order}
+use Rattle.zeb_search.proofs.Cited.{◌≡◌, ◌⊎◌, ◌∙◌, ◌<◌, ◌≤◌, ◌^◌, ◌++◌, ℕ, min, Bool, true, false, not, IsTrue, MatchBool, None, List, [], ◌∷◌, sym, subst, inl, inr, arith, Ordering, IsUtf8, chars, encode_utf8_all, append-nil, FindsTextPrefix, HasPrefixMatch, nat_cmp, is_ge, slice_cmp, number_key, Matches, Symbol, Star, literal, keys_order, after_literal, cut_bytes, literal-same, Order, Relation, is_less, less_is, Precedes, Stands, StandsInOrder, Fits, IsNumberAt}
 use Rattle.zeb_query.specs.declared.plans.Order.TheVariants as in_order
-use Rattle.zeb_query.specs.declared.plans.Relation.{Relation}
 use Rattle.zeb_query.specs.declared.plans.Relation.TheVariants as relation
-use Rattle.zeb_register.proofs.CountLemmas.{is_less, less_is}
-use Rattle.zeb_search.specs.Comparing.{Precedes, Stands, StandsInOrder}
-use Rattle.zeb_search.specs.Holds.{Fits, IsNumberAt}
 use Rattle.zeb_search.proofs.Comparisons.{begins_between, ge_stands, never_after, never_before_itself, none_between, not_before_front, precedes_then}
 
 -- ---- keys of numbers

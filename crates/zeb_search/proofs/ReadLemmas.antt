@@ -1,16 +1,5 @@
 -- Reading calls one after the other: what the accepted ones leave of a connection, and what later ones tell of the tables at the first.
-use Rattle.std.proofs.Common.{◌≡◌, ◌∙◌, false, IsTrue, Result, Ok, Err, arith, refl, sym, ap, subst}
-use Rattle.sqlite.specs.Effect.{Database}
-use Rattle.sqlite.specs.Tree.{Trees}
-use Rattle.sqlite.specs.State.{State, HasCleanDisk, IsUnchanged, Survives}
-use Rattle.sqlite.proofs.Callers.{unchanged_then}
-use Rattle.zeb_register.specs.Calls.{ChangesNothing, Reading}
-use Rattle.zeb_register.specs.Content.{Content, IsStorable}
-use Rattle.zeb_register.specs.Formats.{Format, holds_in}
-use Rattle.zeb_register.specs.Store.{IsStore}
-use Rattle.zeb_register.proofs.Calls.{nothing_still, nothing_then, store_same}
-use Rattle.zeb_register.proofs.CallsInTurn.{quiet_still, quiet_then}
-use Rattle.zeb_search.specs.Untouched.{IsUntouched}
+use Rattle.zeb_search.proofs.Cited.{◌≡◌, ◌∙◌, false, IsTrue, Result, Ok, Err, arith, refl, sym, ap, subst, Database, Trees, State, HasCleanDisk, IsUnchanged, Survives, unchanged_then, ChangesNothing, Reading, Content, IsStorable, Format, holds_in, IsStore, nothing_still, nothing_then, store_same, quiet_still, quiet_then, IsUntouched}
 
 -- every call so far was accepted
 pub record IsRead (old new : State) : Type 0 where

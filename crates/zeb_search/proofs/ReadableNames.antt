@@ -1,9 +1,5 @@
 -- Where each identifier can be read, each that a plan names can.
-use Rattle.std.proofs.Common.{ℕ, ℤ, pos}
-use Rattle.sqlite.specs.Tree.{Trees}
-use Rattle.zeb_query.specs.Plans.{PlanValue, TermOf, PairOf, NearOf, TermPlanValue, RecordNumberOf, AlwaysOf, NumberOf, OrderedOf, CompleteOf, PhraseOf, AllWordsOf, AnyWordOf}
-use Rattle.zeb_register.specs.Kept.{AreReadableIdents}
-use Rattle.zeb_search.specs.Registers.{NamesReadable, TermNamesReadable}
+use Rattle.zeb_search.proofs.Cited.{ℕ, ℤ, pos, Trees, PlanValue, TermOf, PairOf, NearOf, TermPlanValue, RecordNumberOf, AlwaysOf, NumberOf, OrderedOf, CompleteOf, PhraseOf, AllWordsOf, AnyWordOf, AreReadableIdents, NamesReadable, TermNamesReadable}
 
 module _ (trees : Trees) (db : ℤ) (readable : (n : ℕ) → AreReadableIdents trees db (pos n)) where
   term_readable : (plan : TermPlanValue) → TermNamesReadable trees db plan

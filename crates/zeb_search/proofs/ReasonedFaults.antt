@@ -1,10 +1,5 @@
 -- Why a search finds the store failed: a reading call behind accepted ones is refused for a reason that its caller has too.
-use Rattle.std.proofs.Common.{◌≡◌, ◌∙◌, Result, Err, ap, sym}
-use Rattle.sqlite.specs.State.{State, Survives}
-use Rattle.zeb_register.specs.Clauses.{IsReasoned}
-use Rattle.zeb_register.specs.declared.RegFault.{RegFault}
-use Rattle.zeb_register.specs.declared.RegFault.TheVariants.{Store}
-use Rattle.zeb_register.proofs.Causes.{may_after}
+use Rattle.zeb_search.proofs.Cited.{◌≡◌, ◌∙◌, Result, Err, ap, sym, State, Survives, IsReasoned, RegFault, Store, may_after}
 use Rattle.zeb_search.proofs.ReadLemmas.{IsRead, clean_before, still_store}
 
 module _ (a b c : State) (read : IsRead a b) (crash : Survives b c (λ _. ⊥)) where

@@ -1,20 +1,6 @@
 -- Lists of which the texts rise.
-use Rattle.std.proofs.Common.{◌≡◌, ◌++◌, ◌∷◌, ◌-◌, [], ℕ, suc, List, Ordering, Less, Some, length, map, slice_get, arith, sym, subst, subst₂, take, inl, inr}
-use Rattle.std.specs.Ordering.{nat_cmp}
-use Rattle.std.specs.Cmp.Lexicographic.{slice_cmp, nat_list_cmp_total}
+use Rattle.zeb_search.proofs.Cited.{◌≡◌, ◌++◌, ◌∷◌, ◌-◌, [], ℕ, suc, List, Ordering, Less, Some, length, map, slice_get, arith, sym, subst, subst₂, take, inl, inr, nat_cmp, slice_cmp, nat_list_cmp_total, map-append, get_or_from_slice_get, slice_get_within, Has, all_from, all_has, has_right, has_mapped, mapped_has, TermCount, term_cmp, before_last, front_rises, joined_rises, last_view, Precedes, Rise, TermsRise}
 use Rattle.std.specs.List.Sorted.{IsStrictlySortedBy}
-use Rattle.std.proofs.lemmas.List.{map-append}
-use Rattle.std.proofs.lemmas.Option.{get_or_from_slice_get, slice_get_within}
-use Rattle.sqlite_rules.specs.Lists.{Has}
-use Rattle.sqlite_rules.proofs.ListLemmas.{all_from, all_has, has_right}
-use Rattle.sqlite_rules.proofs.ProbeLemmas.{has_mapped, mapped_has}
-use Rattle.zeb_register.specs.declared.registers.TermCount.{TermCount}
-use Rattle.zeb_register.specs.Occurring.{term_cmp}
-use Rattle.zeb_register.proofs.RisingLists.{before_last, front_rises, joined_rises}
-use Rattle.zeb_register.proofs.TermRows.{last_view}
-use Rattle.zeb_search.specs.Comparing.{Precedes}
-use Rattle.zeb_search.specs.Lists.{Rise}
-use Rattle.zeb_search.specs.PrivateTerms.{TermsRise}
 
 rises_mapped : {X K : Type 0} (f : X → K) (R : K → K → Ordering) (xs : List X) → IsStrictlySortedBy (λ x y. R (f x) (f y)) xs → IsStrictlySortedBy R (map f xs)
 unfolding IsStrictlySortedBy

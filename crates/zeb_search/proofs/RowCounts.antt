@@ -1,10 +1,6 @@
 -- How many rows of `blocks` lists have, those of one pattern more.
-use Rattle.std.proofs.Common.{◌++◌, ◌∷◌, ◌+◌, [], ℕ, ℤ, List, arith, refl}
-use Rattle.zeb_text.specs.Symbols.{Symbol}
+use Rattle.zeb_search.proofs.Cited.{◌++◌, ◌∷◌, ◌+◌, [], ℕ, ℤ, List, arith, refl, Symbol, Content, Posting, Fits, EntryRows, WordRows}
 use Rattle.zeb_keys.specs.declared.Register.TheVariants as register
-use Rattle.zeb_register.specs.Content.{Content, Posting}
-use Rattle.zeb_search.specs.Holds.{Fits}
-use Rattle.zeb_search.specs.ListRows.{EntryRows, WordRows}
 
 module _ (rows : List Posting → ℕ) (content : Content) (db : ℤ) (index : ℕ) where
   pub one_pattern : (pattern : List Symbol) (n : ℕ) → EntryRows rows content db index register.Word (Fits pattern) n → WordRows rows content db index (pattern ∷ []) n

@@ -1,14 +1,5 @@
 -- Keys that were found, read run by run.
-use Rattle.std.proofs.Common.{◌≡◌, ◌↔◌, ◌≤◌, ◌++◌, ℕ, ℤ, IsTrue, List, length, inl, inr, subst, sym}
-use Rattle.sqlite_rules.specs.Lists.{Has}
-use Rattle.sqlite_rules.proofs.ListLemmas.{has_either, has_left, has_right}
-use Rattle.zeb_keys.specs.declared.keys.Key.{Key}
-use Rattle.zeb_register.specs.declared.registers.RegisterOf.{RegisterOf}
-use Rattle.zeb_register.specs.Content.{Content, Posting}
-use Rattle.zeb_register.specs.Occurring.{key_in}
-use Rattle.zeb_search.specs.declared.keys.FoundKeys.{FoundKeys}
-use Rattle.zeb_search.specs.Lists.{Rise}
-use Rattle.zeb_search.specs.PrivateTerms.{AreFound, AreRun, IsPostingOf}
+use Rattle.zeb_search.proofs.Cited.{◌≡◌, ◌↔◌, ◌≤◌, ◌++◌, ℕ, ℤ, IsTrue, List, length, inl, inr, subst, sym, Has, has_either, has_left, has_right, Key, RegisterOf, Content, Posting, key_in, FoundKeys, Rise, AreFound, AreRun, IsPostingOf}
 use Rattle.zeb_search.proofs.RisingTexts.{back_rise, before_behind, front_rise}
 
 abbrev text : Key → List ℕ

@@ -1,18 +1,5 @@
 -- What calls count, one after the other.
-use Rattle.std.proofs.Common.{◌≡◌, ◌+◌, ◌*◌, ◌≤◌, ℕ, ℤ, Result, Ok, Err, Vec, IfOk, OnOk, arith, inl, length, refl, sym, subst}
-use Rattle.std.specs.declared.alloc.Global.{Global}
-use Rattle.sqlite.specs.State.{State, HasCleanDisk, Survives}
-use Rattle.zeb_keys.specs.declared.Register.{Register}
-use Rattle.zeb_register.specs.declared.registers.TermCount.{TermCount}
-use Rattle.zeb_register.specs.declared.registers.Work.{Work}
-use Rattle.zeb_register.specs.Content.{Content, posted}
-use Rattle.zeb_register.specs.Formats.{Format, holds_in}
-use Rattle.zeb_register.specs.Occurring.{AreTermsOf}
-use Rattle.zeb_register.specs.Store.{IsStore}
-use Rattle.zeb_register.specs.Tallies.{Rises, Works}
-use Rattle.zeb_search.specs.SearchCounts.{CountsByContent, CountsAtMost}
-use Rattle.zeb_search.specs.PrivateSearchCounts.{NoRows}
-use Rattle.zeb_search.specs.DictRows.{RegisterDict}
+use Rattle.zeb_search.proofs.Cited.{◌≡◌, ◌+◌, ◌*◌, ◌≤◌, ℕ, ℤ, Result, Ok, Err, Vec, IfOk, OnOk, arith, inl, length, refl, sym, subst, Global, State, HasCleanDisk, Survives, Register, TermCount, Work, Content, posted, Format, holds_in, AreTermsOf, IsStore, Rises, Works, CountsByContent, CountsAtMost, NoRows, RegisterDict}
 use Rattle.zeb_search.proofs.ReadLemmas.{IsRead, clean_before, still_store, still_trees}
 
 same_count : (a b : ℕ) → b ≡ a → Rises 0 a b

@@ -1,15 +1,5 @@
 -- The records in which postings of two lists are separated as a query asks, by the ranges of the numbers of words from the one to the other.
-use Rattle.std.proofs.Common.{◌≡◌, ◌∙◌, ◌↔◌, ◌⊎◌, ◌<◌, ℕ, ◌+◌, ◌-◌, Bool, true, false, cond, List, [], ◌++◌, Option, Some, None, Result, Ok, Err, is_ok, OnOk, refl, sym, subst, inl, inr, arith}
-use Rattle.sqlite_rules.specs.Lists.{Has}
-use Rattle.sqlite_rules.proofs.ListLemmas.{has_left, has_right, has_either}
-use Rattle.zeb_query.specs.declared.plans.Separation.{Separation}
-use Rattle.zeb_register.specs.Content.{Posting}
-use Rattle.zeb_search.specs.declared.lists.Words.{Words}
-use Rattle.zeb_search.specs.Comparing.{AreApart, IsDistant}
-use Rattle.zeb_search.specs.Lists.{AreNumbers}
-use Rattle.zeb_search.specs.PrivateLists.{ArePostings}
-use Rattle.zeb_search.specs.PrivateTerms.{HasPosting, IsNear}
-use Rattle.zeb_search.specs.PrivateWalks.{HasWithin, IsFollowed, IsNearBy, IsWithin, IsWithinSome}
+use Rattle.zeb_search.proofs.Cited.{◌≡◌, ◌∙◌, ◌↔◌, ◌⊎◌, ◌<◌, ℕ, ◌+◌, ◌-◌, Bool, true, false, cond, List, [], ◌++◌, Option, Some, None, Result, Ok, Err, is_ok, OnOk, refl, sym, subst, inl, inr, arith, Has, has_left, has_right, has_either, Separation, Posting, Words, AreApart, IsDistant, AreNumbers, ArePostings, HasPosting, IsNear, HasWithin, IsFollowed, IsNearBy, IsWithin, IsWithinSome}
 
 -- ---- numbers that are added
 

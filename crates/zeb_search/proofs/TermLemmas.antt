@@ -1,26 +1,5 @@
 -- The terms that a step of a search asks for.
-use Rattle.std.proofs.Common.{◌≡◌, ◌↔◌, ◌∙◌, ◌<◌, ◌^◌, ℕ, List, [], ◌∷◌, ◌++◌, arith, get_or, sym, ap, subst, subst₂, inl, inr, IsUtf8, chars, encode_utf8_all}
-use Rattle.std.specs.List.{Contains}
-use Rattle.std.proofs.lemmas.List.{get_or-map, length-map}
-use Rattle.std.proofs.lemmas.Str.{encodes-chars}
-use Rattle.zeb_query.specs.declared.plans.Relation.{Relation}
-use Rattle.zeb_text.specs.Numbers.{number_key}
-use Rattle.zeb_text.specs.Patterns.{Matches}
-use Rattle.zeb_text.specs.Symbols.{Symbol, Char, Star, literal}
-use Rattle.zeb_text.proofs.MatchLemmas.{literal-same, same-literal}
-use Rattle.zeb_text.proofs.KeyLemmas.{keys_order}
-use Rattle.zeb_keys.specs.declared.Register.{Register}
-use Rattle.zeb_keys.specs.declared.keys.Key.{Key}
-use Rattle.zeb_keys.specs.declared.keys.Occurrence.{Occurrence}
-use Rattle.zeb_keys.proofs.Rising.{numbers_apart}
-use Rattle.zeb_register.specs.declared.registers.TermCount.{TermCount}
-use Rattle.zeb_register.specs.Occurring.{AreTermsOf, key_in}
-use Rattle.zeb_search.specs.Comparing.{Precedes, Stands}
-use Rattle.zeb_search.specs.SearchCounts.{HasNoStar}
-use Rattle.zeb_search.specs.Holds.{Fits, IsNumberAt}
-use Rattle.zeb_search.specs.declared.terms.Wanted.{Wanted}
-use Rattle.zeb_search.specs.ListRows.{AreKeysOf}
-use Rattle.zeb_search.specs.PrivateTerms.{AreTaken, HasWanted, IsWanted}
+use Rattle.zeb_search.proofs.Cited.{◌≡◌, ◌↔◌, ◌∙◌, ◌<◌, ◌^◌, ℕ, List, [], ◌∷◌, ◌++◌, arith, get_or, sym, ap, subst, subst₂, inl, inr, IsUtf8, chars, encode_utf8_all, Contains, get_or-map, length-map, encodes-chars, Relation, number_key, Matches, Symbol, Char, Star, literal, literal-same, same-literal, keys_order, Register, Key, Occurrence, numbers_apart, TermCount, AreTermsOf, key_in, Precedes, Stands, HasNoStar, Fits, IsNumberAt, Wanted, AreKeysOf, AreTaken, HasWanted, IsWanted}
 use Rattle.zeb_search.proofs.Comparisons.{tied_back}
 use Rattle.zeb_search.proofs.GatheredLists.{gathers_more, gathers_none, gathers_past}
 use Rattle.zeb_search.proofs.RisingTexts.{before_last_text, front_rise, joined_rise, none_rises, one_rises, terms_rise}

@@ -1,16 +1,6 @@
 -- What steps of a search count that ask for words, one after the other.
-use Rattle.std.proofs.Common.{◌++◌, ◌∷◌, [], ℕ, ℤ, List, refl}
-use Rattle.sqlite.specs.State.{State, Survives}
-use Rattle.zeb_text.specs.Symbols.{Symbol}
+use Rattle.zeb_search.proofs.Cited.{◌++◌, ◌∷◌, [], ℕ, ℤ, List, refl, State, Survives, Symbol, Work, Content, Posting, Format, HasNoStar, EntryDict, WordDict, Fits, EntryRows, WordRows, CountedMatches, CountedWords}
 use Rattle.zeb_keys.specs.declared.Register.TheVariants as register
-use Rattle.zeb_register.specs.declared.registers.Work.{Work}
-use Rattle.zeb_register.specs.Content.{Content, Posting}
-use Rattle.zeb_register.specs.Formats.{Format}
-use Rattle.zeb_search.specs.SearchCounts.{HasNoStar}
-use Rattle.zeb_search.specs.DictRows.{EntryDict, WordDict}
-use Rattle.zeb_search.specs.Holds.{Fits}
-use Rattle.zeb_search.specs.ListRows.{EntryRows, WordRows}
-use Rattle.zeb_search.specs.PrivateWordCounts.{CountedMatches, CountedWords}
 use Rattle.zeb_search.proofs.SearchCountLemmas.{counted_for, counted_still, counted_then}
 use Rattle.zeb_search.proofs.DictCounts.{dict_before, dict_behind, one_dict}
 use Rattle.zeb_search.proofs.ReadLemmas.{IsRead}

@@ -1,13 +1,7 @@
 -- What the runs of digits of a text give.
-use Rattle.std.proofs.Common.{◌≡◌, ℕ, zero, suc, ◌+◌, ◌*◌, ◌-◌, ◌^◌, ◌<◌, ◌≤◌, true, cond, nat_le, List, [], ◌∷◌, ◌++◌, filter, length, get_or, map, take, refl, ap, subst, ◌∙◌, arith, add-zero, add-suc, add-one, le-leb}
-use Rattle.std.proofs.lemmas.Bool.{lt-leb}
-use Rattle.std.proofs.Math.Nat.{pow-suc}
-use Rattle.std.specs.Char.{is_ascii_digit, digit_value}
-use Rattle.std.specs.Str.Parse.{digits_value, digits_value_after}
-use Rattle.std.proofs.lemmas.Bool.Decides.{nat_tests}
-use Rattle.std.proofs.lemmas.List.{take_more}
+use Rattle.zeb_text.proofs.Cited.{◌≡◌, ℕ, zero, suc, ◌+◌, ◌*◌, ◌-◌, ◌^◌, ◌<◌, ◌≤◌, true, cond, nat_le, List, [], ◌∷◌, ◌++◌, filter, length, get_or, map, take, refl, ap, subst, ◌∙◌, arith, add-zero, add-suc, add-one, le-leb, lt-leb, pow-suc, is_ascii_digit, digit_value, digits_value, digits_value_after, nat_tests, take_more, numbers_of}
 use Rattle.zeb_text.specs.Words.{runs_of}
-use Rattle.zeb_text.specs.Numbers.{numerals_of, numbers_of}
+use Rattle.zeb_text.specs.Numbers.{numerals_of}
 
 pub numbers_of-run : (text run rest : List ℕ) → runs_of is_ascii_digit text ≡ run ∷ runs_of is_ascii_digit rest → numbers_of text ≡ map (digits_value 10) (cond (nat_le (length run) 18) (run ∷ numerals_of rest) (numerals_of rest))
 unfolding numerals_of

@@ -1,15 +1,7 @@
 -- The runs of ASCII characters in a text are those in its bytes.
-use Rattle.std.proofs.Common.{◌≡◌, ℕ, ◌<◌, Bool, true, false, List, [], ◌∷◌, ◌++◌, length, get_or, map, All, encode_utf8, encode_utf8_all, chars, IsUtf8, filter, nat_le, inl, inr, refl, sym, ap, ◌∙◌, arith}
-use Rattle.std.specs.Char.{is_ascii_digit}
-use Rattle.std.specs.List.{AllPass}
-use Rattle.std.specs.Str.Parse.{digits_value}
-use Rattle.std.proofs.lemmas.Bool.{false_from_ne_true, false≢true, cases_Bool}
-use Rattle.std.proofs.lemmas.Bool.Decides.{nat_tests}
-use Rattle.std.proofs.lemmas.List.{append_assoc, append-nil, get_or_append_left}
-use Rattle.std.proofs.lemmas.Str.{inside_one, length-encode, len_utf8_bounds, encode_ascii, encodes-chars}
-use Rattle.std.proofs.lemmas.List.Elements.{All-nil, All-push}
+use Rattle.zeb_text.proofs.Cited.{◌≡◌, ℕ, ◌<◌, Bool, true, false, List, [], ◌∷◌, ◌++◌, length, get_or, map, All, encode_utf8, encode_utf8_all, chars, IsUtf8, filter, nat_le, inl, inr, refl, sym, ap, ◌∙◌, arith, is_ascii_digit, AllPass, digits_value, false_from_ne_true, false≢true, cases_Bool, nat_tests, append_assoc, append-nil, get_or_append_left, inside_one, length-encode, len_utf8_bounds, encode_ascii, encodes-chars, All-nil, All-push, numbers_of}
 use Rattle.zeb_text.specs.Words.{runs_of}
-use Rattle.zeb_text.specs.Numbers.{numerals_of, numbers_of}
+use Rattle.zeb_text.specs.Numbers.{numerals_of}
 use Rattle.zeb_text.proofs.RunLemmas.{All-from_places, runs_of-other, runs_of-gap, runs_of-run, front_run}
 
 module _ (p : ℕ → Bool) (ascii : (c : ℕ) → p c ≡ true → c < 128) where

@@ -1,12 +1,7 @@
 -- How long a folded text is.
-use Rattle.std.proofs.Common.{ℕ, ◌*◌, ◌≤◌, not, List, [], ◌∷◌, length, encode_utf8, encode_utf8_all, arith, length-append}
-use Rattle.std.proofs.lemmas.List.Sums.{count_by-le-length, length-filter}
-use Rattle.std.proofs.lemmas.Str.{length-encode, len_utf8_bounds}
-use Rattle.caseless.specs.Caseless.{default_case_fold}
-use Rattle.caseless.proofs.CaselessLemmas.{length-default_case_fold}
-use Rattle.unicode_normalization.specs.Forms.{Nfd, nfd}
-use Rattle.unicode_normalization.proofs.LengthLemmas.{length-normalize}
-use Rattle.zeb_text.specs.Folding.{folded, is_diacritical_mark}
+use Rattle.zeb_text.proofs.Cited.{ℕ, ◌*◌, ◌≤◌, not, List, [], ◌∷◌, length, encode_utf8, encode_utf8_all, arith, count_by-le-length, length-filter, length-encode, len_utf8_bounds, default_case_fold, length-default_case_fold, Nfd, nfd, length-normalize, is_diacritical_mark}
+use Rattle.std.proofs.Common.{length-append}
+use Rattle.zeb_text.specs.Folding.{folded}
 
 -- a character takes four bytes at most
 pub encoded_few : (cs : List ℕ) → length (encode_utf8_all cs) ≤ 4 * length cs

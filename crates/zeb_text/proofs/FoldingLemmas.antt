@@ -1,14 +1,6 @@
 -- What folding keeps.
-use Rattle.std.proofs.Common.{◌≡◌, ℕ, ◌<◌, true, not, List, [], ◌∷◌, filter, map, All, refl, sym, ap, ◌∙◌, arith}
-use Rattle.std.specs.Char.{to_ascii_lowercase}
-use Rattle.std.proofs.lemmas.Bool.{cases_Bool}
-use Rattle.std.proofs.lemmas.Bool.Decides.{nat_tests}
-use Rattle.std.proofs.Common.{inl, inr}
-use Rattle.unicode_normalization.specs.Forms.{nfd}
-use Rattle.caseless.specs.Caseless.{default_case_fold, canonical_key}
-use Rattle.caseless.proofs.CaselessLemmas.{default_case_fold-ascii, canonical_key-ascii}
-use Rattle.std.proofs.lemmas.List.Elements.{All-cons, All-head, All-nil, All-tail}
-use Rattle.zeb_text.specs.Folding.{folded, is_diacritical_mark}
+use Rattle.zeb_text.proofs.Cited.{◌≡◌, ℕ, ◌<◌, true, not, List, [], ◌∷◌, filter, map, All, refl, sym, ap, ◌∙◌, arith, to_ascii_lowercase, cases_Bool, nat_tests, inl, inr, nfd, default_case_fold, canonical_key, default_case_fold-ascii, canonical_key-ascii, All-cons, All-head, All-nil, All-tail, is_diacritical_mark}
+use Rattle.zeb_text.specs.Folding.{folded}
 
 abbrev kept : List ℕ → List ℕ
 kept = filter (λ c. not (is_diacritical_mark c))

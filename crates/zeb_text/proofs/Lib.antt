@@ -11,3 +11,4 @@ pub mod MaximalRuns
 pub mod FoldingLemmas
 pub mod NumberBounds
 pub mod FoldedSizes
+pub mod Cited

@@ -1,12 +1,5 @@
 -- Finding a pattern's pieces from the front finds a match wherever there is one.
-use Rattle.std.proofs.Common.{◌≡◌, ◌↔◌, ℕ, ◌-◌, ◌≤◌, List, [], ◌∷◌, ◌++◌, length, take, drop, refl, sym, ap, subst, ◌∙◌, arith, inl, inr, chars, IsUtf8, encode_utf8_all, None}
-use Rattle.std.proofs.lemmas.Bool.{cases_lt}
-use Rattle.std.proofs.lemmas.List.{append_assoc, append_cancel_left, length-append, drop_at, take-append-drop}
-use Rattle.std.proofs.lemmas.Str.{chars-append, encodes-append, encodes-chars, length-le-encodes, IsUtf8-take, IsUtf8-drop, IsUtf8-append, IsCharBoundary-at_seam}
-use Rattle.std.specs.Str.{IsCharBoundary}
-use Rattle.std.specs.Str.Pattern.{FindsText, LacksTextAt, SplitsAroundMatch, FindsTextSuffix, HasSuffixMatch}
-use Rattle.zeb_text.specs.Symbols.{Symbol, Star, literal}
-use Rattle.zeb_text.specs.Patterns.{Matches}
+use Rattle.zeb_text.proofs.Cited.{◌≡◌, ◌↔◌, ℕ, ◌-◌, ◌≤◌, List, [], ◌∷◌, ◌++◌, length, take, drop, refl, sym, ap, subst, ◌∙◌, arith, inl, inr, chars, IsUtf8, encode_utf8_all, None, cases_lt, append_assoc, append_cancel_left, length-append, drop_at, take-append-drop, chars-append, encodes-append, encodes-chars, length-le-encodes, IsUtf8-take, IsUtf8-drop, IsUtf8-append, IsCharBoundary-at_seam, IsCharBoundary, FindsText, LacksTextAt, SplitsAroundMatch, FindsTextSuffix, HasSuffixMatch, Symbol, Star, literal, Matches}
 
 -- a text before the rest of a pattern
 pub after_literal : (front : List ℕ) (pattern : List Symbol) (text : List ℕ) → Matches (literal front ++ pattern) text → (rest : List ℕ) × (text ≡ front ++ rest) × Matches pattern rest

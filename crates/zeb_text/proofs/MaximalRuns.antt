@@ -1,11 +1,6 @@
 -- A text has one list of maximal runs.
-use Rattle.std.proofs.Common.{◌≡◌, ◌≢◌, ℕ, ◌<◌, Bool, true, false, List, [], ◌∷◌, ◌++◌, length, get_or, All, refl, sym, ap, subst, ◌∙◌, arith, inl, inr}
-use Rattle.std.specs.List.{AllPass, join_with_byte}
-use Rattle.std.specs.Str.{NonePass}
-use Rattle.std.proofs.lemmas.Bool.{cases_Bool}
-use Rattle.std.proofs.lemmas.List.{append_assoc, append-nil}
-use Rattle.std.proofs.lemmas.List.Elements.{All-cons, All-nil, All-push}
-use Rattle.zeb_text.specs.Words.{AreRuns, IsCutOff, runs_of}
+use Rattle.zeb_text.proofs.Cited.{◌≡◌, ◌≢◌, ℕ, ◌<◌, Bool, true, false, List, [], ◌∷◌, ◌++◌, length, get_or, All, refl, sym, ap, subst, ◌∙◌, arith, inl, inr, AllPass, join_with_byte, NonePass, cases_Bool, append_assoc, append-nil, All-cons, All-nil, All-push, AreRuns, IsCutOff}
+use Rattle.zeb_text.specs.Words.{runs_of}
 use Rattle.zeb_text.proofs.RunLemmas.{runs_of-nil, runs_of-other, runs_of-run, runs_of-last, runs_of-gap, runs_of-none, front_run}
 
 module _ (p : ℕ → Bool) where

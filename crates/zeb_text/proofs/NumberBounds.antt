@@ -1,14 +1,7 @@
 -- The numbers of a text are below 10 ^ 18, since their runs have at most 18 digits.
-use Rattle.std.proofs.Common.{◌≡◌, ℕ, ◌^◌, ◌<◌, ◌≤◌, true, List, [], ◌∷◌, filter, length, map, nat_le, All, inl, inr, arith}
-use Rattle.std.specs.Char.{is_ascii_digit}
-use Rattle.std.specs.List.{AllPass}
-use Rattle.std.specs.Str.Parse.{AllDigits, digits_value}
-use Rattle.std.proofs.lemmas.Bool.{cases_Bool}
-use Rattle.std.proofs.lemmas.Bool.Decides.{nat_tests}
-use Rattle.std.proofs.lemmas.Int.Digits.{digits_value-lt}
-use Rattle.std.proofs.lemmas.List.Elements.{All-cons, All-head, All-nil, All-tail}
+use Rattle.zeb_text.proofs.Cited.{◌≡◌, ℕ, ◌^◌, ◌<◌, ◌≤◌, true, List, [], ◌∷◌, filter, length, map, nat_le, All, inl, inr, arith, is_ascii_digit, AllPass, AllDigits, digits_value, cases_Bool, nat_tests, digits_value-lt, All-cons, All-head, All-nil, All-tail, numbers_of}
 use Rattle.zeb_text.specs.Words.{runs_of}
-use Rattle.zeb_text.specs.Numbers.{numerals_of, numbers_of}
+use Rattle.zeb_text.specs.Numbers.{numerals_of}
 use Rattle.zeb_text.proofs.DigitLemmas.{digit_range, tens_mono}
 use Rattle.zeb_text.proofs.MaximalRuns.{AllRuns, runs_are_runs}
 

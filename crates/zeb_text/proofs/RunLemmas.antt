@@ -1,11 +1,6 @@
 -- How the runs of a text grow, character by character.
-use Rattle.std.proofs.Common.{◌≡◌, ℕ, zero, suc, ◌<◌, ◌≤◌, Bool, true, false, not, List, [], ◌∷◌, ◌++◌, filter, length, get_or, take, drop, All, refl, sym, ap, ◌∙◌, arith, add-zero}
-use Rattle.std.specs.List.{AllPass}
-use Rattle.std.proofs.lemmas.Bool.{false≢true}
-use Rattle.std.proofs.lemmas.List.{append-nil, take-append-drop, get_or-drop, get_or-take, get_or_default, length-take, length-take-le, length-drop}
-use Rattle.std.proofs.lemmas.List.Elements.{All-head, All-tail}
-use Rattle.std.proofs.lemmas.List.Splits.{slice_split-cons_yes, slice_split_none, slice_split_at}
-use Rattle.zeb_text.specs.Words.{is_not_empty, runs_of}
+use Rattle.zeb_text.proofs.Cited.{◌≡◌, ℕ, zero, suc, ◌<◌, ◌≤◌, Bool, true, false, not, List, [], ◌∷◌, ◌++◌, filter, length, get_or, take, drop, All, refl, sym, ap, ◌∙◌, arith, add-zero, AllPass, false≢true, append-nil, take-append-drop, get_or-drop, get_or-take, get_or_default, length-take, length-take-le, length-drop, All-head, All-tail, slice_split-cons_yes, slice_split_none, slice_split_at, is_not_empty}
+use Rattle.zeb_text.specs.Words.{runs_of}
 
 -- what holds of each place
 pub All-from_places : (P : ℕ → Type 0) (xs : List ℕ) → ((k : ℕ) → k < length xs → P (get_or xs k 0)) → All P xs

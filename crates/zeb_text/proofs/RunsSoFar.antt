@@ -1,9 +1,5 @@
 -- Cutting a text into runs, one character at a time: what is found, and the run in hand.
-use Rattle.std.proofs.Common.{◌≡◌, ℕ, ◌+◌, ◌<◌, Bool, true, false, List, [], ◌∷◌, ◌++◌, length, map, drop, encode_utf8, encode_utf8_all, refl, sym, ap, ◌∙◌, arith}
-use Rattle.std.specs.List.{AllPass}
-use Rattle.std.proofs.lemmas.List.{append_assoc, append-nil, map-append, nil_from_length}
-use Rattle.std.proofs.lemmas.Str.{encodes-append, length-le-encodes}
-use Rattle.std.proofs.lemmas.List.Elements.{All-nil, All-push}
+use Rattle.zeb_text.proofs.Cited.{◌≡◌, ℕ, ◌+◌, ◌<◌, Bool, true, false, List, [], ◌∷◌, ◌++◌, length, map, drop, encode_utf8, encode_utf8_all, refl, sym, ap, ◌∙◌, arith, AllPass, append_assoc, append-nil, map-append, nil_from_length, encodes-append, length-le-encodes, All-nil, All-push}
 use Rattle.zeb_text.specs.Words.{runs_of}
 use Rattle.zeb_text.proofs.RunLemmas.{runs_of-nil, runs_of-other, runs_of-run, runs_of-last}
 

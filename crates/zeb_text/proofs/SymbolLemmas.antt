@@ -1,10 +1,5 @@
 -- How a pattern grows.
-use Rattle.std.proofs.Common.{◌≡◌, ℕ, ◌<◌, ◌≤◌, List, [], ◌∷◌, ◌++◌, length, refl, sym, ap, subst, ◌∙◌, arith, chars, IsUtf8, encode_utf8, Result, Ok, Err, OnOk, Contains, if◌then◌else◌, is_ok}
-use Rattle.std.specs.Char.{IsScalar}
-use Rattle.std.proofs.lemmas.List.{append_assoc, append-nil, map-append, length-append, get_or_at}
-use Rattle.std.proofs.lemmas.Str.{chars-append, chars-nil, chars_past_char, IsUtf8-encode}
-use Rattle.zeb_text.specs.Truncation.{joined_patterns}
-use Rattle.zeb_text.specs.Symbols.{Symbol, Char, Star, literal, starred}
+use Rattle.zeb_text.proofs.Cited.{◌≡◌, ℕ, ◌<◌, ◌≤◌, List, [], ◌∷◌, ◌++◌, length, refl, sym, ap, subst, ◌∙◌, arith, chars, IsUtf8, encode_utf8, Result, Ok, Err, OnOk, Contains, if◌then◌else◌, is_ok, IsScalar, append_assoc, append-nil, map-append, length-append, get_or_at, chars-append, chars-nil, chars_past_char, IsUtf8-encode, joined_patterns, Symbol, Char, Star, literal, starred}
 
 pub starred-append : (texts : List (List ℕ)) (last more : List ℕ) → starred texts (last ++ more) ≡ starred texts last ++ literal more
 starred-append [] last more = map-append Char last more

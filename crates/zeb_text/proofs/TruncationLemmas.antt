@@ -1,15 +1,7 @@
 -- Stars put on one word at a time are those that the truncation puts on all.
-use Rattle.std.proofs.Common.{◌≡◌, ℕ, ◌+◌, ◌<◌, ◌≤◌, zero, suc, Bool, true, false, ◌&&◌, ◌||◌, ◌==◌, List, [], ◌∷◌, ◌++◌, length, get_or, drop, map, add-one, refl, sym, ap, ◌∙◌, arith, chars, string_bytes, String, encode_utf8_all}
-use Rattle.std.proofs.lemmas.Bool.Decides.{nat_tests}
-use Rattle.std.proofs.lemmas.List.{append-nil, append_assoc}
-use Rattle.std.proofs.lemmas.Str.{encodes_same, encodes-chars, IsUtf8-string_bytes}
-use Rattle.zeb_text.specs.declared.truncation.Cut.{Cut}
-use Rattle.zeb_text.specs.declared.truncation.Cut.TheVariants.{None, Right, Left, Both, Hash}
-use Rattle.zeb_text.specs.declared.truncation.Spread.{Spread}
-use Rattle.zeb_text.specs.declared.truncation.Spread.TheVariants.{Ends, Each}
-use Rattle.zeb_text.specs.PrivateStars.{cuts_left, cuts_right, cuts_each, star_if}
-use Rattle.zeb_text.specs.Symbols.{Symbol, Star, texts_of}
-use Rattle.zeb_text.specs.Truncation.{star_before_first, star_after_last, truncated}
+use Rattle.zeb_text.proofs.Cited.{◌≡◌, ℕ, ◌+◌, ◌<◌, ◌≤◌, zero, suc, Bool, true, false, ◌&&◌, ◌||◌, ◌==◌, List, [], ◌∷◌, ◌++◌, length, get_or, drop, map, add-one, refl, sym, ap, ◌∙◌, arith, chars, string_bytes, String, encode_utf8_all, nat_tests, append-nil, append_assoc, encodes_same, encodes-chars, IsUtf8-string_bytes, Cut, Right, Left, Both, Hash, Spread, Ends, Each, cuts_left, cuts_right, cuts_each, star_if, Symbol, Star, texts_of, star_before_first, star_after_last}
+use Rattle.zeb_text.specs.declared.truncation.Cut.TheVariants.{None}
+use Rattle.zeb_text.specs.Truncation.{truncated}
 
 abbrev pub is_nil : {A : Type 0} → List A → Bool
 is_nil [] = true

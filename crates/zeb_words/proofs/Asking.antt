@@ -1,25 +1,8 @@
 -- What the words behind `find` and `scan` ask.
-use Rattle.std.proofs.Common.{◌≡◌, ◌∙◌, ◌⊎◌, ◌<◌, ◌^◌, inl, inr, ℕ, Bool, refl, sym, ap, subst, List, [], ◌∷◌, Some, None, codes, true, false, map, cond, arith}
-use Rattle.std.specs.Prelude.{⊤, if◌then◌else◌, unwrap_or, slice_get, option_map, is_some, pos}
-use Rattle.std.specs.Str.{bytes_eq}
-use Rattle.std.proofs.lemmas.Slice.Eq.{bytes_eq-Decides}
-use Rattle.clap.specs.Walk.{Row, Text, rows_after, has_row, one_of, used, with_values, without}
-use Rattle.clap.specs.Faults.{check_fault, use_fault, values_fault}
-use Rattle.clap.specs.Kinds.{Kinds, or_else}
-use Rattle.clap.specs.Takes.{is_given}
-use Rattle.clap.specs.ValueTests.{accepts}
-use Rattle.clap.specs.Values.{read_as}
-use Rattle.clap.proofs.ValueTestLemmas.{Accepts-accepts, accepts-Accepts}
-use Rattle.clap.specs.declared.builder.value_parser.ValueParser.{ValueParser}
+use Rattle.zeb_words.proofs.Cited.{◌≡◌, ◌∙◌, ◌⊎◌, ◌<◌, ◌^◌, inl, inr, ℕ, Bool, refl, sym, ap, subst, List, [], ◌∷◌, Some, None, codes, true, false, map, cond, arith, ⊤, if◌then◌else◌, unwrap_or, slice_get, option_map, is_some, pos, bytes_eq, bytes_eq-Decides, Row, Text, rows_after, has_row, one_of, used, with_values, without, check_fault, use_fault, values_fault, Kinds, or_else, is_given, accepts, read_as, Accepts-accepts, accepts-Accepts, ValueParser, AsWritten, WithoutMinus, CommandLine, Argument, HasOnly, IsNumberOr, Part, arguments, values_of, Named, Asks, NumberOption, IsNumberRead, text_or}
 use Rattle.clap.specs.declared.builder.value_parser.ValueParser.TheVariants as parser
-use Rattle.clap.specs.declared.builder.value_parser.Reading.TheVariants.{AsWritten, WithoutMinus}
-use Rattle.clap.specs.declared.parser.matches.ValueSource.TheVariants.{CommandLine}
 use Rattle.clap.specs.declared.error.kind.ErrorKind.TheVariants as kind
-use Rattle.zeb_words.specs.Grammar.{Argument, HasOnly, IsNumberOr, Part, arguments, values_of}
-use Rattle.zeb_words.specs.Grammar.{Option as Named}
-use Rattle.zeb_words.specs.Names.{Asks, NumberOption}
 use Rattle.zeb_words.specs.Names as names
-use Rattle.zeb_words.specs.Parses.{IsNumberRead, text_or}
 use Rattle.zeb_words.proofs.Items.{AllItems, AllRead, most_once, AtMostOne, Item, Once, first_is, given_is, once_most, one_is, row, values}
 use Rattle.zeb_words.proofs.Uses.{Each, clean, no_clash, rows_are}
 use Rattle.zeb_words.proofs.Leaf.{Bare, Changing, Finding, Fits, IsOption, Leaf, Naming, Scanning, count, first, number, part_rule, part_values, place, plain_leaf, HasSlot, filled_by, rules, uses}

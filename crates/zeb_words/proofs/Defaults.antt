@@ -1,13 +1,5 @@
 -- What is read of settings once defaults are set.
-use Rattle.std.proofs.Common.{◌≡◌, ◌∙◌, ◌||◌, Bool, refl, sym, ap, subst, List, [], ◌∷◌, ◌++◌, Some, None, codes, true, false, map, cond}
-use Rattle.std.specs.Prelude.{fold, unwrap_or, slice_get, option_map, is_some}
-use Rattle.std.specs.Str.{bytes_eq}
-use Rattle.clap.specs.Walk.{Row, Text, first_of, has_row, more_values, one_of, with_default}
-use Rattle.clap.specs.Values.{read_as}
-use Rattle.clap.specs.declared.builder.value_parser.Reading.TheVariants.{AsWritten}
-use Rattle.clap.specs.declared.parser.matches.ValueSource.TheVariants.{DefaultValue}
-use Rattle.zeb_words.specs.Grammar.{Setting, Config, Database, Given, IsOneOr, Shows, databases, files, shown}
-use Rattle.zeb_words.specs.Parses.{IsFlagRead, text_or}
+use Rattle.zeb_words.proofs.Cited.{◌≡◌, ◌∙◌, ◌||◌, Bool, refl, sym, ap, subst, List, [], ◌∷◌, ◌++◌, Some, None, codes, true, false, map, cond, fold, unwrap_or, slice_get, option_map, is_some, bytes_eq, Row, Text, first_of, has_row, more_values, one_of, with_default, read_as, AsWritten, DefaultValue, Setting, Config, Database, Given, IsOneOr, Shows, databases, files, shown, IsFlagRead, text_or}
 use Rattle.zeb_words.proofs.Items.{AllRead, AtMostOne, Once, appended, first_is, has_is, once_most, one_is, row, values}
 use Rattle.zeb_words.proofs.LeafRead.{kept}
 use Rattle.zeb_words.proofs.Top.{rule_by, shape}

@@ -1,11 +1,6 @@
 -- Words that spell settings, and words that say options and arguments, by the grammar; and words that ask for help or the version.
-use Rattle.std.proofs.Common.{◌≡◌, refl, [], ◌∷◌, codes, true}
-use Rattle.std.proofs.lemmas.Bool.{eqb-false}
-use Rattle.zeb_words.specs.Grammar.{Argument, Config, Database, Given, IsPlain, Says, Shows, Spells, apart, argument, by_equals, ended, files, joined, none, nothing, option_by_equals, shown, shows_and, values_of}
-use Rattle.zeb_words.specs.Grammar.{Option as Named, option as named}
-use Rattle.zeb_words.specs.Parses.{program_app}
-use Rattle.clap.specs.Faults.{fault_of}
-use Rattle.clap.specs.declared.error.kind.ErrorKind.TheVariants.{DisplayHelp, DisplayVersion, UnknownArgument}
+use Rattle.zeb_words.proofs.Cited.{◌≡◌, refl, [], ◌∷◌, codes, true, eqb-false, Argument, Config, Database, Given, IsPlain, Says, Shows, Spells, apart, argument, by_equals, files, joined, none, nothing, option_by_equals, shown, shows_and, values_of, Named, named, program_app, fault_of, DisplayHelp, DisplayVersion, UnknownArgument}
+use Rattle.zeb_words.specs.Grammar.{ended}
 use Rattle.clap.proofs.OnLiterals.{clap_on_literals}
 
 -- `-c x.cfg`, `-c=x.cfg`, `-cx.cfg`, and an empty value

@@ -1,15 +1,10 @@
 -- Flag words: which there are, and which faults come of them.
-use Rattle.std.proofs.Common.{eqb-true, drop, ◌≡◌, ◌==◌, ℕ, Bool, refl, sym, ap, subst, List, [], ◌∷◌, ◌++◌, Option, Some, None, true, false, length}
-use Rattle.std.specs.Prelude.{slice_get}
+use Rattle.zeb_words.proofs.Cited.{eqb-true, drop, ◌≡◌, ◌==◌, ℕ, Bool, refl, sym, ap, subst, List, [], ◌∷◌, ◌++◌, Option, Some, None, true, false, length, slice_get, IsUtf8, encode_utf8_all, IsUtf8-past_char, chars_past_char, eqb-false, Rule, Held, arg_by_short, takes_values, attached_value, settle_fault, short_fault, long_fault, Kinds, IsPlain}
 use Rattle.std.specs.Char.{encode_utf8}
-use Rattle.std.specs.Str.{IsUtf8, chars, encode_utf8_all}
-use Rattle.std.proofs.lemmas.Str.{IsUtf8-past_char, chars_past_char}
-use Rattle.std.proofs.lemmas.Bool.{eqb-false}
-use Rattle.clap.specs.Walk.{Rule, Held, arg_by_short, takes_values, attached_value}
-use Rattle.clap.specs.Faults.{settle_fault, short_fault, long_fault, flags_fault}
-use Rattle.clap.specs.Kinds.{Kinds}
+use Rattle.std.specs.Str.{chars}
+use Rattle.clap.specs.Faults.{flags_fault}
 use Rattle.clap.specs.declared.error.kind.ErrorKind.TheVariants as kind
-use Rattle.zeb_words.specs.Grammar.{Text, IsPlain}
+use Rattle.zeb_words.specs.Grammar.{Text}
 use Rattle.zeb_words.proofs.Leads.{none_of_both}
 
 -- ---- the kinds of words

@@ -1,13 +1,5 @@
 -- What was found for arguments that take one value, each used once at most.
-use Rattle.std.proofs.Common.{◌≡◌, ◌∙◌, ◌||◌, Bool, refl, sym, ap, subst, List, [], ◌∷◌, ◌++◌, Some, None, true, false, map}
-use Rattle.std.specs.Prelude.{⊤, slice_get, option_map, is_some, if◌then◌else◌}
-use Rattle.std.specs.Str.{bytes_eq}
-use Rattle.std.proofs.lemmas.Slice.Eq.{bytes_eq-Decides}
-use Rattle.clap.specs.Walk.{Row, Text, at_row, first_of, has_row, more_values, one_of, with_values, without}
-use Rattle.clap.specs.Takes.{is_given}
-use Rattle.clap.specs.Values.{read_as}
-use Rattle.clap.specs.declared.builder.value_parser.Reading.{Reading}
-use Rattle.clap.specs.declared.parser.matches.ValueSource.TheVariants.{CommandLine}
+use Rattle.zeb_words.proofs.Cited.{◌≡◌, ◌∙◌, ◌||◌, Bool, refl, sym, ap, subst, List, [], ◌∷◌, ◌++◌, Some, None, true, false, map, ⊤, slice_get, option_map, is_some, if◌then◌else◌, bytes_eq, bytes_eq-Decides, Row, Text, at_row, first_of, has_row, more_values, one_of, with_values, without, is_given, read_as, Reading, CommandLine}
 
 pub record Item : Type 0 where
   pub id : Text

@@ -1,10 +1,7 @@
 -- A walk goes on over the first words of a list, and some kinds of fault may come of them.
-use Rattle.std.proofs.Common.{◌≡◌, ◌∙◌, refl, sym, ap, ap₂, List, [], ◌∷◌}
-use Rattle.std.specs.Prelude.{fold}
-use Rattle.clap.specs.Walk.{Names, Walk, walked}
-use Rattle.clap.specs.Simple.{Shape}
-use Rattle.clap.specs.Kinds.{Kinds, or_else}
-use Rattle.clap.specs.Faults.{turn_fault, walk_fault}
+use Rattle.zeb_words.proofs.Cited.{◌≡◌, ◌∙◌, refl, sym, ap, ap₂, List, [], ◌∷◌, fold, Names, Walk, Shape, Kinds, or_else, turn_fault}
+use Rattle.clap.specs.Walk.{walked}
+use Rattle.clap.specs.Faults.{walk_fault}
 use Rattle.zeb_words.specs.Grammar.{Text}
 
 pub else_none : (a : Kinds) → or_else a [] ≡ a

@@ -1,16 +1,7 @@
 -- The walk over the words behind a command.
-use Rattle.std.proofs.Common.{◌≡◌, ◌&&◌, ℕ, Bool, refl, List, [], ◌∷◌, ◌++◌, Option, Some, None, codes, true, false}
-use Rattle.std.specs.Prelude.{⊤, unwrap_or}
-use Rattle.std.proofs.lemmas.Bool.{and_right}
-use Rattle.clap.specs.Walk.{Row, Rule, Walk, Waiting, Held, Text, idle, positional, walked, settled_rows, used, arg_by_index, arg_by_long, is_pending, takes_several}
-use Rattle.clap.specs.Walk.{option as wait_option}
-use Rattle.clap.specs.Simple.{App, Shape, built_leaf, inherited, new_app, built, new_rule}
-use Rattle.clap.specs.Faults.{turn_fault, settle_fault, use_fault}
-use Rattle.clap.specs.Kinds.{Kinds, or_else}
+use Rattle.zeb_words.proofs.Cited.{◌≡◌, ◌&&◌, ℕ, Bool, refl, List, [], ◌∷◌, ◌++◌, Option, Some, None, codes, true, false, ⊤, unwrap_or, and_right, Row, Rule, Walk, Waiting, Held, Text, idle, positional, settled_rows, used, arg_by_index, arg_by_long, is_pending, takes_several, wait_option, App, Shape, built_leaf, inherited, new_app, built, new_rule, turn_fault, settle_fault, use_fault, Kinds, or_else, Part, Argument, Named, changing_app, find_app, naming_app, program_app, scan_app}
+use Rattle.clap.specs.Walk.{walked}
 use Rattle.clap.proofs.OnLiterals.{clap_on_literals}
-use Rattle.zeb_words.specs.Grammar.{Part, Argument}
-use Rattle.zeb_words.specs.Grammar.{Option as Named}
-use Rattle.zeb_words.specs.Parses.{changing_app, find_app, naming_app, program_app, scan_app}
 use Rattle.zeb_words.proofs.Leads.{else_none}
 use Rattle.zeb_words.proofs.Uses.{clash_of, uses_of}
 use Rattle.zeb_words.proofs.Plain.{IsNoFlag}

@@ -1,15 +1,6 @@
 -- What the words behind a command say of it.
-use Rattle.std.proofs.Common.{◌≡◌, ◌≢◌, ◌∙◌, Bool, refl, sym, ap, subst, List, [], ◌∷◌, ◌++◌, Some, None, codes, true, false, map}
-use Rattle.std.specs.Prelude.{unwrap_or}
-use Rattle.std.proofs.lemmas.List.{append_assoc, append-nil}
-use Rattle.clap.specs.Walk.{Row, Text, all_of, rows_after}
-use Rattle.clap.specs.Faults.{check_fault}
-use Rattle.clap.specs.declared.builder.value_parser.Reading.TheVariants.{AsWritten}
-use Rattle.clap.specs.declared.parser.matches.ValueSource.TheVariants.{CommandLine}
+use Rattle.zeb_words.proofs.Cited.{◌≡◌, ◌≢◌, ◌∙◌, Bool, refl, sym, ap, subst, List, [], ◌∷◌, ◌++◌, Some, None, codes, true, false, map, unwrap_or, append_assoc, append-nil, Row, Text, all_of, rows_after, check_fault, AsWritten, CommandLine, Argument, Part, Says, arguments, Named, text_or}
 use Rattle.clap.specs.declared.error.kind.ErrorKind.TheVariants as kind
-use Rattle.zeb_words.specs.Grammar.{Argument, Part, Says, arguments}
-use Rattle.zeb_words.specs.Grammar.{Option as Named}
-use Rattle.zeb_words.specs.Parses.{text_or}
 use Rattle.zeb_words.proofs.Leaf.{Bare, Changing, Fits, Naming, clash, plain_leaf, rules, uses}
 use Rattle.zeb_words.proofs.LeafRead.{Own, own_fault, taken}
 

@@ -1,20 +1,10 @@
 -- Words behind a command that the walk takes say options and arguments.
-use Rattle.std.proofs.Common.{◌≡◌, ◌∙◌, ◌==◌, ◌⊎◌, inl, inr, ◌≤◌, ◌≢◌, ℕ, Bool, refl, sym, ap, subst, List, [], ◌∷◌, ◌++◌, Option, Some, None, codes, true, false, arith, length, map, drop, eqb-true}
-use Rattle.std.specs.Prelude.{suc, zero}
+use Rattle.zeb_words.proofs.Cited.{◌≡◌, ◌∙◌, ◌==◌, ◌⊎◌, inl, inr, ◌≤◌, ◌≢◌, ℕ, Bool, refl, sym, ap, subst, List, [], ◌∷◌, ◌++◌, Option, Some, None, codes, true, false, arith, length, map, drop, eqb-true, suc, zero, IsUtf8, bytes_eq, bytes_eq-Decides, name_and_value, Row, Held, Walk, Text, arg_by_index, arg_by_long, arg_by_short, wait_option, turn_fault, settle_fault, short_fault, long_fault, Kinds, Lacks, name_and_value-at, name_and_value-without, eqb-false, IsPlain, Part, Argument, Says, nothing, argument, option_by_equals, Named, named}
 use Rattle.std.specs.Char.{encode_utf8}
-use Rattle.std.specs.Str.{IsUtf8, bytes_eq}
-use Rattle.std.proofs.lemmas.Slice.Eq.{bytes_eq-Decides}
-use Rattle.clap.specs.Lexer.{name_and_value}
-use Rattle.clap.specs.Walk.{Row, Held, Walk, Text, arg_by_index, arg_by_long, arg_by_short, walked}
-use Rattle.clap.specs.Walk.{option as wait_option}
-use Rattle.clap.specs.Faults.{turn_fault, settle_fault, walk_fault, short_fault, long_fault, flags_fault}
-use Rattle.clap.specs.Kinds.{Kinds}
+use Rattle.clap.specs.Walk.{walked}
+use Rattle.clap.specs.Faults.{walk_fault, flags_fault}
 use Rattle.clap.specs.declared.error.kind.ErrorKind.TheVariants as kind
-use Rattle.clap.proofs.CutLemmas.{Lacks}
-use Rattle.clap.proofs.LexerLemmas.{name_and_value-at, name_and_value-without}
-use Rattle.std.proofs.lemmas.Bool.{eqb-false}
-use Rattle.zeb_words.specs.Grammar.{IsPlain, Part, Argument, Says, nothing, ended, argument, option_by_equals}
-use Rattle.zeb_words.specs.Grammar.{Option as Named, option as named}
+use Rattle.zeb_words.specs.Grammar.{ended}
 use Rattle.zeb_words.proofs.Leads.{Leads, at_end, goes, none_of_both}
 use Rattle.zeb_words.proofs.Plain.{IsNoFlag, no_flag, are_letters}
 use Rattle.zeb_words.proofs.Flags.{Kind, dashes, first_of_letters, flat, kind_of_word, lettered, letters_fault, letters_text, long, unsettled, unsettled_long}

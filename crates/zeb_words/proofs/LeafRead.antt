@@ -1,10 +1,6 @@
 -- What is read of the words behind a command.
-use Rattle.std.proofs.Common.{◌≡◌, ◌∙◌, ◌||◌, Bool, refl, sym, ap, ap₂, List, [], ◌∷◌, None, true, false, length, cond, arith}
-use Rattle.std.specs.Prelude.{⊤, fold}
-use Rattle.clap.specs.Walk.{idle, Row, Rule, Text, Walk, has_row, nothing_held, rows_after, settled_rows, with_default}
-use Rattle.clap.specs.Faults.{check_fault, default_fault, defaults_fault, level_fault, settle_fault, walk_fault}
-use Rattle.clap.specs.Kinds.{Kinds, or_else}
-use Rattle.zeb_words.specs.Grammar.{Part, Says}
+use Rattle.zeb_words.proofs.Cited.{◌≡◌, ◌∙◌, ◌||◌, Bool, refl, sym, ap, ap₂, List, [], ◌∷◌, None, true, false, length, cond, arith, ⊤, fold, idle, Row, Rule, Text, Walk, has_row, nothing_held, rows_after, settled_rows, with_default, check_fault, default_fault, level_fault, settle_fault, Kinds, or_else, Part, Says}
+use Rattle.clap.specs.Faults.{defaults_fault, walk_fault}
 use Rattle.zeb_words.proofs.Leads.{at_end, else_none, none_of_both}
 use Rattle.zeb_words.proofs.TopFound.{AreTexts}
 use Rattle.zeb_words.proofs.Leaf.{Bare, Changing, Finding, Fits, Leaf, Naming, Scanning, clash, plain_leaf, rules, standing, uses}

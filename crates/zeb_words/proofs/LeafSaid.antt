@@ -1,10 +1,7 @@
 -- What the walk comes to where words behind a command say options and arguments.
-use Rattle.std.proofs.Common.{◌≡◌, ◌∙◌, Bool, refl, sym, ap, ap₂, List, [], ◌∷◌, ◌++◌, Some, None, codes, true, false, map}
-use Rattle.clap.specs.Walk.{Row, Walk, Text, settled_rows, used, walked}
-use Rattle.clap.specs.Faults.{turn_fault, settle_fault, use_fault}
-use Rattle.clap.specs.Kinds.{Kinds, or_else}
-use Rattle.zeb_words.specs.Grammar.{Part, Argument, Says, nothing, ended, argument, option_by_equals}
-use Rattle.zeb_words.specs.Grammar.{Option as Named, option as named}
+use Rattle.zeb_words.proofs.Cited.{◌≡◌, ◌∙◌, Bool, refl, sym, ap, ap₂, List, [], ◌∷◌, ◌++◌, Some, None, codes, true, false, map, Row, Walk, Text, settled_rows, used, turn_fault, settle_fault, use_fault, Kinds, or_else, Part, Argument, Says, nothing, argument, option_by_equals, Named, named}
+use Rattle.clap.specs.Walk.{walked}
+use Rattle.zeb_words.specs.Grammar.{ended}
 use Rattle.zeb_words.proofs.Leads.{Leads, else_none, else_joined, goes, goes_on, stays}
 use Rattle.zeb_words.proofs.Plain.{no_flag}
 use Rattle.zeb_words.proofs.Leaf.{Fits, Leaf, Pending, among, behind, calm, clash, equals_turn, equals_walk, filled_by, option_pends, option_rows, option_turn, option_walk, part_rule, part_value, pending_fault, plain_leaf, rows_with, rules, slot_pends, slot_rows, standing, uses, value_turn, value_walk}

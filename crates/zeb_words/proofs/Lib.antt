@@ -19,3 +19,4 @@ mod Naming
 mod Taking
 mod OneCommand
 mod Examples
+pub mod Cited

@@ -1,21 +1,8 @@
 -- What is parsed is what the words name.
-use Rattle.std.proofs.Common.{◌≡◌, ◌≢◌, ◌∙◌, ℕ, Bool, refl, sym, ap, ap₂, subst, List, [], ◌∷◌, ◌++◌, Option, Some, None, codes, true, map, length, String, string_bytes, arith, is_some}
-use Rattle.std.proofs.lemmas.Str.{IsUtf8-string_bytes}
-use Rattle.std.specs.Prelude.{unwrap_or, if◌then◌else◌}
-use Rattle.std.specs.Str.{bytes_eq}
-use Rattle.clap.specs.Walk.{Row, Text, all_of, one_of}
-use Rattle.clap.specs.Simple.{App, built, entered, matches_of, subcommand_of}
-use Rattle.clap.specs.Faults.{check_fault, entered_fault, fault_of}
-use Rattle.clap.specs.Kinds.{or_else}
+use Rattle.zeb_words.proofs.Cited.{◌≡◌, ◌≢◌, ◌∙◌, ℕ, Bool, refl, sym, ap, ap₂, subst, List, [], ◌∷◌, ◌++◌, Option, Some, None, codes, true, map, length, String, string_bytes, arith, IsUtf8-string_bytes, unwrap_or, if◌then◌else◌, bytes_eq, Row, Text, all_of, one_of, App, built, entered, matches_of, subcommand_of, check_fault, entered_fault, fault_of, or_else, name_bytes, Argument, Says, Setting, Spells, databases, files, Asks, NamesAct, NamesWords, IsActRead, IsFlagRead, IsNumberRead, IsParsedAs, path_texts, program_app, text_or, Words, Act, Init, Create, Drop, Update, Delete, Adelete, Stat, Dump, Check, Reindex, Upgrade, Find, Scan, Batch, Shell}
+use Rattle.std.proofs.Common.{is_some}
 use Rattle.clap.specs.declared.error.kind.ErrorKind.TheVariants as kind
-use Rattle.zeb_image.specs.NameOf.{name_bytes}
-use Rattle.zeb_words.specs.Grammar.{Argument, Says, Setting, Spells, databases, files}
-use Rattle.zeb_words.specs.Names.{Asks, NamesAct, NamesWords}
 use Rattle.zeb_words.specs.Names as names
-use Rattle.zeb_words.specs.Parses.{IsActRead, IsFlagRead, IsNumberRead, IsParsedAs, path_texts, program_app, text_or}
-use Rattle.zeb_words.specs.declared.words.Words.{Words}
-use Rattle.zeb_words.specs.declared.words.Act.{Act}
-use Rattle.zeb_words.specs.declared.words.Act.TheVariants.{Init, Create, Drop, Update, Delete, Adelete, Stat, Dump, Check, Reindex, Upgrade, Find, Scan, Batch, Shell}
 use Rattle.zeb_words.proofs.ReadingLemmas.{pair_parts}
 use Rattle.zeb_words.proofs.Items.{Once, row}
 use Rattle.zeb_words.proofs.Leads.{none_of_both}

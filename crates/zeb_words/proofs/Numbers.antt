@@ -1,14 +1,6 @@
 -- Numbers that texts say, and what the parser makes of them.
-use Rattle.std.proofs.Common.{◌≡◌, ◌∙◌, ◌==◌, ◌<◌, ◌^◌, ℕ, Bool, refl, sym, ap, subst, [], ◌∷◌, Option, Some, None, true, false, cond, drop, arith}
-use Rattle.std.specs.Prelude.{pos, unwrap_or}
-use Rattle.std.specs.Str.Parse.{IsNumeral, digits_value, starts_with_minus, without_leading_plus}
-use Rattle.std.proofs.lemmas.Bool.{ne_eqb}
-use Rattle.std.proofs.lemmas.Int.{ints}
-use Rattle.std.proofs.lemmas.Str.Parse.{digit_from_value}
-use Rattle.clap.specs.Lexer.{without_minus}
-use Rattle.clap.specs.Values.{IsSignedIn}
-use Rattle.zeb_words.specs.Grammar.{SaysNumber, Text}
-use Rattle.zeb_words.specs.Parses.{IsNumberRead}
+use Rattle.zeb_words.proofs.Cited.{◌≡◌, ◌∙◌, ◌==◌, ◌<◌, ◌^◌, ℕ, Bool, refl, sym, ap, subst, [], ◌∷◌, Option, Some, None, true, false, cond, drop, arith, pos, unwrap_or, IsNumeral, digits_value, starts_with_minus, without_leading_plus, ne_eqb, ints, digit_from_value, without_minus, IsSignedIn, SaysNumber, IsNumberRead}
+use Rattle.zeb_words.specs.Grammar.{Text}
 
 minus_off : (t : Text) → without_minus t ≡ cond (starts_with_minus t) (drop 1 t) t
 minus_off [] = refl

@@ -1,13 +1,5 @@
 -- Words name one command at most.
-use Rattle.std.proofs.Common.{◌≡◌, ◌∙◌, ℕ, Bool, refl, sym, ap, ap₂, subst, List, [], codes}
-use Rattle.std.specs.Prelude.{unwrap_or, if◌then◌else◌}
-use Rattle.std.specs.Str.{bytes_eq}
-use Rattle.clap.specs.Walk.{Row, Text, all_of, one_of}
-use Rattle.clap.specs.Simple.{matches_of}
-use Rattle.zeb_words.specs.Names.{Meaning, ToAdelete, ToBatch, ToCheck, ToCreate, ToDelete, ToDrop, ToDump, ToFind, ToInit, ToReindex, ToScan, ToShell, ToStat, ToUpdate, ToUpgrade, WordsNameOneCommand, meaning}
-use Rattle.zeb_words.specs.Parses.{IsActRead, program_app, text_or}
-use Rattle.zeb_words.specs.declared.words.Act.{Act}
-use Rattle.zeb_words.specs.declared.words.Act.TheVariants.{Init, Create, Drop, Update, Delete, Adelete, Stat, Dump, Check, Reindex, Upgrade, Find, Scan, Batch, Shell}
+use Rattle.zeb_words.proofs.Cited.{◌≡◌, ◌∙◌, ℕ, Bool, refl, sym, ap, ap₂, subst, List, [], codes, unwrap_or, if◌then◌else◌, bytes_eq, Row, Text, all_of, one_of, matches_of, Meaning, ToAdelete, ToBatch, ToCheck, ToCreate, ToDelete, ToDrop, ToDump, ToFind, ToInit, ToReindex, ToScan, ToShell, ToStat, ToUpdate, ToUpgrade, WordsNameOneCommand, meaning, IsActRead, program_app, text_or, Act, Init, Create, Drop, Update, Delete, Adelete, Stat, Dump, Check, Reindex, Upgrade, Find, Scan, Batch, Shell}
 use Rattle.zeb_words.proofs.ReadingLemmas.{pair_parts, same_flag}
 use Rattle.zeb_words.proofs.Taking.{Numbered, names_taken}
 

@@ -1,9 +1,6 @@
 -- Words that are no flags.
-use Rattle.std.proofs.Common.{◌≡◌, ◌==◌, ℕ, Bool, refl, [], ◌∷◌, Some, None, true, false}
-use Rattle.std.proofs.lemmas.Bool.{ne_eqb}
-use Rattle.std.specs.Str.{bytes_eq}
-use Rattle.clap.specs.Lexer.{long_of, short_of}
-use Rattle.zeb_words.specs.Grammar.{Text, IsPlain}
+use Rattle.zeb_words.proofs.Cited.{◌≡◌, ◌==◌, ℕ, Bool, refl, [], ◌∷◌, Some, None, true, false, ne_eqb, bytes_eq, long_of, short_of, IsPlain}
+use Rattle.zeb_words.specs.Grammar.{Text}
 
 -- what the parser makes of a word that is no flag
 pub record IsNoFlag (word : Text) : Type 0 where

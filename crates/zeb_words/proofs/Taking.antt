@@ -1,23 +1,8 @@
 -- Words that name a command are taken by the parser, and read as it.
-use Rattle.std.proofs.Common.{ℕ, Option, ◌≡◌, ◌∙◌, ◌⊎◌, inl, inr, Bool, refl, sym, ap, ap₂, subst, List, [], ◌∷◌, Some, None, codes, true, false, map, cond, arith, ◌≤◌, string_bytes, is_some}
-use Rattle.std.specs.Prelude.{unwrap_or, slice_get}
-use Rattle.std.specs.Str.{bytes_eq}
-use Rattle.std.proofs.lemmas.Slice.Eq.{bytes_eq-Decides}
-use Rattle.clap.specs.Walk.{Row, Text, has_row, one_of, rows_after, with_default}
-use Rattle.clap.specs.Simple.{App, built, entered, matches_of, subcommand_of}
-use Rattle.clap.specs.Faults.{check_fault, default_fault, defaults_fault, entered_fault, fault_of}
-use Rattle.clap.specs.Kinds.{or_else}
-use Rattle.zeb_image.specs.NameOf.{name_bytes}
-use Rattle.zeb_words.specs.Grammar.{Config, Database, Given, IsOneOr, Setting, Shows, databases, files, shown}
-use Rattle.zeb_words.specs.Names.{NamesAct, NamesNone, NamesWords}
+use Rattle.zeb_words.proofs.Cited.{ℕ, Option, ◌≡◌, ◌∙◌, ◌⊎◌, inl, inr, Bool, refl, sym, ap, ap₂, subst, List, [], ◌∷◌, Some, None, codes, true, false, map, cond, arith, ◌≤◌, string_bytes, unwrap_or, slice_get, bytes_eq, bytes_eq-Decides, Row, Text, has_row, one_of, rows_after, with_default, App, built, entered, matches_of, subcommand_of, check_fault, default_fault, entered_fault, fault_of, or_else, name_bytes, Config, Database, Given, IsOneOr, Setting, Shows, databases, files, shown, NamesAct, NamesNone, NamesWords, AreBad, IsActRead, IsFlagRead, IsFlagText, IsNumberRead, IsPast, IsReadFrom, IsRefusedAs, path_texts, program_app, text_or, Words, Usage, BadUsage, Refused, Help, Memory, IsAmong, Act, Init, Create, Drop, Update, Delete, Adelete, Stat, Dump, Check, Reindex, Upgrade, Find, Scan, Batch, Shell}
+use Rattle.std.proofs.Common.{is_some}
+use Rattle.clap.specs.Faults.{defaults_fault}
 use Rattle.zeb_words.specs.Names as names
-use Rattle.zeb_words.specs.Parses.{AreBad, IsActRead, IsFlagRead, IsFlagText, IsNumberRead, IsPast, IsReadFrom, IsRefusedAs, path_texts, program_app, text_or}
-use Rattle.zeb_words.specs.declared.words.Words.{Words}
-use Rattle.zeb_words.specs.declared.words.Usage.{Usage}
-use Rattle.zeb_words.specs.declared.words.Usage.TheVariants.{BadUsage, Refused, Help, Memory}
-use Rattle.clap.specs.Kinds.{IsAmong}
-use Rattle.zeb_words.specs.declared.words.Act.{Act}
-use Rattle.zeb_words.specs.declared.words.Act.TheVariants.{Init, Create, Drop, Update, Delete, Adelete, Stat, Dump, Check, Reindex, Upgrade, Find, Scan, Batch, Shell}
 use Rattle.zeb_words.proofs.ReadingLemmas.{pair_parts}
 use Rattle.zeb_words.proofs.Items.{AllItems, AtMostOne, Once, most_once, row, values}
 use Rattle.zeb_words.proofs.Leads.{none_of_both}

@@ -1,19 +1,14 @@
 -- The walk over the words before the command.
-use Rattle.std.proofs.Common.{◌≡◌, ◌==◌, ◌∙◌, ℕ, refl, sym, ap, ap₂, List, [], ◌∷◌, ◌++◌, Option, Some, None, codes, false}
-use Rattle.std.specs.Prelude.{unwrap_or, slice_get, suc, length}
+use Rattle.zeb_words.proofs.Cited.{◌≡◌, ◌==◌, ◌∙◌, ℕ, refl, sym, ap, ap₂, List, [], ◌∷◌, ◌++◌, Option, Some, None, codes, false, unwrap_or, slice_get, suc, ne_eqb, Row, Rule, Names, Walk, Waiting, Held, idle, settled_rows, used, arg_by_id, Outcome, done, waits, plain, refused, after_step, after_flag, wait_option, Shape, built, names_of, new_rule, turn_fault, settle_fault, use_fault, step_fault, Kinds, or_else, Key, Config, Database, Setting, Given, Shows, letter, Spells, none, apart, by_equals, joined, shows, shows_and, program_app}
+use Rattle.std.specs.Prelude.{length}
 use Rattle.std.specs.Str.{chars}
-use Rattle.std.proofs.lemmas.Bool.{ne_eqb}
-use Rattle.clap.specs.Walk.{Row, Rule, Names, Walk, Waiting, Held, idle, walked, settled_rows, used, arg_by_id, Outcome, done, waits, plain, refused, after_step, after_flag, bundle_met}
-use Rattle.clap.specs.Walk.{option as wait_option}
-use Rattle.clap.specs.Simple.{Shape, built, names_of, new_rule}
-use Rattle.clap.specs.Faults.{turn_fault, settle_fault, walk_fault, use_fault, step_fault, flags_fault}
-use Rattle.clap.specs.Kinds.{Kinds, or_else}
+use Rattle.clap.specs.Walk.{walked, bundle_met}
+use Rattle.clap.specs.Faults.{walk_fault, flags_fault}
 use Rattle.clap.proofs.OnLiterals.{clap_on_literals}
-use Rattle.zeb_words.specs.Grammar.{Text, Key, Config, Database, Setting, Given, Shows, letter, Spells, none, apart, by_equals, joined, shows, shows_and}
+use Rattle.zeb_words.specs.Grammar.{Text}
 use Rattle.zeb_words.proofs.Leads.{Leads, at_end, else_none, else_joined, goes, goes_on, stays}
 use Rattle.zeb_words.proofs.Uses.{clash_of, uses_of}
 use Rattle.zeb_words.proofs.Plain.{IsNoFlag, no_flag, are_letters}
-use Rattle.zeb_words.specs.Parses.{program_app}
 
 abbrev pub shape : Shape
 shape = (built program_app).top

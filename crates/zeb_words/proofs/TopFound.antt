@@ -1,16 +1,12 @@
 -- Words that the walk takes spell settings, and then come to a command.
-use Rattle.std.proofs.Common.{eqb-true, drop, ◌≡◌, ◌∙◌, ◌==◌, ◌≤◌, ℕ, Bool, refl, sym, ap, subst, List, [], ◌∷◌, ◌++◌, Option, Some, None, codes, true, false, arith, length, is_some}
-use Rattle.std.specs.Prelude.{slice_get, suc, zero, ⊤}
+use Rattle.zeb_words.proofs.Cited.{eqb-true, drop, ◌≡◌, ◌∙◌, ◌==◌, ◌≤◌, ℕ, Bool, refl, sym, ap, subst, List, [], ◌∷◌, ◌++◌, Option, Some, None, codes, true, false, arith, length, slice_get, suc, zero, ⊤, IsUtf8, bytes_eq, eqb-false, name_and_value, Row, Walk, Held, Waiting, idle, arg_by_long, arg_by_short, subcommand_met, wait_option, turn_fault, settle_fault, short_fault, long_fault, Kinds, Key, Config, Database, Setting, Given, Shows, letter, Spells, none, apart, by_equals, joined, shows, shows_and, IsPlain}
+use Rattle.std.proofs.Common.{is_some}
 use Rattle.std.specs.Char.{encode_utf8}
-use Rattle.std.specs.Str.{IsUtf8, bytes_eq, chars}
-use Rattle.std.proofs.lemmas.Bool.{eqb-false}
-use Rattle.clap.specs.Lexer.{name_and_value}
-use Rattle.clap.specs.Walk.{Row, Walk, Held, Waiting, idle, walked, arg_by_long, arg_by_short, subcommand_met}
-use Rattle.clap.specs.Walk.{option as wait_option}
-use Rattle.clap.specs.Faults.{turn_fault, settle_fault, walk_fault, short_fault, long_fault, flags_fault}
-use Rattle.clap.specs.Kinds.{Kinds}
+use Rattle.std.specs.Str.{chars}
+use Rattle.clap.specs.Walk.{walked}
+use Rattle.clap.specs.Faults.{walk_fault, flags_fault}
 use Rattle.clap.specs.declared.error.kind.ErrorKind.TheVariants as kind
-use Rattle.zeb_words.specs.Grammar.{Text, Key, Config, Database, Setting, Given, Shows, letter, Spells, none, apart, by_equals, joined, shows, shows_and, IsPlain}
+use Rattle.zeb_words.specs.Grammar.{Text}
 use Rattle.zeb_words.proofs.Leads.{Leads, at_end, goes, none_of_both}
 use Rattle.zeb_words.proofs.Plain.{IsNoFlag, no_flag, are_letters}
 use Rattle.zeb_words.proofs.Flags.{First, Kind, dashes, first_of_letters, flat, kind_of_word, lettered, letters_fault, letters_text, long, unsettled}

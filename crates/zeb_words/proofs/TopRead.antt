@@ -1,29 +1,15 @@
 -- What is read of settings.
-use Rattle.std.proofs.Common.{◌⊎◌, inl, inr, ◌≡◌, ◌∙◌, Bool, refl, sym, ap, ap₂, subst, List, [], ◌∷◌, ◌++◌, Some, None, codes, true, false, map}
-use Rattle.std.specs.Prelude.{⊤}
-use Rattle.clap.specs.Walk.{Row, Text, has_row, used, with_values, without}
-use Rattle.clap.specs.Faults.{use_fault}
-use Rattle.clap.specs.declared.builder.value_parser.Reading.TheVariants.{AsWritten}
-use Rattle.clap.specs.declared.parser.matches.ValueSource.TheVariants.{CommandLine}
+use Rattle.zeb_words.proofs.Cited.{◌⊎◌, inl, inr, ◌≡◌, ◌∙◌, Bool, refl, sym, ap, ap₂, subst, List, [], ◌∷◌, ◌++◌, Some, None, codes, true, false, map, ⊤, Row, Text, has_row, used, with_values, without, use_fault, AsWritten, CommandLine, find, is_some, option_map, bytes_eq, bytes_eq-Decides, Names, Walk, settled_rows, answers_to, idle, rows_after, subcommand_met, built, entered, entered_fault, settle_fault, turn_fault, program_app, Setting, Spells, Config, Database, Given, Shows, append_assoc, append-nil, or_else, stopped_fault}
 use Rattle.clap.specs.declared.error.kind.ErrorKind.TheVariants as kind
-use Rattle.std.specs.Prelude.{find, is_some, option_map}
-use Rattle.std.specs.Str.{bytes_eq}
-use Rattle.std.proofs.lemmas.Slice.Eq.{bytes_eq-Decides}
-use Rattle.clap.specs.Walk.{Names, Walk, settled_rows, walked, answers_to, idle, rows_after, subcommand_met}
-use Rattle.clap.specs.Simple.{built, entered}
-use Rattle.clap.specs.Faults.{entered_fault, settle_fault, turn_fault, walk_fault}
+use Rattle.clap.specs.Walk.{walked}
+use Rattle.clap.specs.Faults.{walk_fault}
 use Rattle.clap.proofs.OnLiterals.{clap_on_literals}
-use Rattle.zeb_words.specs.Parses.{program_app}
 use Rattle.zeb_words.proofs.Leaf.{Bare, Changing, Finding, Leaf, Naming, Scanning, rules}
 use Rattle.zeb_words.proofs.LeafRead.{own_fault}
 use Rattle.zeb_words.proofs.TopFound.{IsCommand}
-use Rattle.zeb_words.specs.Grammar.{Setting, Spells, Config, Database, Given, Shows}
 use Rattle.zeb_words.proofs.Items.{Item}
 use Rattle.zeb_words.proofs.Top.{Pending, clash, id_of, names, pending_fault, shape, spelled, standing, used_rule, uses, values}
 use Rattle.zeb_words.proofs.Leads.{at_end, else_none, goes, goes_on}
-use Rattle.std.proofs.lemmas.List.{append_assoc, append-nil}
-use Rattle.clap.specs.Kinds.{or_else}
-use Rattle.clap.proofs.FaultLemmas.{stopped_fault}
 
 abbrev pub item_of : Setting → Item
 item_of (Given key value) = record { id = id_of key; value = value; how = AsWritten }

@@ -1,11 +1,5 @@
 -- Uses of arguments in turn: what they make of the rows, and which faults come of them.
-use Rattle.std.proofs.Common.{◌≡◌, ◌∙◌, refl, sym, ap, subst, List, [], ◌∷◌, ◌++◌, false, map}
-use Rattle.std.proofs.lemmas.List.{append_assoc, append-nil}
-use Rattle.std.specs.Prelude.{⊤}
-use Rattle.clap.specs.Walk.{Row, Rule, Text, has_row, used, with_values, without}
-use Rattle.clap.specs.Faults.{use_fault}
-use Rattle.clap.specs.Kinds.{Kinds, or_else}
-use Rattle.clap.specs.declared.parser.matches.ValueSource.TheVariants.{CommandLine}
+use Rattle.zeb_words.proofs.Cited.{◌≡◌, ◌∙◌, refl, sym, ap, subst, List, [], ◌∷◌, ◌++◌, false, map, append_assoc, append-nil, ⊤, Row, Rule, Text, has_row, used, with_values, without, use_fault, Kinds, or_else, CommandLine}
 use Rattle.zeb_words.proofs.Leads.{none_of_both}
 use Rattle.zeb_words.proofs.Items.{Item, Once, row, used_new}
 

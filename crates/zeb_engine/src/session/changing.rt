@@ -10,7 +10,6 @@ ghost use Rattle.zeb_image.specs.Holdings.{Holdings};
 ghost use Rattle.zeb_image.specs.Image.{Keeps};
 ghost use Rattle.zeb_image.specs.NameOf.{name_bytes};
 ghost use Rattle.zeb_engine.specs.AnyTables.{ChangesReady, LeavesWhole, LosesNamed};
-ghost use Rattle.zeb_engine.specs.Causes.{ChangesInRoom};
 ghost use Rattle.zeb_engine.specs.Costs.{CostsAlone, no_work};
 ghost use Rattle.zeb_engine.specs.Crashes.{CommitsBy, Endures};
 ghost use Rattle.zeb_engine.specs.Steps.{TakesFiles};
@@ -50,9 +49,6 @@ impl<S: Alter, L: Layout> Session<S, L> {
             → CostsAlone L.row_work (conditions (version_of L.format) self.old.profile self.old.limits) kind (name_bytes database.now)
             (map (λ file. file.items) files.now) (state S.Store self.old.connection) result self.new.work }
         ensures no_work { L.row_work ≡ 0 → self.old.work ≡ no_work → self.new.work ≡ no_work }
-        ensures room { HasCleanDisk (state S.Store self.new.connection)
-            → ChangesInRoom self.old.profile kind (name_bytes database.now) (map (λ file. file.items) files.now)
-            (state S.Store self.old.connection) (state S.Store self.new.connection) result }
         ensures elder { HasCleanDisk (state S.Store self.new.connection)
             → ChangesReady (version_of L.format) self.old.profile kind self.old.limits (name_bytes database.now) (map (λ file. file.items) files.now)
             (state S.Store self.old.connection) result }
@@ -109,11 +105,6 @@ impl<S: Alter, L: Layout> Session<S, L> {
             (name_bytes database.now) texts (state S.Store self.old.connection) result self.new.work }
         // Over a layout whose rows count nothing no work is counted, whatever is answered, and whatever the tables and the readers are.
         ensures no_work { L.row_work ≡ 0 → self.new.work ≡ no_work }
-        // Where the tables have room for what the files ask for, a failed store has a cause, but for the commit.
-        ensures room { HasCleanDisk (state S.Store self.new.connection) → (texts : List (List ℕ))
-            → map R.remaining readers.old ≡ map Some texts → NoneFailed R.has_failed readers.new
-            → ChangesInRoom self.old.profile kind (name_bytes database.now) texts
-            (state S.Store self.old.connection) (state S.Store self.new.connection) result }
         // Whatever rows the tables of a ready register have: what is kept under the first record's identifier is whole, or the change is
         // refused as damage or by a failure; and where the change is accepted, so is what is kept under each record's identifier, and the
         // files have no more records than a command may have. Any other refusal has a reason that the files and the limits give.
@@ -165,10 +156,6 @@ impl<S: Alter, L: Layout> Session<S, L> {
             → CostsAlone L.row_work (conditions (version_of L.format) self.old.profile self.old.limits) kind
             (name_bytes database.now) texts (state S.Store self.old.connection) result self.new.work }
         ensures no_work { L.row_work ≡ 0 → self.new.work ≡ no_work }
-        ensures room { HasCleanDisk (state S.Store self.new.connection) → (texts : List (List ℕ))
-            → map R.remaining readers.old ≡ map Some texts → NoneFailed R.has_failed readers.new
-            → ChangesInRoom self.old.profile kind (name_bytes database.now) texts
-            (state S.Store self.old.connection) (state S.Store self.new.connection) result }
         ensures elder { HasCleanDisk (state S.Store self.new.connection) → (texts : List (List ℕ))
             → map R.remaining readers.old ≡ map Some texts → NoneFailed R.has_failed readers.new
             → ChangesReady (version_of L.format) self.old.profile kind self.old.limits (name_bytes database.now) texts

@@ -4,14 +4,11 @@ ghost use Rattle.std.specs.Prelude.{◌≡◌};
 ghost use Rattle.sqlite.specs.Held.{state};
 ghost use Rattle.sqlite.specs.State.{HasCleanDisk, Survives};
 ghost use Rattle.zeb_register.specs.Formats.{version_of};
-ghost use Rattle.zeb_register.specs.Hindrances.{LacksRowids};
-ghost use Rattle.zeb_register.specs.Store.{databases_tree};
 ghost use Rattle.zeb_change.specs.Conditions.{conditions};
 ghost use Rattle.zeb_change.specs.Reading.{NoReadFault};
 ghost use Rattle.zeb_image.specs.NameOf.{name_bytes};
 ghost use Rattle.zeb_engine.specs.AnyMade.{DropsDatabase, OnAccepted, MakesDatabase};
 ghost use Rattle.zeb_engine.specs.AnyRefusals.{CreateOver, DropOver, HidesDatabase, UnlessHidden};
-ghost use Rattle.zeb_engine.specs.PrivateCauses.{HasCauseOver};
 ghost use Rattle.zeb_engine.specs.PrivateCrashes.{Commits};
 ghost use Rattle.zeb_engine.specs.Steps.{created, dropped, turned};
 ghost use Rattle.zeb_engine.specs.Transactions.{Commanded};
@@ -41,8 +38,6 @@ impl<S: Alter, L: Layout> Session<S, L> {
         ensures unread { NoReadFault result }
         ensures ready { TellsReady S.Store (version_of L.format) self.old.profile self.old.connection self.new.connection result }
         ensures unworked { self.new.work ≡ self.old.work }
-        ensures caused { HasCleanDisk (state S.Store self.new.connection) → HasCauseOver (LacksRowids 1 databases_tree)
-            (state S.Store self.old.connection) (state S.Store self.new.connection) result }
         // Whatever the tables hold, it goes by the row of the name.
         ensures tables { HasCleanDisk (state S.Store self.new.connection)
             → UnlessHidden (version_of L.format) self.old.profile (CreateOver (name_bytes name.now)) (HidesDatabase (name_bytes name.now))
@@ -67,8 +62,6 @@ impl<S: Alter, L: Layout> Session<S, L> {
         ensures unread { NoReadFault result }
         ensures ready { TellsReady S.Store (version_of L.format) self.old.profile self.old.connection self.new.connection result }
         ensures unworked { self.new.work ≡ self.old.work }
-        ensures caused { HasCleanDisk (state S.Store self.new.connection) → HasCauseOver (λ _. ⊥)
-            (state S.Store self.old.connection) (state S.Store self.new.connection) result }
         ensures tables { HasCleanDisk (state S.Store self.new.connection)
             → UnlessHidden (version_of L.format) self.old.profile (DropOver (name_bytes name.now)) (HidesDatabase (name_bytes name.now))
             (state S.Store self.old.connection) result }

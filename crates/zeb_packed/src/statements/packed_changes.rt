@@ -4,13 +4,10 @@ ghost use Rattle.std.specs.Prelude.{IsUtf8, ◌≡◌, ◌++◌, [], ◌∷◌, 
 ghost use Rattle.sqlite.specs.declared.types.Value.TheVariants.{Blob, Int};
 ghost use Rattle.sqlite.specs.Held.{state};
 ghost use Rattle.zeb_register.specs.Calls.{Inside};
-ghost use Rattle.zeb_packed.specs.PrivatePackedChanges.{IsTold};
-ghost use Rattle.zeb_register.specs.Clauses.{InStore, IsReasonedErrorInside, TakesInside, Writes};
-ghost use Rattle.zeb_register.specs.PrivateClauses.{IsHinderedErrorInside};
-ghost use Rattle.zeb_register.specs.Hindrances.{Hinders};
-ghost use Rattle.zeb_register.specs.PrivateHindrances.{HindersNew};
+ghost use Rattle.zeb_packed.specs.UnitChanges.{IsTold};
+ghost use Rattle.zeb_register.specs.Clauses.{InStore, Writes};
 ghost use Rattle.zeb_register.specs.PrivateKeyColumns.{IsOfKey, IsOfNumbered, key_columns, numbered_columns};
-ghost use Rattle.zeb_register.specs.PrivateRowStatements.{Gains, IsHinderedUnbroken, IsUnchangedByViolation, ListsInside, Renews};
+ghost use Rattle.zeb_register.specs.PrivateRowStatements.{Gains, IsUnchangedByViolation, ListsInside, Renews};
 ghost use Rattle.zeb_register.specs.Sql.{Loses};
 ghost use Rattle.zeb_register.specs.Store.{IsRest, blocks_tree, dict_tree};
 
@@ -27,7 +24,6 @@ pub(crate) fn block_bytes<S: Alter>(
     ensures same { tx.new.conn.ghost_name ≡ tx.old.conn.ghost_name }
     ensures call { Inside (state S.Store tx.old.conn.now) (state S.Store tx.new.conn.now) result
         (λ rows a b. ListsInside (IsRest blocks_tree (numbered_columns at.entry number)) a b rows.items) }
-    ensures err { IsReasonedErrorInside (state S.Store tx.old.conn.now) (state S.Store tx.new.conn.now) result }
 {
     let db = at.db.column();
     let reg = u32::from(at.key.register.code());
@@ -46,7 +42,6 @@ pub(crate) fn dict_records<S: Alter>(
     ensures same { tx.new.conn.ghost_name ≡ tx.old.conn.ghost_name }
     ensures call { Inside (state S.Store tx.old.conn.now) (state S.Store tx.new.conn.now) result
         (λ rows a b. ListsInside (IsRest dict_tree (key_columns at.entry)) a b rows.items) }
-    ensures err { IsReasonedErrorInside (state S.Store tx.old.conn.now) (state S.Store tx.new.conn.now) result }
     ensures text { IsUtf8 at.entry.key.now.term }
 {
     let db = at.db.column();
@@ -71,11 +66,6 @@ pub(crate) fn block_add<S: Alter>(
     ensures alone { InStore (state S.Store tx.old.conn.now) (state S.Store tx.new.conn.now) (λ trees. OnOk result
         (IsTold false (IsOfNumbered at.entry number) blocks_tree trees)) }
     ensures violated { IsUnchangedByViolation (state S.Store tx.old.conn.now) (state S.Store tx.new.conn.now) result }
-    ensures refused { IsHinderedErrorInside (state S.Store tx.old.conn.now) (state S.Store tx.new.conn.now) result
-        (HindersNew (IsOfNumbered at.entry number) blocks_tree (numbered_columns at.entry number ++ Blob bytes.now ∷ [])) }
-    ensures unbroken { IsHinderedUnbroken (state S.Store tx.old.conn.now) (state S.Store tx.new.conn.now) result
-        (Hinders 1 blocks_tree (numbered_columns at.entry number ++ Blob bytes.now ∷ [])) }
-    ensures rowids { TakesInside (state S.Store tx.old.conn.now) (state S.Store tx.new.conn.now) result 1 blocks_tree }
 {
     let db = at.db.column();
     let reg = u32::from(at.key.register.code());
@@ -95,9 +85,6 @@ pub(crate) fn block_set<S: Alter>(
     ensures same { tx.new.conn.ghost_name ≡ tx.old.conn.ghost_name }
     ensures call { Writes blocks_tree (Renews (IsOfNumbered at.entry number) (numbered_columns at.entry number ++ Blob bytes.now ∷ []))
         (state S.Store tx.old.conn.now) (state S.Store tx.new.conn.now) result }
-    ensures refused { IsHinderedErrorInside (state S.Store tx.old.conn.now) (state S.Store tx.new.conn.now) result
-        (Hinders 0 blocks_tree (numbered_columns at.entry number ++ Blob bytes.now ∷ [])) }
-    ensures rowids { TakesInside (state S.Store tx.old.conn.now) (state S.Store tx.new.conn.now) result 0 blocks_tree }
 {
     let db = at.db.column();
     let reg = u32::from(at.key.register.code());
@@ -116,8 +103,6 @@ pub(crate) fn block_remove<S: Alter>(
     ensures same { tx.new.conn.ghost_name ≡ tx.old.conn.ghost_name }
     ensures call { Writes blocks_tree (Loses (IsOfNumbered at.entry number))
         (state S.Store tx.old.conn.now) (state S.Store tx.new.conn.now) result }
-    ensures refused { IsReasonedErrorInside (state S.Store tx.old.conn.now) (state S.Store tx.new.conn.now) result }
-    ensures rowids { TakesInside (state S.Store tx.old.conn.now) (state S.Store tx.new.conn.now) result 0 blocks_tree }
 {
     let db = at.db.column();
     let reg = u32::from(at.key.register.code());
@@ -137,9 +122,6 @@ pub(crate) fn dict_add<S: Alter>(
     ensures same { tx.new.conn.ghost_name ≡ tx.old.conn.ghost_name }
     ensures call { Writes dict_tree (Gains (key_columns at.entry ++ Int records ∷ []))
         (state S.Store tx.old.conn.now) (state S.Store tx.new.conn.now) result }
-    ensures refused { IsHinderedErrorInside (state S.Store tx.old.conn.now) (state S.Store tx.new.conn.now) result
-        (HindersNew (IsOfKey at.entry) dict_tree (key_columns at.entry ++ Int records ∷ [])) }
-    ensures rowids { TakesInside (state S.Store tx.old.conn.now) (state S.Store tx.new.conn.now) result 1 dict_tree }
 {
     let db = at.db.column();
     let reg = u32::from(at.key.register.code());
@@ -158,9 +140,6 @@ pub(crate) fn dict_set<S: Alter>(
     ensures same { tx.new.conn.ghost_name ≡ tx.old.conn.ghost_name }
     ensures call { Writes dict_tree (Renews (IsOfKey at.entry) (key_columns at.entry ++ Int records ∷ []))
         (state S.Store tx.old.conn.now) (state S.Store tx.new.conn.now) result }
-    ensures refused { IsHinderedErrorInside (state S.Store tx.old.conn.now) (state S.Store tx.new.conn.now) result
-        (Hinders 0 dict_tree (key_columns at.entry ++ Int records ∷ [])) }
-    ensures rowids { TakesInside (state S.Store tx.old.conn.now) (state S.Store tx.new.conn.now) result 0 dict_tree }
 {
     let db = at.db.column();
     let reg = u32::from(at.key.register.code());
@@ -177,8 +156,6 @@ pub(crate) fn dict_remove<S: Alter>(
 ) -> Result<usize, Error>
     ensures same { tx.new.conn.ghost_name ≡ tx.old.conn.ghost_name }
     ensures call { Writes dict_tree (Loses (IsOfKey at.entry)) (state S.Store tx.old.conn.now) (state S.Store tx.new.conn.now) result }
-    ensures refused { IsReasonedErrorInside (state S.Store tx.old.conn.now) (state S.Store tx.new.conn.now) result }
-    ensures rowids { TakesInside (state S.Store tx.old.conn.now) (state S.Store tx.new.conn.now) result 0 dict_tree }
 {
     let db = at.db.column();
     let reg = u32::from(at.key.register.code());

@@ -8,8 +8,12 @@ ghost use Rattle.zeb_register.specs.PrivateKeyColumns.{register_columns};
 ghost use Rattle.zeb_register.specs.PrivateRowStatements.{Lists};
 ghost use Rattle.zeb_register.specs.Store.{postings_tree};
 
+use crate::statements::queries::look_up;
 use crate::{RegFault, RegisterOf};
 use sqlite::{Alter, Connection, Error, Row, params};
+
+const BETWEEN: &str =
+    "SELECT term, sysno, seq, pos FROM postings WHERE db = ?1 AND idx = ?2 AND reg = ?3 AND term >= ?4 AND term < ?5 ORDER BY term, sysno, seq, pos";
 
 /// The postings of the terms that are not below `first` and are below `end`, each with its term.
 pub(crate) fn posting_rows_between<S: Alter>(
@@ -22,12 +26,7 @@ pub(crate) fn posting_rows_between<S: Alter>(
         (λ rows a b. Lists (IsRestBetween postings_tree (register_columns at) first.now end.now) a b rows.items) }
     ensures err { IsReasonedError (state S.Store conn.old) (state S.Store conn.new) result }
 {
-    // What is seen outside a transaction is what was committed.
-    let _idle = conn.is_autocommit();
     let db = at.db.column();
     let reg = u32::from(at.register.code());
-    conn.query_all(
-        "SELECT term, sysno, seq, pos FROM postings WHERE db = ?1 AND idx = ?2 AND reg = ?3 AND term >= ?4 AND term < ?5 ORDER BY term, sysno, seq, pos",
-        params![db, at.index, reg, first, end],
-    )
+    look_up(conn, BETWEEN, params![db, at.index, reg, first, end])
 }

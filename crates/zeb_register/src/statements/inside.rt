@@ -11,6 +11,8 @@ ghost use Rattle.zeb_register.specs.Sql.{IsListOf};
 ghost use Rattle.zeb_register.specs.Store.{records_tree};
 
 use crate::RegFault;
+use crate::statements::postings::NOTHING;
+use crate::statements::records::FIRST_FROM;
 use sqlite::{Alter, Error, Row, Transaction, params};
 
 /// Reads nothing. It is refused where the connection is closed.
@@ -19,7 +21,7 @@ pub fn nothing_inside<S: Alter>(tx: &mut Transaction<'_, S>) -> Result<(), Error
     ensures call { Inside (state S.Store tx.old.conn.now) (state S.Store tx.new.conn.now) result (λ _. OnlyReads) }
     ensures err { IsReasonedErrorInside (state S.Store tx.old.conn.now) (state S.Store tx.new.conn.now) result }
 {
-    tx.query_all("SELECT term FROM postings LIMIT 0", &[])?;
+    tx.query_all(NOTHING, &[])?;
     Ok(())
 }
 
@@ -35,8 +37,5 @@ pub(crate) fn rows_from_inside<S: Alter>(
         × (rows ≡ take 1 all)) a b rows.items) }
     ensures err { IsReasonedErrorInside (state S.Store tx.old.conn.now) (state S.Store tx.new.conn.now) result }
 {
-    tx.query_all(
-        "SELECT sysno, ident, bytes FROM records WHERE db = ?1 AND sysno >= ?2 ORDER BY sysno LIMIT 1",
-        params![db, start],
-    )
+    tx.query_all(FIRST_FROM, params![db, start])
 }

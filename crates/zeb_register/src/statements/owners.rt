@@ -9,7 +9,32 @@ ghost use Rattle.zeb_register.specs.PrivateRowReads.{ShowsFirst, greatest_text, 
 ghost use Rattle.zeb_register.specs.PrivateRowTerms.{ReadsRows};
 
 use crate::agreeing::Table;
+use crate::statements::queries::look_up;
 use sqlite::{Alter, Connection, Error, Row, params};
+
+const LEAST_RECORDS: &str = "SELECT db FROM records ORDER BY db LIMIT 1";
+
+const LEAST_POSTINGS: &str = "SELECT db FROM postings ORDER BY db LIMIT 1";
+
+const LEAST_BLOCKS: &str = "SELECT db FROM blocks ORDER BY db LIMIT 1";
+
+const LEAST_DICT: &str = "SELECT db FROM dict ORDER BY db LIMIT 1";
+
+const GREATEST_RECORDS: &str = "SELECT db FROM records ORDER BY db DESC LIMIT 1";
+
+const GREATEST_POSTINGS: &str = "SELECT db FROM postings ORDER BY db DESC LIMIT 1";
+
+const GREATEST_BLOCKS: &str = "SELECT db FROM blocks ORDER BY db DESC LIMIT 1";
+
+const GREATEST_DICT: &str = "SELECT db FROM dict ORDER BY db DESC LIMIT 1";
+
+const NEXT_RECORDS: &str = "SELECT db FROM records WHERE db >= ?1 ORDER BY db LIMIT 1";
+
+const NEXT_POSTINGS: &str = "SELECT db FROM postings WHERE db >= ?1 ORDER BY db LIMIT 1";
+
+const NEXT_BLOCKS: &str = "SELECT db FROM blocks WHERE db >= ?1 ORDER BY db LIMIT 1";
+
+const NEXT_DICT: &str = "SELECT db FROM dict WHERE db >= ?1 ORDER BY db LIMIT 1";
 
 /// The least id with which a row of the table begins: at most one row.
 pub(crate) fn least_rows<S: Alter>(
@@ -20,9 +45,7 @@ pub(crate) fn least_rows<S: Alter>(
         (λ rows a b. ReadsRows (λ trees. ShowsFirst (λ id other. id ≤ℤ other) (Owns (tree_of table) trees)) a b rows.items) }
     ensures err { IsReasonedError (state S.Store conn.old) (state S.Store conn.new) result }
 {
-    // What is seen outside a transaction is what was committed.
-    let _idle = conn.is_autocommit();
-    conn.query_all(least_text(table), &[])
+    look_up(conn, least_text(table), &[])
 }
 
 /// The greatest id with which a row of the table begins: at most one row.
@@ -34,9 +57,7 @@ pub(crate) fn greatest_rows<S: Alter>(
         (λ rows a b. ReadsRows (λ trees. ShowsFirst (λ id other. other ≤ℤ id) (Owns (tree_of table) trees)) a b rows.items) }
     ensures err { IsReasonedError (state S.Store conn.old) (state S.Store conn.new) result }
 {
-    // What is seen outside a transaction is what was committed.
-    let _idle = conn.is_autocommit();
-    conn.query_all(greatest_text(table), &[])
+    look_up(conn, greatest_text(table), &[])
 }
 
 /// The least id from `start` on with which a row of the table begins: at most one row.
@@ -50,19 +71,17 @@ pub(crate) fn next_rows<S: Alter>(
         (λ id. Owns (tree_of table) trees id × (start ≤ℤ id))) a b rows.items) }
     ensures err { IsReasonedError (state S.Store conn.old) (state S.Store conn.new) result }
 {
-    // What is seen outside a transaction is what was committed.
-    let _idle = conn.is_autocommit();
-    conn.query_all(next_text(table), params![start])
+    look_up(conn, next_text(table), params![start])
 }
 
 fn least_text(table: Table) -> &'static str
     ensures { result.now ≡ least_text table }
 {
     match table {
-        Table::Records => "SELECT db FROM records ORDER BY db LIMIT 1",
-        Table::Postings => "SELECT db FROM postings ORDER BY db LIMIT 1",
-        Table::Blocks => "SELECT db FROM blocks ORDER BY db LIMIT 1",
-        Table::Dict => "SELECT db FROM dict ORDER BY db LIMIT 1",
+        Table::Records => LEAST_RECORDS,
+        Table::Postings => LEAST_POSTINGS,
+        Table::Blocks => LEAST_BLOCKS,
+        Table::Dict => LEAST_DICT,
     }
 }
 
@@ -70,10 +89,10 @@ fn greatest_text(table: Table) -> &'static str
     ensures { result.now ≡ greatest_text table }
 {
     match table {
-        Table::Records => "SELECT db FROM records ORDER BY db DESC LIMIT 1",
-        Table::Postings => "SELECT db FROM postings ORDER BY db DESC LIMIT 1",
-        Table::Blocks => "SELECT db FROM blocks ORDER BY db DESC LIMIT 1",
-        Table::Dict => "SELECT db FROM dict ORDER BY db DESC LIMIT 1",
+        Table::Records => GREATEST_RECORDS,
+        Table::Postings => GREATEST_POSTINGS,
+        Table::Blocks => GREATEST_BLOCKS,
+        Table::Dict => GREATEST_DICT,
     }
 }
 
@@ -81,9 +100,9 @@ fn next_text(table: Table) -> &'static str
     ensures { result.now ≡ next_text table }
 {
     match table {
-        Table::Records => "SELECT db FROM records WHERE db >= ?1 ORDER BY db LIMIT 1",
-        Table::Postings => "SELECT db FROM postings WHERE db >= ?1 ORDER BY db LIMIT 1",
-        Table::Blocks => "SELECT db FROM blocks WHERE db >= ?1 ORDER BY db LIMIT 1",
-        Table::Dict => "SELECT db FROM dict WHERE db >= ?1 ORDER BY db LIMIT 1",
+        Table::Records => NEXT_RECORDS,
+        Table::Postings => NEXT_POSTINGS,
+        Table::Blocks => NEXT_BLOCKS,
+        Table::Dict => NEXT_DICT,
     }
 }

@@ -3,62 +3,28 @@
 ghost use Rattle.std.specs.Prelude.{◌≡◌, List, [], ◌∷◌, take};
 ghost use Rattle.sqlite.specs.Held.{state};
 ghost use Rattle.sqlite.specs.declared.types.Value.TheVariants.{Int};
-ghost use Rattle.zeb_register.specs.Sql.{IsListOf, Loses, Replaces};
-ghost use Rattle.zeb_register.specs.Store.{records_tree, record_row, HasNumber, SharesRecord, IsRecordIn, IsRest};
+ghost use Rattle.zeb_register.specs.Sql.{IsListOf};
+ghost use Rattle.zeb_register.specs.Store.{records_tree, IsRest};
 ghost use Rattle.zeb_register.specs.PrivateRowStatements.{IsElderRow, IsIdentRow, IsRestAtLeast, Lists, ListsInside, ShowsCount};
 ghost use Rattle.zeb_register.specs.PrivateRowTerms.{ReadsRows};
 ghost use Rattle.zeb_register.specs.Calls.{Inside, Reading};
-ghost use Rattle.zeb_register.specs.Clauses.{Writes};
-ghost use Rattle.zeb_register.specs.Clauses.{IsReasonedErrorInside, TakesInside};
-ghost use Rattle.zeb_register.specs.PrivateClauses.{IsHinderedErrorInside, IsReasonedError};
-ghost use Rattle.zeb_register.specs.Hindrances.{Hinders};
+ghost use Rattle.zeb_register.specs.Clauses.{IsReasonedErrorInside};
+ghost use Rattle.zeb_register.specs.PrivateClauses.{IsReasonedError};
 
 use crate::RegFault;
+use crate::statements::queries::look_up;
 use sqlite::{Alter, Connection, Error, Row, Transaction, params};
 
-pub(crate) fn record_keep<S: Alter>(
-    tx: &mut Transaction<'_, S>,
-    db: i64,
-    sysno: i64,
-    ident: &str,
-    bytes: &[u8],
-) -> Result<usize, Error>
-    ensures same { tx.new.conn.ghost_name ≡ tx.old.conn.ghost_name }
-    ensures call { Writes records_tree (Replaces (SharesRecord db sysno ident.now) (record_row db sysno ident.now bytes.now))
-        (state S.Store tx.old.conn.now) (state S.Store tx.new.conn.now) result }
-    ensures refused { IsHinderedErrorInside (state S.Store tx.old.conn.now) (state S.Store tx.new.conn.now) result
-        (Hinders 1 records_tree (record_row db sysno ident.now bytes.now)) }
-    ensures rowids { TakesInside (state S.Store tx.old.conn.now) (state S.Store tx.new.conn.now) result 1 records_tree }
-{
-    tx.execute(
-        "INSERT OR REPLACE INTO records VALUES (?1, ?2, ?3, ?4)",
-        params![db, sysno, ident, bytes],
-    )
-}
+const BY_IDENT: &str = "SELECT sysno, bytes FROM records WHERE db = ?1 AND ident = ?2";
 
-pub(crate) fn record_remove<S: Alter>(
-    tx: &mut Transaction<'_, S>,
-    db: i64,
-    sysno: i64,
-) -> Result<usize, Error>
-    ensures same { tx.new.conn.ghost_name ≡ tx.old.conn.ghost_name }
-    ensures call { Writes records_tree (Loses (HasNumber db sysno)) (state S.Store tx.old.conn.now) (state S.Store tx.new.conn.now) result }
-    ensures refused { IsReasonedErrorInside (state S.Store tx.old.conn.now) (state S.Store tx.new.conn.now) result }
-    ensures rowids { TakesInside (state S.Store tx.old.conn.now) (state S.Store tx.new.conn.now) result 0 records_tree }
-{
-    tx.execute(
-        "DELETE FROM records WHERE db = ?1 AND sysno = ?2",
-        params![db, sysno],
-    )
-}
+const IDENT: &str = "SELECT ident FROM records WHERE db = ?1 AND sysno = ?2";
 
-pub(crate) fn records_clear<S: Alter>(tx: &mut Transaction<'_, S>, db: i64) -> Result<usize, Error>
-    ensures same { tx.new.conn.ghost_name ≡ tx.old.conn.ghost_name }
-    ensures call { Writes records_tree (Loses (IsRecordIn db)) (state S.Store tx.old.conn.now) (state S.Store tx.new.conn.now) result }
-    ensures refused { IsReasonedErrorInside (state S.Store tx.old.conn.now) (state S.Store tx.new.conn.now) result }
-{
-    tx.execute("DELETE FROM records WHERE db = ?1", params![db])
-}
+const ALL: &str = "SELECT sysno, ident, bytes FROM records WHERE db = ?1 ORDER BY sysno";
+
+const COUNT: &str = "SELECT count(*) FROM records WHERE db = ?1";
+
+pub(crate) const FIRST_FROM: &str =
+    "SELECT sysno, ident, bytes FROM records WHERE db = ?1 AND sysno >= ?2 ORDER BY sysno LIMIT 1";
 
 pub(crate) fn elder_rows<S: Alter>(
     tx: &mut Transaction<'_, S>,
@@ -70,10 +36,7 @@ pub(crate) fn elder_rows<S: Alter>(
         (λ rows a b. ListsInside (IsElderRow db ident.now) a b rows.items) }
     ensures err { IsReasonedErrorInside (state S.Store tx.old.conn.now) (state S.Store tx.new.conn.now) result }
 {
-    tx.query_all(
-        "SELECT sysno, bytes FROM records WHERE db = ?1 AND ident = ?2",
-        params![db, ident],
-    )
+    tx.query_all(BY_IDENT, params![db, ident])
 }
 
 pub(crate) fn ident_rows<S: Alter>(
@@ -85,12 +48,7 @@ pub(crate) fn ident_rows<S: Alter>(
         (λ rows a b. Lists (IsIdentRow db sysno) a b rows.items) }
     ensures err { IsReasonedError (state S.Store conn.old) (state S.Store conn.new) result }
 {
-    // What is seen outside a transaction is what was committed.
-    let _idle = conn.is_autocommit();
-    conn.query_all(
-        "SELECT ident FROM records WHERE db = ?1 AND sysno = ?2",
-        params![db, sysno],
-    )
+    look_up(conn, IDENT, params![db, sysno])
 }
 
 pub(crate) fn record_rows<S: Alter>(conn: &mut Connection<S>, db: i64) -> Result<Vec<Row>, Error>
@@ -98,12 +56,7 @@ pub(crate) fn record_rows<S: Alter>(conn: &mut Connection<S>, db: i64) -> Result
         (λ rows a b. Lists (IsRest records_tree (Int db ∷ [])) a b rows.items) }
     ensures err { IsReasonedError (state S.Store conn.old) (state S.Store conn.new) result }
 {
-    // What is seen outside a transaction is what was committed.
-    let _idle = conn.is_autocommit();
-    conn.query_all(
-        "SELECT sysno, ident, bytes FROM records WHERE db = ?1 ORDER BY sysno",
-        params![db],
-    )
+    look_up(conn, ALL, params![db])
 }
 
 /// How many records a database has: one row, with one number.
@@ -112,9 +65,7 @@ pub(crate) fn count_rows<S: Alter>(conn: &mut Connection<S>, db: i64) -> Result<
         (λ rows a b. ReadsRows (ShowsCount db) a b rows.items) }
     ensures err { IsReasonedError (state S.Store conn.old) (state S.Store conn.new) result }
 {
-    // What is seen outside a transaction is what was committed.
-    let _idle = conn.is_autocommit();
-    conn.query_all("SELECT count(*) FROM records WHERE db = ?1", params![db])
+    look_up(conn, COUNT, params![db])
 }
 
 /// The record with the least number that is not below `start`: at most one row.
@@ -128,10 +79,5 @@ pub(crate) fn rows_from<S: Alter>(
         × (rows ≡ take 1 all)) a b rows.items) }
     ensures err { IsReasonedError (state S.Store conn.old) (state S.Store conn.new) result }
 {
-    // What is seen outside a transaction is what was committed.
-    let _idle = conn.is_autocommit();
-    conn.query_all(
-        "SELECT sysno, ident, bytes FROM records WHERE db = ?1 AND sysno >= ?2 ORDER BY sysno LIMIT 1",
-        params![db, start],
-    )
+    look_up(conn, FIRST_FROM, params![db, start])
 }

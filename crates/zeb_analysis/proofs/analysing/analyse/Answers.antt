@@ -1,6 +1,4 @@
-use Rattle.std.proofs.Common.{rules, arith, ◌≡◌, ◌≢◌, ◌<◌, length, map, IfErr, Err, Some, sym, subst, ◌≤◌, Ok, MatchResult}
-use Rattle.zeb_analysis.specs.declared.faults.AnalysisFault.TheVariants.{Memory}
-use Rattle.zeb_analysis.specs.Analysing.{analysed, first_refusal, standing_in_all}
+use Rattle.zeb_analysis.proofs.Cited.{rules, arith, ◌≡◌, ◌≢◌, ◌<◌, length, map, IfErr, Err, Some, sym, subst, ◌≤◌, Ok, MatchResult, Memory, analysed, first_refusal, standing_in_all}
 use Rattle.zeb_analysis.proofs.FilesWalk.{all_done, file_done, file_refused}
 use Rattle.zeb_analysis.proofs.ToldOnce.{told_once}
 use Rattle.zeb_analysis.proofs.analysing.analyse.Goals as goal

@@ -1,5 +1,4 @@
-use Rattle.std.proofs.Common.{◌+◌, drop, map}
-use Rattle.zeb_analysis.specs.Analysing.{analysed, standing_in_all}
+use Rattle.zeb_analysis.proofs.Cited.{◌+◌, drop, map, analysed, standing_in_all}
 use Rattle.zeb_analysis.proofs.SoFar.{SoFar}
 use Rattle.zeb_analysis.proofs.analysing.analyse.Given as goal
 

@@ -1,9 +1,5 @@
-use Rattle.std.proofs.Common.{rules, arith, ◌≡◌, ◌≢◌, ◌∙◌, ◌+◌, ◌++◌, ◌∷◌, [], length, map, true, false, IfErr, Ok, Err, Some, sym, ap, subst}
-use Rattle.std.proofs.lemmas.List.{length-map, map-append}
-use Rattle.zeb_marc.specs.Splits.{next_of}
-use Rattle.zeb_analysis.specs.declared.faults.AnalysisFault.TheVariants.{Memory}
-use Rattle.zeb_analysis.specs.Analysing.{analysed, first_refusal, standing_in}
-use Rattle.zeb_analysis.specs.PrivateWalk.{ReadsPlace}
+use Rattle.zeb_analysis.proofs.Cited.{rules, arith, ◌≡◌, ◌≢◌, ◌∙◌, ◌+◌, ◌++◌, ◌∷◌, [], length, map, true, false, IfErr, Ok, Err, Some, sym, ap, subst, length-map, map-append, next_of, Memory, analysed, first_refusal, ReadsPlace}
+use Rattle.zeb_analysis.specs.Analysing.{standing_in}
 use Rattle.zeb_analysis.proofs.FileWalk.{Under, before_first, left_is_shorter, record_ends_walk, walk_ends, walk_goes_on, walk_is_refused}
 use Rattle.zeb_analysis.proofs.analysing.analyse_file.Goals as goal
 

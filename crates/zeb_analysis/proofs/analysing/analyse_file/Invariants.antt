@@ -1,5 +1,4 @@
-use Rattle.std.proofs.Common.{◌+◌, ◌*◌, ◌≤◌, length, map}
-use Rattle.zeb_analysis.specs.Analysing.{analysed}
+use Rattle.zeb_analysis.proofs.Cited.{◌+◌, ◌*◌, ◌≤◌, length, map, analysed}
 use Rattle.zeb_analysis.proofs.FileWalk.{Under}
 use Rattle.zeb_analysis.proofs.analysing.analyse_file.Given as goal
 

@@ -1,11 +1,5 @@
-use Rattle.std.proofs.Common.{◌≡◌, ◌≢◌, ◌↔◌, ◌∙◌, refl, sym, ap, subst, Some, Err, string_bytes}
-use Rattle.std.specs.List.{Contains}
-use Rattle.zeb_marc.specs.Contents.{units_of}
-use Rattle.zeb_profile.specs.Indexes.{unit_targets}
-use Rattle.zeb_extract.specs.Occurrences.{IsOccurrence}
+use Rattle.zeb_analysis.proofs.Cited.{◌≡◌, ◌≢◌, ◌↔◌, ◌∙◌, refl, sym, ap, subst, Some, Err, string_bytes, Contains, units_of, unit_targets, IsOccurrence, identifier_of, units_in}
 use Rattle.zeb_extract.specs.declared.naming.IdentFault.TheVariants.{Memory}
-use Rattle.zeb_extract.specs.Identifier.{identifier_of}
-use Rattle.zeb_analysis.specs.Analysing.{units_in}
 use Rattle.zeb_analysis.proofs.Refused.{named_record, no_name, no_record, one_too_many}
 use Rattle.zeb_analysis.proofs.analysing.analyse_record.Goals as goal
 

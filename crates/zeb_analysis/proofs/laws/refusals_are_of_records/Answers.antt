@@ -1,4 +1,4 @@
-use Rattle.zeb_analysis.specs.Analysing.{standing_in_all}
+use Rattle.zeb_analysis.proofs.Cited.{standing_in_all}
 use Rattle.zeb_analysis.proofs.FirstRefusals.{first_counts}
 use Rattle.zeb_analysis.proofs.RefusalKinds.{refusal_at_place}
 use Rattle.zeb_analysis.proofs.laws.refusals_are_of_records.Goals as goal

@@ -1,4 +1,4 @@
-use Rattle.zeb_analysis.specs.Analysing.{standing_in_all}
+use Rattle.zeb_analysis.proofs.Cited.{standing_in_all}
 use Rattle.zeb_analysis.proofs.FirstRefusals.{first_counts}
 use Rattle.zeb_analysis.proofs.laws.the_first_refusal_counts.Goals as goal
 

@@ -1,6 +1,4 @@
-use Rattle.std.proofs.Common.{◌≡◌, ◌∙◌, ◌++◌, ◌<◌, length, map, string_bytes, ap, arith}
-use Rattle.zeb_analysis.specs.Analysing.{analysed}
-use Rattle.zeb_analysis.specs.Printing.{occurrence_line, record_line}
+use Rattle.zeb_analysis.proofs.Cited.{◌≡◌, ◌∙◌, ◌++◌, ◌<◌, length, map, string_bytes, ap, arith, analysed, occurrence_line, record_line}
 use Rattle.zeb_analysis.proofs.PrintedLines.{one_more_line}
 use Rattle.zeb_analysis.proofs.printing.analysis_lines.Goals as goal
 

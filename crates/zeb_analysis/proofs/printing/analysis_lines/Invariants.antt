@@ -1,7 +1,4 @@
-use Rattle.std.proofs.Common.{◌≡◌, ◌++◌, map, take, string_bytes}
-use Rattle.std.specs.List.{flat_map}
-use Rattle.zeb_analysis.specs.Analysing.{analysed}
-use Rattle.zeb_analysis.specs.Printing.{occurrence_line, record_line}
+use Rattle.zeb_analysis.proofs.Cited.{◌≡◌, ◌++◌, map, take, string_bytes, flat_map, analysed, occurrence_line, record_line}
 use Rattle.zeb_analysis.proofs.printing.analysis_lines.Given as goal
 
 abbrev pub invariant-loop-occurrence : goal.invariant-loop-occurrence

@@ -1,6 +1,4 @@
-use Rattle.std.proofs.Common.{◌≡◌, ap, ◌∙◌, rules}
-use Rattle.std.specs.Fmt.{decimal}
-use Rattle.zeb_analysis.specs.Printing.{printed_number}
+use Rattle.zeb_analysis.proofs.Cited.{◌≡◌, ap, ◌∙◌, rules, decimal, printed_number}
 use Rattle.zeb_analysis.proofs.PrintedNumbers.{printed_key, printed_other}
 use Rattle.zeb_analysis.proofs.printing.number_text.Goals as goal
 

@@ -1,6 +1,6 @@
 -- The bytes are a function of the list, and a list is told by its bytes.
-use Rattle.std.proofs.Common.{◌∙◌, sym, refl}
-use Rattle.zeb_blocks.specs.Blocks.{spelled_from, start_of}
+use Rattle.zeb_blocks.proofs.Cited.{◌∙◌, sym, refl, start_of}
+use Rattle.zeb_blocks.specs.Blocks.{spelled_from}
 use Rattle.zeb_blocks.proofs.Lists.{same_list}
 use Rattle.zeb_blocks.proofs.Taking.{spells_start}
 use Rattle.zeb_blocks.proofs.laws.spellings_and_lists_are_one_to_one.Goals as goal

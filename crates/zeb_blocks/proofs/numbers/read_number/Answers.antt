@@ -1,6 +1,5 @@
 -- Each byte but the last adds a group.
-use Rattle.std.proofs.Common.{◌<◌, inl, inr, arith}
-use Rattle.std.proofs.lemmas.Bool.{cases_eq, ne_eqb}
+use Rattle.zeb_blocks.proofs.Cited.{◌<◌, inl, inr, arith, cases_eq, ne_eqb}
 use Rattle.zeb_blocks.proofs.Bytes.{uleb-low, continues_first, continues_more, nothing_empty, nothing_ended, nothing_large, nothing_long, nothing_padded, continues_ends}
 use Rattle.zeb_blocks.proofs.numbers.read_number.Goals as goal
 

@@ -1,5 +1,5 @@
 -- What was read is the lower part of the number.
-use Rattle.std.proofs.Common.{length}
+use Rattle.zeb_blocks.proofs.Cited.{length}
 use Rattle.zeb_blocks.proofs.Bytes.{Continues}
 use Rattle.zeb_blocks.proofs.numbers.read_number.Given as goal
 

@@ -1,6 +1,5 @@
 -- The lowest group is put, and then the rest of the number is left.
-use Rattle.std.proofs.Common.{◌<◌, ◌^◌, ◌%◌, ◌+◌, ◌/◌, ◌++◌, ◌∷◌, [], ℕ, List, ◌∙◌, ap, arith}
-use Rattle.std.proofs.lemmas.List.{append_assoc}
+use Rattle.zeb_blocks.proofs.Cited.{◌<◌, ◌^◌, ◌%◌, ◌+◌, ◌/◌, ◌++◌, ◌∷◌, [], ℕ, List, ◌∙◌, ap, arith, append_assoc}
 use Rattle.zeb_blocks.specs.Numbers.{uleb}
 use Rattle.zeb_blocks.proofs.Bytes.{uleb-low, uleb-high}
 use Rattle.zeb_blocks.proofs.numbers.write_number.Goals as goal

@@ -1,5 +1,5 @@
 -- What was put, and what is left of the number.
-use Rattle.std.proofs.Common.{◌≡◌, ◌++◌, ℕ, List}
+use Rattle.zeb_blocks.proofs.Cited.{◌≡◌, ◌++◌, ℕ, List}
 use Rattle.zeb_blocks.specs.Numbers.{uleb}
 use Rattle.zeb_blocks.proofs.numbers.write_number.Given as goal
 

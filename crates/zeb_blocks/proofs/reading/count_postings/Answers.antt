@@ -1,6 +1,5 @@
 -- Each posting stands behind those before it.
-use Rattle.std.proofs.Common.{◌≡◌, ◌<◌, length, ap, arith}
-use Rattle.std.proofs.lemmas.Grind.{common_steps}
+use Rattle.zeb_blocks.proofs.Cited.{◌≡◌, ◌<◌, length, ap, arith, common_steps}
 use Rattle.zeb_blocks.proofs.Counting.{counted_none, counted_more, counted_all, counted_damaged}
 use Rattle.zeb_blocks.proofs.Lists.{length-bytes}
 use Rattle.zeb_blocks.proofs.reading.count_postings.Goals as goal

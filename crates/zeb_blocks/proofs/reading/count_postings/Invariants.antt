@@ -1,5 +1,5 @@
 -- The postings so far, and what is left behind them.
-use Rattle.std.proofs.Common.{length}
+use Rattle.zeb_blocks.proofs.Cited.{length}
 use Rattle.zeb_blocks.proofs.Counting.{IsReadUpTo}
 use Rattle.zeb_blocks.proofs.reading.count_postings.Given as goal
 

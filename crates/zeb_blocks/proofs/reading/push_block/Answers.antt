@@ -1,7 +1,5 @@
 -- The postings that were put there are those of the block, or there are none.
-use Rattle.std.proofs.Common.{◌≢◌, ◌/◌, ◌∙◌, inl, inr, length, sym, ap, arith}
-use Rattle.std.proofs.lemmas.Grind.{common_steps}
-use Rattle.zeb_blocks.specs.declared.postings.Posting.{Posting}
+use Rattle.zeb_blocks.proofs.Cited.{◌≢◌, ◌/◌, ◌∙◌, inl, inr, length, sym, ap, arith, common_steps, Posting}
 use Rattle.zeb_blocks.proofs.Taking.{no_list, no_start, outside}
 use Rattle.zeb_blocks.proofs.Walking.{block_spelled, nothing_spelled}
 use Rattle.zeb_blocks.proofs.reading.push_block.Goals as goal

@@ -1,6 +1,5 @@
 -- Each posting stands behind those before it.
-use Rattle.std.proofs.Common.{◌<◌, ◌≡◌, length, ap, arith, subst, sym}
-use Rattle.std.proofs.lemmas.Grind.{common_steps}
+use Rattle.zeb_blocks.proofs.Cited.{◌<◌, ◌≡◌, length, ap, arith, subst, sym, common_steps}
 use Rattle.zeb_blocks.proofs.Lists.{length-bytes}
 use Rattle.zeb_blocks.proofs.Walking.{IsWalked, walked_all, walked_damaged, walked_more, walked_none}
 use Rattle.zeb_blocks.proofs.reading.push_postings.Goals as goal

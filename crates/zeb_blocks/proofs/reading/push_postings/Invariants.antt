@@ -1,5 +1,5 @@
 -- The postings that were put there so far, and what is left behind them.
-use Rattle.std.proofs.Common.{length}
+use Rattle.zeb_blocks.proofs.Cited.{length}
 use Rattle.zeb_blocks.proofs.Walking.{IsWalked}
 use Rattle.zeb_blocks.proofs.reading.push_postings.Given as goal
 

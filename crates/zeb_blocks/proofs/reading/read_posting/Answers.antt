@@ -1,7 +1,6 @@
 -- A posting is its three numbers.
-use Rattle.std.proofs.Common.{◌≡◌, ◌++◌, sym, refl, ◌∙◌}
+use Rattle.zeb_blocks.proofs.Cited.{◌≡◌, ◌++◌, sym, refl, ◌∙◌, Gaps}
 use Rattle.zeb_blocks.specs.Numbers.{uleb}
-use Rattle.zeb_blocks.specs.declared.gaps.Gaps.{Gaps}
 use Rattle.zeb_blocks.proofs.Steps.{Small, no_sysno, no_seq, no_pos, no_gaps, bytes_of-append}
 use Rattle.zeb_blocks.proofs.reading.read_posting.Goals as goal
 

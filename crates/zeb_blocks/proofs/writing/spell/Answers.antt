@@ -1,9 +1,5 @@
 -- The list that was written is the front of the whole.
-use Rattle.std.proofs.Common.{◌≡◌, ◌<◌, ◌++◌, ◌∷◌, [], List, length, suc, take, drop, slice_index_or, ◌∙◌, ap, sym, subst, arith}
-use Rattle.std.proofs.Math.Seq.{take-suc}
-use Rattle.std.proofs.lemmas.List.{take-append-drop}
-use Rattle.zeb_blocks.specs.declared.postings.Posting.{Posting}
-use Rattle.zeb_blocks.specs.Blocks.{LiesIn}
+use Rattle.zeb_blocks.proofs.Cited.{◌≡◌, ◌<◌, ◌++◌, ◌∷◌, [], List, length, suc, take, drop, slice_index_or, ◌∙◌, ap, sym, subst, arith, take-suc, take-append-drop, Posting, LiesIn}
 use Rattle.zeb_blocks.proofs.Rising.{block_small}
 use Rattle.zeb_blocks.proofs.Pushing.{lies_front}
 use Rattle.zeb_blocks.proofs.writing.spell.Goals as goal

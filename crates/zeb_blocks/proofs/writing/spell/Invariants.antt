@@ -1,5 +1,5 @@
 -- The postings so far were written.
-use Rattle.std.proofs.Common.{◌≡◌, take}
+use Rattle.zeb_blocks.proofs.Cited.{◌≡◌, take}
 use Rattle.zeb_blocks.proofs.writing.spell.Given as goal
 
 abbrev pub invariant-loop-posting : goal.invariant-loop-posting

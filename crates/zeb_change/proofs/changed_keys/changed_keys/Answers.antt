@@ -1,10 +1,5 @@
-use Rattle.std.proofs.Common.{◌≡◌, ◌⊎◌, ◌++◌, map, inl, inr, subst₂, rules}
+use Rattle.zeb_change.proofs.Cited.{◌≡◌, ◌⊎◌, ◌++◌, map, inl, inr, subst₂, rules, Has, Occurrence, IsRising, AreOfKey, Stops, IsAddedIfChanged, place_in}
 use Rattle.zeb_change.proofs.KeyChanges.{nothing_cut, all_cut, cut_run, noted_run, some_begins, SoFar}
-use Rattle.sqlite_rules.specs.Lists.{Has}
-use Rattle.zeb_keys.specs.declared.keys.Occurrence.{Occurrence}
-use Rattle.zeb_keys.specs.Order.{IsRising}
-use Rattle.zeb_change.specs.PrivateKeyRuns.{AreOfKey, Stops}
-use Rattle.zeb_change.specs.PrivateChangedKeys.{IsAddedIfChanged, place_in}
 use Rattle.zeb_change.proofs.changed_keys.changed_keys.Goals as goal
 
 pub loop-key-init : goal.loop-key-init

@@ -1,5 +1,4 @@
-use Rattle.std.proofs.Common.{◌+◌, length}
-use Rattle.zeb_keys.specs.Order.{IsRising}
+use Rattle.zeb_change.proofs.Cited.{◌+◌, length, IsRising}
 use Rattle.zeb_change.proofs.KeyChanges.{SoFar}
 use Rattle.zeb_change.proofs.changed_keys.changed_keys.Given as goal
 

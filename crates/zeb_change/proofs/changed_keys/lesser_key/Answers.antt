@@ -1,8 +1,5 @@
-use Rattle.std.proofs.Common.{◌≡◌, Less, Greater, inl, inr, sym, ◌∙◌, ap, subst, rules, refl}
-use Rattle.std.specs.Ordering.{ordering_reverse}
-use Rattle.zeb_keys.specs.Order.{key_order}
-use Rattle.zeb_keys.proofs.Rising.{key_total, keys_apart}
-use Rattle.zeb_change.specs.PrivateKeyRuns.{BeginsWithKey}
+use Rattle.zeb_change.proofs.Cited.{◌≡◌, Greater, inl, inr, sym, ◌∙◌, ap, subst, rules, refl, ordering_reverse, key_order, key_total, keys_apart, BeginsWithKey}
+use Rattle.std.proofs.Common.{Less}
 use Rattle.zeb_change.proofs.KeyChanges.{at_least_itself, first_is}
 use Rattle.zeb_change.proofs.changed_keys.lesser_key.Goals as goal
 

@@ -1,4 +1,4 @@
-use Rattle.std.proofs.Common.{◌∙◌, inl, inr, refl, sym}
+use Rattle.zeb_change.proofs.Cited.{◌∙◌, inl, inr, refl, sym}
 use Rattle.zeb_change.proofs.KeyEquality.{places_same, places_differ}
 use Rattle.zeb_change.proofs.changed_keys.note.Goals as goal
 

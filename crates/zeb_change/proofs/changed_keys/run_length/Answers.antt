@@ -1,7 +1,4 @@
-use Rattle.std.proofs.Common.{rules, ◌≡◌, ◌∷◌, take, []}
-use Rattle.std.proofs.lemmas.List.{take_more}
-use Rattle.std.proofs.Math.Seq.{drop-cons}
-use Rattle.sqlite_trees.proofs.ListLemmas.{all-append}
+use Rattle.zeb_change.proofs.Cited.{rules, ◌≡◌, ◌∷◌, take, [], take_more, drop-cons, all-append}
 use Rattle.zeb_change.proofs.KeyEquality.{same_key}
 use Rattle.zeb_change.proofs.changed_keys.run_length.Goals as goal
 

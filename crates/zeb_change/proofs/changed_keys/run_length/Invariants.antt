@@ -1,5 +1,4 @@
-use Rattle.std.proofs.Common.{take}
-use Rattle.zeb_change.specs.PrivateKeyRuns.{AreOfKey}
+use Rattle.zeb_change.proofs.Cited.{take, AreOfKey}
 use Rattle.zeb_change.proofs.changed_keys.run_length.Given as goal
 
 abbrev pub invariant-loop-index : goal.invariant-loop-index

@@ -1,4 +1,4 @@
-use Rattle.std.proofs.Common.{arith}
+use Rattle.zeb_change.proofs.Cited.{arith}
 use Rattle.zeb_change.proofs.files.check_readers.Goals as goal
 
 pub loop-index-init : goal.loop-index-init

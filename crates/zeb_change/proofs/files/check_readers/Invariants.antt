@@ -1,4 +1,4 @@
-use Rattle.std.proofs.Common.{◌≡◌, ◌<◌, false, ℕ, get_or}
+use Rattle.zeb_change.proofs.Cited.{◌≡◌, ◌<◌, false, ℕ, get_or}
 use Rattle.zeb_change.proofs.files.check_readers.Given as goal
 
 abbrev pub invariant-loop-index : goal.invariant-loop-index

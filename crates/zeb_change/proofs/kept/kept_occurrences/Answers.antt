@@ -1,10 +1,5 @@
-use Rattle.std.proofs.Common.{◌↔◌, List, subst}
-use Rattle.std.specs.List.{Contains}
+use Rattle.zeb_change.proofs.Cited.{◌↔◌, List, subst, Contains, FieldText, unit_targets, Occurrence, IsOccurrence}
 use Rattle.zeb_marc.specs.Contents.{units_of}
-use Rattle.zeb_marc.specs.Directory.{FieldText}
-use Rattle.zeb_profile.specs.Indexes.{unit_targets}
-use Rattle.zeb_keys.specs.declared.keys.Occurrence.{Occurrence}
-use Rattle.zeb_extract.specs.Occurrences.{IsOccurrence}
 use Rattle.zeb_change.proofs.kept.kept_occurrences.Goals as goal
 
 pub returns-clause-found : goal.returns-clause-found

@@ -1,21 +1,6 @@
-use Rattle.std.proofs.Common.{◌≡◌, ◌∙◌, ◌+◌, ◌≤◌, ◌++◌, ◌∷◌, List, [], arith, ap, drop, length, length-append, map, refl, suc, subst, subst₂, sym, take}
-use Rattle.std.proofs.Math.Seq.{split_at}
-use Rattle.std.specs.List.{Contains}
-use Rattle.std.proofs.lemmas.Iterator.Adapters.{YieldsList-from_vec}
-use Rattle.std.proofs.lemmas.Iterator.Consumers.{YieldsList-end, YieldsList-so_far, YieldsList-turn}
-use Rattle.zeb_register.proofs.ContentChanges.{changed_at, change_is}
-use Rattle.zeb_change.specs.declared.changed_keys.ChangedKey.{ChangedKey}
-use Rattle.zeb_register.specs.declared.registers.Place.{Place}
-use Rattle.zeb_change.specs.NoteWords.{KeyChange}
-use Rattle.zeb_change.specs.PrivatePending.{IsNotedAlso}
-use Rattle.zeb_change.specs.PrivateChangedKeys.{AreChangedKeys, key_in}
-use Rattle.zeb_change.specs.Noted.{LeadsTo}
+use Rattle.zeb_change.proofs.Cited.{◌≡◌, ◌∙◌, ◌++◌, ◌∷◌, List, [], arith, ap, drop, length, length-append, map, refl, suc, subst, subst₂, sym, take, split_at, YieldsList-from_vec, YieldsList-end, YieldsList-so_far, YieldsList-turn, changed_at, change_is, ChangedKey, Place, KeyChange, IsNotedAlso, AreChangedKeys, key_in, LeadsTo}
 use Rattle.zeb_change.proofs.ChangeKeysContent.{moved, moved_is, moved_more, moved_none, moved_rises, one_reposted, still_old}
-use Rattle.std.proofs.lemmas.List.Sums.{sum_by_push}
-use Rattle.zeb_register.specs.Hindrances.{rows_of}
-use Rattle.zeb_change.specs.Asked.{PutAmong}
 use Rattle.zeb_change.proofs.CostLemmas.{keys_cost}
-use Rattle.zeb_change.proofs.PutKeys.{few_put, fits_put, places_put, storable_put}
 use Rattle.zeb_change.proofs.EqualReplacements.{none_changed}
 use Rattle.zeb_change.proofs.LeadsToContent.{leads_more}
 use Rattle.zeb_change.proofs.noting.note_keys.Goals as goal
@@ -29,7 +14,6 @@ loop-changed-init c = record {
   leads = λ elder newer db behind before leads up was. subst (LeadsTo db c.args.pending.now behind) (sym (moved_none db c.args.sysno before)) leads;
   idle = λ none. refl;
   count = omega arith;
-  room = λ bound n elder newer low high storable fit fits among. subst (PutAmong bound c.args.pending.now.notes.entries) (let e : n ≡ n + 0 = omega arith in e) among;
 }
 
 pub loop-changed-preserved : goal.loop-changed-preserved
@@ -61,57 +45,24 @@ loop-changed-preserved c =
           (change_is db (key_in item) sysno item.new.items now rising));
       idle = λ none. absurd (omega (arith, ap length none, length-append done (item ∷ [])));
       count = omega (arith, c.loop-changed.invariant.count, noted.count, length-append done (item ∷ []));
-      room = λ bound n elder newer low high storable fit fits among.
-          let are = c.in_ok-changed_keys.ensures elder newer in
-          let here : Contains all.items item = (length done, turn.0, sym turn.1) in
-          let so_far = c.loop-changed.invariant.room bound n elder newer low high storable fit fits among in
-          let stored = storable_put c.args.elder.now c.args.newer.now all.items are item here sysno (low, high) storable in
-          let put = fits_put c.args.elder.now c.args.newer.now all.items are item here bound sysno fit fits in
-          let more : n + places_put (done ++ item ∷ []) ≡ n + places_put done + rows_of ((sysno, item.new.items) ∷ []) =
-          omega (arith, sum_by_push (λ (d : ChangedKey). length d.new.items) done item) in
-          subst (PutAmong bound c.note.new.self.notes.entries) (sym more) (noted.puts bound (n + places_put done) stored put so_far);
     }
 
-pub returns-clause-moved : goal.returns-clause-moved
-returns-clause-moved c elder newer db behind before after leads up was reposted =
+pub returns : goal.returns
+returns c elder newer =
     let sysno = c.args.sysno in
     let items = c.in_ok-changed_keys.changed_keys in
+    let are = c.in_ok-changed_keys.ensures elder newer in
     let gives = c.into_iter-changed-iterator.ensures.into_iter_gives in
     let chain = YieldsList-from_vec {s = c.into_iter-changed-iterator.result} items.items gives.0 (gives.1 ∙ items.ok.0) in
     let done = c.loop-changed.yielded in
-    let all : done ≡ items.items = sym (map_same done) ∙ (YieldsList-end chain done c.loop-changed.changed-iterator c.loop-changed.yielded_by c.next.result c.next.new.self c.in-None.is c.next.ensures.steps).0 in
-    let held = c.loop-changed.invariant.leads elder newer db behind before leads up was in
-    let is = moved_is db sysno c.args.elder.now c.args.newer.now items.items before up (c.in_ok-changed_keys.ensures elder newer) was in
-    subst (LeadsTo db c.loop-changed.pending behind) (ap (λ (l : List ChangedKey). moved db sysno l before) all ∙ one_reposted db sysno c.args.newer.now before _ after is reposted) held
-
-pub returns-clause-room : goal.returns-clause-room
-returns-clause-room c bound n elder newer low high storable fit fits among =
-    let items = c.in_ok-changed_keys.changed_keys in
-    let gives = c.into_iter-changed-iterator.ensures.into_iter_gives in
-    let chain = YieldsList-from_vec {s = c.into_iter-changed-iterator.result} items.items gives.0 (gives.1 ∙ items.ok.0) in
-    let done = c.loop-changed.yielded in
-    let all : done ≡ items.items = sym (map_same done) ∙ (YieldsList-end chain done c.loop-changed.changed-iterator c.loop-changed.yielded_by c.next.result c.next.new.self c.in-None.is c.next.ensures.steps).0 in
-    let few = few_put c.args.elder.now c.args.newer.now items.items (c.in_ok-changed_keys.ensures elder newer) in (
-      places_put done,
-      subst (λ l. places_put l ≤ length c.args.newer.now) (sym all) few,
-      c.loop-changed.invariant.room bound n elder newer low high storable fit fits among,
-    )
-
-pub returns-clause-idle : goal.returns-clause-idle
-returns-clause-idle c elder newer same =
-    let items = c.in_ok-changed_keys.changed_keys in
-    let gives = c.into_iter-changed-iterator.ensures.into_iter_gives in
-    let chain = YieldsList-from_vec {s = c.into_iter-changed-iterator.result} items.items gives.0 (gives.1 ∙ items.ok.0) in
-    let done = c.loop-changed.yielded in
-    let all : done ≡ items.items = sym (map_same done) ∙ (YieldsList-end chain done c.loop-changed.changed-iterator c.loop-changed.yielded_by c.next.result c.next.new.self c.in-None.is c.next.ensures.steps).0 in
-    c.loop-changed.invariant.idle (all ∙ none_changed c.args.elder.now c.args.newer.now items.items (c.in_ok-changed_keys.ensures elder newer) same)
-
--- just the changed keys were noted, each once
-pub returns-clause-cost : goal.returns-clause-cost
-returns-clause-cost c elder newer =
-    let items = c.in_ok-changed_keys.changed_keys in
-    let gives = c.into_iter-changed-iterator.ensures.into_iter_gives in
-    let chain = YieldsList-from_vec {s = c.into_iter-changed-iterator.result} items.items gives.0 (gives.1 ∙ items.ok.0) in
-    let done = c.loop-changed.yielded in
-    let many = (YieldsList-end chain done c.loop-changed.changed-iterator c.loop-changed.yielded_by c.next.result c.next.new.self c.in-None.is c.next.ensures.steps).1 in
-    (length items.items, keys_cost c.args.elder.now c.args.newer.now items.items (c.in_ok-changed_keys.ensures elder newer), omega (arith, c.loop-changed.invariant.count, many))
+    let end = YieldsList-end chain done c.loop-changed.changed-iterator c.loop-changed.yielded_by c.next.result c.next.new.self c.in-None.is c.next.ensures.steps in
+    let all : done ≡ items.items = sym (map_same done) ∙ end.0 in
+    let many = end.1 in
+    record {
+      moved = λ db behind before after leads up was reposted.
+          let held = c.loop-changed.invariant.leads elder newer db behind before leads up was in
+          let is = moved_is db sysno c.args.elder.now c.args.newer.now items.items before up are was in
+          subst (LeadsTo db c.loop-changed.pending behind) (ap (λ (l : List ChangedKey). moved db sysno l before) all ∙ one_reposted db sysno c.args.newer.now before _ after is reposted) held;
+      idle = λ same. c.loop-changed.invariant.idle (all ∙ none_changed c.args.elder.now c.args.newer.now items.items are same);
+      cost = (length items.items, keys_cost c.args.elder.now c.args.newer.now items.items are, omega (arith, c.loop-changed.invariant.count, many));
+    }

@@ -1,4 +1,4 @@
-use Rattle.std.proofs.Common.{◌%◌, ◌/◌, arith}
+use Rattle.zeb_change.proofs.Cited.{◌%◌, ◌/◌, arith}
 use Rattle.zeb_change.proofs.NoteWords.{five, narrow, wide}
 use Rattle.zeb_change.proofs.words.put_number.Goals as goal
 

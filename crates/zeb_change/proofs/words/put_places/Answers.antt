@@ -1,6 +1,4 @@
-use Rattle.std.proofs.Common.{◌∙◌, ◌++◌, List, ℕ, ap, sym, take, slice_index_or}
-use Rattle.std.proofs.lemmas.List.{append_assoc, take_more}
-use Rattle.zeb_register.specs.declared.registers.Place.{Place}
+use Rattle.zeb_change.proofs.Cited.{◌∙◌, ◌++◌, List, ℕ, ap, sym, take, slice_index_or, append_assoc, take_more, Place}
 use Rattle.zeb_change.specs.NoteWords.{number_words, place_words}
 use Rattle.zeb_change.proofs.NoteWords.{no_places, places_more}
 use Rattle.zeb_change.proofs.words.put_places.Goals as goal

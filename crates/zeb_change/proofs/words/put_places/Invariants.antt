@@ -1,4 +1,4 @@
-use Rattle.std.proofs.Common.{◌≡◌, ◌++◌, take}
+use Rattle.zeb_change.proofs.Cited.{◌≡◌, ◌++◌, take}
 use Rattle.zeb_change.specs.NoteWords.{place_words}
 use Rattle.zeb_change.proofs.words.put_places.Given as goal
 

@@ -1,5 +1,4 @@
-use Rattle.std.proofs.Common.{◌≡◌, ◌∙◌, ◌∷◌, ℕ, ap, sym, subst, arith}
-use Rattle.zeb_change.specs.PrivateNoteWords.{TakesNumber}
+use Rattle.zeb_change.proofs.Cited.{◌≡◌, ◌∙◌, ◌∷◌, ℕ, ap, sym, subst, arith, TakesNumber}
 use Rattle.zeb_change.proofs.NoteWords.{takes_narrow, takes_nothing, takes_wide}
 use Rattle.zeb_change.proofs.words.take_number.Goals as goal
 

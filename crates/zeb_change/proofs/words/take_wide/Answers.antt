@@ -1,4 +1,4 @@
-use Rattle.std.proofs.Common.{◌≡◌, ◌+◌, ◌*◌, ◌∙◌, List, ℕ, ap, arith, drop, length, slice_index_or}
+use Rattle.zeb_change.proofs.Cited.{◌≡◌, ◌+◌, ◌*◌, ◌∙◌, List, ℕ, ap, arith, drop, length, slice_index_or}
 use Rattle.zeb_change.proofs.words.take_wide.Goals as goal
 
 pub returns-then-words-lt4 : goal.returns-then-words-lt4

@@ -1,10 +1,4 @@
-use Rattle.std.proofs.Common.{arith, refl, rules, slice_index_or}
-use Rattle.std.proofs.Math.ListN.{drop_of_length-le}
-use Rattle.std.proofs.lemmas.List.{drop_more}
-use Rattle.std.proofs.lemmas.List.Sorted.{IsNonDecreasingBy-from_sort_by_key, answers_always}
-use Rattle.zeb_register.specs.declared.registers.RecordChange.{RecordChange}
-use Rattle.zeb_change.specs.declared.key_notes.PlaceCounts.{PlaceCounts}
-use Rattle.zeb_change.specs.PrivatePending.{number_in}
+use Rattle.zeb_change.proofs.Cited.{arith, refl, rules, slice_index_or, drop_of_length-le, drop_more, IsNonDecreasingBy-from_sort_by_key, answers_always, RecordChange, PlaceCounts, number_in}
 use Rattle.zeb_change.proofs.LeadsToContent.{all_given, one_given}
 use Rattle.zeb_change.proofs.writing.given.Goals as goal
 

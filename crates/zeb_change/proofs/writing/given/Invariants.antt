@@ -1,4 +1,4 @@
-use Rattle.std.proofs.Common.{◌≡◌, length}
+use Rattle.zeb_change.proofs.Cited.{◌≡◌, length}
 use Rattle.zeb_change.proofs.LeadsToContent.{AreGivenSoFar}
 use Rattle.zeb_change.proofs.writing.given.Given as goal
 

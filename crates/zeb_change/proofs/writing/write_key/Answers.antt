@@ -1,11 +1,5 @@
-use Rattle.std.proofs.Common.{◌≡◌, ◌∙◌, ℕ, rules, Err, ap, inl, inr, length, subst, sym}
-use Rattle.sqlite.specs.Held.{state}
-use Rattle.zeb_register.specs.declared.faults.RegFault.TheVariants.{Damaged, Store}
-use Rattle.zeb_register.proofs.FormatLemmas.{registers_rise}
-use Rattle.zeb_register.proofs.Malformed.{beside_database}
-use Rattle.zeb_change.specs.Costs.{IsWorkFor}
-use Rattle.zeb_change.specs.PrivatePending.{AreGivenInOrder}
-use Rattle.zeb_change.proofs.Asked.{key_leaves, key_served}
+use Rattle.zeb_change.proofs.Cited.{◌≡◌, ◌∙◌, ℕ, rules, Err, ap, length, subst, sym, state, Store, registers_rise, beside_database, IsWorkFor, AreGivenInOrder}
+use Rattle.zeb_register.specs.declared.faults.RegFault.TheVariants.{Damaged}
 use Rattle.zeb_change.proofs.Commuting.{olds_rise, put_in_order}
 use Rattle.zeb_change.proofs.writing.write_key.Goals as goal
 
@@ -38,37 +32,6 @@ returns-in_err-key_changes-clause-honest g c clean mode store told before after 
     let fault : c.key_changes.result ≡ Err Damaged = c.in_err-key_changes.was ∙ sym on ∙ told in
     c.key_changes.ensures.damaged clean mode store fault (olds_rise changes given same (before db key) (after db key) put.list.2) before storable had after
     (put_in_order changes given same db key before after (registers_rise g.L.Layout.format trees before had) put.list.2 put.others)
-
--- the changes as the layout takes them
-pub returns-clause-room : goal.returns-clause-room
-returns-clause-room g c n left puts fits clean mode store room =
-    let old = (state g.S.Store c.args.tx.now.conn.now).now.trees in
-    let new = (state g.S.Store c.key_changes.new.tx.conn.now).now.trees in
-    let given = c.deref-3.result.now in
-    let read = c.in_ok-counts.ensures.told puts.changes puts.noted in
-    let told = c.in_ok-given.ensures.told puts.changes (c.deref.ensures.value ∙ read.0) (c.deref-2.ensures.value ∙ read.1) in
-    let same = subst (AreGivenInOrder puts.changes) (sym c.deref-3.ensures.value) told in (
-      (λ refused. absurd (cc)),
-      key_leaves puts.changes given same n left c.args.db.0 c.args.key.now old room fits puts.many new (c.in_ok-key_changes.ensures.rowids clean mode store)
-          (c.in_ok-key_changes.ensures.spelled clean mode store) (c.in_ok-key_changes.ensures.others clean mode store),
-    )
-
-pub returns-in_err-key_changes-clause-room : goal.returns-in_err-key_changes-clause-room
-returns-in_err-key_changes-clause-room g c n left puts fits clean mode store room =
-    let old = (state g.S.Store c.args.tx.now.conn.now).now.trees in
-    let given = c.deref-3.result.now in
-    let read = c.in_ok-counts.ensures.told puts.changes puts.noted in
-    let in_order = c.in_ok-given.ensures.told puts.changes (c.deref.ensures.value ∙ read.0) (c.deref-2.ensures.value ∙ read.1) in
-    let same = subst (AreGivenInOrder puts.changes) (sym c.deref-3.ensures.value) in_order in
-    let on : c.from_residual-in_err-key_changes.result ≡ Err c.in_err-key_changes.field-0.0 = search rules in (
-      (λ told.
-          let fault : c.key_changes.result ≡ Err Store = c.in_err-key_changes.was ∙ sym on ∙ told in
-          elim (c.key_changes.ensures.refused clean mode store fault) [
-            | inl cause ↦ cause
-            | inr hinders ↦ absurd (key_served puts.changes given same n left c.args.db.0 c.args.key.now old room fits puts.many puts.storable hinders)
-          ]),
-      rw on tt,
-    )
 
 pub returns-clause-work : goal.returns-clause-work
 returns-clause-work g c clean mode store content had =

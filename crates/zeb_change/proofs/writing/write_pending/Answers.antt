@@ -1,12 +1,5 @@
-use Rattle.std.proofs.Common.{◌≡◌, ◌∙◌, ◌+◌, ◌∷◌, [], Ok, Result, rules, arith, Err, refl, sym}
-use Rattle.sqlite.specs.declared.types.Value.TheVariants.{Int}
-use Rattle.sqlite.specs.Held.{state}
-use Rattle.sqlite.specs.State.{HasCleanDisk}
-use Rattle.zeb_register.specs.declared.faults.RegFault.{RegFault}
-use Rattle.zeb_register.specs.declared.faults.RegFault.TheVariants.{Damaged, Store}
-use Rattle.zeb_register.proofs.Causes.{may_after}
-use Rattle.zeb_register.proofs.Malformed.{beside_seen, beside_then, malformed_seen, malformed_then}
-use Rattle.zeb_change.proofs.Asked.{first_known, none_known}
+use Rattle.zeb_change.proofs.Cited.{◌≡◌, ◌∙◌, ◌∷◌, [], Ok, Result, rules, arith, Err, refl, sym, Int, state, HasCleanDisk, RegFault, Store, beside_seen, beside_then, malformed_seen, malformed_then}
+use Rattle.zeb_register.specs.declared.faults.RegFault.TheVariants.{Damaged}
 use Rattle.zeb_change.proofs.ChangeKeysContent.{keeps_then}
 use Rattle.zeb_change.proofs.CostLemmas.{due_nothing, due_written}
 use Rattle.zeb_change.proofs.LeadsToContent.{held_then, nothing_more, put_one}
@@ -27,7 +20,6 @@ loop-key-init g c = record {
   malformed = λ clean mode store. malformed_seen (state g.S.Store c.args.tx.now.conn.now).now (state g.S.Store c.args.tx.now.conn.now).now refl;
   beside = λ clean mode store. beside_seen (Int c.args.db.0 ∷ []) (state g.S.Store c.args.tx.now.conn.now).now (state g.S.Store c.args.tx.now.conn.now).now refl;
   no_work = λ none. refl;
-  room = λ clean mode store most spare has. has;
 }
 
 pub loop-key-preserved : goal.loop-key-preserved
@@ -67,13 +59,6 @@ loop-key-preserved g c =
           beside_then (Int db ∷ []) old.now.trees now.now.trees next.now.trees (c.loop-key.invariant.beside was mode store)
           (c.in_ok-write_key.ensures.beside clean (c.loop-key.invariant.stays was mode).mode (c.loop-key.invariant.written was mode store).0);
       no_work = λ none. c.write_key.ensures.no_work none ∙ c.loop-key.invariant.no_work none;
-      room = λ clean mode store most spare has.
-          let was : HasCleanDisk now = omega (arith, c.write_key.ensures.call.crash.clean) in
-          let stays = c.loop-key.invariant.stays was mode in
-          let so_far = c.loop-key.invariant.written was mode store in
-          let first = first_known most notes key now.now.trees c.loop-key.pending c.take_first.new.self spare out.first (c.loop-key.invariant.room was mode store most spare has) in
-          let left = c.in_ok-write_key.ensures.room first.own (first.rest + spare) first.puts first.fits clean stays.mode so_far.0 first.room in
-          first.leaves next.now.trees left.1;
     }
 
 pub returns-in_err-write_key-clause-call : goal.returns-in_err-write_key-clause-call
@@ -102,34 +87,6 @@ returns-in_err-write_key-clause-call g c =
           c.write_key.ensures.honest clean stays.mode so_far.0 fault held.behind one.0 held.storable held.held one.1;
       crash = search rules;
     }
-
-pub returns-in_err-write_key-clause-room : goal.returns-in_err-write_key-clause-room
-returns-in_err-write_key-clause-room g c most spare clean mode store has =
-    let old = state g.S.Store c.args.tx.now.conn.now in
-    let now = state g.S.Store c.loop-key.tx.conn.now in
-    let new = state g.S.Store c.write_key.new.tx.conn.now in
-    let key = c.in-Some.key in
-    let notes = c.in-Some.notes in
-    let out = c.in-Some.ensures.taken in
-    let given : c.from_residual.result ≡ Err c.in_err-write_key.field-0.0 = search rules in
-    let was : HasCleanDisk now = omega (arith, c.write_key.ensures.call.crash.clean) in
-    let stays = c.loop-key.invariant.stays was mode in
-    let so_far = c.loop-key.invariant.written was mode store in
-    let first = first_known most notes key now.now.trees c.loop-key.pending c.take_first.new.self spare out.first (c.loop-key.invariant.room was mode store most spare has) in
-    let one = c.write_key.ensures.room first.own (first.rest + spare) first.puts first.fits clean stays.mode so_far.0 first.room in (
-      (λ told.
-          let fault : c.write_key.result ≡ Err Store = c.in_err-write_key.was ∙ sym given ∙ told in
-          may_after old now new c.loop-key.invariant.crash stays.stays_open (λ _. one.0 fault)),
-      rw given tt,
-    )
-
-pub returns-clause-room : goal.returns-clause-room
-returns-clause-room g c most spare clean mode store has =
-    let now = state g.S.Store c.loop-key.tx.conn.now in
-    let none = c.in_default.ensures.none in (
-      (λ told. absurd (cc)),
-      none_known most now.now.trees c.loop-key.pending c.take_first.new.self spare none.0 none.1 (c.loop-key.invariant.room clean mode store most spare has),
-    )
 
 pub returns-clause-call : goal.returns-clause-call
 returns-clause-call g c = record {

@@ -1,12 +1,4 @@
-use Rattle.std.proofs.Common.{◌≡◌, ◌∷◌, [], ℕ, IsTrue, length}
-use Rattle.sqlite.specs.declared.types.Value.TheVariants.{Int}
-use Rattle.sqlite.specs.Held.{state}
-use Rattle.sqlite.specs.State.{HasCleanDisk, Survives}
-use Rattle.zeb_register.specs.Sound.{KeepsMalformed, KeepsRowsBeside}
-use Rattle.zeb_register.specs.Store.{IsStore}
-use Rattle.zeb_change.specs.Inside.{Continues}
-use Rattle.zeb_change.specs.Asked.{HasRoomFor}
-use Rattle.zeb_change.specs.Noted.{IsSettled}
+use Rattle.zeb_change.proofs.Cited.{◌≡◌, ◌∷◌, [], IsTrue, length, Int, state, HasCleanDisk, Survives, KeepsMalformed, KeepsRowsBeside, IsStore, Continues, IsSettled}
 use Rattle.zeb_change.proofs.writing.write_pending.Given as goal
 
 abbrev pub invariant-loop-key : goal.invariant-loop-key
@@ -21,7 +13,6 @@ invariant-loop-key g l =
       malformed : HasCleanDisk now → IsTrue old.in_transaction → IsStore old → KeepsMalformed old.now.trees now.now.trees;
       beside : HasCleanDisk now → IsTrue old.in_transaction → IsStore old → KeepsRowsBeside (Int l.db.0 ∷ []) old.now.trees now.now.trees;
       no_work : g.L.Layout.row_work ≡ 0 → l.work ≡ l.fn.work;
-      room : HasCleanDisk now → IsTrue old.in_transaction → IsStore old → (most spare : ℕ) → HasRoomFor most old.now.trees l.fn.pending spare → HasRoomFor most now.now.trees l.pending spare;
     }
 
 abbrev pub decreases-loop-key : goal.decreases-loop-key

@@ -1,12 +1,6 @@
-use Rattle.std.proofs.Common.{◌∷◌, [], refl, rules}
-use Rattle.sqlite.specs.declared.types.Value.TheVariants.{Int}
-use Rattle.sqlite.specs.Held.{state}
-use Rattle.zeb_register.proofs.Malformed.{beside_seen, malformed_seen}
+use Rattle.zeb_change.proofs.Cited.{◌∷◌, [], refl, rules, Int, state, beside_seen, malformed_seen}
 use Rattle.zeb_change.proofs.SettledChanges.{still_settled}
 use Rattle.zeb_change.proofs.writing.write_where_full.Goals as goal
-
-pub returns-clause-room : goal.returns-clause-room
-returns-clause-room g c most spare clean mode store has = ((λ told. absurd (cc)), has)
 
 pub returns-clause-call : goal.returns-clause-call
 returns-clause-call g c = record {

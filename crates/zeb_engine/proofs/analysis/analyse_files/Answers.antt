@@ -1,7 +1,5 @@
-use Rattle.std.proofs.Common.{◌≡◌, Ok, Err, rules, ap, inl, map}
+use Rattle.zeb_engine.proofs.Cited.{◌≡◌, Ok, Err, rules, ap, inl, map, analysed, analysis_refusal}
 use Rattle.zeb_analysis.specs.Analysing as analysing
-use Rattle.zeb_engine.specs.Answers.{analysed}
-use Rattle.zeb_change.specs.Outcomes.{analysis_refusal}
 use Rattle.zeb_engine.proofs.AnalysisRefusals.{fault_told, fault_unread}
 use Rattle.zeb_engine.proofs.analysis.analyse_files.Goals as goal
 

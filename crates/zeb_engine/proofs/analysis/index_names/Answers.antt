@@ -1,8 +1,4 @@
-use Rattle.std.proofs.Common.{◌≡◌, ◌∙◌, ◌++◌, ◌∷◌, ◌<◌, [], rules, arith, ap, ap₂, sym, map, length, get_or, slice_get, string_bytes}
-use Rattle.std.specs.Prelude.{unwrap_or}
-use Rattle.std.proofs.lemmas.List.{take_more, map-append}
-use Rattle.std.proofs.lemmas.Option.{unwrap_or-slice_get}
-use Rattle.zeb_profile.specs.Indexes.{index_names}
+use Rattle.zeb_engine.proofs.Cited.{◌≡◌, ◌∙◌, ◌++◌, ◌∷◌, ◌<◌, [], rules, arith, ap, ap₂, sym, map, length, get_or, slice_get, string_bytes, unwrap_or, take_more, map-append, unwrap_or-slice_get, index_names}
 use Rattle.zeb_engine.proofs.analysis.index_names.Goals as goal
 
 pub loop-index-preserved : goal.loop-index-preserved

@@ -1,5 +1,4 @@
-use Rattle.std.proofs.Common.{◌≡◌, map, take, string_bytes}
-use Rattle.zeb_profile.specs.Indexes.{index_names}
+use Rattle.zeb_engine.proofs.Cited.{◌≡◌, map, take, string_bytes, index_names}
 use Rattle.zeb_engine.proofs.analysis.index_names.Given as goal
 
 abbrev pub invariant-loop-index : goal.invariant-loop-index

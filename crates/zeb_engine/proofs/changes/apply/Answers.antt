@@ -1,40 +1,14 @@
-use Rattle.std.proofs.Common.{rules, arith, ◌≡◌, ◌∙◌, ◌≤◌, ◌<◌, ℕ, List, length, inr, pos, Result, Ok, Err, inl, refl, sym, ap, subst, subst₂}
-use Rattle.std.specs.List.{flat_map}
-use Rattle.sqlite.specs.Held.{state}
-use Rattle.sqlite.specs.Order.{Row}
-use Rattle.sqlite.specs.State.{HasCleanDisk, KeepsCommit}
-use Rattle.zeb_marc.specs.Splits.{Split}
-use Rattle.zeb_register.specs.Catalog.{PutsDatabase}
-use Rattle.zeb_register.specs.Store.{Changes, databases_tree}
-use Rattle.zeb_change.specs.declared.refusals.Refusal.{Refusal}
-use Rattle.zeb_change.specs.declared.refusals.Refusal.TheVariants.{Damaged, ReadFault, Store}
-use Rattle.zeb_change.specs.Elders.{AllFindWhole, PassesOn}
-use Rattle.zeb_change.specs.Folding.{at_first, Progress, splits_of}
-use Rattle.zeb_change.specs.Outcomes.{register_refusal}
-use Rattle.zeb_change.specs.Reasons.{IsRefusedFor, LosesNamedAlone}
-use Rattle.zeb_change.specs.UnderWay.{IsFolded}
-use Rattle.zeb_change.proofs.TransactionLemmas.{kept_then, goes_on}
-use Rattle.zeb_change.proofs.UnderWay.{fault_fails}
-use Rattle.zeb_image.specs.NameOf.{name_bytes}
-use Rattle.zeb_engine.specs.declared.replies.Reply.{Reply}
+use Rattle.zeb_engine.proofs.Cited.{rules, arith, ◌≡◌, ◌∙◌, ◌≤◌, ◌<◌, ℕ, length, pos, Result, Ok, Err, inl, refl, sym, ap, subst, subst₂, flat_map, state, HasCleanDisk, KeepsCommit, Split, PutsDatabase, Changes, databases_tree, Refusal, Damaged, ReadFault, AllFindWhole, PassesOn, at_first, Progress, splits_of, register_refusal, IsRefusedFor, LosesNamedAlone, IsFolded, kept_then, goes_on, fault_fails, name_bytes, Reply, HasNumbersTo, MayBegin, comes_to, last_of, ReachesOutcome, version_of}
 use Rattle.zeb_engine.specs.declared.replies.Reply.TheVariants as reply
-use Rattle.zeb_engine.specs.AnyTables.{HasNumbersTo}
-use Rattle.zeb_engine.specs.PrivateChanging.{MayBegin, comes_to, last_of}
-use Rattle.zeb_engine.specs.PrivateWorks.{ReachesOutcome}
 use Rattle.zeb_engine.proofs.ChangeWay.{change_begun, change_done, change_led, change_refused, change_way, under_change}
 use Rattle.zeb_engine.proofs.NoDamageAnswered.{failure_honest}
 use Rattle.zeb_engine.proofs.WriteSteps.{Leads}
-use Rattle.zeb_register.proofs.Causes.{may_after}
-use Rattle.zeb_register.proofs.TakenRowids.{has_less}
-use Rattle.zeb_change.proofs.RecordRoom.{not_refused, one_refusal, only_store, rowids_same}
+use Rattle.zeb_engine.proofs.OneRefusal.{one_refusal}
 use Rattle.zeb_engine.proofs.ChangeElders.{begins_at, few_elder, put_elder, put_elders, put_leaves, put_named}
-use Rattle.zeb_engine.proofs.ChangeReasons.{fault_reasons, few_reasons, put_reasons}
-use Rattle.zeb_engine.proofs.ChangeNumbers.{begins_sound, failing_so, few_ready, few_unread, system_numbers}
-use Rattle.zeb_engine.proofs.ChangeSteps.{kept_records}
-use Rattle.zeb_engine.proofs.ChangeRoom.{begin_below, room_behind, row_served}
+use Rattle.zeb_engine.proofs.ChangeReasons.{fault_reasons, put_reasons}
+use Rattle.zeb_engine.proofs.ChangeNumbers.{begins_sound, only_damaged}
 use Rattle.zeb_engine.proofs.OverTables.{fault_few}
 use Rattle.zeb_engine.proofs.changes.apply.Goals as goal
-use Rattle.zeb_register.specs.Formats.{version_of}
 
 -- ---- it can't begin
 
@@ -45,14 +19,14 @@ returns-in_err-database-clause-works g c = λ clean inside opened texts told fin
     let change = c.args.change.now in
     let format = g.L.Layout.format in
     let name = name_bytes change.name.now in
-    let why = c.in_err-database.field-0.0 in
-    let result : c.from_residual.result ≡ Err why = search rules in
+    let fault = c.in_err-database.field-0.0 in
+    let result : c.from_residual.result ≡ Err (register_refusal fault) = search rules in
     let kept : KeepsCommit old new = c.in_err-database.ensures.call.err clean inside in
     subst (ReachesOutcome (MayBegin (version_of format) change.setting name change.found) (comes_to (version_of format) change.setting name texts) old new) (sym result) (
       kept,
       λ before known sees.
           let at = sees opened in
-          inl (failing_so why c.in_err-database.ensures.few (λ is.
+          inl (fault_fails fault (λ is.
           begins_sound format change c.is_of_some_text.ensures before old at.1 (known opened) c.as_str-name.result.now c.last-last.result c.as_str-name.ensures c.last-last.ensures
           (c.in_err-database.ensures.honest clean inside at.0 (ap Err is)))),
     )
@@ -61,24 +35,12 @@ pub returns-in_err-database-clause-honest : goal.returns-in_err-database-clause-
 returns-in_err-database-clause-honest g c clean inside before known store image =
     let old = state g.S.Store c.args.tx.now.conn.now in
     let change = c.args.change.now in
-    let why = c.in_err-database.field-0.0 in
-    let result : c.from_residual.result ≡ Err why = search rules in
+    let fault = c.in_err-database.field-0.0 in
+    let result : c.from_residual.result ≡ Err (register_refusal fault) = search rules in
     λ damaged.
-    let is = one_refusal c.from_residual.result why Damaged result damaged in
+    let is = only_damaged fault (one_refusal c.from_residual.result (register_refusal fault) Damaged result damaged) in
     begins_sound g.L.Layout.format change c.is_of_some_text.ensures before old image known c.as_str-name.result.now c.last-last.result c.as_str-name.ensures c.last-last.ensures
     (c.in_err-database.ensures.honest clean inside store (ap Err is))
-
-pub returns-in_err-database-clause-fault : goal.returns-in_err-database-clause-fault
-returns-in_err-database-clause-fault g c file told =
-    let why = c.in_err-database.field-0.0 in
-    let result : c.from_residual.result ≡ Err why = search rules in
-    absurd (few_unread why c.in_err-database.ensures.few file (one_refusal c.from_residual.result why (ReadFault file) result told))
-
-pub returns-in_err-database-clause-ready : goal.returns-in_err-database-clause-ready
-returns-in_err-database-clause-ready g c =
-    let why = c.in_err-database.field-0.0 in
-    let result : c.from_residual.result ≡ Err why = search rules in
-    few_ready why c.in_err-database.ensures.few c.from_residual.result result
 
 -- ---- it has begun
 
@@ -229,82 +191,14 @@ returns-clause-work g c = λ clean inside texts told before known store image.
     let worked = c.in_ok-fold_files.ensures.work second on.mode texts told (version_of format) b.image.lists.records_of (at_first b.start) (record { last = c.last-last.ensures ∙ b.last_is; taken = c.new.ensures.0; inserted = c.new.ensures.1; updated = c.new.ensures.2; deleted = c.new.ensures.3 }) (change_way format change c.is_of_some_text.ensures before mid id b) in
     (worked.0, record { bases = b.bases; is_ready = b.is_ready; start = b.start; starts = b.starts; cost = worked.1 }, worked.2)
 
--- ---- where there is room
-
-pub returns-in_err-database-clause-room : goal.returns-in_err-database-clause-room
-returns-in_err-database-clause-room g c clean inside texts told fine store found room refused =
-    let change = c.args.change.now in
-    let trees = (state g.S.Store c.args.tx.now.conn.now).now.trees in
-    let why = c.in_err-database.field-0.0 in
-    let result : c.from_residual.result ≡ Err why = search rules in
-    let below = begin_below change.setting.kind (name_bytes change.name.now) change.found trees found room.last in
-    let is = one_refusal c.from_residual.result why Store result refused in
-    let short = subst (λ n. length n ≤ 64) (sym c.as_str-name.ensures) change.name.now.named.at_most_64 in
-    elim (c.in_err-database.ensures.refused (omega (arith, c.last-last.ensures, below)) clean inside store (ap Err is)) [
-      | inl cause ↦ cause
-      | inr hinders ↦ absurd (row_served c.as_str-name.result.now (pos c.last-last.result) trees short (has_less 1 2 databases_tree trees (omega arith) room.databases) hinders)
-    ]
-
-pub returns-in_err-fold_files-clause-room : goal.returns-in_err-fold_files-clause-room
-returns-in_err-fold_files-clause-room g c clean inside texts told fine store found room refused =
-    let old = state g.S.Store c.args.tx.now.conn.now in
-    let mid = state g.S.Store c.begin_change.new.tx.conn.now in
-    let new = state g.S.Store c.fold_files.new.tx.conn.now in
-    let change = c.args.change.now in
-    let id = c.in_ok-database.database.0 in
-    let refusal = c.in_err-fold_files.field-0.0 in
-    let result : c.from_residual-in_err-fold_files.result ≡ Err refusal = search rules in
-    let first : HasCleanDisk mid = omega (arith, c.fold_files.ensures.crash.clean) in
-    let on = c.in_ok-database.ensures.call.ok first inside in
-    let put = c.in_ok-database.ensures.put first inside store in
-    let has = room_behind change.setting.profile.now change.setting.kind (name_bytes change.name.now) texts id c.as_str-name.result.now (pos c.last-last.result) old mid put (c.in_ok-database.ensures.rowids first inside store) room in
-    let below = begin_below change.setting.kind (name_bytes change.name.now) change.found old.now.trees found room.last in
-    let given = system_numbers c.last-last.result mid.now.trees id (omega (arith, c.last-last.ensures, below))
-    (subst (λ (rows : List Row). HasNumbersTo c.last-last.result (λ tree. rows) id) (sym (kept_records id c.as_str-name.result.now (pos c.last-last.result) old mid put)) (c.in_ok-database.ensures.numbers first inside store)) in
-    let is = one_refusal c.from_residual-in_err-fold_files.result refusal Store result refused in
-    may_after old mid new c.begin_change.ensures.call.crash (λ _. on.is_open) (λ _.
-    c.in_err-fold_files.ensures.room clean on.mode put.layout texts told has.places has.rowids has.asks has.registers has.records has.few given (ap Err is))
-
-pub returns-in_err-database_put-clause-room : goal.returns-in_err-database_put-clause-room
-returns-in_err-database_put-clause-room g c clean inside texts told fine store found room refused =
-    let old = state g.S.Store c.args.tx.now.conn.now in
-    let mid = state g.S.Store c.begin_change.new.tx.conn.now in
-    let now = state g.S.Store c.fold_files.new.tx.conn.now in
-    let new = state g.S.Store c.database_put.new.tx.conn.now in
-    let change = c.args.change.now in
-    let id = c.in_ok-database.database.0 in
-    let trees = old.now.trees in
-    let broken = c.in_err-database_put.field-0.0 in
-    let result : c.from_residual-in_err-database_put.result ≡ Err (register_refusal broken) = search rules in
-    let second : HasCleanDisk now = omega (arith, c.database_put.ensures.call.crash.clean) in
-    let first : HasCleanDisk mid = omega (arith, c.fold_files.ensures.crash.clean) in
-    let on = c.in_ok-database.ensures.call.ok first inside in
-    let put = c.in_ok-database.ensures.put first inside store in
-    let further = c.in_ok-fold_files.ensures.stays second on.mode in
-    let has = room_behind change.setting.profile.now change.setting.kind (name_bytes change.name.now) texts id c.as_str-name.result.now (pos c.last-last.result) old mid put (c.in_ok-database.ensures.rowids first inside store) room in
-    let passes = c.in_ok-fold_files.ensures.passes second on.mode put.layout in
-    let is = only_store broken (one_refusal c.from_residual-in_err-database_put.result (register_refusal broken) Store result refused) in
-    let short = subst (λ n. length n ≤ 64) (sym c.as_str-name.ensures) change.name.now.named.at_most_64 in
-    let below = begin_below change.setting.kind (name_bytes change.name.now) change.found trees found room.last in
-    let few = c.in_ok-fold_files.ensures.lasts 999999999 (omega (arith, c.last-last.ensures, below)) (omega (arith, change.setting.limits.most_numbers)) in
-    may_after old mid new c.begin_change.ensures.call.crash (λ _. on.is_open) (λ _. may_after mid now new c.fold_files.ensures.crash further.stays_open (λ _.
-    elim (c.in_err-database_put.ensures.refused (omega (arith, few)) clean further.mode passes.store (ap Err is)) [
-      | inl cause ↦ cause
-      | inr hinders ↦ absurd (row_served c.as_str-name.result.now (pos c.fold_files.new.fold.progress.last) now.now.trees short
-          (rowids_same 1 databases_tree mid.now.trees now.now.trees passes.names.1 has.databases) hinders)
-    ]))
-
-pub returns-clause-room : goal.returns-clause-room
-returns-clause-room g c clean inside texts told fine store found room refused = absurd (not_refused _ Store refused)
-
 -- ---- what is kept under the first record's identifier
 
 pub returns-in_err-database-clause-elder : goal.returns-in_err-database-clause-elder
 returns-in_err-database-clause-elder g c clean inside store texts told fine =
     let change = c.args.change.now in
-    let why = c.in_err-database.field-0.0 in
-    let result : c.from_residual.result ≡ Err why = search rules in
-    few_elder change.setting.profile.now (name_bytes change.name.now) texts (state g.S.Store c.args.tx.now.conn.now).now.trees why c.from_residual.result result c.in_err-database.ensures.few
+    let fault = c.in_err-database.field-0.0 in
+    let result : c.from_residual.result ≡ Err (register_refusal fault) = search rules in
+    few_elder change.setting.profile.now (name_bytes change.name.now) texts (state g.S.Store c.args.tx.now.conn.now).now.trees (register_refusal fault) c.from_residual.result result (fault_few fault)
 
 pub returns-in_err-fold_files-clause-elder : goal.returns-in_err-fold_files-clause-elder
 returns-in_err-fold_files-clause-elder g c clean inside store texts told fine =
@@ -420,9 +314,9 @@ returns-clause-named g c clean inside store found texts told =
 pub returns-in_err-database-clause-reasons : goal.returns-in_err-database-clause-reasons
 returns-in_err-database-clause-reasons g c clean inside store found texts told fine =
     let change = c.args.change.now in
-    let why = c.in_err-database.field-0.0 in
-    let result : c.from_residual.result ≡ Err why = search rules in
-    few_reasons change.setting.profile.now change.setting.kind change.setting.limits (name_bytes change.name.now) texts (state g.S.Store c.args.tx.now.conn.now).now.trees why c.from_residual.result result c.in_err-database.ensures.few
+    let fault = c.in_err-database.field-0.0 in
+    let result : c.from_residual.result ≡ Err (register_refusal fault) = search rules in
+    fault_reasons change.setting.profile.now change.setting.kind change.setting.limits (name_bytes change.name.now) texts (state g.S.Store c.args.tx.now.conn.now).now.trees fault c.from_residual.result result
 
 pub returns-in_err-fold_files-clause-reasons : goal.returns-in_err-fold_files-clause-reasons
 returns-in_err-fold_files-clause-reasons g c clean inside store found texts told fine =

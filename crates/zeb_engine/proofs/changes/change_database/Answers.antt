@@ -1,30 +1,13 @@
-use Rattle.std.proofs.Common.{◌≡◌, [], Err, OnOk, rules, ap, arith, refl, sym, subst, inl, inr, Option, IsTrue}
-use Rattle.sqlite.specs.Effect.{Database as Contents}
-use Rattle.sqlite.specs.Held.{state}
-use Rattle.sqlite.specs.State.{HasCleanDisk}
+use Rattle.zeb_engine.proofs.Cited.{◌≡◌, [], Err, OnOk, rules, arith, refl, sym, subst, inl, inr, Option, IsTrue, state, HasCleanDisk, MayBeginUnder, comes_to, Base, name_bytes, splits_of, IsReady, Serves, conditions_of, version_of, BeginsWith, ElderOver, EldersOver, LeavesRows, LosesNamedOver, ReasonsOver}
 use Rattle.zeb_register.specs.declared.catalog.Database.{Database}
-use Rattle.zeb_change.specs.declared.refusals.Refusal.TheVariants.{Memory, Store}
-use Rattle.zeb_engine.specs.PrivateChanging.{MayBeginUnder, comes_to}
-use Rattle.zeb_change.specs.Base.{Base}
-use Rattle.zeb_image.specs.NameOf.{name_bytes}
-use Rattle.zeb_change.specs.Folding.{splits_of}
-use Rattle.zeb_engine.specs.PrivateWorks.{IsReady, Serves}
-use Rattle.zeb_change.specs.UnderWay.{conditions_of}
+use Rattle.zeb_change.specs.declared.refusals.Refusal.TheVariants.{Memory}
 use Rattle.zeb_engine.proofs.ChangeBegins.{begins_still, start_refused}
 use Rattle.zeb_engine.proofs.CommitCrashes.{survives_after}
 use Rattle.zeb_engine.proofs.NoDamageAnswered.{start_honest}
 use Rattle.zeb_engine.proofs.Readers.{no_file_failed}
 use Rattle.zeb_engine.proofs.ServesLemmas.{early_serves, opened_so}
-use Rattle.zeb_register.specs.Formats.{version_of}
-use Rattle.zeb_register.proofs.Calls.{store_same}
-use Rattle.zeb_register.proofs.Causes.{may_after}
-use Rattle.zeb_change.specs.Refused.{why_of}
-use Rattle.zeb_change.proofs.RecordRoom.{one_refusal}
-use Rattle.zeb_engine.specs.PrivateChanging.{BeginsWith}
-use Rattle.zeb_engine.specs.AnyTables.{ElderOver, EldersOver, LeavesRows, LosesNamedOver, ReasonsOver}
 use Rattle.zeb_engine.proofs.ChangeElders.{few_elder, missed_elder, said_after}
 use Rattle.zeb_engine.proofs.ChangeReasons.{few_reasons, missed_reasons}
-use Rattle.zeb_engine.proofs.ChangeRoom.{room_still}
 use Rattle.zeb_engine.proofs.changes.change_database.Goals as goal
 
 pub returns-in_err-found-clause-serves : goal.returns-in_err-found-clause-serves
@@ -109,37 +92,6 @@ returns-clause-work g c = λ clean texts told.
     let known = begins_still (version_of g.L.Layout.format) c.args.setting (name_bytes c.args.name.now) c.in_ok-found.found (state g.S.Store c.args.connection.now) mid before ready.0
     (c.in_ok-found.ensures.begins first opened (conditions_of (version_of g.L.Layout.format) c.args.setting) before ready.0 ready.1 keeps) (c.found_for.ensures.same first) keeps in
     works known.0 before known.1 known.2)
-
--- ---- where there is room
-
-pub returns-in_err-found-clause-room : goal.returns-in_err-found-clause-room
-returns-in_err-found-clause-room g c clean texts told fine store room refused =
-    let old = state g.S.Store c.args.connection.now in
-    let new = state g.S.Store c.found_for.new.connection in
-    let refusal = c.in_err-found.field-0.0 in
-    let result : c.from_residual.result ≡ Err refusal = search rules in
-    let is = one_refusal c.from_residual.result refusal Store result refused in
-    c.in_err-found.ensures.caused clean store (ap why_of is)
-
-pub returns-in_err-buffer-clause-room : goal.returns-in_err-buffer-clause-room
-returns-in_err-buffer-clause-room g c clean texts told fine store room refused =
-    let result : c.from_residual-in_err-buffer.result ≡ Err Memory = search rules in
-    let is = one_refusal c.from_residual-in_err-buffer.result Memory Store result refused in
-    absurd (cc)
-
-pub returns-clause-room : goal.returns-clause-room
-returns-clause-room g c clean texts told fine store room refused =
-    let name = name_bytes c.args.name.now in
-    let old = state g.S.Store c.args.connection.now in
-    let mid = state g.S.Store c.found_for.new.connection in
-    let new = state g.S.Store c.transact.new.connection in
-    let setting = c.args.setting in
-    let first : HasCleanDisk mid = omega (arith, c.transact.ensures.survives.clean) in
-    let opened = c.in_ok-found.ensures.found first in
-    let still = (c.found_for.ensures.same first opened.1).1 in
-    let there = subst (λ (d : Contents). BeginsWith setting.kind d.trees name c.in_ok-found.found) (sym still) (c.in_ok-found.ensures.row first store) in
-    may_after old mid new c.found_for.ensures.crash (λ _. opened.1) (λ _.
-    c.transact.ensures.room clean texts told fine there (store_same old mid still store) (room_still setting.profile.now setting.kind name texts old mid still room) refused)
 
 -- ---- what is kept under the first record's identifier
 

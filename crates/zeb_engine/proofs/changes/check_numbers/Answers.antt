@@ -1,18 +1,6 @@
-use Rattle.std.proofs.Common.{rules, arith, ◌≡◌, ◌+◌, ◌<◌, ◌^◌, ℕ, Option, Result, Err, inr, ap, sym, subst}
-use Rattle.sqlite.specs.Effect.{Database}
-use Rattle.sqlite.specs.Held.{state}
-use Rattle.sqlite.specs.State.{HasCleanDisk}
-use Rattle.zeb_register.specs.declared.RegFault.{RegFault}
-use Rattle.zeb_register.specs.declared.kept.Record.{Record}
-use Rattle.zeb_register.specs.Kept.{AreReadable, IsFirstFrom}
-use Rattle.zeb_register.proofs.Calls.{goes_keeps, on_err, reads_goes, store_same}
-use Rattle.zeb_register.proofs.Causes.{may_after}
-use Rattle.zeb_change.specs.declared.refusals.Refusal.{Refusal}
-use Rattle.zeb_change.specs.declared.refusals.Refusal.TheVariants.{Damaged, Store}
-use Rattle.zeb_change.specs.Outcomes.{register_refusal}
-use Rattle.zeb_change.proofs.RecordRoom.{one_refusal, only_store}
-use Rattle.zeb_engine.specs.PrivateNumbers.{AreGiven}
-use Rattle.zeb_engine.proofs.ChangeNumbers.{damage_so, damage_unstored, damage_wrong, fault_damages, if_done, kept_still, numbers_given, numbers_on, numbers_told, only_damaged, reads_keep, reads_then}
+use Rattle.zeb_engine.proofs.Cited.{rules, arith, ◌≡◌, Err, sym, subst, Database, state, HasCleanDisk, AreReadable, IsFirstFrom, goes_keeps, on_err, reads_goes, store_same, AreGiven}
+use Rattle.zeb_register.specs.declared.faults.RegFault.TheVariants.{Damaged}
+use Rattle.zeb_engine.proofs.ChangeNumbers.{damage_wrong, if_done, kept_still, numbers_given, numbers_on, numbers_told, reads_keep, reads_then}
 use Rattle.zeb_engine.proofs.changes.check_numbers.Goals as goal
 
 -- ---- what it does to the connection
@@ -74,21 +62,17 @@ returns-in_err-next-clause-honest g c clean inside store damaged = λ well.
 
 pub returns-in_err-first-clause-honest : goal.returns-in_err-first-clause-honest
 returns-in_err-first-clause-honest g c clean inside store damaged = λ well.
-    let fault = c.in_err-first.field-0.0 in
-    let result : c.from_residual-in_err-first.result ≡ Err (register_refusal fault) = search rules in
-    let is = only_damaged fault (one_refusal c.from_residual-in_err-first.result (register_refusal fault) Damaged result damaged) in
-    c.in_err-first.ensures.honest clean inside store (ap Err is) well.readable
+    let fault : c.record_from_inside.result ≡ Err Damaged = search rules in
+    c.record_from_inside.ensures.honest clean inside store fault well.readable
 
 pub returns-in_err-above-clause-honest : goal.returns-in_err-above-clause-honest
 returns-in_err-above-clause-honest g c clean inside store damaged = λ well.
     let old = state g.S.Store c.args.tx.now.conn.now in
     let mid = state g.S.Store c.record_from_inside.new.tx.conn.now in
-    let fault = c.in_err-above.field-0.0 in
-    let result : c.from_residual-in_err-above.result ≡ Err (register_refusal fault) = search rules in
-    let is = only_damaged fault (one_refusal c.from_residual-in_err-above.result (register_refusal fault) Damaged result damaged) in
+    let fault : c.record_from_inside-2.result ≡ Err Damaged = search rules in
     let one = c.in_ok-first.ensures.call.ok (omega (arith, clean, c.record_from_inside-2.ensures.call.crash.clean)) inside in
     let able = subst (λ (d : Database). AreReadable d.trees c.args.database.0) (sym one.now_is) well.readable in
-    c.in_err-above.ensures.honest clean one.mode (store_same old mid one.now_is store) (ap Err is) able
+    c.record_from_inside-2.ensures.honest clean one.mode (store_same old mid one.now_is store) fault able
 
 pub returns-clause-honest : goal.returns-clause-honest
 returns-clause-honest g c clean inside store damaged = λ well.
@@ -104,50 +88,3 @@ returns-clause-honest g c clean inside store damaged = λ well.
     (c.in_ok-above.ensures.value clean one.mode (store_same old mid one.now_is store) is.1) in
     damage_wrong c.check_found.result (¬ AreGiven c.in_ok-first.first c.in_ok-above.above) c.check_found.ensures.damaged damaged
     (numbers_given old.now.trees id c.args.last next is.0 c.in_ok-first.first c.in_ok-above.above least more well.numbers)
-
--- ---- when it fails
-
-pub returns-in_err-next-clause-refused : goal.returns-in_err-next-clause-refused
-returns-in_err-next-clause-refused g c clean inside store failed =
-    let why = c.in_err-next.field-0.0 in
-    let result : c.from_residual.result ≡ Err why = search rules in
-    let is : why ≡ Damaged = c.in_err-next.ensures.damaged.0 in
-    let other : why ≡ Store = one_refusal c.from_residual.result why Store result failed in
-    absurd (cc)
-
-pub returns-in_err-first-clause-refused : goal.returns-in_err-first-clause-refused
-returns-in_err-first-clause-refused g c clean inside store failed =
-    let fault = c.in_err-first.field-0.0 in
-    let result : c.from_residual-in_err-first.result ≡ Err (register_refusal fault) = search rules in
-    let is = only_store fault (one_refusal c.from_residual-in_err-first.result (register_refusal fault) Store result failed) in
-    c.in_err-first.ensures.refused clean inside store (ap Err is)
-
-pub returns-in_err-above-clause-refused : goal.returns-in_err-above-clause-refused
-returns-in_err-above-clause-refused g c clean inside store failed =
-    let old = state g.S.Store c.args.tx.now.conn.now in
-    let mid = state g.S.Store c.record_from_inside.new.tx.conn.now in
-    let new = state g.S.Store c.record_from_inside-2.new.tx.conn.now in
-    let fault = c.in_err-above.field-0.0 in
-    let result : c.from_residual-in_err-above.result ≡ Err (register_refusal fault) = search rules in
-    let is = only_store fault (one_refusal c.from_residual-in_err-above.result (register_refusal fault) Store result failed) in
-    let one = c.in_ok-first.ensures.call.ok (omega (arith, clean, c.record_from_inside-2.ensures.call.crash.clean)) inside in
-    may_after old mid new c.record_from_inside.ensures.call.crash (λ _. one.is_open) (λ _. c.in_err-above.ensures.refused clean one.mode (store_same old mid one.now_is store) (ap Err is))
-
-pub returns-clause-refused : goal.returns-clause-refused
-returns-clause-refused g c clean inside store failed =
-    absurd (damage_unstored c.check_found.result (¬ AreGiven c.in_ok-first.first c.in_ok-above.above) c.check_found.ensures.damaged failed)
-
-pub returns-in_err-first-clause-few : goal.returns-in_err-first-clause-few
-returns-in_err-first-clause-few g c =
-    let fault = c.in_err-first.field-0.0 in
-    let result : c.from_residual-in_err-first.result ≡ Err (register_refusal fault) = search rules in
-    rw result (fault_damages fault)
-
-pub returns-in_err-above-clause-few : goal.returns-in_err-above-clause-few
-returns-in_err-above-clause-few g c =
-    let fault = c.in_err-above.field-0.0 in
-    let result : c.from_residual-in_err-above.result ≡ Err (register_refusal fault) = search rules in
-    rw result (fault_damages fault)
-
-pub returns-clause-few : goal.returns-clause-few
-returns-clause-few g c = damage_so c.check_found.result (¬ AreGiven c.in_ok-first.first c.in_ok-above.above) c.check_found.ensures.damaged

@@ -1,23 +1,12 @@
-use Rattle.std.proofs.Common.{rules, inr, ◌≡◌, ◌≢◌, Option, Result, Err, IsTrue, ap, subst}
-use Rattle.sqlite.specs.Held.{state}
-use Rattle.zeb_register.specs.declared.RegFault.{RegFault}
+use Rattle.zeb_engine.proofs.Cited.{rules, inr, ◌≡◌, ◌≢◌, Option, Result, Err, IsTrue, ap, subst, state, RegFault, AreCountedDatabases, IsDatabaseOf, MayBeginUnder, Base, Update, base_named, name_bytes, register_refusal, start_of}
 use Rattle.zeb_register.specs.declared.RegFault.TheVariants as register
 use Rattle.zeb_register.specs.declared.catalog.Database.{Database}
-use Rattle.zeb_register.specs.Catalog.{AreCountedDatabases, IsDatabaseOf}
-use Rattle.zeb_engine.specs.PrivateChanging.{MayBeginUnder}
-use Rattle.zeb_change.specs.Base.{Base}
-use Rattle.zeb_change.specs.declared.settings.Kind.TheVariants.{Update}
-use Rattle.zeb_image.specs.Holdings.{base_named}
-use Rattle.zeb_image.specs.NameOf.{name_bytes}
-use Rattle.zeb_change.specs.Outcomes.{register_refusal}
-use Rattle.zeb_engine.specs.Steps.{start_of}
 use Rattle.zeb_engine.proofs.ChangeBegins.{update_begins}
 use Rattle.zeb_engine.proofs.ChangeElders.{begins_with}
 use Rattle.zeb_engine.proofs.ChangeReasons.{missed_for}
 use Rattle.zeb_engine.proofs.OverTables.{fault_few}
 use Rattle.zeb_engine.proofs.ListedDatabases.{counted, fault_meets, fault_misses}
 use Rattle.zeb_engine.proofs.ReadyImages.{image_some}
-use Rattle.zeb_engine.proofs.StoreCauses.{fault_caused, passed_cause}
 use Rattle.zeb_engine.proofs.changes.found_for.Goals as goal
 
 pub returns-in_err-database_of-in-Update-clause-begins : goal.returns-in_err-database_of-in-Update-clause-begins
@@ -42,13 +31,6 @@ returns-in_ok-database_of-in-Update-clause-begins g c = λ clean opened under be
     let still : IsTrue (state g.S.Store c.database_of.new.conn).is_open = (c.in_ok-database_of-in-Update.ensures.call.ok clean).0.is_open in
     let known = subst (λ n. IsDatabaseOf old.now.trees n found) c.as_str.ensures (c.in_ok-database_of-in-Update.ensures.value clean at.0.0) in
     rw c.in-Update.is (update_begins g.L.Layout.format under old before bases is at.0.1 name (IsTrue (state g.S.Store c.database_of.new.conn).is_open) still found known)
-
-pub returns-in_err-database_of-in-Update-clause-caused : goal.returns-in_err-database_of-in-Update-clause-caused
-returns-in_err-database_of-in-Update-clause-caused g c clean =
-    let fault = c.in_err-database_of-in-Update.field-0.0 in
-    let told : c.from_residual.result ≡ Err (register_refusal fault) = search rules in
-    passed_cause (state g.S.Store c.args.connection.now) (state g.S.Store c.database_of.new.conn) (register_refusal fault) c.from_residual.result told
-    (λ store. fault_caused fault (λ is. c.in_err-database_of-in-Update.ensures.refused clean store (ap Err is)))
 
 pub returns-in_err-database_of-in-Update-clause-misses : goal.returns-in_err-database_of-in-Update-clause-misses
 returns-in_err-database_of-in-Update-clause-misses g c clean store =

@@ -1,29 +1,8 @@
-use Rattle.std.proofs.Common.{◌≡◌, ◌≢◌, ◌∙◌, ℕ, List, map, Some, Result, Ok, Err, IsTrue, rules, arith, ap, refl, sym, subst, subst₂, inl, inr}
-use Rattle.sqlite.specs.Effect.{Database}
-use Rattle.sqlite.specs.Held.{Held, state}
-use Rattle.sqlite.specs.State.{HasCleanDisk}
-use Rattle.zeb_change.specs.declared.refusals.Refusal.{Refusal}
-use Rattle.zeb_change.specs.declared.refusals.Refusal.TheVariants.{Commit, Damaged, ReadFault, Store}
-use Rattle.zeb_engine.specs.declared.replies.Reply.{Reply}
-use Rattle.zeb_engine.specs.PrivateChanging.{BeginsWith, MayBeginUnder, MayBegin, comes_to}
-use Rattle.zeb_image.specs.Image.{IsImage}
-use Rattle.zeb_register.specs.Store.{IsStore}
-use Rattle.zeb_image.specs.NameOf.{name_bytes}
-use Rattle.zeb_change.specs.Reading.{NoneFailed}
-use Rattle.zeb_engine.specs.PrivateWorks.{Serves}
-use Rattle.zeb_change.specs.UnderWay.{conditions_of}
+use Rattle.zeb_engine.proofs.Cited.{◌≡◌, ◌≢◌, ◌∙◌, ℕ, List, map, Some, Result, Ok, Err, IsTrue, rules, arith, refl, sym, subst, subst₂, inl, inr, Database, Held, state, HasCleanDisk, Refusal, Damaged, ReadFault, Store, Reply, BeginsWith, MayBeginUnder, MayBegin, comes_to, IsImage, IsStore, name_bytes, NoneFailed, Serves, conditions_of, version_of, Costs, Holdings, ElderOver, EldersOver, LeavesRows, LosesNamedOver, ReasonsOver}
 use Rattle.zeb_engine.proofs.CommitCrashes.{told_survives}
 use Rattle.zeb_engine.proofs.ServesLemmas.{refusal_serves, reply_serves}
-use Rattle.zeb_register.specs.Formats.{version_of}
-use Rattle.zeb_engine.specs.Costs.{Costs}
-use Rattle.zeb_image.specs.Holdings.{Holdings}
-use Rattle.zeb_register.specs.Calls.{MayRefuse}
-use Rattle.zeb_change.proofs.RecordRoom.{not_refused, one_refusal}
-use Rattle.zeb_engine.specs.Causes.{HasRoomToChange}
-use Rattle.zeb_engine.specs.AnyTables.{ElderOver, EldersOver, LeavesRows, LosesNamedOver, ReasonsOver}
 use Rattle.zeb_engine.proofs.ChangeElders.{found_elder, leaves_same}
 use Rattle.zeb_engine.proofs.ChangeReasons.{few_reasons}
-use Rattle.zeb_engine.proofs.WriteCauses.{may_later}
 use Rattle.zeb_engine.proofs.changes.transact.Goals as goal
 
 pub returns-in_err-reply-clause-serves : goal.returns-in_err-reply-clause-serves
@@ -115,36 +94,6 @@ returns-clause-work g c = λ clean opened texts told before known keeps.
     let began = subst (λ (held : Held _). (before : Holdings) → MayBeginUnder change.setting.kind name change.found k (state g.S.Store held).now.trees before → IsStore (state g.S.Store held) → IsImage (state g.S.Store held).now.trees before
     → Costs g.L.Layout.row_work k change.setting.kind name texts c.args.work.now c.apply.new.work before) begun worked in
     began before known (record { is = was.0.is; sound = was.0.sound; keyed = was.0.keyed }) was.1
-
--- ---- where there is room
-
-pub returns-in_err-reply-clause-room : goal.returns-in_err-reply-clause-room
-returns-in_err-reply-clause-room g c clean texts told fine found store room refused =
-    let begun = c.transaction-tx.ensures.begun in
-    let change = c.args.change.now in
-    let name = name_bytes change.name.now in
-    let end = c.drop-tx.new.self.0 in
-    let mid = state g.S.Store c.apply.new.tx.conn.now in
-    let late : HasCleanDisk (state g.S.Store end) = search rules in
-    let same : end ≡ c.connection-1.given.0 = search rules in
-    let refusal = c.in_err-reply.field-0.0 in
-    let result : c.from_residual.result ≡ Err refusal = search rules in
-    let is = one_refusal c.from_residual.result refusal Store result refused in
-    let said = c.in_err-reply.ensures.room (omega (arith, c.drop-tx.ensures.survives.clean)) (rw begun refl) texts told fine in
-    let in_room = subst (λ (held : Held _). IsStore (state g.S.Store held) → BeginsWith change.setting.kind (state g.S.Store held).now.trees name change.found
-    → HasRoomToChange change.setting.profile.now change.setting.kind name texts (state g.S.Store held).now.trees → ◌≡◌ {A = Result Reply Refusal} (Err refusal) (Err Store) → MayRefuse (state g.S.Store held) mid) begun said in
-    subst (λ h. MayRefuse (state g.S.Store c.args.connection.now) (state g.S.Store h)) same
-    (may_later (state g.S.Store c.args.connection.now) mid (state g.S.Store end) c.drop-tx.ensures.survives.counts
-    (in_room (record { is = store.is; sound = store.sound; keyed = store.keyed }) found room (ap Err is)))
-
-pub returns-in_err-commit-clause-room : goal.returns-in_err-commit-clause-room
-returns-in_err-commit-clause-room g c clean texts told fine found store room refused =
-    let result : c.from_residual-in_err-commit.result ≡ Err Commit = search rules in
-    let is = one_refusal c.from_residual-in_err-commit.result Commit Store result refused in
-    absurd (cc)
-
-pub returns-clause-room : goal.returns-clause-room
-returns-clause-room g c clean texts told fine found store room refused = absurd (not_refused _ Store refused)
 
 -- ---- what is kept under the first record's identifier
 
@@ -253,8 +202,8 @@ returns-in_err-reply-clause-reasons g c clean store found texts told fine =
 pub returns-in_err-commit-clause-reasons : goal.returns-in_err-commit-clause-reasons
 returns-in_err-commit-clause-reasons g c clean store found texts told fine =
     let change = c.args.change.now in
-    let result : c.from_residual-in_err-commit.result ≡ Err Commit = search rules in
-    few_reasons change.setting.profile.now change.setting.kind change.setting.limits (name_bytes change.name.now) texts (state g.S.Store c.args.connection.now).now.trees Commit c.from_residual-in_err-commit.result result (inr (inl refl))
+    let result : c.from_residual-in_err-commit.result ≡ Err Store = search rules in
+    few_reasons change.setting.profile.now change.setting.kind change.setting.limits (name_bytes change.name.now) texts (state g.S.Store c.args.connection.now).now.trees Store c.from_residual-in_err-commit.result result (inr (inl refl))
 
 pub returns-clause-reasons : goal.returns-clause-reasons
 returns-clause-reasons g c clean store found texts told fine = tt

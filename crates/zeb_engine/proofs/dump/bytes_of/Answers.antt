@@ -1,16 +1,9 @@
-use Rattle.std.proofs.Common.{rules, ◌≡◌, ◌∙◌, ◌+◌, ◌<◌, ◌≤◌, ◌^◌, ◌++◌, Err, arith, ap, subst, sym}
-use Rattle.sqlite.specs.Held.{state}
-use Rattle.sqlite.specs.State.{HasCleanDisk}
-use Rattle.sqlite.specs.Tree.{Trees}
-use Rattle.zeb_register.proofs.Calls.{nothing_still, nothing_then}
-use Rattle.zeb_register.specs.Kept.{AreReadable, IsFirstFrom}
-use Rattle.zeb_change.specs.Outcomes.{register_refusal}
-use Rattle.zeb_engine.proofs.DumpAnswers.{all_readable, bytes_in, read_all, read_few, read_more}
+use Rattle.zeb_engine.proofs.Cited.{rules, ◌≡◌, ◌∙◌, ◌+◌, ◌<◌, ◌≤◌, ◌^◌, ◌++◌, Err, arith, ap, subst, sym, state, HasCleanDisk, Trees, nothing_still, nothing_then, store_same, may_after, AreReadable, IsFirstFrom}
+use Rattle.zeb_register.specs.declared.RegFault.TheVariants.{Damaged, Store}
+use Rattle.zeb_engine.proofs.DumpAnswers.{bytes_in, read_all, read_few, read_more}
 use Rattle.zeb_engine.proofs.DumpAnswers.{below, none_below}
-use Rattle.zeb_engine.proofs.ListedDatabases.{fault_fails, fault_or_damage}
 use Rattle.zeb_engine.proofs.ReadingOn.{ReadTo, none_left, read_next, read_none, read_stored, read_whole}
 use Rattle.zeb_engine.proofs.Showing.{still_shows}
-use Rattle.zeb_engine.proofs.StoreCauses.{LeavesAll, fault_after}
 use Rattle.zeb_engine.proofs.dump.bytes_of.Goals as goal
 use Rattle.zeb_engine.proofs.dump.bytes_of.Goals.{else-loop-turn-test, then-loop-turn-test+in_ok-record+in_default}
 
@@ -23,16 +16,6 @@ loop-turn-init g c = record {
   told = λ clean trees shows was. (omega arith, subst (ReadTo trees c.args.database.0 0) (sym c.new-bytes.ensures.items) (read_none trees c.args.database.0));
   read = λ clean trees shows was records keeps. (omega arith, omega arith, c.new-bytes.ensures.items ∙ sym (ap bytes_in (none_below records)));
 }
-
-pub returns-in_err-record-clause-failed : goal.returns-in_err-record-clause-failed
-returns-in_err-record-clause-failed g c clean trees shows was records keeps =
-    let old = state g.S.Store c.args.connection.now in
-    let now = state g.S.Store c.loop-turn.connection in
-    let first : HasCleanDisk now = omega (arith, c.record_from.ensures.call.crash.clean) in
-    let at = still_shows old now trees (c.loop-turn.invariant.same first) shows (c.loop-turn.invariant.open_still first was) in
-    let fault = c.in_err-record.field-0.0 in
-    let told : c.from_residual.result ≡ Err (register_refusal fault) = search rules in
-    rw told (fault_fails fault (λ is. c.in_err-record.ensures.honest clean at.0 (ap Err is) (subst (λ (t : Trees). AreReadable t c.args.database.0) (sym at.1) (all_readable trees c.args.database.0 records keeps))))
 
 pub loop-turn-preserved : goal.loop-turn-preserved
 loop-turn-preserved g c =
@@ -92,27 +75,6 @@ returns-clause-joined g c clean trees shows was records keeps =
           read_all trees c.args.database.0 records keeps c.loop-turn.next c.loop-turn.bytes.items (subst (IsFirstFrom trees c.args.database.0 c.loop-turn.next) w.in_default.is value) before.2
     ]
 
-pub returns-in_err-record-clause-caused : goal.returns-in_err-record-clause-caused
-returns-in_err-record-clause-caused g c clean =
-    let old = state g.S.Store c.args.connection.now in
-    let now = state g.S.Store c.loop-turn.connection in
-    let first : HasCleanDisk now = omega (arith, c.record_from.ensures.call.crash.clean) in
-    let fault = c.in_err-record.field-0.0 in
-    let told : c.from_residual.result ≡ Err (register_refusal fault) = search rules in
-    let leaves : LeavesAll old now = record { survives = c.loop-turn.invariant.crash; opened = c.loop-turn.invariant.open_still first; nothing = c.loop-turn.invariant.same first } in
-    rw told (fault_after old now (state g.S.Store c.record_from.new.conn) leaves fault clean c.in_err-record.ensures.refused)
-
-pub returns-in_err-record-clause-honest : goal.returns-in_err-record-clause-honest
-returns-in_err-record-clause-honest g c clean trees shows was =
-    let old = state g.S.Store c.args.connection.now in
-    let now = state g.S.Store c.loop-turn.connection in
-    let first : HasCleanDisk now = omega (arith, c.record_from.ensures.call.crash.clean) in
-    let at = still_shows old now trees (c.loop-turn.invariant.same first) shows (c.loop-turn.invariant.open_still first was) in
-    let fault = c.in_err-record.field-0.0 in
-    let told : c.from_residual.result ≡ Err (register_refusal fault) = search rules in
-    let hides = ¬ AreReadable trees c.args.database.0 in
-    rw told (fault_or_damage hides fault (λ is. subst (λ (t : Trees). ¬ AreReadable t c.args.database.0) at.1 (c.in_err-record.ensures.honest clean at.0 (ap Err is))))
-
 pub returns-clause-read : goal.returns-clause-read
 returns-clause-read g c clean trees shows was =
     let old = state g.S.Store c.args.connection.now in
@@ -132,3 +94,21 @@ returns-clause-read g c clean trees shows was =
           let value : next < 2 ^ 63 → IsFirstFrom trees db next w.in_ok-record.field-0 = λ small. subst (λ (t : Trees). IsFirstFrom t db next w.in_ok-record.field-0) at.1 (w.in_ok-record.ensures.value clean1 at.0 small) in
           read_whole trees db next c.loop-turn.bytes.items before.1 (λ n stored there. none_left trees db next n w.in_ok-record.field-0 w.in_default.is value stored there)
     ]
+
+pub returns-in_err-record-clause-honest : goal.returns-in_err-record-clause-honest
+returns-in_err-record-clause-honest g c clean trees shows was damaged =
+    let old = state g.S.Store c.args.connection.now in
+    let now = state g.S.Store c.loop-turn.connection in
+    let first : HasCleanDisk now = omega (arith, c.record_from.ensures.call.crash.clean) in
+    let at = still_shows old now trees (c.loop-turn.invariant.same first) shows (c.loop-turn.invariant.open_still first was) in
+    let fault : c.record_from.result ≡ Err Damaged = search rules in
+    subst (λ (t : Trees). ¬ AreReadable t c.args.database.0) at.1 (c.record_from.ensures.honest clean at.0 fault)
+
+pub returns-in_err-record-clause-caused : goal.returns-in_err-record-clause-caused
+returns-in_err-record-clause-caused g c clean store failed =
+    let old = state g.S.Store c.args.connection.now in
+    let now = state g.S.Store c.loop-turn.connection in
+    let first : HasCleanDisk now = omega (arith, c.record_from.ensures.call.crash.clean) in
+    let fault : c.record_from.result ≡ Err Store = search rules in
+    may_after old now (state g.S.Store c.record_from.new.conn) c.loop-turn.invariant.crash (c.loop-turn.invariant.open_still first)
+    (λ is_open. c.record_from.ensures.refused clean (store_same old now (c.loop-turn.invariant.same first is_open).1 store) fault)

@@ -1,12 +1,4 @@
-use Rattle.std.proofs.Common.{◌≡◌, ◌≤◌, false, List, IsTrue}
-use Rattle.std.specs.List.{flat_map}
-use Rattle.sqlite.specs.Held.{state}
-use Rattle.sqlite.specs.State.{HasCleanDisk, Survives}
-use Rattle.sqlite.specs.Tree.{Trees}
-use Rattle.zeb_register.specs.Calls.{ChangesNothing}
-use Rattle.zeb_change.specs.Base.{Kept}
-use Rattle.zeb_engine.specs.PrivateDumping.{KeepsBase}
-use Rattle.zeb_engine.specs.PrivateWorks.{ShowsStore}
+use Rattle.zeb_engine.proofs.Cited.{◌≡◌, ◌≤◌, false, List, IsTrue, flat_map, state, HasCleanDisk, Survives, Trees, ChangesNothing, Kept, KeepsBase, ShowsStore}
 use Rattle.zeb_engine.proofs.DumpAnswers.{below}
 use Rattle.zeb_engine.proofs.ReadingOn.{ReadTo}
 use Rattle.zeb_engine.proofs.dump.bytes_of.Given as goal

@@ -1,28 +1,13 @@
-use Rattle.std.proofs.Common.{rules, ◌≡◌, ◌∙◌, pos, Err, Ok, arith, refl, sym, ap, subst, inl, inr}
-use Rattle.sqlite.specs.Held.{state}
-use Rattle.sqlite.specs.State.{HasCleanDisk}
-use Rattle.sqlite.specs.Tree.{Trees}
-use Rattle.zeb_register.proofs.Calls.{nothing_then}
-use Rattle.zeb_register.specs.Kept.{AreReadable}
-use Rattle.zeb_register.specs.Store.{HasDatabase}
+use Rattle.zeb_engine.proofs.Cited.{rules, ◌≡◌, ◌∙◌, pos, Err, Ok, arith, refl, sym, ap, subst, inl, inr, state, HasCleanDisk, Trees, nothing_then, AreReadable, HasDatabase, Reply, Dumped, dumped, HidesRecords, DumpOver, DumpTells, conditions, register_refusal, name_bytes, dumped_by, dumped_in, Always, Serves, clean_before, version_of}
 use Rattle.zeb_register.specs.declared.catalog.Database.{Database}
-use Rattle.zeb_engine.specs.declared.replies.Reply.TheVariants.{Dumped}
-use Rattle.zeb_engine.specs.Answers.{dumped}
-use Rattle.zeb_engine.specs.AnyRefusals.{HidesRecords}
-use Rattle.zeb_engine.specs.AnyTables.{DumpOver, DumpTells}
-use Rattle.zeb_change.specs.Conditions.{conditions}
-use Rattle.zeb_image.specs.NameOf.{name_bytes}
-use Rattle.zeb_engine.specs.Steps.{dumped_by, dumped_in}
-use Rattle.zeb_engine.specs.PrivateWorks.{Always, Serves}
-use Rattle.zeb_engine.proofs.DumpAnswers.{Dumps, base_kept, dump_fails, dump_told, dump_unknown, unready_dumps}
+use Rattle.zeb_engine.proofs.DumpAnswers.{Dumps, all_readable, base_kept, dump_fails, dump_told, dump_unknown, unready_dumps}
 use Rattle.zeb_engine.proofs.HiddenRows.{hidden_after, hidden_of, misses_hidden, unready_hidden}
+use Rattle.zeb_engine.proofs.ListedDatabases.{fault_fails, fault_or_damage}
 use Rattle.zeb_engine.proofs.Showing.{still_shows}
-use Rattle.zeb_engine.proofs.StoreCauses.{look_caused, passed_cause, refusal_after, two_leave}
+use Rattle.zeb_engine.proofs.StoreCauses.{fault_after, look_caused, passed_cause, two_leave}
 use Rattle.zeb_engine.proofs.ReadyBases.{Tells, ready_base, ready_still}
-use Rattle.zeb_search.proofs.ReadLemmas.{clean_before}
 use Rattle.zeb_engine.proofs.dump.dump.Goals as goal
-use Rattle.zeb_register.specs.Formats.{version_of}
-use Rattle.zeb_engine.proofs.ReadyTexts.{passed_texts, passed_then}
+use Rattle.zeb_engine.proofs.ReadyTexts.{fault_never, passed_texts, passed_then}
 
 pub returns-in_err-check_ready-clause-ready : goal.returns-in_err-check_ready-clause-ready
 returns-in_err-check_ready-clause-ready g c clean = passed_texts (version_of g.L.Layout.format) c.args.profile.now (state g.S.Store c.args.connection.now) c.in_err-check_ready.field-0.0 c.from_residual.result (search rules) (c.in_err-check_ready.ensures.texts clean)
@@ -64,7 +49,7 @@ pub returns-in_err-bytes-clause-ready : goal.returns-in_err-bytes-clause-ready
 returns-in_err-bytes-clause-ready g c clean =
     let clean2 : HasCleanDisk (state g.S.Store c.existing_database.new.connection) = omega (arith, c.bytes_of.ensures.crash.clean) in
     let clean1 = clean_before (state g.S.Store c.check_ready.new.connection) (state g.S.Store c.existing_database.new.connection) c.existing_database.ensures.crash clean2 in
-    passed_then (version_of g.L.Layout.format) c.args.profile.now {X = Unit {0}} (state g.S.Store c.args.connection.now) tt (c.in_ok-check_ready.ensures.texts clean1) c.in_err-bytes.field-0.0 c.from_residual-in_err-bytes.result (search rules) c.in_err-bytes.ensures.ready
+    passed_then (version_of g.L.Layout.format) c.args.profile.now {X = Unit {0}} (state g.S.Store c.args.connection.now) tt (c.in_ok-check_ready.ensures.texts clean1) (register_refusal c.in_err-bytes.field-0.0) c.from_residual-in_err-bytes.result (search rules) (fault_never {T = Reply} c.in_err-bytes.field-0.0)
 
 pub returns-in_err-bytes-clause-serves : goal.returns-in_err-bytes-clause-serves
 returns-in_err-bytes-clause-serves g c clean limits before fits keeps =
@@ -73,12 +58,13 @@ returns-in_err-bytes-clause-serves g c clean limits before fits keeps =
     let s1 = state g.S.Store c.check_ready.new.connection in
     let clean2 : HasCleanDisk (state g.S.Store c.existing_database.new.connection) = omega (arith, c.bytes_of.ensures.crash.clean) in
     let it = ready_base k s0 s1 (state g.S.Store c.existing_database.new.connection) before c.existing_database.ensures.crash clean2 c.check_ready.ensures.same (λ first. c.in_ok-check_ready.ensures.ready first limits before keeps) c.existing_database.ensures.same keeps g.L.Layout.format (record { version_is = refl; sound = c.is_of_some_text.ensures }) (name_bytes c.args.name.now) c.in_ok-database.database c.in_ok-database.ensures.exists in
-    let refusal = c.in_err-bytes.field-0.0 in
-    let told : c.from_residual-in_err-bytes.result ≡ Err refusal = search rules in
+    let fault = c.in_err-bytes.field-0.0 in
+    let told : c.from_residual-in_err-bytes.result ≡ Err (register_refusal fault) = search rules in
     let s3 = state g.S.Store c.bytes_of.new.connection in
     let nothing = nothing_then s0 (state g.S.Store c.existing_database.new.connection) s3 it.still.nothing (c.bytes_of.ensures.same clean) in
-    subst (Dumps g.L.Layout.format k (name_bytes c.args.name.now) s0 s3 nothing before it.still.bases it.still.is keeps) (sym told) (dump_fails g.L.Layout.format k (name_bytes c.args.name.now) s0 s3 nothing before it.still.bases it.still.is keeps (Err refusal)
-    (c.in_err-bytes.ensures.failed clean s1.now.trees it.at.still.shows it.opened it.at.base.records (base_kept g.L.Layout.format c.args.profile.now s1.now.trees c.in_ok-database.database.id.0 it.at.base it.at.held)))
+    subst (Dumps g.L.Layout.format k (name_bytes c.args.name.now) s0 s3 nothing before it.still.bases it.still.is keeps) (sym told) (dump_fails g.L.Layout.format k (name_bytes c.args.name.now) s0 s3 nothing before it.still.bases it.still.is keeps (Err (register_refusal fault))
+    (fault_fails fault (λ is. c.in_err-bytes.ensures.honest clean s1.now.trees it.at.still.shows it.opened (ap Err is)
+    (all_readable s1.now.trees c.in_ok-database.database.id.0 it.at.base.records (base_kept g.L.Layout.format c.args.profile.now s1.now.trees c.in_ok-database.database.id.0 it.at.base it.at.held)))))
 
 pub returns-in_err-bytes-clause-caused : goal.returns-in_err-bytes-clause-caused
 returns-in_err-bytes-clause-caused g c clean =
@@ -87,8 +73,8 @@ returns-in_err-bytes-clause-caused g c clean =
     let clean2 : HasCleanDisk s2 = omega (arith, c.bytes_of.ensures.crash.clean) in
     let looked = two_leave s0 (state g.S.Store c.check_ready.new.connection) s2 clean2 c.check_ready.ensures.crash c.in_ok-check_ready.ensures.open c.check_ready.ensures.same c.existing_database.ensures.crash c.in_ok-database.ensures.found c.existing_database.ensures.same in
     let new = state g.S.Store c.bytes_of.new.connection in
-    let refusal = c.in_err-bytes.field-0.0 in
-    passed_cause s0 new refusal c.from_residual-in_err-bytes.result (search rules) (refusal_after s0 s2 new looked refusal (c.in_err-bytes.ensures.caused clean))
+    let fault = c.in_err-bytes.field-0.0 in
+    passed_cause s0 new (register_refusal fault) c.from_residual-in_err-bytes.result (search rules) (fault_after s0 s2 new looked fault clean c.in_err-bytes.ensures.caused)
 
 pub returns-clause-ready : goal.returns-clause-ready
 returns-clause-ready g c clean =
@@ -145,9 +131,10 @@ returns-in_err-bytes-clause-tables g c clean store texts =
     let database = c.in_ok-database.database in
     let name = name_bytes c.args.name.now in
     let row = subst (λ (t : Trees). HasDatabase t database.id.0 name (pos database.last)) first.1 (c.in_ok-database.ensures.row clean2 first.0) in
-    let refusal = c.in_err-bytes.field-0.0 in
-    let told : c.from_residual-in_err-bytes.result ≡ Err refusal = search rules in
-    rw told (hidden_of (DumpOver name) (λ t id. ¬ AreReadable t id) name s0.now.trees database.id.0 (pos database.last) row refusal (c.in_err-bytes.ensures.honest clean s0.now.trees at2 opened.1))
+    let fault = c.in_err-bytes.field-0.0 in
+    let told : c.from_residual-in_err-bytes.result ≡ Err (register_refusal fault) = search rules in
+    rw told (hidden_of (DumpOver name) (λ t id. ¬ AreReadable t id) name s0.now.trees database.id.0 (pos database.last) row (register_refusal fault)
+    (fault_or_damage (¬ AreReadable s0.now.trees database.id.0) fault (λ is. c.in_err-bytes.ensures.honest clean s0.now.trees at2 opened.1 (ap Err is))))
 
 pub returns-clause-tables : goal.returns-clause-tables
 returns-clause-tables g c clean store texts =

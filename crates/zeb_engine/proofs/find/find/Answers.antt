@@ -1,29 +1,5 @@
-use Rattle.std.proofs.Common.{rules, ◌≡◌, ℕ, pos, List, Bor, length, map, Err, Ok, IsTrue, arith, refl, sym, ap, subst, inl, inr, string_bytes}
-use Rattle.sqlite.specs.Held.{state}
-use Rattle.sqlite.specs.State.{HasCleanDisk}
-use Rattle.sqlite.specs.Tree.{Trees}
-use Rattle.zeb_profile.specs.declared.directives.Directive.{Directive}
-use Rattle.zeb_query.specs.Plans.{plan_value}
-use Rattle.zeb_query.specs.Grammar.{query_value}
-use Rattle.zeb_register.specs.Content.{posted}
-use Rattle.zeb_register.specs.Formats.{Format, version_of}
-use Rattle.zeb_register.specs.Store.{HasDatabase}
+use Rattle.zeb_engine.proofs.Cited.{rules, ◌≡◌, ℕ, pos, List, Bor, length, map, Err, Ok, IsTrue, arith, refl, sym, ap, subst, inl, inr, string_bytes, state, HasCleanDisk, Trees, Directive, plan_value, query_value, posted, Format, version_of, HasDatabase, AreNumbers, has_ident_in, HoldsIn, NamesReadable, ArePlanRowsSound, Question, Reply, Base, conditions, OfDatabase, Answer, FindOver, FindTells, HidesUnsaid, SoundHits, asked_of, name_bytes, query_refusal, register_refusal, FindAnswers, Meets}
 use Rattle.zeb_register.specs.declared.catalog.Database.{Database}
-use Rattle.zeb_search.specs.Lists.{AreNumbers}
-use Rattle.zeb_search.specs.Registers.{has_ident_in, HoldsIn, NamesReadable}
-use Rattle.zeb_search.specs.SearchRows.{ArePlanRowsSound}
-use Rattle.zeb_engine.specs.declared.find.Question.{Question}
-use Rattle.zeb_engine.specs.declared.replies.Reply.{Reply}
-use Rattle.zeb_change.specs.Base.{Base}
-use Rattle.zeb_change.specs.Conditions.{conditions}
-use Rattle.zeb_engine.specs.Alone.{OfDatabase}
-use Rattle.zeb_engine.specs.Answers.{Answer}
-use Rattle.zeb_engine.specs.AnyTables.{FindOver, FindTells, HidesUnsaid, SoundHits}
-use Rattle.zeb_engine.specs.Finding.{asked_of}
-use Rattle.zeb_image.specs.NameOf.{name_bytes}
-use Rattle.zeb_change.specs.Outcomes.{query_refusal, register_refusal}
-use Rattle.zeb_engine.specs.Steps.{FindAnswers}
-use Rattle.zeb_change.specs.Refused.{Meets}
 use Rattle.zeb_engine.proofs.ReadyQueries.{existing_ends, query_ends, refused_ends}
 use Rattle.zeb_engine.proofs.FindAnswers.{asked_ends, asked_kept, found_ends, hits_answered, idents_readable, met_view, plan_ends}
 use Rattle.zeb_engine.proofs.ListedDatabases.{fault_fails}

@@ -1,18 +1,5 @@
-use Rattle.std.proofs.Common.{rules, ◌≡◌, ◌<◌, ◌^◌, ◌∙◌, ◌++◌, ◌∷◌, [], ℕ, List, map, string_bytes, Option, Result, Err, String, arith, ap, get_or, inr, refl, subst, sym, take, pos, ◌+◌}
-use Rattle.std.specs.declared.alloc.Global.{Global}
-use Rattle.sqlite.specs.Held.{state}
-use Rattle.sqlite.specs.State.{HasCleanDisk}
-use Rattle.sqlite.specs.Tree.{Trees}
-use Rattle.zeb_register.specs.Kept.{IsIdentOf, AreReadableIdents}
-use Rattle.zeb_register.specs.declared.RegFault.{RegFault}
+use Rattle.zeb_engine.proofs.Cited.{rules, ◌≡◌, ◌<◌, ◌^◌, ◌∙◌, ◌++◌, ◌∷◌, [], ℕ, List, map, string_bytes, Option, Result, Err, String, arith, ap, get_or, inr, refl, subst, sym, take, pos, ◌+◌, Global, state, HasCleanDisk, Trees, IsIdentOf, AreReadableIdents, RegFault, map-append, has_ident_in, Hit, HidesOne, AreShown, register_refusal, take_whole}
 use Rattle.zeb_register.specs.declared.RegFault.TheVariants as register
-use Rattle.std.proofs.lemmas.List.{map-append}
-use Rattle.zeb_search.specs.Registers.{has_ident_in}
-use Rattle.zeb_engine.specs.declared.replies.Hit.{Hit}
-use Rattle.zeb_engine.specs.Alone.{HidesOne}
-use Rattle.zeb_engine.specs.Finding.{AreShown}
-use Rattle.zeb_change.specs.Outcomes.{register_refusal}
-use Rattle.zeb_query.proofs.HoldingLemmas.{take_whole}
 use Rattle.zeb_engine.proofs.ListedDatabases.{fault_or_damage}
 use Rattle.zeb_engine.proofs.Showing.{hidden_shown, ident_stored, none_shown, shown_more, still_shows}
 use Rattle.zeb_engine.proofs.StoreCauses.{LeavesAll, fault_after}

@@ -1,11 +1,4 @@
-use Rattle.std.proofs.Common.{◌≡◌, ◌≤◌, false, length, map, string_bytes, take, vec_capacity, IsTrue}
-use Rattle.sqlite.specs.Held.{state}
-use Rattle.sqlite.specs.State.{HasCleanDisk, Survives}
-use Rattle.sqlite.specs.Tree.{Trees}
-use Rattle.zeb_register.specs.Calls.{ChangesNothing}
-use Rattle.zeb_search.specs.Registers.{has_ident_in}
-use Rattle.zeb_engine.specs.Finding.{AreShown}
-use Rattle.zeb_engine.specs.PrivateWorks.{ShowsStore}
+use Rattle.zeb_engine.proofs.Cited.{◌≡◌, ◌≤◌, false, length, map, string_bytes, take, vec_capacity, IsTrue, state, HasCleanDisk, Survives, Trees, ChangesNothing, has_ident_in, AreShown, ShowsStore}
 use Rattle.zeb_engine.proofs.find.show.Given as goal
 
 abbrev pub invariant-loop-number : goal.invariant-loop-number

@@ -1,14 +1,6 @@
-use Rattle.std.proofs.Common.{◌≡◌, codes, string_bytes, Bool, false, Err, None, List, ℕ, rules, arith, subst, subst₂}
-use Rattle.sqlite.specs.Held.{state}
-use Rattle.zeb_register.specs.Formats.{version_of}
-use Rattle.zeb_change.specs.declared.refusals.Refusal.TheVariants.{OldFormat, ProfileChanged}
-use Rattle.zeb_engine.specs.PrivateLooking.{FindsStanding, RefusesVersion, TellsStanding, TellsText}
-use Rattle.zeb_engine.specs.declared.looks.Standing.{Standing}
+use Rattle.zeb_engine.proofs.Cited.{◌≡◌, codes, string_bytes, Bool, false, Err, None, List, ℕ, rules, arith, subst, subst₂, state, version_of, OldFormat, ProfileChanged, FindsStanding, RefusesVersion, TellsStanding, TellsText, Standing, KeepsText, RefusesUpgrade, refl}
 use Rattle.std.specs.Prelude.{Some}
-use Rattle.zeb_engine.specs.Readiness.{KeepsText, RefusesUpgrade}
 use Rattle.zeb_engine.proofs.TextLooks.{look_settles, one_readable, profile_as_layout, standing_changed, standing_none, text_ends, text_settles, upgradable_so}
-use Rattle.std.proofs.Common.{refl}
-use Rattle.zeb_engine.proofs.StoreCauses.{look_caused, passed_cause}
 use Rattle.zeb_engine.proofs.looks.check_layout.Goals as goal
 
 pub returns-in_default-clause-look : goal.returns-in_default-clause-look
@@ -48,12 +40,3 @@ returns-clause-look g c clean =
     c.in_ok-keeps_text.field-0 (c.in_ok-keeps_text.ensures.look clean) (Err ProfileChanged)
     (λ kept tells. standing_changed own profile (state g.S.Store c.args.connection.now).now.trees (string_bytes found) kept c.in-Some.standing is
     (subst₂ (λ (t : List ℕ) (b : Bool). TellsText (codes "profile") t (state g.S.Store c.args.connection.now).now.trees b) c.text.ensures no tells))
-
-pub returns-in_err-version-clause-caused : goal.returns-in_err-version-clause-caused
-returns-in_err-version-clause-caused g c clean = passed_cause (state g.S.Store c.args.connection.now) (state g.S.Store c.kept_version.new.connection) c.in_err-version.field-0.0 c.from_residual.result (search rules) (c.in_err-version.ensures.caused clean)
-
-pub returns-in_err-keeps_text-clause-caused : goal.returns-in_err-keeps_text-clause-caused
-returns-in_err-keeps_text-clause-caused g c clean =
-    let why = c.in_err-keeps_text.field-0.0 in
-    look_caused (state g.S.Store c.args.connection.now) (state g.S.Store c.kept_version.new.connection) (state g.S.Store c.keeps_text.new.connection) c.keeps_text.ensures.crash clean c.kept_version.ensures.crash
-    (λ first. (c.in_ok-version.ensures.look first).found) (λ first. (c.in_ok-version.ensures.look first).same) why c.from_residual-in_err-keeps_text.result (search rules) (c.in_err-keeps_text.ensures.caused clean)

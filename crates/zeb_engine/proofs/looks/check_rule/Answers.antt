@@ -1,17 +1,7 @@
-use Rattle.std.proofs.Common.{◌≡◌, ◌∙◌, codes, string_bytes, not, false, Some, Err, rules, arith, sym, ap, subst}
-use Rattle.std.specs.Option.{option_map}
-use Rattle.std.specs.Str.{bytes_eq}
-use Rattle.sqlite.specs.Held.{state}
-use Rattle.zeb_profile.specs.Canonical.{pattern_text}
-use Rattle.zeb_profile.specs.Indexes.{identifier_pattern}
-use Rattle.zeb_register.specs.Formats.{version_of}
-use Rattle.zeb_change.specs.declared.refusals.Refusal.TheVariants.{IdentifierRuleChanged, OldFormat}
-use Rattle.zeb_engine.specs.PrivateLooking.{RefusesVersion, TellsText}
-use Rattle.zeb_engine.specs.Readiness.{IsReadyToReindex, KeepsText, RefusesReindex}
+use Rattle.zeb_engine.proofs.Cited.{◌≡◌, ◌∙◌, codes, string_bytes, not, false, Some, Err, rules, arith, sym, ap, subst, option_map, bytes_eq, state, pattern_text, identifier_pattern, version_of, IdentifierRuleChanged, OldFormat, RefusesVersion, TellsText, IsReadyToReindex, KeepsText, RefusesReindex}
 use Rattle.zeb_engine.proofs.TextLooks.{look_settles, one_readable, pattern_as_rule, rule_differs, text_ends, text_settles}
 use Rattle.zeb_engine.proofs.Ready.{texts_agree, texts_differ}
 use Rattle.zeb_engine.proofs.ReadyTexts.{other_text}
-use Rattle.zeb_engine.proofs.StoreCauses.{look_caused, passed_cause}
 use Rattle.zeb_engine.proofs.looks.check_rule.Goals as goal
 
 pub returns-then-ne-clause-look : goal.returns-then-ne-clause-look
@@ -56,12 +46,3 @@ returns-clause-look g c clean =
     (codes "identifier") text (λ trees x. IsReadyToReindex own profile trees) (RefusesReindex own profile)
     c.in_ok-keeps_text.field-0 (c.in_ok-keeps_text.ensures.look clean) (Err IdentifierRuleChanged)
     (λ kept tells. rule_differs own profile trees text pattern (subst (KeepsText trees (codes "version")) same kept) (subst (TellsText (codes "identifier") text trees) no tells))
-
-pub returns-in_err-version-clause-caused : goal.returns-in_err-version-clause-caused
-returns-in_err-version-clause-caused g c clean = passed_cause (state g.S.Store c.args.connection.now) (state g.S.Store c.kept_version.new.connection) c.in_err-version.field-0.0 c.from_residual.result (search rules) (c.in_err-version.ensures.caused clean)
-
-pub returns-in_err-keeps_text-clause-caused : goal.returns-in_err-keeps_text-clause-caused
-returns-in_err-keeps_text-clause-caused g c clean =
-    let why = c.in_err-keeps_text.field-0.0 in
-    look_caused (state g.S.Store c.args.connection.now) (state g.S.Store c.kept_version.new.connection) (state g.S.Store c.keeps_text.new.connection) c.keeps_text.ensures.crash clean c.kept_version.ensures.crash
-    (λ first. (c.in_ok-version.ensures.look first).found) (λ first. (c.in_ok-version.ensures.look first).same) why c.from_residual-in_err-keeps_text.result (search rules) (c.in_err-keeps_text.ensures.caused clean)

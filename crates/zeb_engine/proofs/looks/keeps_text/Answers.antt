@@ -1,13 +1,5 @@
-use Rattle.std.proofs.Common.{◌≡◌, ◌∙◌, Option, Result, Ok, Err, String, ap, false, rules, string_bytes}
-use Rattle.std.specs.declared.alloc.Global.{Global}
-use Rattle.std.specs.Str.{bytes_eq}
-use Rattle.sqlite.specs.Held.{state}
-use Rattle.zeb_register.specs.declared.RegFault.{RegFault}
-use Rattle.zeb_register.specs.declared.RegFault.TheVariants as register
-use Rattle.zeb_change.specs.Outcomes.{register_refusal}
-use Rattle.zeb_engine.specs.PrivateLooking.{RefusesText, TellsText}
+use Rattle.zeb_engine.proofs.Cited.{◌≡◌, ◌∙◌, Ok, ap, false, rules, string_bytes, bytes_eq, state, RefusesText, TellsText}
 use Rattle.zeb_engine.proofs.TextLooks.{look_told, tells_found, tells_missing}
-use Rattle.zeb_engine.proofs.StoreCauses.{fault_caused}
 use Rattle.zeb_engine.proofs.looks.keeps_text.Goals as goal
 
 pub returns-in-Some-clause-look : goal.returns-in-Some-clause-look
@@ -30,11 +22,3 @@ returns-in-None-clause-look g c clean =
     let was = c.in_ok-found.ensures.call.ok clean in
     look_told (TellsText name text) (RefusesText name) name old (state g.S.Store c.meta_of.new.conn) (c.meta_of.ensures.call.same clean c.requires.idle) (Ok false)
     (was.0.was_open, was.0.is_open) (λ store. tells_missing old.now.trees name text c.in_ok-found.field-0 c.in-None.is (c.in_ok-found.ensures.value clean store))
-
-pub returns-in_err-found-clause-caused : goal.returns-in_err-found-clause-caused
-returns-in_err-found-clause-caused g c clean store =
-    let fault = c.in_err-found.field-0.0 in
-    let told : c.from_residual.result ≡ Err (register_refusal fault) = search rules in
-    rw told (fault_caused fault (λ is.
-    let failed : ◌≡◌ {A = Result (Option (String Global)) RegFault} (Err fault) (Err register.Store) = ap Err is in
-    c.in_err-found.ensures.refused clean store failed))

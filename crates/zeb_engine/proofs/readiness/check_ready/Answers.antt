@@ -1,26 +1,10 @@
-use Rattle.std.proofs.Common.{rules, ◌≡◌, ◌∙◌, not, List, Option, Some, None, Result, Ok, Err, String, codes, string_bytes, sym, ap, subst, inl, inr, arith, IsTrue, IsUtf8}
-use Rattle.std.specs.declared.alloc.Global.{Global}
-use Rattle.std.specs.Option.{option_map}
-use Rattle.std.specs.Str.{bytes_eq}
-use Rattle.sqlite.specs.Held.{state}
-use Rattle.sqlite.specs.State.{HasCleanDisk}
-use Rattle.zeb_register.specs.declared.RegFault.{RegFault}
+use Rattle.zeb_engine.proofs.Cited.{rules, ◌≡◌, ◌∙◌, not, List, Option, Some, None, Result, Ok, Err, String, codes, string_bytes, sym, ap, subst, inl, inr, arith, IsTrue, IsUtf8, Global, option_map, bytes_eq, state, HasCleanDisk, RegFault, canonical_text, conditions, Base, register_refusal, Meets, may_after, version_of, Database, AreReadableTexts, IsValueOf, store_same}
 use Rattle.zeb_register.specs.declared.RegFault.TheVariants as register
-use Rattle.zeb_profile.specs.Canonical.{canonical_text}
-use Rattle.zeb_change.specs.Conditions.{conditions}
-use Rattle.zeb_change.specs.Base.{Base}
-use Rattle.zeb_change.specs.Outcomes.{register_refusal}
 use Rattle.zeb_engine.specs.Steps.{ready}
-use Rattle.zeb_change.specs.Refused.{Meets}
 use Rattle.zeb_engine.proofs.ListedDatabases.{fault_meets}
 use Rattle.zeb_engine.proofs.Ready.{version_in, profile_in, image_still, same_inside, told_version, told_profile, version_readable, profile_readable, texts_differ, ready_none, ready_old, ready_changed, ready_good, version_own, profile_own}
-use Rattle.zeb_register.proofs.Causes.{may_after}
 use Rattle.zeb_engine.proofs.StoreCauses.{fault_caused}
 use Rattle.zeb_engine.proofs.readiness.check_ready.Goals as goal
-use Rattle.zeb_register.specs.Formats.{version_of}
-use Rattle.sqlite.specs.Effect.{Database}
-use Rattle.zeb_register.specs.Store.{AreReadableTexts, IsValueOf}
-use Rattle.zeb_register.proofs.Calls.{store_same}
 use Rattle.zeb_engine.proofs.TextLooks.{kept_readable, one_readable}
 use Rattle.zeb_engine.proofs.ReadyTexts.{fault_texts, fault_whole, other_text, own_text, text_found, text_missing}
 

@@ -1,15 +1,6 @@
-use Rattle.std.proofs.Common.{rules, ◌≡◌, ◌∙◌, ℕ, pos, Option, Some, None, Result, Ok, Err, string_bytes, sym, ap, subst, inl, inr, IsTrue}
-use Rattle.sqlite.specs.Held.{state}
-use Rattle.zeb_register.specs.declared.RegFault.{RegFault}
+use Rattle.zeb_engine.proofs.Cited.{rules, ◌≡◌, ◌∙◌, ℕ, pos, Option, Some, None, Result, Ok, Err, string_bytes, sym, ap, subst, inl, inr, IsTrue, state, RegFault, AreCountedDatabases, IsDatabaseOf, HasDatabase, diagnostic, Meets, Base, name_bytes, register_refusal, found_or, existing}
 use Rattle.zeb_register.specs.declared.RegFault.TheVariants as register
 use Rattle.zeb_register.specs.declared.catalog.Database.{Database}
-use Rattle.zeb_register.specs.Catalog.{AreCountedDatabases, IsDatabaseOf}
-use Rattle.zeb_register.specs.Store.{HasDatabase}
-use Rattle.zeb_change.specs.Refused.{diagnostic, Meets}
-use Rattle.zeb_change.specs.Base.{Base}
-use Rattle.zeb_image.specs.NameOf.{name_bytes}
-use Rattle.zeb_change.specs.Outcomes.{register_refusal}
-use Rattle.zeb_engine.specs.PrivateSteps.{found_or, existing}
 use Rattle.zeb_engine.proofs.ListedDatabases.{fault_misses, fault_meets, fault_fails_or, counted, row_named, none_named}
 use Rattle.zeb_engine.proofs.ReadyImages.{image_some}
 use Rattle.zeb_engine.proofs.StoreCauses.{fault_caused}

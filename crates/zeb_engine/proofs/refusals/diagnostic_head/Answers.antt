@@ -1,4 +1,4 @@
-use Rattle.std.proofs.Common.{rules, append_assoc}
+use Rattle.zeb_engine.proofs.Cited.{rules, append_assoc}
 use Rattle.zeb_engine.proofs.refusals.diagnostic_head.Goals as goal
 
 pub returns : goal.returns

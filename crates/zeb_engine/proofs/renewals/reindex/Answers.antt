@@ -1,20 +1,8 @@
-use Rattle.std.proofs.Common.{◌≡◌, Err, IsUtf8, refl, rules, ap, arith, inl, inr, subst, sym}
-use Rattle.std.specs.Option.{option_map}
-use Rattle.sqlite.specs.Effect.{Database}
-use Rattle.sqlite.specs.Held.{state}
-use Rattle.sqlite.specs.State.{HasCleanDisk}
-use Rattle.zeb_profile.specs.Canonical.{canonical_text, pattern_text}
-use Rattle.zeb_register.specs.Formats.{version_of}
-use Rattle.zeb_register.proofs.Calls.{store_same}
-use Rattle.zeb_register.proofs.Causes.{may_after}
-use Rattle.zeb_change.specs.Conditions.{conditions}
-use Rattle.zeb_engine.specs.Causes.{HasRoomToRenew}
-use Rattle.zeb_engine.specs.Checking.{TellsSound}
+use Rattle.zeb_engine.proofs.Cited.{◌≡◌, Err, IsUtf8, refl, rules, ap, arith, inl, inr, subst, option_map, Database, state, HasCleanDisk, canonical_text, pattern_text, version_of, store_same, conditions, TellsSound}
 use Rattle.zeb_engine.proofs.CommitCrashes.{survives_after}
 use Rattle.zeb_engine.proofs.ReindexedTables.{commits_after_look, remade_after}
 use Rattle.zeb_engine.proofs.RenewalAnswers.{rule_met, rule_unserved}
 use Rattle.zeb_engine.proofs.ServesLemmas.{keeps_still}
-use Rattle.zeb_engine.proofs.StoreCauses.{passed_cause, store_told}
 use Rattle.zeb_engine.proofs.renewals.reindex.Goals as goal
 
 pub returns-in_err-check_rule-clause-serves : goal.returns-in_err-check_rule-clause-serves
@@ -79,23 +67,3 @@ returns-clause-survives_remade g c =
     let first : HasCleanDisk mid = omega (arith, c.transact.ensures.survives.clean) in
     let look = c.in_ok-check_rule.ensures.look first in
     commits_after_look g.L.Layout.format c.args.profile.now readable c.is_of_some_text.ensures old mid (look.same look.found.1).1 look.told db made)
-
--- ---- where there is room
-
-pub returns-in_err-check_rule-clause-room : goal.returns-in_err-check_rule-clause-room
-returns-in_err-check_rule-clause-room g c clean small store room failed =
-    let old = state g.S.Store c.args.connection.now in
-    let new = state g.S.Store c.check_rule.new.connection in
-    let result = c.from_residual.result in
-    store_told old new result (passed_cause old new c.in_err-check_rule.field-0.0 result (search rules) (c.in_err-check_rule.ensures.caused clean)) store failed
-
-pub returns-clause-room : goal.returns-clause-room
-returns-clause-room g c clean small store room failed =
-    let old = state g.S.Store c.args.connection.now in
-    let mid = state g.S.Store c.check_rule.new.connection in
-    let new = state g.S.Store c.transact.new.connection in
-    let first : HasCleanDisk mid = omega (arith, c.transact.ensures.survives.clean) in
-    let look = c.in_ok-check_rule.ensures.look first in
-    let still = (look.same look.found.1).1 in
-    let here = subst (λ (d : Database). HasRoomToRenew c.args.profile.now d.trees) (sym still) room in
-    may_after old mid new c.check_rule.ensures.crash (λ _. look.found.1) (λ _. c.transact.ensures.room clean (store_same old mid still store) (here, small) failed)

@@ -1,25 +1,8 @@
-use Rattle.std.proofs.Common.{◌≡◌, ◌∙◌, true, false, Ok, Err, IsTrue, IsUtf8, inl, inr, refl, rules, sym, subst, arith}
-use Rattle.sqlite.specs.Effect.{Database}
-use Rattle.sqlite.specs.Held.{state}
-use Rattle.sqlite.specs.State.{HasCleanDisk}
-use Rattle.zeb_register.specs.Formats.{plain_rows, version_of}
-use Rattle.zeb_register.proofs.Calls.{nothing_then, store_same}
-use Rattle.zeb_register.proofs.CallsInTurn.{quiet_then}
-use Rattle.zeb_register.proofs.Causes.{may_after}
-use Rattle.zeb_change.specs.declared.settings.Limits.{Limits}
-use Rattle.zeb_change.specs.Conditions.{conditions}
-use Rattle.zeb_change.specs.Outcomes.{register_refusal}
-use Rattle.zeb_engine.specs.Adopting.{StaysOpen}
-use Rattle.zeb_engine.specs.Causes.{HasRoomToRenew}
-use Rattle.zeb_engine.specs.Checking.{UpgradeLeaves}
-use Rattle.zeb_engine.specs.declared.looks.Standing.{Standing}
-use Rattle.zeb_engine.specs.PrivateLooking.{FindsStanding, IsLook}
-use Rattle.zeb_engine.specs.Readiness.{RefusesUpgrade}
+use Rattle.zeb_engine.proofs.Cited.{◌≡◌, ◌∙◌, true, false, Ok, Err, IsTrue, IsUtf8, inl, inr, refl, rules, sym, subst, arith, state, HasCleanDisk, plain_rows, version_of, nothing_then, store_same, Limits, conditions, StaysOpen, UpgradeLeaves, Standing, FindsStanding, IsLook, RefusesUpgrade}
 use Rattle.zeb_engine.proofs.CheckAnswers.{tells_none, told_image}
 use Rattle.zeb_engine.proofs.CommitCrashes.{survives_after}
 use Rattle.zeb_engine.proofs.RenewalAnswers.{damage_unserved, first_leaves, first_met, first_tells, layout_unserved, own_not_first, own_serves, own_unrefused}
 use Rattle.zeb_engine.proofs.ServesLemmas.{keeps_still, on_ok}
-use Rattle.zeb_engine.proofs.StoreCauses.{accepted_leaves, fault_after, passed_cause, store_told}
 use Rattle.zeb_engine.proofs.renewals.upgrade.Goals as goal
 
 -- some limits: what whole tables tell goes by none
@@ -208,40 +191,3 @@ returns-then-branch-clause-leaves g c clean =
     let met = first_met k old mid look before keeps in
     c.transact.ensures.serves clean k read.0.is_open before (λ _. (record { version_is = refl; profile_is = refl; sound = c.is_of_some_text.ensures }, (met.0, met.2))) (keeps_still before old late nothing keeps)))
     (c.transact.ensures.call.accepted clean)
-
--- ---- where there is room
-
-pub returns-in_err-standing-clause-room : goal.returns-in_err-standing-clause-room
-returns-in_err-standing-clause-room g c clean store room failed =
-    let old = state g.S.Store c.args.connection.now in
-    let new = state g.S.Store c.check_layout.new.connection in
-    let result = c.from_residual.result in
-    store_told old new result (passed_cause old new c.in_err-standing.field-0.0 result (search rules) (c.in_err-standing.ensures.caused clean)) store failed
-
-pub returns-in_err-is_image-in-First-clause-room : goal.returns-in_err-is_image-in-First-clause-room
-returns-in_err-is_image-in-First-clause-room g c clean store room failed =
-    let old = state g.S.Store c.args.connection.now in
-    let mid = state g.S.Store c.check_layout.new.connection in
-    let new = state g.S.Store c.is_image.new.connection in
-    let first : HasCleanDisk mid = omega (arith, c.is_image.ensures.call.crash.clean) in
-    let look = c.in_ok-standing.ensures.look first in
-    let fault = c.in_err-is_image-in-First.field-0.0 in
-    let result = c.from_residual-in_err-is_image-in-First.result in
-    let told : result ≡ Err (register_refusal fault) = search rules in
-    let looked = accepted_leaves old mid c.check_layout.ensures.crash look.found look.same in
-    store_told old new result (passed_cause old new (register_refusal fault) result told (fault_after old mid new looked fault clean c.in_err-is_image-in-First.ensures.refused)) store failed
-
-pub returns-then-branch-clause-room : goal.returns-then-branch-clause-room
-returns-then-branch-clause-room g c clean store room failed =
-    let old = state g.S.Store c.args.connection.now in
-    let mid = state g.S.Store c.check_layout.new.connection in
-    let late = state g.S.Store c.is_image.new.connection in
-    let new = state g.S.Store c.transact.new.connection in
-    let second : HasCleanDisk late = omega (arith, c.transact.ensures.survives.clean) in
-    let first : HasCleanDisk mid = omega (arith, c.transact.ensures.survives.clean, c.is_image.ensures.call.crash.clean) in
-    let look = c.in_ok-standing.ensures.look first in
-    let read = (c.in_ok-is_image-in-First.ensures.call.ok second).1 (search rules) in
-    let still = (nothing_then old mid late look.same (c.is_image.ensures.call.same second c.check_layout.ensures.idle) read.0.is_open).1 in
-    let here = subst (λ (d : Database). HasRoomToRenew c.args.profile.now d.trees) (sym still) room in
-    may_after old late new (quiet_then old mid late c.check_layout.ensures.crash c.is_image.ensures.call.crash) (λ _. read.0.is_open)
-    (λ _. c.transact.ensures.room clean (store_same old late still store) here failed)

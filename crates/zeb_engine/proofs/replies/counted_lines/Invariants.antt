@@ -1,6 +1,4 @@
-use Rattle.std.proofs.Common.{◌≡◌, ◌++◌, take, string_bytes}
-use Rattle.std.specs.List.{flat_map}
-use Rattle.zeb_engine.specs.Replies.{records_text, holding_line}
+use Rattle.zeb_engine.proofs.Cited.{◌≡◌, ◌++◌, take, string_bytes, flat_map, records_text, holding_line}
 use Rattle.zeb_engine.proofs.replies.counted_lines.Given as goal
 
 abbrev pub invariant-loop-holding : goal.invariant-loop-holding

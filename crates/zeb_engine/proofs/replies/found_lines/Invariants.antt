@@ -1,6 +1,4 @@
-use Rattle.std.proofs.Common.{◌≡◌, ◌++◌, take, string_bytes}
-use Rattle.std.specs.List.{flat_map}
-use Rattle.zeb_engine.specs.Replies.{hits_text, hit_line}
+use Rattle.zeb_engine.proofs.Cited.{◌≡◌, ◌++◌, take, string_bytes, flat_map, hits_text, hit_line}
 use Rattle.zeb_engine.proofs.replies.found_lines.Given as goal
 
 abbrev pub invariant-loop-hit : goal.invariant-loop-hit

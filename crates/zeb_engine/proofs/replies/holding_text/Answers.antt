@@ -1,4 +1,4 @@
-use Rattle.std.proofs.Common.{rules, append_assoc}
+use Rattle.zeb_engine.proofs.Cited.{rules, append_assoc}
 use Rattle.zeb_engine.proofs.replies.holding_text.Goals as goal
 
 pub returns : goal.returns

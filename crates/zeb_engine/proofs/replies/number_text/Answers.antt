@@ -1,6 +1,4 @@
-use Rattle.std.proofs.Common.{◌≡◌, ap, ◌∙◌, rules}
-use Rattle.std.specs.Fmt.{decimal}
-use Rattle.zeb_engine.specs.Replies.{shown_number}
+use Rattle.zeb_engine.proofs.Cited.{◌≡◌, ap, ◌∙◌, rules, decimal, shown_number}
 use Rattle.zeb_engine.proofs.ShownTerms.{shown_key, shown_other}
 use Rattle.zeb_engine.proofs.replies.number_text.Goals as goal
 

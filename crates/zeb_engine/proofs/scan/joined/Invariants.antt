@@ -1,4 +1,4 @@
-use Rattle.std.proofs.Common.{◌≡◌, ◌++◌}
+use Rattle.zeb_engine.proofs.Cited.{◌≡◌, ◌++◌}
 use Rattle.zeb_engine.proofs.scan.joined.Given as goal
 
 abbrev pub invariant-loop-entry : goal.invariant-loop-entry

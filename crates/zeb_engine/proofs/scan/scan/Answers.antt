@@ -1,26 +1,5 @@
-use Rattle.std.proofs.Common.{rules, arith, ◌≡◌, ◌⊎◌, ℕ, pos, List, Err, IsTrue, refl, subst, inl, inr}
-use Rattle.sqlite.specs.Held.{state}
-use Rattle.sqlite.specs.State.{HasCleanDisk}
-use Rattle.sqlite.specs.Tree.{Trees}
-use Rattle.zeb_profile.specs.declared.directives.Directive.{Directive}
-use Rattle.zeb_query.specs.Plans.{scan_value}
-use Rattle.zeb_query.specs.Grammar.{query_value}
-use Rattle.zeb_register.specs.Content.{posted}
-use Rattle.zeb_register.specs.Formats.{Format, version_of}
-use Rattle.zeb_register.specs.Store.{HasDatabase}
+use Rattle.zeb_engine.proofs.Cited.{rules, arith, ◌≡◌, ◌⊎◌, ℕ, pos, List, Err, IsTrue, refl, subst, inl, inr, state, HasCleanDisk, Trees, Directive, scan_value, query_value, posted, Format, version_of, HasDatabase, Base, conditions, Damaged, query_refusal, why_of, name_bytes, Around, OfDatabase, Answer, refused, IsFailure, HidesAround, HidesPlanned, HidesTerms, ScanOver, ScanTells, TellsAround, ScanAnswers}
 use Rattle.zeb_register.specs.declared.catalog.Database.{Database}
-use Rattle.zeb_change.specs.Base.{Base}
-use Rattle.zeb_change.specs.Conditions.{conditions}
-use Rattle.zeb_change.specs.declared.refusals.Refusal.TheVariants.{Damaged}
-use Rattle.zeb_change.specs.Outcomes.{query_refusal}
-use Rattle.zeb_change.specs.Refused.{why_of}
-use Rattle.zeb_image.specs.NameOf.{name_bytes}
-use Rattle.zeb_engine.specs.declared.scan.Around.{Around}
-use Rattle.zeb_engine.specs.Alone.{OfDatabase}
-use Rattle.zeb_engine.specs.Answers.{Answer, refused, IsFailure}
-use Rattle.zeb_engine.specs.AnyRefusals.{HidesAround, HidesPlanned, HidesTerms}
-use Rattle.zeb_engine.specs.AnyTables.{ScanOver, ScanTells, TellsAround}
-use Rattle.zeb_engine.specs.Steps.{ScanAnswers}
 use Rattle.zeb_engine.proofs.ReadyQueries.{existing_ends, query_ends, refused_ends}
 use Rattle.zeb_engine.proofs.Lookups.{base_found, still_holds}
 use Rattle.zeb_engine.proofs.HiddenRows.{hidden_read, misses_hidden}

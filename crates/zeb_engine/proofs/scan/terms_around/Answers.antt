@@ -1,10 +1,4 @@
-use Rattle.std.proofs.Common.{rules, arith, ◌≡◌, Err, ap, refl}
-use Rattle.sqlite.specs.Held.{state}
-use Rattle.sqlite.specs.State.{HasCleanDisk}
-use Rattle.zeb_query.specs.Plans.{scan_value}
-use Rattle.zeb_register.specs.Content.{posted}
-use Rattle.zeb_change.specs.Outcomes.{register_refusal}
-use Rattle.zeb_engine.specs.AnyRefusals.{HidesAround}
+use Rattle.zeb_engine.proofs.Cited.{rules, arith, ◌≡◌, Err, ap, refl, state, HasCleanDisk, scan_value, posted, register_refusal, HidesAround}
 use Rattle.zeb_engine.proofs.ListedDatabases.{fault_fails, fault_or_damage}
 use Rattle.zeb_engine.proofs.AskedReads.{around_reads}
 use Rattle.zeb_engine.proofs.Lookups.{still_holds}

@@ -1,29 +1,9 @@
-use Rattle.std.proofs.Common.{rules, ◌≡◌, ◌∙◌, ◌++◌, ◌∷◌, [], ℕ, ℤ, List, Err, arith, ap, get_or, subst, sym, take}
-use Rattle.sqlite.specs.Held.{state}
-use Rattle.sqlite.specs.State.{HasCleanDisk}
-use Rattle.sqlite.specs.Tree.{Trees}
-use Rattle.zeb_keys.specs.declared.registers.Register.TheVariants.{Word}
-use Rattle.zeb_keys.specs.declared.keys.Occurrence.{Occurrence}
-use Rattle.zeb_profile.specs.declared.directives.Directive.{Directive}
-use Rattle.zeb_register.specs.Content.{posted}
-use Rattle.zeb_register.specs.Occurring.{AreTotals}
-use Rattle.zeb_register.specs.PackedBlocks.{IsRegisterSound}
-use Rattle.zeb_register.specs.Sound.{AreTermsSound, InPacked}
-use Rattle.zeb_query.proofs.HoldingLemmas.{take_whole}
-use Rattle.zeb_engine.specs.declared.replies.Holding.{Holding}
-use Rattle.zeb_engine.specs.Answers.{extent_of}
-use Rattle.zeb_engine.specs.AnyRefusals.{HidesRegister}
-use Rattle.zeb_engine.specs.AnyTables.{IsSoundUnder}
-use Rattle.zeb_engine.specs.Counting.{IsExtent, Paired, Target}
-use Rattle.zeb_change.specs.Outcomes.{register_refusal}
-use Rattle.sqlite_rules.proofs.ListLemmas.{has_at}
-use Rattle.std.proofs.lemmas.List.{get_or_default, take_more}
+use Rattle.zeb_engine.proofs.Cited.{rules, ◌≡◌, ◌∙◌, ◌++◌, ◌∷◌, [], ℕ, ℤ, List, Err, arith, ap, get_or, subst, sym, take, state, HasCleanDisk, Trees, Word, Occurrence, Directive, posted, AreTotals, IsRegisterSound, AreTermsSound, InPacked, take_whole, Holding, extent_of, HidesRegister, IsSoundUnder, IsExtent, Paired, Target, register_refusal, has_at, get_or_default, take_more, Format, holds_in}
 use Rattle.zeb_engine.proofs.ListedDatabases.{fault_fails, fault_or_damage}
 use Rattle.zeb_engine.proofs.Showing.{still_shows}
 use Rattle.zeb_engine.proofs.StatAnswers.{paired_more}
 use Rattle.zeb_engine.proofs.StoreCauses.{LeavesAll, fault_after}
 use Rattle.zeb_engine.proofs.stat.holdings_of.Goals as goal
-use Rattle.zeb_register.specs.Formats.{Format, holds_in}
 
 abbrev Fits : (ℕ → Occurrence → Type 0) → List Directive → Target → Holding → Type 0
 Fits O profile target holding = IsExtent O profile target (extent_of holding)

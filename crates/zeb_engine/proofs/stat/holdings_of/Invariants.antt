@@ -1,15 +1,5 @@
-use Rattle.std.proofs.Common.{◌≡◌, ◌≤◌, false, length, take, vec_capacity, IsTrue}
-use Rattle.sqlite.specs.Held.{state}
-use Rattle.sqlite.specs.State.{HasCleanDisk, Survives}
-use Rattle.sqlite.specs.Tree.{Trees}
-use Rattle.zeb_register.specs.Calls.{ChangesNothing}
-use Rattle.zeb_register.specs.Content.{Content, posted}
-use Rattle.zeb_engine.specs.Answers.{extent_of}
-use Rattle.zeb_engine.specs.AnyTables.{IsSoundUnder}
-use Rattle.zeb_engine.specs.Counting.{IsExtent, Paired}
-use Rattle.zeb_engine.specs.PrivateWorks.{ShowsStore}
+use Rattle.zeb_engine.proofs.Cited.{◌≡◌, ◌≤◌, false, length, take, vec_capacity, IsTrue, state, HasCleanDisk, Survives, Trees, ChangesNothing, Content, posted, extent_of, IsSoundUnder, IsExtent, Paired, ShowsStore, holds_in}
 use Rattle.zeb_engine.proofs.stat.holdings_of.Given as goal
-use Rattle.zeb_register.specs.Formats.{holds_in}
 
 abbrev pub invariant-loop-target : goal.invariant-loop-target
 invariant-loop-target g l =

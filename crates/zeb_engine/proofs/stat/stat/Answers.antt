@@ -1,24 +1,6 @@
-use Rattle.std.proofs.Common.{rules, ◌≡◌, ◌∙◌, ◌⊎◌, ℕ, pos, List, map, Err, Ok, IsTrue, arith, refl, sym, ap, ap₂, subst, inl, inr}
-use Rattle.sqlite.specs.Held.{state}
-use Rattle.sqlite.specs.State.{HasCleanDisk}
-use Rattle.sqlite.specs.Tree.{Trees}
-use Rattle.zeb_register.proofs.Calls.{nothing_then}
-use Rattle.zeb_register.specs.Content.{posted}
-use Rattle.zeb_register.specs.Kept.{IsRecordCount}
-use Rattle.zeb_register.specs.Store.{HasDatabase}
+use Rattle.zeb_engine.proofs.Cited.{rules, ◌≡◌, ◌∙◌, ◌⊎◌, ℕ, pos, List, map, Err, Ok, IsTrue, arith, refl, sym, ap, ap₂, subst, inl, inr, state, HasCleanDisk, Trees, nothing_then, posted, IsRecordCount, HasDatabase, Reply, Counted, extent_of, refused, IsFailure, HidesRegister, HidesRegisters, IsSoundUnder, StatOver, StatTells, conditions, Damaged, why_of, IsExtent, Paired, Target, target_list, occurs, name_bytes, register_refusal, clean_before, version_of}
 use Rattle.zeb_register.specs.declared.catalog.Database.{Database}
-use Rattle.zeb_engine.specs.declared.replies.Reply.{Reply}
-use Rattle.zeb_engine.specs.declared.replies.Reply.TheVariants.{Counted}
-use Rattle.zeb_engine.specs.Answers.{counted, extent_of, refused, IsFailure}
-use Rattle.zeb_engine.specs.AnyRefusals.{HidesRegister, HidesRegisters}
-use Rattle.zeb_engine.specs.AnyTables.{IsSoundUnder, StatOver, StatTells}
-use Rattle.zeb_change.specs.Conditions.{conditions}
-use Rattle.zeb_change.specs.declared.refusals.Refusal.TheVariants.{Damaged}
-use Rattle.zeb_change.specs.Refused.{why_of}
-use Rattle.zeb_engine.specs.Counting.{IsExtent, Paired, Target, target_list}
-use Rattle.zeb_change.specs.Occurs.{occurs}
-use Rattle.zeb_image.specs.NameOf.{name_bytes}
-use Rattle.zeb_change.specs.Outcomes.{register_refusal}
+use Rattle.zeb_engine.specs.Answers.{counted}
 use Rattle.zeb_engine.proofs.DumpAnswers.{as_many}
 use Rattle.zeb_engine.proofs.ListedDatabases.{fault_fails}
 use Rattle.zeb_engine.proofs.HiddenRows.{hidden_after, hidden_of, misses_hidden, unready_hidden}
@@ -26,9 +8,7 @@ use Rattle.zeb_engine.proofs.Showing.{still_shows}
 use Rattle.zeb_engine.proofs.StatAnswers.{Counts, count_fails, count_known, count_unknown, extents_as, extents_told, last_named, unready_counts}
 use Rattle.zeb_engine.proofs.StoreCauses.{LeavesAll, fault_after, leaves_then, look_caused, passed_cause, refusal_after, two_leave}
 use Rattle.zeb_engine.proofs.ReadyBases.{Tells, ready_base, ready_still}
-use Rattle.zeb_search.proofs.ReadLemmas.{clean_before}
 use Rattle.zeb_engine.proofs.stat.stat.Goals as goal
-use Rattle.zeb_register.specs.Formats.{version_of}
 use Rattle.zeb_engine.proofs.ReadyTexts.{fault_never, passed_texts, passed_then}
 
 pub returns-in_err-check_ready-clause-ready : goal.returns-in_err-check_ready-clause-ready

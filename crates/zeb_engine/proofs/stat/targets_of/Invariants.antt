@@ -1,5 +1,4 @@
-use Rattle.std.proofs.Common.{◌≡◌}
-use Rattle.zeb_engine.specs.Counting.{targets_below}
+use Rattle.zeb_engine.proofs.Cited.{◌≡◌, targets_below}
 use Rattle.zeb_engine.proofs.stat.targets_of.Given as goal
 
 abbrev pub invariant-loop-index : goal.invariant-loop-index

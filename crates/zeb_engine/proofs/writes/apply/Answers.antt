@@ -1,21 +1,7 @@
-use Rattle.std.proofs.Common.{[], IsTrue, codes, inl, inr}
-use Rattle.sqlite.specs.Held.{state}
-use Rattle.zeb_profile.specs.Canonical.{canonical_text}
-use Rattle.zeb_register.specs.Content.{TakesWhole}
-use Rattle.zeb_register.specs.Hindrances.{IsTooLarge}
-use Rattle.zeb_register.specs.Store.{IsStore, entry}
-use Rattle.zeb_change.specs.Conditions.{Conditions}
-use Rattle.zeb_image.specs.Image.{IsImage}
-use Rattle.zeb_image.specs.NameOf.{name_bytes}
-use Rattle.zeb_engine.specs.AnyMade.{MakesDatabase}
-use Rattle.zeb_engine.specs.Causes.{HasRoomToRenew}
-use Rattle.zeb_engine.specs.Checking.{IsRemade}
-use Rattle.zeb_engine.specs.Steps.{holding}
-use Rattle.zeb_engine.specs.PrivateWriting.{AreOf}
+use Rattle.zeb_engine.proofs.Cited.{[], IsTrue, state, TakesWhole, IsStore, Conditions, IsImage, name_bytes, MakesDatabase, IsRemade, holding, AreOf, version_of}
 use Rattle.zeb_engine.proofs.HiddenRows.{work_done}
 use Rattle.zeb_engine.proofs.WriteSteps.{init_works, begun_so, nothing_so}
 use Rattle.zeb_engine.proofs.writes.apply.Goals as goal
-use Rattle.zeb_register.specs.Formats.{version_of}
 
 pub returns-in-Init-clause-works : goal.returns-in-Init-clause-works
 returns-in-Init-clause-works g c clean inside k reached =
@@ -91,42 +77,6 @@ returns-in-Reindex-clause-remade g c clean inside =
 
 pub returns-in-Upgrade-clause-remade : goal.returns-in-Upgrade-clause-remade
 returns-in-Upgrade-clause-remade g c clean inside = rw c.in-Upgrade.is (nothing_so c.upgrade.result)
-
-pub returns-in-Init-clause-refused : goal.returns-in-Init-clause-refused
-returns-in-Init-clause-refused g c clean inside = rw c.in-Init.is (c.init.ensures.refused clean inside)
-
-pub returns-in-Create-clause-refused : goal.returns-in-Create-clause-refused
-returns-in-Create-clause-refused g c clean inside = rw c.in-Create.is (c.create.ensures.refused clean inside)
-
-pub returns-in-Drop-clause-refused : goal.returns-in-Drop-clause-refused
-returns-in-Drop-clause-refused g c clean inside store is = rw c.in-Drop.is (inl (c.take.ensures.refused clean inside store is))
-
-pub returns-in-Reindex-clause-refused : goal.returns-in-Reindex-clause-refused
-returns-in-Reindex-clause-refused g c clean inside store is = rw c.in-Reindex.is (inr tt)
-
-pub returns-in-Upgrade-clause-refused : goal.returns-in-Upgrade-clause-refused
-returns-in-Upgrade-clause-refused g c clean inside store is = rw c.in-Upgrade.is (inr tt)
-
-pub returns-in-Init-clause-room : goal.returns-in-Init-clause-room
-returns-in-Init-clause-room g c clean inside store room failed = let none : ⊥ = rw c.in-Init.is at room in absurd none
-
-pub returns-in-Create-clause-room : goal.returns-in-Create-clause-room
-returns-in-Create-clause-room g c clean inside store room failed = let none : ⊥ = rw c.in-Create.is at room in absurd none
-
-pub returns-in-Drop-clause-room : goal.returns-in-Drop-clause-room
-returns-in-Drop-clause-room g c clean inside store room failed = let none : ⊥ = rw c.in-Drop.is at room in absurd none
-
-pub returns-in-Reindex-clause-room : goal.returns-in-Reindex-clause-room
-returns-in-Reindex-clause-room g c clean inside store room failed =
-    let trees = (state g.S.Store c.args.tx.now.conn.now).now.trees in
-    let profile = c.in-Reindex.profile.now in
-    let has : HasRoomToRenew profile trees × ¬ IsTooLarge (entry (codes "profile") (canonical_text profile)) = rw c.in-Reindex.is at room in
-    c.reindex.ensures.room has.1 clean inside store has.0 failed
-
-pub returns-in-Upgrade-clause-room : goal.returns-in-Upgrade-clause-room
-returns-in-Upgrade-clause-room g c clean inside store room failed =
-    let has : HasRoomToRenew c.in-Upgrade.profile.now (state g.S.Store c.args.tx.now.conn.now).now.trees = rw c.in-Upgrade.is at room in
-    c.upgrade.ensures.room clean inside store has failed
 
 pub returns-in-Init-clause-makes : goal.returns-in-Init-clause-makes
 returns-in-Init-clause-makes g c clean inside = rw c.in-Init.is (nothing_so c.init.result)

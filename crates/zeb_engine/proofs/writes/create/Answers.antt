@@ -1,16 +1,8 @@
-use Rattle.std.proofs.Common.{◌≡◌, ◌∙◌, Err, Result, ap, arith, inl, inr, pos, rules, subst, sym}
-use Rattle.sqlite.specs.Held.{state}
-use Rattle.zeb_register.specs.Catalog.{PutsDatabase}
-use Rattle.zeb_register.specs.Store.{Changes, databases_tree}
-use Rattle.zeb_image.specs.NameOf.{name_bytes}
+use Rattle.zeb_engine.proofs.Cited.{◌≡◌, ◌∙◌, Err, Result, ap, pos, rules, subst, sym, state, PutsDatabase, Changes, databases_tree, name_bytes, RegFault}
 use Rattle.zeb_engine.proofs.MadeTables.{made_by_row}
 use Rattle.zeb_engine.proofs.WriteSteps.{create_leads}
 use Rattle.zeb_engine.proofs.writes.create.Goals as goal
-use Rattle.zeb_register.specs.Hindrances.{IsTooLarge}
-use Rattle.zeb_register.specs.declared.RegFault.{RegFault}
-use Rattle.zeb_register.specs.declared.RegFault.TheVariants.{Damaged, Store}
-use Rattle.zeb_register.specs.Store.{database_columns}
-use Rattle.zeb_engine.proofs.WriteCauses.{name_fits}
+use Rattle.zeb_register.specs.declared.RegFault.TheVariants.{Damaged}
 
 pub returns-clause-works : goal.returns-clause-works
 returns-clause-works g c clean inside opened k =
@@ -23,19 +15,6 @@ returns-clause-works g c clean inside opened k =
           let put = subst (λ n. Changes databases_tree (PutsDatabase id n (pos 0)) old new) c.as_str.ensures (c.in_ok-database_put.ensures.put clean inside store) in
           create_leads k old new name before image id c.args.name.now.named free put,
     )
-
-pub returns-in_err-database_put-clause-refused : goal.returns-in_err-database_put-clause-refused
-returns-in_err-database_put-clause-refused g c clean inside store is =
-    let fault = c.in_err-database_put.field-0.0 in
-    let told : c.from_residual.result ≡ Err fault = search rules in
-    let same : ◌≡◌ {A = Result (Unit {0}) RegFault} (Err fault) (Err Store) = sym told ∙ is in
-    let failed : fault ≡ Store = cc in
-    elim (c.in_err-database_put.ensures.refused (omega arith) clean inside store (ap Err failed)) [
-      | inl cause ↦ inl cause
-      | inr (inl lacks) ↦ inr lacks
-      | inr (inr large) ↦
-          absurd (name_fits (name_bytes c.args.name.now) (pos 0) c.args.name.now.named.at_most_64 (subst (λ n. IsTooLarge (database_columns n (pos 0))) c.as_str.ensures large))
-    ]
 
 pub returns-in_err-database_put-clause-honest : goal.returns-in_err-database_put-clause-honest
 returns-in_err-database_put-clause-honest g c clean inside store is =

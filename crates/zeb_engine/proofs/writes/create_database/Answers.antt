@@ -1,15 +1,7 @@
-use Rattle.std.proofs.Common.{◌≡◌, Option, Result, Err, rules, arith, sym, ap, subst, inl, inr}
-use Rattle.sqlite.specs.State.{HasCleanDisk}
-use Rattle.sqlite.specs.Held.{state}
-use Rattle.zeb_register.specs.declared.RegFault.{RegFault}
+use Rattle.zeb_engine.proofs.Cited.{◌≡◌, Option, Result, Err, rules, arith, sym, ap, subst, inl, inr, HasCleanDisk, state, RegFault, Exists, name_bytes, register_refusal, IsReady, Serves, IsStore, store_same}
 use Rattle.zeb_register.specs.declared.RegFault.TheVariants as register
 use Rattle.zeb_register.specs.declared.catalog.Database.{Database}
-use Rattle.zeb_change.specs.declared.refusals.Refusal.TheVariants.{Exists}
-use Rattle.zeb_image.specs.NameOf.{name_bytes}
-use Rattle.zeb_change.specs.Outcomes.{register_refusal}
-use Rattle.zeb_change.specs.Refused.{why_of}
 use Rattle.zeb_engine.specs.Steps.{turned, created}
-use Rattle.zeb_engine.specs.PrivateWorks.{IsReady, Serves}
 use Rattle.zeb_engine.proofs.CommitCrashes.{survives_after}
 use Rattle.zeb_engine.proofs.ListedDatabases.{fault_fails, counted, row_named, row_found}
 use Rattle.zeb_engine.proofs.MadeTables.{made_after}
@@ -19,11 +11,6 @@ use Rattle.zeb_engine.proofs.ServesLemmas.{keeps_still, early_serves}
 use Rattle.zeb_engine.proofs.TurnedOutcomes.{step_exists}
 use Rattle.zeb_engine.proofs.ReadyImages.{image_some}
 use Rattle.zeb_engine.proofs.writes.create_database.Goals as goal
-use Rattle.zeb_register.specs.Hindrances.{LacksRowids}
-use Rattle.zeb_register.specs.Store.{databases_tree, IsStore}
-use Rattle.zeb_register.proofs.Calls.{store_same}
-use Rattle.zeb_engine.proofs.StoreCauses.{accepted_leaves, fault_caused}
-use Rattle.zeb_engine.proofs.WriteCauses.{over_after}
 
 pub returns-in_err-found-clause-serves : goal.returns-in_err-found-clause-serves
 returns-in_err-found-clause-serves g c clean k =
@@ -77,24 +64,6 @@ returns-in-None-clause-survives g c =
     let still = c.in_ok-found.ensures.call.ok first in
     let free = free_there k old before name c.as_str.result.now c.in_ok-found.found c.as_str.ensures c.in-None.is (fits still.0.was_open) (keeps still.0.was_open).0 (c.in_ok-found.ensures.value first) in
     made k still.0.is_open before (λ _. free) (keeps_still before old mid (c.database_of.ensures.call.same first c.requires.idle) keeps))
-
-pub returns-in_err-found-clause-caused : goal.returns-in_err-found-clause-caused
-returns-in_err-found-clause-caused g c clean store =
-    let fault = c.in_err-found.field-0.0 in
-    let told : c.from_residual.result ≡ Err (register_refusal fault) = search rules in
-    rw told (λ is. inl (fault_caused fault (λ failed. c.in_err-found.ensures.refused clean store (ap Err failed)) (ap why_of is)))
-
-pub returns-in-Some-clause-caused : goal.returns-in-Some-clause-caused
-returns-in-Some-clause-caused g c clean store = λ is. absurd cc
-
-pub returns-in-None-clause-caused : goal.returns-in-None-clause-caused
-returns-in-None-clause-caused g c clean =
-    let old = state g.S.Store c.args.connection.now in
-    let mid = state g.S.Store c.database_of.new.conn in
-    let first : HasCleanDisk mid = omega (arith, c.transact.ensures.survives.clean) in
-    let still = (c.in_ok-found.ensures.call.ok first).0 in
-    let looked = accepted_leaves old mid c.database_of.ensures.call.crash (still.was_open, still.is_open) (c.database_of.ensures.call.same first c.requires.idle) in
-    over_after (LacksRowids 1 databases_tree) old (state g.S.Store c.transact.new.connection) mid looked c.transact.result (c.transact.ensures.caused clean)
 
 -- ---- on any tables
 

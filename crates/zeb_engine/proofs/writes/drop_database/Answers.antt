@@ -1,14 +1,5 @@
-use Rattle.std.proofs.Common.{◌≡◌, Err, rules, arith, pos, sym, subst, inl, inr}
-use Rattle.sqlite.specs.State.{HasCleanDisk}
-use Rattle.sqlite.specs.Held.{state}
-use Rattle.zeb_register.specs.Store.{IsStore}
-use Rattle.zeb_register.proofs.Calls.{store_same}
-use Rattle.zeb_change.specs.Refused.{why_of}
-use Rattle.zeb_image.specs.NameOf.{name_bytes}
-use Rattle.zeb_engine.specs.AnyRefusals.{CountedAnswers, HidesDatabase}
-use Rattle.zeb_engine.specs.Answers.{done}
+use Rattle.zeb_engine.proofs.Cited.{◌≡◌, Err, rules, arith, pos, sym, subst, inl, inr, HasCleanDisk, state, IsStore, store_same, why_of, name_bytes, CountedAnswers, HidesDatabase, done, IsReady, Serves}
 use Rattle.zeb_engine.specs.Steps.{turned, dropped}
-use Rattle.zeb_engine.specs.PrivateWorks.{IsReady, Serves}
 use Rattle.zeb_engine.proofs.CommitCrashes.{survives_after}
 use Rattle.zeb_engine.proofs.ServesLemmas.{keeps_still, early_serves}
 use Rattle.zeb_engine.proofs.MadeTables.{dropped_after}
@@ -16,8 +7,6 @@ use Rattle.zeb_engine.proofs.HiddenRows.{drop_there, misses_hidden}
 use Rattle.zeb_engine.proofs.NamedDatabases.{known_there}
 use Rattle.zeb_engine.proofs.TurnedOutcomes.{step_missing}
 use Rattle.zeb_engine.proofs.writes.drop_database.Goals as goal
-use Rattle.zeb_engine.proofs.StoreCauses.{accepted_leaves, passed_cause}
-use Rattle.zeb_engine.proofs.WriteCauses.{cause_over, over_after}
 
 pub returns-in_err-database-clause-serves : goal.returns-in_err-database-clause-serves
 returns-in_err-database-clause-serves g c clean k home =
@@ -59,21 +48,6 @@ returns-clause-survives g c =
     let ready = fits opened in
     let known = known_there k old mid before name c.in_ok-database.database ready (c.existing_database.ensures.same first) (c.in_ok-database.ensures.exists first opened k before ready.0 ready.1 keeps) in
     made k known.0 before (λ _. (home, known.1)) (keeps_still before old mid (c.existing_database.ensures.same first) keeps))
-
-pub returns-in_err-database-clause-caused : goal.returns-in_err-database-clause-caused
-returns-in_err-database-clause-caused g c clean =
-    let old = state g.S.Store c.args.connection.now in
-    let mid = state g.S.Store c.existing_database.new.connection in
-    let result = c.from_residual.result in
-    cause_over (λ _. ⊥) old mid result (passed_cause old mid c.in_err-database.field-0.0 result (search rules) (c.in_err-database.ensures.caused clean))
-
-pub returns-clause-caused : goal.returns-clause-caused
-returns-clause-caused g c clean =
-    let old = state g.S.Store c.args.connection.now in
-    let mid = state g.S.Store c.existing_database.new.connection in
-    let first : HasCleanDisk mid = omega (arith, c.transact.ensures.survives.clean) in
-    let looked = accepted_leaves old mid c.existing_database.ensures.crash (c.in_ok-database.ensures.found first) (c.existing_database.ensures.same first) in
-    over_after (λ _. ⊥) old (state g.S.Store c.transact.new.connection) mid looked c.transact.result (c.transact.ensures.caused clean)
 
 -- ---- on any tables
 

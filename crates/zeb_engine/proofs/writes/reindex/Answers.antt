@@ -1,14 +1,4 @@
-use Rattle.std.proofs.Common.{◌≡◌, codes, Err, IsUtf8, inl, inr, refl, rules, arith, ap, subst}
-use Rattle.sqlite.specs.Held.{state}
-use Rattle.sqlite.specs.State.{HasCleanDisk}
-use Rattle.zeb_register.specs.Formats.{version_of}
-use Rattle.zeb_register.specs.Hindrances.{IsTooLarge}
-use Rattle.zeb_register.specs.Store.{entry, meta_tree}
-use Rattle.zeb_register.specs.declared.RegFault.TheVariants.{Store}
-use Rattle.zeb_register.proofs.Causes.{may_after}
-use Rattle.zeb_register.proofs.TakenRowids.{not_both}
-use Rattle.zeb_change.proofs.RecordRoom.{rowids_same}
-use Rattle.zeb_engine.specs.PrivateWriting.{IsRuled}
+use Rattle.zeb_engine.proofs.Cited.{◌≡◌, codes, Err, IsUtf8, inl, refl, rules, arith, ap, subst, state, HasCleanDisk, version_of, IsRuled}
 use Rattle.zeb_engine.specs.Steps.{reindexed}
 use Rattle.zeb_engine.proofs.RenewalWork.{found_ruled, put_fails, rebuild_fails, rebuild_tells, reindex_remakes, reindex_works, renews}
 use Rattle.zeb_engine.proofs.writes.reindex.Goals as goal
@@ -56,25 +46,3 @@ returns-clause-remade g c clean inside =
     let renewed = renews g.L.Layout.format c.args.profile.now (codes "profile") _ _ (state g.S.Store c.args.tx.now.conn.now) (state g.S.Store c.rebuild.new.tx.conn.now) (state g.S.Store c.meta_put.new.tx.conn.now)
     c.text.ensures clean inside c.in_ok-rebuild.ensures.call c.in_ok-rebuild.ensures.built c.in_ok-meta_put.ensures.call in
     reindex_remakes renewed
-
--- ---- a failed store, where there is room
-
-pub returns-in_err-rebuild-clause-room : goal.returns-in_err-rebuild-clause-room
-returns-in_err-rebuild-clause-room g c small clean inside store room failed =
-    let fault : c.rebuild.result ≡ Err Store = search rules in
-    c.rebuild.ensures.room room.bases room.places room.rowids room.asks clean inside store room.lists fault
-
-pub returns-in_err-meta_put-clause-room : goal.returns-in_err-meta_put-clause-room
-returns-in_err-meta_put-clause-room g c small clean inside store room failed =
-    let old = state g.S.Store c.args.tx.now.conn.now in
-    let mid = state g.S.Store c.rebuild.new.tx.conn.now in
-    let new = state g.S.Store c.meta_put.new.tx.conn.now in
-    let cleaner : HasCleanDisk mid = omega (arith, c.meta_put.ensures.call.crash.clean) in
-    let on = c.in_ok-rebuild.ensures.call.ok cleaner inside in
-    let built = c.in_ok-rebuild.ensures.built cleaner inside store in
-    let fault : c.meta_put.result ≡ Err Store = search rules in
-    elim (c.meta_put.ensures.refused clean on.mode built.0 fault) [
-      | inl cause ↦ may_after old mid new c.rebuild.ensures.call.crash (λ _. on.is_open) (λ _. cause)
-      | inr (inl lacks) ↦ absurd (not_both 1 meta_tree mid.now.trees (rowids_same 1 meta_tree old.now.trees mid.now.trees built.1.0 room.texts) lacks)
-      | inr (inr large) ↦ absurd (small (subst (λ t. IsTooLarge (entry (codes "profile") t)) c.text.ensures large))
-    ]

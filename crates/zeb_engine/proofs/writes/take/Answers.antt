@@ -1,5 +1,4 @@
-use Rattle.sqlite.specs.Held.{state}
-use Rattle.zeb_image.specs.NameOf.{name_bytes}
+use Rattle.zeb_engine.proofs.Cited.{state, name_bytes}
 use Rattle.zeb_engine.proofs.WriteSteps.{drop_leads}
 use Rattle.zeb_engine.proofs.writes.take.Goals as goal
 

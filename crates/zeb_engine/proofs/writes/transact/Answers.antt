@@ -1,22 +1,9 @@
-use Rattle.std.proofs.Common.{◌≡◌, Ok, Err, inl, rules, arith, refl, sym, subst, subst₂}
-use Rattle.sqlite.specs.State.{HasCleanDisk}
-use Rattle.sqlite.specs.Held.{state}
-use Rattle.zeb_register.specs.Calls.{ChangesNothing, MayRefuse}
-use Rattle.zeb_change.specs.declared.refusals.Refusal.TheVariants.{Commit, Store}
-use Rattle.zeb_change.specs.Outcomes.{register_refusal}
-use Rattle.zeb_engine.specs.declared.replies.Reply.{Reply}
-use Rattle.zeb_engine.specs.declared.replies.Reply.TheVariants.{Done}
-use Rattle.zeb_engine.specs.PrivateWorks.{Serves}
-use Rattle.zeb_engine.specs.PrivateWriting.{Begins, Fits, MakesOrTakes, Remakes, written, HindersWrite}
+use Rattle.zeb_engine.proofs.Cited.{◌≡◌, Ok, Err, inl, rules, arith, refl, sym, subst, subst₂, HasCleanDisk, state, ChangesNothing, Store, register_refusal, Done, Serves, Begins, Fits, MakesOrTakes, Remakes, written, version_of}
 use Rattle.zeb_engine.proofs.CommitCrashes.{write_survives}
 use Rattle.zeb_engine.proofs.MadeTables.{makes_over}
 use Rattle.zeb_engine.proofs.ReindexedTables.{remade_survives, remakes_over}
 use Rattle.zeb_engine.proofs.ServesLemmas.{begins_over, early_serves, refusal_serves, reply_serves, reached_inside, sound_failed, sound_over}
 use Rattle.zeb_engine.proofs.writes.transact.Goals as goal
-use Rattle.zeb_register.specs.Formats.{version_of}
-use Rattle.zeb_engine.specs.PrivateCauses.{HasCauseOver}
-use Rattle.zeb_change.proofs.RecordRoom.{one_refusal}
-use Rattle.zeb_engine.proofs.WriteCauses.{write_caused, write_room}
 
 pub returns-in_err-apply-clause-serves : goal.returns-in_err-apply-clause-serves
 returns-in_err-apply-clause-serves g c clean k reached =
@@ -74,10 +61,10 @@ returns-in_err-commit-clause-serves g c clean k reached =
     let end = c.commit.new.self.0 in
     let late : HasCleanDisk (state g.S.Store end) = search rules in
     let same : end ≡ c.connection-2-1.given.0 = search rules in
-    let told : c.from_residual-in_err-commit.result ≡ Err Commit = search rules in
+    let told : c.from_residual-in_err-commit.result ≡ Err Store = search rules in
     let nothing : ChangesNothing old (state g.S.Store end) = search rules in
     subst₂ (λ h r. Serves (Fits (version_of g.L.Layout.format) k write) (written k write) old (state g.S.Store h) r) same (sym told)
-    (early_serves (written k write) (Fits (version_of g.L.Layout.format) k write) old (state g.S.Store end) Commit nothing (λ before fits keeps. inl (inl refl)))
+    (early_serves (written k write) (Fits (version_of g.L.Layout.format) k write) old (state g.S.Store end) Store nothing (λ before fits keeps. inl (inl refl)))
 
 pub returns-in_err-apply-clause-sound : goal.returns-in_err-apply-clause-sound
 returns-in_err-apply-clause-sound g c clean =
@@ -90,7 +77,7 @@ returns-in_err-apply-clause-sound g c clean =
 
 pub returns-in_err-commit-clause-sound : goal.returns-in_err-commit-clause-sound
 returns-in_err-commit-clause-sound g c clean =
-    let told : c.from_residual-in_err-commit.result ≡ Err Commit = search rules in
+    let told : c.from_residual-in_err-commit.result ≡ Err Store = search rules in
     rw told (sound_failed c.args.write.now (state g.S.Store c.args.connection.now))
 
 pub returns-clause-sound : goal.returns-clause-sound
@@ -131,41 +118,3 @@ pub returns-clause-survives_remade : goal.returns-clause-survives_remade
 returns-clause-survives_remade g c =
     remade_survives g.L.Layout.format g.S.Store c.args.connection.now c.transaction-tx.result.conn.now (state g.S.Store c.apply.new.tx.conn.now) c.transaction-tx.ensures.begun c.args.write.now c.commit.new.self.0 c.connection-2-1.given.0 (search rules)
     c.apply.ensures.crash c.commit.ensures.survives c.in_ok-apply.ensures.remade
-
-pub returns-in_err-apply-clause-caused : goal.returns-in_err-apply-clause-caused
-returns-in_err-apply-clause-caused g c clean =
-    let begun = c.transaction-tx.ensures.begun in
-    let write = c.args.write.now in
-    let fault = c.in_err-apply.field-0.0 in
-    let end = c.drop-tx.new.self.0 in
-    let late : HasCleanDisk (state g.S.Store end) = search rules in
-    let same : end ≡ c.connection-1.given.0 = search rules in
-    let told : c.from_residual.result ≡ Err (register_refusal fault) = search rules in
-    subst₂ (λ h r. HasCauseOver (HindersWrite write) (state g.S.Store c.args.connection.now) (state g.S.Store h) r) same (sym told)
-    (write_caused Reply (Unit {0}) g.S.Store write c.args.connection.now c.transaction-tx.result.conn.now (state g.S.Store c.apply.new.tx.conn.now) (state g.S.Store end) fault begun
-    (omega (arith, c.drop-tx.ensures.survives.clean)) c.drop-tx.ensures.survives.counts c.in_err-apply.ensures.refused)
-
-pub returns-in_err-commit-clause-caused : goal.returns-in_err-commit-clause-caused
-returns-in_err-commit-clause-caused g c clean store =
-    let told : c.from_residual-in_err-commit.result ≡ Err Commit = search rules in
-    rw told (λ is. absurd cc)
-
-pub returns-in_err-apply-clause-room : goal.returns-in_err-apply-clause-room
-returns-in_err-apply-clause-room g c clean store room failed =
-    let begun = c.transaction-tx.ensures.begun in
-    let write = c.args.write.now in
-    let old = c.args.connection.now in
-    let fault = c.in_err-apply.field-0.0 in
-    let end = c.drop-tx.new.self.0 in
-    let late : HasCleanDisk (state g.S.Store end) = search rules in
-    let same : end ≡ c.connection-1.given.0 = search rules in
-    let told : c.from_residual.result ≡ Err (register_refusal fault) = search rules in
-    subst (λ h. MayRefuse (state g.S.Store old) (state g.S.Store h)) same
-    (write_room (Unit {0}) g.S.Store write old c.transaction-tx.result.conn.now (state g.S.Store c.apply.new.tx.conn.now) (state g.S.Store end) fault begun
-    (omega (arith, c.drop-tx.ensures.survives.clean)) c.drop-tx.ensures.survives.counts c.in_err-apply.ensures.room store room (one_refusal c.from_residual.result (register_refusal fault) Store told failed))
-
-pub returns-in_err-commit-clause-room : goal.returns-in_err-commit-clause-room
-returns-in_err-commit-clause-room g c clean store room failed =
-    let told : c.from_residual-in_err-commit.result ≡ Err Commit = search rules in
-    let other = one_refusal c.from_residual-in_err-commit.result Commit Store told failed in
-    absurd (cc)

@@ -1,4 +1,4 @@
-use Rattle.std.proofs.Common.{◌++◌, [], ◌∷◌, ap, sym, ◌∙◌, arith, append_assoc, length-append}
+use Rattle.zeb_extract.proofs.Cited.{◌++◌, [], ◌∷◌, ap, sym, ◌∙◌, arith, append_assoc, length-append}
 use Rattle.zeb_extract.proofs.Listed.{listed_push, grown_by_one}
 use Rattle.zeb_extract.proofs.entries.add_terms.Goals as goal
 

@@ -1,6 +1,4 @@
-use Rattle.std.proofs.Common.{◌≡◌, ◌++◌, length}
-use Rattle.std.specs.Vec.Iter.{into_iter_items}
-use Rattle.zeb_extract.specs.PrivateListing.{numbered_terms}
+use Rattle.zeb_extract.proofs.Cited.{◌≡◌, ◌++◌, length, into_iter_items, numbered_terms}
 use Rattle.zeb_extract.proofs.entries.add_terms.Given as goal
 
 abbrev pub invariant-loop-term : goal.invariant-loop-term

@@ -1,8 +1,4 @@
-use Rattle.std.proofs.Common.{◌≡◌, ◌++◌}
-use Rattle.std.specs.List.{flat_map}
-use Rattle.zeb_marc.specs.Units.{unit_text}
-use Rattle.zeb_profile.specs.TargetsLeft.{targets_left}
-use Rattle.zeb_extract.specs.PrivateListing.{listed_in}
+use Rattle.zeb_extract.proofs.Cited.{◌≡◌, ◌++◌, flat_map, unit_text, targets_left, listed_in}
 use Rattle.zeb_extract.proofs.entries.add_unit.Given as goal
 
 abbrev pub invariant-loop-index : goal.invariant-loop-index

@@ -1,6 +1,4 @@
-use Rattle.std.proofs.Common.{◌<◌, ◌^◌}
-use Rattle.std.proofs.lemmas.List.Elements.{All-head}
-use Rattle.zeb_text.proofs.NumberBounds.{numbers_below}
+use Rattle.zeb_extract.proofs.Cited.{◌<◌, ◌^◌, All-head, numbers_below}
 use Rattle.zeb_extract.proofs.entries.number_terms.Goals as goal
 
 pub key_of_number-requires : goal.key_of_number-requires

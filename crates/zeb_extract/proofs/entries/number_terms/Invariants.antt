@@ -1,6 +1,5 @@
-use Rattle.std.proofs.Common.{◌≡◌, ◌++◌, map}
+use Rattle.zeb_extract.proofs.Cited.{◌≡◌, ◌++◌, map, numbers_left}
 use Rattle.zeb_text.specs.Numbers.{number_key}
-use Rattle.zeb_text.specs.NumbersLeft.{numbers_left}
 use Rattle.zeb_extract.proofs.entries.number_terms.Given as goal
 
 abbrev pub invariant-loop-number : goal.invariant-loop-number

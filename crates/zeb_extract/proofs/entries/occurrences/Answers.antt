@@ -1,6 +1,5 @@
-use Rattle.std.proofs.Common.{rules, ◌∙◌}
+use Rattle.zeb_extract.proofs.Cited.{rules, ◌∙◌, apart_by, rising_by, occurrences_apart}
 use Rattle.zeb_extract.proofs.Listed.{found_are_occurrences}
-use Rattle.zeb_keys.proofs.Rising.{apart_by, rising_by, occurrences_apart}
 use Rattle.zeb_extract.proofs.entries.occurrences.Goals as goal
 
 pub put_in_order-requires : goal.put_in_order-requires

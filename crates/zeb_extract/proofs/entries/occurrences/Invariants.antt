@@ -1,6 +1,4 @@
-use Rattle.std.proofs.Common.{◌≡◌, ◌++◌}
-use Rattle.zeb_profile.specs.Indexes.{unit_targets}
-use Rattle.zeb_extract.specs.PrivateListing.{listing}
+use Rattle.zeb_extract.proofs.Cited.{◌≡◌, ◌++◌, unit_targets, listing}
 use Rattle.zeb_extract.proofs.entries.occurrences.Given as goal
 
 abbrev pub invariant-loop-unit : goal.invariant-loop-unit

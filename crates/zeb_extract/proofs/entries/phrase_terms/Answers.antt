@@ -1,4 +1,4 @@
-use Rattle.std.proofs.Common.{string_bytes}
+use Rattle.zeb_extract.proofs.Cited.{string_bytes}
 use Rattle.zeb_extract.proofs.Listed.{only_joined}
 use Rattle.zeb_extract.proofs.entries.phrase_terms.Goals as goal
 

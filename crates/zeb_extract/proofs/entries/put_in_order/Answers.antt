@@ -1,4 +1,4 @@
-use Rattle.zeb_keys.proofs.SortedLists.{rising_from_dedup, members_from_dedup}
+use Rattle.zeb_extract.proofs.Cited.{rising_from_dedup, members_from_dedup}
 use Rattle.zeb_extract.proofs.entries.put_in_order.Goals as goal
 
 pub returns-clause-rising : goal.returns-clause-rising

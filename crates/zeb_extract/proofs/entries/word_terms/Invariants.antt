@@ -1,4 +1,4 @@
-use Rattle.std.proofs.Common.{◌≡◌, map, string_bytes, take}
+use Rattle.zeb_extract.proofs.Cited.{◌≡◌, map, string_bytes, take}
 use Rattle.zeb_extract.proofs.entries.word_terms.Given as goal
 
 abbrev pub invariant-loop-word : goal.invariant-loop-word

@@ -1,6 +1,5 @@
-use Rattle.std.proofs.Common.{ap, arith, refl}
+use Rattle.zeb_extract.proofs.Cited.{ap, arith, refl, Occurrence}
 use Rattle.zeb_extract.proofs.Example.{date_found, no_other}
-use Rattle.zeb_keys.specs.declared.keys.Occurrence.{Occurrence}
 use Rattle.zeb_extract.proofs.laws.moby_dick_has_its_date.Goals as goal
 
 pub returns : goal.returns

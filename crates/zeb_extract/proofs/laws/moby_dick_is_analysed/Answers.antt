@@ -1,4 +1,4 @@
-use Rattle.std.proofs.Common.{refl}
+use Rattle.zeb_extract.proofs.Cited.{refl}
 use Rattle.zeb_extract.proofs.Analysis.{called, rising, members}
 use Rattle.zeb_extract.proofs.laws.moby_dick_is_analysed.Goals as goal
 

@@ -1,5 +1,4 @@
-use Rattle.std.proofs.Common.{sym, subst}
-use Rattle.zeb_extract.specs.Stripped.{IsStripped}
+use Rattle.zeb_extract.proofs.Cited.{sym, subst, IsStripped}
 use Rattle.zeb_extract.proofs.Stripped.{is_stripped, only_stripped}
 use Rattle.zeb_extract.proofs.laws.spaces_go_from_both_ends.Goals as goal
 

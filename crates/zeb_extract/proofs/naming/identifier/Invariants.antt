@@ -1,5 +1,4 @@
-use Rattle.std.proofs.Common.{◌≡◌}
-use Rattle.zeb_extract.specs.Identifier.{first_fitting}
+use Rattle.zeb_extract.proofs.Cited.{◌≡◌, first_fitting}
 use Rattle.zeb_extract.proofs.naming.identifier.Given as goal
 
 abbrev pub invariant-loop-unit : goal.invariant-loop-unit

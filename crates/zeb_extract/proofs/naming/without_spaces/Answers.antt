@@ -1,5 +1,4 @@
-use Rattle.std.proofs.Common.{ap, ◌∙◌}
-use Rattle.zeb_extract.specs.Identifier.{without_trailing_spaces}
+use Rattle.zeb_extract.proofs.Cited.{ap, ◌∙◌, without_trailing_spaces}
 use Rattle.zeb_extract.proofs.Spaces.{without_front, without_end}
 use Rattle.zeb_extract.proofs.naming.without_spaces.Goals as goal
 

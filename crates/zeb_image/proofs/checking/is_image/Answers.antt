@@ -1,16 +1,5 @@
-use Rattle.std.proofs.Common.{sym, ap, subst, arith}
-use Rattle.std.specs.Option.{is_some}
-use Rattle.std.proofs.lemmas.Result.{IfOk-weaker}
-use Rattle.sqlite.specs.Effect.{Database}
-use Rattle.sqlite.specs.Held.{state}
-use Rattle.sqlite.specs.State.{HasCleanDisk}
-use Rattle.sqlite.proofs.Callers.{unchanged_then}
-use Rattle.zeb_register.specs.Expected.{AreExpected}
-use Rattle.zeb_register.proofs.Calls.{nothing_then, store_same}
-use Rattle.zeb_register.proofs.CallsInTurn.{quiet_then}
-use Rattle.zeb_image.specs.PrivateChecking.{IsExpectationOrNone}
+use Rattle.zeb_image.proofs.Cited.{sym, ap, subst, arith, is_some, IfOk-weaker, Database, state, HasCleanDisk, unchanged_then, AreExpected, nothing_then, store_same, quiet_then, IsExpectationOrNone, may_after}
 use Rattle.zeb_image.proofs.CheckedImages.{all_ordered, expected_is, is_expected, no_image}
-use Rattle.zeb_register.proofs.Causes.{may_after}
 use Rattle.zeb_image.proofs.checking.is_image.Goals as goal
 
 pub returns-in-None-clause-value : goal.returns-in-None-clause-value

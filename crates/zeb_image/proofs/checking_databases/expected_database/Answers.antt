@@ -1,7 +1,5 @@
-use Rattle.std.proofs.Common.{rules, ◌≡◌, Err, subst, string_bytes}
-use Rattle.sqlite.specs.Held.{state}
+use Rattle.zeb_image.proofs.Cited.{rules, ◌≡◌, Err, subst, string_bytes, state, ArePostingsOrNone, CanKeepAll}
 use Rattle.zeb_register.specs.declared.RegFault.TheVariants.{Damaged}
-use Rattle.zeb_image.specs.PrivateChecking.{ArePostingsOrNone, CanKeepAll}
 use Rattle.zeb_image.proofs.CheckedRecords.{sound_kept, sound_readable}
 use Rattle.zeb_image.proofs.checking_databases.expected_database.Goals as goal
 

@@ -1,19 +1,5 @@
-use Rattle.std.proofs.Common.{rules, ◌≡◌, ◌∙◌, ◌++◌, pos, [], ◌∷◌, append_assoc, Err, inl, refl, sym, ap, subst, arith, string_bytes}
-use Rattle.std.specs.List.{AllZip}
-use Rattle.std.specs.Option.{is_some}
-use Rattle.std.specs.Vec.Iter.{into_iter_items}
-use Rattle.sqlite.specs.Effect.{Database}
-use Rattle.sqlite.specs.Held.{state}
-use Rattle.sqlite.specs.State.{HasCleanDisk}
-use Rattle.sqlite.proofs.Callers.{unchanged_then}
-use Rattle.sqlite_rules.specs.Lists.{Has}
-use Rattle.sqlite_rules.proofs.ListLemmas.{has_right}
-use Rattle.zeb_register.proofs.Calls.{nothing_then, store_same}
-use Rattle.zeb_register.proofs.CallsInTurn.{quiet_then}
-use Rattle.zeb_image.specs.PrivateChecking.{CanBeHeld, IsMadeOf, IsMadeOrNone}
+use Rattle.zeb_image.proofs.Cited.{rules, ◌≡◌, ◌∙◌, ◌++◌, pos, [], ◌∷◌, append_assoc, Err, inl, refl, sym, ap, subst, arith, string_bytes, AllZip, is_some, into_iter_items, Database, state, HasCleanDisk, unchanged_then, Has, has_right, nothing_then, store_same, quiet_then, CanBeHeld, IsMadeOf, IsMadeOrNone, may_after, RegFault}
 use Rattle.zeb_image.proofs.CheckedLists.{zip_push}
-use Rattle.zeb_register.proofs.Causes.{may_after}
-use Rattle.zeb_register.specs.declared.RegFault.{RegFault}
 use Rattle.zeb_register.specs.declared.RegFault.TheVariants as fault
 use Rattle.zeb_image.proofs.checking_databases.expected_databases.Goals as goal
 

@@ -1,11 +1,4 @@
-use Rattle.std.proofs.Common.{◌≡◌, ◌++◌, false}
-use Rattle.std.specs.List.{AllZip}
-use Rattle.std.specs.Vec.Iter.{into_iter_items}
-use Rattle.sqlite.specs.Held.{state}
-use Rattle.sqlite.specs.State.{HasCleanDisk, IsUnchanged, Survives}
-use Rattle.zeb_register.specs.Calls.{ChangesNothing}
-use Rattle.zeb_register.specs.Store.{IsStore}
-use Rattle.zeb_image.specs.PrivateChecking.{IsMadeOf}
+use Rattle.zeb_image.proofs.Cited.{◌≡◌, ◌++◌, false, AllZip, into_iter_items, state, HasCleanDisk, IsUnchanged, Survives, ChangesNothing, IsStore, IsMadeOf}
 use Rattle.zeb_image.proofs.checking_databases.expected_databases.Given as goal
 
 abbrev pub invariant-loop-listed : goal.invariant-loop-listed

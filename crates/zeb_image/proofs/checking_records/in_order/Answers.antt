@@ -1,9 +1,5 @@
-use Rattle.std.proofs.Common.{rules, IsPermutation, map, sym, subst}
-use Rattle.std.specs.Ordering.{is_lt}
-use Rattle.std.proofs.lemmas.List.Sorted.{answers_always, ranks_by, IsPermutation-map, IsPermutation-trans}
-use Rattle.zeb_register.specs.declared.expected.KeyPosting.{KeyPosting}
-use Rattle.zeb_register.specs.Expected.{key_posting_order}
-use Rattle.zeb_image.specs.PrivateChecking.{bare}
+use Rattle.zeb_image.proofs.Cited.{rules, map, sym, subst, is_lt, answers_always, ranks_by, IsPermutation-map, IsPermutation-trans, KeyPosting, key_posting_order, bare}
+use Rattle.std.proofs.Common.{IsPermutation}
 use Rattle.zeb_image.proofs.OrderedPostings.{order_total, put_members, put_rises}
 use Rattle.zeb_image.proofs.checking_records.in_order.Goals as goal
 

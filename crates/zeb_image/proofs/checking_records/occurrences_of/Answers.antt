@@ -1,13 +1,4 @@
-use Rattle.std.proofs.Common.{rules, ◌≡◌, ◌∙◌, ◌↔◌, List, IsTrue, Ok, sym, ap, subst, arith}
-use Rattle.std.proofs.lemmas.Str.{IsUtf8-string_bytes}
-use Rattle.std.specs.List.{Contains}
-use Rattle.zeb_marc.specs.Directory.{FieldText}
-use Rattle.zeb_marc.specs.Records.{fields_of, first_fault}
-use Rattle.zeb_marc.specs.Contents.{units_of}
-use Rattle.zeb_profile.specs.Indexes.{unit_targets}
-use Rattle.zeb_extract.specs.Identifier.{identifier_of}
-use Rattle.zeb_extract.specs.Occurrences.{IsOccurrence}
-use Rattle.zeb_keys.specs.declared.keys.Occurrence.{Occurrence}
+use Rattle.zeb_image.proofs.Cited.{rules, ◌≡◌, ◌∙◌, ◌↔◌, List, IsTrue, Ok, sym, ap, subst, arith, IsUtf8-string_bytes, Contains, FieldText, fields_of, first_fault, units_of, unit_targets, identifier_of, IsOccurrence, Occurrence}
 use Rattle.zeb_image.proofs.checking_records.occurrences_of.Goals as goal
 
 pub returns-clause-value : goal.returns-clause-value

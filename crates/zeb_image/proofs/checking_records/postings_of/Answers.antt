@@ -1,8 +1,4 @@
-use Rattle.std.proofs.Common.{◌≡◌, ◌∙◌, ◌+◌, ◌++◌, List, [], ◌∷◌, map, take, sym, ap, subst, arith}
-use Rattle.std.proofs.lemmas.List.{take_more, take_all}
-use Rattle.sqlite_rules.proofs.ListLemmas.{has_at}
-use Rattle.zeb_register.specs.declared.kept.Record.{Record}
-use Rattle.zeb_image.specs.PrivateChecking.{AreOccurrencesOrNone, AreRecordsPostings, CanKeepAll, bare}
+use Rattle.zeb_image.proofs.Cited.{◌≡◌, ◌∙◌, ◌+◌, ◌++◌, List, [], ◌∷◌, map, take, sym, ap, subst, arith, take_more, take_all, has_at, Record, AreOccurrencesOrNone, AreRecordsPostings, CanKeepAll, bare}
 use Rattle.zeb_image.proofs.CheckedRecords.{one_kept, one_posted}
 use Rattle.zeb_image.proofs.checking_records.postings_of.Goals as goal
 

@@ -1,5 +1,4 @@
-use Rattle.std.proofs.Common.{map, take}
-use Rattle.zeb_image.specs.PrivateChecking.{AreRecordsPostings, CanKeepAll, bare}
+use Rattle.zeb_image.proofs.Cited.{map, take, AreRecordsPostings, CanKeepAll, bare}
 use Rattle.zeb_image.proofs.checking_records.postings_of.Given as goal
 
 abbrev pub invariant-loop-kept : goal.invariant-loop-kept

@@ -1,7 +1,4 @@
-use Rattle.std.proofs.Common.{◌++◌, [], ◌∷◌, ap, sym, ◌∙◌, append_assoc, map}
-use Rattle.std.proofs.lemmas.List.{map-append}
-use Rattle.zeb_extract.proofs.Listed.{grown_by_one}
-use Rattle.zeb_image.specs.PrivateChecking.{bare, posting_of}
+use Rattle.zeb_image.proofs.Cited.{◌++◌, [], ◌∷◌, ap, sym, ◌∙◌, append_assoc, map, map-append, grown_by_one, bare, posting_of}
 use Rattle.zeb_image.proofs.fronted.add_postings.Goals as goal
 
 pub loop-occurrence-preserved : goal.loop-occurrence-preserved

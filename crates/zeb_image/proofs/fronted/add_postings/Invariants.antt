@@ -1,6 +1,4 @@
-use Rattle.std.proofs.Common.{◌≡◌, ◌++◌, map}
-use Rattle.std.specs.Vec.Iter.{into_iter_items}
-use Rattle.zeb_image.specs.PrivateChecking.{bare, posting_of}
+use Rattle.zeb_image.proofs.Cited.{◌≡◌, ◌++◌, map, into_iter_items, bare, posting_of}
 use Rattle.zeb_image.proofs.fronted.add_postings.Given as goal
 
 abbrev pub invariant-loop-occurrence : goal.invariant-loop-occurrence

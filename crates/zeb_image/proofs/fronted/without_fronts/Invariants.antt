@@ -1,5 +1,4 @@
-use Rattle.std.proofs.Common.{◌≡◌, ◌++◌, length, map, reverse}
-use Rattle.zeb_image.specs.PrivateChecking.{bare}
+use Rattle.zeb_image.proofs.Cited.{◌≡◌, ◌++◌, length, map, reverse, bare}
 use Rattle.zeb_image.proofs.fronted.without_fronts.Given as goal
 
 abbrev pub invariant-loop-last : goal.invariant-loop-last

@@ -1,35 +1,5 @@
-use Rattle.std.proofs.Common.{◌≡◌, ◌+◌, ◌≤◌, ℕ, ℤ, IsTrue, pos, List, Some, None, Result, Ok, Err, OnOk, refl, sym, subst, arith, rules, string_bytes}
-use Rattle.sqlite.specs.Effect.{Database}
-use Rattle.sqlite.specs.Held.{state}
-use Rattle.sqlite.specs.State.{HasCleanDisk, State, Survives}
-use Rattle.sqlite.specs.Tree.{Trees}
-use Rattle.zeb_register.specs.Calls.{MayRefuse, OnlyReads}
-use Rattle.zeb_register.specs.Content.{Content, IsStorable}
-use Rattle.zeb_register.specs.Formats.{holds_in}
-use Rattle.zeb_register.specs.Kept.{IsFirstFrom}
-use Rattle.zeb_register.specs.Room.{HasRoom}
-use Rattle.zeb_register.specs.Store.{IsStore, KeepsLists, KeepsRegisters}
-use Rattle.zeb_register.specs.declared.faults.RegFault.{RegFault}
-use Rattle.zeb_register.specs.declared.faults.RegFault.TheVariants.{Damaged, Store}
-use Rattle.zeb_register.specs.declared.kept.Record.{Record}
-use Rattle.zeb_register.proofs.Calls.{store_same}
-use Rattle.zeb_register.proofs.Causes.{may_after}
-use Rattle.zeb_register.proofs.RowsAreLists.{one_number}
-use Rattle.zeb_change.specs.Asked.{HasRoomFor}
-use Rattle.zeb_change.specs.Base.{Kept}
-use Rattle.zeb_change.specs.Inside.{Continues, StaysInside}
-use Rattle.zeb_change.specs.Noted.{WillHold}
-use Rattle.zeb_change.specs.Occurs.{OccursIn}
-use Rattle.zeb_change.proofs.ChangeKeysContent.{keeps_then}
-use Rattle.zeb_change.proofs.CostLemmas.{ok_so}
-use Rattle.zeb_change.proofs.LeadsToContent.{held_whole, will_begin}
-use Rattle.zeb_change.proofs.RecordRoom.{room_noted}
-use Rattle.zeb_change.proofs.TransactionLemmas.{continues_then, kept_then}
-use Rattle.zeb_image.specs.PrivateChecking.{kept_of}
-use Rattle.zeb_image.specs.PrivateRebuilding.{AreAmong, IsRecordPosted, LacksDatabase, WillHoldSuch}
-use Rattle.zeb_image.specs.Rebuilding.{AskKept}
+use Rattle.zeb_image.proofs.Cited.{◌≡◌, ℕ, ℤ, IsTrue, pos, Some, None, Result, Ok, Err, OnOk, refl, sym, subst, arith, rules, string_bytes, Database, state, HasCleanDisk, State, Survives, Trees, OnlyReads, Content, IsStorable, holds_in, IsFirstFrom, IsStore, KeepsLists, Damaged, Record, store_same, one_number, Continues, StaysInside, WillHold, OccursIn, keeps_then, ok_so, held_whole, will_begin, continues_then, kept_then, kept_of, IsRecordPosted, LacksDatabase, WillHoldSuch}
 use Rattle.zeb_image.proofs.RebuiltPostings.{IsPostedBelow, all_posted, all_sound, first_lacks, first_still, next_posted, next_sound, none_posted, readable_still}
-use Rattle.zeb_image.proofs.RebuiltRoom.{NextRecordRoom, failed_for, next_record, records_begun, records_ended}
 use Rattle.zeb_image.proofs.rebuilding.database_post.Given as given
 use Rattle.zeb_image.proofs.rebuilding.database_post.Goals.{After-write_where_full}
 use Rattle.zeb_image.proofs.rebuilding.database_post.Goals as goal
@@ -67,22 +37,16 @@ stays_then old mid new (Err fault) one two = kept_then old mid new one two
 same_lists : (lists : Trees) (old new : State) → new.now ≡ old.now → KeepsLists lists old.now.trees → KeepsLists lists new.now.trees
 same_lists lists old new same keeps = subst (λ (db : Database). KeepsLists lists db.trees) (sym same) keeps
 
-registers_seen : (old new : State) → new.now ≡ old.now → KeepsRegisters old.now.trees new.now.trees
-registers_seen old new same = subst (λ (db : Database). KeepsRegisters old.now.trees db.trees) (sym same) (refl, refl, refl)
-
 pub loop-turn-init : goal.loop-turn-init
 loop-turn-init g c = record {
   same = refl;
   crash = search rules;
   stays = search rules;
   small = omega arith;
-  turns = λ clean mode store. omega arith;
   kept = λ clean mode store. (store, (refl, refl, refl));
   checked = λ clean mode store n ident bytes low there. absurd (omega (arith, low));
   posted = λ clean mode store before had storable lacks.
       record { content = before; held = will_begin g.L.Layout.format _ c.args.db.0 c.new-pending.result before c.new-pending.ensures had storable; storable = storable; is = none_posted c.args.profile.now _ c.args.db.0 before lacks };
-  room = λ clean mode store records most places rowids spare asks few among has.
-      records_begun c.args.profile.now _ c.args.db.0 c.new-pending.result records most places rowids spare c.new-pending.ensures asks few among has;
 }
 
 -- ---- the next record
@@ -138,31 +102,6 @@ then_noted g c clean mode store before had storable lacks =
     let none = first_lacks c.args.profile.now (state g.S.Store c.args.tx.now.conn.now).now.trees id c.loop-turn.next before such.content such.is c.in-Some.record read.first in
     (such, c.in_ok-record_note.ensures.posted format (state g.S.Store c.record_from_inside.new.tx.conn.now).now.trees id such.content held such.storable none)
 
--- ---- where there is room
-
--- the record that was read is noted, and what is noted may be written
-wrote : (g : given.Over) (c : After-write_where_full g) → HasCleanDisk (state g.S.Store c.write_where_full.new.tx.conn.now) → IsTrue (state g.S.Store c.args.tx.now.conn.now).in_transaction
-    → IsStore (state g.S.Store c.args.tx.now.conn.now)
-    → (records : List Kept) (most places rowids spare : ℕ) → AskKept c.args.profile.now most records places rowids → places + spare ≤ most
-    → AreAmong (state g.S.Store c.args.tx.now.conn.now).now.trees c.args.db.0 records → HasRoom (places + spare) (state g.S.Store c.args.tx.now.conn.now).now.trees
-    → (next : NextRecordRoom c.args.profile.now (state g.S.Store c.args.tx.now.conn.now).now.trees c.args.db.0 c.in-Some.record (state g.S.Store c.loop-turn.tx.conn.now).now.trees c.loop-turn.pending most spare)
-    × (c.write_where_full.result ≡ Err Store → MayRefuse (state g.S.Store c.args.tx.now.conn.now) (state g.S.Store c.write_where_full.new.tx.conn.now))
-    × OnOk c.write_where_full.result (HasRoomFor most (state g.S.Store c.write_where_full.new.tx.conn.now).now.trees c.write_where_full.new.pending (next.others + spare))
-wrote g c clean mode store records most places rowids spare asks few among has =
-    let read = next_read g c clean mode store in
-    let old = state g.S.Store c.args.tx.now.conn.now in
-    let now = state g.S.Store c.loop-turn.tx.conn.now in
-    let mid = state g.S.Store c.record_from_inside.new.tx.conn.now in
-    let rest = c.loop-turn.invariant.room read.at.clean mode store records most places rowids spare asks few among has in
-    let next = next_record c.args.profile.now old.now.trees c.args.db.0 c.loop-turn.next now.now.trees c.loop-turn.pending most spare rest c.in-Some.record read.first in
-    let within = next.room.few in
-    let more = c.in_ok-record_note.ensures.room most next.place next.rowid (next.room.noted + (next.place + (next.others + spare))) next.room.noted next.asks within next.room.among in
-    let seen = registers_seen now mid read.at.on.now_is in
-    let room = room_noted most now.now.trees mid.now.trees c.loop-turn.pending c.record_note.new.pending next.place (next.others + spare) more.0 next.room seen more.1 more.2 in
-    let done = c.write_where_full.ensures.room most (next.others + spare) clean read.at.on.mode read.store room in
-    let crash : Survives old mid (λ _. ⊥) = search rules in
-    (next, λ failed. may_after old mid (state g.S.Store c.write_where_full.new.tx.conn.now) crash read.at.goes.stays_open (λ _. done.0 failed), done.1)
-
 pub loop-turn-preserved : goal.loop-turn-preserved
 loop-turn-preserved g c =
     let full = (goal.at.loop-turn-preserved g c).After-write_where_full in
@@ -180,14 +119,6 @@ loop-turn-preserved g c =
           let at = asked_next g full clean mode in
           continues_then old mid new at.goes (c.in_ok-write_where_full.ensures.call.stays clean at.goes.mode);
       small = omega (arith, c.in_ok-record_note.ensures.number);
-      turns = λ clean mode store.
-          let read = next_read g full clean mode store in
-          let so_far = c.loop-turn.invariant.turns read.at.clean mode store in
-          let behind = read.first.1 in
-          omega (arith, so_far, behind);
-      room = λ clean mode store records most places rowids spare asks few among has.
-          let done = wrote g full clean mode store records most places rowids spare asks few among has in
-          done.0.leaves new.now.trees c.write_where_full.new.pending (subst (λ (r : Result (Unit {0}) RegFault). OnOk r (HasRoomFor most new.now.trees c.write_where_full.new.pending (done.0.others + spare))) c.in_ok-write_where_full.was done.2);
       kept = λ clean mode store.
           let read = next_read g full clean mode store in
           let settled = c.in_ok-write_where_full.ensures.call.written clean read.at.on.mode read.store in
@@ -317,55 +248,3 @@ returns-in_err-write_where_full-clause-damaged g c = λ clean mode store told be
     let noted = (then_noted g full clean mode store before had storable lacks).1 in
     let fault : c.write_where_full.result ≡ Err Damaged = search rules in
     c.write_where_full.ensures.call.honest clean read.at.on.mode read.store fault noted.content noted.storable noted.held
-
--- ---- a failed store, where there is room
-
-pub returns-in_default-clause-room : goal.returns-in_default-clause-room
-returns-in_default-clause-room g c records most places rowids spare asks few clean mode store among has =
-    let old = state g.S.Store c.args.tx.now.conn.now in
-    let now = state g.S.Store c.loop-turn.tx.conn.now in
-    let mid = state g.S.Store c.record_from_inside.new.tx.conn.now in
-    let new = state g.S.Store c.write_pending.new.tx.conn.now in
-    let at = asked old now mid (omega (arith, c.write_pending.ensures.call.crash.clean)) c.record_from_inside.ensures.call.crash (λ clean_now. c.loop-turn.invariant.stays clean_now mode) c.in_ok-record.ensures.call.ok in
-    let kept = c.loop-turn.invariant.kept at.clean mode store in
-    let rest = c.loop-turn.invariant.room at.clean mode store records most places rowids spare asks few among has in
-    let room = subst (λ (db : Database). HasRoomFor most db.trees c.loop-turn.pending (rest.places + spare)) (sym at.on.now_is) rest.room in
-    let done = c.write_pending.ensures.room most (rest.places + spare) clean at.on.mode (store_same now mid at.on.now_is kept.0) room in
-    let crash : Survives old mid (λ _. ⊥) = search rules in (
-      λ failed. may_after old mid new crash at.goes.stays_open (λ _. done.0 failed),
-      ok_both c.write_pending.result _ _ _ (λ all there. records_ended new.now.trees c.write_pending.new.pending most rest.places spare all there) c.write_pending.ensures.all done.1,
-    )
-
-pub returns-in_err-record-clause-room : goal.returns-in_err-record-clause-room
-returns-in_err-record-clause-room g c records most places rowids spare asks few clean mode store among has =
-    let old = state g.S.Store c.args.tx.now.conn.now in
-    let now = state g.S.Store c.loop-turn.tx.conn.now in
-    let new = state g.S.Store c.record_from_inside.new.tx.conn.now in
-    let clean_now : HasCleanDisk now = omega (arith, c.record_from_inside.ensures.call.crash.clean) in
-    let was = c.loop-turn.invariant.stays clean_now mode in
-    let kept = c.loop-turn.invariant.kept clean_now mode store in
-    let told : c.from_residual.result ≡ Err c.in_err-record.field-0.0 = search rules in
-    failed_for _ _ c.from_residual.result c.in_err-record.field-0.0 told (λ failed.
-    let fault : c.record_from_inside.result ≡ Err Store = search rules in
-    may_after old now new c.loop-turn.invariant.crash was.stays_open (λ _. c.record_from_inside.ensures.refused clean was.mode kept.0 fault))
-
-pub returns-in_err-record_note-clause-room : goal.returns-in_err-record_note-clause-room
-returns-in_err-record_note-clause-room g c records most places rowids spare asks few clean mode store among has =
-    let told : c.from_residual-in_err-record_note.result ≡ Err c.in_err-record_note.field-0.0 = search rules in
-    failed_for _ _ c.from_residual-in_err-record_note.result c.in_err-record_note.field-0.0 told (λ failed.
-    let fault : c.record_note.result ≡ Err Store = search rules in
-    absurd (c.record_note.ensures.unstored fault))
-
-pub returns-in_err-write_where_full-clause-room : goal.returns-in_err-write_where_full-clause-room
-returns-in_err-write_where_full-clause-room g c records most places rowids spare asks few clean mode store among has =
-    let done = wrote g (goal.at.returns-in_err-write_where_full-clause-room g c).After-write_where_full clean mode store records most places rowids spare asks few among has in
-    let told : c.from_residual-in_err-write_where_full.result ≡ Err c.in_err-write_where_full.field-0.0 = search rules in
-    failed_for _ _ c.from_residual-in_err-write_where_full.result c.in_err-write_where_full.field-0.0 told (λ failed.
-    let fault : c.write_where_full.result ≡ Err Store = search rules in
-    done.1 fault)
-
--- numbers that rise to no more than a milliard end before as many turns
-pub returns-clause-room : goal.returns-clause-room
-returns-clause-room g c records most places rowids spare asks few clean mode store among has =
-    let turns = c.loop-turn.invariant.turns clean mode store in
-    (λ failed. absurd (omega (arith, turns, c.loop-turn.invariant.small, c.loop-turn-test.false)), tt)

@@ -1,34 +1,6 @@
-use Rattle.std.proofs.Common.{◌≡◌, ◌∙◌, ◌+◌, ◌++◌, ◌∷◌, ℕ, ℤ, [], pos, IsTrue, List, Result, Err, OnOk, map, take, drop, suc, inl, inr, refl, sym, ap, subst, arith, rules, string_bytes}
-use Rattle.std.proofs.lemmas.List.{map-append, take_more, take_all}
-use Rattle.std.proofs.Math.Seq.{split_at}
-use Rattle.sqlite.specs.Effect.{Database}
-use Rattle.sqlite.specs.Held.{state}
-use Rattle.sqlite.specs.State.{HasCleanDisk, State}
-use Rattle.sqlite_rules.specs.Lists.{Has}
-use Rattle.sqlite_rules.proofs.ListLemmas.{has_either, has_right}
-use Rattle.zeb_profile.specs.declared.directives.Directive.{Directive}
-use Rattle.zeb_register.specs.declared.catalog.ListedDatabase.{ListedDatabase}
-use Rattle.zeb_register.specs.declared.faults.RegFault.{RegFault}
-use Rattle.zeb_register.specs.declared.faults.RegFault.TheVariants.{Damaged, Store}
-use Rattle.zeb_register.specs.Calls.{GoesOn, MayRefuse, OnlyReads}
-use Rattle.zeb_register.specs.Catalog.{AreDatabases}
-use Rattle.zeb_register.specs.Formats.{Format, holds_in}
-use Rattle.zeb_register.specs.Room.{HasRoom}
-use Rattle.zeb_register.specs.Store.{HasDatabase, IsStore, KeepsLists, LacksRegisters}
-use Rattle.zeb_register.proofs.Calls.{store_same}
-use Rattle.zeb_register.proofs.Causes.{may_after}
-use Rattle.zeb_register.proofs.FormatLemmas.{registers_empty}
-use Rattle.zeb_register.proofs.Room.{room_empty}
-use Rattle.zeb_change.specs.Base.{Base}
-use Rattle.zeb_change.specs.Inside.{Continues}
-use Rattle.zeb_change.proofs.ChangeKeysContent.{keeps_then}
-use Rattle.zeb_change.proofs.TransactionLemmas.{goes_on, kept_then}
-use Rattle.zeb_image.specs.Image.{AreListsOf}
-use Rattle.zeb_image.specs.PrivateRebuilding.{HoldsSuch, LacksDatabase}
-use Rattle.zeb_image.specs.Rebuilding.{AreSoundIn, AskBases}
+use Rattle.zeb_image.proofs.Cited.{◌≡◌, ◌∙◌, ◌+◌, ◌++◌, ◌∷◌, ℤ, [], pos, IsTrue, List, Err, map, take, drop, suc, inl, inr, refl, sym, ap, subst, arith, rules, string_bytes, map-append, take_more, take_all, split_at, Database, state, HasCleanDisk, State, Has, has_either, has_right, Directive, ListedDatabase, Damaged, GoesOn, OnlyReads, AreDatabases, Format, holds_in, HasDatabase, IsStore, KeepsLists, store_same, registers_empty, Continues, keeps_then, goes_on, kept_then, HoldsSuch, LacksDatabase, AreSoundIn}
 use Rattle.zeb_image.proofs.RebuiltImages.{id_in, listed_id, listed_there, lists_readable, lists_sound, new_id, readable_databases, rebuilt, same_databases}
 use Rattle.zeb_image.proofs.RebuiltPostings.{ArePostedIn, more_posted, new_lacks, nothing_posted, posted_still, readable_still, sound_still, sound_then}
-use Rattle.zeb_image.proofs.RebuiltRoom.{BasesRoom, NextBaseRoom, among_still, asked_few, bases_begun, next_base}
 use Rattle.zeb_image.proofs.rebuilding.rebuild.Given as given
 use Rattle.zeb_image.proofs.rebuilding.rebuild.Goals.{After-database_post}
 use Rattle.zeb_image.proofs.rebuilding.rebuild.Goals as goal
@@ -70,12 +42,6 @@ loop-database-init g c =
             storable = λ db key p there. absurd there;
             is = nothing_posted c.args.profile.now old.now.trees;
           };
-      room = λ clean mode store bases most rowids asks these.
-          let done = c.in_ok-registers_wipe.ensures.call.ok (clean_wiped clean) mode in
-          let read = c.in_ok-databases.ensures.call.ok clean done.0.mode in
-          let none = subst (λ (db : Database). LacksRegisters db.trees) (sym read.now_is) (done.1 store).1 in
-          bases_begun c.args.profile.now old.now.trees bases these new.now.trees most rowids asks
-          (room_empty most (λ _. most) new.now.trees (asked_few c.args.profile.now bases most rowids asks) none);
     }
 
 -- the next database is in the list, and nothing of it is posted
@@ -111,29 +77,6 @@ next_listed g c clean mode store =
       such = such;
       lacks = new_lacks c.args.profile.now old.now.trees (map id_in done) such.content such.is item.id.0 fresh;
     }
-
--- ---- where there is room
-
--- the records of the next database are posted
-posted_room : (g : given.Over) (c : After-database_post g) → HasCleanDisk (state g.S.Store c.database_post.new.tx.conn.now) → IsTrue (state g.S.Store c.args.tx.now.conn.now).in_transaction
-    → IsStore (state g.S.Store c.args.tx.now.conn.now)
-    → (bases : List Base) (most rowids : ℕ) → AskBases c.args.profile.now most bases most rowids → (these : AreListsOf (state g.S.Store c.args.tx.now.conn.now).now.trees bases)
-    → (next : NextBaseRoom c.args.profile.now (state g.S.Store c.args.tx.now.conn.now).now.trees bases these (map id_in (take c.loop-database.database-index c.deref-database-items.result.now))
-    c.database-item.result.id.0 (state g.S.Store c.loop-database.tx.conn.now).now.trees most)
-    × (c.database_post.result ≡ Err Store → MayRefuse (state g.S.Store c.args.tx.now.conn.now) (state g.S.Store c.database_post.new.tx.conn.now))
-    × OnOk c.database_post.result (HasRoom next.others (state g.S.Store c.database_post.new.tx.conn.now).now.trees)
-posted_room g c clean mode store bases most rowids asks these =
-    let base = next_listed g c clean mode store in
-    let old = state g.S.Store c.args.tx.now.conn.now in
-    let now = state g.S.Store c.loop-database.tx.conn.now in
-    let item = c.database-item.result in
-    let clean_now : HasCleanDisk now = omega (arith, c.database_post.ensures.crash.clean) in
-    let rest = c.loop-database.invariant.room clean_now mode store bases most rowids asks these in
-    let ids = map id_in (take c.loop-database.database-index c.deref-database-items.result.now) in
-    let next = next_base c.args.profile.now old.now.trees bases these ids now.now.trees most rest item.id.0 (string_bytes item.name) (pos item.last) base.there base.fresh in
-    let posted = c.database_post.ensures.room next.records most next.place next.rowid next.others next.asks next.few clean base.on.mode base.kept.0
-    (among_still old.now.trees now.now.trees base.kept.1 item.id.0 next.records next.among) next.room in
-    (next, λ failed. may_after old now (state g.S.Store c.database_post.new.tx.conn.now) c.loop-database.invariant.crash (λ _. base.on.is_open) (λ _. posted.0 failed), posted.1)
 
 pub loop-database-preserved : goal.loop-database-preserved
 loop-database-preserved g c =
@@ -180,11 +123,6 @@ loop-database-preserved g c =
                 (more_posted profile old.now.trees (map id_in done) such.content such.is item.id.0 base.fresh then_such.content
                 (posted_still old.now.trees now.now.trees base.kept.1 profile item.id.0 such.content then_such.content then_such.is));
           };
-      room = λ clean mode store bases most rowids asks these.
-          let after = posted_room g (goal.at.loop-database-preserved g c).After-database_post clean mode store bases most rowids asks these in
-          let ids : map id_in (take (index + 1) items) ≡ map id_in done ++ item.id.0 ∷ [] = ap (map id_in) more ∙ map-append id_in done (item ∷ []) in
-          subst (λ l. BasesRoom profile old.now.trees bases these l new.now.trees most) (sym ids)
-          (after.0.leaves new.now.trees (subst (λ (r : Result (Unit {0}) RegFault). OnOk r (HasRoom after.0.others new.now.trees)) c.in_ok-database_post.was after.2));
     }
 
 pub returns-clause-built : goal.returns-clause-built
@@ -261,26 +199,3 @@ returns-in_err-database_post-clause-call g c =
           rw told (kept_then old now new (goes_on old now on) (c.in_err-database_post.ensures.stays clean on.mode));
       crash = search rules;
     }
-
--- ---- a failed store, where there is room
-
-pub returns-in_err-registers_wipe-clause-room : goal.returns-in_err-registers_wipe-clause-room
-returns-in_err-registers_wipe-clause-room g c bases places rowids asks clean mode store these failed =
-    let fault : c.registers_wipe.result ≡ Err Store = search rules in
-    c.registers_wipe.ensures.refused clean mode store fault
-
-pub returns-in_err-databases-clause-room : goal.returns-in_err-databases-clause-room
-returns-in_err-databases-clause-room g c bases places rowids asks clean mode store these failed =
-    let old = state g.S.Store c.args.tx.now.conn.now in
-    let wiped = state g.S.Store c.registers_wipe.new.tx.conn.now in
-    let new = state g.S.Store c.databases_inside.new.tx.conn.now in
-    let clean_wiped : HasCleanDisk wiped = omega (arith, c.databases_inside.ensures.call.crash.clean) in
-    let done = c.in_ok-registers_wipe.ensures.call.ok clean_wiped mode in
-    let fault : c.databases_inside.result ≡ Err Store = search rules in
-    may_after old wiped new c.registers_wipe.ensures.call.crash (λ _. done.0.is_open) (λ _. c.databases_inside.ensures.refused clean done.0.mode (done.1 store).0 fault)
-
-pub returns-in_err-database_post-clause-room : goal.returns-in_err-database_post-clause-room
-returns-in_err-database_post-clause-room g c bases places rowids asks clean mode store these failed =
-    let after = posted_room g (goal.at.returns-in_err-database_post-clause-room g c).After-database_post clean mode store bases places rowids asks these in
-    let fault : c.database_post.result ≡ Err Store = search rules in
-    after.1 fault

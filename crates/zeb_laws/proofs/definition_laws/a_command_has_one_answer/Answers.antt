@@ -1,4 +1,4 @@
-use Rattle.zeb_engine.proofs.OneAnswer.{steps_once}
+use Rattle.zeb_laws.proofs.Cited.{steps_once}
 use Rattle.zeb_laws.proofs.definition_laws.a_command_has_one_answer.Goals as goal
 
 pub returns : goal.returns

@@ -1,6 +1,4 @@
-use Rattle.std.proofs.Common.{subst}
-use Rattle.zeb_engine.proofs.OwnAnswers.{IsOwnAnswer, answers_own}
-use Rattle.zeb_engine.proofs.StepLemmas.{step_told}
+use Rattle.zeb_laws.proofs.Cited.{subst, IsOwnAnswer, answers_own, step_told}
 use Rattle.zeb_laws.proofs.definition_laws.no_definition_answers_damage.Goals as goal
 
 pub returns-clause-damage : goal.returns-clause-damage

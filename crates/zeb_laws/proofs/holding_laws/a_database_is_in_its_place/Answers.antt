@@ -1,7 +1,5 @@
-use Rattle.std.proofs.Common.{refl, inl, inr}
-use Rattle.sqlite_rules.proofs.ListLemmas.{has_contained, contains_had}
+use Rattle.zeb_laws.proofs.Cited.{refl, inl, inr, has_contained, contains_had, named_there, with_base_has, with_base_in_order}
 use Rattle.zeb_image.specs.Holdings.{with_base}
-use Rattle.zeb_image.proofs.Bases.{named_there, with_base_has, with_base_in_order}
 use Rattle.zeb_laws.proofs.holding_laws.a_database_is_in_its_place.Goals as goal
 
 pub returns-clause-members : goal.returns-clause-members

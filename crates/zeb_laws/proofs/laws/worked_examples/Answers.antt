@@ -1,9 +1,5 @@
-use Rattle.zeb_engine.specs.declared.commands.Command.TheVariants.{Init}
+use Rattle.zeb_laws.proofs.Cited.{Init, done, changed, refused, faulty, book_conditions, no_books, one_book, step_is}
 use Rattle.zeb_change.specs.declared.faults.RecordFault.TheVariants as fault
-use Rattle.zeb_engine.specs.Answers.{done, changed, refused}
-use Rattle.zeb_change.specs.Refused.{faulty}
-use Rattle.zeb_laws.specs.Worked.{book_conditions, no_books, one_book}
-use Rattle.zeb_engine.proofs.StepLemmas.{step_is}
 use Rattle.zeb_laws.proofs.WorkedAnswers.{begun, kept, again, refused_new, refused_old, has_no_other, word_found, word_not_found}
 use Rattle.zeb_laws.proofs.WorkedQuery.{asked}
 use Rattle.zeb_laws.proofs.WorkedRun.{run}

@@ -1,4 +1,4 @@
-use Rattle.zeb_engine.proofs.RenewedImages.{rules_told}
+use Rattle.zeb_laws.proofs.Cited.{rules_told}
 use Rattle.zeb_laws.proofs.renewal_laws.a_text_tells_the_rule.Goals as goal
 
 pub returns : goal.returns

@@ -1,8 +1,4 @@
-use Rattle.std.proofs.Common.{◌∙◌, refl, ap}
-use Rattle.zeb_profile.specs.Canonical.{canonical_text}
-use Rattle.zeb_engine.specs.Steps.{Outcome, holding}
-use Rattle.zeb_engine.proofs.RenewedImages.{rules_told}
-use Rattle.zeb_engine.proofs.RenewalSteps.{reindex_done, reindex_stays, ruled_good, upgrade_again, upgrade_stays}
+use Rattle.zeb_laws.proofs.Cited.{◌∙◌, refl, ap, canonical_text, Outcome, holding, rules_told, reindex_done, reindex_stays, ruled_good, upgrade_again, upgrade_stays}
 use Rattle.zeb_laws.proofs.renewal_laws.the_databases_stay.Goals as goal
 
 pub returns-clause-reindexed : goal.returns-clause-reindexed

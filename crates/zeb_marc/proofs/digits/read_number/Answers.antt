@@ -1,6 +1,5 @@
 -- One more digit.
-use Rattle.std.proofs.Common.{◌<◌, sym, length, arith}
-use Rattle.std.proofs.lemmas.Grind.{pow_more}
+use Rattle.zeb_marc.proofs.Cited.{◌<◌, sym, length, arith, pow_more}
 use Rattle.zeb_marc.proofs.Numbers.{are_digits-take_more, number_of-take_more}
 use Rattle.zeb_marc.proofs.digits.read_number.Goals as goal
 

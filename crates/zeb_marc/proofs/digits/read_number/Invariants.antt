@@ -1,5 +1,5 @@
 -- The digits so far spell the value so far.
-use Rattle.std.proofs.Common.{◌≡◌, ◌<◌, ◌^◌, true, take}
+use Rattle.zeb_marc.proofs.Cited.{◌≡◌, ◌<◌, ◌^◌, true, take}
 use Rattle.zeb_marc.specs.Leader.{are_digits, number_of}
 use Rattle.zeb_marc.proofs.digits.read_number.Given as goal
 

@@ -1,8 +1,5 @@
 -- One entry after the other.
-use Rattle.std.proofs.Common.{◌≤◌, ◌∙◌, sym, ap, length, List, ℕ, arith}
-use Rattle.std.proofs.lemmas.Result.{err_from_is_err_and}
-use Rattle.zeb_marc.specs.Leader.{first_failing}
-use Rattle.zeb_marc.specs.Directory.{directory_checks}
+use Rattle.zeb_marc.proofs.Cited.{◌≤◌, ◌∙◌, sym, ap, length, List, ℕ, arith, err_from_is_err_and, first_failing, directory_checks}
 use Rattle.zeb_marc.proofs.Entries.{directory_fails, directory_passes}
 use Rattle.zeb_marc.proofs.directory.check_directory.Goals as goal
 

@@ -1,7 +1,5 @@
 -- The checks of the entries so far have passed, so those of the others decide.
-use Rattle.std.proofs.Common.{◌≡◌, length}
-use Rattle.zeb_marc.specs.Leader.{first_failing}
-use Rattle.zeb_marc.specs.Directory.{directory_checks}
+use Rattle.zeb_marc.proofs.Cited.{◌≡◌, length, first_failing, directory_checks}
 use Rattle.zeb_marc.proofs.directory.check_directory.Given as goal
 
 abbrev pub invariant-loop-rest : goal.invariant-loop-rest

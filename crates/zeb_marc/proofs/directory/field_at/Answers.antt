@@ -1,6 +1,5 @@
 -- A sound entry names a part of the data area.
-use Rattle.std.proofs.Common.{◌≤◌, ◌-◌, length, arith, rules}
-use Rattle.zeb_marc.specs.PrivateDirectory.{entry_of}
+use Rattle.zeb_marc.proofs.Cited.{◌≤◌, ◌-◌, length, arith, rules, entry_of}
 use Rattle.zeb_marc.proofs.Entries.{IsSoundEntry-from_checks}
 use Rattle.zeb_marc.proofs.directory.field_at.Goals as goal
 

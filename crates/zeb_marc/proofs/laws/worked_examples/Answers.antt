@@ -1,5 +1,5 @@
 -- The definitions compute.
-use Rattle.std.proofs.Common.{refl}
+use Rattle.zeb_marc.proofs.Cited.{refl}
 use Rattle.zeb_marc.specs.Leader.{are_digits, number_of, counts, has_counts, ends_directory, has_base_address}
 use Rattle.zeb_marc.specs.Directory.{has_tag_bytes, has_digits, is_in_area}
 use Rattle.zeb_marc.specs.Records.{first_fault, fields_of}

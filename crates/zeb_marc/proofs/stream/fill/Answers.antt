@@ -1,5 +1,5 @@
 -- What was read is the next part of what the source told.
-use Rattle.std.proofs.Common.{◌≡◌, ◌<◌, ◌≤◌, ◌+◌, ◌-◌, ◌∙◌, sym, ap, List, ℕ, Some, length, take, drop, length-append, length-drop, length-take, arith}
+use Rattle.zeb_marc.proofs.Cited.{◌≡◌, ◌<◌, ◌≤◌, ◌+◌, ◌-◌, ◌∙◌, sym, ap, List, ℕ, Some, length, take, drop, length-append, length-drop, length-take, arith}
 use Rattle.zeb_marc.proofs.Runs.{at_end_is, consumed, length-put_mid, Filled-more}
 use Rattle.zeb_marc.proofs.stream.fill.Goals as goal
 

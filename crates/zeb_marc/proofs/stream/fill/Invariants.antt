@@ -1,5 +1,5 @@
 -- What was filled are the first bytes of what the source told.
-use Rattle.std.proofs.Common.{◌≡◌, ◌≤◌, ◌+◌, ◌-◌, List, ℕ, Some, length, take, drop}
+use Rattle.zeb_marc.proofs.Cited.{◌≡◌, ◌≤◌, ◌+◌, ◌-◌, List, ℕ, Some, length, take, drop}
 use Rattle.zeb_marc.proofs.stream.fill.Given as goal
 
 abbrev pub invariant-loop-filled : goal.invariant-loop-filled

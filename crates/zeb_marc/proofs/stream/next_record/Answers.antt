@@ -1,8 +1,6 @@
 -- What stands behind the separators is what is answered.
-use Rattle.std.proofs.Common.{◌∷◌, [], sym, subst, List, ℕ, Some, Ok, Err, take, arith}
-use Rattle.std.proofs.lemmas.Result.{err_from_is_err_and}
-use Rattle.std.proofs.lemmas.List.{with_items_is}
-use Rattle.zeb_marc.specs.Splits.{Next, Gives, next_of}
+use Rattle.zeb_marc.proofs.Cited.{◌∷◌, [], sym, subst, List, ℕ, Some, Ok, Err, take, arith, err_from_is_err_and, with_items_is, Next, Gives}
+use Rattle.zeb_marc.specs.Splits.{next_of}
 use Rattle.zeb_marc.proofs.ReadingLemmas.{skip_none, skip_some, skip_err, slice_gives_err, slice_gives_ok}
 use Rattle.zeb_marc.proofs.Unread.{IsBegun-from_skip, unread_end, unread_skip_err, unread_slice_err, unread_slice_ok}
 use Rattle.zeb_marc.proofs.stream.next_record.Goals as goal

@@ -1,11 +1,5 @@
 -- The first byte, four more, and then as many as these five say.
-use Rattle.std.proofs.Common.{◌≡◌, ◌≤◌, ◌+◌, suc, refl, ◌-◌, ◌∷◌, ◌++◌, ◌∙◌, sym, ap, List, ℕ, Option, Some, None, Ok, length, set, take, drop, length-take, length-drop, length-set, arith}
-use Rattle.std.proofs.lemmas.Result.{err_from_is_err_and}
-use Rattle.std.proofs.lemmas.List.{take-take, drop-drop}
-use Rattle.std.proofs.lemmas.Slice.{take-put_mid, take-put_mid_below}
-use borrow.Rule.Slice.PartMut.{put_mid}
-use Rattle.zeb_marc.specs.Leader.{first_failing, announced_checks, record_length}
-use Rattle.zeb_marc.specs.PrivateReading.{FillGives}
+use Rattle.zeb_marc.proofs.Cited.{◌≡◌, ◌≤◌, ◌+◌, suc, refl, ◌-◌, ◌∷◌, ◌++◌, ◌∙◌, sym, ap, List, ℕ, Option, Some, None, Ok, length, set, take, drop, length-take, length-drop, length-set, arith, err_from_is_err_and, take-take, drop-drop, take-put_mid, take-put_mid_below, put_mid, first_failing, announced_checks, record_length, FillGives}
 use Rattle.zeb_marc.proofs.RecordChecks.{slice_cut, slice_passes}
 use Rattle.zeb_marc.proofs.Runs.{take-add, length-put_mid}
 use Rattle.zeb_marc.proofs.ReadingLemmas.{announced_checks-five, record_length-five, five_are, fill_err, slice_short, slice_err, slice_cut_within, IsSlice-from_five}

@@ -1,7 +1,5 @@
 -- One more separator, or the first byte behind them, or the end.
-use Rattle.std.proofs.Common.{◌≡◌, ◌∙◌, sym, ap, List, ℕ, Some, drop, arith}
-use Rattle.std.proofs.lemmas.Result.{err_from_is_err_and}
-use Rattle.zeb_marc.specs.Splits.{is_separator}
+use Rattle.zeb_marc.proofs.Cited.{◌≡◌, ◌∙◌, sym, ap, List, ℕ, Some, drop, arith, err_from_is_err_and, is_separator}
 use Rattle.zeb_marc.proofs.Runs.{run_more, run_ends, run_all}
 use Rattle.zeb_marc.proofs.ReadingLemmas.{byte_none, byte_some, skip_failed}
 use Rattle.zeb_marc.proofs.stream.skip_separators.Goals as goal

@@ -1,7 +1,5 @@
 -- As many separators as were counted begin what the source told.
-use Rattle.std.proofs.Common.{◌≡◌, ◌≤◌, ◌+◌, List, ℕ, Some, drop}
-use Rattle.std.specs.List.{prefix_len}
-use Rattle.zeb_marc.specs.Splits.{is_separator}
+use Rattle.zeb_marc.proofs.Cited.{◌≡◌, ◌≤◌, ◌+◌, List, ℕ, Some, drop, prefix_len, is_separator}
 use Rattle.zeb_marc.proofs.stream.skip_separators.Given as goal
 
 abbrev pub invariant-loop : goal.invariant-loop

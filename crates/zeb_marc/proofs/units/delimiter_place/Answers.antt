@@ -1,5 +1,5 @@
 -- The place that was found, or the length.
-use Rattle.std.specs.Prelude.{◌==◌}
+use Rattle.zeb_marc.proofs.Cited.{◌==◌}
 use Rattle.zeb_marc.proofs.Pieces.{unwrap_or-position, position_or_len-le}
 use Rattle.zeb_marc.proofs.units.delimiter_place.Goals as goal
 

@@ -1,8 +1,5 @@
 -- The next subfield of the field that was begun, or else the next field.
-use Rattle.std.proofs.Common.{◌++◌, ◌∙◌, sym, ap, List}
-use Rattle.std.specs.List.{flat_map}
-use Rattle.zeb_marc.specs.Contents.{Content, contents_of, subfields_of}
-use Rattle.zeb_marc.specs.Fields.{field_text}
+use Rattle.zeb_marc.proofs.Cited.{◌++◌, ◌∙◌, sym, ap, List, flat_map, Content, contents_of, subfields_of, field_text}
 use Rattle.zeb_marc.proofs.Pieces.{left-control, left-data, left-none}
 use Rattle.zeb_marc.proofs.units.next_content.Goals as goal
 

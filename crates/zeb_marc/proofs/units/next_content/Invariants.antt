@@ -1,6 +1,5 @@
 -- What is left has the units that were left before.
-use Rattle.std.proofs.Common.{◌≡◌, length}
-use Rattle.zeb_marc.specs.Units.{left_of}
+use Rattle.zeb_marc.proofs.Cited.{◌≡◌, length, left_of}
 use Rattle.zeb_marc.proofs.units.next_content.Given as goal
 
 abbrev pub invariant-loop-code : goal.invariant-loop-code

@@ -1,9 +1,5 @@
 -- One piece behind a delimiter after the other.
-use Rattle.std.proofs.Common.{◌≡◌, ◌++◌, ◌∷◌, [], ◌∙◌, sym, ap, take, drop, List, ℕ}
-use Rattle.std.specs.Prelude.{◌==◌}
-use Rattle.std.specs.List.{position_or_len}
-use Rattle.std.proofs.lemmas.List.{nil_from_length}
-use Rattle.zeb_marc.specs.Contents.{subfield_of, subfields_of}
+use Rattle.zeb_marc.proofs.Cited.{◌≡◌, ◌++◌, ◌∷◌, [], ◌∙◌, sym, ap, take, drop, List, ℕ, ◌==◌, position_or_len, nil_from_length, subfield_of, subfields_of}
 use Rattle.zeb_marc.proofs.Pieces.{subfields_of-none, subfields_of-more}
 use Rattle.zeb_marc.proofs.units.next_subfield.Goals as goal
 

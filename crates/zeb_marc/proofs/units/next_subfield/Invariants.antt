@@ -1,6 +1,5 @@
 -- What is left has the subfields of the whole text.
-use Rattle.std.proofs.Common.{◌≡◌, List, ℕ, length}
-use Rattle.zeb_marc.specs.Contents.{subfields_of}
+use Rattle.zeb_marc.proofs.Cited.{◌≡◌, List, ℕ, length, subfields_of}
 use Rattle.zeb_marc.proofs.units.next_subfield.Given as goal
 
 abbrev pub invariant-loop-behind : goal.invariant-loop-behind

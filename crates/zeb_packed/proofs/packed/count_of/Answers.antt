@@ -1,5 +1,4 @@
-use Rattle.std.proofs.Common.{string_bytes}
-use Rattle.std.proofs.lemmas.Str.{IsUtf8-string_bytes}
+use Rattle.zeb_packed.proofs.Cited.{string_bytes, IsUtf8-string_bytes}
 use Rattle.zeb_packed.proofs.packed.count_of.Goals as goal
 
 pub returns-clause-sound : goal.returns-clause-sound

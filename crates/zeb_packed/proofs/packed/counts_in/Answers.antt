@@ -1,8 +1,5 @@
-use Rattle.std.proofs.Common.{◌≡◌, ◌∙◌, [], ◌∷◌, ◌++◌, ap, inl, inr, map, rules, subst, sym}
-use Rattle.zeb_register.specs.PackedBlocks.{CountsTerm, count_row}
-use Rattle.zeb_register.proofs.ContentLemmas.{has_at}
+use Rattle.zeb_packed.proofs.Cited.{◌≡◌, ◌∙◌, [], ◌∷◌, ◌++◌, ap, inl, inr, map, rules, subst, sym, CountsTerm, count_row, has_at, taken_more}
 use Rattle.zeb_packed.proofs.PackedTerms.{counted_more}
-use Rattle.zeb_register.proofs.TermRows.{taken_more}
 use Rattle.zeb_packed.proofs.packed.counts_in.Goals as goal
 
 pub loop-row-preserved : goal.loop-row-preserved

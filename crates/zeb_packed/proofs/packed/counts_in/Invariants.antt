@@ -1,7 +1,4 @@
-use Rattle.std.proofs.Common.{◌≡◌, map, take}
-use Rattle.sqlite.specs.Order.{Row}
-use Rattle.sqlite_rules.specs.Lists.{Has}
-use Rattle.zeb_register.specs.PackedBlocks.{CountsTerm, count_row, first_two}
+use Rattle.zeb_packed.proofs.Cited.{◌≡◌, map, take, Row, Has, CountsTerm, count_row, first_two}
 use Rattle.zeb_packed.proofs.packed.counts_in.Given as goal
 
 abbrev pub invariant-loop-row : goal.invariant-loop-row

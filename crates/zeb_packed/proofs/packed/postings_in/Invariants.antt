@@ -1,5 +1,4 @@
-use Rattle.std.proofs.Common.{take}
-use Rattle.zeb_register.specs.PrivatePackedRows.{AreSpelled}
+use Rattle.zeb_packed.proofs.Cited.{take, AreSpelled}
 use Rattle.zeb_packed.proofs.packed.postings_in.Given as goal
 
 abbrev pub invariant-loop-row : goal.invariant-loop-row

@@ -1,15 +1,4 @@
-use Rattle.std.proofs.Common.{◌≡◌, ◌∙◌, List, inl, arith, length, map, rules, subst, sym}
-use Rattle.std.specs.List.{sum_by}
-use Rattle.sqlite.specs.Held.{state}
-use Rattle.sqlite.specs.Order.{Row}
-use Rattle.zeb_register.specs.PrivateBetweenRows.{IsRestBetween, two_behind}
-use Rattle.zeb_register.specs.PrivateKeyColumns.{register_columns}
-use Rattle.zeb_register.specs.PackedBlocks.{blocks_of}
-use Rattle.zeb_register.specs.PrivatePackedRows.{AreSpelled}
-use Rattle.zeb_register.specs.Sql.{IsListOf}
-use Rattle.zeb_register.specs.Store.{blocks_tree}
-use Rattle.zeb_register.specs.Tallies.{Rises}
-use Rattle.zeb_register.proofs.BetweenLemmas.{blocks_many, blocks_read, blocks_spelled}
+use Rattle.zeb_packed.proofs.Cited.{◌≡◌, ◌∙◌, List, inl, arith, length, map, rules, subst, sym, sum_by, state, Row, IsRestBetween, two_behind, register_columns, blocks_of, AreSpelled, IsListOf, blocks_tree, Rises, blocks_many, blocks_read, blocks_spelled}
 use Rattle.zeb_packed.proofs.PackedSound.{all_between, between_spelled}
 use Rattle.zeb_packed.proofs.packed_between.blocks_between.Goals as goal
 

@@ -1,9 +1,4 @@
-use Rattle.std.proofs.Common.{map, rules}
-use Rattle.sqlite_rules.proofs.ProbeLemmas.{mapped_has}
-use Rattle.zeb_register.specs.PrivateBetweenRows.{two_behind}
-use Rattle.zeb_register.proofs.BetweenLemmas.{spelled_row}
-use Rattle.zeb_register.proofs.ContentLemmas.{has_at}
-use Rattle.zeb_register.proofs.PackedLists.{each_spelled}
+use Rattle.zeb_packed.proofs.Cited.{map, rules, mapped_has, two_behind, spelled_row, has_at, each_spelled}
 use Rattle.zeb_packed.proofs.packed_between.postings_behind.Goals as goal
 
 pub returns-in_err-add_behind-clause-honest : goal.returns-in_err-add_behind-clause-honest

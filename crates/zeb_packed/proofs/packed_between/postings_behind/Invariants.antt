@@ -1,6 +1,4 @@
-use Rattle.std.proofs.Common.{map, take}
-use Rattle.zeb_register.specs.PrivateBetweenRows.{two_behind}
-use Rattle.zeb_register.specs.PrivatePackedRows.{AreSpelled}
+use Rattle.zeb_packed.proofs.Cited.{map, take, two_behind, AreSpelled}
 use Rattle.zeb_packed.proofs.packed_between.postings_behind.Given as goal
 
 abbrev pub invariant-loop-row : goal.invariant-loop-row

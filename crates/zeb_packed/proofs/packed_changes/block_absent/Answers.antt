@@ -1,8 +1,5 @@
-use Rattle.std.proofs.Common.{◌≡◌, ◌∙◌, Some, None, ap, refl, slice_get, sym}
-use Rattle.std.specs.Option.{option_copied}
-use Rattle.sqlite.specs.Held.{state}
-use Rattle.zeb_register.proofs.Columns.{column_is}
-use Rattle.zeb_packed.proofs.PackedHindrances.{absent_shown}
+use Rattle.zeb_packed.proofs.Cited.{◌≡◌, ◌∙◌, Some, None, ap, refl, slice_get, sym, option_copied, state, column_is}
+use Rattle.zeb_packed.proofs.KeyRows.{absent_shown}
 use Rattle.zeb_packed.proofs.PackedReads.{block_is_there}
 use Rattle.zeb_packed.proofs.packed_changes.block_absent.Goals as goal
 

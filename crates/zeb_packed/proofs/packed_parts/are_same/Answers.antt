@@ -1,7 +1,4 @@
-use Rattle.std.proofs.Common.{◌≡◌, ◌==◌, ◌&&◌, Decides, true, false, ap, sym, ap₂, ◌∙◌, ℕ}
-use Rattle.std.proofs.lemmas.Bool.Decides.{Decides-and, Decides-eqb}
-use Rattle.std.proofs.lemmas.Slice.Eq.{slice_eq-Decides}
-use Rattle.zeb_register.specs.declared.registers.Place.{Place}
+use Rattle.zeb_packed.proofs.Cited.{◌≡◌, ◌==◌, ◌&&◌, Decides, true, false, ap, sym, ap₂, ◌∙◌, ℕ, Decides-and, Decides-eqb, slice_eq-Decides, Place}
 use Rattle.zeb_packed.proofs.packed_parts.are_same.Goals as goal
 
 place_by : ℕ → ℕ → Place

@@ -1,8 +1,4 @@
-use Rattle.std.proofs.Common.{rules, sym, slice_index_or, subst, take}
-use Rattle.std.proofs.lemmas.List.{take_more}
-use Rattle.zeb_register.specs.declared.registers.Place.{Place}
-use Rattle.sqlite_trees.proofs.ListLemmas.{all-get_or}
-use Rattle.zeb_register.specs.Content.{IsStorablePlace}
+use Rattle.zeb_packed.proofs.Cited.{sym, slice_index_or, subst, take, take_more, Place}
 use Rattle.zeb_packed.proofs.PackedParts.{AreUpTo, rise_from, rise_next, upto_more, upto_none}
 use Rattle.zeb_packed.proofs.packed_parts.check_numbers.Goals as goal
 
@@ -20,10 +16,3 @@ loop-place-preserved c =
           (upto_more (take c.loop-place.place-index c.args.places.now) c.loop-place.before last before.upto it.0 it.1);
       rise = λ stored. (rise_next c.args.places.now c.loop-place.place-index none c.loop-place.before c.loop-place-test.true (before.rise stored)).1;
     }
-
-pub returns-in_err-check_place-clause-refused : goal.returns-in_err-check_place-clause-refused
-returns-in_err-check_place-clause-refused c is stored =
-    let i = c.loop-place.place-index in
-    let none : Place = record { seq = 0; pos = 0 } in
-    let next = rise_next c.args.places.now i none c.loop-place.before c.loop-place-test.true (c.loop-place.invariant.rise stored.1) in
-    c.in_err-check_place.ensures.refused (search rules) (all-get_or IsStorablePlace c.args.places.now i none stored.1.1 c.loop-place-test.true, next.0)

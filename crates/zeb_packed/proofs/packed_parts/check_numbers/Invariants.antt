@@ -1,6 +1,5 @@
-use Rattle.std.proofs.Common.{◌∷◌, drop, take}
+use Rattle.zeb_packed.proofs.Cited.{◌∷◌, drop, take, AreStorablePlaces, place_cmp}
 use Rattle.std.specs.List.Sorted.{IsStrictlySortedBy}
-use Rattle.zeb_register.specs.Content.{AreStorablePlaces, place_cmp}
 use Rattle.zeb_packed.proofs.PackedParts.{AreUpTo}
 use Rattle.zeb_packed.proofs.packed_parts.check_numbers.Given as goal
 

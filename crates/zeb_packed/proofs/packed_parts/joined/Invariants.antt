@@ -1,5 +1,4 @@
-use Rattle.std.proofs.Common.{◌≡◌, ◌++◌, map, take}
-use Rattle.zeb_register.specs.Content.{posting_at}
+use Rattle.zeb_packed.proofs.Cited.{◌≡◌, ◌++◌, map, take, posting_at}
 use Rattle.zeb_packed.proofs.packed_parts.joined.Given as goal
 
 abbrev pub invariant-loop-place : goal.invariant-loop-place

@@ -1,5 +1,4 @@
-use Rattle.std.proofs.Common.{take}
-use Rattle.zeb_packed.specs.PrivatePackedChanges.{IsParted}
+use Rattle.zeb_packed.proofs.Cited.{take, IsParted}
 use Rattle.zeb_packed.proofs.packed_parts.parted_at.Given as goal
 
 abbrev pub invariant-loop-posting : goal.invariant-loop-posting

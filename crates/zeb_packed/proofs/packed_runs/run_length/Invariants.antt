@@ -1,6 +1,4 @@
-use Rattle.std.proofs.Common.{take}
-use Rattle.std.specs.List.{AllByRecursion}
-use Rattle.zeb_register.specs.PrivatePackedRows.{IsInBlock}
+use Rattle.zeb_packed.proofs.Cited.{take, AllByRecursion, IsInBlock}
 use Rattle.zeb_packed.proofs.packed_runs.run_length.Given as goal
 
 abbrev pub invariant-loop-at : goal.invariant-loop-at

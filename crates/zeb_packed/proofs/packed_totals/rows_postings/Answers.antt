@@ -1,6 +1,4 @@
-use Rattle.std.proofs.Common.{rules, ◌≡◌, ◌++◌, Err, arith, length-append}
-use Rattle.zeb_register.proofs.ContentLemmas.{has_at}
-use Rattle.zeb_register.proofs.PackedLists.{each_spelled, spelled_more}
+use Rattle.zeb_packed.proofs.Cited.{rules, ◌≡◌, ◌++◌, Err, arith, length-append, has_at, each_spelled, spelled_more}
 use Rattle.zeb_packed.proofs.packed_totals.rows_postings.Goals as goal
 
 pub returns-in_err-row_postings-clause-refused : goal.returns-in_err-row_postings-clause-refused

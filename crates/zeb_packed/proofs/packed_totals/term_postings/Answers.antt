@@ -1,12 +1,4 @@
-use Rattle.std.proofs.Common.{◌≡◌, ◌∙◌, List, length, ap, subst, sym}
-use Rattle.sqlite.specs.Held.{state}
-use Rattle.zeb_blocks.specs.declared.postings.Posting.{Posting}
-use Rattle.zeb_register.specs.Occurring.{capped, key_in}
-use Rattle.zeb_register.specs.PackedBlocks.{blocks_of}
-use Rattle.zeb_register.specs.PrivatePackedRows.{AreSpelled}
-use Rattle.zeb_register.specs.Tallies.{Rises}
-use Rattle.zeb_register.proofs.ContentLemmas.{one_list}
-use Rattle.zeb_register.proofs.PackedLists.{all_spelled, each_spelled, key_blocks, key_read, key_spelled}
+use Rattle.zeb_packed.proofs.Cited.{◌≡◌, ◌∙◌, List, length, ap, subst, sym, state, Posting, capped, key_in, blocks_of, AreSpelled, Rises, one_list, all_spelled, each_spelled, key_blocks, key_read, key_spelled}
 use Rattle.zeb_packed.proofs.packed_totals.term_postings.Goals as goal
 
 pub returns-clause-value : goal.returns-clause-value

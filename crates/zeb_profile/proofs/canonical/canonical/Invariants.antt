@@ -1,6 +1,4 @@
-use Rattle.std.proofs.Common.{◌≡◌, ◌++◌, drop, string_bytes}
-use Rattle.zeb_profile.specs.Canonical.{canonical_text}
-use Rattle.zeb_profile.specs.Profiles.{directives_in}
+use Rattle.zeb_profile.proofs.Cited.{◌≡◌, ◌++◌, drop, string_bytes, canonical_text, directives_in}
 use Rattle.zeb_profile.proofs.canonical.canonical.Given as goal
 
 abbrev pub invariant-loop-line : goal.invariant-loop-line

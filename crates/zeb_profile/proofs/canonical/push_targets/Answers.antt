@@ -1,5 +1,4 @@
-use Rattle.std.proofs.Common.{◌≡◌, ◌++◌, ◌∷◌, rules, append_assoc, ap, sym, ◌∙◌, string_bytes}
-use Rattle.zeb_profile.specs.Canonical.{target_text}
+use Rattle.zeb_profile.proofs.Cited.{◌≡◌, ◌++◌, ◌∷◌, rules, append_assoc, ap, sym, ◌∙◌, string_bytes, target_text}
 use Rattle.zeb_profile.proofs.CanonicalTexts.{targets_text-first, further_text}
 use Rattle.zeb_profile.proofs.canonical.push_targets.Goals as goal
 

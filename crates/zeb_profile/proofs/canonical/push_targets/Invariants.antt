@@ -1,5 +1,4 @@
-use Rattle.std.proofs.Common.{◌≡◌, ◌++◌, drop, string_bytes}
-use Rattle.zeb_profile.specs.Canonical.{targets_text}
+use Rattle.zeb_profile.proofs.Cited.{◌≡◌, ◌++◌, drop, string_bytes, targets_text}
 use Rattle.zeb_profile.proofs.CanonicalTexts.{further_text}
 use Rattle.zeb_profile.proofs.canonical.push_targets.Given as goal
 

@@ -1,7 +1,4 @@
-use Rattle.std.proofs.Common.{◌≡◌, arith, Ok, true, ◌<◌, length}
-use Rattle.std.specs.Char.{is_ascii_digit}
-use Rattle.std.specs.List.{list_all}
-use Rattle.std.specs.Str.Parse.{digits_value}
+use Rattle.zeb_profile.proofs.Cited.{◌≡◌, arith, Ok, true, ◌<◌, length, is_ascii_digit, list_all, digits_value}
 use Rattle.zeb_profile.proofs.WordReads.{number_parsed}
 use Rattle.zeb_profile.proofs.directives.read_number.Goals as goal
 

@@ -1,6 +1,4 @@
-use Rattle.std.proofs.Common.{◌≡◌, ◌+◌, ◌++◌, List, ℕ, ap, sym, ◌∙◌}
-use Rattle.zeb_profile.specs.Indexes.{names_in}
-use Rattle.zeb_profile.specs.PrivateKeys.{spelled_with}
+use Rattle.zeb_profile.proofs.Cited.{◌≡◌, ◌+◌, ◌++◌, List, ℕ, ap, sym, ◌∙◌, names_in, spelled_with}
 use Rattle.zeb_profile.proofs.IndexFacts.{names_from, names_from-next}
 use Rattle.zeb_profile.proofs.Spellings.{notes_then}
 use Rattle.zeb_profile.proofs.indexes.first_spellings.Goals as goal

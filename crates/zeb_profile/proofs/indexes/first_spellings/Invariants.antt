@@ -1,8 +1,5 @@
-use Rattle.std.proofs.Common.{◌≡◌, List, ℕ}
-use Rattle.zeb_profile.specs.PrivateKeys.{spelled_with, name_key}
+use Rattle.zeb_profile.proofs.Cited.{◌≡◌, List, ℕ, spelled_with, name_key, find, bytes_eq}
 use Rattle.zeb_profile.proofs.IndexFacts.{names_from}
-use Rattle.std.specs.List.{find}
-use Rattle.std.specs.Str.{bytes_eq}
 use Rattle.zeb_profile.proofs.indexes.first_spellings.Given as goal
 
 abbrev pub invariant-loop-line : goal.invariant-loop-line

@@ -1,10 +1,4 @@
-use Rattle.std.proofs.Common.{◌≡◌, ◌∙◌, [], List, ℕ, ap, sym, arith}
-use Rattle.std.proofs.Math.Path.{fun_ext}
-use Rattle.std.specs.List.{fold}
-use Rattle.zeb_profile.specs.Indexes.{first_spelling}
-use Rattle.zeb_profile.specs.PrivateIndexes.{numbered}
-use Rattle.zeb_profile.specs.PrivateKeys.{spelled}
-use Rattle.zeb_profile.specs.Profiles.{directives_in}
+use Rattle.zeb_profile.proofs.Cited.{◌≡◌, ◌∙◌, [], List, ℕ, ap, sym, arith, fun_ext, fold, first_spelling, numbered, spelled, directives_in}
 use Rattle.zeb_profile.proofs.Numbering.{index_names-numbered, names_after, names_after-end, spelling-same}
 use Rattle.zeb_profile.proofs.indexes.index_names.Goals as goal
 

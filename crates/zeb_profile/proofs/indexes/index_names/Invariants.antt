@@ -1,7 +1,4 @@
-use Rattle.std.proofs.Common.{◌≡◌, ◌+◌, ◌++◌, [], drop, map}
-use Rattle.std.specs.List.{fold}
-use Rattle.zeb_profile.specs.PrivateIndexes.{numbered}
-use Rattle.zeb_profile.specs.PrivateKeys.{HoldsKeys, name_key, spelled}
+use Rattle.zeb_profile.proofs.Cited.{◌≡◌, ◌+◌, ◌++◌, [], drop, map, fold, numbered, HoldsKeys, name_key, spelled}
 use Rattle.zeb_profile.proofs.Numbering.{names_after}
 use Rattle.zeb_profile.proofs.indexes.index_names.Given as goal
 

@@ -1,7 +1,4 @@
-use Rattle.std.proofs.Common.{◌≡◌, false, string_bytes}
-use Rattle.std.specs.BTreeMap.{get_by_text}
-use Rattle.std.specs.Option.{is_some}
-use Rattle.zeb_profile.specs.PrivateKeys.{name_key}
+use Rattle.zeb_profile.proofs.Cited.{◌≡◌, false, string_bytes, get_by_text, is_some, name_key}
 use Rattle.zeb_profile.proofs.Spellings.{notes_new}
 use Rattle.zeb_profile.proofs.indexes.note_spelling.Goals as goal
 

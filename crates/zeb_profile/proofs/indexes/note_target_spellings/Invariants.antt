@@ -1,5 +1,4 @@
-use Rattle.std.proofs.Common.{◌≡◌, List, ℕ, drop, map}
-use Rattle.zeb_profile.specs.PrivateKeys.{spelled_with}
+use Rattle.zeb_profile.proofs.Cited.{◌≡◌, List, ℕ, drop, map, spelled_with}
 use Rattle.zeb_profile.proofs.indexes.note_target_spellings.Given as goal
 
 abbrev pub invariant-loop-target : goal.invariant-loop-target

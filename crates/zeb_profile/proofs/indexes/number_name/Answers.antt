@@ -1,9 +1,4 @@
-use Rattle.std.proofs.Common.{◌≡◌, List, ℕ, true, false, refl, ap, ◌∙◌, unwrap_or}
-use Rattle.std.specs.BTreeSet.{contains}
-use Rattle.std.specs.List.{list_any}
-use Rattle.std.specs.String.{string_cmp}
-use Rattle.zeb_profile.specs.PrivateKeys.{spelled, spelled_at}
-use Rattle.zeb_profile.specs.Words.{same_name}
+use Rattle.zeb_profile.proofs.Cited.{◌≡◌, List, ℕ, true, false, refl, ap, ◌∙◌, unwrap_or, contains, list_any, string_cmp, spelled, spelled_at, same_name}
 use Rattle.zeb_profile.proofs.KnownKeys.{insert_refused, insert_took}
 use Rattle.zeb_profile.proofs.NumberedKeys.{holds_name, holds_name-push}
 use Rattle.zeb_profile.proofs.indexes.number_name.Goals as goal

@@ -1,5 +1,4 @@
-use Rattle.std.proofs.Common.{arith, [], ◌≡◌, true, get_or}
-use Rattle.zeb_profile.specs.Words.{same_name}
+use Rattle.zeb_profile.proofs.Cited.{arith, [], ◌≡◌, true, get_or, same_name}
 use Rattle.zeb_profile.proofs.IndexFacts.{position_at, position_none}
 use Rattle.zeb_profile.proofs.indexes.position_of.Goals as goal
 

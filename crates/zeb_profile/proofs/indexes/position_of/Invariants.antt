@@ -1,5 +1,4 @@
-use Rattle.std.proofs.Common.{◌≡◌, ◌<◌, ℕ, get_or, false, List}
-use Rattle.zeb_profile.specs.Words.{same_name}
+use Rattle.zeb_profile.proofs.Cited.{◌≡◌, ◌<◌, ℕ, get_or, false, List, same_name}
 use Rattle.zeb_profile.proofs.indexes.position_of.Given as goal
 
 abbrev pub invariant-loop-index : goal.invariant-loop-index

@@ -1,4 +1,4 @@
-use Rattle.std.proofs.Common.{refl}
+use Rattle.zeb_profile.proofs.Cited.{refl}
 use Rattle.zeb_profile.proofs.laws.examples.Goals as goal
 
 pub returns-clause-read : goal.returns-clause-read

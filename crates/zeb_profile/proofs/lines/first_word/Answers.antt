@@ -1,6 +1,4 @@
-use Rattle.std.proofs.Common.{arith, ◌≡◌}
-use Rattle.std.specs.List.{position_or_len}
-use Rattle.zeb_profile.specs.Lines.{is_blank}
+use Rattle.zeb_profile.proofs.Cited.{arith, ◌≡◌, position_or_len, is_blank}
 use Rattle.zeb_profile.proofs.Cuts.{boundary_before_blank, words_of-blank, words_of-cut}
 use Rattle.zeb_profile.proofs.lines.first_word.Goals as goal
 

@@ -1,5 +1,4 @@
-use Rattle.std.proofs.Common.{◌≡◌, ℕ, ◌<◌, get_or, false}
-use Rattle.zeb_profile.specs.Lines.{is_no_blank}
+use Rattle.zeb_profile.proofs.Cited.{◌≡◌, ℕ, ◌<◌, get_or, false, is_no_blank}
 use Rattle.zeb_profile.proofs.lines.leading_blanks.Given as goal
 
 abbrev pub invariant-loop-index : goal.invariant-loop-index

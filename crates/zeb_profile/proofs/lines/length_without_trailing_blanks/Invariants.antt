@@ -1,6 +1,4 @@
-use Rattle.std.proofs.Common.{◌≡◌, ◌+◌, ◌<◌, ◌≤◌, get_or, true, length, take}
-use Rattle.std.specs.List.{suffix_len}
-use Rattle.zeb_profile.specs.Lines.{is_blank}
+use Rattle.zeb_profile.proofs.Cited.{◌≡◌, ◌+◌, ◌<◌, ◌≤◌, get_or, true, length, take, suffix_len, is_blank}
 use Rattle.zeb_profile.proofs.lines.length_without_trailing_blanks.Given as goal
 
 abbrev pub invariant-loop-end : goal.invariant-loop-end

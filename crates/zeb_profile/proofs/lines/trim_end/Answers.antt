@@ -1,4 +1,4 @@
-use Rattle.std.proofs.Common.{rules}
+use Rattle.zeb_profile.proofs.Cited.{rules}
 use Rattle.zeb_profile.proofs.Cuts.{boundary_at_blank}
 use Rattle.zeb_profile.proofs.lines.trim_end.Goals as goal
 

@@ -1,5 +1,4 @@
-use Rattle.std.proofs.Common.{arith, length}
-use Rattle.zeb_profile.specs.Lines.{is_blank}
+use Rattle.zeb_profile.proofs.Cited.{arith, length, is_blank}
 use Rattle.zeb_profile.proofs.Cuts.{first_place_is}
 use Rattle.zeb_profile.proofs.lines.word_length.Goals as goal
 

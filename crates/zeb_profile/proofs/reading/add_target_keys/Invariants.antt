@@ -1,5 +1,4 @@
-use Rattle.std.proofs.Common.{◌≡◌, List, ℕ, drop, map}
-use Rattle.zeb_profile.specs.PrivateKeys.{held_with}
+use Rattle.zeb_profile.proofs.Cited.{◌≡◌, List, ℕ, drop, map, held_with}
 use Rattle.zeb_profile.proofs.reading.add_target_keys.Given as goal
 
 abbrev pub invariant-loop-target : goal.invariant-loop-target

@@ -1,8 +1,4 @@
-use Rattle.std.proofs.Common.{rules, ◌≡◌, ℕ, ◌+◌, List, [], ◌∷◌, ◌++◌, map, get_or, Bor, true, false, Ok, ap, ◌∙◌}
-use Rattle.std.specs.Str.Lines.{lines as lines_of}
-use Rattle.zeb_profile.specs.declared.directives.Placed.{Placed}
-use Rattle.zeb_profile.specs.Lines.{says_something, trimmed}
-use Rattle.zeb_profile.specs.Profiles.{directive_after, directives_in}
+use Rattle.zeb_profile.proofs.Cited.{rules, ◌≡◌, ℕ, ◌+◌, List, [], ◌∷◌, ◌++◌, map, get_or, Bor, true, false, Ok, ap, ◌∙◌, lines_of, Placed, says_something, trimmed, directive_after, directives_in}
 use Rattle.zeb_profile.proofs.Clashes.{notes_clashes-push, says_beside}
 use Rattle.zeb_profile.proofs.TellingLines.{placed_lines_fails, read_on, read_past}
 use Rattle.zeb_profile.proofs.reading.read_lines.Goals.{then-says_something+in-Ok+in_ok-push-in-Ok, else-says_something}

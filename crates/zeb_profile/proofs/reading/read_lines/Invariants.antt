@@ -1,6 +1,4 @@
-use Rattle.std.proofs.Common.{◌≡◌, []}
-use Rattle.zeb_profile.specs.Profiles.{directives_in, placed_after}
-use Rattle.zeb_profile.specs.PrivateRepeats.{NotesClashes}
+use Rattle.zeb_profile.proofs.Cited.{◌≡◌, [], directives_in, placed_after, NotesClashes}
 use Rattle.zeb_profile.proofs.TellingLines.{telling_from}
 use Rattle.zeb_profile.proofs.reading.read_lines.Given as goal
 

@@ -1,5 +1,4 @@
-use Rattle.std.proofs.lemmas.Iterator.Consumers.{map_from_collect}
-use Rattle.std.proofs.lemmas.Iterator.Splits.{YieldsList-from_lines}
+use Rattle.zeb_profile.proofs.Cited.{map_from_collect, YieldsList-from_lines}
 use Rattle.zeb_profile.proofs.reading.split_lines.Goals as goal
 
 pub returns : goal.returns

@@ -1,6 +1,4 @@
-use Rattle.std.proofs.Common.{◌≡◌, ◌+◌, ◌++◌, List, ℕ, ap, sym, ◌∙◌, arith, map}
-use Rattle.zeb_profile.specs.PrivateKeys.{held_with}
-use Rattle.zeb_profile.specs.Profiles.{directives_in, targets_in}
+use Rattle.zeb_profile.proofs.Cited.{◌≡◌, ◌+◌, ◌++◌, List, ℕ, ap, sym, ◌∙◌, arith, map, held_with, directives_in, targets_in}
 use Rattle.zeb_profile.proofs.Numbering.{names_after, names_after-end, names_after-next}
 use Rattle.zeb_profile.proofs.TargetKeys.{adds_keys-then, held_with-none, ties_alike}
 use Rattle.zeb_profile.proofs.reading.target_keys.Goals as goal

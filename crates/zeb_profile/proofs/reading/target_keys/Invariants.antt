@@ -1,7 +1,4 @@
-use Rattle.std.proofs.Common.{◌≡◌, List, ℕ}
-use Rattle.std.specs.List.{list_any}
-use Rattle.std.specs.Str.{bytes_eq}
-use Rattle.zeb_profile.specs.PrivateKeys.{held_with, name_key}
+use Rattle.zeb_profile.proofs.Cited.{◌≡◌, List, ℕ, list_any, bytes_eq, held_with, name_key}
 use Rattle.zeb_profile.proofs.Numbering.{names_after}
 use Rattle.zeb_profile.proofs.reading.target_keys.Given as goal
 

@@ -1,6 +1,4 @@
-use Rattle.std.proofs.Common.{◌≡◌, drop}
-use Rattle.std.specs.List.{find}
-use Rattle.zeb_profile.specs.Profiles.{ties_unknown, directives_in}
+use Rattle.zeb_profile.proofs.Cited.{◌≡◌, drop, find, ties_unknown, directives_in}
 use Rattle.zeb_profile.proofs.reading.unknown_use.Given as goal
 
 abbrev pub invariant-loop-line : goal.invariant-loop-line

@@ -1,6 +1,6 @@
-use Rattle.std.proofs.Common.{◌≡◌, drop}
+use Rattle.zeb_profile.proofs.Cited.{◌≡◌, drop, directives_in}
 use Rattle.zeb_profile.specs.Indexes as indexes
 use Rattle.zeb_profile.proofs.searches.store_path.Given as goal
 
-abbrev pub invariant-loop-directive : goal.invariant-loop-directive
-invariant-loop-directive l = indexes.store_path (drop l.directive-index l.directives) ≡ indexes.store_path l.directives
+abbrev pub invariant-loop-line : goal.invariant-loop-line
+invariant-loop-line l = indexes.store_path (directives_in (drop l.line-index l.placed)) ≡ indexes.store_path (directives_in l.placed)

@@ -1,6 +1,5 @@
-use Rattle.std.proofs.Common.{◌≡◌, drop, map}
-use Rattle.zeb_profile.specs.Indexes as indexes
+use Rattle.zeb_profile.proofs.Cited.{◌≡◌, drop, further_pairs}
 use Rattle.zeb_profile.proofs.unit_targets.next_further.Given as goal
 
-abbrev pub invariant-loop-index : goal.invariant-loop-index
-invariant-loop-index l = indexes.further_pairs (map (indexes.pair_of l.names) l.first) (map (indexes.pair_of l.names) (drop l.index l.all)) ≡ indexes.further_pairs (map (indexes.pair_of l.names) l.first) (map (indexes.pair_of l.names) l.all)
+abbrev pub invariant-loop-place : goal.invariant-loop-place
+invariant-loop-place l = further_pairs l.first (drop l.place l.all) ≡ further_pairs l.first l.all

@@ -19,7 +19,7 @@ returns-in_ok-render-in-Ok-clause-over g c =
     let old = state g.S.Store c.args.session.now.connection in
     let new = state g.S.Store c.command.new.self.connection in
     replied_over g.L.Layout.format (conditions (version_of g.L.Layout.format) c.args.session.now.profile c.args.session.now.limits) c.args.command.now old new _ _ _ (HasCleanDisk new) c.in-Ok.reply c.as_slice.result.now c.in-Ok.ensures.over
-    (λ clean. record { refused = tt; asks = c.in-Ok.ensures.reads clean; serves = c.in-Ok.ensures.serves clean; begun = c.in-Ok.ensures.begun clean; remade = c.in-Ok.ensures.remade clean; upgraded = c.in-Ok.ensures.upgraded clean; loses = c.in-Ok.ensures.loses clean; makes = c.in-Ok.ensures.makes clean; caused = c.in-Ok.ensures.caused clean; room = c.in-Ok.ensures.room clean })
+    (λ clean. record { refused = tt; asks = c.in-Ok.ensures.reads clean; serves = c.in-Ok.ensures.serves clean; begun = c.in-Ok.ensures.begun clean; remade = c.in-Ok.ensures.remade clean; upgraded = c.in-Ok.ensures.upgraded clean; loses = c.in-Ok.ensures.loses clean; makes = c.in-Ok.ensures.makes clean })
     (c.as_slice.ensures.value ∙ c.in_ok-render-in-Ok.ensures) c.write.ensures.bytes
 
 pub returns-in-Err-clause-over : goal.returns-in-Err-clause-over
@@ -37,7 +37,5 @@ returns-in-Err-clause-over g c =
       upgraded = c.in-Err.ensures.upgraded clean;
       loses = c.in-Err.ensures.loses clean;
       makes = c.in-Err.ensures.makes clean;
-      caused = c.in-Err.ensures.caused clean;
-      room = c.in-Err.ensures.room clean;
     })
     c.refuse.ensures.answer

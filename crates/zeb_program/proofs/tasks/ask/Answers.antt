@@ -12,7 +12,7 @@ returns-in-Err-clause-answer g c = λ clean. refused_command _ _ _ _ c.in-Err.re
 pub returns-in-Ok-clause-over : goal.returns-in-Ok-clause-over
 returns-in-Ok-clause-over g c = λ clean. (
   c.in-Ok.ensures.over clean,
-  record { refused = tt; asks = c.in-Ok.ensures.reads clean; serves = c.in-Ok.ensures.serves clean; begun = c.in-Ok.ensures.begun clean; remade = c.in-Ok.ensures.remade clean; upgraded = c.in-Ok.ensures.upgraded clean; loses = c.in-Ok.ensures.loses clean; makes = c.in-Ok.ensures.makes clean; caused = c.in-Ok.ensures.caused clean; room = c.in-Ok.ensures.room clean },
+  record { refused = tt; asks = c.in-Ok.ensures.reads clean; serves = c.in-Ok.ensures.serves clean; begun = c.in-Ok.ensures.begun clean; remade = c.in-Ok.ensures.remade clean; upgraded = c.in-Ok.ensures.upgraded clean; loses = c.in-Ok.ensures.loses clean; makes = c.in-Ok.ensures.makes clean },
 )
 
 pub returns-in-Err-clause-over : goal.returns-in-Err-clause-over
@@ -27,8 +27,6 @@ returns-in-Err-clause-over g c = λ clean. (
     upgraded = c.in-Err.ensures.upgraded clean;
     loses = c.in-Err.ensures.loses clean;
     makes = c.in-Err.ensures.makes clean;
-    caused = c.in-Err.ensures.caused clean;
-    room = c.in-Err.ensures.room clean;
   },
 )
 

@@ -16,7 +16,7 @@ returns-in-Ok-clause-leaves g c = λ clean.
     changed_leaves (g.P.Paths.tells c.args.paths.now) k c.args.kind (name_bytes c.args.database.now) (map string_bytes c.args.named.now) old new
     g.P.Reader.Source.remaining g.P.Reader.Source.has_failed c.deref_mut.result.now c.update_from.new.readers (Ok c.in-Ok.reply)
     (λ files known. ap (map g.P.Reader.Source.remaining) c.deref_mut.ensures.value ∙ c.in_ok-readers.ensures.told files known) same
-    c.in-Ok.ensures.sound (c.in-Ok.ensures.call.refused clean) (c.in-Ok.ensures.serves clean) (c.in-Ok.ensures.loses clean) (c.in-Ok.ensures.named clean) (c.in-Ok.ensures.room clean)
+    c.in-Ok.ensures.sound (c.in-Ok.ensures.call.refused clean) (c.in-Ok.ensures.serves clean) (c.in-Ok.ensures.loses clean) (c.in-Ok.ensures.named clean)
 
 pub returns-clause-leaves : goal.returns-clause-leaves
 returns-clause-leaves g c = λ clean.
@@ -27,7 +27,7 @@ returns-clause-leaves g c = λ clean.
     changed_leaves (g.P.Paths.tells c.args.paths.now) k c.args.kind (name_bytes c.args.database.now) (map string_bytes c.args.named.now) old new
     g.P.Reader.Source.remaining g.P.Reader.Source.has_failed c.deref_mut.result.now c.update_from.new.readers (Err c.in-Err.refusal)
     (λ files known. ap (map g.P.Reader.Source.remaining) c.deref_mut.ensures.value ∙ c.in_ok-readers.ensures.told files known) same
-    c.in-Err.ensures.sound (c.in-Err.ensures.call.refused clean) (c.in-Err.ensures.serves clean) (c.in-Err.ensures.loses clean) (c.in-Err.ensures.named clean) (c.in-Err.ensures.room clean)
+    c.in-Err.ensures.sound (c.in-Err.ensures.call.refused clean) (c.in-Err.ensures.serves clean) (c.in-Err.ensures.loses clean) (c.in-Err.ensures.named clean)
 
 pub returns-in_err-readers-clause-leaves : goal.returns-in_err-readers-clause-leaves
 returns-in_err-readers-clause-leaves g c = λ clean.

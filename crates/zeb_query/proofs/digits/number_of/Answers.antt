@@ -1,6 +1,4 @@
-use Rattle.std.proofs.Common.{sym, ◌∙◌, ap, ◌<◌, ◌^◌}
-use Rattle.std.specs.Result.{result_ok}
-use Rattle.std.specs.Str.Parse.{digits_value}
+use Rattle.zeb_query.proofs.Cited.{sym, ◌∙◌, ap, ◌<◌, ◌^◌, result_ok, digits_value}
 use Rattle.zeb_query.proofs.DigitLemmas.{parsed, number_below, number_of-is, IfSome-is}
 use Rattle.zeb_query.proofs.digits.number_of.Goals as goal
 

@@ -1,8 +1,7 @@
-use Rattle.std.proofs.Common.{refl}
+use Rattle.zeb_query.proofs.Cited.{refl, is_long}
 use Rattle.std.specs.Str.{chars, is_utf8}
 use lib.Utf8.{encode}
 use Rattle.zeb_query.specs.Grammar.{kind_and_value}
-use Rattle.zeb_query.specs.Places.{is_long}
 use Rattle.zeb_query.proofs.TextFaults.{readable, stands}
 use Rattle.zeb_query.proofs.examples.faults_at_examples.Goals as goal
 

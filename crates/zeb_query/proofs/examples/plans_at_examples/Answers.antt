@@ -1,4 +1,4 @@
-use Rattle.std.proofs.Common.{refl, [], ◌∷◌, ◌++◌, codes}
+use Rattle.zeb_query.proofs.Cited.{refl, [], ◌∷◌, ◌++◌, codes, Not, is_structure}
 use Rattle.std.specs.Str.{chars, is_utf8}
 use Rattle.std.specs.Fmt.{digits}
 use lib.Utf8.{encode}
@@ -8,8 +8,7 @@ use Rattle.zeb_text.specs.Folding.{folded}
 use Rattle.zeb_text.specs.Words.{is_word_character, runs_of}
 use Rattle.zeb_text.specs.Truncation.{truncated}
 use Rattle.zeb_text.specs.Numbers.{number_key}
-use Rattle.zeb_query.specs.declared.queries.Connective.TheVariants.{Not}
-use Rattle.zeb_query.specs.Grammar.{kind_and_value, is_structure}
+use Rattle.zeb_query.specs.Grammar.{kind_and_value}
 use Rattle.zeb_query.specs.Attributes.{holding_of}
 use Rattle.zeb_query.specs.Plans.{plan_asked, scan_asked}
 use Rattle.zeb_query.proofs.ExampleLemmas.{planned, term_at, under_at, pair_at, of_set, quoted_at}

@@ -1,4 +1,4 @@
-use Rattle.std.proofs.Common.{refl}
+use Rattle.zeb_query.proofs.Cited.{refl}
 use Rattle.zeb_query.proofs.examples.profiles_at_examples.Goals as goal
 
 pub returns-clause-sample : goal.returns-clause-sample

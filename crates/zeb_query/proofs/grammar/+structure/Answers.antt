@@ -1,6 +1,4 @@
-use Rattle.std.proofs.Common.{Some, ◌∙◌, refl, ap, subst, sym}
-use Rattle.zeb_query.specs.PrivateReading.{word_of, Spells}
-use Rattle.zeb_query.specs.Grammar.{head_value}
+use Rattle.zeb_query.proofs.Cited.{Some, ◌∙◌, refl, ap, subst, sym, word_of, Spells, head_value}
 use Rattle.zeb_query.proofs.GrammarLemmas.{spells_term, spells_named, spells_pair}
 use Rattle.zeb_query.proofs.grammar.+structure.Goals as goal
 

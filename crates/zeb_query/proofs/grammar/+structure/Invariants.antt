@@ -1,4 +1,4 @@
-use Rattle.std.proofs.Common.{length}
+use Rattle.zeb_query.proofs.Cited.{length}
 use Rattle.zeb_query.proofs.grammar.+structure.Given as goal
 
 abbrev pub decreases-structure : goal.decreases-structure

@@ -1,7 +1,4 @@
-use Rattle.std.proofs.Common.{sym, ap, ◌∙◌}
-use Rattle.std.proofs.lemmas.Result.{IfOk-weaker, IfErr-weaker}
-use Rattle.zeb_query.specs.PrivateReading.{word_of, left}
-use Rattle.zeb_query.specs.Grammar.{attribute_value, has_equals}
+use Rattle.zeb_query.proofs.Cited.{sym, ap, ◌∙◌, IfOk-weaker, IfErr-weaker, word_of, left, attribute_value, has_equals}
 use Rattle.zeb_query.proofs.GrammarLemmas.{spells_attribute, spells_attribute_of_set, fault_of-spec, IsFault-same}
 use Rattle.zeb_query.proofs.grammar.attribute_of.Goals as goal
 

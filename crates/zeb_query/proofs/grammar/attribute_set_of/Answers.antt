@@ -1,4 +1,4 @@
-use Rattle.zeb_query.specs.PrivateReading.{word_of}
+use Rattle.zeb_query.proofs.Cited.{word_of}
 use Rattle.zeb_query.proofs.GrammarLemmas.{spells_no_set, spells_set}
 use Rattle.zeb_query.proofs.grammar.attribute_set_of.Goals as goal
 

@@ -1,8 +1,4 @@
-use Rattle.std.proofs.Common.{suc, Some, ◌∙◌, refl, ap, subst, sym, arith}
-use Rattle.zeb_query.specs.declared.keywords.Keyword.TheVariants.{Attribute, TermType}
-use Rattle.zeb_query.specs.PrivateReading.{word_of, SpellsHead}
-use Rattle.zeb_query.specs.Grammar.{attribute_value, head_value}
-use Rattle.zeb_query.specs.PrivateWalk.{SetOrSpec, MoreWords}
+use Rattle.zeb_query.proofs.Cited.{suc, Some, ◌∙◌, refl, ap, subst, sym, arith, Attribute, TermType, word_of, SpellsHead, attribute_value, head_value, SetOrSpec, MoreWords}
 use Rattle.zeb_query.proofs.GrammarLemmas.{fault_of-keyword, fault_of-word, spells_more_attribute, spells_more_type, heads-with_type}
 use Rattle.zeb_query.proofs.grammar.head_of.Goals as goal
 

@@ -1,7 +1,4 @@
-use Rattle.std.proofs.Common.{◌≡◌, ℕ, suc, ◌≤◌, length}
-use Rattle.zeb_query.specs.Grammar.{head_value}
-use Rattle.zeb_query.specs.PrivateWalk.{Structures}
-use Rattle.zeb_query.specs.PrivateReading.{fault_of, SpellsHead}
+use Rattle.zeb_query.proofs.Cited.{◌≡◌, ℕ, suc, ◌≤◌, length, head_value, Structures, fault_of, SpellsHead}
 use Rattle.zeb_query.proofs.grammar.head_of.Given as goal
 
 abbrev pub invariant-loop-after : goal.invariant-loop-after

@@ -1,5 +1,4 @@
-use Rattle.std.proofs.Common.{Some, None, sym, ◌∙◌, lit<}
-use Rattle.std.proofs.lemmas.Str.Pattern.{split_once_first}
+use Rattle.zeb_query.proofs.Cited.{Some, None, sym, ◌∙◌, lit<, split_once_first}
 use Rattle.zeb_query.proofs.GrammarLemmas.{kind_and_value-none, kind_and_value-some, if_any-empty, if_any-more}
 use Rattle.zeb_query.proofs.grammar.kind_and_value.Goals as goal
 

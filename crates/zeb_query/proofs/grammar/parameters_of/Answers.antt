@@ -1,7 +1,5 @@
-use Rattle.std.proofs.Common.{◌≡◌, ◌+◌, ◌∷◌, [], ◌++◌, map, ◌∙◌, refl, ap, subst, sym, arith}
-use Rattle.std.specs.Prelude.{string_bytes}
-use Rattle.std.proofs.lemmas.List.{map-append}
-use Rattle.zeb_query.specs.PrivateReading.{word_of, SpellsParameters}
+use Rattle.zeb_query.proofs.Cited.{◌≡◌, ◌+◌, ◌∷◌, [], ◌++◌, ◌∙◌, refl, ap, subst, sym, arith, string_bytes, map-append, word_of, SpellsParameters}
+use Rattle.std.proofs.Common.{map}
 use Rattle.zeb_query.proofs.GrammarLemmas.{words_then-more, spells_more_parameters}
 use Rattle.zeb_query.proofs.grammar.parameters_of.Goals as goal
 

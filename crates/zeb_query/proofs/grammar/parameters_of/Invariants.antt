@@ -1,7 +1,5 @@
-use Rattle.std.proofs.Common.{◌≡◌, ℕ, ◌-◌, ◌≤◌, length, map}
-use Rattle.std.specs.Prelude.{string_bytes}
-use Rattle.zeb_query.specs.PrivateWalk.{words_then}
-use Rattle.zeb_query.specs.PrivateReading.{fault_of, SpellsParameters}
+use Rattle.zeb_query.proofs.Cited.{◌≡◌, ℕ, ◌-◌, ◌≤◌, length, string_bytes, words_then, fault_of, SpellsParameters}
+use Rattle.std.proofs.Common.{map}
 use Rattle.zeb_query.proofs.grammar.parameters_of.Given as goal
 
 abbrev pub invariant-loop : goal.invariant-loop

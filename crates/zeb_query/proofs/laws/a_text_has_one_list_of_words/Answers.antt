@@ -1,5 +1,4 @@
-use Rattle.std.proofs.Common.{sym, ◌∙◌}
-use Rattle.zeb_query.specs.PrivateWalk.{words_at}
+use Rattle.zeb_query.proofs.Cited.{sym, ◌∙◌, words_at}
 use Rattle.zeb_query.proofs.WordStretches.{words_read_are, words_are_read}
 use Rattle.zeb_query.proofs.laws.a_text_has_one_list_of_words.Goals as goal
 

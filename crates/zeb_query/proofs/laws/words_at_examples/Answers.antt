@@ -1,7 +1,5 @@
-use Rattle.std.proofs.Common.{◌≡◌, ℕ, List, refl, subst}
+use Rattle.zeb_query.proofs.Cited.{◌≡◌, ℕ, List, refl, subst, Word, AreWords, words_at}
 use Rattle.std.proofs.Math.Utf8.{encode}
-use Rattle.zeb_query.specs.Words.{Word, AreWords}
-use Rattle.zeb_query.specs.PrivateWalk.{words_at}
 use Rattle.zeb_query.proofs.WordStretches.{words_are_read}
 use Rattle.zeb_query.proofs.laws.words_at_examples.Goals as goal
 

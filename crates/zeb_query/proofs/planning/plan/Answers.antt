@@ -1,5 +1,4 @@
-use Rattle.zeb_query.specs.Grammar.{no_head, query_value}
-use Rattle.zeb_query.specs.Plans.{plan_value, plan_of, HasSmallNumbers}
+use Rattle.zeb_query.proofs.Cited.{no_head, query_value, plan_value, plan_of, HasSmallNumbers}
 use Rattle.zeb_query.specs.PrivatePlanning.{tree_plan}
 use Rattle.zeb_query.proofs.CheckLemmas.{given_ok}
 use Rattle.zeb_query.proofs.PlanNumbers.{plan_numbers}

@@ -1,9 +1,6 @@
-use Rattle.std.proofs.Common.{ap, ◌∙◌, map, sym, subst}
-use Rattle.std.specs.Prelude.{string_bytes}
-use Rattle.zeb_query.specs.declared.queries.Tree.{Term, Tree}
-use Rattle.zeb_query.specs.Grammar.{tree_value, head_value, heads}
+use Rattle.zeb_query.proofs.Cited.{ap, ◌∙◌, sym, subst, string_bytes, Term, Tree, tree_value, head_value, heads, Fails, operand_of}
+use Rattle.std.proofs.Common.{map}
 use Rattle.zeb_query.specs.Attributes.{holding_of}
-use Rattle.zeb_query.specs.Checks.{Fails, operand_of}
 use Rattle.zeb_query.specs.PrivatePlanning.{near_plan}
 use Rattle.zeb_query.proofs.NearLemmas.{near_apart, near_read}
 use Rattle.zeb_query.proofs.proximity.plan_near.Goals as goal

@@ -1,9 +1,6 @@
-use Rattle.std.proofs.Common.{map, ap, subst, ◌∙◌}
+use Rattle.zeb_query.proofs.Cited.{ap, subst, ◌∙◌, IfOk-weaker, IsQuery, query_value, words_at, word_of}
+use Rattle.std.proofs.Common.{map}
 use Rattle.std.specs.Prelude.{chars}
-use Rattle.std.proofs.lemmas.Result.{IfOk-weaker}
-use Rattle.zeb_query.specs.Grammar.{IsQuery, query_value}
-use Rattle.zeb_query.specs.PrivateWalk.{words_at}
-use Rattle.zeb_query.specs.PrivateReading.{word_of}
 use Rattle.zeb_query.proofs.WordStretches.{words_are_read}
 use Rattle.zeb_query.proofs.TextFaults.{too_long, read_whole, read_faulty}
 use Rattle.zeb_query.proofs.reading.read_pqf.Goals as goal

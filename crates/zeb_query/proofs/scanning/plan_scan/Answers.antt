@@ -1,8 +1,4 @@
-use Rattle.std.specs.Prelude.{string_bytes}
-use Rattle.zeb_query.specs.Grammar.{query_value, tree_value, head_value, heads, no_head}
-use Rattle.std.proofs.Common.{subst, sym}
-use Rattle.zeb_query.specs.Checks.{Gives, checked_by, scan_checks_in}
-use Rattle.zeb_query.specs.Plans.{scan_value, tree_scanned, BeginsAtKey}
+use Rattle.zeb_query.proofs.Cited.{string_bytes, query_value, tree_value, head_value, heads, no_head, subst, sym, Gives, checked_by, scan_checks_in, scan_value, tree_scanned, BeginsAtKey}
 use Rattle.zeb_query.specs.PrivatePlanning.{leaf_scan}
 use Rattle.zeb_query.proofs.CheckLemmas.{given_ok}
 use Rattle.zeb_query.proofs.PlanNumbers.{leaf_begins}

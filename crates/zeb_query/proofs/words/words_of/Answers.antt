@@ -1,11 +1,5 @@
-use Rattle.std.proofs.Common.{length, sym, ◌∙◌, arith}
+use Rattle.zeb_query.proofs.Cited.{length, sym, ◌∙◌, arith, common_steps, YieldsList-from_chars, YieldsList-turn, YieldsList-end, length_push, at_drop_all, IfOk-weaker, words_with}
 use Rattle.std.specs.Str.{chars}
-use Rattle.std.proofs.lemmas.Grind.{common_steps}
-use Rattle.std.proofs.lemmas.Iterator.{YieldsList-from_chars}
-use Rattle.std.proofs.lemmas.Iterator.Consumers.{YieldsList-turn, YieldsList-end}
-use Rattle.std.proofs.lemmas.List.{length_push, at_drop_all}
-use Rattle.std.proofs.lemmas.Result.{IfOk-weaker}
-use Rattle.zeb_query.specs.PrivateReading.{words_with}
 use Rattle.zeb_query.proofs.CuttingLemmas.{words_with-more}
 use Rattle.zeb_query.proofs.words.words_of.Goals as goal
 

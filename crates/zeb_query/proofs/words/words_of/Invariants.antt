@@ -1,7 +1,5 @@
-use Rattle.std.proofs.Common.{◌≡◌, ◌+◌, length, drop}
+use Rattle.zeb_query.proofs.Cited.{◌≡◌, ◌+◌, length, drop, words_at, words_with}
 use Rattle.std.specs.Str.{chars}
-use Rattle.zeb_query.specs.PrivateWalk.{words_at}
-use Rattle.zeb_query.specs.PrivateReading.{words_with}
 use Rattle.zeb_query.proofs.words.words_of.Given as goal
 
 abbrev pub invariant-loop-c : goal.invariant-loop-c

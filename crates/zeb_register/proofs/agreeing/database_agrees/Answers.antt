@@ -1,12 +1,4 @@
-use Rattle.std.proofs.Common.{◌≡◌, ◌∙◌, [], ◌∷◌, subst, w64, to_z, of_z}
-use Rattle.std.proofs.Math.Facts.{to_z-of_z}
-use Rattle.std.proofs.lemmas.Result.{IfOk-weaker}
-use Rattle.sqlite.specs.Held.{state}
-use Rattle.sqlite.specs.declared.types.Value.TheVariants.{Int}
-use Rattle.zeb_register.specs.PrivateRowExpected.{AsExpected, tree_of}
-use Rattle.zeb_register.specs.PrivateRowReads.{Fits}
-use Rattle.zeb_register.specs.Sql.{IsListOf}
-use Rattle.zeb_register.specs.Store.{IsRest}
+use Rattle.zeb_register.proofs.Cited.{state, Int, ◌≡◌, ◌∙◌, [], ◌∷◌, subst, w64, to_z, of_z, to_z-of_z, IfOk-weaker, AsExpected, tree_of, Fits, IsListOf, IsRest}
 use Rattle.zeb_register.proofs.RowReads.{fits_expected}
 use Rattle.zeb_register.proofs.YesNoAnswers.{told_so}
 use Rattle.zeb_register.proofs.agreeing.database_agrees.Goals as goal

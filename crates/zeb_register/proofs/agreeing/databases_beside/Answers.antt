@@ -1,8 +1,4 @@
-use Rattle.std.proofs.Common.{Err, ◌∙◌, sym, ap, map, subst}
-use Rattle.sqlite.specs.Held.{state}
-use Rattle.sqlite_rules.specs.Lists.{Has}
-use Rattle.zeb_register.specs.PrivateRowExpected.{listed_name}
-use Rattle.zeb_register.specs.PrivateRowPlaces.{first_three}
+use Rattle.zeb_register.proofs.Cited.{state, Has, Err, ◌∙◌, sym, ap, map, subst, listed_name, first_three}
 use Rattle.zeb_register.proofs.DatabaseLists.{database_shown, databases_listed}
 use Rattle.zeb_register.proofs.ExpectedDatabases.{names_readable, names_same}
 use Rattle.zeb_register.proofs.agreeing.databases_beside.Goals as goal

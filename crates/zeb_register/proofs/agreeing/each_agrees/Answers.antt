@@ -1,10 +1,4 @@
-use Rattle.std.proofs.Common.{◌≡◌, ◌∙◌, true, false, inl, inr, slice_get, get_or, sym, ap, subst, refl, arith}
-use Rattle.sqlite.specs.Effect.{Database}
-use Rattle.sqlite.specs.Held.{state}
-use Rattle.sqlite.specs.State.{HasCleanDisk}
-use Rattle.sqlite.proofs.Callers.{unchanged_then}
-use Rattle.zeb_register.specs.declared.catalog.ListedDatabase.{ListedDatabase}
-use Rattle.zeb_register.specs.PrivateRowExpected.{AsExpected}
+use Rattle.zeb_register.proofs.Cited.{unchanged_then, Database, state, HasCleanDisk, ◌≡◌, ◌∙◌, true, false, inl, inr, slice_get, get_or, sym, ap, subst, refl, arith, ListedDatabase, AsExpected}
 use Rattle.zeb_register.proofs.ListsInStep.{at_or_below, got_in, got_is, got_same}
 use Rattle.zeb_register.proofs.Calls.{nothing_then, store_same}
 use Rattle.zeb_register.proofs.CallsInTurn.{quiet_then}

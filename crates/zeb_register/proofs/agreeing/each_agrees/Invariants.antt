@@ -1,11 +1,4 @@
-use Rattle.std.proofs.Common.{◌≡◌, ◌<◌, ℕ, false, slice_get, Some}
-use Rattle.sqlite.specs.Held.{state}
-use Rattle.sqlite.specs.State.{HasCleanDisk, IsUnchanged, Survives}
-use Rattle.zeb_register.specs.declared.catalog.ListedDatabase.{ListedDatabase}
-use Rattle.zeb_register.specs.declared.expected.ExpectedDatabase.{ExpectedDatabase}
-use Rattle.zeb_register.specs.Calls.{ChangesNothing}
-use Rattle.zeb_register.specs.PrivateRowExpected.{AreInOrder, AsExpected}
-use Rattle.zeb_register.specs.Store.{IsStore}
+use Rattle.zeb_register.proofs.Cited.{state, HasCleanDisk, IsUnchanged, Survives, ◌≡◌, ◌<◌, ℕ, false, slice_get, Some, ListedDatabase, ExpectedDatabase, ChangesNothing, AreInOrder, AsExpected, IsStore}
 use Rattle.zeb_register.proofs.agreeing.each_agrees.Given as goal
 
 abbrev pub invariant-loop-at : goal.invariant-loop-at

@@ -1,10 +1,4 @@
-use Rattle.std.proofs.Common.{◌≡◌, ◌↔◌, [], true, false, IsTrue, subst, arith}
-use Rattle.std.proofs.lemmas.Result.{IfOk-weaker}
-use Rattle.sqlite.specs.Effect.{Database}
-use Rattle.sqlite.specs.Held.{state}
-use Rattle.sqlite.specs.State.{HasCleanDisk}
-use Rattle.zeb_register.specs.PrivateRowExpected.{BelongsTo}
-use Rattle.zeb_register.specs.Store.{blocks_tree, dict_tree}
+use Rattle.zeb_register.proofs.Cited.{Database, state, HasCleanDisk, ◌≡◌, ◌↔◌, [], true, false, IsTrue, subst, arith, IfOk-weaker, BelongsTo, blocks_tree, dict_tree}
 use Rattle.zeb_register.proofs.Calls.{reading_then, store_same}
 use Rattle.zeb_register.proofs.YesNoAnswers.{both_told, first_told}
 use Rattle.zeb_register.proofs.agreeing.lacks_packed.Goals as goal

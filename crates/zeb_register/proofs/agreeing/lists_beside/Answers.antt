@@ -1,14 +1,5 @@
-use Rattle.std.proofs.Common.{List, Option, Some, None, IfOk, subst, arith}
-use Rattle.std.specs.Prelude.{MatchOption}
+use Rattle.zeb_register.proofs.Cited.{Database, state, HasCleanDisk, List, Option, Some, None, IfOk, subst, arith, MatchOption, IfOk-weaker, Records, ExpectedDatabase, name_order, AreBeside, AreInOrder, HasNames, KeepsExpectedTexts, HoldsThere, ListsAgree}
 use Rattle.std.specs.List.Sorted.{IsStrictlySortedBy}
-use Rattle.std.proofs.lemmas.Result.{IfOk-weaker}
-use Rattle.sqlite.specs.Effect.{Database}
-use Rattle.sqlite.specs.Held.{state}
-use Rattle.sqlite.specs.State.{HasCleanDisk}
-use Rattle.zeb_register.specs.declared.agreeing.Table.TheVariants.{Records}
-use Rattle.zeb_register.specs.declared.expected.ExpectedDatabase.{ExpectedDatabase}
-use Rattle.zeb_register.specs.Expected.{name_order}
-use Rattle.zeb_register.specs.PrivateRowExpected.{AreBeside, AreInOrder, HasNames, KeepsExpectedTexts, HoldsThere, ListsAgree}
 use Rattle.zeb_register.proofs.Calls.{store_same}
 use Rattle.zeb_register.proofs.ExpectedDatabases.{names_there}
 use Rattle.zeb_register.proofs.agreeing.lists_beside.Goals as goal

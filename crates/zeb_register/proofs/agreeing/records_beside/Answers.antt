@@ -1,12 +1,4 @@
-use Rattle.std.proofs.Common.{◌≡◌, ◌↔◌, ◌∙◌, Bool, IsTrue, List, true, false, length, ap, subst₂, arith}
-use Rattle.sqlite.specs.Effect.{Database}
-use Rattle.sqlite.specs.Held.{state}
-use Rattle.sqlite.specs.State.{State, HasCleanDisk}
-use Rattle.zeb_register.specs.declared.agreeing.Table.TheVariants.{Records}
-use Rattle.zeb_register.specs.declared.catalog.ListedDatabase.{ListedDatabase}
-use Rattle.zeb_register.specs.declared.expected.ExpectedDatabase.{ExpectedDatabase}
-use Rattle.zeb_register.specs.PrivateRowExpected.{AreBeside, HoldsExpected, HoldsThere}
-use Rattle.zeb_register.specs.Store.{IsStore}
+use Rattle.zeb_register.proofs.Cited.{Database, state, State, HasCleanDisk, ◌≡◌, ◌↔◌, ◌∙◌, Bool, IsTrue, List, true, false, length, ap, subst₂, arith, Records, ListedDatabase, ExpectedDatabase, AreBeside, HoldsExpected, HoldsThere, IsStore}
 use Rattle.zeb_register.proofs.Calls.{store_same}
 use Rattle.zeb_register.proofs.ExpectedDatabases.{expected_there}
 use Rattle.zeb_register.proofs.agreeing.records_beside.Goals as goal

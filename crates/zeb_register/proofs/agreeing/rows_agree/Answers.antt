@@ -1,10 +1,4 @@
-use Rattle.std.proofs.Common.{◌≡◌, ◌↔◌, true, false, IsTrue, subst, arith}
-use Rattle.std.proofs.lemmas.Result.{IfOk-weaker}
-use Rattle.sqlite.specs.Effect.{Database}
-use Rattle.sqlite.specs.Held.{state}
-use Rattle.sqlite.specs.State.{HasCleanDisk}
-use Rattle.zeb_register.specs.declared.agreeing.Table.TheVariants.{Postings}
-use Rattle.zeb_register.specs.PrivateRowExpected.{HoldsExpected, LacksPacked}
+use Rattle.zeb_register.proofs.Cited.{Database, state, HasCleanDisk, ◌≡◌, ◌↔◌, true, false, IsTrue, subst, arith, IfOk-weaker, Postings, HoldsExpected, LacksPacked}
 use Rattle.zeb_register.proofs.Calls.{reading_then, store_same}
 use Rattle.zeb_register.proofs.YesNoAnswers.{both_told, first_told}
 use Rattle.zeb_register.proofs.agreeing.rows_agree.Goals as goal

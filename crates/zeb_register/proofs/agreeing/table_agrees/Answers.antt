@@ -1,10 +1,4 @@
-use Rattle.std.proofs.Common.{arith}
-use Rattle.std.proofs.lemmas.Result.{IfOk-weaker}
-use Rattle.sqlite.specs.Effect.{Database}
-use Rattle.sqlite.specs.Held.{state}
-use Rattle.sqlite.specs.State.{HasCleanDisk}
-use Rattle.std.proofs.Common.{◌≡◌, ◌↔◌, true, false, IsTrue, subst}
-use Rattle.zeb_register.specs.PrivateRowExpected.{BelongsTo, EachAsExpected, tree_of}
+use Rattle.zeb_register.proofs.Cited.{Database, state, HasCleanDisk, arith, ◌≡◌, ◌↔◌, true, false, IsTrue, subst, IfOk-weaker, BelongsTo, EachAsExpected, tree_of}
 use Rattle.zeb_register.proofs.Calls.{reading_then, store_same}
 use Rattle.zeb_register.proofs.YesNoAnswers.{both_told, first_told}
 use Rattle.zeb_register.proofs.agreeing.table_agrees.Goals as goal

@@ -1,6 +1,4 @@
-use Rattle.std.proofs.Common.{◌∙◌, sym}
-use Rattle.sqlite.specs.Held.{state}
-use Rattle.zeb_register.specs.PrivateRowExpected.{KeepsExpectedTexts}
+use Rattle.zeb_register.proofs.Cited.{state, ◌∙◌, sym, KeepsExpectedTexts}
 use Rattle.zeb_register.proofs.ExpectedLists.{texts_rows, texts_there}
 use Rattle.zeb_register.proofs.YesNoAnswers.{told}
 use Rattle.zeb_register.proofs.agreeing.texts_agree.Goals as goal

@@ -1,12 +1,4 @@
-use Rattle.std.proofs.Common.{rules, ◌≡◌, true, false, ◌+◌, FitsSigned, w64, to_z, sym, subst, arith}
-use Rattle.std.proofs.lemmas.Int.{ints}
-use Rattle.std.proofs.lemmas.Result.{err_from_is_err_and}
-use Rattle.std.proofs.Math.Facts.{to_z-of_z}
-use Rattle.sqlite.specs.Held.{state}
-use Rattle.sqlite.specs.State.{HasCleanDisk, IsUnchanged}
-use Rattle.zeb_register.specs.declared.faults.RegFault.{RegFault}
-use Rattle.zeb_register.specs.Calls.{Reading}
-use Rattle.zeb_register.specs.PrivateRowExpected.{tree_of}
+use Rattle.zeb_register.proofs.Cited.{state, HasCleanDisk, IsUnchanged, rules, ◌≡◌, true, false, ◌+◌, FitsSigned, w64, to_z, sym, subst, arith, to_z-of_z, ints, err_from_is_err_and, RegFault, Reading, tree_of}
 use Rattle.zeb_register.proofs.Calls.{nothing_then, reading_behind}
 use Rattle.zeb_register.proofs.CallsInTurn.{quiet_then}
 use Rattle.zeb_register.proofs.OwnersListed.{IsReached, all_reached, below_few, first_reached, found_next, next_reached, none_missing, none_next}

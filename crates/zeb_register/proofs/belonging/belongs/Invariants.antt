@@ -1,9 +1,4 @@
-use Rattle.std.proofs.Common.{◌≡◌, false}
-use Rattle.sqlite.specs.Held.{state}
-use Rattle.sqlite.specs.State.{HasCleanDisk, IsUnchanged, Survives}
-use Rattle.zeb_register.specs.Calls.{ChangesNothing}
-use Rattle.zeb_register.specs.PrivateRowExpected.{tree_of}
-use Rattle.zeb_register.specs.Store.{IsStore}
+use Rattle.zeb_register.proofs.Cited.{state, HasCleanDisk, IsUnchanged, Survives, ◌≡◌, false, ChangesNothing, tree_of, IsStore}
 use Rattle.zeb_register.proofs.OwnersListed.{IsReached}
 use Rattle.zeb_register.proofs.belonging.belongs.Given as goal
 

@@ -1,9 +1,4 @@
-use Rattle.std.proofs.Common.{rules, ◌≤ℤ◌, ℤ, None, Some, FitsSigned, w64, sym, subst, subst₂, arith}
-use Rattle.std.proofs.Math.Facts.{to_z-of_z}
-use Rattle.sqlite.specs.Effect.{Database}
-use Rattle.sqlite.specs.Held.{state}
-use Rattle.sqlite.specs.State.{HasCleanDisk}
-use Rattle.zeb_register.specs.PrivateRowExpected.{Owns, tree_of}
+use Rattle.zeb_register.proofs.Cited.{Database, state, HasCleanDisk, rules, ◌≤ℤ◌, ℤ, None, Some, FitsSigned, w64, sym, subst, subst₂, arith, to_z-of_z, Owns, tree_of}
 use Rattle.zeb_register.proofs.Calls.{store_same}
 use Rattle.zeb_register.proofs.OwnersListed.{IsFirst, first_seen}
 use Rattle.zeb_register.proofs.belonging.ends_of.Goals as goal

@@ -1,6 +1,4 @@
-use Rattle.std.proofs.Common.{◌≡◌, ◌≢◌, w64, to_z, of_z, arith}
-use Rattle.std.proofs.lemmas.Int.{ints}
-use Rattle.zeb_register.specs.declared.catalog.ListedDatabase.{ListedDatabase}
+use Rattle.zeb_register.proofs.Cited.{◌≡◌, ◌≢◌, w64, to_z, of_z, arith, ints, ListedDatabase}
 use Rattle.zeb_register.proofs.ListsInStep.{each_more, each_whole}
 use Rattle.zeb_register.proofs.ContentLemmas.{has_at}
 use Rattle.zeb_register.proofs.belonging.is_listed.Goals as goal

@@ -1,7 +1,4 @@
-use Rattle.std.proofs.Common.{◌≡◌, ◌∙◌, sym, ap, slice_get, Some, None, w64}
-use Rattle.std.proofs.Math.Facts.{to_z-of_z}
-use Rattle.std.specs.Option.{option_copied}
-use Rattle.sqlite.specs.Held.{state}
+use Rattle.zeb_register.proofs.Cited.{state, ◌≡◌, ◌∙◌, sym, ap, slice_get, Some, None, w64, to_z-of_z, option_copied}
 use Rattle.zeb_register.proofs.LookUps.{database_found, no_database, id_readable, last_readable}
 use Rattle.zeb_register.proofs.catalog.database_of.Goals as goal
 

@@ -1,21 +1,7 @@
-use Rattle.std.proofs.Common.{rules, arith, ◌≡◌, ◌∙◌, inl, inr, sym, ap, subst, ℤ, slice_get, Some, None, pos, w64, to_z, of_z}
-use Rattle.std.proofs.Math.Facts.{to_z-of_z}
-use Rattle.std.specs.Option.{option_copied}
-use Rattle.sqlite.specs.declared.types.Value.TheVariants.{Text}
-use Rattle.sqlite.specs.Effect.{Database}
-use Rattle.sqlite.specs.Held.{state}
-use Rattle.sqlite.specs.Order.{column}
-use Rattle.zeb_register.specs.Store.{Changes, database_columns, databases_tree}
-use Rattle.zeb_register.specs.PrivateRowStatements.{SetsLast, AddsDatabase}
-use Rattle.zeb_register.specs.Catalog.{PutsDatabase}
+use Rattle.zeb_register.proofs.Cited.{state, rules, arith, ◌≡◌, ◌∙◌, sym, ap, subst, slice_get, Some, None, pos, w64, to_z, of_z, to_z-of_z, option_copied, Changes, databases_tree, SetsLast, AddsDatabase, PutsDatabase}
 use Rattle.zeb_register.proofs.DatabaseStatements.{puts_set, puts_added}
-use Rattle.zeb_register.specs.Hindrances.{TakesRowids}
-use Rattle.zeb_register.specs.PrivateHindrances.{HindersLast, HindersNew}
 use Rattle.zeb_register.proofs.Calls.{changes_after, changes_so, goes_keeps, on_err, reads_goes, store_same}
-use Rattle.zeb_register.proofs.Causes.{hindered_after}
-use Rattle.zeb_register.proofs.DatabaseRefusals.{add_hinders, set_hinders}
 use Rattle.zeb_register.proofs.LookUps.{id_there, id_readable, no_database}
-use Rattle.zeb_register.proofs.TakenRowids.{takes_more}
 use Rattle.zeb_register.proofs.catalog.database_put.Goals as goal
 
 pub returns-in-Some-clause-put : goal.returns-in-Some-clause-put
@@ -67,66 +53,3 @@ returns-in_err-last_set-in-Some-clause-call g c = record {
       on_err c.from_residual-in_err-last_set-in-Some.result _ (goes_keeps _ _ _ (reads_goes _ _ rows.0) (c.in_err-last_set-in-Some.ensures.call.err clean rows.0.mode));
   crash = search rules;
 }
-
-pub returns-in_err-last_set-in-Some-clause-refused : goal.returns-in_err-last_set-in-Some-clause-refused
-returns-in_err-last_set-in-Some-clause-refused g c small clean inside store told =
-    let old = state g.S.Store c.args.tx.now.conn.now in
-    let mid = state g.S.Store c.database_rows_inside.new.tx.conn.now in
-    let name = c.args.name.now in
-    let id = c.in_ok-id-in-Some.id in
-    let rows = c.in_ok-rows.ensures.call.ok (omega (arith, clean, c.last_set.ensures.call.crash.clean)) inside in
-    let got : slice_get c.in_ok-rows.rows.items 0 ≡ Some c.in-Some.row.now = sym (c.first.ensures.value ∙ ap (λ l. slice_get l 0) c.deref.ensures.value) ∙ ap option_copied c.in-Some.is in
-    let there = id_there old.now.trees name c.in_ok-rows.rows.items c.in-Some.row.now id (rows.1 store) got c.in_ok-id-in-Some.ensures.ok.0 in
-    let same : to_z w64 (of_z w64 id) ≡ id = to_z-of_z {w = w64} {z = id} c.in_ok-id-in-Some.ensures.ok.1 in
-    let last : to_z w64 (of_z w64 c.in_ok-last.last) ≡ pos c.args.last = to_z-of_z {w = w64} {z = c.in_ok-last.last} c.in_ok-last.ensures.ok.1 ∙ c.in_ok-last.ensures.ok.0 in
-    let why = hindered_after old mid (state g.S.Store c.last_set.new.tx.conn.now) (HindersLast (to_z w64 (of_z w64 id)) (to_z w64 (of_z w64 c.in_ok-last.last))) rows.0 c.in_ok-rows.ensures.call.crash
-    (c.in_err-last_set-in-Some.ensures.refused clean rows.0.mode (store_same _ _ rows.0.now_is store) (search rules)) in
-    elim why [
-      | inl cause ↦ inl cause
-      | inr hinders ↦
-          inr (set_hinders old id (pos c.args.last) there.0 name store there.1 (subst (λ l. HindersLast id l old.now.trees) last (subst (λ i. HindersLast i (to_z w64 (of_z w64 c.in_ok-last.last)) old.now.trees) same hinders)))
-    ]
-
-pub returns-in_err-database_add-in-None-clause-refused : goal.returns-in_err-database_add-in-None-clause-refused
-returns-in_err-database_add-in-None-clause-refused g c small clean inside store told =
-    let old = state g.S.Store c.args.tx.now.conn.now in
-    let mid = state g.S.Store c.database_rows_inside.new.tx.conn.now in
-    let name = c.args.name.now in
-    let rows = c.in_ok-rows.ensures.call.ok (omega (arith, clean, c.database_add.ensures.call.crash.clean)) inside in
-    let got : slice_get c.in_ok-rows.rows.items 0 ≡ None = sym (c.first.ensures.value ∙ ap (λ l. slice_get l 0) c.deref.ensures.value) ∙ ap option_copied c.in-None.is in
-    let none = no_database old.now.trees name c.in_ok-rows.rows.items (rows.1 store) got in
-    let last : to_z w64 (of_z w64 c.in_ok-last.last) ≡ pos c.args.last = to_z-of_z {w = w64} {z = c.in_ok-last.last} c.in_ok-last.ensures.ok.1 ∙ c.in_ok-last.ensures.ok.0 in
-    let added = λ (l : ℤ). HindersNew (λ was. column was 1 ≡ Text name) databases_tree (database_columns name l) in
-    let why = hindered_after old mid (state g.S.Store c.database_add.new.tx.conn.now) (added (to_z w64 (of_z w64 c.in_ok-last.last))) rows.0 c.in_ok-rows.ensures.call.crash
-    (c.in_err-database_add-in-None.ensures.refused clean rows.0.mode (store_same _ _ rows.0.now_is store) (search rules)) in
-    elim why [
-      | inl cause ↦ inl cause
-      | inr hinders ↦ inr (add_hinders old name (pos c.args.last) store none (subst (λ l. added l old.now.trees) last hinders))
-    ]
-
-pub returns-in-Some-clause-last_rowids : goal.returns-in-Some-clause-last_rowids
-returns-in-Some-clause-last_rowids g c clean inside store id before there =
-    let new = state g.S.Store c.last_set.new.tx.conn.now in
-    let rows = c.in_ok-rows.ensures.call.ok (omega (arith, c.last_set.ensures.call.crash.clean)) inside in
-    subst (λ (d : Database). TakesRowids 0 databases_tree d.trees new.now.trees) rows.0.now_is (c.in_ok-last_set-in-Some.ensures.rowids clean rows.0.mode (store_same _ _ rows.0.now_is store))
-
-pub returns-in-Some-clause-rowids : goal.returns-in-Some-clause-rowids
-returns-in-Some-clause-rowids g c clean inside store =
-    let old = state g.S.Store c.args.tx.now.conn.now in
-    let new = state g.S.Store c.last_set.new.tx.conn.now in
-    let rows = c.in_ok-rows.ensures.call.ok (omega (arith, c.last_set.ensures.call.crash.clean)) inside in
-    takes_more 0 1 databases_tree old.now.trees new.now.trees (omega arith)
-    (subst (λ (d : Database). TakesRowids 0 databases_tree d.trees new.now.trees) rows.0.now_is (c.in_ok-last_set-in-Some.ensures.rowids clean rows.0.mode (store_same _ _ rows.0.now_is store)))
-
-pub returns-clause-rowids : goal.returns-clause-rowids
-returns-clause-rowids g c clean inside store =
-    let new = state g.S.Store c.database_add.new.tx.conn.now in
-    let rows = c.in_ok-rows.ensures.call.ok (omega (arith, c.database_add.ensures.call.crash.clean)) inside in
-    subst (λ (d : Database). TakesRowids 1 databases_tree d.trees new.now.trees) rows.0.now_is (c.in_ok-database_add-in-None.ensures.rowids clean rows.0.mode (store_same _ _ rows.0.now_is store))
-
-pub returns-clause-last_rowids : goal.returns-clause-last_rowids
-returns-clause-last_rowids g c clean inside store id before there =
-    let old = state g.S.Store c.args.tx.now.conn.now in
-    let rows = c.in_ok-rows.ensures.call.ok (omega (arith, c.database_add.ensures.call.crash.clean)) inside in
-    let got : slice_get c.in_ok-rows.rows.items 0 ≡ None = sym (c.first.ensures.value ∙ ap (λ l. slice_get l 0) c.deref.ensures.value) ∙ ap option_copied c.in-None.is in
-    absurd (no_database old.now.trees c.args.name.now c.in_ok-rows.rows.items (rows.1 store) got id before there)

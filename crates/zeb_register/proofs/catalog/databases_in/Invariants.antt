@@ -1,6 +1,4 @@
-use Rattle.std.proofs.Common.{◌≡◌, map, take}
-use Rattle.zeb_register.specs.PrivateCatalog.{listed_row}
-use Rattle.zeb_register.specs.PrivateRowPlaces.{first_three}
+use Rattle.zeb_register.proofs.Cited.{◌≡◌, map, take, listed_row, first_three}
 use Rattle.zeb_register.proofs.catalog.databases_in.Given as goal
 
 abbrev pub invariant-loop-row : goal.invariant-loop-row

@@ -1,8 +1,4 @@
-use Rattle.std.proofs.Common.{◌∙◌, ap, map, subst}
-use Rattle.std.proofs.lemmas.Result.{IfOk-weaker}
-use Rattle.sqlite.specs.Held.{state}
-use Rattle.sqlite_rules.specs.Lists.{Has}
-use Rattle.zeb_register.specs.PrivateRowPlaces.{first_three}
+use Rattle.zeb_register.proofs.Cited.{state, Has, ◌∙◌, ap, map, subst, IfOk-weaker, first_three}
 use Rattle.zeb_register.proofs.DatabaseLists.{database_shown, databases_listed}
 use Rattle.zeb_register.proofs.catalog.databases_inside.Goals as goal
 

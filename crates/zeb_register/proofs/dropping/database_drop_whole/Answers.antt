@@ -1,7 +1,4 @@
-use Rattle.std.proofs.Common.{arith}
-use Rattle.std.proofs.lemmas.Result.{IfOk-weaker}
-use Rattle.sqlite.specs.Held.{state}
-use Rattle.sqlite.specs.State.{HasCleanDisk}
+use Rattle.zeb_register.proofs.Cited.{state, HasCleanDisk, arith, IfOk-weaker}
 use Rattle.zeb_register.proofs.FormatLemmas.{registers_without}
 use Rattle.zeb_register.proofs.PlaceLemmas.{taken_whole}
 use Rattle.zeb_register.proofs.dropping.database_drop_whole.Goals as goal
@@ -11,13 +8,13 @@ returns-clause-taken g c clean inside store =
     let db = c.args.db.0 in
     let first = state g.S.Store c.args.tx.now.conn.now in
     let second = state g.S.Store c.registers_drop.new.tx.conn.now in
-    let third = state g.S.Store c.records_drop.new.tx.conn.now in
+    let third = state g.S.Store c.table_clear.new.tx.conn.now in
     let last = state g.S.Store c.database_drop.new.tx.conn.now in
     let clean2 : HasCleanDisk third = omega (arith, c.database_drop.ensures.call.crash.clean) in
-    let clean1 : HasCleanDisk second = omega (arith, c.database_drop.ensures.call.crash.clean, c.records_drop.ensures.call.crash.clean) in
+    let clean1 : HasCleanDisk second = omega (arith, c.database_drop.ensures.call.crash.clean, c.table_clear.ensures.call.crash.clean) in
     let done1 = c.in_ok-registers_drop.ensures.call.ok clean1 inside in
     let one = done1.1 store in
-    let done2 = c.in_ok-records_drop.ensures.call.ok clean2 done1.0.mode in
+    let done2 = c.in_ok-table_clear.ensures.call.ok clean2 done1.0.mode in
     let two = done2.rows one.store in
     IfOk-weaker c.database_drop.result _ _ (λ _ done3.
     let three = done3.rows two.layout in (

@@ -1,5 +1,4 @@
-use Rattle.std.proofs.Common.{◌<◌, ◌∙◌, sym, ap, map, length, arith}
-use Rattle.zeb_register.specs.PrivateRowExpected.{expected_name, listed_name}
+use Rattle.zeb_register.proofs.Cited.{◌<◌, ◌∙◌, sym, ap, map, length, arith, expected_name, listed_name}
 use Rattle.zeb_register.proofs.ListsInStep.{alike_at, alike_more, take_all}
 use Rattle.zeb_register.proofs.expected.are_named.Goals as goal
 

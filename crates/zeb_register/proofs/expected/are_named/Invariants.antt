@@ -1,5 +1,4 @@
-use Rattle.std.proofs.Common.{◌≡◌, map, take, length}
-use Rattle.zeb_register.specs.PrivateRowExpected.{expected_name, listed_name}
+use Rattle.zeb_register.proofs.Cited.{◌≡◌, map, take, length, expected_name, listed_name}
 use Rattle.zeb_register.proofs.expected.are_named.Given as goal
 
 abbrev pub invariant-loop-at : goal.invariant-loop-at

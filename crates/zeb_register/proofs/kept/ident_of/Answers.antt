@@ -1,9 +1,4 @@
-use Rattle.std.proofs.Common.{rules, ◌≡◌, ◌∙◌, sym, ap, subst, slice_get, Some, None, pos, w64, to_z, of_z}
-use Rattle.std.proofs.Math.Facts.{to_z-of_z}
-use Rattle.std.specs.Option.{option_copied}
-use Rattle.sqlite.specs.Held.{state}
-use Rattle.zeb_register.specs.Sql.{IsListOf}
-use Rattle.zeb_register.specs.PrivateRowStatements.{IsIdentRow}
+use Rattle.zeb_register.proofs.Cited.{state, rules, ◌≡◌, ◌∙◌, sym, ap, subst, slice_get, Some, None, pos, w64, to_z, of_z, to_z-of_z, option_copied, IsListOf, IsIdentRow}
 use Rattle.zeb_register.proofs.LookUps.{ident_found, no_ident, ident_readable}
 use Rattle.zeb_register.proofs.kept.ident_of.Goals as goal
 

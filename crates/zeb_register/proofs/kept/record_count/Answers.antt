@@ -1,9 +1,4 @@
-use Rattle.std.proofs.Common.{◌≡◌, ◌∙◌, ℕ, pos, [], ◌∷◌, sym, ap, slice_get, Some}
-use Rattle.std.proofs.lemmas.Result.{IfErr-at_err}
-use Rattle.std.specs.Option.{option_copied}
-use Rattle.sqlite.specs.declared.types.Value.TheVariants.{Int}
-use Rattle.sqlite.specs.Order.{Row, column}
-use Rattle.zeb_register.specs.declared.faults.RegFault.TheVariants.{Damaged}
+use Rattle.zeb_register.proofs.Cited.{Row, column, Int, ◌≡◌, ◌∙◌, ℕ, pos, [], ◌∷◌, sym, ap, slice_get, Some, IfErr-at_err, option_copied, Damaged}
 use Rattle.zeb_register.proofs.kept.record_count.Goals as goal
 
 pub returns-in-Some-clause-honest : goal.returns-in-Some-clause-honest

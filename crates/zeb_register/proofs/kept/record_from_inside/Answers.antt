@@ -1,7 +1,4 @@
-use Rattle.std.proofs.Common.{rules, ◌≡◌, ◌∙◌, sym, ap, slice_get, take, Some, None}
-use Rattle.std.specs.Option.{option_copied}
-use Rattle.sqlite.specs.Held.{state}
-use Rattle.zeb_register.specs.Store.{records_tree}
+use Rattle.zeb_register.proofs.Cited.{state, rules, ◌≡◌, ◌∙◌, sym, ap, slice_get, take, Some, None, option_copied, records_tree}
 use Rattle.zeb_register.proofs.Columns.{column_is, rows_at_least}
 use Rattle.zeb_register.proofs.RecordLemmas.{first_record, first_shown, none_left}
 use Rattle.zeb_register.proofs.kept.record_from_inside.Goals as goal

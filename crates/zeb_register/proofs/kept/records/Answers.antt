@@ -1,12 +1,4 @@
-use Rattle.std.proofs.Common.{◌≡◌, ◌∙◌, [], ◌∷◌, map, ap, subst, w64, to_z, of_z}
-use Rattle.std.proofs.Math.Facts.{to_z-of_z}
-use Rattle.std.proofs.lemmas.Result.{IfOk-weaker}
-use Rattle.sqlite.specs.Held.{state}
-use Rattle.sqlite.specs.declared.types.Value.TheVariants.{Int}
-use Rattle.sqlite_rules.specs.Lists.{Has}
-use Rattle.zeb_register.specs.Sql.{IsListOf}
-use Rattle.zeb_register.specs.Store.{IsRest, records_tree}
-use Rattle.zeb_register.specs.PrivateRowPlaces.{first_three}
+use Rattle.zeb_register.proofs.Cited.{state, Int, Has, ◌≡◌, ◌∙◌, [], ◌∷◌, map, ap, subst, w64, to_z, of_z, to_z-of_z, IfOk-weaker, IsListOf, IsRest, records_tree, first_three}
 use Rattle.zeb_register.proofs.RecordLemmas.{records_listed, records_shown}
 use Rattle.zeb_register.proofs.kept.records.Goals as goal
 

@@ -1,6 +1,4 @@
-use Rattle.std.proofs.Common.{◌≡◌, map, take}
-use Rattle.zeb_register.specs.PrivateRowPlaces.{first_three}
-use Rattle.zeb_register.specs.Kept.{record_shown}
+use Rattle.zeb_register.proofs.Cited.{◌≡◌, map, take, first_three, record_shown}
 use Rattle.zeb_register.proofs.kept.records_of.Given as goal
 
 abbrev pub invariant-loop-row : goal.invariant-loop-row

@@ -1,6 +1,4 @@
-use Rattle.std.proofs.Common.{◌≡◌, ◌+◌, length, map, drop, ap, subst, arith}
-use Rattle.zeb_register.specs.PrivateRowExpected.{with_key}
-use Rattle.zeb_register.specs.PrivateRowKeys.{IsFrontOf, IsRunBefore}
+use Rattle.zeb_register.proofs.Cited.{◌≡◌, ◌+◌, length, map, drop, ap, subst, arith, with_key, IsFrontOf, IsRunBefore}
 use Rattle.zeb_register.proofs.KeyRuns.{dict_is, none_run, run_begins, run_shows, some_front}
 use Rattle.zeb_register.proofs.PackedBeside.{drop_got, drop_over, map_none, moved_on}
 use Rattle.zeb_register.proofs.key_runs.run_end.Goals as goal

@@ -1,4 +1,4 @@
-use Rattle.std.proofs.Common.{◌≡◌, ◌≢◌, ◌⊎◌, inl, inr, subst, arith}
+use Rattle.zeb_register.proofs.Cited.{◌≡◌, ◌≢◌, ◌⊎◌, inl, inr, subst, arith}
 use Rattle.zeb_register.proofs.KeyRuns.{IsCountedTo, counted_again, counted_new, counted_none, run_before, run_ended}
 use Rattle.zeb_register.proofs.key_runs.run_from.Goals as goal
 use Rattle.zeb_register.proofs.key_runs.run_from.Goals.{then-records-eq0, then-records-eq0-via-then-records-eq0, then-records-eq0-via-else-records-eq0+then-expected-newest, else-records-eq0+else-expected-newest}

@@ -1,4 +1,4 @@
-use Rattle.std.proofs.Common.{◌≤◌}
+use Rattle.zeb_register.proofs.Cited.{◌≤◌}
 use Rattle.zeb_register.proofs.KeyRuns.{IsCountedTo}
 use Rattle.zeb_register.proofs.key_runs.run_from.Given as goal
 

@@ -1,7 +1,4 @@
-use Rattle.std.proofs.Common.{[], ◌∷◌}
-use Rattle.sqlite.specs.declared.types.Value.TheVariants.{Int}
-use Rattle.sqlite.specs.Held.{state}
-use Rattle.zeb_register.specs.Store.{records_tree, IsRest}
+use Rattle.zeb_register.proofs.Cited.{state, Int, [], ◌∷◌, records_tree, IsRest}
 use Rattle.zeb_register.proofs.ContentLemmas.{one_list}
 use Rattle.zeb_register.proofs.DatabaseStatements.{one_name}
 use Rattle.zeb_register.proofs.RowsAreLists.{one_text, one_last, one_number, one_ident}

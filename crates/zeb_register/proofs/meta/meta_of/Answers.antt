@@ -1,6 +1,4 @@
-use Rattle.std.proofs.Common.{rules, ◌≡◌, ◌∙◌, sym, ap, slice_get, Some, None}
-use Rattle.std.specs.Option.{option_copied}
-use Rattle.sqlite.specs.Held.{state}
+use Rattle.zeb_register.proofs.Cited.{state, rules, ◌≡◌, ◌∙◌, sym, ap, slice_get, Some, None, option_copied}
 use Rattle.zeb_register.proofs.TextStatements.{value_found, no_value}
 use Rattle.zeb_register.proofs.LookUps.{text_readable}
 use Rattle.zeb_register.proofs.meta.meta_of.Goals as goal

@@ -1,8 +1,4 @@
-use Rattle.std.proofs.Common.{◌≡◌, ◌∙◌, ◌+◌, ◌++◌, ℕ, List, length, map, drop, sym, ap, subst, arith}
-use Rattle.sqlite_value.specs.Value.{owned}
-use Rattle.zeb_blocks.specs.Blocks.{BlockSpells}
-use Rattle.zeb_keys.specs.declared.keys.Key.{Key}
-use Rattle.zeb_register.specs.PrivateRowExpected.{IsBlockBefore, with_key}
+use Rattle.zeb_register.proofs.Cited.{owned, ◌≡◌, ◌∙◌, ◌+◌, ◌++◌, ℕ, List, length, map, drop, sym, ap, subst, arith, BlockSpells, Key, IsBlockBefore, with_key}
 use Rattle.zeb_register.proofs.PackedBeside.{drop_got, drop_over, key_before, map_none, moved_on, none_before, rest_is, same_rest}
 use Rattle.zeb_register.proofs.YesNoAnswers.{match_so, some_so}
 use Rattle.zeb_register.proofs.packed_agreeing.block_end.Goals as goal

@@ -1,13 +1,4 @@
-use Rattle.std.proofs.Common.{◌≡◌, ◌↔◌, ◌∙◌, List, true, false, length, IsTrue, IfOk, sym, ap, subst, arith}
-use Rattle.std.proofs.lemmas.Result.{IfOk-weaker}
-use Rattle.sqlite.specs.Effect.{Database}
-use Rattle.sqlite.specs.Held.{state}
-use Rattle.sqlite.specs.State.{HasCleanDisk}
-use Rattle.zeb_register.specs.declared.agreeing.Table.TheVariants.{Blocks, Dict}
-use Rattle.zeb_register.specs.declared.catalog.ListedDatabase.{ListedDatabase}
-use Rattle.zeb_register.specs.declared.expected.ExpectedDatabase.{ExpectedDatabase}
-use Rattle.zeb_register.specs.Formats.{packed_blocks}
-use Rattle.zeb_register.specs.PrivateRowExpected.{AreBeside, AreInOrder, HoldsExpected, HoldsKeysAlone, ListsAgree}
+use Rattle.zeb_register.proofs.Cited.{Database, state, HasCleanDisk, ◌≡◌, ◌↔◌, ◌∙◌, List, true, false, length, IsTrue, IfOk, sym, ap, subst, arith, IfOk-weaker, Blocks, Dict, ListedDatabase, ExpectedDatabase, packed_blocks, AreBeside, AreInOrder, HoldsExpected, HoldsKeysAlone, ListsAgree}
 use Rattle.zeb_register.proofs.Calls.{store_same}
 use Rattle.zeb_register.proofs.ExpectedDatabases.{expected_there}
 use Rattle.zeb_register.proofs.AgreeingTables.{lists_agree}

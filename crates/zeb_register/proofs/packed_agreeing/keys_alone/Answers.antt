@@ -1,11 +1,4 @@
-use Rattle.std.proofs.Common.{◌≡◌, ◌↔◌, [], true, false, IsTrue, subst, arith}
-use Rattle.std.proofs.lemmas.Result.{IfOk-weaker}
-use Rattle.sqlite.specs.Effect.{Database}
-use Rattle.sqlite.specs.Held.{state}
-use Rattle.sqlite.specs.State.{HasCleanDisk}
-use Rattle.zeb_register.specs.declared.agreeing.Table.TheVariants.{Dict}
-use Rattle.zeb_register.specs.PrivateRowExpected.{HoldsExpected, BelongsTo}
-use Rattle.zeb_register.specs.Store.{postings_tree}
+use Rattle.zeb_register.proofs.Cited.{Database, state, HasCleanDisk, ◌≡◌, ◌↔◌, [], true, false, IsTrue, subst, arith, IfOk-weaker, Dict, HoldsExpected, BelongsTo, postings_tree}
 use Rattle.zeb_register.proofs.Calls.{reading_then, store_same}
 use Rattle.zeb_register.proofs.YesNoAnswers.{both_told, first_told}
 use Rattle.zeb_register.proofs.packed_agreeing.keys_alone.Goals as goal

@@ -1,6 +1,4 @@
-use Rattle.std.proofs.Common.{◌≡◌, ◌↔◌, ◌≤◌, ◌++◌, List, length, map, drop}
-use Rattle.zeb_register.specs.declared.expected.KeyPosting.{KeyPosting}
-use Rattle.zeb_register.specs.PrivateRowExpected.{with_key}
+use Rattle.zeb_register.proofs.Cited.{◌≡◌, ◌↔◌, ◌≤◌, ◌++◌, List, length, map, drop, KeyPosting, with_key}
 use Rattle.zeb_register.proofs.packed_agreeing.part_end.Given as goal
 
 abbrev pub invariant-loop-posting : goal.invariant-loop-posting

@@ -1,6 +1,4 @@
-use Rattle.std.proofs.Common.{◌∙◌, ◌++◌, List, ap, map}
-use Rattle.zeb_blocks.specs.declared.postings.Posting.{Posting}
-use Rattle.zeb_register.specs.PrivateRowExpected.{with_key}
+use Rattle.zeb_register.proofs.Cited.{◌∙◌, ◌++◌, List, ap, map, Posting, with_key}
 use Rattle.zeb_register.proofs.PackedLemmas.{one_spelled}
 use Rattle.zeb_register.proofs.YesNoAnswers.{match_so}
 use Rattle.zeb_register.proofs.packed_agreeing.spelled_end.Goals as goal

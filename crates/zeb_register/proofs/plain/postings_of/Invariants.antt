@@ -1,6 +1,4 @@
-use Rattle.std.proofs.Common.{◌≡◌, map, take}
-use Rattle.zeb_register.specs.PlainRows.{posting_row}
-use Rattle.zeb_register.specs.PrivateRowPlaces.{first_three}
+use Rattle.zeb_register.proofs.Cited.{◌≡◌, map, take, posting_row, first_three}
 use Rattle.zeb_register.proofs.plain.postings_of.Given as goal
 
 abbrev pub invariant-loop-row : goal.invariant-loop-row

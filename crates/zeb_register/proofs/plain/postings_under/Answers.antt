@@ -1,12 +1,4 @@
-use Rattle.std.proofs.Common.{◌∙◌, map, ap, subst}
-use Rattle.std.proofs.lemmas.Result.{IfOk-weaker}
-use Rattle.sqlite.specs.Held.{state}
-use Rattle.sqlite_rules.specs.Lists.{Has}
-use Rattle.zeb_register.specs.Sql.{IsListOf}
-use Rattle.zeb_register.specs.Store.{IsRest, postings_tree}
-use Rattle.zeb_register.specs.PlainRows.{key_row}
-use Rattle.zeb_register.specs.PrivateRowPlaces.{first_three}
-use Rattle.zeb_register.specs.Occurring.{key_in}
+use Rattle.zeb_register.proofs.Cited.{state, Has, ◌∙◌, map, ap, subst, IfOk-weaker, IsListOf, IsRest, postings_tree, key_row, first_three, key_in}
 use Rattle.zeb_register.proofs.ContentLemmas.{list_read, rows_numbered}
 use Rattle.zeb_register.proofs.plain.postings_under.Goals as goal
 

@@ -1,11 +1,4 @@
-use Rattle.std.proofs.Common.{◌∙◌, map, ap, subst}
-use Rattle.std.proofs.lemmas.Result.{IfOk-weaker}
-use Rattle.sqlite.specs.Held.{state}
-use Rattle.sqlite_rules.specs.Lists.{Has}
-use Rattle.zeb_register.specs.PrivateBetweenRows.{IsRestBetween, three_behind}
-use Rattle.zeb_register.specs.PrivateKeyColumns.{register_columns}
-use Rattle.zeb_register.specs.Sql.{IsListOf}
-use Rattle.zeb_register.specs.Store.{postings_tree}
+use Rattle.zeb_register.proofs.Cited.{state, Has, ◌∙◌, map, ap, subst, IfOk-weaker, IsRestBetween, three_behind, register_columns, IsListOf, postings_tree}
 use Rattle.zeb_register.proofs.BetweenLemmas.{rows_numbered, rows_read}
 use Rattle.zeb_register.proofs.plain_between.postings_between.Goals as goal
 

@@ -1,5 +1,4 @@
-use Rattle.std.proofs.Common.{rules, ◌≡◌, ◌<◌, ◌∙◌, ap, length, arith, Ok, Err}
-use Rattle.zeb_register.specs.PackedBlocks.{first_two}
+use Rattle.zeb_register.proofs.Cited.{rules, ◌≡◌, ◌<◌, ◌∙◌, ap, length, arith, Ok, Err, first_two}
 use Rattle.zeb_register.proofs.ContentLemmas.{has_at}
 use Rattle.zeb_register.proofs.PlaceLemmas.{both_more, same_at}
 use Rattle.zeb_register.proofs.plain_changes.are_places.Goals as goal

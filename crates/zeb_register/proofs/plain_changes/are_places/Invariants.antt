@@ -1,6 +1,4 @@
-use Rattle.std.proofs.Common.{◌≡◌, map, take, length}
-use Rattle.zeb_register.specs.PackedBlocks.{first_two}
-use Rattle.zeb_register.specs.PrivateRowPlaces.{place_row}
+use Rattle.zeb_register.proofs.Cited.{◌≡◌, map, take, length, first_two, place_row}
 use Rattle.zeb_register.proofs.plain_changes.are_places.Given as goal
 
 abbrev pub invariant-loop-at : goal.invariant-loop-at

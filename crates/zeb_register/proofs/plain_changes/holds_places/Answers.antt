@@ -1,13 +1,4 @@
-use Rattle.std.proofs.Common.{◌≡◌, Result, Ok, Err, OnOk, sym, ◌∙◌, map, ap, subst}
-use Rattle.std.proofs.lemmas.Result.{IfErr-at_err}
-use Rattle.sqlite.specs.Held.{state}
-use Rattle.sqlite.specs.Order.{Row}
-use Rattle.sqlite_rules.specs.Lists.{Has}
-use Rattle.zeb_register.specs.Sql.{IsListOf}
-use Rattle.zeb_register.specs.Store.{IsRest, postings_tree}
-use Rattle.zeb_register.specs.declared.faults.RegFault.TheVariants.{Damaged}
-use Rattle.zeb_register.specs.PackedBlocks.{first_two}
-use Rattle.zeb_register.specs.PrivateRowPlaces.{IsTwoNumbers}
+use Rattle.zeb_register.proofs.Cited.{state, Row, Has, ◌≡◌, Result, Ok, Err, OnOk, sym, ◌∙◌, map, ap, subst, IfErr-at_err, IsListOf, IsRest, postings_tree, Damaged, first_two, IsTwoNumbers}
 use Rattle.zeb_register.proofs.PlaceLemmas.{place_front}
 use Rattle.zeb_register.proofs.PlaceLemmas.{places_held, places_lost, two_numbers}
 use Rattle.zeb_register.proofs.Columns.{column_is, numbered_rows}

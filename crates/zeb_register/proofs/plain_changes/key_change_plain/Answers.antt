@@ -1,16 +1,7 @@
-use Rattle.std.proofs.Common.{◌≤◌, ◌^◌, rules, arith, inl, inr, subst}
-use Rattle.std.proofs.lemmas.Result.{IfOk-weaker}
-use Rattle.sqlite.specs.Effect.{Database}
-use Rattle.sqlite.specs.Held.{state}
-use Rattle.sqlite.specs.State.{HasCleanDisk}
-use Rattle.zeb_register.specs.Hindrances.{TakesRowids}
-use Rattle.zeb_register.specs.Store.{postings_tree}
-use Rattle.zeb_register.proofs.Calls.{store_same, changes_after, on_ok_both, on_ok_so}
-use Rattle.zeb_register.proofs.CallsInTurn.{quiet_then}
-use Rattle.zeb_register.proofs.Causes.{hindered_after, may_after}
+use Rattle.zeb_register.proofs.Cited.{state, HasCleanDisk, rules, arith, IfOk-weaker}
+use Rattle.zeb_register.proofs.Calls.{store_same, changes_after, on_ok_so}
 use Rattle.zeb_register.proofs.Malformed.{malformed_same}
 use Rattle.zeb_register.proofs.PlaceLemmas.{beside, beside_then, places_beside, rows_beside, rows_changed}
-use Rattle.zeb_register.proofs.PlaceRefusals.{cleared_hinders, placed_rowids}
 use Rattle.zeb_register.proofs.plain_changes.key_change_plain.Goals as goal
 
 pub returns-clause-change : goal.returns-clause-change
@@ -32,58 +23,6 @@ returns-clause-change g c clean inside store =
 
 pub returns-in_err-holds_places-clause-damaged : goal.returns-in_err-holds_places-clause-damaged
 returns-in_err-holds_places-clause-damaged g c clean inside store is rises content holds = absurd (c.in_err-holds_places.ensures.honest clean inside store content holds (search rules))
-
-pub returns-in_err-holds_places-clause-refused : goal.returns-in_err-holds_places-clause-refused
-returns-in_err-holds_places-clause-refused g c clean inside store told = elim (c.in_err-holds_places.ensures.refused clean inside store (search rules)) [
-  | inl cause ↦ inl cause
-  | inr large ↦ inr (inl (λ all. absurd (omega (arith, large, all.0.0.1))))
-]
-
-pub returns-in_err-places_take-clause-refused : goal.returns-in_err-places_take-clause-refused
-returns-in_err-places_take-clause-refused g c clean inside store told =
-    let first = state g.S.Store c.args.tx.now.conn.now in
-    let second = state g.S.Store c.holds_places.new.tx.conn.now in
-    let reads = c.in_ok-holds_places.ensures.call.ok (omega (arith, clean, c.places_take.ensures.call.crash.clean)) inside in
-    let why = c.in_err-places_take.ensures.refused clean reads.mode (store_same _ _ reads.now_is store) (search rules) in
-    elim (hindered_after first second (state g.S.Store c.places_take.new.tx.conn.now) (λ _. 2 ^ 63 ≤ c.args.sysno) reads c.in_ok-holds_places.ensures.call.crash why) [
-      | inl cause ↦ inl cause
-      | inr large ↦ inr (inl (λ all. absurd (omega (arith, large, all.0.0.1))))
-    ]
-
-pub returns-clause-refused : goal.returns-clause-refused
-returns-clause-refused g c clean inside store told =
-    let first = state g.S.Store c.args.tx.now.conn.now in
-    let second = state g.S.Store c.holds_places.new.tx.conn.now in
-    let third = state g.S.Store c.places_take.new.tx.conn.now in
-    let clean2 : HasCleanDisk third = omega (arith, clean, c.places_put.ensures.call.crash.clean) in
-    let clean1 : HasCleanDisk second = omega (arith, clean2, c.places_take.ensures.call.crash.clean) in
-    let reads = c.in_ok-holds_places.ensures.call.ok clean1 inside in
-    let same = store_same _ _ reads.now_is store in
-    let taken = c.in_ok-places_take.ensures.call.ok clean2 reads.mode in
-    let done = changes_after _ _ _ _ _ reads inside (taken.rows same) in
-    let none = subst (λ (d : Database). TakesRowids 0 postings_tree d.trees third.now.trees) reads.now_is (c.in_ok-places_take.ensures.rowids clean2 reads.mode same) in
-    elim (c.places_put.ensures.refused clean taken.on.mode done.layout told) [
-      | inl cause ↦
-          inl (may_after first third (state g.S.Store c.places_put.new.tx.conn.now) (quiet_then first second third c.holds_places.ensures.call.crash c.places_take.ensures.call.crash) (λ _. taken.on.is_open) (λ _. cause))
-      | inr hinders ↦ inr (cleared_hinders c.args.db.0 c.args.key.now c.args.sysno c.args.new.now first.now.trees third.now.trees done.rows none hinders)
-    ]
-
-pub returns-clause-rowids : goal.returns-clause-rowids
-returns-clause-rowids g c clean inside store =
-    let first = state g.S.Store c.args.tx.now.conn.now in
-    let second = state g.S.Store c.holds_places.new.tx.conn.now in
-    let third = state g.S.Store c.places_take.new.tx.conn.now in
-    let last = state g.S.Store c.places_put.new.tx.conn.now in
-    let clean2 : HasCleanDisk third = omega (arith, clean, c.places_put.ensures.call.crash.clean) in
-    let clean1 : HasCleanDisk second = omega (arith, clean2, c.places_take.ensures.call.crash.clean) in
-    let reads = c.in_ok-holds_places.ensures.call.ok clean1 inside in
-    let same = store_same _ _ reads.now_is store in
-    let taken = c.in_ok-places_take.ensures.call.ok clean2 reads.mode in
-    let done = changes_after _ _ _ _ _ reads inside (taken.rows same) in
-    let none = subst (λ (d : Database). TakesRowids 0 postings_tree d.trees third.now.trees) reads.now_is (c.in_ok-places_take.ensures.rowids clean2 reads.mode same) in
-    let left = beside first.now.trees third.now.trees done.others in
-    on_ok_both c.places_put.result _ _ _ (λ put' more. placed_rowids c.args.sysno c.args.new.now first.now.trees third.now.trees last.now.trees none left more put'.others)
-    (c.places_put.ensures.put clean taken.on.mode done.layout) (c.places_put.ensures.rowids clean taken.on.mode done.layout)
 
 pub returns-clause-malformed : goal.returns-clause-malformed
 returns-clause-malformed g c clean inside store =

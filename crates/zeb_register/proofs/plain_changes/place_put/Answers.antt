@@ -1,15 +1,10 @@
-use Rattle.std.proofs.Common.{rules, inl, inr}
-use Rattle.sqlite.specs.Held.{state}
+use Rattle.zeb_register.proofs.Cited.{pos, register_code, posting_columns, Gains, postings_tree}
+use Rattle.zeb_register.proofs.Calls.{written}
 use Rattle.zeb_register.proofs.Columns.{column_is}
-use Rattle.zeb_register.proofs.PlaceRefusals.{put_hinders}
+use Rattle.zeb_register.proofs.PostingStatements.{puts}
 use Rattle.zeb_register.proofs.plain_changes.place_put.Goals as goal
 
-pub returns-in_err-posting_put-clause-refused : goal.returns-in_err-posting_put-clause-refused
-returns-in_err-posting_put-clause-refused g c clean inside store told =
-    let trees = (state g.S.Store c.args.tx.now.conn.now).now.trees in
-    elim (c.in_err-posting_put.ensures.refused clean inside store (search rules)) [
-      | inl cause ↦ inl cause
-      | inr hinders ↦
-          inr (put_hinders c.args.db.0 c.args.key.now c.args.sysno c.args.place trees _ _ _ (column_is c.in_ok-number.ensures.ok.1 c.in_ok-number.ensures.ok.0)
-          (column_is c.in_ok-seq.ensures.ok.1 c.in_ok-seq.ensures.ok.0) (column_is c.in_ok-pos.ensures.ok.1 c.in_ok-pos.ensures.ok.0) hinders)
-    ]
+pub returns-clause-call : goal.returns-clause-call
+returns-clause-call g c = written postings_tree (Gains (posting_columns c.args.db.0 c.args.key.now c.args.sysno c.args.place)) _ _ c.write.result
+    (λ count store ran. puts c.args.db.0 (pos c.args.key.now.index) (pos (register_code c.args.key.now.register)) c.args.key.now.term (pos c.args.sysno) (pos c.args.place.seq) (pos c.args.place.pos) _ _ count store ran)
+    (simp (c.params-to_sql.ensures, c.params-to_sql-2.ensures, c.params-to_sql-3.ensures, c.params-to_sql-4.ensures, c.params-to_sql-5.ensures, c.params-to_sql-6.ensures, c.params-to_sql-7.ensures, column_is c.column-id.ensures.fits c.column-id.ensures.value, column_is c.in_ok-number.ensures.ok.1 c.in_ok-number.ensures.ok.0, column_is c.in_ok-seq.ensures.ok.1 c.in_ok-seq.ensures.ok.0, column_is c.in_ok-pos.ensures.ok.1 c.in_ok-pos.ensures.ok.0, c.from-reg.ensures, c.code.ensures, c.as_str-term.ensures) at c.write.ensures.ran)

@@ -1,9 +1,4 @@
-use Rattle.std.proofs.Common.{◌≡◌, ◌≤◌, IsTrue, length, take}
-use Rattle.sqlite.specs.Held.{state}
-use Rattle.sqlite.specs.State.{HasCleanDisk, Survives}
-use Rattle.zeb_register.specs.Hindrances.{TakesRowids}
-use Rattle.zeb_register.specs.Store.{IsStore, postings_tree}
-use Rattle.zeb_register.specs.PrivateRowPlaces.{Puts}
+use Rattle.zeb_register.proofs.Cited.{state, HasCleanDisk, Survives, ◌≡◌, ◌≤◌, IsTrue, length, take, IsStore, Puts}
 use Rattle.zeb_register.proofs.Calls.{Stays}
 use Rattle.zeb_register.proofs.plain_changes.places_put.Given as goal
 
@@ -17,5 +12,4 @@ invariant-loop-place g l =
       stays : HasCleanDisk now → IsTrue old.in_transaction → Stays old now;
       within : l.place-index ≤ length l.places;
       put : HasCleanDisk now → IsTrue old.in_transaction → IsStore old → Puts l.db.0 l.key l.sysno (take l.place-index l.places) old now;
-      rowids : HasCleanDisk now → IsTrue old.in_transaction → IsStore old → TakesRowids l.place-index postings_tree old.now.trees now.now.trees;
     }

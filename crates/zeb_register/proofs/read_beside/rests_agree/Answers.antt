@@ -1,23 +1,10 @@
-use Rattle.std.proofs.Common.{rules, ◌≡◌, ◌∙◌, ◌↔◌, ◌++◌, List, [], ◌∷◌, Bool, false, not, Ok, Err, ◌<◌, ◌≤◌, nat_eq, refl, sym, ap, subst, w64, to_z, of_z, arith}
-use Rattle.std.proofs.Math.Facts.{to_z-of_z}
-use Rattle.sqlite.specs.Given.{HasGiven}
-use Rattle.sqlite.specs.Held.{state}
-use Rattle.sqlite.specs.Order.{Row}
-use Rattle.sqlite.specs.State.{HasCleanDisk, Shown}
-use Rattle.sqlite.specs.declared.types.Value.TheVariants.{Int}
-use Rattle.sqlite.proofs.Callers.{unchanged_then}
-use Rattle.zeb_register.specs.declared.faults.RegFault.{RegFault}
-use Rattle.zeb_register.specs.Calls.{Reading}
-use Rattle.zeb_register.specs.Clauses.{IsReasoned}
-use Rattle.zeb_register.specs.PrivateRowExpected.{IsInOrder}
-use Rattle.zeb_register.specs.PrivateRowReads.{Fits, ReadsRests, rests_text, size_of}
+use Rattle.zeb_register.proofs.Cited.{unchanged_then, HasGiven, state, Row, HasCleanDisk, Int, rules, ◌≡◌, ◌∙◌, ◌↔◌, ◌++◌, List, [], ◌∷◌, Bool, false, not, Ok, Err, ◌<◌, ◌≤◌, nat_eq, refl, sym, ap, subst, w64, to_z, of_z, arith, to_z-of_z, Decides-eqb, err_from_is_err_and, RegFault, Reading, IsReasoned, IsInOrder, Fits, ReadsRests, rests_text, size_of}
+use Rattle.sqlite.specs.State.{Shown}
 use Rattle.zeb_register.proofs.Calls.{IsSilent, nothing, quiet, store_same}
 use Rattle.zeb_register.proofs.Causes.{may_after}
 use Rattle.zeb_register.proofs.CallsInTurn.{quiet_then}
 use Rattle.zeb_register.proofs.RowReads.{begun_silent, failed_nothing, fits_none, rests_refused, rests_silent, same_nothing, tells_broken, tells_whole, one_further}
 use Rattle.zeb_register.proofs.YesNoAnswers.{told_so}
-use Rattle.std.proofs.lemmas.Bool.Decides.{Decides-eqb}
-use Rattle.std.proofs.lemmas.Result.{err_from_is_err_and}
 use Rattle.zeb_register.proofs.read_beside.rests_agree.Goals as goal
 use Rattle.zeb_register.proofs.read_beside.rests_agree.Goals.{else-rows-test, then-rows-test+in_ok-row+in-Some+in-Some-row_end+else-turn-size}
 

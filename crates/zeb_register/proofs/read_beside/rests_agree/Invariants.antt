@@ -1,11 +1,4 @@
-use Rattle.std.proofs.Common.{◌≡◌, ◌↔◌, ◌≤◌, false, List, [], ◌∷◌, ◌++◌}
-use Rattle.sqlite.specs.Given.{HasGiven}
-use Rattle.sqlite.specs.Held.{state}
-use Rattle.sqlite.specs.Order.{Row}
-use Rattle.sqlite.specs.State.{HasCleanDisk, IsUnchanged, Survives}
-use Rattle.sqlite.specs.declared.types.Value.TheVariants.{Int}
-use Rattle.zeb_register.specs.PrivateRowExpected.{IsInOrder}
-use Rattle.zeb_register.specs.PrivateRowReads.{Fits, rests_text, size_of}
+use Rattle.zeb_register.proofs.Cited.{HasGiven, state, Row, HasCleanDisk, IsUnchanged, Survives, Int, ◌≡◌, ◌↔◌, ◌≤◌, false, List, [], ◌∷◌, ◌++◌, IsInOrder, Fits, rests_text, size_of}
 use Rattle.zeb_register.proofs.read_beside.rests_agree.Given as goal
 
 abbrev pub invariant-rows : goal.invariant-rows

@@ -1,13 +1,5 @@
-use Rattle.std.proofs.Common.{◌≡◌, ◌≢◌, ◌↔◌, ◌<◌, ◌≤◌, ℕ, Option, List, ◌∷◌, length, map, drop, IfSome, MatchOption, sym, subst}
+use Rattle.zeb_register.proofs.Cited.{Row, ◌≡◌, ◌≢◌, ◌↔◌, ◌<◌, ◌≤◌, ℕ, Option, List, ◌∷◌, length, map, drop, IfSome, MatchOption, sym, subst, KeyPosting, Record, key_posting_order, record_shown, IsBlockBefore, posting_shown, IsRunBefore, size_of}
 use Rattle.std.specs.List.Sorted.{IsStrictlySortedBy}
-use Rattle.sqlite.specs.Order.{Row}
-use Rattle.zeb_register.specs.declared.expected.KeyPosting.{KeyPosting}
-use Rattle.zeb_register.specs.declared.kept.Record.{Record}
-use Rattle.zeb_register.specs.Expected.{key_posting_order}
-use Rattle.zeb_register.specs.Kept.{record_shown}
-use Rattle.zeb_register.specs.PrivateRowExpected.{IsBlockBefore, posting_shown}
-use Rattle.zeb_register.specs.PrivateRowKeys.{IsRunBefore}
-use Rattle.zeb_register.specs.PrivateRowReads.{size_of}
 use Rattle.zeb_register.proofs.RowReads.{EndsAt, block_ends, run_ends}
 use Rattle.zeb_register.proofs.read_beside.row_end.Goals as goal
 

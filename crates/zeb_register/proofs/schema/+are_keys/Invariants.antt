@@ -1,4 +1,4 @@
-use Rattle.std.proofs.Common.{length}
+use Rattle.zeb_register.proofs.Cited.{length}
 use Rattle.zeb_register.proofs.schema.+are_keys.Given as goal
 
 abbrev pub decreases-are_keys : goal.decreases-are_keys

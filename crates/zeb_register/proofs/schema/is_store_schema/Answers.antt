@@ -1,8 +1,5 @@
-use Rattle.std.proofs.Common.{◌≡◌, ◌∙◌, Bool, List, ap, sym, subst}
-use Rattle.std.specs.Bool.{Decides}
+use Rattle.zeb_register.proofs.Cited.{Schema, ◌≡◌, ◌∙◌, Bool, List, ap, sym, subst, Decides, store_schema}
 use Rattle.std.specs.Fmt.{digits}
-use Rattle.sqlite.specs.Schema.{Schema}
-use Rattle.zeb_register.specs.Tables.{store_schema}
 use Rattle.zeb_register.proofs.schema.is_store_schema.Goals.{then-are_tables, else-are_tables}
 use Rattle.zeb_register.proofs.schema.is_store_schema.Goals as goal
 

@@ -1,5 +1,8 @@
+use Rattle.zeb_register.proofs.Cited.{arith}
 use Rattle.zeb_register.proofs.CallsInTurn.{made_store}
 use Rattle.zeb_register.proofs.tables.make_tables.Goals as goal
 
 pub returns-clause-made : goal.returns-clause-made
-returns-clause-made g c clean inside has = made_store _ (c.in_ok-make_dict.ensures.made clean inside has)
+returns-clause-made g c clean inside has =
+    let lists = c.in_ok-lists_make.ensures.made (omega (arith, clean, c.registers_make.ensures.call.crash.clean)) inside has in
+    made_store _ (c.in_ok-registers_make.ensures.made clean lists.inside (lists.is, lists.empty))

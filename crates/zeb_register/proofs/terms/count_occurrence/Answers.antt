@@ -1,8 +1,4 @@
-use Rattle.std.proofs.Common.{◌≡◌, ◌∙◌, ◌<◌, ◌+◌, ◌-◌, ◌++◌, ◌∷◌, [], List, suc, true, false, take, length, ap, sym, inl, inr, arith, rules}
-use Rattle.std.specs.Vec.{vec_len}
-use Rattle.std.proofs.lemmas.Slice.Eq.{bytes_eq-Decides}
-use Rattle.zeb_register.specs.declared.registers.TermCount.{TermCount}
-use Rattle.zeb_register.specs.PrivateRowTerms.{term_with}
+use Rattle.zeb_register.proofs.Cited.{◌≡◌, ◌∙◌, ◌<◌, ◌+◌, ◌-◌, ◌++◌, ◌∷◌, [], List, suc, true, false, take, length, ap, sym, inl, inr, arith, rules, bytes_eq-Decides, vec_len, TermCount, term_with}
 use Rattle.zeb_register.proofs.ContentLemmas.{has_at}
 use Rattle.zeb_register.proofs.RisingLists.{same_last}
 use Rattle.zeb_register.proofs.TermRows.{last_view, last_set}

@@ -1,7 +1,4 @@
-use Rattle.std.proofs.Common.{◌≡◌, ◌+◌, length, take, subst, sym, arith, rules}
-use Rattle.sqlite_rules.specs.Lists.{Has}
-use Rattle.zeb_register.specs.Occurring.{AreCounts}
-use Rattle.zeb_register.specs.PrivateRowTerms.{IsShown}
+use Rattle.zeb_register.proofs.Cited.{Has, ◌≡◌, ◌+◌, length, take, subst, sym, arith, rules, AreCounts, IsShown}
 use Rattle.zeb_register.proofs.ContentLemmas.{has_at}
 use Rattle.zeb_register.proofs.CountLemmas.{IsNewestOf, counts_none, counts_so, counted_more, counted_upto, newest_none}
 use Rattle.zeb_register.proofs.TermRows.{shown_more, shown_after, shown_whole}

@@ -1,10 +1,5 @@
-use Rattle.std.proofs.Common.{◌≤◌, take}
+use Rattle.zeb_register.proofs.Cited.{row_cmp, Has, ◌≤◌, take, TermCount, AreCounts, IsShown}
 use Rattle.std.specs.List.Sorted.{IsStrictlySortedBy}
-use Rattle.sqlite.specs.Order.{row_cmp}
-use Rattle.sqlite_rules.specs.Lists.{Has}
-use Rattle.zeb_register.specs.declared.registers.TermCount.{TermCount}
-use Rattle.zeb_register.specs.Occurring.{AreCounts}
-use Rattle.zeb_register.specs.PrivateRowTerms.{IsShown}
 use Rattle.zeb_register.proofs.CountLemmas.{IsNewestOf}
 use Rattle.zeb_register.proofs.terms.count_terms.Given as goal
 

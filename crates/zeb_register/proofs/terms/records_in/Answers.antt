@@ -1,6 +1,4 @@
-use Rattle.std.proofs.Common.{◌≡◌, length, take, get_or, subst, arith, inl, inr}
-use Rattle.zeb_register.specs.Occurring.{IsCount}
-use Rattle.zeb_register.specs.PrivateRowTerms.{IsInRecord}
+use Rattle.zeb_register.proofs.Cited.{◌≡◌, length, take, get_or, subst, arith, inl, inr, IsCount, IsInRecord}
 use Rattle.zeb_register.proofs.CountLemmas.{count_none, count_so}
 use Rattle.zeb_register.proofs.TermRows.{got, record_step, records_whole}
 use Rattle.zeb_register.proofs.terms.records_in.Goals as goal

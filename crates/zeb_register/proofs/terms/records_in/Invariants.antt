@@ -1,8 +1,5 @@
-use Rattle.std.proofs.Common.{◌<◌, ◌≤◌, take}
+use Rattle.zeb_register.proofs.Cited.{◌<◌, ◌≤◌, take, posting_cmp, IsCount, IsInRecord}
 use Rattle.std.specs.List.Sorted.{IsStrictlySortedBy}
-use Rattle.zeb_register.specs.Content.{posting_cmp}
-use Rattle.zeb_register.specs.Occurring.{IsCount}
-use Rattle.zeb_register.specs.PrivateRowTerms.{IsInRecord}
 use Rattle.zeb_register.proofs.CountLemmas.{IsNewest}
 use Rattle.zeb_register.proofs.terms.records_in.Given as goal
 

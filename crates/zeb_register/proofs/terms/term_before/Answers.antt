@@ -1,11 +1,4 @@
-use Rattle.std.proofs.Common.{◌≡◌, true, pos, subst}
-use Rattle.std.proofs.lemmas.Result.{IfOk-weaker}
-use Rattle.std.specs.Ordering.{is_lt, nat_cmp}
-use Rattle.std.specs.Cmp.Lexicographic.{slice_cmp}
-use Rattle.sqlite.specs.Held.{state}
-use Rattle.sqlite_rules.specs.Lists.{Has}
-use Rattle.zeb_keys.specs.Registers.{register_code}
-use Rattle.zeb_register.specs.PrivateRowTerms.{HasTerm, ShowsGreatest, ShowsTerm}
+use Rattle.zeb_register.proofs.Cited.{state, Has, ◌≡◌, true, pos, subst, nat_cmp, IfOk-weaker, slice_cmp, is_lt, register_code, HasTerm, ShowsGreatest, ShowsTerm}
 use Rattle.zeb_register.proofs.TermRows.{greatest_shown, greatest_readable}
 use Rattle.zeb_register.proofs.terms.term_before.Goals as goal
 

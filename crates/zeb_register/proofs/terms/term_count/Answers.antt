@@ -1,8 +1,5 @@
-use Rattle.std.proofs.Common.{rules, ◌≡◌, ◌∙◌, sym, subst, string_bytes}
+use Rattle.zeb_register.proofs.Cited.{rules, ◌≡◌, ◌∙◌, sym, subst, string_bytes, posted, posting_cmp, HasKey, IsCount, key_in, IsInRecord}
 use Rattle.std.specs.List.Sorted.{IsStrictlySortedBy}
-use Rattle.zeb_register.specs.Content.{posted, posting_cmp}
-use Rattle.zeb_register.specs.Occurring.{HasKey, IsCount, key_in}
-use Rattle.zeb_register.specs.PrivateRowTerms.{IsInRecord}
 use Rattle.zeb_register.proofs.CountLemmas.{count_so}
 use Rattle.zeb_register.proofs.OccurringLemmas.{key_posted}
 use Rattle.zeb_register.proofs.terms.term_count.Goals as goal

@@ -1,11 +1,4 @@
-use Rattle.std.proofs.Common.{◌≡◌, false, pos, subst}
-use Rattle.std.proofs.lemmas.Result.{IfOk-weaker}
-use Rattle.std.specs.Ordering.{is_lt, nat_cmp}
-use Rattle.std.specs.Cmp.Lexicographic.{slice_cmp}
-use Rattle.sqlite.specs.Held.{state}
-use Rattle.sqlite_rules.specs.Lists.{Has}
-use Rattle.zeb_keys.specs.Registers.{register_code}
-use Rattle.zeb_register.specs.PrivateRowTerms.{HasTerm, ShowsLeast, ShowsTerm}
+use Rattle.zeb_register.proofs.Cited.{state, Has, ◌≡◌, false, pos, subst, nat_cmp, IfOk-weaker, slice_cmp, is_lt, register_code, HasTerm, ShowsLeast, ShowsTerm}
 use Rattle.zeb_register.proofs.TermRows.{least_shown, least_readable}
 use Rattle.zeb_register.proofs.terms.term_from.Goals as goal
 

@@ -1,7 +1,4 @@
-use Rattle.std.proofs.Common.{◌∙◌, ◌++◌, List, ℕ, sym, ap, subst}
-use Rattle.zeb_search.specs.PrivateLists.{ArePostings}
-use Rattle.sqlite_rules.specs.Lists.{Has}
-use Rattle.zeb_search.specs.PrivateWalks.{HasWithin}
+use Rattle.zeb_search.proofs.Cited.{◌∙◌, ◌++◌, List, ℕ, sym, ap, subst, ArePostings, Has, HasWithin}
 use Rattle.zeb_search.proofs.SeparatedPostings.{on_added, followed_added}
 use Rattle.zeb_search.proofs.distances.add_followed.Goals as goal
 

@@ -1,7 +1,5 @@
-use Rattle.std.proofs.Common.{◌↔◌, ◌⊎◌, List, ℕ, Option, None, Vec, Global, sym, subst, inl, inr}
-use Rattle.sqlite_rules.specs.Lists.{Has}
-use Rattle.zeb_search.specs.declared.lists.Words.{Words}
-use Rattle.zeb_search.specs.PrivateWalks.{IsNearBy}
+use Rattle.zeb_search.proofs.Cited.{◌↔◌, ◌⊎◌, List, ℕ, Option, None, Vec, sym, subst, inl, inr, Has, Words, IsNearBy}
+use Rattle.std.proofs.Common.{Global}
 use Rattle.zeb_search.proofs.SeparatedPostings.{near_numbers, IsNearByAny}
 use Rattle.zeb_search.proofs.distances.near.Goals as goal
 use Rattle.zeb_search.proofs.distances.near.Goals.{in-Some+in_ok-add_near-2, in_default}

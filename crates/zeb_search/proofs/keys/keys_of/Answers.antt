@@ -1,5 +1,4 @@
-use Rattle.std.proofs.Common.{◌++◌, ◌∷◌, [], refl, sym, subst}
-use Rattle.zeb_search.specs.PrivateTerms.{AreTaken, IsWanted}
+use Rattle.zeb_search.proofs.Cited.{◌++◌, ◌∷◌, [], refl, sym, subst, AreTaken, IsWanted}
 use Rattle.zeb_search.proofs.TermLemmas.{none_taken, one_left, one_taken}
 use Rattle.zeb_search.proofs.keys.keys_of.Goals as goal
 

@@ -1,4 +1,4 @@
-use Rattle.zeb_search.specs.PrivateTerms.{AreTaken}
+use Rattle.zeb_search.proofs.Cited.{AreTaken}
 use Rattle.zeb_search.proofs.keys.keys_of.Given as goal
 
 abbrev pub invariant-loop-term : goal.invariant-loop-term

@@ -1,13 +1,4 @@
-use Rattle.std.proofs.Common.{rules, true, false, ◌≡◌, ◌↔◌, ◌∙◌, ◌++◌, ◌∷◌, [], ℕ, List, ap, refl, sym, subst, inl, inr}
-use Rattle.sqlite.specs.Held.{state}
-use Rattle.zeb_keys.specs.declared.keys.Key.{Key}
-use Rattle.zeb_register.specs.Content.{posted}
-use Rattle.zeb_register.specs.Occurring.{key_in}
-use Rattle.zeb_search.specs.PrivateSearchCounts.{NoRows}
-use Rattle.zeb_search.specs.DictRows.{EntryDict, RegisterDict}
-use Rattle.zeb_search.specs.ListRows.{AreKeysOf}
-use Rattle.zeb_search.specs.PrivateMet.{AreMet}
-use Rattle.zeb_search.specs.PrivateTerms.{IsWanted, NamesEntry, StandTogether, TermsRise}
+use Rattle.zeb_search.proofs.Cited.{rules, true, false, ◌≡◌, ◌↔◌, ◌∙◌, ◌++◌, ◌∷◌, [], ℕ, List, ap, refl, sym, subst, inl, inr, state, Key, posted, key_in, NoRows, EntryDict, RegisterDict, AreKeysOf, AreMet, IsWanted, NamesEntry, StandTogether, TermsRise}
 use Rattle.zeb_search.proofs.SearchCountLemmas.{counted_for, counted_still}
 use Rattle.zeb_search.proofs.MetTerms.{keys_met, named_met}
 use Rattle.zeb_search.proofs.NeighbourLemmas.{found_keys, keys_neighbours}

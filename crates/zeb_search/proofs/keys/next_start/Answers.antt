@@ -1,8 +1,4 @@
-use Rattle.std.proofs.Common.{◌∙◌, ◌++◌, ◌∷◌, [], ap, sym, subst, inr, length, take, ◌-◌}
-use Rattle.sqlite_rules.specs.Lists.{Has}
-use Rattle.sqlite.proofs.RunLemmas.{has_got}
-use Rattle.zeb_register.specs.declared.registers.TermCount.{TermCount}
-use Rattle.zeb_search.specs.PrivateTerms.{EndsAt}
+use Rattle.zeb_search.proofs.Cited.{◌∙◌, ◌++◌, ◌∷◌, [], ap, sym, subst, inr, length, take, ◌-◌, Has, has_got, TermCount, EndsAt}
 use Rattle.zeb_search.proofs.RisingTexts.{last_got}
 use Rattle.zeb_search.proofs.keys.next_start.Goals as goal
 

@@ -1,6 +1,4 @@
-use Rattle.std.proofs.Common.{◌≡◌, ◌∙◌, ◌+◌, ◌++◌, ◌∷◌, [], true, false, take, ap, arith, refl, sym, subst}
-use Rattle.std.proofs.lemmas.List.{take_all, take_more}
-use Rattle.zeb_search.specs.PrivateTerms.{IsWanted, StandTogether}
+use Rattle.zeb_search.proofs.Cited.{◌≡◌, ◌∙◌, ◌+◌, ◌++◌, ◌∷◌, [], true, false, take, ap, arith, refl, sym, subst, take_all, take_more, IsWanted, StandTogether}
 use Rattle.zeb_search.proofs.NeighbourLemmas.{rise_up_to, walked_as, walked_before, walked_none, walked_on, walked_past}
 use Rattle.zeb_search.proofs.keys.stand_together.Goals as goal
 use Rattle.zeb_search.proofs.keys.stand_together.Goals.{then-takes+else-has_ended, else-takes+then-has_begun, else-takes+else-has_begun}

@@ -1,5 +1,4 @@
-use Rattle.std.proofs.Common.{take}
-use Rattle.zeb_search.specs.PrivateTerms.{TermsRise}
+use Rattle.zeb_search.proofs.Cited.{take, TermsRise}
 use Rattle.zeb_search.proofs.NeighbourLemmas.{IsWalked}
 use Rattle.zeb_search.proofs.keys.stand_together.Given as goal
 

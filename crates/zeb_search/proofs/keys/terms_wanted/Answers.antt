@@ -1,14 +1,4 @@
-use Rattle.std.proofs.Common.{rules, ◌≡◌, ◌∙◌, ◌∷◌, ◌+◌, ◌*◌, [], ℕ, List, None, Some, ap, arith, length, length-append, refl, sym, subst, string_bytes, Err}
-use Rattle.std.proofs.lemmas.Result.{IfOk-weaker}
-use Rattle.sqlite.specs.Held.{state}
-use Rattle.sqlite_rules.specs.Lists.{Has}
-use Rattle.zeb_register.specs.declared.registers.TermCount.{TermCount}
-use Rattle.zeb_register.specs.Content.{posted}
-use Rattle.zeb_register.specs.Occurring.{TermIn}
-use Rattle.zeb_search.specs.PrivateSearchCounts.{NoRows}
-use Rattle.zeb_search.specs.DictRows.{RegisterDict}
-use Rattle.zeb_search.specs.PrivateMet.{HasMet}
-use Rattle.zeb_search.specs.PrivateTerms.{HasWanted, LeadsTo, TermsRise}
+use Rattle.zeb_search.proofs.Cited.{rules, ◌≡◌, ◌∙◌, ◌∷◌, ◌+◌, ◌*◌, [], ℕ, List, None, Some, ap, arith, length, length-append, refl, sym, subst, string_bytes, Err, IfOk-weaker, state, Has, TermCount, posted, TermIn, NoRows, RegisterDict, HasMet, HasWanted, LeadsTo, TermsRise}
 use Rattle.zeb_search.proofs.MetTerms.{HasMetUpTo, met_all, met_last, met_next, met_none, page_told}
 use Rattle.zeb_search.proofs.PageLemmas.{HasUpTo, none_so_far, next_page, last_page, more_of, more_rises, pages_told}
 use Rattle.zeb_search.proofs.ReadLemmas.{one_read, read_still, read_then}

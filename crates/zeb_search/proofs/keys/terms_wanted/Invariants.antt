@@ -1,15 +1,7 @@
-use Rattle.std.proofs.Common.{◌≡◌, ◌≤◌, ◌*◌, ◌-◌, ◌^◌, length, string_bytes}
-use Rattle.sqlite.specs.Held.{state}
-use Rattle.sqlite.specs.State.{HasCleanDisk}
-use Rattle.zeb_register.specs.Clauses.{OnStore}
-use Rattle.zeb_register.specs.Content.{Content, posted}
-use Rattle.zeb_register.specs.Formats.{holds_in}
-use Rattle.zeb_register.specs.Store.{IsStore}
+use Rattle.zeb_search.proofs.Cited.{◌≡◌, ◌≤◌, ◌*◌, ◌-◌, ◌^◌, length, string_bytes, state, HasCleanDisk, OnStore, Content, posted, holds_in, IsStore, CountsByContent, NoRows}
 use Rattle.zeb_search.proofs.MetTerms.{HasMetUpTo}
 use Rattle.zeb_search.proofs.PageLemmas.{HasUpTo}
 use Rattle.zeb_search.proofs.ReadLemmas.{IsRead}
-use Rattle.zeb_search.specs.SearchCounts.{CountsByContent}
-use Rattle.zeb_search.specs.PrivateSearchCounts.{NoRows}
 use Rattle.zeb_search.proofs.keys.terms_wanted.Given as goal
 
 abbrev pub invariant-pages : goal.invariant-pages

@@ -1,6 +1,4 @@
-use Rattle.std.proofs.Common.{length, ◌-◌, ℕ, ◌<◌, ◌≤◌, get_or}
-use Rattle.zeb_register.specs.Content.{Posting}
-use Rattle.zeb_search.specs.PrivateWalks.{IsBefore}
+use Rattle.zeb_search.proofs.Cited.{length, ◌-◌, ℕ, ◌<◌, ◌≤◌, get_or, Posting, IsBefore}
 use Rattle.zeb_search.proofs.lists.first_from.Given as goal
 
 abbrev pub invariant-loop-at : goal.invariant-loop-at

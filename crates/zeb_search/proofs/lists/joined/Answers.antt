@@ -1,4 +1,5 @@
-use Rattle.std.proofs.Common.{◌≡◌, ◌∙◌, ◌⊎◌, ◌<◌, ◌++◌, ◌∷◌, [], cond, length, get_or, arith, inl, inr, sym, ap, subst, List, ℕ, Vec, Global}
+use Rattle.zeb_search.proofs.Cited.{◌≡◌, ◌∙◌, ◌⊎◌, ◌<◌, ◌++◌, ◌∷◌, [], cond, length, get_or, arith, inl, inr, sym, ap, subst, List, ℕ, Vec}
+use Rattle.std.proofs.Common.{Global}
 use Rattle.zeb_search.proofs.JoinedLists.{walk_begins, walk_step, byte_is, moves_within, AreWalked}
 use Rattle.zeb_search.proofs.lists.joined.Goals as goal
 use Rattle.zeb_search.proofs.lists.joined.Goals.{then-from_left-left, else-from_left-left+then-from_right-right, then-in_left, else-in_left, then-keeps+in_ok-push, else-keeps}

@@ -1,6 +1,5 @@
-use Rattle.std.proofs.Common.{length, ◌-◌, ◌+◌, ◌≤◌}
+use Rattle.zeb_search.proofs.Cited.{length, ◌-◌, ◌+◌, ◌≤◌, nat_cmp}
 use Rattle.std.specs.List.Sorted.{IsStrictlySortedBy}
-use Rattle.std.specs.Ordering.{nat_cmp}
 use Rattle.zeb_search.proofs.JoinedLists.{AreWalked}
 use Rattle.zeb_search.proofs.lists.joined.Given as goal
 

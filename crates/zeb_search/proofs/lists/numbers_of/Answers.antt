@@ -1,5 +1,4 @@
-use Rattle.std.proofs.Common.{rules, ◌≡◌, map}
-use Rattle.zeb_register.specs.Content.{Posting}
+use Rattle.zeb_search.proofs.Cited.{rules, ◌≡◌, map, Posting}
 use Rattle.zeb_search.proofs.OrderedLists.{numbers_from_dedup}
 use Rattle.zeb_search.proofs.lists.numbers_of.Goals as goal
 

@@ -1,6 +1,4 @@
-use Rattle.std.proofs.Common.{rules}
-use Rattle.std.proofs.lemmas.List.Sorted.{answers_always}
-use Rattle.zeb_register.specs.Content.{Posting}
+use Rattle.zeb_search.proofs.Cited.{rules, answers_always, Posting}
 use Rattle.zeb_search.proofs.OrderedLists.{postings_sorted, tuples_sorted}
 use Rattle.zeb_search.proofs.lists.postings_in_order.Goals as goal
 

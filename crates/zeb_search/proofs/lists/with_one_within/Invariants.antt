@@ -1,6 +1,5 @@
-use Rattle.std.proofs.Common.{length, ◌≤◌}
+use Rattle.zeb_search.proofs.Cited.{length, ◌≤◌, posting_cmp}
 use Rattle.std.specs.List.Sorted.{IsStrictlySortedBy}
-use Rattle.zeb_register.specs.Content.{posting_cmp}
 use Rattle.zeb_search.proofs.FollowingPostings.{AreFollowed}
 use Rattle.zeb_search.proofs.lists.with_one_within.Given as goal
 

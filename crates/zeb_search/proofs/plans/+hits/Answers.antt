@@ -1,18 +1,5 @@
-use Rattle.std.proofs.Common.{rules, ◌≡◌, Err, ap, refl, subst, sym}
-use Rattle.std.proofs.lemmas.Result.{on_ok_weaker}
-use Rattle.sqlite.specs.Held.{state}
-use Rattle.sqlite.specs.Tree.{Trees}
-use Rattle.zeb_register.specs.Clauses.{OnStore}
-use Rattle.zeb_register.specs.Formats.{holds_in}
-use Rattle.zeb_register.specs.declared.RegFault.{RegFault}
+use Rattle.zeb_search.proofs.Cited.{rules, ◌≡◌, Err, ap, refl, subst, sym, on_ok_weaker, state, Trees, OnStore, holds_in, RegFault, PairPlan, PairOf, PlanValue, plan_value, CountsByContent, PlanDict, PlanRows, NamesReadable, ArePlanRowsSound}
 use Rattle.zeb_register.specs.declared.RegFault.TheVariants as fault
-use Rattle.zeb_query.specs.declared.plans.PairPlan.{PairPlan}
-use Rattle.zeb_query.specs.Plans.{PairOf, PlanValue, plan_value}
-use Rattle.zeb_search.specs.SearchCounts.{CountsByContent}
-use Rattle.zeb_search.specs.DictRows.{PlanDict}
-use Rattle.zeb_search.specs.ListRows.{PlanRows}
-use Rattle.zeb_search.specs.Registers.{NamesReadable}
-use Rattle.zeb_search.specs.SearchRows.{ArePlanRowsSound}
 use Rattle.zeb_search.proofs.SearchCountLemmas.{counted_then}
 use Rattle.zeb_search.proofs.MetRows.{met_earlier, met_later}
 use Rattle.zeb_search.proofs.ReadLemmas.{as_read, clean_before, still_store, still_trees}

@@ -1,7 +1,4 @@
-use Rattle.std.proofs.Common.{rules, ◌∷◌, [], sym, subst, ◌≡◌, Err}
-use Rattle.sqlite.specs.Held.{state}
-use Rattle.zeb_register.specs.Content.{posted}
-use Rattle.zeb_search.specs.PrivateLists.{ArePostings}
+use Rattle.zeb_search.proofs.Cited.{rules, ◌∷◌, [], sym, subst, ◌≡◌, Err, state, posted, ArePostings}
 use Rattle.zeb_search.proofs.PlanLemmas.{IsWordAt, near_hits}
 use Rattle.zeb_search.proofs.MetRows.{one_word_met, word_met_behind}
 use Rattle.zeb_search.proofs.ReadLemmas.{as_read, clean_before, told_behind}

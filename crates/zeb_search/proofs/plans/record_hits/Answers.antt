@@ -1,7 +1,4 @@
-use Rattle.std.proofs.Common.{rules, ◌≡◌, Err, arith, ap, pos, subst}
-use Rattle.sqlite.specs.Held.{state}
-use Rattle.zeb_register.specs.Kept.{IsIdentOf}
-use Rattle.zeb_register.specs.declared.RegFault.{RegFault}
+use Rattle.zeb_search.proofs.Cited.{rules, ◌≡◌, Err, arith, ap, pos, subst, state, IsIdentOf, RegFault}
 use Rattle.zeb_register.specs.declared.RegFault.TheVariants as fault
 use Rattle.zeb_search.proofs.PlanLemmas.{kept_one, kept_none}
 use Rattle.zeb_search.proofs.plans.record_hits.Goals as goal

@@ -1,10 +1,4 @@
-use Rattle.std.proofs.Common.{◌≡◌, refl}
-use Rattle.std.proofs.lemmas.Result.{on_ok_weaker}
-use Rattle.sqlite.specs.Held.{state}
-use Rattle.zeb_register.specs.Content.{Content}
-use Rattle.zeb_search.specs.Comparing.{StandsInOrder}
-use Rattle.zeb_search.specs.DictRows.{EntryDict, RegisterDict}
-use Rattle.zeb_search.specs.ListRows.{EntryRows}
+use Rattle.zeb_search.proofs.Cited.{◌≡◌, refl, on_ok_weaker, state, Content, StandsInOrder, EntryDict, RegisterDict, EntryRows}
 use Rattle.zeb_search.proofs.SearchCountLemmas.{counted_for, idle_counted}
 use Rattle.zeb_search.proofs.DictCounts.{unnamed}
 use Rattle.zeb_search.proofs.MetRows.{on_ok_anyway}

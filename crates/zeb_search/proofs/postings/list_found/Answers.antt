@@ -1,15 +1,4 @@
-use Rattle.std.proofs.Common.{rules, ◌≡◌, ◌∙◌, ◌↔◌, ◌++◌, [], List, IsTrue, ◌≤◌, length, arith, ap, refl, sym, subst, Err}
-use Rattle.std.proofs.lemmas.List.{append_assoc, append-nil, nil_from_length}
-use Rattle.std.proofs.lemmas.List.Sums.{sum_by-append}
-use Rattle.sqlite.specs.Held.{state}
-use Rattle.sqlite_rules.specs.Lists.{Has}
-use Rattle.zeb_keys.specs.declared.keys.Key.{Key}
-use Rattle.zeb_register.specs.Content.{Posting}
-use Rattle.zeb_register.specs.Formats.{holds_in}
-use Rattle.zeb_search.specs.SearchCounts.{CountsAtMost}
-use Rattle.zeb_search.specs.ListRows.{rows_under}
-use Rattle.zeb_search.specs.PrivateMet.{AreKeyListsSound, AreKeysIn}
-use Rattle.zeb_search.specs.PrivateTerms.{AreRun, IsPostingOf}
+use Rattle.zeb_search.proofs.Cited.{rules, ◌≡◌, ◌∙◌, ◌↔◌, ◌++◌, [], List, IsTrue, ◌≤◌, length, arith, ap, refl, sym, subst, Err, append_assoc, append-nil, nil_from_length, sum_by-append, state, Has, Key, Posting, holds_in, CountsAtMost, rows_under, AreKeyListsSound, AreKeysIn, AreRun, IsPostingOf}
 use Rattle.zeb_search.proofs.SearchCountLemmas.{counts_still, counts_then}
 use Rattle.zeb_search.proofs.MetRows.{met_later}
 use Rattle.zeb_search.proofs.MetTerms.{more_sound, part_in_order}

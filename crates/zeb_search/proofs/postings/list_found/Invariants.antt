@@ -1,16 +1,4 @@
-use Rattle.std.proofs.Common.{◌≡◌, ◌↔◌, ◌++◌, List, length}
-use Rattle.sqlite.specs.Held.{state}
-use Rattle.sqlite.specs.State.{HasCleanDisk}
-use Rattle.sqlite_rules.specs.Lists.{Has}
-use Rattle.zeb_keys.specs.declared.keys.Key.{Key}
-use Rattle.zeb_register.specs.Clauses.{OnStore}
-use Rattle.zeb_register.specs.Content.{Content, Posting}
-use Rattle.zeb_register.specs.Formats.{holds_in}
-use Rattle.zeb_register.specs.Store.{IsStore}
-use Rattle.zeb_search.specs.SearchCounts.{CountsAtMost}
-use Rattle.zeb_search.specs.ListRows.{rows_under}
-use Rattle.zeb_search.specs.PrivateMet.{AreKeyListsSound, AreKeysIn}
-use Rattle.zeb_search.specs.PrivateTerms.{AreFound, IsPostingOf}
+use Rattle.zeb_search.proofs.Cited.{◌≡◌, ◌↔◌, ◌++◌, List, length, state, HasCleanDisk, Has, Key, OnStore, Content, Posting, holds_in, IsStore, CountsAtMost, rows_under, AreKeyListsSound, AreKeysIn, AreFound, IsPostingOf}
 use Rattle.zeb_search.proofs.ReadLemmas.{IsRead}
 use Rattle.zeb_search.proofs.postings.list_found.Given as goal
 

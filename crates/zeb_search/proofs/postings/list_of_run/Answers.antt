@@ -1,8 +1,4 @@
-use Rattle.std.proofs.Common.{subst₂}
-use Rattle.std.proofs.lemmas.Result.{IfOk-weaker, on_ok_weaker}
-use Rattle.sqlite.specs.Held.{state}
-use Rattle.zeb_register.specs.Sound.{AreListsSound}
-use Rattle.zeb_search.specs.PrivateTerms.{AreRun}
+use Rattle.zeb_search.proofs.Cited.{subst₂, IfOk-weaker, on_ok_weaker, state, AreListsSound, AreRun}
 use Rattle.zeb_search.proofs.MetTerms.{between_sound, one_sound}
 use Rattle.zeb_search.proofs.NeighbourLemmas.{between_counted, between_listed, each_counted, ends_got, several}
 use Rattle.zeb_search.proofs.OneKey.{one_counted, one_listed}

@@ -1,11 +1,4 @@
-use Rattle.std.proofs.Common.{rules, ◌≡◌, ◌↔◌, Err, List, subst}
-use Rattle.sqlite.specs.Held.{state}
-use Rattle.zeb_search.specs.DictRows.{EntryDict}
-use Rattle.sqlite_rules.specs.Lists.{Has}
-use Rattle.zeb_register.specs.Content.{Posting}
-use Rattle.zeb_search.specs.Lists.{AreNumbers}
-use Rattle.zeb_search.specs.PrivateMet.{AreKeyListsSound, AreKeysIn}
-use Rattle.zeb_search.specs.PrivateTerms.{AreFound, HasPosting, IsPostingOf, IsWanted, NamesEntry}
+use Rattle.zeb_search.proofs.Cited.{rules, ◌≡◌, ◌↔◌, Err, List, subst, state, EntryDict, Has, Posting, AreNumbers, AreKeyListsSound, AreKeysIn, AreFound, HasPosting, IsPostingOf, IsWanted, NamesEntry}
 use Rattle.zeb_search.proofs.MetRows.{met_later}
 use Rattle.zeb_search.proofs.MetTerms.{entries_sound}
 use Rattle.zeb_search.proofs.NeighbourLemmas.{found_counted}

@@ -1,23 +1,12 @@
-use Rattle.std.proofs.Common.{rules, ◌≡◌, ◌∙◌, Err, OnOk, length, sym, subst}
-use Rattle.std.proofs.lemmas.Result.{IfOk-weaker, on_ok_weaker}
-use Rattle.sqlite.specs.Held.{state}
-use Rattle.sqlite_rules.specs.Lists.{Has}
+use Rattle.zeb_search.proofs.Cited.{rules, ◌≡◌, ◌∙◌, Err, OnOk, length, sym, subst, IfOk-weaker, on_ok_weaker, state, Has, holds_in, IsListSound, RegisterOf, HasNoStar, EntryDict, Fits, AreKeyListsSound, AreKeysIn, AreFound, IsPostingOf}
 use Rattle.zeb_keys.specs.declared.Register.TheVariants as register
-use Rattle.zeb_register.specs.Formats.{holds_in}
-use Rattle.zeb_register.specs.Sound.{IsListSound}
-use Rattle.zeb_register.specs.declared.registers.RegisterOf.{RegisterOf}
 use Rattle.zeb_search.proofs.JustLemmas.{just_same}
 use Rattle.zeb_search.proofs.OneKey.{one_counted, one_told}
 use Rattle.zeb_search.proofs.MetRows.{met_later}
 use Rattle.zeb_search.proofs.MetTerms.{entries_sound, one_sound}
 use Rattle.zeb_search.proofs.PostingLemmas.{word_places}
 use Rattle.zeb_search.proofs.ReadLemmas.{as_read, clean_before, still_store, still_trees}
-use Rattle.zeb_search.specs.SearchCounts.{HasNoStar}
-use Rattle.zeb_search.specs.DictRows.{EntryDict}
-use Rattle.zeb_search.specs.Holds.{Fits}
 use Rattle.zeb_search.specs.declared.terms.Wanted.TheVariants as wanted
-use Rattle.zeb_search.specs.PrivateMet.{AreKeyListsSound, AreKeysIn}
-use Rattle.zeb_search.specs.PrivateTerms.{AreFound, IsPostingOf}
 use Rattle.zeb_search.proofs.NeighbourLemmas.{each_counted, found_counted}
 use Rattle.zeb_search.proofs.ReasonedFaults.{reasoned_behind, reasoned_error}
 use Rattle.zeb_search.proofs.postings.places_of_words.Goals as goal

@@ -1,6 +1,4 @@
-use Rattle.std.proofs.lemmas.Result.{IfOk-weaker}
-use Rattle.std.proofs.Common.{◌∙◌, ◌++◌, ◌∷◌, [], List, ℕ, string_bytes, ap, subst}
-use Rattle.zeb_search.specs.Comparing.{Precedes}
+use Rattle.zeb_search.proofs.Cited.{IfOk-weaker, ◌∙◌, ◌++◌, ◌∷◌, [], List, ℕ, string_bytes, ap, subst, Precedes}
 use Rattle.zeb_search.proofs.Comparisons.{none_before}
 use Rattle.zeb_search.proofs.RangeLemmas.{keys_begin, keys_begin_above}
 use Rattle.zeb_search.proofs.ranges.first_key.Goals as goal

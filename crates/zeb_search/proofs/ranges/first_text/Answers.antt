@@ -1,6 +1,4 @@
-use Rattle.std.proofs.lemmas.Result.{IfOk-weaker}
-use Rattle.std.proofs.Common.{string_bytes, subst}
-use Rattle.zeb_search.specs.Comparing.{Precedes}
+use Rattle.zeb_search.proofs.Cited.{IfOk-weaker, string_bytes, subst, Precedes}
 use Rattle.zeb_search.proofs.Comparisons.{none_before}
 use Rattle.zeb_search.proofs.RangeLemmas.{texts_begin, texts_begin_above}
 use Rattle.zeb_search.proofs.ranges.first_text.Goals as goal

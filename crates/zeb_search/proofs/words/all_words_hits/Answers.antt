@@ -1,19 +1,11 @@
-use Rattle.std.proofs.Common.{rules, List, [], ◌≡◌, ◌++◌, ◌∷◌, ◌+◌, ap, arith, subst, sym, take, ◌∙◌, Err}
-use Rattle.std.proofs.lemmas.List.{take_more}
-use Rattle.sqlite.specs.Held.{state}
-use Rattle.zeb_query.proofs.HoldingLemmas.{take_whole}
+use Rattle.zeb_search.proofs.Cited.{rules, List, [], ◌≡◌, ◌++◌, ◌∷◌, ◌+◌, ap, arith, subst, sym, take, ◌∙◌, Err, take_more, state, take_whole, posted, Symbol, HasMatch, AreNumbers, CountedWords}
 use Rattle.zeb_query.specs.declared.plans.Operator.TheVariants as operator
-use Rattle.zeb_register.specs.Content.{posted}
-use Rattle.zeb_text.specs.Symbols.{Symbol}
-use Rattle.zeb_search.specs.Holds.{HasMatch}
-use Rattle.zeb_search.specs.Lists.{AreNumbers}
 use Rattle.zeb_search.proofs.JustLemmas.{joined_numbers}
 use Rattle.zeb_search.proofs.PlanLemmas.{EachMatches, each_matches_more, each_matches_none, each_matches_whole, no_patterns, none_found}
 use Rattle.zeb_search.proofs.MetRows.{MetWords, no_word_met, one_word_met, word_met_behind}
 use Rattle.zeb_search.proofs.ReadLemmas.{as_read, clean_before, read_then, told_behind}
 use Rattle.zeb_search.proofs.ReasonedFaults.{reasoned_error}
 use Rattle.zeb_search.proofs.WordCounts.{words_behind, one_word_counted}
-use Rattle.zeb_search.specs.PrivateWordCounts.{CountedWords}
 use Rattle.zeb_search.proofs.words.all_words_hits.Goals as goal
 
 pub returns-in_default-clause-value : goal.returns-in_default-clause-value

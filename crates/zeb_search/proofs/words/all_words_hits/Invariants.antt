@@ -1,16 +1,7 @@
-use Rattle.std.proofs.Common.{◌≡◌, ◌∷◌, List, take}
-use Rattle.sqlite.specs.Held.{state}
-use Rattle.sqlite.specs.State.{HasCleanDisk}
-use Rattle.zeb_register.specs.Content.{Content, posted}
-use Rattle.zeb_register.specs.Formats.{holds_in}
-use Rattle.zeb_register.specs.Store.{IsStore}
-use Rattle.zeb_text.specs.Symbols.{Symbol}
-use Rattle.zeb_search.specs.Holds.{HasMatch}
-use Rattle.zeb_search.specs.Lists.{AreNumbers}
+use Rattle.zeb_search.proofs.Cited.{◌≡◌, ◌∷◌, List, take, state, HasCleanDisk, Content, posted, holds_in, IsStore, Symbol, HasMatch, AreNumbers, CountedWords}
 use Rattle.zeb_search.proofs.PlanLemmas.{EachMatches}
 use Rattle.zeb_search.proofs.MetRows.{MetWords}
 use Rattle.zeb_search.proofs.ReadLemmas.{IsRead}
-use Rattle.zeb_search.specs.PrivateWordCounts.{CountedWords}
 use Rattle.zeb_search.proofs.words.all_words_hits.Given as goal
 
 abbrev pub invariant-loop-other : goal.invariant-loop-other

@@ -1,19 +1,11 @@
-use Rattle.std.proofs.Common.{rules, List, [], ◌≡◌, ◌++◌, ◌∷◌, ◌+◌, ap, arith, subst, sym, take, refl, ◌∙◌, Err}
-use Rattle.std.proofs.lemmas.List.{take_more}
-use Rattle.sqlite.specs.Held.{state}
-use Rattle.zeb_query.proofs.HoldingLemmas.{take_whole}
+use Rattle.zeb_search.proofs.Cited.{rules, List, [], ◌≡◌, ◌++◌, ◌∷◌, ◌+◌, ap, arith, subst, sym, take, refl, ◌∙◌, Err, take_more, state, take_whole, posted, Symbol, HasMatch, AreNumbers, CountedWords}
 use Rattle.zeb_query.specs.declared.plans.Operator.TheVariants as operator
-use Rattle.zeb_register.specs.Content.{posted}
-use Rattle.zeb_text.specs.Symbols.{Symbol}
-use Rattle.zeb_search.specs.Holds.{HasMatch}
-use Rattle.zeb_search.specs.Lists.{AreNumbers}
 use Rattle.zeb_search.proofs.JustLemmas.{joined_numbers, just_none}
 use Rattle.zeb_search.proofs.PlanLemmas.{SomeMatch, some_match_more}
 use Rattle.zeb_search.proofs.MetRows.{MetWords, no_word_met, word_met_behind}
 use Rattle.zeb_search.proofs.ReadLemmas.{as_read, clean_before, read_still, read_then, told_behind}
 use Rattle.zeb_search.proofs.ReasonedFaults.{reasoned_error}
 use Rattle.zeb_search.proofs.WordCounts.{words_behind, no_words_counted}
-use Rattle.zeb_search.specs.PrivateWordCounts.{CountedWords}
 use Rattle.zeb_search.proofs.words.any_word_hits.Goals as goal
 
 pub loop-pattern-init : goal.loop-pattern-init

@@ -1,16 +1,6 @@
-use Rattle.std.proofs.Common.{◌≡◌, List, take}
-use Rattle.sqlite.specs.Held.{state}
-use Rattle.sqlite.specs.State.{HasCleanDisk}
-use Rattle.sqlite_rules.specs.Lists.{Has}
-use Rattle.zeb_register.specs.Content.{Content, posted}
-use Rattle.zeb_register.specs.Formats.{holds_in}
-use Rattle.zeb_register.specs.Store.{IsStore}
-use Rattle.zeb_text.specs.Symbols.{Symbol}
-use Rattle.zeb_search.specs.Holds.{HasMatch}
-use Rattle.zeb_search.specs.Lists.{AreNumbers}
+use Rattle.zeb_search.proofs.Cited.{◌≡◌, List, take, state, HasCleanDisk, Has, Content, posted, holds_in, IsStore, Symbol, HasMatch, AreNumbers, CountedWords}
 use Rattle.zeb_search.proofs.MetRows.{MetWords}
 use Rattle.zeb_search.proofs.ReadLemmas.{IsRead}
-use Rattle.zeb_search.specs.PrivateWordCounts.{CountedWords}
 use Rattle.zeb_search.proofs.words.any_word_hits.Given as goal
 
 abbrev pub invariant-loop-pattern : goal.invariant-loop-pattern

@@ -1,19 +1,10 @@
-use Rattle.std.proofs.Common.{◌≡◌, ◌≢◌, ◌==◌, ◌∙◌, Bool, List, [], ap, arith, filter, length, subst, subst₂, sym}
-use Rattle.std.proofs.lemmas.Result.{IfOk-weaker, on_ok_weaker}
+use Rattle.zeb_search.proofs.Cited.{◌≡◌, ◌≢◌, ◌==◌, ◌∙◌, Bool, List, [], ap, arith, filter, length, subst, subst₂, sym, IfOk-weaker, on_ok_weaker, state, Symbol, posted, posting_cmp, Posting, HasPhrase, AreNumbers, HasPosting, AreWordsSound, CountedWords}
 use Rattle.std.specs.List.Sorted.{IsStrictlySortedBy}
-use Rattle.sqlite.specs.Held.{state}
-use Rattle.zeb_text.specs.Symbols.{Symbol}
-use Rattle.zeb_register.specs.Content.{posted, posting_cmp, Posting}
-use Rattle.zeb_search.specs.Holds.{HasPhrase}
-use Rattle.zeb_search.specs.Lists.{AreNumbers}
-use Rattle.zeb_search.specs.PrivateTerms.{HasPosting}
-use Rattle.zeb_search.specs.SearchRows.{AreWordsSound}
 use Rattle.zeb_search.proofs.PlanLemmas.{IsStart, first_phrase_hits, firsts_rise, one_word_hits, phrase_hits}
 use Rattle.zeb_search.proofs.OneKey.{one_alone}
 use Rattle.zeb_search.proofs.PostingLemmas.{numbers_told}
 use Rattle.zeb_search.proofs.MetRows.{one_word_sound}
 use Rattle.zeb_search.proofs.WordCounts.{one_word_counted}
-use Rattle.zeb_search.specs.PrivateWordCounts.{CountedWords}
 use Rattle.zeb_search.proofs.words.phrase_hits.Goals as goal
 
 pub returns-then-first-clause-value : goal.returns-then-first-clause-value

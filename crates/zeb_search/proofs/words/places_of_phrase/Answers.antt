@@ -1,16 +1,10 @@
-use Rattle.std.proofs.Common.{rules, ◌≡◌, ◌∙◌, ◌++◌, ◌∷◌, [], List, ap, subst, sym, Err}
-use Rattle.std.proofs.lemmas.List.{append_assoc, append_cancel_left}
-use Rattle.sqlite.specs.Held.{state}
-use Rattle.zeb_register.specs.Content.{posted}
-use Rattle.zeb_text.specs.Symbols.{Symbol}
-use Rattle.zeb_search.specs.PrivateLists.{ArePostings}
+use Rattle.zeb_search.proofs.Cited.{rules, ◌≡◌, ◌∙◌, ◌++◌, ◌∷◌, [], List, ap, subst, sym, Err, append_assoc, append_cancel_left, state, posted, Symbol, ArePostings, CountedWords}
 use Rattle.zeb_search.proofs.PlanLemmas.{AreWordsAt, IsWordAt, none_found, some_patterns, word_before, IsStart, no_patterns, one_word}
 use Rattle.zeb_search.proofs.MetRows.{MetWords, no_word_met, one_word_met, word_met_before}
 use Rattle.zeb_search.proofs.ReadLemmas.{as_read, clean_before, read_then, told_behind}
 use Rattle.zeb_search.proofs.JustLemmas.{just_same}
 use Rattle.zeb_search.proofs.ReasonedFaults.{reasoned_error}
 use Rattle.zeb_search.proofs.WordCounts.{words_before, one_word_counted}
-use Rattle.zeb_search.specs.PrivateWordCounts.{CountedWords}
 use Rattle.zeb_search.proofs.words.places_of_phrase.Goals as goal
 
 pub returns-in_default-clause-value : goal.returns-in_default-clause-value

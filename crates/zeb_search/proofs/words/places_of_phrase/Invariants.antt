@@ -1,15 +1,7 @@
-use Rattle.std.proofs.Common.{◌≡◌, ◌≢◌, ◌++◌, List, [], length}
-use Rattle.sqlite.specs.Held.{state}
-use Rattle.sqlite.specs.State.{HasCleanDisk}
-use Rattle.zeb_register.specs.Content.{Content, posted}
-use Rattle.zeb_register.specs.Formats.{holds_in}
-use Rattle.zeb_register.specs.Store.{IsStore}
-use Rattle.zeb_text.specs.Symbols.{Symbol}
-use Rattle.zeb_search.specs.PrivateLists.{ArePostings}
+use Rattle.zeb_search.proofs.Cited.{◌≡◌, ◌≢◌, ◌++◌, List, [], length, state, HasCleanDisk, Content, posted, holds_in, IsStore, Symbol, ArePostings, CountedWords}
 use Rattle.zeb_search.proofs.PlanLemmas.{AreWordsAt}
 use Rattle.zeb_search.proofs.MetRows.{MetWords}
 use Rattle.zeb_search.proofs.ReadLemmas.{IsRead}
-use Rattle.zeb_search.specs.PrivateWordCounts.{CountedWords}
 use Rattle.zeb_search.proofs.words.places_of_phrase.Given as goal
 
 abbrev pub invariant-loop-pattern : goal.invariant-loop-pattern

@@ -1,4 +1,4 @@
-use Rattle.std.proofs.Common.{◌≡◌, Bool, true, false, ◌||◌, sym, ◌∙◌}
+use Rattle.zeb_text.proofs.Cited.{◌≡◌, Bool, true, false, ◌||◌, sym, ◌∙◌}
 use Rattle.zeb_text.specs.Words.{is_word_character}
 use Rattle.zeb_text.proofs.cutting.is_word_char.Goals as goal
 use Rattle.zeb_text.proofs.cutting.is_word_char.Goals.{then-contains, else-contains}

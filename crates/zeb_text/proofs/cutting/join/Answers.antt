@@ -1,6 +1,4 @@
-use Rattle.std.proofs.Common.{◌≡◌, arith, length, map, take, string_bytes, lit<}
-use Rattle.std.proofs.lemmas.List.{length-map, length-take}
-use Rattle.std.proofs.lemmas.Str.{encode_ascii}
+use Rattle.zeb_text.proofs.Cited.{◌≡◌, arith, length, map, take, string_bytes, lit<, length-map, length-take, encode_ascii}
 use Rattle.zeb_text.proofs.JoinLemmas.{map_more, join-more, join-first}
 use Rattle.zeb_text.proofs.cutting.join.Goals as goal
 use Rattle.zeb_text.proofs.cutting.join.Goals.{then-at-gt0+in_ok-push, else-at-gt0}

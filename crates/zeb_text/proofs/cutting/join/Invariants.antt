@@ -1,5 +1,4 @@
-use Rattle.std.proofs.Common.{◌≡◌, map, take, string_bytes}
-use Rattle.zeb_text.specs.Words.{joined_text}
+use Rattle.zeb_text.proofs.Cited.{◌≡◌, map, take, string_bytes, joined_text}
 use Rattle.zeb_text.proofs.cutting.join.Given as goal
 
 abbrev pub invariant-loop-at : goal.invariant-loop-at

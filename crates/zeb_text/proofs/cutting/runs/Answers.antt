@@ -1,9 +1,4 @@
-use Rattle.std.proofs.Common.{◌≡◌, ℕ, ◌+◌, ◌<◌, ◌∷◌, length, drop, Bool, true, false, ◌==◌, string_len, chars, sym, ap, ◌∙◌, arith}
-use Rattle.std.proofs.lemmas.Bool.Decides.{nat_tests}
-use Rattle.std.proofs.lemmas.List.{drop_more, length_push, map-append, drop_all}
-use Rattle.std.proofs.lemmas.Iterator.{YieldsList-from_chars}
-use Rattle.std.proofs.lemmas.Iterator.Consumers.{YieldsList-turn, YieldsList-end}
-use Rattle.zeb_text.specs.Truncation.{belongs_to_word}
+use Rattle.zeb_text.proofs.Cited.{◌≡◌, ℕ, ◌+◌, ◌<◌, ◌∷◌, length, drop, Bool, true, false, ◌==◌, string_len, chars, sym, ap, ◌∙◌, arith, nat_tests, drop_more, length_push, map-append, drop_all, YieldsList-from_chars, YieldsList-turn, YieldsList-end, belongs_to_word}
 use Rattle.zeb_text.proofs.RunsSoFar.{at_start, grows, ends, skips, last_run, no_run}
 use Rattle.zeb_text.proofs.cutting.runs.Goals as goal
 use Rattle.zeb_text.proofs.cutting.runs.Goals.{After-is_in_word, then-not-is_empty-2+in_ok-push-3, else-not-is_empty-2}

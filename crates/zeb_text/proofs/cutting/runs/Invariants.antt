@@ -1,5 +1,4 @@
-use Rattle.std.proofs.Common.{length, map, chars, string_bytes}
-use Rattle.zeb_text.specs.Truncation.{belongs_to_word}
+use Rattle.zeb_text.proofs.Cited.{length, map, chars, string_bytes, belongs_to_word}
 use Rattle.zeb_text.proofs.RunsSoFar.{RunsSoFar}
 use Rattle.zeb_text.proofs.cutting.runs.Given as goal
 

@@ -1,5 +1,4 @@
-use Rattle.std.proofs.Common.{chars, sym, ◌∙◌}
-use Rattle.std.proofs.lemmas.Str.{chars_from_encodes}
+use Rattle.zeb_text.proofs.Cited.{chars, sym, ◌∙◌, chars_from_encodes}
 use Rattle.zeb_text.specs.Folding.{folded}
 use Rattle.zeb_text.proofs.cutting.words.Goals as goal
 

@@ -1,5 +1,4 @@
-use Rattle.std.proofs.Common.{◌≡◌, arith, false, true}
-use Rattle.std.specs.Char.{is_ascii_digit}
+use Rattle.zeb_text.proofs.Cited.{◌≡◌, arith, false, true, is_ascii_digit}
 use Rattle.zeb_text.proofs.RunLemmas.{runs_of-first, runs_of-none, All-take, All-from_places}
 use Rattle.zeb_text.proofs.digits.first_run.Goals as goal
 

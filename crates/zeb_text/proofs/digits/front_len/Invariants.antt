@@ -1,5 +1,4 @@
-use Rattle.std.proofs.Common.{◌≡◌, ℕ, ◌<◌, get_or}
-use Rattle.std.specs.Char.{is_ascii_digit}
+use Rattle.zeb_text.proofs.Cited.{◌≡◌, ℕ, ◌<◌, get_or, is_ascii_digit}
 use Rattle.zeb_text.proofs.digits.front_len.Given as goal
 
 abbrev pub invariant-loop-i : goal.invariant-loop-i

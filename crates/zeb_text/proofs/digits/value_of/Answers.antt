@@ -1,4 +1,4 @@
-use Rattle.std.proofs.Common.{get_or, arith}
+use Rattle.zeb_text.proofs.Cited.{get_or, arith}
 use Rattle.zeb_text.proofs.DigitLemmas.{one_more_digit, digit_range, digits_value-more}
 use Rattle.zeb_text.proofs.digits.value_of.Goals as goal
 

@@ -1,5 +1,4 @@
-use Rattle.std.proofs.Common.{◌≡◌, ◌^◌, ◌<◌, take}
-use Rattle.std.specs.Str.Parse.{digits_value}
+use Rattle.zeb_text.proofs.Cited.{◌≡◌, ◌^◌, ◌<◌, take, digits_value}
 use Rattle.zeb_text.proofs.digits.value_of.Given as goal
 
 abbrev pub invariant-loop-digit : goal.invariant-loop-digit

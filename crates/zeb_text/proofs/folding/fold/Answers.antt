@@ -1,7 +1,4 @@
-use Rattle.std.proofs.Common.{chars, sym, ◌∙◌}
-use Rattle.std.proofs.lemmas.Str.{chars_from_encodes}
-use Rattle.unicode_normalization.specs.Forms.{nfd}
-use Rattle.caseless.specs.Caseless.{default_case_fold}
+use Rattle.zeb_text.proofs.Cited.{chars, sym, ◌∙◌, chars_from_encodes, nfd, default_case_fold}
 use Rattle.zeb_text.specs.Folding.{folded}
 use Rattle.zeb_text.proofs.folding.fold.Goals as goal
 

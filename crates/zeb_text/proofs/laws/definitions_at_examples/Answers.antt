@@ -1,4 +1,4 @@
-use Rattle.std.proofs.Common.{refl}
+use Rattle.zeb_text.proofs.Cited.{refl}
 use Rattle.std.specs.Fmt.{digits}
 use Rattle.ucd_category.proofs.Computing.{ucd_category}
 use Rattle.caseless.proofs.Computing.{caseless}

@@ -1,5 +1,4 @@
-use Rattle.std.proofs.Common.{ap, sym, ◌∙◌, filter, not}
-use Rattle.zeb_text.specs.Folding.{is_diacritical_mark}
+use Rattle.zeb_text.proofs.Cited.{ap, sym, ◌∙◌, filter, not, is_diacritical_mark}
 use Rattle.zeb_text.proofs.FoldingLemmas.{folded-by_key, folded-ascii, folded_once}
 use Rattle.zeb_text.proofs.laws.folding_joins_matches.Goals as goal
 

@@ -1,9 +1,4 @@
-use Rattle.std.proofs.Common.{◌≡◌, ℕ, List, [], ◌∷◌, ◌++◌, refl, sym, ap, subst, ◌∙◌}
-use Rattle.std.proofs.lemmas.List.{append_assoc}
-use Rattle.zeb_text.specs.Words.{joined_text}
-use Rattle.zeb_text.specs.Symbols.{Symbol, Char, Star}
-use Rattle.zeb_text.specs.Patterns.{MatchEach, Matches}
-use Rattle.zeb_text.specs.Truncation.{joined_patterns}
+use Rattle.zeb_text.proofs.Cited.{◌≡◌, ℕ, List, [], ◌∷◌, ◌++◌, refl, sym, ap, subst, ◌∙◌, append_assoc, joined_text, Symbol, Char, Star, MatchEach, Matches, joined_patterns}
 use Rattle.zeb_text.proofs.laws.joined_patterns_match_joined_texts.Goals as goal
 
 -- a match of one pattern after another cuts the text in two

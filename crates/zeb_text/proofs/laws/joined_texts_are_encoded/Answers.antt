@@ -1,6 +1,4 @@
-use Rattle.std.proofs.Common.{◌≡◌, ℕ, List, [], ◌∷◌, ◌++◌, map, encode_utf8_all, refl, sym, ap, ◌∙◌, lit<}
-use Rattle.std.proofs.lemmas.Str.{encode_ascii, encodes-append}
-use Rattle.zeb_text.specs.Words.{joined_text}
+use Rattle.zeb_text.proofs.Cited.{◌≡◌, ℕ, List, [], ◌∷◌, ◌++◌, map, encode_utf8_all, refl, sym, ap, ◌∙◌, lit<, encode_ascii, encodes-append, joined_text}
 use Rattle.zeb_text.proofs.laws.joined_texts_are_encoded.Goals as goal
 
 joined-encoded : (words : List (List ℕ)) → joined_text (map encode_utf8_all words) ≡ encode_utf8_all (joined_text words)

@@ -1,4 +1,4 @@
-use Rattle.std.proofs.Common.{◌≡◌, false, refl}
+use Rattle.zeb_text.proofs.Cited.{◌≡◌, false, refl}
 use Rattle.ucd_category.proofs.Computing.{ucd_category}
 use Rattle.zeb_text.specs.Folding.{folded}
 use Rattle.zeb_text.specs.Words.{is_word_character}

@@ -1,9 +1,5 @@
-use Rattle.std.proofs.Common.{◌≡◌, ℕ, List, [], ◌∷◌, ◌++◌, map, refl, sym, ap, ◌∙◌}
-use Rattle.std.specs.List.{join_with_byte}
-use Rattle.std.proofs.lemmas.List.{map-append}
-use Rattle.zeb_text.specs.Symbols.{Char, literal}
-use Rattle.zeb_text.specs.Words.{words_of}
-use Rattle.zeb_text.specs.Truncation.{joined_patterns, truncated}
+use Rattle.zeb_text.proofs.Cited.{◌≡◌, ℕ, List, [], ◌∷◌, ◌++◌, map, refl, sym, ap, ◌∙◌, join_with_byte, map-append, Char, literal, words_of, joined_patterns}
+use Rattle.zeb_text.specs.Truncation.{truncated}
 use Rattle.zeb_text.proofs.MatchLemmas.{literal-same, same-literal}
 use Rattle.zeb_text.proofs.laws.plain_patterns_are_texts.Goals as goal
 

@@ -1,5 +1,4 @@
-use Rattle.std.proofs.Common.{sym, subst}
-use Rattle.zeb_text.specs.Words.{AreRuns}
+use Rattle.zeb_text.proofs.Cited.{sym, subst, AreRuns}
 use Rattle.zeb_text.proofs.MaximalRuns.{are_the_runs, runs-are}
 use Rattle.zeb_text.proofs.laws.runs_are_maximal.Goals as goal
 

@@ -1,11 +1,4 @@
-use Rattle.std.proofs.Common.{◌≡◌, ◌<◌, ◌^◌, length, Ok, sym, ap, ◌∙◌, arith, rules, tests}
-use Rattle.std.specs.Char.{is_ascii_digit}
-use Rattle.std.specs.List.{list_all}
-use Rattle.std.specs.Str.Parse.{AllDigits, digits_value}
-use Rattle.std.proofs.lemmas.Bool.{false≢true}
-use Rattle.std.proofs.lemmas.Iterator.Adapters.{YieldsList-from_bytes}
-use Rattle.std.proofs.lemmas.Iterator.Search.{all_from_yields_List}
-use Rattle.std.proofs.lemmas.Str.Parse.{numerals_by_value, tells_digits, parse_gives}
+use Rattle.zeb_text.proofs.Cited.{◌≡◌, ◌<◌, ◌^◌, length, Ok, sym, ap, ◌∙◌, arith, rules, tests, is_ascii_digit, list_all, AllDigits, digits_value, false≢true, YieldsList-from_bytes, all_from_yields_List, numerals_by_value, tells_digits, parse_gives}
 use Rattle.zeb_text.specs.Numbers.{number_key}
 use Rattle.zeb_text.proofs.KeyLemmas.{all_from_digits, digits_from_all, digits_of_key, length_of_key, is_key}
 use Rattle.zeb_text.proofs.numerals.number_of_key.Goals as goal

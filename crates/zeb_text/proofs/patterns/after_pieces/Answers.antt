@@ -1,6 +1,4 @@
-use Rattle.std.proofs.Common.{◌+◌, ◌∷◌, drop, sym, ap, ◌∙◌}
-use Rattle.std.proofs.lemmas.List.{drop_more, drop_all}
-use Rattle.zeb_text.specs.Symbols.{Star, starred, texts_of}
+use Rattle.zeb_text.proofs.Cited.{◌+◌, ◌∷◌, drop, sym, ap, ◌∙◌, drop_more, drop_all, Star, starred, texts_of}
 use Rattle.zeb_text.proofs.MatchLemmas.{missing, found, after_is_utf8, before_is_utf8}
 use Rattle.zeb_text.proofs.patterns.after_pieces.Goals as goal
 

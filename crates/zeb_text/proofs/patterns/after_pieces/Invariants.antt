@@ -1,8 +1,4 @@
-use Rattle.std.proofs.Common.{◌↔◌, ℕ, List, ◌∷◌, chars, drop}
-use denote.Text.{Utf8}
-use denote.Shadow.{shadow}
-use Rattle.zeb_text.specs.Symbols.{Star, starred, texts_of}
-use Rattle.zeb_text.specs.Patterns.{Matches}
+use Rattle.zeb_text.proofs.Cited.{◌↔◌, ℕ, List, ◌∷◌, chars, drop, Utf8, shadow, Star, starred, texts_of, Matches}
 use Rattle.zeb_text.proofs.patterns.after_pieces.Given as goal
 
 abbrev pub invariant-loop-piece : goal.invariant-loop-piece

@@ -1,6 +1,4 @@
-use Rattle.std.proofs.Common.{◌≡◌, ◌++◌, [], ap, sym, ◌∙◌, arith, map, take, chars, string_bytes, length}
-use Rattle.std.proofs.lemmas.List.{append_assoc, take_all}
-use Rattle.zeb_text.specs.Symbols.{literal, starred}
+use Rattle.zeb_text.proofs.Cited.{◌≡◌, ◌++◌, [], ap, sym, ◌∙◌, arith, map, take, chars, string_bytes, length, append_assoc, take_all, literal, starred}
 use Rattle.zeb_text.proofs.JoinLemmas.{map_more}
 use Rattle.zeb_text.proofs.SymbolLemmas.{starred-append, starred-piece}
 use Rattle.zeb_text.proofs.patterns.append.Goals as goal

@@ -1,5 +1,4 @@
-use Rattle.std.proofs.Common.{◌≡◌, ◌++◌, [], map, take, chars, string_bytes}
-use Rattle.zeb_text.specs.Symbols.{starred}
+use Rattle.zeb_text.proofs.Cited.{◌≡◌, ◌++◌, [], map, take, chars, string_bytes, starred}
 use Rattle.zeb_text.proofs.patterns.append.Given as goal
 
 abbrev pub invariant-loop-piece : goal.invariant-loop-piece

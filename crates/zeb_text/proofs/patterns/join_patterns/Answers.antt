@@ -1,5 +1,4 @@
-use Rattle.std.proofs.Common.{◌≡◌, ◌++◌, [], ◌∷◌, arith, length, take, sym, ap, ◌∙◌}
-use Rattle.std.proofs.lemmas.List.{length-take, take_more}
+use Rattle.zeb_text.proofs.Cited.{◌≡◌, ◌++◌, [], ◌∷◌, arith, length, take, sym, ap, ◌∙◌, length-take, take_more}
 use Rattle.zeb_text.proofs.SymbolLemmas.{join-more, join-first}
 use Rattle.zeb_text.proofs.patterns.join_patterns.Goals as goal
 use Rattle.zeb_text.proofs.patterns.join_patterns.Goals.{then-at-gt0+in_ok-push_char, else-at-gt0}

@@ -1,5 +1,4 @@
-use Rattle.std.proofs.Common.{◌≡◌, take}
-use Rattle.zeb_text.specs.Truncation.{joined_patterns}
+use Rattle.zeb_text.proofs.Cited.{◌≡◌, take, joined_patterns}
 use Rattle.zeb_text.proofs.patterns.join_patterns.Given as goal
 
 abbrev pub invariant-loop-at : goal.invariant-loop-at

@@ -1,11 +1,7 @@
-use Rattle.std.proofs.Common.{◌≡◌, ◌+◌, ◌<◌, ◌++◌, ◌==◌, ◌&&◌, ◌||◌, [], length, map, drop, chars, string_bytes, String, Global, sym, ap, ◌∙◌, arith}
-use Rattle.std.proofs.lemmas.List.{append-nil, drop_all, length-map}
-use Rattle.std.proofs.lemmas.Str.{chars_from_encodes}
+use Rattle.zeb_text.proofs.Cited.{◌≡◌, ◌+◌, ◌<◌, ◌++◌, ◌==◌, ◌&&◌, ◌||◌, [], length, map, drop, chars, string_bytes, String, Global, sym, ap, ◌∙◌, arith, append-nil, drop_all, length-map, chars_from_encodes, cuts_left, cuts_right, cuts_each, star_if, texts_of, belongs_to_word, symbol_of}
 use Rattle.zeb_text.specs.Folding.{folded}
 use Rattle.zeb_text.specs.Words.{runs_of}
-use Rattle.zeb_text.specs.PrivateStars.{cuts_left, cuts_right, cuts_each, star_if}
-use Rattle.zeb_text.specs.Symbols.{texts_of}
-use Rattle.zeb_text.specs.Truncation.{belongs_to_word, symbol_of, truncated}
+use Rattle.zeb_text.specs.Truncation.{truncated}
 use Rattle.zeb_text.proofs.TruncationLemmas.{built-more, built-truncated, drop_map, map_map, texts_from_bytes}
 use Rattle.zeb_text.proofs.truncation.pattern_words.Goals as goal
 

@@ -1,6 +1,4 @@
-use Rattle.std.proofs.Common.{◌≡◌, ◌++◌, ◌==◌, chars, drop, map, string_bytes, true}
-use Rattle.zeb_text.specs.PrivateStars.{cuts_left, cuts_right, cuts_each}
-use Rattle.zeb_text.specs.Truncation.{symbol_of}
+use Rattle.zeb_text.proofs.Cited.{◌≡◌, ◌++◌, ◌==◌, chars, drop, map, string_bytes, true, cuts_left, cuts_right, cuts_each, symbol_of}
 use Rattle.zeb_text.proofs.TruncationLemmas.{built}
 use Rattle.zeb_text.proofs.truncation.pattern_words.Given as goal
 

@@ -1,9 +1,4 @@
-use Rattle.std.proofs.Common.{◌≡◌, ◌+◌, ◌++◌, [], ◌∷◌, length, map, take, chars, if◌then◌else◌, ap, ◌∙◌, arith}
-use Rattle.std.proofs.lemmas.List.{length_push, append_assoc, take_all}
-use Rattle.std.proofs.lemmas.Iterator.{YieldsList-from_chars}
-use Rattle.std.proofs.lemmas.Iterator.Consumers.{YieldsList-turn, YieldsList-end}
-use Rattle.zeb_text.specs.Symbols.{Char, Star}
-use Rattle.zeb_text.specs.Truncation.{symbol_of}
+use Rattle.zeb_text.proofs.Cited.{◌≡◌, ◌+◌, ◌++◌, [], ◌∷◌, length, map, take, chars, if◌then◌else◌, ap, ◌∙◌, arith, length_push, append_assoc, take_all, YieldsList-from_chars, YieldsList-turn, YieldsList-end, Char, Star, symbol_of}
 use Rattle.zeb_text.proofs.JoinLemmas.{map_more}
 use Rattle.zeb_text.proofs.truncation.push_word.Goals as goal
 use Rattle.zeb_text.proofs.truncation.push_word.Goals.{After-is_star}

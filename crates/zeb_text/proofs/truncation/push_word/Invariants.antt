@@ -1,5 +1,4 @@
-use Rattle.std.proofs.Common.{◌≡◌, ◌++◌, chars, length, map, take}
-use Rattle.zeb_text.specs.Truncation.{symbol_of}
+use Rattle.zeb_text.proofs.Cited.{◌≡◌, ◌++◌, chars, length, map, take, symbol_of}
 use Rattle.zeb_text.proofs.truncation.push_word.Given as goal
 
 abbrev pub invariant-loop-c : goal.invariant-loop-c

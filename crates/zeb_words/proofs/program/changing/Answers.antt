@@ -1,8 +1,4 @@
-use Rattle.std.proofs.Common.{rules, ◌≡◌, ◌∙◌, ap₂, false}
-use Rattle.std.proofs.lemmas.Result.{IfOk-weaker}
-use Rattle.clap.specs.Walk.{rule_of}
-use Rattle.clap.specs.Simple.{with_rule}
-use Rattle.zeb_words.specs.Parses.{path_rule}
+use Rattle.zeb_words.proofs.Cited.{rules, ◌≡◌, ◌∙◌, ap₂, false, IfOk-weaker, rule_of, with_rule, path_rule}
 use Rattle.zeb_words.proofs.program.changing.Goals as goal
 
 pub returns-clause-app : goal.returns-clause-app

@@ -1,14 +1,6 @@
-use Rattle.std.proofs.Common.{rules, ◌≡◌, ◌∙◌, ap, ap₂, codes}
-use Rattle.std.specs.Prelude.{Some, pos}
-use Rattle.std.specs.Int.{int_max, int_min}
-use Rattle.std.specs.Range.{range_inclusive_end, range_inclusive_start}
-use Rattle.clap.specs.Values.{signed_between}
-use Rattle.std.proofs.lemmas.Result.{IfOk-weaker}
-use Rattle.clap.specs.Simple.{new_rule, with_rule}
-use Rattle.clap.specs.Walk.{rule_of}
-use Rattle.clap.specs.declared.builder.value_parser.ValueParser.{ValueParser}
+use Rattle.zeb_words.proofs.Cited.{rules, ◌≡◌, ◌∙◌, ap, ap₂, codes, pos, int_max, int_min, range_inclusive_end, range_inclusive_start, signed_between, IfOk-weaker, new_rule, with_rule, rule_of, ValueParser, number_rule}
+use Rattle.std.specs.Prelude.{Some}
 use Rattle.clap.specs.declared.builder.value_parser.ValueParser.TheVariants as parser
-use Rattle.zeb_words.specs.Parses.{number_rule}
 use Rattle.zeb_words.proofs.program.finding.Goals as goal
 
 pub returns-clause-app : goal.returns-clause-app

@@ -1,6 +1,4 @@
-use Rattle.std.proofs.Common.{◌∙◌, ap₂}
-use Rattle.std.proofs.lemmas.Result.{IfOk-weaker}
-use Rattle.zeb_words.specs.Parses.{and_sub}
+use Rattle.zeb_words.proofs.Cited.{◌∙◌, ap₂, IfOk-weaker, and_sub}
 use Rattle.zeb_words.proofs.program.with_changes.Goals as goal
 
 pub returns : goal.returns

@@ -1,6 +1,4 @@
-use Rattle.std.proofs.Common.{◌∙◌, ap, ap₂, true}
-use Rattle.std.proofs.lemmas.Result.{IfOk-weaker}
-use Rattle.clap.specs.Simple.{app_of_fields, on_top, with_rule}
+use Rattle.zeb_words.proofs.Cited.{◌∙◌, ap, ap₂, true, IfOk-weaker, app_of_fields, on_top, with_rule}
 use Rattle.zeb_words.proofs.program.with_options.Goals as goal
 
 pub returns : goal.returns

@@ -1,9 +1,4 @@
-use Rattle.std.proofs.Common.{◌∙◌, sym, subst}
-use Rattle.std.specs.Str.Parse.{ExplainsUnsignedError, HasUnsignedDigitsIfOk, ParsesUnsigned}
-use Rattle.clap.specs.Matches.{found_of}
-use Rattle.clap.specs.Walk.{one_of, rows_of}
-use Rattle.clap.proofs.WalkLemmas.{one_text-rows}
-use Rattle.zeb_words.specs.Parses.{IsNumberRead}
+use Rattle.zeb_words.proofs.Cited.{◌∙◌, sym, subst, ExplainsUnsignedError, HasUnsignedDigitsIfOk, ParsesUnsigned, found_of, one_of, rows_of, one_text-rows, IsNumberRead}
 use Rattle.zeb_words.proofs.ReadingLemmas.{number_read}
 use Rattle.zeb_words.proofs.reading.number_of.Goals as goal
 

@@ -1,9 +1,5 @@
-use Rattle.std.proofs.Common.{rules, ◌≡◌, ◌∙◌, ap, codes}
-use Rattle.std.specs.Prelude.{unwrap_or, []}
-use Rattle.std.proofs.lemmas.Result.{IfOk-weaker}
-use Rattle.clap.specs.Matches.{found_of}
-use Rattle.clap.proofs.WalkLemmas.{raw_values-rows}
-use Rattle.zeb_words.specs.Parses.{path_texts}
+use Rattle.zeb_words.proofs.Cited.{rules, ◌≡◌, ◌∙◌, ap, codes, unwrap_or, IfOk-weaker, found_of, raw_values-rows, path_texts}
+use Rattle.std.specs.Prelude.{[]}
 use Rattle.zeb_words.proofs.reading.paths_of.Goals as goal
 
 pub returns-in-Some : goal.returns-in-Some

@@ -1,6 +1,4 @@
-use Rattle.std.proofs.Common.{◌∙◌, ap}
-use Rattle.clap.specs.Matches.{found_of}
-use Rattle.clap.proofs.WalkLemmas.{first_value-rows}
+use Rattle.zeb_words.proofs.Cited.{◌∙◌, ap, found_of, first_value-rows}
 use Rattle.zeb_words.proofs.ReadingLemmas.{text_read}
 use Rattle.zeb_words.proofs.reading.text_of.Goals as goal
 

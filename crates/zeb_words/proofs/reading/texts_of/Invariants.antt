@@ -1,5 +1,4 @@
-use Rattle.std.proofs.Common.{◌≡◌, map, take}
-use Rattle.zeb_words.specs.Parses.{path_texts}
+use Rattle.zeb_words.proofs.Cited.{◌≡◌, map, take, path_texts}
 use Rattle.zeb_words.proofs.reading.texts_of.Given as goal
 
 abbrev pub invariant-loop-text : goal.invariant-loop-text

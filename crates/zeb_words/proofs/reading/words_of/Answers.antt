@@ -1,12 +1,4 @@
-use Rattle.std.proofs.Common.{rules, ◌≡◌, ◌∙◌, Err, codes}
-use Rattle.clap.specs.Simple.{subcommand_rows_of}
-use Rattle.std.specs.Box.{box_value}
-use Rattle.clap.specs.Matches.{found_of}
-use Rattle.clap.specs.Walk.{one_of, rows_of}
-use Rattle.clap.specs.declared.parser.matches.ArgMatches.TheViews.{out-ArgMatches, out-SubCommand}
-use Rattle.clap.proofs.WalkLemmas.{one_text-rows}
-use Rattle.zeb_words.specs.Parses.{AreBad, IsFlagRead}
-use Rattle.zeb_words.specs.PrivateParses.{IsBadAct}
+use Rattle.zeb_words.proofs.Cited.{rules, ◌≡◌, ◌∙◌, Err, codes, subcommand_rows_of, box_value, found_of, one_of, rows_of, out-ArgMatches, out-SubCommand, one_text-rows, AreBad, IsFlagRead, IsBadAct}
 use Rattle.zeb_words.proofs.ReadingLemmas.{bad_words, own_cause, pair_read}
 use Rattle.zeb_words.proofs.reading.words_of.Goals as goal
 

@@ -1,13 +1,4 @@
-use Rattle.std.proofs.Common.{◌∙◌, sym, ap, map, subst, string_bytes}
-use Rattle.std.proofs.lemmas.Result.{IfErr-weaker, IfOk-weaker}
-use Rattle.clap.specs.Walk.{rows_of}
-use Rattle.clap.specs.Matches.{found_of}
-use Rattle.clap.specs.Simple.{is_simple, matches_of, subcommand_of}
-use Rattle.clap.specs.Faults.{fault_of, is_simple_and_free}
-use Rattle.clap.specs.Kinds.{HasKind}
-use Rattle.zeb_words.specs.Names.{NamesNone, NamesWords}
-use Rattle.zeb_words.specs.Parses.{AreBad, IsParsedAs, IsReadFrom, IsRefusedAs, program_app}
-use Rattle.zeb_words.specs.PrivateParses.{IsOwn}
+use Rattle.zeb_words.proofs.Cited.{◌∙◌, sym, ap, map, subst, string_bytes, IfErr-weaker, IfOk-weaker, rows_of, found_of, is_simple, matches_of, subcommand_of, fault_of, is_simple_and_free, HasKind, NamesNone, NamesWords, AreBad, IsParsedAs, IsReadFrom, IsRefusedAs, program_app, IsOwn}
 use Rattle.zeb_words.proofs.Naming.{all_texts, names_parsed}
 use Rattle.zeb_words.proofs.ReadingLemmas.{own_refused, parser_refused}
 use Rattle.zeb_words.proofs.Taking.{none_named}

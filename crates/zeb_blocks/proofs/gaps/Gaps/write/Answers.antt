@@ -1,7 +1,5 @@
 -- The bytes of the three numbers stand one behind the other.
-use Rattle.std.proofs.Common.{◌≡◌, ◌++◌, ◌∙◌, ap, List, ℕ}
-use Rattle.std.proofs.lemmas.List.{append_assoc}
-use Rattle.std.proofs.lemmas.Result.{on_ok_weaker}
+use Rattle.zeb_blocks.proofs.Cited.{◌≡◌, ◌++◌, ◌∙◌, ap, List, ℕ, append_assoc, on_ok_weaker}
 use Rattle.zeb_blocks.specs.Blocks.{bytes_of}
 use Rattle.zeb_blocks.specs.Numbers.{uleb}
 use Rattle.zeb_blocks.proofs.gaps.Gaps.write.Goals as goal

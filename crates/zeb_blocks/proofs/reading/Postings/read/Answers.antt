@@ -1,8 +1,6 @@
 -- The postings that were counted are those of the block, or there are none.
-use Rattle.std.proofs.Common.{◌/◌, ◌∙◌, sym, ap, subst}
-use Rattle.zeb_blocks.specs.Blocks.{BlockSpells}
+use Rattle.zeb_blocks.proofs.Cited.{◌/◌, ◌∙◌, sym, ap, subst, BlockSpells, Posting}
 use Rattle.zeb_blocks.specs.Left.{postings_at}
-use Rattle.zeb_blocks.specs.declared.postings.Posting.{Posting}
 use Rattle.zeb_blocks.proofs.Lists.{length-postings_at}
 use Rattle.zeb_blocks.proofs.Taking.{no_start, no_list, empty_block, outside, postings_at-none, whole_block}
 use Rattle.zeb_blocks.proofs.reading.Postings.read.Goals as goal

@@ -1,5 +1,5 @@
 -- The list is as long as was counted.
-use Rattle.std.proofs.Common.{◌∙◌, length, sym, ap}
+use Rattle.zeb_blocks.proofs.Cited.{◌∙◌, length, sym, ap}
 use Rattle.zeb_blocks.proofs.Lists.{length-postings_at}
 use Rattle.zeb_blocks.proofs.reading.PostingsExactSizeIterator.len.Goals as goal
 

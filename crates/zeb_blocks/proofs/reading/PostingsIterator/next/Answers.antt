@@ -1,5 +1,5 @@
 -- The bytes that are left spell the postings that are left.
-use Rattle.std.proofs.Common.{◌∙◌, sym, rules}
+use Rattle.zeb_blocks.proofs.Cited.{◌∙◌, sym, rules}
 use Rattle.zeb_blocks.proofs.Taking.{taken, not_damaged, postings_at-none}
 use Rattle.zeb_blocks.proofs.reading.PostingsIterator.next.Goals as goal
 

@@ -1,5 +1,5 @@
 -- A list without a posting has no bytes.
-use Rattle.std.proofs.Common.{refl}
+use Rattle.zeb_blocks.proofs.Cited.{refl}
 use Rattle.zeb_blocks.specs.Left.{postings_at}
 use Rattle.zeb_blocks.proofs.Pushing.{written_none}
 use Rattle.zeb_blocks.proofs.writing.BlockWriter.new.Goals as goal

@@ -1,5 +1,5 @@
 -- The posting follows the last one, and its bytes stand behind those so far.
-use Rattle.std.proofs.Common.{refl, arith}
+use Rattle.zeb_blocks.proofs.Cited.{refl, arith}
 use Rattle.zeb_blocks.proofs.Pushing.{pushed_follows, pushed_list, pushed_written, written_count}
 use Rattle.zeb_blocks.proofs.writing.BlockWriter.push.Goals as goal
 

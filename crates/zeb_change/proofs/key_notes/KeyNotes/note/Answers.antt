@@ -1,4 +1,4 @@
-use Rattle.zeb_change.specs.PrivatePending.{change_in}
+use Rattle.zeb_change.proofs.Cited.{change_in}
 use Rattle.zeb_change.proofs.NoteWords.{parts_put}
 use Rattle.zeb_change.proofs.key_notes.KeyNotes.note.Goals as goal
 

@@ -1,4 +1,4 @@
-use Rattle.std.proofs.Common.{arith}
+use Rattle.zeb_change.proofs.Cited.{arith}
 use Rattle.zeb_change.proofs.NoteWords.{one_read}
 use Rattle.zeb_change.proofs.key_notes.KeyNotes.read.Goals as goal
 

@@ -1,4 +1,4 @@
-use Rattle.std.proofs.Common.{◌≡◌, length}
+use Rattle.zeb_change.proofs.Cited.{◌≡◌, length}
 use Rattle.zeb_change.proofs.NoteWords.{AreUnread}
 use Rattle.zeb_change.proofs.key_notes.KeyNotes.read.Given as goal
 

@@ -1,10 +1,4 @@
-use Rattle.std.proofs.Common.{◌≡◌, None, subst, sym}
-use Rattle.std.specs.BTreeMap.{BTreeMap, get}
-use Rattle.zeb_keys.specs.declared.keys.Key.{Key}
-use Rattle.zeb_keys.specs.Order.{key_order}
-use Rattle.zeb_change.specs.declared.key_notes.KeyNotes.{KeyNotes}
-use Rattle.zeb_change.specs.declared.pending.Pending.{Pending}
-use Rattle.zeb_change.specs.PrivatePending.{change_in}
+use Rattle.zeb_change.proofs.Cited.{◌≡◌, None, subst, sym, BTreeMap, get, Key, key_order, KeyNotes, Pending, change_in}
 use Rattle.zeb_change.proofs.NotedChanges.{absent, behind, noted_by}
 use Rattle.zeb_change.proofs.CostLemmas.{ok_so}
 use Rattle.zeb_change.proofs.pending.Pending.note.Goals as goal

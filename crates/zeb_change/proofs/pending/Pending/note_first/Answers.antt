@@ -1,8 +1,5 @@
-use Rattle.std.proofs.Common.{◌≡◌, ◌∙◌, ◌++◌, List, ℕ, ap, arith, subst, sym}
-use Rattle.zeb_keys.specs.declared.keys.Key.{Key}
-use Rattle.zeb_change.specs.declared.pending.Pending.{Pending}
+use Rattle.zeb_change.proofs.Cited.{◌≡◌, ◌∙◌, ◌++◌, List, ℕ, ap, arith, subst, sym, Key, Pending, IsNotNoted, IsNotedAlso, change_in}
 use Rattle.zeb_change.specs.NoteWords.{change_words}
-use Rattle.zeb_change.specs.PrivatePending.{IsNotNoted, IsNotedAlso, change_in}
 use Rattle.zeb_change.proofs.NotedChanges.{first}
 use Rattle.zeb_change.proofs.pending.Pending.note_first.Goals as goal
 

@@ -1,13 +1,4 @@
-use Rattle.std.proofs.Common.{◌≡◌, rules, ◌∙◌, not, inl, inr, sym, subst, ap, IsTrue}
-use Rattle.sqlite.specs.Effect.{Database, IsDatabase}
-use Rattle.sqlite.specs.Held.{state}
-use Rattle.zeb_register.specs.Calls.{ChangesNothing}
-use Rattle.zeb_register.specs.Tables.{store_schema}
-use Rattle.zeb_register.specs.Store.{IsStore}
-use Rattle.zeb_engine.specs.Adopting.{StaysOpen}
-use Rattle.zeb_engine.specs.PrivateAdopting.{HoldsNothing, MayBeTaken}
-use Rattle.zeb_image.specs.Holdings.{Holdings}
-use Rattle.zeb_image.specs.Image.{IsImage}
+use Rattle.zeb_engine.proofs.Cited.{◌≡◌, rules, ◌∙◌, not, inl, inr, sym, subst, ap, IsTrue, Database, IsDatabase, state, ChangesNothing, store_schema, IsStore, StaysOpen, HoldsNothing, MayBeTaken, Holdings, IsImage}
 use Rattle.zeb_engine.proofs.CommitCrashes.{adopted_commits, adopted_keeps, opened_bears, survives_as}
 use Rattle.zeb_engine.proofs.ServesLemmas.{keeps_still}
 use Rattle.zeb_engine.proofs.session.Session.adopt.Goals as goal

@@ -1,20 +1,5 @@
-use Rattle.std.proofs.Common.{◌≡◌, ◌∙◌, [], ap, map, refl, rules, string_bytes, subst}
-use Rattle.sqlite.specs.Held.{state}
-use Rattle.sqlite.specs.State.{Survives}
-use Rattle.zeb_register.specs.Store.{IsStore}
-use Rattle.zeb_change.specs.declared.settings.Limits.{Limits}
-use Rattle.zeb_engine.specs.Alone.{Alone, StatSays}
-use Rattle.zeb_engine.specs.AnyRefusals.{CreateOver, DropOver, HidesDatabase, HidesRecords, HidesRegisters, UnlessHidden}
-use Rattle.zeb_engine.specs.AnyTables.{DumpOver, StatOver}
-use Rattle.zeb_change.specs.Conditions.{conditions}
-use Rattle.zeb_engine.specs.Crashes.{CommitsBy}
-use Rattle.zeb_image.specs.Image.{IsImage}
-use Rattle.zeb_image.specs.NameOf.{name_bytes}
-use Rattle.zeb_engine.specs.Steps.{OnlyAsks, turned, TakesFiles, created, dropped, dumped_by, holding, checked, Step, initialised, reindexed, upgraded, ready, CountedFrom}
-use Rattle.zeb_engine.specs.PrivateCrashes.{Commits}
-use Rattle.zeb_engine.specs.Readiness.{LooksFirst}
-use Rattle.zeb_engine.specs.Works.{ServesBy}
-use Rattle.zeb_engine.specs.PrivateWorks.{Always, Asks, Serves}
+use Rattle.zeb_engine.proofs.Cited.{◌≡◌, ◌∙◌, [], ap, map, refl, rules, string_bytes, subst, state, Survives, IsStore, nothing_still, Limits, Alone, StatSays, CreateOver, DropOver, HidesDatabase, HidesRecords, HidesRegisters, UnlessHidden, DumpOver, StatOver, conditions, CommitsBy, IsImage, name_bytes, OnlyAsks, TakesFiles, dumped_by, holding, checked, Step, CountedFrom, Commits, LooksFirst, ServesBy, Always, Asks, Serves, CostsAlone, CountsNothing, no_work, version_of}
+use Rattle.zeb_engine.specs.Steps.{turned, created, dropped, initialised, reindexed, upgraded, ready}
 use Rattle.zeb_engine.proofs.HiddenRows.{hidden_named}
 use Rattle.zeb_engine.proofs.MadeTables.{dropped_named, made_named}
 use Rattle.zeb_engine.proofs.ReadyCommands.{analysis_answers, analysis_serves, asks_serve, change_leaves, change_over, each_so, ends_serve, find_alone, find_serves, find_tables, scan_alone, scan_serves, scan_tables}
@@ -22,12 +7,8 @@ use Rattle.zeb_engine.proofs.CommitCrashes.{ends_commit, none_commits, survives_
 use Rattle.zeb_engine.proofs.AskedReads.{find_command_reads, scan_command_reads}
 use Rattle.zeb_engine.proofs.ServesLemmas.{on_ok}
 use Rattle.zeb_engine.proofs.StoreCauses.{analysis_caused}
-use Rattle.zeb_engine.proofs.WriteCauses.{asked_cause, unsaid}
 use Rattle.zeb_engine.proofs.CommandedConnections.{reads_command}
-use Rattle.zeb_engine.specs.Causes.{ChangesInRoom}
-use Rattle.zeb_engine.specs.Costs.{CostsAlone, no_work}
 use Rattle.zeb_engine.proofs.session.Session.carry_out.Goals as goal
-use Rattle.zeb_register.specs.Formats.{version_of}
 
 pub returns-in-Init-clause-serves : goal.returns-in-Init-clause-serves
 returns-in-Init-clause-serves g c clean =
@@ -445,55 +426,35 @@ returns-in-Change-clause-no_work g c none =
     let fresh : c.default-self.result ≡ no_work = search rules in
     c.change.ensures.no_work none fresh
 
-pub returns-in-Init-clause-caused : goal.returns-in-Init-clause-caused
-returns-in-Init-clause-caused g c clean = rw c.in-Init.is (c.init_register.ensures.caused clean)
+pub returns-in-Find-clause-reads : goal.returns-in-Find-clause-reads
+returns-in-Find-clause-reads g c clean asks = record { nothing = c.find.ensures.reads clean; caused = c.find.ensures.caused clean }
 
-pub returns-in-Change-clause-caused : goal.returns-in-Change-clause-caused
-returns-in-Change-clause-caused g c clean = rw c.in-Change.is (unsaid (λ _. Unit {0}) (state g.S.Store c.args.self.now.connection) (state g.S.Store c.change.new.self.connection) c.change.result (λ _. tt))
+pub returns-in-Check-clause-reads : goal.returns-in-Check-clause-reads
+returns-in-Check-clause-reads g c clean asks = record { nothing = c.check.ensures.reads clean; caused = c.check.ensures.caused clean }
 
-pub returns-in-Reindex-clause-caused : goal.returns-in-Reindex-clause-caused
-returns-in-Reindex-clause-caused g c clean = rw c.in-Reindex.is (unsaid (λ _. Unit {0}) (state g.S.Store c.args.self.now.connection) (state g.S.Store c.reindex.new.connection) c.reindex.result (λ _. tt))
+pub returns-in-Scan-clause-reads : goal.returns-in-Scan-clause-reads
+returns-in-Scan-clause-reads g c clean asks = record { nothing = c.scan.ensures.reads clean; caused = c.scan.ensures.caused clean }
 
-pub returns-in-Upgrade-clause-caused : goal.returns-in-Upgrade-clause-caused
-returns-in-Upgrade-clause-caused g c clean = rw c.in-Upgrade.is (unsaid (λ _. Unit {0}) (state g.S.Store c.args.self.now.connection) (state g.S.Store c.upgrade.new.connection) c.upgrade.result (λ _. tt))
+pub returns-in-Stat-clause-reads : goal.returns-in-Stat-clause-reads
+returns-in-Stat-clause-reads g c clean asks = record { nothing = c.stat.ensures.same clean; caused = c.stat.ensures.caused clean }
 
-pub returns-in-Create-clause-caused : goal.returns-in-Create-clause-caused
-returns-in-Create-clause-caused g c clean = rw c.in-Create.is (c.create.ensures.caused clean)
+pub returns-in-Dump-clause-reads : goal.returns-in-Dump-clause-reads
+returns-in-Dump-clause-reads g c clean asks = record { nothing = c.dump.ensures.same clean; caused = c.dump.ensures.caused clean }
 
-pub returns-in-Drop-clause-caused : goal.returns-in-Drop-clause-caused
-returns-in-Drop-clause-caused g c clean = rw c.in-Drop.is (c.take.ensures.caused clean)
-
-pub returns-in-Find-clause-caused : goal.returns-in-Find-clause-caused
-returns-in-Find-clause-caused g c clean = rw c.in-Find.is (asked_cause (state g.S.Store c.args.self.now.connection) (state g.S.Store c.find.new.self.connection) c.find.result (c.find.ensures.caused clean))
-
-pub returns-in-Check-clause-caused : goal.returns-in-Check-clause-caused
-returns-in-Check-clause-caused g c clean = rw c.in-Check.is (asked_cause (state g.S.Store c.args.self.now.connection) (state g.S.Store c.check.new.self.connection) c.check.result (c.check.ensures.caused clean))
-
-pub returns-in-Stat-clause-caused : goal.returns-in-Stat-clause-caused
-returns-in-Stat-clause-caused g c clean = rw c.in-Stat.is (asked_cause (state g.S.Store c.args.self.now.connection) (state g.S.Store c.stat.new.connection) c.stat.result (c.stat.ensures.caused clean))
-
-pub returns-in-Dump-clause-caused : goal.returns-in-Dump-clause-caused
-returns-in-Dump-clause-caused g c clean = rw c.in-Dump.is (asked_cause (state g.S.Store c.args.self.now.connection) (state g.S.Store c.dump.new.connection) c.dump.result (c.dump.ensures.caused clean))
-
-pub returns-in-Scan-clause-caused : goal.returns-in-Scan-clause-caused
-returns-in-Scan-clause-caused g c clean = rw c.in-Scan.is (asked_cause (state g.S.Store c.args.self.now.connection) (state g.S.Store c.scan.new.self.connection) c.scan.result (c.scan.ensures.caused clean))
-
-pub returns-in-Analyse-clause-caused : goal.returns-in-Analyse-clause-caused
-returns-in-Analyse-clause-caused g c clean =
+pub returns-in-Analyse-clause-reads : goal.returns-in-Analyse-clause-reads
+returns-in-Analyse-clause-reads g c clean asks =
     let k = conditions (version_of g.L.Layout.format) c.args.self.now.profile c.args.self.now.limits in
     let s = state g.S.Store c.args.self.now.connection in
-    let result = c.analyse_files.result in
-    rw c.in-Analyse.is (asked_cause s s result (analysis_caused k (map (λ file. file.items) c.deref-in-Analyse.result.now) s s result c.analyse_files.ensures.told))
+    record { nothing = nothing_still s; caused = analysis_caused k (map (λ file. file.items) c.deref-in-Analyse.result.now) s s c.analyse_files.result c.analyse_files.ensures.told }
 
-pub returns-in-Change-clause-room : goal.returns-in-Change-clause-room
-returns-in-Change-clause-room g c clean =
-    let old = state g.S.Store c.args.self.now.connection in
-    rw c.in-Change.is (each_so
-    c.in-Change.kind-1-own.given.0.0 c.in-Change.kind c.in-Change.database-1-own.given.0.1.0 c.in-Change.database c.deref.result.now c.in-Change.files.items (search rules) (search rules) (search rules)
-    (λ kind named files. ChangesInRoom c.args.self.now.profile kind (name_bytes named) (map (λ file. file.items) files) old (state g.S.Store c.change.new.self.connection) c.change.result) (c.change.ensures.room clean))
+pub returns-in-Change-clause-idle : goal.returns-in-Change-clause-idle
+returns-in-Change-clause-idle g c counts = absurd (subst CountsNothing c.in-Change.is counts)
 
-pub returns-in-Reindex-clause-room : goal.returns-in-Reindex-clause-room
-returns-in-Reindex-clause-room g c clean = rw c.in-Reindex.is (c.reindex.ensures.room clean)
+pub returns-in-Find-clause-idle : goal.returns-in-Find-clause-idle
+returns-in-Find-clause-idle g c counts = absurd (subst CountsNothing c.in-Find.is counts)
 
-pub returns-in-Upgrade-clause-room : goal.returns-in-Upgrade-clause-room
-returns-in-Upgrade-clause-room g c clean = rw c.in-Upgrade.is (c.upgrade.ensures.room clean)
+pub returns-in-Stat-clause-idle : goal.returns-in-Stat-clause-idle
+returns-in-Stat-clause-idle g c counts = absurd (subst CountsNothing c.in-Stat.is counts)
+
+pub returns-in-Scan-clause-idle : goal.returns-in-Scan-clause-idle
+returns-in-Scan-clause-idle g c counts = absurd (subst CountsNothing c.in-Scan.is counts)

@@ -1,6 +1,4 @@
-use Rattle.std.proofs.Common.{false, ◌≡◌, ◌∙◌, Some, rules, arith, ap, map, take}
-use Rattle.zeb_query.proofs.HoldingLemmas.{take_whole}
-use Rattle.sqlite.specs.Held.{state}
+use Rattle.zeb_engine.proofs.Cited.{false, ◌≡◌, ◌∙◌, Some, rules, arith, ap, map, take, take_whole, state}
 use Rattle.zeb_engine.proofs.CommitCrashes.{survives_as}
 use Rattle.zeb_engine.proofs.Readers.{no_file_failed, none_fails}
 use Rattle.zeb_engine.proofs.session.Session.change.Goals as goal
@@ -32,14 +30,6 @@ returns-clause-work g c = λ clean.
     let lent : c.deref_mut.result.now ≡ c.loop-file.readers.items = search rules in
     let same : c.deref_mut.result.now ≡ texts = lent ∙ c.loop-file.invariant.texts ∙ ap (map (λ file. file.items)) whole in
     c.change_from.ensures.work clean texts (ap (map Some) same)
-
-pub returns-clause-room : goal.returns-clause-room
-returns-clause-room g c = λ clean.
-    let whole : take c.loop-file.file-index c.args.files.now ≡ c.args.files.now = take_whole c.args.files.now c.loop-file.file-index (omega arith) in
-    let texts = map (λ file. file.items) c.args.files.now in
-    let lent : c.deref_mut.result.now ≡ c.loop-file.readers.items = search rules in
-    let same : c.deref_mut.result.now ≡ texts = lent ∙ c.loop-file.invariant.texts ∙ ap (map (λ file. file.items)) whole in
-    c.change_from.ensures.room clean texts (ap (map Some) same) (none_fails c.change_from.new.readers)
 
 pub returns-clause-elder : goal.returns-clause-elder
 returns-clause-elder g c = λ clean.

@@ -1,4 +1,4 @@
-use Rattle.std.proofs.Common.{◌≡◌, ◌≤◌, length, map, take, vec_capacity}
+use Rattle.zeb_engine.proofs.Cited.{◌≡◌, ◌≤◌, length, map, take, vec_capacity}
 use Rattle.zeb_engine.proofs.session.Session.change.Given as goal
 
 abbrev pub invariant-loop-file : goal.invariant-loop-file

@@ -1,32 +1,14 @@
-use Rattle.std.proofs.Common.{◌≡◌, [], Err, OnOk, IsErrAnd, ap, inl, inr, refl, rules, arith, sym, subst}
-use Rattle.sqlite.specs.Held.{state}
-use Rattle.sqlite.specs.State.{HasCleanDisk}
-use Rattle.zeb_change.specs.Conditions.{conditions}
-use Rattle.zeb_image.specs.NameOf.{name_bytes}
-use Rattle.zeb_engine.specs.Readiness.{IsRefusedOver}
-use Rattle.zeb_change.specs.Reading.{NamesFailed}
-use Rattle.zeb_engine.specs.Steps.{TakesFiles, changed_by_files, turned}
-use Rattle.zeb_change.specs.Folding.{splits_of}
-use Rattle.zeb_engine.specs.Works.{ServesBy}
+use Rattle.zeb_engine.proofs.Cited.{◌≡◌, [], Err, OnOk, IsErrAnd, inl, inr, refl, rules, arith, sym, subst, state, HasCleanDisk, conditions, name_bytes, IsRefusedOver, NamesFailed, TakesFiles, splits_of, ServesBy, why_of, Work, Costs, no_work, ElderOver, EldersOver, LeavesRows, LosesNamedOver, ReasonsOver, version_of}
+use Rattle.zeb_engine.specs.Steps.{changed_by_files, turned}
 use Rattle.zeb_engine.proofs.ReadyCommands.{ends_serve, ready_kept, unready_serves}
 use Rattle.zeb_engine.proofs.CommitCrashes.{survives_after}
 use Rattle.zeb_engine.proofs.NoDamageAnswered.{start_honest}
 use Rattle.zeb_engine.proofs.TurnedOutcomes.{turn_refused}
-use Rattle.zeb_change.specs.Refused.{why_of}
 use Rattle.zeb_engine.proofs.Readers.{no_file_failed, named_or_none}
 use Rattle.zeb_engine.proofs.ServesLemmas.{on_ok}
-use Rattle.zeb_register.specs.declared.registers.Work.{Work}
-use Rattle.zeb_engine.specs.Costs.{Costs, no_work}
-use Rattle.zeb_register.proofs.Calls.{store_same}
-use Rattle.zeb_register.proofs.Causes.{may_after}
-use Rattle.zeb_change.specs.declared.refusals.Refusal.TheVariants.{Store}
-use Rattle.zeb_change.proofs.RecordRoom.{one_refusal}
-use Rattle.zeb_engine.specs.AnyTables.{ElderOver, EldersOver, LeavesRows, LosesNamedOver, ReasonsOver}
 use Rattle.zeb_engine.proofs.ChangeElders.{few_elder, refused_elders, said_after}
 use Rattle.zeb_engine.proofs.ChangeReasons.{few_reasons}
-use Rattle.zeb_engine.proofs.ChangeRoom.{room_still}
 use Rattle.zeb_engine.proofs.session.Session.change_from.Goals as goal
-use Rattle.zeb_register.specs.Formats.{version_of}
 use Rattle.zeb_engine.proofs.ReadyTexts.{ready_then, unready_fails}
 
 pub returns-in_err-check_ready-clause-serves : goal.returns-in_err-check_ready-clause-serves
@@ -133,32 +115,6 @@ returns-clause-work g c = λ clean texts told.
     let met = ready_kept k old mid before (c.in_ok-check_ready.ensures.ready first limits before keeps) (c.check_ready.ensures.same first) keeps in
     subst (λ (work : Work). Costs g.L.Layout.row_work k c.args.kind (name_bytes c.args.database.now) texts work c.change_database.new.work before) fresh
     (works before met.2.1 (met.0, met.1) met.3)) (c.change_database.ensures.work clean texts told)
-
--- ---- where there is room
-
-pub returns-in_err-check_readers-clause-room : goal.returns-in_err-check_readers-clause-room
-returns-in_err-check_readers-clause-room g c clean texts told fine store room refused =
-    let named = c.in_err-check_readers.ensures.named in
-    absurd (no_file_failed g.R.Source.has_failed c.args.readers.now fine named.0 named.1)
-
-pub returns-in_err-check_ready-clause-room : goal.returns-in_err-check_ready-clause-room
-returns-in_err-check_ready-clause-room g c clean texts told fine store room refused =
-    let refusal = c.in_err-check_ready.field-0.0 in
-    let result : c.from_residual-in_err-check_ready.result ≡ Err refusal = search rules in
-    let is = one_refusal c.from_residual-in_err-check_ready.result refusal Store result refused in
-    c.in_err-check_ready.ensures.caused clean store (ap why_of is)
-
-pub returns-clause-room : goal.returns-clause-room
-returns-clause-room g c clean texts told fine store room refused =
-    let profile = c.args.self.now.profile in
-    let old = state g.S.Store c.args.self.now.connection in
-    let mid = state g.S.Store c.check_ready.new.connection in
-    let new = state g.S.Store c.change_database.new.connection in
-    let first : HasCleanDisk mid = omega (arith, c.change_database.ensures.survives.clean) in
-    let opened = c.in_ok-check_ready.ensures.«open» first in
-    let still = (c.check_ready.ensures.same first opened.1).1 in
-    may_after old mid new c.check_ready.ensures.crash (λ _. opened.1) (λ _.
-    c.change_database.ensures.room clean texts told fine (store_same old mid still store) (room_still profile c.args.kind (name_bytes c.args.database.now) texts old mid still room) refused)
 
 -- ---- what is kept under the first record's identifier
 

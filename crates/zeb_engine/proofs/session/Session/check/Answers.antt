@@ -1,14 +1,5 @@
-use Rattle.std.proofs.Common.{◌≡◌, false, List, Err, IsTrue, rules, arith, sym, subst, inr}
-use Rattle.sqlite.specs.Held.{state}
-use Rattle.sqlite.specs.State.{HasCleanDisk}
-use Rattle.zeb_register.specs.Formats.{version_of}
-use Rattle.zeb_register.proofs.Calls.{store_same}
-use Rattle.zeb_change.specs.Base.{Base}
-use Rattle.zeb_change.specs.Conditions.{conditions}
-use Rattle.zeb_change.specs.Outcomes.{register_refusal}
-use Rattle.zeb_engine.specs.declared.replies.Reply.{Reply}
-use Rattle.zeb_engine.specs.Steps.{checked, ready}
-use Rattle.zeb_engine.specs.PrivateWorks.{Always, Serves}
+use Rattle.zeb_engine.proofs.Cited.{◌≡◌, false, List, Err, IsTrue, rules, arith, sym, subst, inr, state, HasCleanDisk, version_of, store_same, Base, conditions, register_refusal, Reply, checked, Always, Serves}
+use Rattle.zeb_engine.specs.Steps.{ready}
 use Rattle.zeb_engine.proofs.CheckAnswers.{damage_serves, tells_none, tells_some, unready_tells}
 use Rattle.zeb_engine.proofs.ReadyCommands.{ready_met, unready_checks}
 use Rattle.zeb_engine.proofs.ReadyTexts.{fault_never, passed_texts, ready_then}

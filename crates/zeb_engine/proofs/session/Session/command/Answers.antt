@@ -1,17 +1,10 @@
-use Rattle.std.proofs.Common.{◌∙◌, [], rules, sym, ap, IsTrue}
-use Rattle.sqlite.specs.Effect.{Database}
-use Rattle.sqlite.specs.Held.{state}
-use Rattle.zeb_register.specs.Store.{IsStore}
-use Rattle.zeb_change.specs.Conditions.{conditions}
-use Rattle.zeb_image.specs.Image.{IsImage, Keeps}
-use Rattle.zeb_engine.specs.Steps.{holding}
+use Rattle.zeb_engine.proofs.Cited.{◌∙◌, [], rules, sym, ap, IsTrue, Database, state, IsStore, conditions, IsImage, Keeps, holding, version_of}
 use Rattle.zeb_engine.proofs.ReindexedTables.{leaves_settled}
 use Rattle.zeb_engine.proofs.RunCrashes.{did_endures}
 use Rattle.zeb_engine.proofs.CommandedConnections.{did}
 use Rattle.zeb_engine.proofs.NoDamageAnswered.{command_honest}
 use Rattle.zeb_engine.proofs.ServesLemmas.{on_ok}
 use Rattle.zeb_engine.proofs.session.Session.command.Goals as goal
-use Rattle.zeb_register.specs.Formats.{version_of}
 
 pub returns-clause-begun : goal.returns-clause-begun
 returns-clause-begun g c clean is =
@@ -62,3 +55,8 @@ returns-clause-loses g c clean = (c.carry_out-answer.ensures.asked clean).2.1
 
 pub returns-clause-makes : goal.returns-clause-makes
 returns-clause-makes g c clean = (c.carry_out-answer.ensures.asked clean).2.2
+
+pub returns-clause-counts : goal.returns-clause-counts
+returns-clause-counts g c =
+    let done = c.carry_out-answer.ensures in
+    record { costs = done.work; reads = done.read_work; idle = done.idle; none = done.no_work }

@@ -1,19 +1,5 @@
-use Rattle.std.proofs.Common.{◌≡◌, Err, IsTrue, List, rules, arith, sym, subst, inl}
-use Rattle.sqlite.specs.Held.{state}
-use Rattle.sqlite.specs.State.{HasCleanDisk}
-use Rattle.zeb_register.proofs.Calls.{nothing_then}
-use Rattle.zeb_engine.specs.Answers.{answer_of}
-use Rattle.zeb_change.specs.Conditions.{conditions}
-use Rattle.zeb_change.specs.Base.{Base}
-use Rattle.zeb_image.specs.Image.{Keeps}
-use Rattle.zeb_image.specs.NameOf.{name_bytes}
+use Rattle.zeb_engine.proofs.Cited.{◌≡◌, Err, IsTrue, List, rules, arith, sym, subst, inl, state, HasCleanDisk, nothing_then, answer_of, conditions, Base, Keeps, name_bytes, Finds, FindSays, RefusesFind, FindOver, HidesUnsaid, FindAnswers, PlanValue, IsPlanOf, PlanReads, version_of}
 use Rattle.zeb_engine.specs.Steps.{ready}
-use Rattle.zeb_engine.specs.PrivateWorks.{Finds}
-use Rattle.zeb_engine.specs.Alone.{FindSays, RefusesFind}
-use Rattle.zeb_engine.specs.AnyTables.{FindOver, HidesUnsaid}
-use Rattle.zeb_engine.specs.Steps.{FindAnswers}
-use Rattle.zeb_query.specs.Plans.{PlanValue}
-use Rattle.zeb_engine.specs.Reads.{IsPlanOf, PlanReads}
 use Rattle.zeb_engine.proofs.ReadyQueries.{alone_after, ready_asked, refused_after, unready_asked}
 use Rattle.zeb_engine.proofs.AskedReads.{told_after}
 use Rattle.zeb_engine.proofs.ReadyCommands.{ready_met}
@@ -21,7 +7,6 @@ use Rattle.zeb_engine.proofs.HiddenRows.{hidden_after, unready_hidden}
 use Rattle.zeb_engine.proofs.ServesLemmas.{keeps_still}
 use Rattle.zeb_engine.proofs.StoreCauses.{accepted_leaves, cause_after, passed_cause}
 use Rattle.zeb_engine.proofs.session.Session.find.Goals as goal
-use Rattle.zeb_register.specs.Formats.{version_of}
 use Rattle.zeb_engine.proofs.ReadyTexts.{passed_texts, ready_then, unready_fails}
 
 pub returns-in_err-check_ready-clause-serves : goal.returns-in_err-check_ready-clause-serves

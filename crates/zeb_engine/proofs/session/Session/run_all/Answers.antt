@@ -1,22 +1,9 @@
-use Rattle.std.proofs.Common.{◌≡◌, ◌∙◌, ◌++◌, ◌∷◌, ◌+◌, [], rules, arith, sym, ap, ap₂, map, take, subst, subst₂}
-use Rattle.std.specs.List.{AllByRecursion}
-use Rattle.std.specs.Result.{IsErr}
-use Rattle.std.proofs.lemmas.List.{take_more, map-append}
-use Rattle.sqlite.specs.Held.{state}
-use Rattle.sqlite.specs.State.{HasCleanDisk, Survives}
-use Rattle.sqlite.proofs.StateLemmas.{survives_then}
-use Rattle.zeb_query.proofs.HoldingLemmas.{take_whole}
-use Rattle.zeb_engine.specs.Answers.{answer_of}
-use Rattle.zeb_change.specs.Conditions.{conditions}
-use Rattle.zeb_engine.specs.Crashes.{CommitsCommand, CommitsOne, EnduresRun}
-use Rattle.zeb_engine.specs.AnyAnswers.{CommandOverTables}
-use Rattle.zeb_engine.specs.Works.{FindOpen, InTurn, Runs, ServesCommand}
+use Rattle.zeb_engine.proofs.Cited.{◌≡◌, ◌∙◌, ◌++◌, ◌∷◌, ◌+◌, [], rules, arith, sym, ap, ap₂, map, take, subst, subst₂, AllByRecursion, IsErr, take_more, map-append, state, HasCleanDisk, Survives, survives_then, take_whole, answer_of, conditions, CommitsCommand, CommitsOne, EnduresRun, CommandOverTables, FindOpen, InTurn, Runs, ServesCommand, version_of}
 use Rattle.zeb_engine.proofs.RunCommits.{carries, commits_earlier, commits_latest}
 use Rattle.zeb_engine.proofs.RunCrashes.{crash_more}
 use Rattle.zeb_engine.proofs.RunLemmas.{one_turn_more, open_before, open_more, refused_more, runs_more}
 use Rattle.zeb_engine.proofs.CommandedConnections.{did, did_endure, did_refuse}
 use Rattle.zeb_engine.proofs.session.Session.run_all.Goals as goal
-use Rattle.zeb_register.specs.Formats.{version_of}
 
 pub loop-command-preserved : goal.loop-command-preserved
 loop-command-preserved g c =
@@ -48,9 +35,10 @@ loop-command-preserved g c =
           refused_more old now next c.loop-command.answers.items c.command.result was (did_refuse item now next c.command.result clean it) (subst (AllByRecursion IsErr) c.push_reserved.ensures.items all);
       turns = λ clean.
           let was = c.loop-command.invariant.turns (omega (arith, c.command.ensures.survives.clean)) in
-          let Does = CommandOverTables g.L.Layout.format k in
+          let Does = CommandOverTables g.L.Layout.format g.L.Layout.row_work g.L.Layout.block_rows k in
+          let work = c.command.new.self.work in
           let under : of c.loop-command.self.profile c.loop-command.self.limits ≡ k = ap₂ of same.0 same.1 in
-          let does : CommandOverTables g.L.Layout.format (of c.loop-command.self.profile c.loop-command.self.limits) item c.command.result now next = record {
+          let does : CommandOverTables g.L.Layout.format g.L.Layout.row_work g.L.Layout.block_rows (of c.loop-command.self.profile c.loop-command.self.limits) item c.command.result now next work = record {
             leaves = record {
               refused = did_refuse item now next c.command.result clean it;
               asks = c.command.ensures.reads clean;
@@ -60,15 +48,15 @@ loop-command-preserved g c =
               upgraded = c.command.ensures.upgraded clean;
               loses = c.command.ensures.loses clean;
               makes = c.command.ensures.makes clean;
-              caused = c.command.ensures.caused clean;
-              room = c.command.ensures.room clean;
             };
             stays = c.command.ensures.stays clean;
             analysed = c.command.ensures.analysed;
             over = c.command.ensures.over clean;
+            counts = c.command.ensures.counts;
           } in
-          subst₂ (λ commands results. InTurn g.S.Store Does commands results c.args.self.now.connection c.command.new.self.connection) (sym last) (sym c.push_reserved.ensures.items)
-          (one_turn_more g.S.Store Does c.args.self.now.connection c.loop-command.self.connection c.command.new.self.connection item c.command.result (subst (λ conditions. CommandOverTables g.L.Layout.format conditions item c.command.result now next) under does) (take index all) c.loop-command.answers.items was);
+          subst₂ (λ commands results. InTurn g.S.Store Does commands results c.args.self.now.connection c.args.self.now.work c.command.new.self.connection work) (sym last) (sym c.push_reserved.ensures.items)
+          (one_turn_more g.S.Store Does c.args.self.now.connection c.loop-command.self.connection c.command.new.self.connection c.args.self.now.work c.loop-command.self.work work item c.command.result
+          (subst (λ conditions. CommandOverTables g.L.Layout.format g.L.Layout.row_work g.L.Layout.block_rows conditions item c.command.result now next work) under does) (take index all) c.loop-command.answers.items was);
       was_open = λ clean.
           open_before old now next item c.command.result clean (c.loop-command.invariant.was_open (omega (arith, c.command.ensures.survives.clean))) it;
       «open» = λ clean.
@@ -121,5 +109,6 @@ returns-clause-open g c clean =
 pub returns-clause-turns : goal.returns-clause-turns
 returns-clause-turns g c clean =
     let whole : take c.loop-command.command-index c.args.commands.now ≡ c.args.commands.now = take_whole c.args.commands.now c.loop-command.command-index (omega arith) in
-    subst (λ commands. InTurn g.S.Store (CommandOverTables g.L.Layout.format (conditions (version_of g.L.Layout.format) c.args.self.now.profile c.args.self.now.limits)) commands c.loop-command.answers.items c.args.self.now.connection c.loop-command.self.connection) whole
+    subst (λ commands. InTurn g.S.Store (CommandOverTables g.L.Layout.format g.L.Layout.row_work g.L.Layout.block_rows (conditions (version_of g.L.Layout.format) c.args.self.now.profile c.args.self.now.limits))
+    commands c.loop-command.answers.items c.args.self.now.connection c.args.self.now.work c.loop-command.self.connection c.loop-command.self.work) whole
     (c.loop-command.invariant.turns clean)

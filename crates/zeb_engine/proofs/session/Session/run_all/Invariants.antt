@@ -1,16 +1,5 @@
-use Rattle.std.proofs.Common.{◌≡◌, ◌≤◌, IsTrue, map, length, take, vec_capacity}
-use Rattle.std.specs.List.{AllByRecursion}
-use Rattle.std.specs.Result.{IsErr}
-use Rattle.sqlite.specs.Held.{state}
-use Rattle.sqlite.specs.State.{HasCleanDisk, Survives}
-use Rattle.zeb_register.specs.Calls.{ChangesNothing}
-use Rattle.zeb_engine.specs.Answers.{answer_of}
-use Rattle.zeb_change.specs.Conditions.{conditions}
-use Rattle.zeb_engine.specs.Crashes.{CommitsOne, EnduresRun}
-use Rattle.zeb_engine.specs.AnyAnswers.{CommandOverTables}
-use Rattle.zeb_engine.specs.Works.{FindOpen, InTurn, Runs}
+use Rattle.zeb_engine.proofs.Cited.{◌≡◌, ◌≤◌, IsTrue, map, length, take, vec_capacity, AllByRecursion, IsErr, state, HasCleanDisk, Survives, ChangesNothing, answer_of, conditions, CommitsOne, EnduresRun, CommandOverTables, FindOpen, InTurn, Runs, version_of}
 use Rattle.zeb_engine.proofs.session.Session.run_all.Given as goal
-use Rattle.zeb_register.specs.Formats.{version_of}
 
 abbrev pub invariant-loop-command : goal.invariant-loop-command
 invariant-loop-command g l =
@@ -23,7 +12,8 @@ invariant-loop-command g l =
       survives : Survives old now
           (CommitsOne (conditions (version_of g.L.Layout.format) l.fn.self.profile l.fn.self.limits) (take l.command-index l.commands) (map answer_of l.answers.items) old);
       refused : HasCleanDisk now → AllByRecursion IsErr l.answers.items → ChangesNothing old now;
-      turns : HasCleanDisk now → InTurn g.S.Store (CommandOverTables g.L.Layout.format (conditions (version_of g.L.Layout.format) l.fn.self.profile l.fn.self.limits)) (take l.command-index l.commands) l.answers.items l.fn.self.connection l.self.connection;
+      turns : HasCleanDisk now → InTurn g.S.Store (CommandOverTables g.L.Layout.format g.L.Layout.row_work g.L.Layout.block_rows (conditions (version_of g.L.Layout.format) l.fn.self.profile l.fn.self.limits))
+          (take l.command-index l.commands) l.answers.items l.fn.self.connection l.fn.self.work l.self.connection l.self.work;
       was_open : HasCleanDisk now → IsTrue now.is_open → IsTrue old.is_open;
       «open» : HasCleanDisk now → FindOpen (take l.command-index l.commands) l.answers.items old now;
       crash : HasCleanDisk now

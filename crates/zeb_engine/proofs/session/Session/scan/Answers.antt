@@ -1,21 +1,5 @@
-use Rattle.std.proofs.Common.{◌≡◌, ◌≤◌, ◌*◌, ◌+◌, ℕ, Err, IsTrue, List, rules, arith, sym, subst}
-use Rattle.sqlite.specs.Held.{state}
-use Rattle.sqlite.specs.State.{HasCleanDisk}
-use Rattle.sqlite.specs.Tree.{Trees}
-use Rattle.zeb_profile.specs.declared.directives.Directive.{Directive}
-use Rattle.zeb_register.proofs.Calls.{nothing_then}
-use Rattle.zeb_engine.specs.declared.scan.Around.{Around}
-use Rattle.zeb_engine.specs.Answers.{Answer, answer_of}
-use Rattle.zeb_change.specs.Conditions.{conditions}
-use Rattle.zeb_change.specs.Base.{Base}
-use Rattle.zeb_image.specs.Image.{Keeps}
-use Rattle.zeb_image.specs.NameOf.{name_bytes}
-use Rattle.zeb_engine.specs.Alone.{ScanSays}
-use Rattle.zeb_engine.specs.AnyRefusals.{HidesTerms}
-use Rattle.zeb_engine.specs.AnyTables.{ScanOver}
-use Rattle.zeb_engine.specs.Steps.{ScanAnswers}
+use Rattle.zeb_engine.proofs.Cited.{◌≡◌, ◌≤◌, ◌*◌, ◌+◌, ℕ, Err, IsTrue, List, rules, arith, sym, subst, state, HasCleanDisk, Trees, Directive, nothing_then, Around, Answer, answer_of, conditions, Base, Keeps, name_bytes, ScanSays, HidesTerms, ScanOver, ScanAnswers, ScansFrom, Format, version_of, CountsAtMost}
 use Rattle.zeb_engine.specs.Steps.{ready}
-use Rattle.zeb_engine.specs.PrivateWorks.{ScansFrom}
 use Rattle.zeb_engine.proofs.ReadyCommands.{ready_met}
 use Rattle.zeb_engine.proofs.ReadyQueries.{alone_after, ready_asked, unready_asked}
 use Rattle.zeb_engine.proofs.AskedReads.{told_after}
@@ -23,8 +7,6 @@ use Rattle.zeb_engine.proofs.HiddenRows.{hidden_after, unready_hidden}
 use Rattle.zeb_engine.proofs.ServesLemmas.{keeps_still}
 use Rattle.zeb_engine.proofs.StoreCauses.{accepted_leaves, cause_after, passed_cause}
 use Rattle.zeb_engine.proofs.session.Session.scan.Goals as goal
-use Rattle.zeb_register.specs.Formats.{Format, version_of}
-use Rattle.zeb_search.specs.SearchCounts.{CountsAtMost}
 use Rattle.zeb_engine.proofs.ReadyTexts.{passed_texts, ready_then}
 
 -- what is answered on any tables, and which rows can't be read where it is damage

@@ -1,19 +1,11 @@
-use Rattle.std.proofs.Common.{refl, ◌≡◌, Err, rules, arith}
-use Rattle.sqlite.specs.Held.{state}
-use Rattle.sqlite.specs.State.{HasCleanDisk}
-use Rattle.zeb_change.specs.Conditions.{conditions}
-use Rattle.zeb_image.specs.NameOf.{name_bytes}
+use Rattle.zeb_engine.proofs.Cited.{refl, ◌≡◌, Err, rules, arith, state, HasCleanDisk, conditions, name_bytes, DropOver, HidesDatabase, version_of}
 use Rattle.zeb_engine.specs.Steps.{dropped}
-use Rattle.zeb_engine.specs.AnyRefusals.{DropOver, HidesDatabase}
 use Rattle.zeb_engine.proofs.MadeTables.{drops_ready}
 use Rattle.zeb_engine.proofs.HiddenRows.{hidden_after, unready_hidden}
 use Rattle.zeb_engine.proofs.ReadyCommands.{ready_kept, unready_serves}
 use Rattle.zeb_engine.proofs.CommitCrashes.{survives_after}
 use Rattle.zeb_engine.proofs.session.Session.take.Goals as goal
-use Rattle.zeb_register.specs.Formats.{version_of}
 use Rattle.zeb_engine.proofs.ReadyTexts.{passed_texts, ready_then}
-use Rattle.zeb_engine.proofs.StoreCauses.{accepted_leaves, passed_cause}
-use Rattle.zeb_engine.proofs.WriteCauses.{cause_over, over_after}
 
 pub returns-in_err-check_ready-clause-serves : goal.returns-in_err-check_ready-clause-serves
 returns-in_err-check_ready-clause-serves g c clean =
@@ -48,21 +40,6 @@ pub returns-clause-ready : goal.returns-clause-ready
 returns-clause-ready g c clean =
     let first : HasCleanDisk (state g.S.Store c.check_ready.new.connection) = omega (arith, c.drop_database.ensures.survives.clean) in
     ready_then (version_of g.L.Layout.format) c.args.self.now.profile {X = Unit {0}} (state g.S.Store c.args.self.now.connection) tt (c.in_ok-check_ready.ensures.texts first) c.drop_database.result c.drop_database.ensures.ready
-
-pub returns-in_err-check_ready-clause-caused : goal.returns-in_err-check_ready-clause-caused
-returns-in_err-check_ready-clause-caused g c clean =
-    let old = state g.S.Store c.args.self.now.connection in
-    let mid = state g.S.Store c.check_ready.new.connection in
-    let result = c.from_residual.result in
-    cause_over (λ _. ⊥) old mid result (passed_cause old mid c.in_err-check_ready.field-0.0 result (search rules) (c.in_err-check_ready.ensures.caused clean))
-
-pub returns-clause-caused : goal.returns-clause-caused
-returns-clause-caused g c clean =
-    let old = state g.S.Store c.args.self.now.connection in
-    let mid = state g.S.Store c.check_ready.new.connection in
-    let first : HasCleanDisk mid = omega (arith, c.drop_database.ensures.survives.clean) in
-    let looked = accepted_leaves old mid c.check_ready.ensures.crash (c.in_ok-check_ready.ensures.open first) (c.check_ready.ensures.same first) in
-    over_after (λ _. ⊥) old (state g.S.Store c.drop_database.new.connection) mid looked c.drop_database.result (c.drop_database.ensures.caused clean)
 
 -- ---- on any tables
 

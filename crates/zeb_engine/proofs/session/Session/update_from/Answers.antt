@@ -1,12 +1,6 @@
-use Rattle.std.proofs.Common.{◌∙◌, rules, sym, ap, IsTrue}
-use Rattle.sqlite.specs.Effect.{Database}
-use Rattle.sqlite.specs.Held.{state}
-use Rattle.zeb_change.specs.Conditions.{conditions}
-use Rattle.zeb_image.specs.NameOf.{name_bytes}
-use Rattle.zeb_engine.specs.Steps.{TakesFiles}
+use Rattle.zeb_engine.proofs.Cited.{◌∙◌, rules, sym, ap, IsTrue, Database, state, conditions, name_bytes, TakesFiles, version_of}
 use Rattle.zeb_engine.proofs.CommitCrashes.{endures, survives_as}
 use Rattle.zeb_engine.proofs.session.Session.update_from.Goals as goal
-use Rattle.zeb_register.specs.Formats.{version_of}
 
 pub returns-clause-crash : goal.returns-clause-crash
 returns-clause-crash g c = λ clean texts told fine.

@@ -1,8 +1,5 @@
 -- The first entry's field comes, and those of the others are left.
-use Rattle.std.proofs.Common.{◌≡◌, ◌≤◌, ◌∙◌, ap, length, take, List, ℕ, arith}
-use Rattle.zeb_marc.specs.Fields.{field_text}
-use Rattle.zeb_marc.specs.Directory.{field_of}
-use Rattle.zeb_marc.specs.PrivateDirectory.{entry_of}
+use Rattle.zeb_marc.proofs.Cited.{◌≡◌, ◌≤◌, ◌∙◌, ap, length, take, List, ℕ, arith, field_text, field_of, entry_of}
 use Rattle.zeb_marc.proofs.Entries.{others_are_sound, fields_in-more}
 use Rattle.zeb_marc.proofs.directory.FieldsIterator.next.Goals as goal
 

@@ -1,8 +1,5 @@
 -- Each exit is the first check that fails, and without one the fields are those of the whole text.
-use Rattle.std.proofs.Common.{◌≡◌, ◌-◌, ◌∙◌, ap, length, length-take, length-drop, take, drop, List, ℕ, arith}
-use Rattle.std.proofs.lemmas.Result.{err_from_is_err_and}
-use Rattle.zeb_marc.specs.Leader.{base_address}
-use Rattle.zeb_marc.specs.Records.{data_area, directory_of}
+use Rattle.zeb_marc.proofs.Cited.{◌≡◌, ◌-◌, ◌∙◌, ap, length, length-take, length-drop, take, drop, List, ℕ, arith, err_from_is_err_and, base_address, data_area, directory_of}
 use Rattle.zeb_marc.proofs.RecordChecks.{first_fault-announced, first_fault-cut, first_fault-long, first_fault-layout, first_fault-cut_out, IsRecord-from_parts}
 use Rattle.zeb_marc.proofs.records.Marc.read.Goals as goal
 

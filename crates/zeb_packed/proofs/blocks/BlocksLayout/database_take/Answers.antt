@@ -1,5 +1,4 @@
-use Rattle.std.proofs.lemmas.Result.{IfOk-weaker}
-use Rattle.zeb_register.specs.Formats.{packed_blocks}
+use Rattle.zeb_packed.proofs.Cited.{IfOk-weaker, packed_blocks}
 use Rattle.zeb_packed.proofs.blocks.BlocksLayout.database_take.Goals as goal
 
 pub returns-clause-taken : goal.returns-clause-taken

@@ -1,6 +1,4 @@
-use Rattle.zeb_register.specs.declared.registers.RecordChange.{RecordChange}
-use Rattle.zeb_register.proofs.Calls.{on_ok_both, on_ok_so}
-use Rattle.zeb_register.proofs.ListChanges.{change_alone, changed_alone}
+use Rattle.zeb_packed.proofs.Cited.{RecordChange, on_ok_both, on_ok_so, change_alone, changed_alone}
 use Rattle.zeb_packed.proofs.blocks.BlocksLayout.key_change.Goals as goal
 
 pub returns-clause-change : goal.returns-clause-change
@@ -23,6 +21,3 @@ returns-clause-damaged g c clean inside store is rises content storable holds ha
     let change : RecordChange = record { sysno = c.args.sysno; old = c.args.old; new = c.args.new } in
     let after = change_alone c.args.db.0 c.args.key.now change content holds.rising had in
     c.key_changes.ensures.damaged clean inside store is (rises, tt) content storable holds after.0 after.1
-
-pub returns-clause-sound : goal.returns-clause-sound
-returns-clause-sound g c clean inside store = on_ok_so c.key_changes.result _ _ (λ sound. sound (λ none. cc)) (c.key_changes.ensures.sound clean inside store)

@@ -1,10 +1,4 @@
-use Rattle.std.proofs.Common.{rules, reverse, sym, subst}
-use Rattle.sqlite.specs.Held.{state}
-use Rattle.sqlite_rules.specs.Lists.{Has}
-use Rattle.zeb_register.specs.Content.{posted}
-use Rattle.zeb_register.specs.Occurring.{AreTermsBefore, last}
-use Rattle.zeb_register.specs.Sound.{TellTerms}
-use Rattle.zeb_register.proofs.TermLists.{has_taken}
+use Rattle.zeb_packed.proofs.Cited.{rules, reverse, sym, subst, state, Has, posted, AreTermsBefore, last, TellTerms, has_taken}
 use Rattle.zeb_packed.proofs.PackedTerms.{before_read, first_taken, has_last, reversed_list, rows_counted, tell_last}
 use Rattle.zeb_packed.proofs.blocks.BlocksLayout.terms_before.Goals as goal
 

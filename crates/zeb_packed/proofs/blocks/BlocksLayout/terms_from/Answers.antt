@@ -1,8 +1,4 @@
-use Rattle.std.proofs.Common.{rules, ◌∙◌, ap, take, subst, sym}
-use Rattle.sqlite.specs.Held.{state}
-use Rattle.sqlite_rules.specs.Lists.{Has}
-use Rattle.zeb_register.proofs.ContentLemmas.{one_list}
-use Rattle.zeb_register.proofs.TermLists.{has_taken}
+use Rattle.zeb_packed.proofs.Cited.{rules, ◌∙◌, ap, take, subst, sym, state, Has, one_list, has_taken}
 use Rattle.zeb_packed.proofs.PackedTerms.{first_taken, from_read, rows_counted, tell_first}
 use Rattle.zeb_packed.proofs.blocks.BlocksLayout.terms_from.Goals as goal
 

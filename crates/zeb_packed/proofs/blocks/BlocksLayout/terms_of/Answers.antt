@@ -1,10 +1,4 @@
-use Rattle.std.proofs.Common.{rules, ◌∙◌, ap, map, subst, sym}
-use Rattle.sqlite.specs.Held.{state}
-use Rattle.sqlite_rules.specs.Lists.{Has}
-use Rattle.zeb_register.specs.Sql.{IsListOf}
-use Rattle.zeb_register.specs.Store.{IsRest, dict_tree}
-use Rattle.zeb_register.specs.PlainRows.{register_front}
-use Rattle.zeb_register.specs.PackedBlocks.{first_two}
+use Rattle.zeb_packed.proofs.Cited.{rules, ◌∙◌, ap, map, subst, sym, state, Has, IsListOf, IsRest, dict_tree, register_front, first_two}
 use Rattle.zeb_packed.proofs.PackedTerms.{terms_read, rows_counted}
 use Rattle.zeb_packed.proofs.blocks.BlocksLayout.terms_of.Goals as goal
 

@@ -1,29 +1,6 @@
-use Rattle.std.proofs.Common.{rules, ◌≡◌, ◌∙◌, ◌+◌, ◌*◌, ℕ, List, length, map, take, get_or, refl, sym, ap, subst, inl, inr, arith}
-use Rattle.std.proofs.lemmas.List.{take_all}
-use Rattle.std.proofs.lemmas.List.Sums.{sum_by_more}
-use Rattle.std.specs.List.{sum_by}
-use Rattle.sqlite.specs.Effect.{Database}
-use Rattle.sqlite.specs.Held.{state}
-use Rattle.sqlite.specs.State.{HasCleanDisk}
-use Rattle.sqlite.proofs.Callers.{unchanged_then}
-use Rattle.sqlite_rules.specs.Lists.{Has}
-use Rattle.zeb_register.specs.declared.registers.TermCount.{TermCount}
-use Rattle.zeb_register.specs.declared.registers.Work.{Work}
-use Rattle.zeb_register.specs.Content.{posted}
-use Rattle.zeb_register.specs.Occurring.{capped, key_in}
-use Rattle.zeb_register.specs.PackedBlocks.{AreAllSpelled, HoldsBlocks, IsBlockUnder, blocks_of, first_two}
-use Rattle.zeb_register.specs.PlainRows.{key_row}
-use Rattle.zeb_register.specs.Sql.{IsListOf}
-use Rattle.zeb_register.specs.Tallies.{Rises, Works}
-use Rattle.zeb_register.proofs.Calls.{nothing_then, store_same}
-use Rattle.zeb_register.proofs.CallsInTurn.{quiet_then}
-use Rattle.zeb_register.proofs.Causes.{reasoned_after}
-use Rattle.zeb_register.proofs.ContentLemmas.{has_at, one_list}
-use Rattle.zeb_register.proofs.OccurringLemmas.{one_terms}
+use Rattle.zeb_packed.proofs.Cited.{rules, ◌≡◌, ◌∙◌, ◌+◌, ◌*◌, ℕ, List, length, map, take, get_or, refl, sym, ap, subst, inl, inr, arith, take_all, sum_by_more, sum_by, Database, state, HasCleanDisk, unchanged_then, Has, TermCount, Work, posted, capped, key_in, AreAllSpelled, HoldsBlocks, IsBlockUnder, blocks_of, first_two, key_row, IsListOf, Rises, Works, nothing_then, store_same, quiet_then, reasoned_after, has_at, one_list, one_terms, taken_more, rises_last, rises_then}
 use Rattle.zeb_packed.proofs.PackedTerms.{same_terms}
-use Rattle.zeb_register.proofs.TermRows.{taken_more}
 use Rattle.zeb_packed.proofs.PackedTotals.{list_of, one_text, row_term, spots_in, spots_many, spots_stand, sum_of_all, term_row}
-use Rattle.zeb_register.proofs.CountLemmas.{rises_last, rises_then}
 use Rattle.zeb_packed.proofs.blocks.BlocksLayout.totals.Goals as goal
 
 pub loop-term-init : goal.loop-term-init

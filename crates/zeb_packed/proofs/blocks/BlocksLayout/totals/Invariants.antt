@@ -1,18 +1,4 @@
-use Rattle.std.proofs.Common.{◌≡◌, ◌⊎◌, ◌<◌, ◌^◌, ℕ, List, false, length, take}
-use Rattle.std.specs.List.{sum_by}
-use Rattle.sqlite.specs.Held.{state}
-use Rattle.sqlite.specs.Order.{Row}
-use Rattle.sqlite.specs.State.{HasCleanDisk, IsUnchanged, Survives}
-use Rattle.sqlite_rules.specs.Lists.{Has}
-use Rattle.zeb_register.specs.declared.registers.TermCount.{TermCount}
-use Rattle.zeb_register.specs.Calls.{ChangesNothing}
-use Rattle.zeb_register.specs.Content.{Content}
-use Rattle.zeb_register.specs.Occurring.{capped, key_in}
-use Rattle.zeb_register.specs.PackedBlocks.{AreAllSpelled, HoldsBlocks, IsBlockUnder, blocks_of}
-use Rattle.zeb_register.specs.PlainRows.{key_row}
-use Rattle.zeb_register.specs.Sql.{IsListOf}
-use Rattle.zeb_register.specs.Store.{IsStore}
-use Rattle.zeb_register.specs.Tallies.{Rises}
+use Rattle.zeb_packed.proofs.Cited.{◌≡◌, ◌⊎◌, ◌<◌, ◌^◌, ℕ, List, false, length, take, sum_by, state, Row, HasCleanDisk, IsUnchanged, Survives, Has, TermCount, ChangesNothing, Content, capped, key_in, AreAllSpelled, HoldsBlocks, IsBlockUnder, blocks_of, key_row, IsListOf, IsStore, Rises}
 use Rattle.zeb_packed.proofs.blocks.BlocksLayout.totals.Given as goal
 
 abbrev pub invariant-loop-term : goal.invariant-loop-term

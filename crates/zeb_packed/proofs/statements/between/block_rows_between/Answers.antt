@@ -1,12 +1,5 @@
-use Rattle.std.proofs.Common.{rules, pos}
-use Rattle.std.proofs.lemmas.Result.{IfErr-weaker}
-use Rattle.zeb_keys.specs.Registers.{register_code}
-use Rattle.zeb_register.specs.PrivateBetweenRows.{IsRestBetween}
-use Rattle.zeb_register.specs.Store.{blocks_tree}
+use Rattle.zeb_packed.proofs.Cited.{rules, pos, IfErr-weaker, register_code, IsRestBetween, blocks_tree, lists, nothing, quiet, column_is, register_of}
 use Rattle.zeb_packed.proofs.BetweenStatements.{lists_blocks, blocks_refused, blocks_silent}
-use Rattle.zeb_register.proofs.Calls.{lists, nothing, quiet}
-use Rattle.zeb_register.proofs.Columns.{column_is}
-use Rattle.zeb_register.proofs.PostingStatements.{register_of}
 use Rattle.zeb_packed.proofs.statements.between.block_rows_between.Goals as goal
 
 pub returns-clause-call : goal.returns-clause-call

@@ -1,10 +1,5 @@
-use Rattle.std.proofs.lemmas.Result.{IfErr-weaker}
-use Rattle.zeb_keys.specs.Registers.{register_code}
-use Rattle.zeb_register.proofs.Calls.{lists, nothing, quiet}
+use Rattle.zeb_packed.proofs.Cited.{IfErr-weaker, register_code, lists, nothing, quiet, rules, pos, IsRest, blocks_tree, key_of, column_is}
 use Rattle.zeb_packed.proofs.PackedStatements.{blocks_refused, lists_blocks, key_silent}
-use Rattle.std.proofs.Common.{rules, pos}
-use Rattle.zeb_register.specs.Store.{IsRest, blocks_tree, key_of}
-use Rattle.zeb_register.proofs.Columns.{column_is}
 use Rattle.zeb_packed.proofs.statements.packed.block_rows.Goals as goal
 
 pub returns-clause-call : goal.returns-clause-call

@@ -1,11 +1,5 @@
-use Rattle.std.proofs.lemmas.Result.{IfErr-weaker}
-use Rattle.zeb_keys.specs.Registers.{register_code}
-use Rattle.zeb_register.proofs.Calls.{lists, nothing, quiet}
+use Rattle.zeb_packed.proofs.Cited.{IfErr-weaker, register_code, lists, nothing, quiet, register_of, rules, pos, IsRest, dict_tree, column_is}
 use Rattle.zeb_packed.proofs.PackedStatements.{lists_terms, terms_refused, terms_silent}
-use Rattle.zeb_register.proofs.PostingStatements.{register_of}
-use Rattle.std.proofs.Common.{rules, pos}
-use Rattle.zeb_register.specs.Store.{IsRest, dict_tree}
-use Rattle.zeb_register.proofs.Columns.{column_is}
 use Rattle.zeb_packed.proofs.statements.packed.dict_rows.Goals as goal
 
 pub returns-clause-call : goal.returns-clause-call

@@ -1,17 +1,5 @@
-use Rattle.std.proofs.lemmas.Result.{IfErr-weaker}
-use Rattle.std.proofs.Math.Facts.{to_z-of_z}
-use Rattle.std.proofs.Common.{◌≡◌, rules, pos, List}
-use Rattle.sqlite.specs.declared.types.Value.TheVariants.{Int}
-use Rattle.sqlite.specs.Order.{Row}
-use Rattle.sqlite_sql.specs.Query.{as_count, limited}
-use Rattle.zeb_keys.specs.Registers.{register_code}
-use Rattle.zeb_register.specs.PackedBlocks.{IsRestFrom}
-use Rattle.zeb_register.specs.Sql.{IsListOf}
-use Rattle.zeb_register.specs.Store.{dict_tree}
-use Rattle.zeb_register.proofs.Calls.{read_so, nothing, quiet}
+use Rattle.zeb_packed.proofs.Cited.{IfErr-weaker, to_z-of_z, ◌≡◌, rules, pos, List, Int, Row, as_count, limited, register_code, IsRestFrom, IsListOf, dict_tree, read_so, nothing, quiet, register_of, column_is}
 use Rattle.zeb_packed.proofs.PackedStatements.{from_refused, lists_from, from_silent}
-use Rattle.zeb_register.proofs.PostingStatements.{register_of}
-use Rattle.zeb_register.proofs.Columns.{column_is}
 use Rattle.zeb_packed.proofs.statements.packed.dict_rows_from.Goals as goal
 
 pub returns-clause-call : goal.returns-clause-call

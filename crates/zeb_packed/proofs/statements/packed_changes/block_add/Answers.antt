@@ -1,11 +1,6 @@
-use Rattle.std.proofs.Common.{rules, pos}
-use Rattle.std.proofs.Math.Facts.{to_z-of_z}
-use Rattle.zeb_keys.specs.Registers.{register_code}
-use Rattle.zeb_register.proofs.Calls.{alters, refused_keeps}
-use Rattle.zeb_register.proofs.CallsInTurn.{violated}
-use Rattle.zeb_packed.proofs.PackedOld.{alone_where_added}
-use Rattle.zeb_packed.proofs.PackedRowStatements.{add_block_refused, add_block_takes, add_block_unbroken, adds_block}
-use Rattle.zeb_register.proofs.Columns.{column_is}
+use Rattle.zeb_packed.proofs.Cited.{rules, pos, to_z-of_z, register_code, alters, refused_keeps, violated, column_is}
+use Rattle.zeb_packed.proofs.AddedBlocks.{alone_where_added}
+use Rattle.zeb_packed.proofs.PackedRowStatements.{adds_block}
 use Rattle.zeb_packed.proofs.statements.packed_changes.block_add.Goals as goal
 
 pub returns-clause-call : goal.returns-clause-call
@@ -20,12 +15,3 @@ returns-clause-alone g c clean inside store = alone_where_added c.args.at.db.0 (
 
 pub returns-clause-violated : goal.returns-clause-violated
 returns-clause-violated g c clean inside = violated _ _ _ _ c.execute.result (c.execute.ensures.runs clean inside) inside
-
-pub returns-clause-refused : goal.returns-clause-refused
-returns-clause-refused g c clean inside store = add_block_refused c.args.at.db.0 (pos c.args.at.key.now.index) (pos (register_code c.args.at.key.now.register)) c.args.at.key.now.term c.args.number c.args.bytes.now _ _ c.execute.result store (simp (c.params-to_sql.ensures, c.params-to_sql-2.ensures, c.params-to_sql-3.ensures, c.params-to_sql-4.ensures, c.params-to_sql-5.ensures, c.params-to_sql-6.ensures, to_z-of_z, column_is c.column-db.ensures.fits c.column-db.ensures.value, c.from-reg.ensures, c.code.ensures, c.as_str-term.ensures, c.ranges.number) at (c.execute.ensures.runs clean inside))
-
-pub returns-clause-rowids : goal.returns-clause-rowids
-returns-clause-rowids g c clean inside store = add_block_takes c.args.at.db.0 (pos c.args.at.key.now.index) (pos (register_code c.args.at.key.now.register)) c.args.at.key.now.term c.args.number c.args.bytes.now _ _ c.execute.result store (simp (c.params-to_sql.ensures, c.params-to_sql-2.ensures, c.params-to_sql-3.ensures, c.params-to_sql-4.ensures, c.params-to_sql-5.ensures, c.params-to_sql-6.ensures, to_z-of_z, column_is c.column-db.ensures.fits c.column-db.ensures.value, c.from-reg.ensures, c.code.ensures, c.as_str-term.ensures, c.ranges.number) at (c.execute.ensures.runs clean inside))
-
-pub returns-clause-unbroken : goal.returns-clause-unbroken
-returns-clause-unbroken g c clean inside store = add_block_unbroken c.args.at.db.0 (pos c.args.at.key.now.index) (pos (register_code c.args.at.key.now.register)) c.args.at.key.now.term c.args.number c.args.bytes.now _ _ c.execute.result store (simp (c.params-to_sql.ensures, c.params-to_sql-2.ensures, c.params-to_sql-3.ensures, c.params-to_sql-4.ensures, c.params-to_sql-5.ensures, c.params-to_sql-6.ensures, to_z-of_z, column_is c.column-db.ensures.fits c.column-db.ensures.value, c.from-reg.ensures, c.code.ensures, c.as_str-term.ensures, c.ranges.number) at (c.execute.ensures.runs clean inside))

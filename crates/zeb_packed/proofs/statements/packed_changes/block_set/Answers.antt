@@ -1,9 +1,5 @@
-use Rattle.std.proofs.Common.{rules, pos}
-use Rattle.std.proofs.Math.Facts.{to_z-of_z}
-use Rattle.zeb_keys.specs.Registers.{register_code}
-use Rattle.zeb_register.proofs.Calls.{alters, refused_keeps}
-use Rattle.zeb_packed.proofs.PackedRowStatements.{set_block_refused, set_block_takes, sets_block}
-use Rattle.zeb_register.proofs.Columns.{column_is}
+use Rattle.zeb_packed.proofs.Cited.{rules, pos, to_z-of_z, register_code, alters, refused_keeps, column_is}
+use Rattle.zeb_packed.proofs.PackedRowStatements.{sets_block}
 use Rattle.zeb_packed.proofs.statements.packed_changes.block_set.Goals as goal
 
 pub returns-clause-call : goal.returns-clause-call
@@ -12,9 +8,3 @@ returns-clause-call g c = record {
   err = λ clean inside. refused_keeps _ _ _ _ c.execute.result (c.execute.ensures.runs clean inside);
   crash = search rules;
 }
-
-pub returns-clause-refused : goal.returns-clause-refused
-returns-clause-refused g c clean inside store = set_block_refused c.args.at.db.0 (pos c.args.at.key.now.index) (pos (register_code c.args.at.key.now.register)) c.args.at.key.now.term c.args.number c.args.bytes.now _ _ c.execute.result store (simp (c.params-to_sql.ensures, c.params-to_sql-2.ensures, c.params-to_sql-3.ensures, c.params-to_sql-4.ensures, c.params-to_sql-5.ensures, c.params-to_sql-6.ensures, to_z-of_z, column_is c.column-db.ensures.fits c.column-db.ensures.value, c.from-reg.ensures, c.code.ensures, c.as_str-term.ensures, c.ranges.number) at (c.execute.ensures.runs clean inside))
-
-pub returns-clause-rowids : goal.returns-clause-rowids
-returns-clause-rowids g c clean inside store = set_block_takes c.args.at.db.0 (pos c.args.at.key.now.index) (pos (register_code c.args.at.key.now.register)) c.args.at.key.now.term c.args.number c.args.bytes.now _ _ c.execute.result store (simp (c.params-to_sql.ensures, c.params-to_sql-2.ensures, c.params-to_sql-3.ensures, c.params-to_sql-4.ensures, c.params-to_sql-5.ensures, c.params-to_sql-6.ensures, to_z-of_z, column_is c.column-db.ensures.fits c.column-db.ensures.value, c.from-reg.ensures, c.code.ensures, c.as_str-term.ensures, c.ranges.number) at (c.execute.ensures.runs clean inside))

@@ -1,11 +1,5 @@
-use Rattle.std.proofs.lemmas.Result.{IfErr-weaker}
-use Rattle.zeb_register.proofs.Refusals.{not_late}
-use Rattle.std.proofs.Common.{IsUtf8, rules, pos, subst}
-use Rattle.zeb_keys.specs.Registers.{register_code}
-use Rattle.zeb_register.specs.Store.{IsRest, dict_tree, key_of}
-use Rattle.zeb_register.proofs.Calls.{lists_inside, query_keeps}
-use Rattle.zeb_packed.proofs.PackedRowStatements.{lists_records, records_refused, records_silent}
-use Rattle.zeb_register.proofs.Columns.{column_is}
+use Rattle.zeb_packed.proofs.Cited.{IsUtf8, rules, pos, subst, register_code, IsRest, dict_tree, key_of, lists_inside, query_keeps, column_is}
+use Rattle.zeb_packed.proofs.PackedRowStatements.{lists_records, records_silent}
 use Rattle.zeb_packed.proofs.statements.packed_changes.dict_records.Goals as goal
 
 pub returns-clause-call : goal.returns-clause-call
@@ -18,6 +12,3 @@ returns-clause-call g c = record {
 
 pub returns-clause-text : goal.returns-clause-text
 returns-clause-text g c = subst IsUtf8 c.as_str-term.ensures c.as_str-term.utf8
-
-pub returns-clause-err : goal.returns-clause-err
-returns-clause-err g c clean inside store = IfErr-weaker c.query_all.result _ _ (λ e failed told. records_refused c.args.at.db.0 (pos c.args.at.key.now.index) (pos (register_code c.args.at.key.now.register)) c.args.at.key.now.term _ _ e store told (not_late _ _ _ _ e inside (simp (c.params-to_sql.ensures, c.params-to_sql-2.ensures, c.params-to_sql-3.ensures, c.params-to_sql-4.ensures, column_is c.column-db.ensures.fits c.column-db.ensures.value, c.from-reg.ensures, c.code.ensures, c.as_str-term.ensures) at failed))) (c.query_all.ensures.err clean)

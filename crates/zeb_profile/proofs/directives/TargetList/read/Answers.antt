@@ -1,8 +1,4 @@
-use Rattle.std.proofs.Common.{◌≡◌, [], Bor, List, ℕ, map, true, false, rules, sym, ◌∙◌}
-use Rattle.std.specs.List.{list_any, slice_split}
-use Rattle.std.specs.BTreeSet.{contains}
-use Rattle.std.specs.String.{string_cmp}
-use Rattle.zeb_profile.specs.Words.{same_target, is_comma}
+use Rattle.zeb_profile.proofs.Cited.{◌≡◌, [], Bor, List, ℕ, map, true, false, rules, sym, ◌∙◌, list_any, slice_split, contains, string_cmp, same_target, is_comma}
 use Rattle.zeb_profile.proofs.KnownKeys.{holds_target, holds_target-push, insert_refused, insert_took}
 use Rattle.zeb_profile.proofs.WordReads.{targets_after-again, targets_after-further}
 use Rattle.zeb_profile.proofs.directives.TargetList.read.Goals as goal

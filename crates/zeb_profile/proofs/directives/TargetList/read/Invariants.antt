@@ -1,6 +1,4 @@
-use Rattle.std.proofs.Common.{◌≡◌, [], map, drop}
-use Rattle.zeb_profile.specs.PrivateKeys.{HoldsKeys, target_key}
-use Rattle.zeb_profile.specs.Words.{targets_after}
+use Rattle.zeb_profile.proofs.Cited.{◌≡◌, [], map, drop, HoldsKeys, target_key, targets_after}
 use Rattle.zeb_profile.proofs.directives.TargetList.read.Given as goal
 
 abbrev pub invariant-loop-part : goal.invariant-loop-part

@@ -1,7 +1,5 @@
-use Rattle.std.proofs.Common.{List, subst}
-use Rattle.zeb_profile.specs.declared.directives.Directive.{Directive}
-use Rattle.zeb_profile.specs.Laws.{IsProfile}
+use Rattle.zeb_profile.proofs.Cited.{List, subst, Directive, IsProfile}
 use Rattle.zeb_profile.proofs.lookups.Profile.is_of_some_text.Goals as goal
 
 pub returns : goal.returns
-returns c = subst (λ (directives : List Directive). ∥ IsProfile directives ∥₁) c.self.view_is c.self.invariant.5
+returns c = subst (λ (directives : List Directive). ∥ IsProfile directives ∥₁) c.self.view_is c.self.invariant.6

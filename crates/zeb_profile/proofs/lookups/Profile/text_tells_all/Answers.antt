@@ -1,4 +1,4 @@
-use Rattle.std.proofs.Math.Logic.{∥∥₁_elim}
+use Rattle.zeb_profile.proofs.Cited.{∥∥₁_elim}
 use Rattle.zeb_profile.proofs.ProfilesBack.{one_text_says_the_same}
 use Rattle.zeb_profile.proofs.SaysProps.{SaysTheSame-prop}
 use Rattle.zeb_profile.proofs.lookups.Profile.text_tells_all.Goals as goal

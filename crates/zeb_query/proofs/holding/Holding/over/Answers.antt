@@ -1,7 +1,4 @@
-use Rattle.std.proofs.Common.{sym, ap, ◌∙◌, Some}
-use Rattle.std.specs.Option.{option_map}
-use Rattle.std.specs.Prelude.{string_bytes}
-use Rattle.zeb_query.specs.Grammar.{no_head}
+use Rattle.zeb_query.proofs.Cited.{sym, ap, ◌∙◌, Some, option_map, string_bytes, no_head}
 use Rattle.zeb_query.specs.Attributes.{holding_of}
 use Rattle.zeb_query.proofs.HoldingLemmas.{holding_of-nothing, holding_of-set}
 use Rattle.zeb_query.proofs.holding.Holding.over.Goals as goal

@@ -1,8 +1,5 @@
-use Rattle.std.proofs.Common.{◌≡◌, ◌<◌, ◌≤◌, ◌++◌, sym, ap, subst, ◌∙◌, Some, map, length, get_or, take}
-use Rattle.std.specs.Option.{option_map}
-use Rattle.std.specs.Prelude.{string_bytes}
-use Rattle.zeb_query.specs.Grammar.{attribute_value, inner_type}
-use Rattle.zeb_query.specs.PrivateReading.{holding_value, held_with}
+use Rattle.zeb_query.proofs.Cited.{◌≡◌, ◌<◌, ◌≤◌, ◌++◌, sym, ap, subst, ◌∙◌, Some, length, get_or, take, option_map, string_bytes, attribute_value, inner_type, holding_value, held_with}
+use Rattle.std.proofs.Common.{map}
 use Rattle.zeb_query.specs.Attributes.{holding_of}
 use Rattle.zeb_query.proofs.HoldingLemmas.{holding_of-more, holding_of-type, take_whole}
 use Rattle.zeb_query.proofs.holding.Holding.within.Goals as goal

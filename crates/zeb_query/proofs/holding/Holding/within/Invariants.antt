@@ -1,6 +1,5 @@
-use Rattle.std.proofs.Common.{◌≡◌, ℕ, List, Option, map, take}
-use Rattle.zeb_query.specs.Grammar.{HeadValue, attribute_value}
-use Rattle.zeb_query.specs.PrivateReading.{holding_value}
+use Rattle.zeb_query.proofs.Cited.{◌≡◌, ℕ, List, Option, take, HeadValue, attribute_value, holding_value}
+use Rattle.std.proofs.Common.{map}
 use Rattle.zeb_query.specs.Attributes.{holding_of}
 use Rattle.zeb_query.proofs.HoldingLemmas.{with_more}
 use Rattle.zeb_query.proofs.holding.Holding.within.Given as goal

@@ -1,5 +1,4 @@
-use Rattle.std.proofs.lemmas.Result.{IfOk-weaker}
-use Rattle.zeb_register.specs.Formats.{plain_rows}
+use Rattle.zeb_register.proofs.Cited.{IfOk-weaker, plain_rows}
 use Rattle.zeb_register.proofs.plain.RowsLayout.database_take.Goals as goal
 
 pub returns-clause-taken : goal.returns-clause-taken

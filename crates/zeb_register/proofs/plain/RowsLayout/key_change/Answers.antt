@@ -1,16 +1,7 @@
-use Rattle.std.proofs.Common.{[], ◌∷◌, inl, inr}
-use Rattle.sqlite.specs.Held.{state}
-use Rattle.zeb_register.specs.Hindrances.{IsPlacedAt}
+use Rattle.zeb_register.proofs.Cited.{state, [], ◌∷◌, IsPlacedAt}
 use Rattle.zeb_register.proofs.Calls.{on_ok_so}
 use Rattle.zeb_register.proofs.Malformed.{spelled_same, spells_same}
-use Rattle.zeb_register.proofs.PlaceRefusals.{rows_hinder}
 use Rattle.zeb_register.proofs.plain.RowsLayout.key_change.Goals as goal
-
-pub returns-clause-refused : goal.returns-clause-refused
-returns-clause-refused g c clean inside store told = elim (c.key_change_plain.ensures.refused clean inside store told) [
-  | inl cause ↦ inl cause
-  | inr hinders ↦ inr (rows_hinder c.args.db.0 c.args.key.now ((c.args.sysno, c.args.new.now) ∷ []) (state g.S.Store c.args.tx.now.conn.now).now.trees hinders)
-]
 
 pub returns-clause-spelled : goal.returns-clause-spelled
 returns-clause-spelled g c clean inside store =

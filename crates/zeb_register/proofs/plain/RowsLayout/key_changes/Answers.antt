@@ -1,23 +1,9 @@
-use Rattle.std.proofs.Common.{◌≡◌, ◌≢◌, ◌∙◌, ◌<◌, List, [], ◌∷◌, ap, arith, get_or, inl, inr, length, map, refl, rules, subst, sym, take}
-use Rattle.std.proofs.lemmas.List.{take_all}
-use Rattle.sqlite.specs.Effect.{Database}
-use Rattle.sqlite.specs.Held.{state}
-use Rattle.sqlite.specs.State.{HasCleanDisk}
-use Rattle.sqlite_rules.proofs.ProbeLemmas.{mapped_has}
-use Rattle.sqlite_trees.proofs.ListLemmas.{all-get_or}
-use Rattle.zeb_register.specs.declared.registers.RecordChange.{RecordChange}
-use Rattle.zeb_register.specs.Content.{AreChangedAt}
-use Rattle.zeb_register.specs.Hindrances.{IsPlacedAt, TakesRegisterRowids, placed, rows_of}
-use Rattle.zeb_register.specs.PlainRows.{HoldsRows, key_row}
-use Rattle.zeb_register.specs.Store.{blocks_tree, postings_tree}
+use Rattle.zeb_register.proofs.Cited.{Database, state, HasCleanDisk, mapped_has, all-get_or, ◌≡◌, ◌≢◌, ◌∙◌, ◌<◌, List, [], ◌∷◌, ap, arith, get_or, length, map, refl, rules, subst, sym, take, take_all, RecordChange, AreChangedAt, IsPlacedAt, placed, HoldsRows, key_row, blocks_tree, postings_tree}
 use Rattle.zeb_register.proofs.Calls.{goes_then, reads_goes, store_same}
-use Rattle.zeb_register.proofs.Causes.{may_after}
 use Rattle.zeb_register.proofs.ContentLemmas.{has_get}
 use Rattle.zeb_register.proofs.ContentChanges.{change_is, changed_at}
 use Rattle.zeb_register.proofs.ListChanges.{changed_alone, content_more, content_none, next_places, no_change, one_content_changed}
 use Rattle.zeb_register.proofs.Malformed.{beside_seen, beside_then, malformed_seen, malformed_then, places_among, places_same, places_then, spelled_same, spells_same}
-use Rattle.zeb_register.proofs.PlaceRefusals.{change_hinders, registers_same, registers_then, rows_hinder}
-use Rattle.zeb_register.proofs.RowCounts.{rows_more}
 use Rattle.zeb_register.proofs.plain.RowsLayout.key_changes.Goals as goal
 
 pub loop-change-init : goal.loop-change-init
@@ -34,7 +20,6 @@ loop-change-init g c =
       put = λ clean inside store before holds.
           let same = (c.in_ok-nothing_inside.ensures.call.ok clean inside).now_is in
           (before, content_none c.args.db.0 c.args.key.now before, subst (λ (d : Database). HoldsRows d.trees before) (sym same) holds);
-      rowids = λ clean inside store. registers_same first.now second.now (c.in_ok-nothing_inside.ensures.call.ok clean inside).now_is;
       malformed = λ clean inside store. malformed_seen first.now second.now (c.in_ok-nothing_inside.ensures.call.ok clean inside).now_is;
       others = λ clean inside store. beside_seen (key_row c.args.db.0 c.args.key.now) first.now second.now (c.in_ok-nothing_inside.ensures.call.ok clean inside).now_is;
       blocks = λ clean inside store. ap (λ (d : Database). d.trees blocks_tree) (c.in_ok-nothing_inside.ensures.call.ok clean inside).now_is;
@@ -78,11 +63,6 @@ loop-change-preserved g c =
           let is = change_is db key x.sysno x.new.now now.0 now.2.rising in
           let alone = changed_alone db key x now.0 next now.2.rising is found in
           (next, content_more db key xs i c.loop-change-test.true before now.0 next now.1 alone, (it.change clean mode kept.0).2 now.0 next now.2 is);
-      rowids = λ clean inside store.
-          let was : HasCleanDisk mid = omega (arith, c.key_change_plain.ensures.call.crash.clean) in
-          let kept = so_far.kept was inside store in
-          subst (λ n. TakesRegisterRowids n first.now.trees last.now.trees) (sym (rows_more xs i no_change c.loop-change-test.true))
-          (registers_then _ _ first.now.trees mid.now.trees last.now.trees (so_far.rowids was inside store) (it.rowids clean (so_far.on was inside).mode kept.0));
       malformed = λ clean inside store.
           let was : HasCleanDisk mid = omega (arith, c.key_change_plain.ensures.call.crash.clean) in
           malformed_then first.now.trees mid.now.trees last.now.trees (so_far.malformed was inside store) (it.malformed clean (so_far.on was inside).mode (so_far.kept was inside store).0);
@@ -138,32 +118,6 @@ returns-in_err-key_change_plain-clause-damaged g c clean inside store is rises c
     let now = so_far.put was inside store content holds in
     c.in_err-key_change_plain.ensures.damaged clean (so_far.on was inside).mode kept.0 (search rules) (all-get_or _ xs i no_change rises below) now.0 now.2
     (next_places xs i below (content db key) (now.0 db key) (after db key) now.1.list all.list)
-
-pub returns-clause-rowids : goal.returns-clause-rowids
-returns-clause-rowids g c clean inside store =
-    let first = state g.S.Store c.args.tx.now.conn.now in
-    let last = state g.S.Store c.loop-change.tx.conn.now in
-    let xs = c.args.changes.now in
-    let i = c.loop-change.change-index in
-    let all : take i xs ≡ xs = take_all i xs (omega (arith, c.loop-change-test.false)) in
-    subst (λ l. TakesRegisterRowids (rows_of (map placed l)) first.now.trees last.now.trees) all (c.loop-change.invariant.rowids clean inside store)
-
-pub returns-in_err-key_change_plain-clause-refused : goal.returns-in_err-key_change_plain-clause-refused
-returns-in_err-key_change_plain-clause-refused g c clean inside store told =
-    let first = state g.S.Store c.args.tx.now.conn.now in
-    let mid = state g.S.Store c.loop-change.tx.conn.now in
-    let last = state g.S.Store c.key_change_plain.new.tx.conn.now in
-    let key = c.args.key.now in
-    let xs = c.args.changes.now in
-    let was : HasCleanDisk mid = omega (arith, clean, c.key_change_plain.ensures.call.crash.clean) in
-    let so_far = c.loop-change.invariant in
-    let on = so_far.on was inside in
-    elim (c.in_err-key_change_plain.ensures.refused clean on.mode (so_far.kept was inside store).0 (search rules)) [
-      | inl cause ↦ inl (may_after first mid last so_far.crash (λ _. on.is_open) (λ _. cause))
-      | inr hinders ↦
-          let why = change_hinders key xs c.loop-change.change-index no_change c.loop-change-test.true first.now.trees mid.now.trees (so_far.rowids was inside store) hinders in
-          inr (rows_hinder c.args.db.0 key (map placed xs) first.now.trees why)
-    ]
 
 some_more : (xs : List RecordChange) → xs ≢ [] → 0 < length xs
 some_more [] some = absurd (some refl)

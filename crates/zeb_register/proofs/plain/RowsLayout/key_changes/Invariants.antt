@@ -1,12 +1,4 @@
-use Rattle.std.proofs.Common.{◌≡◌, ◌<◌, IsTrue, IsUtf8, map, take}
-use Rattle.sqlite.specs.Held.{state}
-use Rattle.sqlite.specs.State.{HasCleanDisk, Survives}
-use Rattle.zeb_register.specs.Calls.{GoesOn}
-use Rattle.zeb_register.specs.Content.{AreChangedAt, Content}
-use Rattle.zeb_register.specs.Hindrances.{KeepsPlaces, TakesRegisterRowids, placed, rows_of}
-use Rattle.zeb_register.specs.PlainRows.{HoldsRows, key_row}
-use Rattle.zeb_register.specs.Sound.{KeepsMalformed, KeepsRowsBeside}
-use Rattle.zeb_register.specs.Store.{IsStore, KeepsLists, blocks_tree}
+use Rattle.zeb_register.proofs.Cited.{state, HasCleanDisk, Survives, ◌≡◌, ◌<◌, IsTrue, IsUtf8, map, take, GoesOn, AreChangedAt, Content, KeepsPlaces, placed, HoldsRows, key_row, KeepsMalformed, KeepsRowsBeside, IsStore, KeepsLists, blocks_tree}
 use Rattle.zeb_register.proofs.plain.RowsLayout.key_changes.Given as goal
 
 abbrev pub invariant-loop-change : goal.invariant-loop-change
@@ -20,8 +12,6 @@ invariant-loop-change g l =
       kept : HasCleanDisk now → IsTrue old.in_transaction → IsStore old → IsStore now × KeepsLists old.now.trees now.now.trees;
       put : HasCleanDisk now → IsTrue old.in_transaction → IsStore old → (before : Content) → HoldsRows old.now.trees before
           → (next : Content) × AreChangedAt l.db.0 l.key (take l.change-index l.changes) before next × HoldsRows now.now.trees next;
-      rowids : HasCleanDisk now → IsTrue old.in_transaction → IsStore old
-          → TakesRegisterRowids (rows_of (map placed (take l.change-index l.changes))) old.now.trees now.now.trees;
       malformed : HasCleanDisk now → IsTrue old.in_transaction → IsStore old → KeepsMalformed old.now.trees now.now.trees;
       others : HasCleanDisk now → IsTrue old.in_transaction → IsStore old → KeepsRowsBeside (key_row l.db.0 l.key) old.now.trees now.now.trees;
       blocks : HasCleanDisk now → IsTrue old.in_transaction → IsStore old → now.now.trees blocks_tree ≡ old.now.trees blocks_tree;

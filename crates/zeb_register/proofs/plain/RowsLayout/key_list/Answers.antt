@@ -1,6 +1,4 @@
-use Rattle.std.proofs.Common.{◌∙◌, ap}
-use Rattle.std.proofs.lemmas.Result.{IfOk-weaker}
-use Rattle.zeb_register.specs.Occurring.{key_in}
+use Rattle.zeb_register.proofs.Cited.{◌∙◌, ap, IfOk-weaker, key_in}
 use Rattle.zeb_register.proofs.plain.RowsLayout.key_list.Goals as goal
 
 pub returns-clause-value : goal.returns-clause-value

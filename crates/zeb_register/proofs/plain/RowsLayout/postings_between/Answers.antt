@@ -1,5 +1,4 @@
-use Rattle.std.proofs.Common.{arith, inl}
-use Rattle.std.proofs.lemmas.Result.{IfOk-weaker}
+use Rattle.zeb_register.proofs.Cited.{arith, inl, IfOk-weaker}
 use Rattle.zeb_register.proofs.CountLemmas.{none_in_sum}
 use Rattle.zeb_register.proofs.plain.RowsLayout.postings_between.Goals as goal
 

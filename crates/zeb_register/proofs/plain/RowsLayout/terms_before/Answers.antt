@@ -1,13 +1,4 @@
-use Rattle.std.proofs.Common.{rules, ◌≡◌, ◌∙◌, ◌++◌, [], ◌∷◌, true, length, filter, reverse, sym, ap, subst, arith, string_bytes, length-append}
-use Rattle.std.proofs.lemmas.List.{append-nil}
-use Rattle.sqlite.specs.Held.{state}
-use Rattle.sqlite.specs.State.{HasCleanDisk, IsUnchanged}
-use Rattle.sqlite.specs.Effect.{Database}
-use Rattle.zeb_register.specs.Content.{posted}
-use Rattle.zeb_register.specs.PlainRows.{HoldsRows}
-use Rattle.zeb_register.specs.Occurring.{is_before, TermIn}
-use Rattle.zeb_register.specs.PrivateRowTerms.{IsGreatestTerm}
-use Rattle.sqlite.proofs.Callers.{unchanged_then}
+use Rattle.zeb_register.proofs.Cited.{unchanged_then, Database, state, HasCleanDisk, IsUnchanged, rules, ◌≡◌, ◌∙◌, ◌++◌, [], ◌∷◌, true, length, filter, reverse, sym, ap, subst, arith, string_bytes, length-append, append-nil, posted, HoldsRows, is_before, TermIn, IsGreatestTerm}
 use Rattle.zeb_register.proofs.Calls.{reading_behind, reading_then, store_same}
 use Rattle.zeb_register.proofs.CallsInTurn.{quiet_then}
 use Rattle.zeb_register.proofs.Causes.{reasoned_after}

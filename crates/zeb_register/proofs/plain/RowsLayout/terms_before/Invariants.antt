@@ -1,13 +1,4 @@
-use Rattle.std.proofs.Common.{◌≡◌, ◌++◌, List, Ok, true, length, filter, reverse, string_bytes}
-use Rattle.sqlite.specs.Held.{state}
-use Rattle.sqlite.specs.State.{HasCleanDisk, IsUnchanged}
-use Rattle.zeb_register.specs.declared.faults.RegFault.{RegFault}
-use Rattle.zeb_register.specs.Calls.{Reading}
-use Rattle.zeb_register.specs.declared.registers.TermCount.{TermCount}
-use Rattle.zeb_register.specs.Store.{IsStore}
-use Rattle.zeb_register.specs.Content.{Content, posted}
-use Rattle.zeb_register.specs.PlainRows.{HoldsRows}
-use Rattle.zeb_register.specs.Occurring.{AreTermsOf, is_before}
+use Rattle.zeb_register.proofs.Cited.{state, HasCleanDisk, IsUnchanged, ◌≡◌, ◌++◌, List, Ok, true, length, filter, reverse, string_bytes, RegFault, Reading, TermCount, IsStore, Content, posted, HoldsRows, AreTermsOf, is_before}
 use Rattle.zeb_register.proofs.plain.RowsLayout.terms_before.Given as goal
 
 abbrev pub invariant-loop-done : goal.invariant-loop-done

@@ -1,14 +1,5 @@
-use Rattle.std.proofs.Common.{sym, subst}
-use Rattle.std.proofs.lemmas.Result.{IfOk-weaker}
+use Rattle.zeb_register.proofs.Cited.{state, row_cmp, Has, sym, subst, IfOk-weaker, IsListOf, IsRest, postings_tree, AreCounts, IsShown, register_front}
 use Rattle.std.specs.List.Sorted.{IsStrictlySortedBy}
-use Rattle.sqlite.specs.Held.{state}
-use Rattle.sqlite.specs.Order.{row_cmp}
-use Rattle.sqlite_rules.specs.Lists.{Has}
-use Rattle.zeb_register.specs.Sql.{IsListOf}
-use Rattle.zeb_register.specs.Store.{IsRest, postings_tree}
-use Rattle.zeb_register.specs.Occurring.{AreCounts}
-use Rattle.zeb_register.specs.PrivateRowTerms.{IsShown}
-use Rattle.zeb_register.specs.PlainRows.{register_front}
 use Rattle.zeb_register.proofs.TermRows.{counts_are, rows_readable}
 use Rattle.zeb_register.proofs.plain.RowsLayout.terms_of.Goals as goal
 

@@ -1,14 +1,5 @@
-use Rattle.std.proofs.Common.{rules, inl, map, sym, subst, arith}
-use Rattle.std.proofs.lemmas.List.{length-map}
+use Rattle.zeb_register.proofs.Cited.{state, row_cmp, Has, rules, inl, map, sym, subst, arith, length-map, IsListOf, IsRest, postings_tree, AreCounts, IsShown, register_front}
 use Rattle.std.specs.List.Sorted.{IsStrictlySortedBy}
-use Rattle.sqlite.specs.Held.{state}
-use Rattle.sqlite.specs.Order.{row_cmp}
-use Rattle.sqlite_rules.specs.Lists.{Has}
-use Rattle.zeb_register.specs.Sql.{IsListOf}
-use Rattle.zeb_register.specs.Store.{IsRest, postings_tree}
-use Rattle.zeb_register.specs.Occurring.{AreCounts}
-use Rattle.zeb_register.specs.PrivateRowTerms.{IsShown}
-use Rattle.zeb_register.specs.PlainRows.{register_front}
 use Rattle.zeb_register.proofs.CountLemmas.{none_in_sum}
 use Rattle.zeb_register.proofs.TermRows.{counts_are, rows_readable, spot_at, spots_are}
 use Rattle.zeb_register.proofs.plain.RowsLayout.totals.Goals as goal

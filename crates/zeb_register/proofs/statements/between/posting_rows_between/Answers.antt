@@ -1,22 +1,16 @@
-use Rattle.std.proofs.Common.{rules, pos}
-use Rattle.std.proofs.lemmas.Result.{IfErr-weaker}
-use Rattle.zeb_keys.specs.Registers.{register_code}
-use Rattle.zeb_register.specs.PrivateBetweenRows.{IsRestBetween}
-use Rattle.zeb_register.specs.Store.{postings_tree}
-use Rattle.zeb_register.proofs.BetweenStatements.{lists_postings, postings_refused, postings_silent}
-use Rattle.zeb_register.proofs.Calls.{lists, nothing, quiet}
+use Rattle.zeb_register.proofs.Cited.{pos, register_code, IsRestBetween, postings_tree}
+use Rattle.zeb_register.proofs.BetweenStatements.{lists_postings, postings_query}
+use Rattle.zeb_register.proofs.Calls.{lists_read}
 use Rattle.zeb_register.proofs.Columns.{column_is}
 use Rattle.zeb_register.proofs.PostingStatements.{register_of}
+use Rattle.zeb_register.proofs.Refusals.{refused, why_failed}
 use Rattle.zeb_register.proofs.statements.between.posting_rows_between.Goals as goal
 
+pub look_up-requires : goal.look_up-requires
+look_up-requires g c = (postings_query c.args.at.db.0 (pos c.args.at.index) (pos (register_code c.args.at.register)) c.args.first.now c.args.end.now).silent
+
 pub returns-clause-call : goal.returns-clause-call
-returns-clause-call g c = record {
-  idle = search rules;
-  ok = λ clean. lists (λ rows. rows.items) (IsRestBetween postings_tree (register_of c.args.at.db.0 (pos c.args.at.index) (pos (register_code c.args.at.register))) c.args.first.now c.args.end.now) _ _ _ _ c.query_all.result postings_silent (c.query_all.ensures.ok clean)
-      (λ rows store shown. lists_postings c.args.at.db.0 (pos c.args.at.index) (pos (register_code c.args.at.register)) c.args.first.now c.args.end.now _ _ rows store (simp (c.params-to_sql.ensures, c.params-to_sql-2.ensures, c.params-to_sql-3.ensures, c.params-to_sql-4.ensures, c.params-to_sql-5.ensures, column_is c.column-db.ensures.fits c.column-db.ensures.value, c.from-reg.ensures, c.code.ensures) at shown));
-  same = λ clean. nothing (λ rows. rows.items) _ _ _ _ c.query_all.result _ postings_silent c.is_autocommit-idle.ensures.value c.is_autocommit-idle.ensures.settled (c.query_all.ensures.ok clean) (c.query_all.ensures.err clean);
-  crash = quiet _ _ _ _ postings_silent c.query_all.ensures.survives;
-}
+returns-clause-call g c = lists_read (IsRestBetween postings_tree (register_of c.args.at.db.0 (pos c.args.at.index) (pos (register_code c.args.at.register))) c.args.first.now c.args.end.now) _ _ c.look_up.result (λ rows store shown. lists_postings c.args.at.db.0 (pos c.args.at.index) (pos (register_code c.args.at.register)) c.args.first.now c.args.end.now _ _ rows store shown) (simp (c.params-to_sql.ensures, c.params-to_sql-2.ensures, c.params-to_sql-3.ensures, c.params-to_sql-4.ensures, c.params-to_sql-5.ensures, column_is c.column-db.ensures.fits c.column-db.ensures.value, c.from-reg.ensures, c.code.ensures) at c.look_up.ensures)
 
 pub returns-clause-err : goal.returns-clause-err
-returns-clause-err g c clean store = IfErr-weaker c.query_all.result _ _ (λ e failed told. postings_refused c.args.at.db.0 (pos c.args.at.index) (pos (register_code c.args.at.register)) c.args.first.now c.args.end.now _ _ e store told (simp (c.params-to_sql.ensures, c.params-to_sql-2.ensures, c.params-to_sql-3.ensures, c.params-to_sql-4.ensures, c.params-to_sql-5.ensures, column_is c.column-db.ensures.fits c.column-db.ensures.value, c.from-reg.ensures, c.code.ensures) at failed)) (c.query_all.ensures.err clean)
+returns-clause-err g c = why_failed (refused (postings_query c.args.at.db.0 (pos c.args.at.index) (pos (register_code c.args.at.register)) c.args.first.now c.args.end.now)) _ _ c.look_up.result (simp (c.params-to_sql.ensures, c.params-to_sql-2.ensures, c.params-to_sql-3.ensures, c.params-to_sql-4.ensures, c.params-to_sql-5.ensures, column_is c.column-db.ensures.fits c.column-db.ensures.value, c.from-reg.ensures, c.code.ensures) at c.look_up.ensures)

@@ -1,13 +1,12 @@
-use Rattle.std.proofs.Common.{rules, ℕ, Err}
-use Rattle.std.proofs.lemmas.Result.{err_from_is_err_and}
-use Rattle.zeb_register.proofs.Refusals.{not_late}
+use Rattle.zeb_register.proofs.Cited.{rules, ℕ, Err, err_from_is_err_and}
+use Rattle.zeb_register.proofs.Refusals.{not_late, refused}
 use Rattle.zeb_register.proofs.Calls.{alone_inside, on_err, query_keeps}
-use Rattle.zeb_register.proofs.TermStatements.{nothing_refused, nothing_silent}
+use Rattle.zeb_register.proofs.TermStatements.{nothing_query}
 use Rattle.zeb_register.proofs.statements.inside.nothing_inside.Goals as goal
 
 pub returns-clause-call : goal.returns-clause-call
 returns-clause-call g c = record {
-  ok = λ clean inside. alone_inside _ _ _ _ _ nothing_silent (c.in_ok-query_all.ensures.ok clean) inside;
+  ok = λ clean inside. alone_inside _ _ _ _ _ nothing_query.silent (c.in_ok-query_all.ensures.ok clean) inside;
   err = search rules;
   crash = search rules;
 }
@@ -15,11 +14,11 @@ returns-clause-call g c = record {
 pub returns-in_err-query_all-clause-call : goal.returns-in_err-query_all-clause-call
 returns-in_err-query_all-clause-call g c = record {
   ok = search rules;
-  err = λ clean inside. on_err _ _ (query_keeps {A = ℕ} _ _ _ _ (Err _) nothing_silent (c.in_err-query_all.ensures.err clean));
+  err = λ clean inside. on_err _ _ (query_keeps {A = ℕ} _ _ _ _ (Err _) nothing_query.silent (c.in_err-query_all.ensures.err clean));
   crash = search rules;
 }
 
 pub returns-in_err-query_all-clause-err : goal.returns-in_err-query_all-clause-err
 returns-in_err-query_all-clause-err g c clean inside store =
     let is = err_from_is_err_and c.from_residual.result c.from_residual.ensures.1 in
-    rw (is.1, is.2) (λ told. nothing_refused _ _ _ store told (not_late _ _ _ _ _ inside (c.in_err-query_all.ensures.err clean)))
+    rw (is.1, is.2) (λ told. refused nothing_query _ _ _ store told (not_late _ _ _ _ _ inside (c.in_err-query_all.ensures.err clean)))

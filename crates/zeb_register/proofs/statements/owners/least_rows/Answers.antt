@@ -1,21 +1,14 @@
-use Rattle.std.proofs.Common.{rules, ◌≤ℤ◌, sym, subst}
-use Rattle.std.proofs.lemmas.Result.{IfErr-weaker}
-use Rattle.zeb_register.specs.PrivateRowExpected.{Owns, tree_of}
-use Rattle.zeb_register.specs.PrivateRowReads.{ShowsFirst}
-use Rattle.zeb_register.proofs.Calls.{IsSilent, read_so, nothing, quiet}
-use Rattle.zeb_register.proofs.OwnerStatements.{least_refused, least_silent, shows_least}
+use Rattle.zeb_register.proofs.Cited.{◌≤ℤ◌, sym, subst, Owns, tree_of, ShowsFirst}
+use Rattle.zeb_register.proofs.Calls.{IsSilent, all_read}
+use Rattle.zeb_register.proofs.OwnerStatements.{shows_least, least_query}
+use Rattle.zeb_register.proofs.Refusals.{refused, why_failed}
 use Rattle.zeb_register.proofs.statements.owners.least_rows.Goals as goal
 
+pub look_up-requires : goal.look_up-requires
+look_up-requires g c = subst IsSilent (sym c.least_text.ensures) (least_query c.args.table).silent
+
 pub returns-clause-call : goal.returns-clause-call
-returns-clause-call g c =
-    let silent = subst IsSilent (sym c.least_text.ensures) (least_silent c.args.table) in
-    record {
-      idle = search rules;
-      ok = λ clean. read_so (λ rows. rows.items) (λ trees. ShowsFirst (λ id other. id ≤ℤ other) (Owns (tree_of c.args.table) trees)) _ _ _ _ c.query_all.result silent (c.query_all.ensures.ok clean)
-          (λ rows store shown. shows_least c.args.table _ store _ rows (simp (c.least_text.ensures) at shown));
-      same = λ clean. nothing (λ rows. rows.items) _ _ _ _ c.query_all.result _ silent c.is_autocommit-idle.ensures.value c.is_autocommit-idle.ensures.settled (c.query_all.ensures.ok clean) (c.query_all.ensures.err clean);
-      crash = quiet _ _ _ _ silent c.query_all.ensures.survives;
-    }
+returns-clause-call g c = all_read (λ trees. ShowsFirst (λ id other. id ≤ℤ other) (Owns (tree_of c.args.table) trees)) _ _ c.look_up.result (λ rows store shown. shows_least c.args.table _ store _ rows shown) (simp (c.least_text.ensures) at c.look_up.ensures)
 
 pub returns-clause-err : goal.returns-clause-err
-returns-clause-err g c clean store = IfErr-weaker c.query_all.result _ _ (λ e failed told. least_refused c.args.table _ _ e store told (simp (c.least_text.ensures) at failed)) (c.query_all.ensures.err clean)
+returns-clause-err g c = why_failed (refused (least_query c.args.table)) _ _ c.look_up.result (simp (c.least_text.ensures) at c.look_up.ensures)

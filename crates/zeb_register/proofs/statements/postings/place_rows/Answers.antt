@@ -1,25 +1,16 @@
-use Rattle.std.proofs.lemmas.Result.{IfErr-weaker}
-use Rattle.zeb_register.proofs.Refusals.{not_late}
-use Rattle.std.proofs.Math.Facts.{to_z-of_z}
-use Rattle.zeb_keys.specs.Registers.{register_code}
+use Rattle.zeb_register.proofs.Cited.{IsUtf8, rules, pos, subst, to_z-of_z, register_code, IsRest, postings_tree, place_key}
 use Rattle.zeb_register.proofs.Calls.{lists_inside, query_keeps}
-use Rattle.zeb_register.proofs.PostingStatements.{lists_spots, spot_silent, spots_refused}
-use Rattle.std.proofs.Common.{IsUtf8, rules, pos, subst}
-use Rattle.zeb_register.specs.Store.{IsRest, postings_tree}
-use Rattle.zeb_register.specs.PrivateRowStatements.{place_key}
+use Rattle.zeb_register.proofs.PostingStatements.{lists_spots, spot_query}
 use Rattle.zeb_register.proofs.Columns.{column_is}
 use Rattle.zeb_register.proofs.statements.postings.place_rows.Goals as goal
 
 pub returns-clause-call : goal.returns-clause-call
 returns-clause-call g c = record {
-  ok = λ clean. lists_inside (λ rows. rows.items) (IsRest postings_tree (place_key c.args.at.db.0 (pos c.args.at.key.now.index) (pos (register_code c.args.at.key.now.register)) c.args.at.key.now.term c.args.number)) _ _ _ _ c.query_all.result spot_silent (c.query_all.ensures.ok clean)
+  ok = λ clean. lists_inside (λ rows. rows.items) (IsRest postings_tree (place_key c.args.at.db.0 (pos c.args.at.key.now.index) (pos (register_code c.args.at.key.now.register)) c.args.at.key.now.term c.args.number)) _ _ _ _ c.query_all.result (spot_query c.args.at.db.0 (pos c.args.at.key.now.index) (pos (register_code c.args.at.key.now.register)) c.args.at.key.now.term c.args.number).silent (c.query_all.ensures.ok clean)
       (λ rows store shown. lists_spots c.args.at.db.0 (pos c.args.at.key.now.index) (pos (register_code c.args.at.key.now.register)) c.args.at.key.now.term c.args.number _ _ rows store (simp (c.params-to_sql.ensures, c.params-to_sql-2.ensures, c.params-to_sql-3.ensures, c.params-to_sql-4.ensures, c.params-to_sql-5.ensures, to_z-of_z, column_is c.column-db.ensures.fits c.column-db.ensures.value, c.from-reg.ensures, c.code.ensures, c.as_str-term.ensures, c.ranges.number) at shown));
-  err = λ clean inside. query_keeps _ _ _ _ c.query_all.result spot_silent (c.query_all.ensures.err clean);
+  err = λ clean inside. query_keeps _ _ _ _ c.query_all.result (spot_query c.args.at.db.0 (pos c.args.at.key.now.index) (pos (register_code c.args.at.key.now.register)) c.args.at.key.now.term c.args.number).silent (c.query_all.ensures.err clean);
   crash = search rules;
 }
 
 pub returns-clause-text : goal.returns-clause-text
 returns-clause-text g c = subst IsUtf8 c.as_str-term.ensures c.as_str-term.utf8
-
-pub returns-clause-err : goal.returns-clause-err
-returns-clause-err g c clean inside store = IfErr-weaker c.query_all.result _ _ (λ e failed told. spots_refused c.args.at.db.0 (pos c.args.at.key.now.index) (pos (register_code c.args.at.key.now.register)) c.args.at.key.now.term c.args.number _ _ e store told (not_late _ _ _ _ e inside (simp (c.params-to_sql.ensures, c.params-to_sql-2.ensures, c.params-to_sql-3.ensures, c.params-to_sql-4.ensures, c.params-to_sql-5.ensures, to_z-of_z, column_is c.column-db.ensures.fits c.column-db.ensures.value, c.from-reg.ensures, c.code.ensures, c.as_str-term.ensures, c.ranges.number) at failed))) (c.query_all.ensures.err clean)

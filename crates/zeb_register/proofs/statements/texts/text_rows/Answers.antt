@@ -1,18 +1,14 @@
-use Rattle.std.proofs.Common.{rules}
-use Rattle.std.proofs.lemmas.Result.{IfErr-weaker}
-use Rattle.zeb_register.proofs.Calls.{lists, nothing, quiet}
-use Rattle.zeb_register.proofs.TextStatements.{lists_value, value_refused, value_silent}
-use Rattle.zeb_register.specs.PrivateRowStatements.{IsValueRow}
+use Rattle.zeb_register.proofs.Calls.{lists_read}
+use Rattle.zeb_register.proofs.TextStatements.{lists_value, value_query}
+use Rattle.zeb_register.proofs.Cited.{IsValueRow}
+use Rattle.zeb_register.proofs.Refusals.{refused, why_failed}
 use Rattle.zeb_register.proofs.statements.texts.text_rows.Goals as goal
 
+pub look_up-requires : goal.look_up-requires
+look_up-requires g c = (value_query c.args.name.now).silent
+
 pub returns-clause-call : goal.returns-clause-call
-returns-clause-call g c = record {
-  idle = search rules;
-  ok = λ clean. lists (λ rows. rows.items) (λ trees. IsValueRow trees c.args.name.now) _ _ _ _ c.query_all.result value_silent (c.query_all.ensures.ok clean)
-      (λ rows store shown. lists_value c.args.name.now _ _ rows store (simp (c.params-to_sql.ensures) at shown));
-  same = λ clean. nothing (λ rows. rows.items) _ _ _ _ c.query_all.result _ value_silent c.is_autocommit-idle.ensures.value c.is_autocommit-idle.ensures.settled (c.query_all.ensures.ok clean) (c.query_all.ensures.err clean);
-  crash = quiet _ _ _ _ value_silent c.query_all.ensures.survives;
-}
+returns-clause-call g c = lists_read (λ trees. IsValueRow trees c.args.name.now) _ _ c.look_up.result (λ rows store shown. lists_value c.args.name.now _ _ rows store shown) (simp (c.params-to_sql.ensures) at c.look_up.ensures)
 
 pub returns-clause-err : goal.returns-clause-err
-returns-clause-err g c clean store = IfErr-weaker c.query_all.result _ _ (λ e failed told. value_refused c.args.name.now _ _ e store told (simp (c.params-to_sql.ensures) at failed)) (c.query_all.ensures.err clean)
+returns-clause-err g c = why_failed (refused (value_query c.args.name.now)) _ _ c.look_up.result (simp (c.params-to_sql.ensures) at c.look_up.ensures)

@@ -1,6 +1,4 @@
-use Rattle.std.proofs.Common.{◌≡◌, ◌∙◌, ap, sym, chars, string_bytes}
-use Rattle.std.proofs.lemmas.Str.{IsUtf8-string_bytes}
-use Rattle.zeb_text.specs.Symbols.{literal}
+use Rattle.zeb_search.proofs.Cited.{◌≡◌, ◌∙◌, ap, sym, chars, string_bytes, IsUtf8-string_bytes, literal}
 use Rattle.zeb_search.proofs.TermLemmas.{literal_plain, literal_wanted}
 use Rattle.zeb_search.proofs.terms.Wanted.only_text.Goals as goal
 

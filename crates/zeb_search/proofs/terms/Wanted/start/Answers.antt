@@ -1,6 +1,4 @@
-use Rattle.std.proofs.lemmas.Result.{IfOk-weaker}
-use Rattle.std.proofs.Common.{string_bytes, subst}
-use Rattle.zeb_search.specs.Comparing.{Precedes}
+use Rattle.zeb_search.proofs.Cited.{IfOk-weaker, string_bytes, subst, Precedes}
 use Rattle.zeb_search.proofs.Comparisons.{none_before}
 use Rattle.zeb_search.proofs.RangeLemmas.{patterns_begin}
 use Rattle.zeb_search.proofs.terms.Wanted.start.Goals as goal

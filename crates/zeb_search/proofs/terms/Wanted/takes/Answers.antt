@@ -1,4 +1,4 @@
-use Rattle.std.proofs.Common.{IsTrue}
+use Rattle.zeb_search.proofs.Cited.{IsTrue}
 use Rattle.zeb_search.proofs.TermLemmas.{number_taken}
 use Rattle.zeb_search.proofs.terms.Wanted.takes.Goals as goal
 

@@ -1,5 +1,4 @@
-use Rattle.std.proofs.Common.{◌≡◌, ◌∷◌, length, ap, ◌∙◌, sym, rules}
-use Rattle.zeb_text.specs.Numbers.{numbers_of}
+use Rattle.zeb_text.proofs.Cited.{◌≡◌, ◌∷◌, length, ap, ◌∙◌, sym, rules, numbers_of}
 use Rattle.zeb_text.proofs.DigitLemmas.{numbers_of-short, numbers_of-long, numbers_of-none}
 use Rattle.zeb_text.proofs.digits.NumbersIterator.next.Goals as goal
 use Rattle.zeb_text.proofs.digits.NumbersIterator.next.Goals.{After-value_of}

@@ -1,5 +1,4 @@
-use Rattle.std.proofs.Common.{◌≡◌, length}
-use Rattle.zeb_text.specs.Numbers.{numbers_of}
+use Rattle.zeb_text.proofs.Cited.{◌≡◌, length, numbers_of}
 use Rattle.zeb_text.proofs.digits.NumbersIterator.next.Given as goal
 
 abbrev pub invariant-loop-digits : goal.invariant-loop-digits

@@ -1,7 +1,4 @@
-use Rattle.std.proofs.Common.{◌≡◌, ◌<◌, ℕ, Bool, false, ◌==◌, subst, arith, length, map, chars, string_bytes, Contains, vec_len}
-use Rattle.std.proofs.lemmas.Bool.Decides.{nat_tests}
-use Rattle.std.proofs.lemmas.List.{length-map}
-use Rattle.zeb_text.specs.Symbols.{Star}
+use Rattle.zeb_text.proofs.Cited.{◌≡◌, ◌<◌, ℕ, Bool, false, ◌==◌, subst, arith, length, map, chars, string_bytes, Contains, vec_len, nat_tests, length-map, Star}
 use Rattle.zeb_text.proofs.SymbolLemmas.{Contains-star}
 use Rattle.zeb_text.proofs.patterns.Pattern.literal.Goals as goal
 

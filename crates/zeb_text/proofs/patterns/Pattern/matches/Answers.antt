@@ -1,10 +1,4 @@
-use Rattle.std.proofs.Common.{◌≡◌, ◌↔◌, List, [], ◌∷◌, ◌++◌, length, Bool, true, false, chars, string_bytes, sym, ap, ◌∙◌, subst, IsTrue, encode_utf8_all, MatchBool, refl}
-use Rattle.std.proofs.lemmas.Bool.{false≢true}
-use Rattle.std.proofs.lemmas.List.{nil_from_length}
-use Rattle.std.proofs.lemmas.Str.{encodes-chars}
-use Rattle.std.specs.Cmp.Lexicographic.{bytes_decides}
-use Rattle.zeb_text.specs.Symbols.{Symbol, Star, literal, starred, texts_of}
-use Rattle.zeb_text.specs.Patterns.{Matches}
+use Rattle.zeb_text.proofs.Cited.{◌≡◌, ◌↔◌, List, [], ◌∷◌, ◌++◌, length, Bool, true, false, chars, string_bytes, sym, ap, ◌∙◌, subst, IsTrue, encode_utf8_all, MatchBool, refl, false≢true, nil_from_length, encodes-chars, bytes_decides, Symbol, Star, literal, starred, texts_of, Matches}
 use Rattle.zeb_text.proofs.MatchLemmas.{literal-same, same-literal, stripped, not_in_front, ends_in, not_at_end}
 use Rattle.zeb_text.proofs.patterns.Pattern.matches.Goals as goal
 use Rattle.zeb_text.proofs.patterns.Pattern.matches.Goals.{After-as_str-2, In-Some-strip_prefix}

@@ -1,4 +1,4 @@
-use Rattle.std.proofs.lemmas.Str.{chars-nil}
+use Rattle.zeb_text.proofs.Cited.{chars-nil}
 use Rattle.zeb_text.proofs.patterns.Pattern.new.Goals as goal
 
 pub returns : goal.returns

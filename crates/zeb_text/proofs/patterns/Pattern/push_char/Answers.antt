@@ -1,6 +1,4 @@
-use Rattle.std.proofs.Common.{◌≡◌, ◌++◌, [], ◌∷◌, ap, ◌∙◌, chars, map, string_bytes}
-use Rattle.std.proofs.lemmas.Str.{IsUtf8-string_bytes}
-use Rattle.zeb_text.specs.Symbols.{Char, starred}
+use Rattle.zeb_text.proofs.Cited.{◌≡◌, ◌++◌, [], ◌∷◌, ap, ◌∙◌, chars, map, string_bytes, IsUtf8-string_bytes, Char, starred}
 use Rattle.zeb_text.proofs.SymbolLemmas.{on_ok, starred-char}
 use Rattle.zeb_text.proofs.patterns.Pattern.push_char.Goals as goal
 

@@ -1,7 +1,4 @@
-use Rattle.std.proofs.Common.{◌++◌, [], ◌∷◌, ap, ◌∙◌, chars, map, string_bytes}
-use Rattle.std.proofs.lemmas.List.{map-append}
-use Rattle.std.proofs.lemmas.Str.{chars-nil}
-use Rattle.zeb_text.specs.Symbols.{Star}
+use Rattle.zeb_text.proofs.Cited.{◌++◌, [], ◌∷◌, ap, ◌∙◌, chars, map, string_bytes, map-append, chars-nil, Star}
 use Rattle.zeb_text.proofs.SymbolLemmas.{starred-star}
 use Rattle.zeb_text.proofs.patterns.Pattern.push_star.Goals as goal
 

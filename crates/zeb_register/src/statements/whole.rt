@@ -1,0 +1,86 @@
+//! Statements that take the rows of a whole table, or of a database in one.
+
+ghost use Rattle.std.specs.Prelude.{◌≡◌, ◌≢◌};
+ghost use Rattle.sqlite.specs.Held.{state};
+ghost use Rattle.zeb_register.specs.Clauses.{Writes};
+ghost use Rattle.zeb_register.specs.PrivateRowExpected.{tree_of};
+ghost use Rattle.zeb_register.specs.PrivateRowStatements.{Empties};
+ghost use Rattle.zeb_register.specs.PrivateStoreTables.{clear_text, tree_at, wipe_text};
+ghost use Rattle.zeb_register.specs.Sql.{Loses};
+ghost use Rattle.zeb_register.specs.Store.{IsPostingIn};
+
+use crate::agreeing::Table;
+use crate::statements::writing::write;
+use crate::tables::StoreTable;
+use crate::{DatabaseId, RegFault};
+use sqlite::{Alter, Transaction, params};
+
+const WIPE_META: &str = "DELETE FROM meta";
+
+const WIPE_DATABASES: &str = "DELETE FROM databases";
+
+const WIPE_RECORDS: &str = "DELETE FROM records";
+
+const WIPE_POSTINGS: &str = "DELETE FROM postings";
+
+const WIPE_BLOCKS: &str = "DELETE FROM blocks";
+
+const WIPE_DICT: &str = "DELETE FROM dict";
+
+const CLEAR_RECORDS: &str = "DELETE FROM records WHERE db = ?1";
+
+const CLEAR_POSTINGS: &str = "DELETE FROM postings WHERE db = ?1";
+
+const CLEAR_BLOCKS: &str = "DELETE FROM blocks WHERE db = ?1";
+
+const CLEAR_DICT: &str = "DELETE FROM dict WHERE db = ?1";
+
+fn wipe_text(table: StoreTable) -> &'static str
+    ensures { result.now ≡ wipe_text table }
+{
+    match table {
+        StoreTable::Meta => WIPE_META,
+        StoreTable::Databases => WIPE_DATABASES,
+        StoreTable::Records => WIPE_RECORDS,
+        StoreTable::Postings => WIPE_POSTINGS,
+        StoreTable::Blocks => WIPE_BLOCKS,
+        StoreTable::Dict => WIPE_DICT,
+    }
+}
+
+fn clear_text(table: Table) -> &'static str
+    ensures { result.now ≡ clear_text table }
+{
+    match table {
+        Table::Records => CLEAR_RECORDS,
+        Table::Postings => CLEAR_POSTINGS,
+        Table::Blocks => CLEAR_BLOCKS,
+        Table::Dict => CLEAR_DICT,
+    }
+}
+
+/// Takes every row of the table.
+pub(crate) fn table_wipe<S: Alter>(
+    tx: &mut Transaction<'_, S>,
+    table: StoreTable,
+) -> Result<(), RegFault>
+    ensures same { tx.new.conn.ghost_name ≡ tx.old.conn.ghost_name }
+    ensures call { Writes (tree_at table) Empties (state S.Store tx.old.conn.now) (state S.Store tx.new.conn.now) result }
+    ensures honest { result ≢ Err RegFault.Damaged }
+{
+    write(tx, wipe_text(table), &[])
+}
+
+/// Takes the rows of the database out of the table.
+pub(crate) fn table_clear<S: Alter>(
+    tx: &mut Transaction<'_, S>,
+    table: Table,
+    db: DatabaseId,
+) -> Result<(), RegFault>
+    ensures same { tx.new.conn.ghost_name ≡ tx.old.conn.ghost_name }
+    ensures call { Writes (tree_of table) (Loses (IsPostingIn db.0)) (state S.Store tx.old.conn.now) (state S.Store tx.new.conn.now) result }
+    ensures honest { result ≢ Err RegFault.Damaged }
+{
+    let id = db.column();
+    write(tx, clear_text(table), params![id])
+}
