@@ -63,6 +63,7 @@ words: bin/zebraidx
 	@tests/words/folders
 	@tests/words/faults
 	@tests/words/nightly
+	@tests/words/front_end
 
 session: bin/zebraidx
 	@tests/words/session
@@ -113,7 +114,7 @@ install: bin/zebraidx man
 	install -D -m 644 bin/man/zebraidx.cfg.5 $(MAN)/man5/$(NAME).cfg.5
 	install -D -m 644 -t $(DOC) docs/MANUAL.md docs/ZEBRA.md LICENSE VERSION
 	install -D -m 644 -t $(DOC)/examples examples/*.*
-	install -D -m 755 -t $(DOC)/examples examples/nightly examples/sort-records
+	install -D -m 755 -t $(DOC)/examples examples/nightly examples/sort-records examples/front-end
 	install -d $(dir $(BASH_COMPLETION)) $(dir $(ZSH_COMPLETION))
 	sed 's/^\(complete .*\) zebraidx$$/\1 $(NAME)/' completions/zebraidx.bash >$(BASH_COMPLETION)
 	sed '1s/zebraidx/$(NAME)/' completions/_zebraidx >$(ZSH_COMPLETION)

@@ -24,9 +24,10 @@ impl Source for Stream<'_> {
 
     ghost has_failed = { λ s. s.failed };
 
-    ghost reads = { λ _. 0 };
-
     fn read(&mut self, buffer: &mut [u8]) -> Result<usize, ReadFailed> {
+        if self.failed {
+            return Err(ReadFailed);
+        }
         if buffer.is_empty() {
             return Ok(0);
         }

@@ -245,7 +245,7 @@ fn are_separated(separation: Separation, left: u64, right: u64) -> bool {
     if words == 0 || (separation.ordered && right < left) {
         return false;
     }
-    let distance = separation.distance;
+    let distance = u64::from(separation.distance);
     match separation.relation {
         DistanceRelation::Less => words < distance,
         DistanceRelation::LessOrEqual => words <= distance,

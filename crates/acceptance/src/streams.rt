@@ -72,8 +72,6 @@ impl Source for Maker {
 
     ghost has_failed = { λ _. false };
 
-    ghost reads = { λ _. 0 };
-
     fn read(&mut self, buffer: &mut [u8]) -> Result<usize, ReadFailed> {
         if buffer.is_empty() || self.made >= self.end {
             return Ok(0);

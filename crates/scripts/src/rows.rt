@@ -151,6 +151,13 @@ fn numbers_bad_lines(rt: HostRuntime) -> Result<(), Fail> {
         "find Default",
         "find a/b whale",
         "find",
+        "page Default 1 1",
+        "page Default 0 1 whale",
+        "page Default 1 1000001 whale",
+        "page Default 1 -1 whale",
+        "page a/b 1 1 whale",
+        "mark",
+        "MARK end",
     ] {
         let lines = format!(in rt.alloc(); "init\n\n# a remark\n{line}\ncreate X\n")?;
         expect_batch(&rt, lines.as_str(), "ok\nzebraidx: bad line 9\nok\n", 2)?;
@@ -209,6 +216,35 @@ fn names_profile_faults(rt: HostRuntime) -> Result<(), Fail> {
         expect_script(&rt, profile, output.as_str(), 1)?;
     }
     Ok(())
+}
+
+#[test]
+fn pages_and_marks(rt: HostRuntime) -> Result<(), Fail> {
+    let loaded = "init\nupdate Default hex:<A><B>\n";
+    let changed = "ok\ninserted 2 updated 0 deleted 0\n";
+    let query = "@or @attr 1=4 whale @attr 1=4 cafe";
+    for (shown, answer) in [
+        ("1 20", "hits 2\n1 a1\n2 b2\n"),
+        ("1 1", "hits 2\n1 a1\n"),
+        ("002 1000000", "hits 2\n2 b2\n"),
+        ("1 0", "hits 2\n"),
+    ] {
+        let lines = format!(in rt.alloc(); "{loaded}page Default {shown} {query}\n")?;
+        let output = format!(in rt.alloc(); "{changed}{answer}")?;
+        expect_batch(&rt, lines.as_str(), output.as_str(), 0)?;
+    }
+    let lines = format!(in rt.alloc(); "{loaded}page Default 3 1 {query}\nmark  end of\t 1 \n")?;
+    let output = format!(in rt.alloc(); "{changed}zebraidx: diagnostic 13 at 0: 3\nend of\t 1\n")?;
+    expect_batch(&rt, lines.as_str(), output.as_str(), 1)?;
+    // Behind an answer of no line, behind one whose bytes end in no LF, and where no register is begun.
+    let output =
+        "begun\nok\ninserted 1 updated 0 deleted 0\nnone\n00064nam a2200049 a 4500001000300000245001100003\x1eb2\x1e00\x1faCafe\u{301}\x1e\x1dall\n";
+    expect_batch(
+        &rt,
+        "mark begun\ninit\nupdate Default hex:<B>\nscan Default 1 1 @attr 1=4 x\nmark none\ndump Default\nmark all",
+        output,
+        0,
+    )
 }
 
 #[test]

@@ -114,13 +114,16 @@ fn with_bytes_at(rt: &impl Abort, record: &[u8; 109], place: usize, bytes: &[u8]
 type Change = (usize, &'static [u8]);
 
 /// A change of the first record, and the fault that it makes.
-static FAULTS: [(Change, MarcFault); 16] = [
+static FAULTS: [(Change, MarcFault); 19] = [
     ((0, b"0010x"), MarcFault::LengthDigits),
     ((0, b"00025"), MarcFault::LengthRange),
     ((0, b"00110"), MarcFault::Truncated),
     ((0, b"00108"), MarcFault::LengthRange),
     ((108, b"\x1e"), MarcFault::NoTerminator),
     ((10, b"3"), MarcFault::LeaderCounts),
+    ((11, b"1"), MarcFault::LeaderCounts),
+    ((20, b"5"), MarcFault::LeaderCounts),
+    ((21, b"4"), MarcFault::LeaderCounts),
     ((22, b"5"), MarcFault::LeaderCounts),
     ((12, b"0006x"), MarcFault::BaseAddress),
     ((12, b"00024"), MarcFault::BaseAddress),
@@ -186,9 +189,18 @@ fn a_few_bytes_are_no_record(rt: HostRuntime) {
 }
 
 #[test]
-fn unused_counts_may_be_blank(rt: HostRuntime) {
-    let record = with_bytes_at(&rt, RECORD_A, 20, b"    ");
-    assert!(rt; Marc::read(&record).is_ok());
+fn a_count_may_be_no_digit(rt: HostRuntime) {
+    let changes: [Change; 5] = [
+        (20, b"    "),
+        (10, b" "),
+        (11, b"|"),
+        (10, b"  "),
+        (10, b"/:"),
+    ];
+    for (place, bytes) in changes {
+        let record = with_bytes_at(&rt, RECORD_A, place, bytes);
+        assert!(rt; Marc::read(&record).is_ok(), "at {place}");
+    }
 }
 
 #[test]

@@ -36,10 +36,11 @@ impl Source for Failing<'_> {
 
     ghost has_failed = { λ s. s.failed };
 
-    ghost reads = { λ s. s.reads };
-
     fn read(&mut self, buffer: &mut [u8]) -> Result<usize, ReadFailed> {
         self.reads = self.reads.saturating_add(1);
+        if self.failed {
+            return Err(ReadFailed);
+        }
         if buffer.is_empty() {
             return Ok(0);
         }

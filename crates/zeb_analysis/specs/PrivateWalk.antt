@@ -5,7 +5,12 @@ use Rattle.zeb_profile.specs.declared.directives.Directive.{Directive}
 use Rattle.zeb_marc.specs.Splits.{Next, at_end, a_slice, a_fault}
 use Rattle.zeb_analysis.specs.declared.faults.AnalysisFault.{AnalysisFault}
 use Rattle.zeb_analysis.specs.declared.faults.AnalysisFault.TheVariants.{Marc}
-use Rattle.zeb_analysis.specs.Analysing.{Analysed, AreAnalysesOf, Standing, first_refusal}
+use Rattle.zeb_analysis.specs.declared.analysing.Incoming.{Incoming}
+use Rattle.zeb_analysis.specs.Analysing.{Analysed, AreAnalysesOf, Standing, at_place, first_refusal}
+
+-- a record of a file, as what stands at its place
+abbrev pub record_at : Incoming → Standing
+record_at incoming = at_place incoming.place.file incoming.place.nth (Ok incoming.bytes.now)
 
 -- whether there is a record where this stands next, what the buffer keeps of it, and what is left unread
 abbrev pub ReadsPlace : ℕ → ℕ → Next → Result Bool AnalysisFault → List ℕ → List ℕ → Type 0

@@ -1,11 +1,10 @@
 //! Files of records, analysed record by record.
-ghost use Rattle.std.specs.Prelude.{◌≡◌, ◌≢◌, List, Result, IfOk, IfErr, MatchResult, OnOk, length, map};
+ghost use Rattle.std.specs.Prelude.{◌≡◌, ◌≢◌, IfOk, IfErr, OnOk, length, map};
 ghost use Rattle.zeb_marc.specs.Splits.{next_of};
-ghost use Rattle.zeb_analysis.specs.declared.faults.AnalysisFault.{AnalysisFault};
-ghost use Rattle.zeb_analysis.specs.Analysing.{Analysed, AnalysesTo, IsAnalysisOf, analysed, at_place, first_refusal, refusal_at, standing_in};
-ghost use Rattle.zeb_analysis.specs.PrivateWalk.{Extends, ReadsPlace};
+ghost use Rattle.zeb_analysis.specs.Analysing.{AnalysesTo, IsAnalysisOf, analysed, first_refusal, refusal_at, standing_in};
+ghost use Rattle.zeb_analysis.specs.PrivateWalk.{Extends, ReadsPlace, record_at};
 
-use crate::faults::AnalysisFault;
+use crate::faults::{AnalysisFault, Place};
 use std::alloc::Global;
 use zeb_extract::{identifier, occurrences};
 use zeb_keys::Occurrence;
@@ -36,23 +35,21 @@ struct Setting<'a> {
 /// One record of a file.
 #[derive(Clone, Copy, Debug)]
 struct Incoming<'a> {
-    file: u64,
-    nth: u64,
+    place: Place,
     bytes: &'a [u8],
 }
 
-/// Reads the next record of a file, which is the nth, into the buffer, and says whether there is one.
+/// Reads the next record of a file, which has this place, into the buffer, and says whether there is one.
 fn read_record(
     left: &mut Slice<'_>,
     buffer: &mut RecordBuf,
-    file: u64,
-    nth: u64,
+    place: Place,
 ) -> Result<bool, AnalysisFault>
-    ensures { ReadsPlace file nth (next_of left.old) result buffer.new left.new }
+    ensures { ReadsPlace place.file place.nth (next_of left.old) result buffer.new left.new }
 {
     match next_record(left, buffer) {
         Ok(found) => Ok(found.is_some()),
-        Err(fault) => Err(AnalysisFault::Marc { file, nth, fault }),
+        Err(fault) => Err(place.of_marc(fault)),
     }
 }
 
@@ -62,29 +59,26 @@ fn analyse_record(
     before: u64,
     incoming: Incoming<'_>,
 ) -> Result<Analysis, AnalysisFault>
-    ensures passed { OnOk result (refusal_at setting.now.profile.now setting.now.limit before
-        (at_place incoming.entry.file incoming.entry.nth (Ok incoming.entry.bytes.now)) ≡ None) }
-    ensures ok { IfOk result (λ analysis. IsAnalysisOf setting.now.profile.now
-        (at_place incoming.entry.file incoming.entry.nth (Ok incoming.entry.bytes.now)) (analysed analysis)) }
+    ensures passed { OnOk result (refusal_at setting.now.profile.now setting.now.limit before (record_at incoming.entry) ≡ None) }
+    ensures ok { IfOk result (λ analysis. IsAnalysisOf setting.now.profile.now (record_at incoming.entry) (analysed analysis)) }
     ensures err { IfErr result (λ fault. fault ≢ AnalysisFault.Memory
-        → refusal_at setting.now.profile.now setting.now.limit before
-        (at_place incoming.entry.file incoming.entry.nth (Ok incoming.entry.bytes.now)) ≡ Some fault) }
+        → refusal_at setting.now.profile.now setting.now.limit before (record_at incoming.entry) ≡ Some fault) }
 {
-    let Incoming { file, nth, bytes } = incoming;
+    let Incoming { place, bytes } = incoming;
     if before >= setting.limit {
         return Err(AnalysisFault::TooManyRecords);
     }
     let marc = match Marc::read(bytes) {
         Ok(marc) => marc,
-        Err(fault) => return Err(AnalysisFault::Marc { file, nth, fault }),
+        Err(fault) => return Err(place.of_marc(fault)),
     };
     let ident = match identifier(setting.alloc, &marc, setting.profile) {
         Ok(ident) => ident,
-        Err(fault) => return Err(AnalysisFault::of_identifier(file, nth, fault)),
+        Err(fault) => return Err(place.of_identifier(fault)),
     };
     Ok(Analysis {
-        file,
-        nth,
+        file: place.file,
+        nth: place.nth,
         ident,
         occurrences: occurrences(setting.alloc, &marc, setting.profile)?,
     })
@@ -106,10 +100,9 @@ fn analyse_file(
 {
     let mut left = Slice::new(bytes);
     let mut nth = 1;
-    while read_record(&mut left, buffer, file, nth)? {
+    while read_record(&mut left, buffer, Place { file, nth })? {
         let incoming = Incoming {
-            file,
-            nth,
+            place: Place { file, nth },
             bytes: buffer.bytes(),
         };
         let analysis = analyse_record(setting, analyses.len() as u64, incoming)?;
@@ -134,11 +127,6 @@ pub fn analyse(
         AnalysesTo profile.now limit (map (λ file. file.items) files.now) (Ok (map analysed analyses.items))) }
     ensures err { IfErr result (λ fault. fault ≢ AnalysisFault.Memory
         → AnalysesTo profile.now limit (map (λ file. file.items) files.now) (Err fault)) }
-    // And nothing else is said of these files.
-    ensures only { (answer : Result (List Analysed) AnalysisFault)
-        → AnalysesTo profile.now limit (map (λ file. file.items) files.now) answer
-        → MatchResult result (λ analyses. answer ≡ Ok (map analysed analyses.items))
-        (λ fault. fault ≢ AnalysisFault.Memory → answer ≡ Err fault) }
 {
     let setting = Setting {
         alloc,

@@ -28,13 +28,30 @@ pub enum AnalysisFault {
     Memory,
 }
 
-impl AnalysisFault {
-    ghost use Rattle.zeb_analysis.specs.PrivateRefusals.{ident_fault};
+/// Where a record stands: its file, and its place there, both counted from 1.
+#[derive(Clone, Copy, Debug)]
+pub(crate) struct Place {
+    pub file: u64,
+    pub nth: u64,
+}
 
-    /// The fault of a record's identifier, or want of memory.
-    pub(crate) fn of_identifier(file: u64, nth: u64, fault: IdentFault) -> AnalysisFault
-        ensures { result ≡ ident_fault file nth fault }
+impl Place {
+    ghost use Rattle.zeb_analysis.specs.PrivateRefusals.{ident_fault};
+    ghost use Rattle.zeb_analysis.specs.declared.faults.AnalysisFault.TheVariants.{Marc};
+
+    /// The fault of the bytes that stand here.
+    pub fn of_marc(self, fault: MarcFault) -> AnalysisFault
+        ensures { result ≡ Marc self.file self.nth fault }
     {
+        let Place { file, nth } = self;
+        AnalysisFault::Marc { file, nth, fault }
+    }
+
+    /// The fault of this record's identifier, or want of memory.
+    pub fn of_identifier(self, fault: IdentFault) -> AnalysisFault
+        ensures { result ≡ ident_fault self.file self.nth fault }
+    {
+        let Place { file, nth } = self;
         match fault {
             IdentFault::Memory => AnalysisFault::Memory,
             _ => AnalysisFault::Ident { file, nth, fault },

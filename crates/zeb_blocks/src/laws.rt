@@ -27,7 +27,8 @@ pub fn worked_examples()
     ensures one { BlockSpells 0 (at 1 2 2 ∷ []) (1 ∷ 2 ∷ 2 ∷ []) }
     ensures next_unit { BlockSpells 0 (at 1 2 2 ∷ at 1 3 1 ∷ []) (1 ∷ 2 ∷ 2 ∷ 0 ∷ 1 ∷ 1 ∷ []) }
     ensures next_place { BlockSpells 0 (at 1 2 2 ∷ at 1 2 5 ∷ []) (1 ∷ 2 ∷ 2 ∷ 0 ∷ 0 ∷ 3 ∷ []) }
-    ensures next_record { BlockSpells 0 (at 1 2 2 ∷ at 255 1 1 ∷ []) (1 ∷ 2 ∷ 2 ∷ 0xfe ∷ 1 ∷ 1 ∷ 1 ∷ []) }
+    ensures next_record { BlockSpells 0 (at 1 2 2 ∷ at 255 1 1 ∷ [])
+        (1 ∷ 2 ∷ 2 ∷ 0xfe ∷ 1 ∷ 1 ∷ 1 ∷ []) }
     ensures next_block { BlockSpells 1 (at 256 2 2 ∷ []) (0 ∷ 2 ∷ 2 ∷ []) }
     ensures long { BlockSpells (2 ^ 56 - 1) (at (2 ^ 64 - 1) (2 ^ 63) (2 ^ 64 - 1) ∷ [])
         (0xff ∷ 1 ∷ (ten_bytes 0x80 1 ++ ten_bytes 0xff 1)) }
@@ -40,6 +41,8 @@ pub fn worked_examples()
     ensures padded { (list : List Posting) → ¬ BlockSpells 0 list (1 ∷ 2 ∷ 0x82 ∷ 0 ∷ []) }
     ensures level { (list : List Posting) → ¬ BlockSpells 0 list (1 ∷ 2 ∷ 2 ∷ 0 ∷ 0 ∷ 0 ∷ []) }
     ensures outside { (list : List Posting) → ¬ BlockSpells 0 list (0x80 ∷ 2 ∷ 1 ∷ 1 ∷ []) }
-    ensures too_large { (list : List Posting) → ¬ BlockSpells 0 list (1 ∷ (ten_bytes 0xff 2 ++ 1 ∷ [])) }
-    ensures too_long { (list : List Posting) → ¬ BlockSpells 0 list (1 ∷ (ten_bytes 0x80 0x81 ++ 1 ∷ 1 ∷ [])) }
+    ensures too_large { (list : List Posting)
+        → ¬ BlockSpells 0 list (1 ∷ (ten_bytes 0xff 2 ++ 1 ∷ [])) }
+    ensures too_long { (list : List Posting)
+        → ¬ BlockSpells 0 list (1 ∷ (ten_bytes 0x80 0x81 ++ 1 ∷ 1 ∷ [])) }
 {}

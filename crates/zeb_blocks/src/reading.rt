@@ -18,8 +18,10 @@ pub struct Damaged;
 /// The posting at the front of the bytes, told from the one before it, and the bytes behind it.
 fn read_posting<'a>(before: Posting, bytes: &'a [u8]) -> Option<(Posting, &'a [u8])>
     ensures { MatchOption result
-        ((p : Posting) (rest : List ℕ) → Follows before p → bytes.now ≢ bytes_of (gaps_of before p) ++ rest)
-        (λ found. Follows before found.0 × (bytes.now ≡ bytes_of (gaps_of before found.0) ++ found.1.now)) }
+        ((p : Posting) (rest : List ℕ) → Follows before p
+        → bytes.now ≢ bytes_of (gaps_of before p) ++ rest)
+        (λ found. Follows before found.0
+        × (bytes.now ≡ bytes_of (gaps_of before found.0) ++ found.1.now)) }
 {
     let (sysno, behind_sysno) = read_number(bytes)?;
     let (seq, behind_seq) = read_number(behind_sysno)?;
@@ -53,8 +55,10 @@ fn push_postings(
     start: Posting,
     bytes: &[u8],
 ) -> Result<Option<Posting>, AllocError>
-    ensures { IfOk result (λ found. MatchOption found ((list : List Posting) → ¬ SpellsFrom start list bytes.now)
-        (λ last. (list : List Posting) × SpellsFrom start list bytes.now × (last_from start list ≡ last)
+    ensures { IfOk result
+        (λ found. MatchOption found ((list : List Posting) → ¬ SpellsFrom start list bytes.now)
+        (λ last. (list : List Posting) × SpellsFrom start list bytes.now
+        × (last_from start list ≡ last)
         × (postings.new.items ≡ postings.old.items ++ list))) }
 {
     let mut last = start;
@@ -79,9 +83,11 @@ pub fn push_block(
     block: u64,
     bytes: &[u8],
 ) -> Result<Result<(), Damaged>, AllocError>
-    ensures spelled { IfOk result (λ read. OnOk read ((list : List Posting) × BlockSpells block list bytes.now
+    ensures spelled { IfOk result
+        (λ read. OnOk read ((list : List Posting) × BlockSpells block list bytes.now
         × (postings.new.items ≡ postings.old.items ++ list))) }
-    ensures damaged { IfOk result (λ read. OnErr read ((list : List Posting) → ¬ BlockSpells block list bytes.now)) }
+    ensures damaged { IfOk result
+        (λ read. OnErr read ((list : List Posting) → ¬ BlockSpells block list bytes.now)) }
 {
     let Some(start) = start_of_block(block) else {
         return Ok(Err(Damaged));
@@ -127,7 +133,8 @@ impl<'a> Postings<'a> {
     pub fn read(block: u64, bytes: &'a [u8]) -> Result<Postings<'a>, Damaged>
         ensures spelled { IfOk result (λ list. BlockSpells block list bytes.now) }
         ensures few { IfOk result (λ list. length list < 2 ^ 64) }
-        ensures damaged { OnErr result ((list : List Posting) → ¬ BlockSpells block list bytes.now) }
+        ensures damaged { OnErr result ((list : List Posting)
+            → ¬ BlockSpells block list bytes.now) }
     {
         let Some(start) = start_of_block(block) else {
             return Err(Damaged);

@@ -53,7 +53,8 @@ impl BlockWriter {
     /// Puts a posting at the end of the list, which has to rise and to stay in the block. Where memory ran out, the list stays as it was.
     pub fn push(&mut self, posting: Posting) -> Result<(), AllocError>
         requires { LiesIn self.old.block (self.old.list ++ posting ∷ []) }
-        ensures ok { OnOk result (self.new ≡ record { block = self.old.block; list = self.old.list ++ posting ∷ [] }) }
+        ensures ok { OnOk result (self.new
+            ≡ record { block = self.old.block; list = self.old.list ++ posting ∷ [] }) }
         ensures err { OnErr result (self.new ≡ self.old) }
     {
         let len = self.bytes.len();

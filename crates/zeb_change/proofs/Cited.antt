@@ -53,9 +53,10 @@ pub use Rattle.zeb_change.specs.Inside.{Continues}
 pub use Rattle.zeb_change.specs.NoteWords.{KeyChange}
 pub use Rattle.zeb_change.specs.Noted.{IsDueFor, IsNothingNoted, AreTurns, noted_count, IsSettled, LeadsList, LeadsTo, WillHold, notes_at, IsNotedIn, AreNoted, changes_among, Settles}
 pub use Rattle.zeb_change.specs.Occurs.{AreOccurrencesOf, OccursIn, occurs}
-pub use Rattle.zeb_change.specs.Outcomes.{register_refusal, marc_refusal, identifier_refusal}
+pub use Rattle.zeb_change.specs.Outcomes.{register_refusal, marc_refusal, identifier_refusal, change_refusal, fold_refusal, incoming_refusal, take_refusal, turn_refusal}
 pub use Rattle.zeb_change.specs.PrivateChangedKeys.{AreChangedKeys, key_in, IsAddedIfChanged, place_in}
 pub use Rattle.zeb_change.specs.PrivateElders.{KeepsOtherRecords, KeepsUnder}
+pub use Rattle.zeb_change.specs.PrivateFaults.{as_refusal, kept_fault}
 pub use Rattle.zeb_change.specs.PrivateKeyRuns.{AreOfKey, BeginsWithKey, Stops, IsNotAbove}
 pub use Rattle.zeb_change.specs.PrivateNoteWords.{IsCutOff, counts_in, TakesChange, TakesNumber, TakesPlaces}
 pub use Rattle.zeb_change.specs.PrivatePending.{AreGivenInOrder, number_in, AreGivenAs, ArePutAt, IsNotedAlso, IsTakenOut, IsNotNoted, change_in}
@@ -66,7 +67,7 @@ pub use Rattle.zeb_change.specs.PrivateStanding.{WillBe, standing, WillBeFolded,
 pub use Rattle.zeb_change.specs.PrivateTallies.{AreInRange, IsTallied}
 pub use Rattle.zeb_change.specs.Reading.{HasFailedAt, NoneFailed}
 pub use Rattle.zeb_change.specs.Reasons.{IsRefusedFor, LosesNamedAlone, AreNamed, HasReasonAt, IsAllowed, IsAtFault, IsNamed, IsNewAt, NamesAny, IsRefusedAt}
-pub use Rattle.zeb_change.specs.PrivateRecordChanges.{Point, Turns, AreStores, Steps, Accepts, ChangesRecord, HasOccurrences, IsSound, IsWithdrawn, NotesRecord, RefusesTurn, WritesRecords, point, Answers, RefusesSound, TurnsRecord}
+pub use Rattle.zeb_change.specs.PrivateRecordChanges.{Point, Turns, AreStores, Steps, Accepts, ChangesRecord, HasOccurrences, IsSound, IsWithdrawn, NotesRecord, RefusesTurn, WritesRecords, point, Answers, RefusesSound, TurnsRecord, FailsTurn, FailsWhole, TellsFailure, IsUnsound}
 pub use Rattle.zeb_change.specs.PrivateRecordFolds.{At, FoldsRecord, SettlesNotes, TakesFiles, TakesRecord, TakesRest, point_in, ChangesFiles, at, Each, EndsAll, EndsFile, ThenSettles, Advances, AreReadAs, IsReadAs, IsUnsettled, OfReaders, TakesReader, TakesReaders}
 pub use Rattle.zeb_change.specs.Refused.{Meets, Why, why_of, IsFailing, too_many_records, damaged, database_full, unknown}
 pub use Rattle.zeb_change.specs.Reposted.{ArePostingsOf, IsReposted, occurrence_at, AreTheSame}
@@ -74,8 +75,14 @@ pub use Rattle.zeb_change.specs.Stored.{IsKept, IsBase, ArePosted, AreKept}
 pub use Rattle.zeb_change.specs.UnderWay.{HaveSystemNumbers, with_records, IsFolded, IsUnderWay, StandsFor, conditions_of, KeepsNames}
 pub use Rattle.zeb_change.specs.declared.changed_keys.ChangedKey.{ChangedKey}
 pub use Rattle.zeb_change.specs.declared.files.Fold.{Fold}
+pub use Rattle.zeb_change.specs.declared.kept.KeptFault.{KeptFault}
 pub use Rattle.zeb_change.specs.declared.key_notes.KeyNotes.{KeyNotes}
 pub use Rattle.zeb_change.specs.declared.key_notes.PlaceCounts.{PlaceCounts}
+pub use Rattle.zeb_change.specs.declared.part_faults.ChangeFault.{ChangeFault}
+pub use Rattle.zeb_change.specs.declared.part_faults.FoldFault.{FoldFault}
+pub use Rattle.zeb_change.specs.declared.part_faults.IncomingFault.{IncomingFault}
+pub use Rattle.zeb_change.specs.declared.part_faults.TakeFault.{TakeFault}
+pub use Rattle.zeb_change.specs.declared.part_faults.TurnFault.{TurnFault}
 pub use Rattle.zeb_change.specs.declared.pending.Pending.{Pending}
 pub use Rattle.zeb_change.specs.declared.refusals.Refusal.{Refusal}
 pub use Rattle.zeb_change.specs.declared.refusals.Refusal.TheVariants.{Damaged, ReadFault, TooManyRecords, Unknown}

@@ -1,6 +1,7 @@
 pub mod Faults
 pub mod Refused
 pub mod Outcomes
+pub mod PrivateFaults
 pub mod Base
 pub mod Conditions
 pub mod PrivateConditions

@@ -11,8 +11,18 @@ use Rattle.zeb_query.specs.declared.faults.QueryFault.TheVariants as query
 use Rattle.zeb_register.specs.declared.RegFault.{RegFault}
 use Rattle.zeb_register.specs.declared.RegFault.TheVariants as register
 use Rattle.zeb_change.specs.declared.faults.RecordFault.TheVariants as fault
+use Rattle.zeb_change.specs.declared.part_faults.IncomingFault.{IncomingFault}
+use Rattle.zeb_change.specs.declared.part_faults.IncomingFault.TheVariants as incoming
+use Rattle.zeb_change.specs.declared.part_faults.TurnFault.{TurnFault}
+use Rattle.zeb_change.specs.declared.part_faults.TurnFault.TheVariants as turn
+use Rattle.zeb_change.specs.declared.part_faults.ChangeFault.{ChangeFault}
+use Rattle.zeb_change.specs.declared.part_faults.ChangeFault.TheVariants as change
+use Rattle.zeb_change.specs.declared.part_faults.TakeFault.{TakeFault}
+use Rattle.zeb_change.specs.declared.part_faults.TakeFault.TheVariants as take
+use Rattle.zeb_change.specs.declared.part_faults.FoldFault.{FoldFault}
+use Rattle.zeb_change.specs.declared.part_faults.FoldFault.TheVariants as fold
 use Rattle.zeb_change.specs.declared.refusals.Refusal.{Refusal}
-use Rattle.zeb_change.specs.declared.refusals.Refusal.TheVariants.{Diagnostic, Record, TooManyRecords, Damaged, ReadFault, Store, Memory}
+use Rattle.zeb_change.specs.declared.refusals.Refusal.TheVariants.{DatabaseFull, Diagnostic, Record, TooManyRecords, Unknown, Damaged, ReadFault, Store, Memory}
 
 abbrev pub register_refusal : RegFault → Refusal
 register_refusal register.Damaged = Damaged
@@ -50,3 +60,26 @@ analysis_refusal (analysis.Marc file nth fault) = marc_refusal file nth fault
 analysis_refusal (analysis.Ident file nth fault) = identifier_refusal file nth fault
 analysis_refusal analysis.TooManyRecords = TooManyRecords
 analysis_refusal analysis.Memory = Memory
+
+-- ---- what a part of a change tells
+
+abbrev pub incoming_refusal : IncomingFault → Refusal
+incoming_refusal (incoming.Record file nth fault) = Record file nth fault
+incoming_refusal incoming.Memory = Memory
+
+abbrev pub turn_refusal : TurnFault → Refusal
+turn_refusal (turn.Unknown file nth) = Unknown file nth
+turn_refusal turn.DatabaseFull = DatabaseFull
+turn_refusal (turn.Register fault) = register_refusal fault
+
+abbrev pub change_refusal : ChangeFault → Refusal
+change_refusal (change.Incoming fault) = incoming_refusal fault
+change_refusal (change.Turn fault) = turn_refusal fault
+
+abbrev pub take_refusal : TakeFault → Refusal
+take_refusal take.TooManyRecords = TooManyRecords
+take_refusal (take.Change fault) = change_refusal fault
+
+abbrev pub fold_refusal : FoldFault → Refusal
+fold_refusal (fold.ReadFault file) = ReadFault file
+fold_refusal (fold.Take fault) = take_refusal fault

@@ -3,15 +3,11 @@
 use Rattle.std.specs.Prelude.{◌≡◌, ℕ, Bool, true, false, List, Option, Some, Result, Ok, Err}
 use Rattle.zeb_marc.specs.declared.faults.MarcFault.{MarcFault}
 use Rattle.zeb_marc.specs.Splits.{at_end, a_fault, a_slice, next_of}
-use Rattle.zeb_change.specs.declared.refusals.Refusal.{Refusal}
-use Rattle.zeb_change.specs.Outcomes.{marc_refusal}
 
 -- Whether there is a record where this stands next, what the buffer keeps of it, and what is left unread: so much is known where the reader
--- hasn't failed, and its text is known. A fault is told as that of the file's record with this number.
-abbrev pub ReadsRecord : (file nth : ℕ) → (failed : Bool) → (remaining : Option (List ℕ)) → Result Bool Refusal → (kept : List ℕ) → (left : Option (List ℕ)) → Type 0
-ReadsRecord file nth failed remaining (Ok true) kept left =
+-- hasn't failed, and its text is known.
+abbrev pub ReadsRecord : (failed : Bool) → (remaining : Option (List ℕ)) → Result Bool MarcFault → (kept : List ℕ) → (left : Option (List ℕ)) → Type 0
+ReadsRecord failed remaining (Ok true) kept left =
     (failed ≡ false) × ((text : List ℕ) → remaining ≡ Some text → (rest : List ℕ) × (next_of text ≡ a_slice kept rest) × (left ≡ Some rest))
-ReadsRecord file nth failed remaining (Ok false) kept left = (failed ≡ false) × ((text : List ℕ) → remaining ≡ Some text → next_of text ≡ at_end)
-ReadsRecord file nth failed remaining (Err refusal) kept left =
-    (fault : MarcFault) × (refusal ≡ marc_refusal file nth fault)
-    × (failed ≡ false → (text : List ℕ) → remaining ≡ Some text → next_of text ≡ a_fault fault)
+ReadsRecord failed remaining (Ok false) kept left = (failed ≡ false) × ((text : List ℕ) → remaining ≡ Some text → next_of text ≡ at_end)
+ReadsRecord failed remaining (Err fault) kept left = failed ≡ false → (text : List ℕ) → remaining ≡ Some text → next_of text ≡ a_fault fault

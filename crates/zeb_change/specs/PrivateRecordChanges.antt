@@ -6,6 +6,7 @@ use Rattle.std.specs.List.{AllByRecursion}
 use Rattle.sqlite.specs.Effect.{Database, IsDatabase}
 use Rattle.sqlite.specs.State.{HasCleanDisk, State}
 use Rattle.sqlite.specs.Tree.{Trees}
+use Rattle.zeb_marc.specs.Records.{first_fault}
 use Rattle.zeb_profile.specs.declared.directives.Directive.{Directive}
 use Rattle.zeb_keys.specs.declared.keys.Occurrence.{Occurrence}
 use Rattle.zeb_register.specs.declared.kept.Elder.{Elder}
@@ -52,10 +53,14 @@ pub record Steps (limits : Limits) (old new : Progress) : Type 0 where
   pub next : new.last ≤ old.last + 1
   pub most : (most : ℕ) → old.last ≤ most → limits.numbers ≤ most → new.last ≤ most
 
--- a call is done, or it is refused so, or because the store or the memory failed
-abbrev pub Answers : {T : Type 0} → (Refusal → Type 0) → (T → Type 0) → Result T Refusal → Type 0
-Answers Refused Done (Ok x) = Done x
-Answers Refused Done (Err refusal) = IsFailing (why_of refusal) ⊎ Refused refusal
+-- a call is done, or it fails so, or it is refused so
+abbrev pub Answers : {T : Type 0} → (Fails Refused : Refusal → Type 0) → (Done : T → Type 0) → Result T Refusal → Type 0
+Answers Fails Refused Done (Ok x) = Done x
+Answers Fails Refused Done (Err refusal) = Fails refusal ⊎ Refused refusal
+
+-- the store or the memory failed
+abbrev pub TellsFailure : Refusal → Type 0
+TellsFailure refusal = IsFailing (why_of refusal)
 
 -- ---- rows
 
@@ -133,15 +138,26 @@ IsFull limits last refusal = (refusal ≡ DatabaseFull) × (limits.numbers ≤ l
 abbrev pub IsUnsound : List Directive → (ident : List ℕ) → Elder → Refusal → Type 0
 IsUnsound profile ident elder refusal = (refusal ≡ Damaged) × ¬ IsSound profile ident elder.bytes.items
 
+-- the limits leave a number, and the store or the memory failed
+abbrev pub FailsFree : Limits → (last : ℕ) → Refusal → Type 0
+FailsFree limits last refusal = (last < limits.numbers) × TellsFailure refusal
+
+-- the elder's bytes are a record, and the store or the memory failed: of other bytes it is told that they are damaged
+abbrev pub FailsWhole : Elder → Refusal → Type 0
+FailsWhole elder refusal = (first_fault elder.bytes.items ≡ None) × TellsFailure refusal
+
 -- what a call does that keeps a record without an elder, with one, or that withdraws its elder
 abbrev pub Inserts : Setting → ℤ → (ident bytes : List ℕ) → Point → Point → Result Fate Refusal → Type 0
-Inserts setting db ident bytes old new = Answers (IsFull setting.limits old.last) (IsInserted setting db ident bytes old new)
+Inserts setting db ident bytes old new =
+    Answers (FailsFree setting.limits old.last) (IsFull setting.limits old.last) (IsInserted setting db ident bytes old new)
 
 abbrev pub Supplants : Setting → ℤ → (ident bytes : List ℕ) → Elder → Point → Point → Result Fate Refusal → Type 0
-Supplants setting db ident bytes elder old new = Answers (IsUnsound setting.profile.now ident elder) (IsSupplanted setting db ident bytes elder old new)
+Supplants setting db ident bytes elder old new =
+    Answers (FailsWhole elder) (IsUnsound setting.profile.now ident elder) (IsSupplanted setting db ident bytes elder old new)
 
 abbrev pub Withdraws : Setting → ℤ → (ident : List ℕ) → Elder → Point → Point → Result Fate Refusal → Type 0
-Withdraws setting db ident elder old new = Answers (IsUnsound setting.profile.now ident elder) (IsWithdrawn setting db ident elder old new)
+Withdraws setting db ident elder old new =
+    Answers (FailsWhole elder) (IsUnsound setting.profile.now ident elder) (IsWithdrawn setting db ident elder old new)
 
 -- A sound record is accepted so, by the kind of the change and its elder.
 abbrev pub Turns : Setting → ℤ → (ident bytes : List ℕ) → Kind → Option Elder → Point → Point → Fate → Type 0
@@ -159,10 +175,18 @@ RefusesTurn setting file nth ident None Update last refusal = IsFull setting.lim
 RefusesTurn setting file nth ident None Delete last refusal = refusal ≡ Unknown file nth
 RefusesTurn setting file nth ident None Adelete last refusal = ⊥
 
+-- The store or the memory failed. Where the elder's bytes are no record, or the kind and the limits leave nothing to be done, neither is told.
+abbrev pub FailsTurn : Setting → Option Elder → Kind → (last : ℕ) → Refusal → Type 0
+FailsTurn setting (Some elder) kind last refusal = FailsWhole elder refusal
+FailsTurn setting None Update last refusal = FailsFree setting.limits last refusal
+FailsTurn setting None Delete last refusal = ⊥
+FailsTurn setting None Adelete last refusal = ⊥
+
 -- what a change of this kind does with the nth record of a file, which is sound, beside this elder
 abbrev pub TurnsRecord : Setting → ℤ → (file nth : ℕ) → (ident bytes : List ℕ) → Kind → Option Elder → Point → Point → Result Fate Refusal → Type 0
 TurnsRecord setting db file nth ident bytes kind elder old new =
-    Answers (RefusesTurn setting file nth ident elder kind old.last) (Turns setting db ident bytes kind elder old new)
+    Answers (FailsTurn setting elder kind old.last) (RefusesTurn setting file nth ident elder kind old.last)
+    (Turns setting db ident bytes kind elder old new)
 
 -- ---- one record of a file
 
@@ -184,5 +208,6 @@ pub record RefusesSound (setting : Setting) (db : ℤ) (file nth : ℕ) (bytes :
 -- what a change does with the nth record of a file
 abbrev pub ChangesRecord : Setting → ℤ → (file nth : ℕ) → (bytes : List ℕ) → Point → Point → Result Fate Refusal → Type 0
 ChangesRecord setting db file nth bytes old new =
-    Answers (λ refusal. IsAtFault setting.profile.now file nth (bytes ∷ []) None refusal ⊎ RefusesSound setting db file nth bytes old refusal)
+    Answers TellsFailure
+    (λ refusal. IsAtFault setting.profile.now file nth (bytes ∷ []) None refusal ⊎ RefusesSound setting db file nth bytes old refusal)
     (Accepts setting db bytes old new)

@@ -48,8 +48,10 @@ fn places_of(alloc: Global, occurrences: &[Occurrence]) -> Result<Vec<Place>, Al
 
 /// The lesser of the keys that two lists begin with.
 fn lesser_key<'a>(old: &'a [Occurrence], new: &'a [Occurrence]) -> Option<&'a Key>
-    ensures found { IfSome result (λ key. BeginsWithKey key.now old.now ⊎ BeginsWithKey key.now new.now) }
-    ensures lesser { IfSome result (λ key. IsNotAbove key.now old.now × IsNotAbove key.now new.now) }
+    ensures found { IfSome result (λ key.
+        BeginsWithKey key.now old.now ⊎ BeginsWithKey key.now new.now) }
+    ensures lesser { IfSome result (λ key.
+        IsNotAbove key.now old.now × IsNotAbove key.now new.now) }
     ensures none { IfNone result ((old.now ≡ []) × (new.now ≡ [])) }
 {
     order_is_by_parts();
@@ -71,7 +73,8 @@ fn note<'a>(
     old: Vec<Place>,
     new: Vec<Place>,
 ) -> Result<(), AllocError>
-    ensures { OnOk result (IsAddedIfChanged key.now old.items new.items changed.old.items changed.new.items) }
+    ensures { OnOk result (IsAddedIfChanged key.now old.items new.items changed.old.items
+        changed.new.items) }
 {
     if old != new {
         changed.push(ChangedKey { key, old, new })?;
@@ -87,7 +90,8 @@ pub(crate) fn changed_keys<'a>(
     elder: &'a [Occurrence],
     newer: &'a [Occurrence],
 ) -> Result<Vec<ChangedKey<'a>>, AllocError>
-    ensures { IsRising elder.now → IsRising newer.now → IfOk result (λ changed. AreChangedKeys elder.now newer.now changed.items) }
+    ensures { IsRising elder.now → IsRising newer.now
+        → IfOk result (λ changed. AreChangedKeys elder.now newer.now changed.items) }
 {
     let mut changed = Vec::new(alloc);
     let mut elder = elder;

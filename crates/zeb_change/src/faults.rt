@@ -1,8 +1,9 @@
 //! What is wrong with a record.
 
-ghost use Rattle.std.specs.Prelude.{◌≡◌};
+ghost use Rattle.std.specs.Prelude.{◌≡◌, ◌≢◌, ℕ};
 
 use std::fmt;
+use zeb_marc::MarcFault;
 
 /// Why a record is refused: what breaks its structure (ISO 2709), or what is wrong with its identifier.
 #[derive(Clone, Copy, Debug, PartialEq, Eq)]
@@ -25,6 +26,30 @@ pub enum RecordFault {
 
 impl RecordFault {
     ghost use Rattle.zeb_change.specs.Faults.{fault_name};
+    ghost use Rattle.zeb_change.specs.Outcomes.{marc_refusal};
+    ghost use Rattle.zeb_change.specs.declared.refusals.Refusal.TheVariants.{Record};
+
+    /// What is wrong with a record whose bytes are at fault, or with what stands in its place. That a reader failed is none of it.
+    pub(crate) fn of_marc(fault: MarcFault) -> RecordFault
+        requires { fault ≢ MarcFault.ReadFault }
+        ensures { (file nth : ℕ) → marc_refusal file nth fault ≡ Record file nth result }
+    {
+        match fault {
+            MarcFault::LengthDigits => RecordFault::LengthDigits,
+            MarcFault::LengthRange => RecordFault::LengthRange,
+            MarcFault::Truncated => RecordFault::Truncated,
+            MarcFault::NoTerminator => RecordFault::NoTerminator,
+            MarcFault::LeaderCounts => RecordFault::LeaderCounts,
+            MarcFault::BaseAddress => RecordFault::BaseAddress,
+            MarcFault::DirectoryLength => RecordFault::DirectoryLength,
+            MarcFault::EntryDigits => RecordFault::EntryDigits,
+            MarcFault::EntryTag => RecordFault::EntryTag,
+            MarcFault::EntryRange => RecordFault::EntryRange,
+            MarcFault::FieldEnd => RecordFault::FieldEnd,
+            MarcFault::TooManySeparators => RecordFault::TooManySeparators,
+            MarcFault::ReadFault => unreachable!(),
+        }
+    }
 
     /// The fault's name, as it is printed.
     pub fn name(self) -> &'static str

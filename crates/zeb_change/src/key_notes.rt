@@ -41,7 +41,8 @@ impl KeyNotes {
     /// Notes one more change; answers how many bytes more are taken.
     pub(crate) fn note(&mut self, change: RecordChange<'_>) -> Result<usize, AllocError>
         ensures count { OnOk result (self.new.count ≡ self.old.count + 1) }
-        ensures words { OnOk result (self.new.words.items ≡ self.old.words.items ++ change_words (change_in change.entry)) }
+        ensures words { OnOk result (self.new.words.items
+            ≡ self.old.words.items ++ change_words (change_in change.entry)) }
     {
         let room = self.words.capacity();
         self.count = self.count.checked_add(1).ok_or(AllocError)?;
@@ -76,8 +77,8 @@ fn take_change<'a>(
     places: &mut Vec<Place>,
 ) -> Result<&'a [u16], AllocError>
     ensures one { OnOk result (length counts.new.items ≡ length counts.old.items + 1) }
-    ensures told { IfOk result (λ left. TakesChange words.now left.now counts.old.items counts.new.items places.old.items
-        places.new.items) }
+    ensures told { IfOk result (λ left. TakesChange words.now left.now counts.old.items
+        counts.new.items places.old.items places.new.items) }
 {
     let (sysno, left) = take_number(words);
     let (old, left) = take_number(left);

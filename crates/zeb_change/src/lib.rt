@@ -8,6 +8,7 @@ mod files;
 mod kept;
 mod key_notes;
 mod noting;
+mod part_faults;
 mod pending;
 mod records;
 mod refusals;
@@ -18,7 +19,7 @@ mod writing;
 
 pub use faults::RecordFault;
 pub use files::{Fold, check_readers, fold_files};
-pub use kept::kept_occurrences;
+pub use kept::{KeptFault, kept_occurrences};
 pub use noting::note_keys;
 pub use pending::Pending;
 pub use records::Progress;

@@ -63,7 +63,8 @@ impl Pending {
 
     /// Notes the first change of a key.
     fn note_first(&mut self, key: &Key, change: RecordChange<'_>) -> Result<(), AllocError>
-        ensures { IsNotNoted key.now self.old → OnOk result (IsNotedAlso key.now (change_in change.entry) self.old self.new) }
+        ensures { IsNotNoted key.now self.old
+            → OnOk result (IsNotedAlso key.now (change_in change.entry) self.old self.new) }
     {
         order_is_by_parts();
         let mut notes = KeyNotes::new(self.alloc);

@@ -1,29 +1,31 @@
 //! One record of a change: it is added, replaces a kept one, or takes it away.
 
-ghost use Rattle.std.specs.Prelude.{◌≡◌, ◌≢◌, ◌↔◌, ◌≤◌, [], ◌∷◌, None, Ok, Err};
+ghost use Rattle.std.specs.Prelude.{◌≡◌, ◌↔◌, ◌<◌, [], ◌∷◌, None, Ok, Err, IfOk};
 ghost use Rattle.std.specs.Prelude.{string_bytes, IsTrue};
 ghost use Rattle.sqlite.specs.Held.{state};
-ghost use Rattle.zeb_marc.specs.Records.{IsRecord};
+ghost use Rattle.zeb_marc.specs.Records.{IsRecord, first_fault};
 ghost use Rattle.zeb_change.specs.Folding.{ident_in};
 ghost use Rattle.zeb_change.specs.Occurs.{AreOccurrencesOf};
+ghost use Rattle.zeb_change.specs.Outcomes.{change_refusal, incoming_refusal, register_refusal, turn_refusal};
+ghost use Rattle.zeb_change.specs.PrivateFaults.{as_refusal};
 ghost use Rattle.zeb_change.specs.PrivateInside.{WorksInside};
-ghost use Rattle.zeb_change.specs.Reading.{NoReadFault};
 ghost use Rattle.zeb_change.specs.Reasons.{IsAtFault};
-ghost use Rattle.zeb_change.specs.PrivateRecordChanges.{Answers, ChangesRecord, Inserts, IsSound, IsUnsound, OnRows, Steps, Supplants, TurnsRecord, Withdraws, point};
-ghost use Rattle.zeb_change.specs.Refused.{NeverUnready};
+ghost use Rattle.zeb_change.specs.PrivateRecordChanges.{Answers, ChangesRecord, Inserts, TellsFailure, IsSound, OnRows, Steps, Supplants, TurnsRecord, Withdraws, point};
 
-use crate::kept::kept_occurrences;
+use crate::faults::RecordFault;
+use crate::kept::{KeptFault, kept_occurrences};
 use crate::noting::note_keys;
+use crate::part_faults::{ChangeFault, IncomingFault, TurnFault};
 use crate::pending::Pending;
-use crate::refusals::Refusal;
 use crate::settings::{Kind, Setting};
 use crate::tally::Fate;
 use sqlite::{Alter, Transaction};
+use std::alloc::AllocError;
 use zeb_extract::{identifier, occurrences};
 use zeb_keys::Occurrence;
 use zeb_marc::Marc;
 use zeb_profile::Profile;
-use zeb_register::{DatabaseId, Elder, Work, record_of_ident, record_put, record_take};
+use zeb_register::{DatabaseId, Elder, RegFault, Work, record_of_ident, record_put, record_take};
 
 /// How far a change has come: the database with its last system number, and the work on its registers.
 #[derive(Clone, Copy, Debug)]
@@ -55,50 +57,50 @@ fn elder_occurrences(
     setting: &Setting<'_>,
     ident: &str,
     elder: &Elder,
-) -> Result<Vec<Occurrence>, Refusal>
-    ensures read { Answers (IsUnsound setting.now.profile.now ident.now elder.now)
-        (λ found. IsSound setting.now.profile.now ident.now elder.now.bytes.items
-        × AreOccurrencesOf setting.now.profile.now elder.now.bytes.items found.items) result }
-    ensures unread { NoReadFault result }
-    ensures ready { NeverUnready result }
-    ensures unstored { result ≢ Err Refusal.Store }
+) -> Result<Vec<Occurrence>, KeptFault>
+    ensures read { IfOk result (λ found.
+        IsSound setting.now.profile.now ident.now elder.now.bytes.items
+        × AreOccurrencesOf setting.now.profile.now elder.now.bytes.items found.items) }
+    ensures damaged { result ≡ Err KeptFault.Damaged
+        → ¬ IsSound setting.now.profile.now ident.now elder.now.bytes.items }
+    ensures unread { result ≡ Err KeptFault.Memory → first_fault elder.now.bytes.items ≡ None }
 {
     Ok(kept_occurrences(setting.alloc, setting.profile, ident, &elder.bytes)?)
 }
 
 /// The record's own occurrences.
-fn newer_occurrences(setting: &Setting<'_>, newer: &Newer<'_>) -> Result<Vec<Occurrence>, Refusal>
+fn newer_occurrences(
+    setting: &Setting<'_>,
+    newer: &Newer<'_>,
+) -> Result<Vec<Occurrence>, AllocError>
     requires whole { IsRecord newer.now.bytes.now newer.now.marc }
-    ensures found { Answers (λ _. ⊥) (λ found. AreOccurrencesOf setting.now.profile.now newer.now.bytes.now found.items) result }
-    ensures unread { NoReadFault result }
-    ensures ready { NeverUnready result }
-    ensures unstored { result ≢ Err Refusal.Store }
+    ensures { IfOk result (λ found.
+        AreOccurrencesOf setting.now.profile.now newer.now.bytes.now found.items) }
 {
-    Ok(occurrences(setting.alloc, &newer.marc, setting.profile)?)
+    let found = occurrences(setting.alloc, &newer.marc, setting.profile)?;
+    Ok(found)
 }
 
-/// The record is kept under the number after the last; `DatabaseFull` where the limits leave none.
+/// The record is kept under the number after the last, which the limits leave.
 fn insert<S: Alter>(
     tx: &mut Transaction<'_, S>,
     setting: &Setting<'_>,
     progress: &mut Progress,
     pending: &mut Pending,
     newer: &Newer<'_>,
-) -> Result<Fate, Refusal>
+) -> Result<Fate, RegFault>
     requires whole { IsRecord newer.now.bytes.now newer.now.marc }
+    requires free { progress.old.last < setting.now.limits.numbers }
     ensures same { tx.new.conn.ghost_name ≡ tx.old.conn.ghost_name }
-    ensures inside { WorksInside (state S.Store tx.old.conn.now) (state S.Store tx.new.conn.now) result }
+    ensures inside { WorksInside (state S.Store tx.old.conn.now)
+        (state S.Store tx.new.conn.now) result }
     ensures steps { Steps setting.now.limits progress.old progress.new }
     ensures inserts { OnRows (state S.Store tx.old.conn.now) (state S.Store tx.new.conn.now)
         (Inserts setting.now progress.old.database.0 newer.now.ident.now newer.now.bytes.now
-        (point (state S.Store tx.old.conn.now) pending.old progress.old.last) (point (state S.Store tx.new.conn.now) pending.new progress.new.last) result) }
-    ensures unread { NoReadFault result }
-    ensures ready { NeverUnready result }
-    ensures full { setting.now.limits.numbers ≤ progress.old.last → result ≡ Err Refusal.DatabaseFull }
+        (point (state S.Store tx.old.conn.now) pending.old progress.old.last)
+        (point (state S.Store tx.new.conn.now) pending.new progress.new.last)
+        (as_refusal register_refusal result)) }
 {
-    if progress.last >= setting.limits.numbers {
-        return Err(Refusal::DatabaseFull);
-    }
     let new = newer_occurrences(setting, newer)?;
     progress.last += 1;
     let sysno = progress.last;
@@ -123,15 +125,16 @@ fn replace<S: Alter>(
     pending: &mut Pending,
     elder: &Elder,
     newer: &Newer<'_>,
-) -> Result<Fate, Refusal>
+) -> Result<Fate, RegFault>
     requires whole { IsRecord newer.now.bytes.now newer.now.marc }
     ensures same { tx.new.conn.ghost_name ≡ tx.old.conn.ghost_name }
-    ensures inside { WorksInside (state S.Store tx.old.conn.now) (state S.Store tx.new.conn.now) result }
+    ensures inside { WorksInside (state S.Store tx.old.conn.now)
+        (state S.Store tx.new.conn.now) result }
     ensures supplants { OnRows (state S.Store tx.old.conn.now) (state S.Store tx.new.conn.now)
-        (Supplants setting.now progress.now.database.0 newer.now.ident.now newer.now.bytes.now elder.now
-        (point (state S.Store tx.old.conn.now) pending.old progress.now.last) (point (state S.Store tx.new.conn.now) pending.new progress.now.last) result) }
-    ensures unread { NoReadFault result }
-    ensures ready { NeverUnready result }
+        (Supplants setting.now progress.now.database.0 newer.now.ident.now newer.now.bytes.now
+        elder.now (point (state S.Store tx.old.conn.now) pending.old progress.now.last)
+        (point (state S.Store tx.new.conn.now) pending.new progress.now.last)
+        (as_refusal register_refusal result)) }
 {
     if has_bytes(elder, newer.bytes) {
         return Ok(Fate::Updated);
@@ -152,14 +155,15 @@ fn withdraw<S: Alter>(
     pending: &mut Pending,
     ident: &str,
     elder: &Elder,
-) -> Result<Fate, Refusal>
+) -> Result<Fate, RegFault>
     ensures same { tx.new.conn.ghost_name ≡ tx.old.conn.ghost_name }
-    ensures inside { WorksInside (state S.Store tx.old.conn.now) (state S.Store tx.new.conn.now) result }
+    ensures inside { WorksInside (state S.Store tx.old.conn.now)
+        (state S.Store tx.new.conn.now) result }
     ensures withdraws { OnRows (state S.Store tx.old.conn.now) (state S.Store tx.new.conn.now)
         (Withdraws setting.now progress.now.database.0 ident.now elder.now
-        (point (state S.Store tx.old.conn.now) pending.old progress.now.last) (point (state S.Store tx.new.conn.now) pending.new progress.now.last) result) }
-    ensures unread { NoReadFault result }
-    ensures ready { NeverUnready result }
+        (point (state S.Store tx.old.conn.now) pending.old progress.now.last)
+        (point (state S.Store tx.new.conn.now) pending.new progress.now.last)
+        (as_refusal register_refusal result)) }
 {
     let old = elder_occurrences(setting, ident, elder)?;
     let sysno = elder.sysno;
@@ -168,7 +172,8 @@ fn withdraw<S: Alter>(
     Ok(Fate::Deleted)
 }
 
-/// Does with a record what the change's kind says, beside its elder.
+/// Does with a record what the change's kind says, beside its elder. `Unknown` is told of a strict delete without one, `DatabaseFull` of a
+/// new record where the limits leave no number; neither touches the tables, so the store and the memory can't fail then.
 fn turn_record<S: Alter>(
     tx: &mut Transaction<'_, S>,
     setting: &Setting<'_>,
@@ -178,37 +183,36 @@ fn turn_record<S: Alter>(
     newer: &Newer<'_>,
     file: u64,
     nth: u64,
-) -> Result<Fate, Refusal>
+) -> Result<Fate, TurnFault>
     requires whole { IsRecord newer.now.bytes.now newer.now.marc }
     ensures same { tx.new.conn.ghost_name ≡ tx.old.conn.ghost_name }
-    ensures inside { WorksInside (state S.Store tx.old.conn.now) (state S.Store tx.new.conn.now) result }
+    ensures inside { WorksInside (state S.Store tx.old.conn.now)
+        (state S.Store tx.new.conn.now) result }
     ensures steps { Steps setting.now.limits progress.old progress.new }
     ensures turns { OnRows (state S.Store tx.old.conn.now) (state S.Store tx.new.conn.now)
-        (TurnsRecord setting.now progress.old.database.0 file nth newer.now.ident.now newer.now.bytes.now setting.now.kind elder
-        (point (state S.Store tx.old.conn.now) pending.old progress.old.last) (point (state S.Store tx.new.conn.now) pending.new progress.new.last) result) }
-    ensures unread { NoReadFault result }
-    ensures ready { NeverUnready result }
+        (TurnsRecord setting.now progress.old.database.0 file nth
+        newer.now.ident.now newer.now.bytes.now setting.now.kind elder
+        (point (state S.Store tx.old.conn.now) pending.old progress.old.last)
+        (point (state S.Store tx.new.conn.now) pending.new progress.new.last)
+        (as_refusal turn_refusal result)) }
 {
     match (setting.kind, elder) {
-        (Kind::Update, Some(elder)) => replace(tx, setting, progress, pending, &elder, newer),
-        (Kind::Update, None) => insert(tx, setting, progress, pending, newer),
-        (Kind::Delete, Some(elder)) => withdraw(
-            tx,
-            setting,
-            progress,
-            pending,
-            newer.ident,
-            &elder,
-        ),
-        (Kind::Adelete, Some(elder)) => withdraw(
-            tx,
-            setting,
-            progress,
-            pending,
-            newer.ident,
-            &elder,
-        ),
-        (Kind::Delete, None) => Err(Refusal::Unknown { file, nth }),
+        (Kind::Update, Some(elder)) => {
+            Ok(replace(tx, setting, progress, pending, &elder, newer)?)
+        }
+        (Kind::Update, None) => {
+            if progress.last >= setting.limits.numbers {
+                return Err(TurnFault::DatabaseFull);
+            }
+            Ok(insert(tx, setting, progress, pending, newer)?)
+        }
+        (Kind::Delete, Some(elder)) => {
+            Ok(withdraw(tx, setting, progress, pending, newer.ident, &elder)?)
+        }
+        (Kind::Adelete, Some(elder)) => {
+            Ok(withdraw(tx, setting, progress, pending, newer.ident, &elder)?)
+        }
+        (Kind::Delete, None) => Err(TurnFault::Unknown { file, nth }),
         (Kind::Adelete, None) => Ok(Fate::PassedOver),
     }
 }
@@ -217,22 +221,25 @@ fn turn_record<S: Alter>(
 fn sound_record<'a>(
     setting: &Setting<'_>,
     incoming: Incoming<'a>,
-) -> Result<(Marc<'a>, String), Refusal>
-    ensures reads { Answers (IsAtFault setting.now.profile.now incoming.entry.file incoming.entry.nth (incoming.entry.bytes.now ∷ []) None)
+) -> Result<(Marc<'a>, String), IncomingFault>
+    ensures reads { Answers TellsFailure
+        (IsAtFault setting.now.profile.now incoming.entry.file incoming.entry.nth
+        (incoming.entry.bytes.now ∷ []) None)
         (λ sound. IsRecord incoming.entry.bytes.now sound.0
-        × (ident_in setting.now.profile.now incoming.entry.bytes.now ≡ Ok (string_bytes sound.1))) result }
-    ensures unread { NoReadFault result }
-    ensures ready { NeverUnready result }
-    ensures unstored { result ≢ Err Refusal.Store }
+        × (ident_in setting.now.profile.now incoming.entry.bytes.now ≡ Ok (string_bytes sound.1)))
+        (as_refusal incoming_refusal result) }
 {
     let Incoming { bytes, file, nth } = incoming;
     let record = match Marc::read(bytes) {
         Ok(record) => record,
-        Err(fault) => return Err(Refusal::of_marc(file, nth, fault)),
+        Err(fault) => {
+            let fault = RecordFault::of_marc(fault);
+            return Err(IncomingFault::Record { file, nth, fault });
+        }
     };
     match identifier(setting.alloc, &record, setting.profile) {
         Ok(ident) => Ok((record, ident)),
-        Err(fault) => Err(Refusal::of_identifier(file, nth, fault)),
+        Err(fault) => Err(IncomingFault::of_identifier(file, nth, fault)),
     }
 }
 
@@ -243,20 +250,22 @@ pub(crate) fn change_record<S: Alter>(
     progress: &mut Progress,
     pending: &mut Pending,
     incoming: Incoming<'_>,
-) -> Result<Fate, Refusal>
+) -> Result<Fate, ChangeFault>
     ensures same { tx.new.conn.ghost_name ≡ tx.old.conn.ghost_name }
-    ensures inside { WorksInside (state S.Store tx.old.conn.now) (state S.Store tx.new.conn.now) result }
+    ensures inside { WorksInside (state S.Store tx.old.conn.now)
+        (state S.Store tx.new.conn.now) result }
     ensures steps { Steps setting.now.limits progress.old progress.new }
     ensures changes { OnRows (state S.Store tx.old.conn.now) (state S.Store tx.new.conn.now)
-        (ChangesRecord setting.now progress.old.database.0 incoming.entry.file incoming.entry.nth incoming.entry.bytes.now
-        (point (state S.Store tx.old.conn.now) pending.old progress.old.last) (point (state S.Store tx.new.conn.now) pending.new progress.new.last) result) }
-    ensures unread { NoReadFault result }
-    ensures ready { NeverUnready result }
+        (ChangesRecord setting.now progress.old.database.0
+        incoming.entry.file incoming.entry.nth incoming.entry.bytes.now
+        (point (state S.Store tx.old.conn.now) pending.old progress.old.last)
+        (point (state S.Store tx.new.conn.now) pending.new progress.new.last)
+        (as_refusal change_refusal result)) }
 {
     let Incoming { bytes, file, nth } = incoming;
     let (marc, named) = sound_record(setting, incoming)?;
     let ident = named.as_str();
     let elder = record_of_ident(tx, progress.database, ident)?;
     let newer = Newer { ident, bytes, marc };
-    turn_record(tx, setting, progress, pending, elder, &newer, file, nth)
+    Ok(turn_record(tx, setting, progress, pending, elder, &newer, file, nth)?)
 }

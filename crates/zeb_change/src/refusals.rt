@@ -3,10 +3,9 @@
 ghost use Rattle.std.specs.Prelude.{◌≡◌};
 
 use crate::faults::RecordFault;
+use crate::part_faults::{ChangeFault, FoldFault, IncomingFault, TakeFault, TurnFault};
 use std::alloc::AllocError;
 use zeb_analysis::AnalysisFault;
-use zeb_extract::IdentFault;
-use zeb_marc::MarcFault;
 use zeb_query::QueryFault;
 use zeb_register::RegFault;
 
@@ -121,48 +120,54 @@ impl From<AnalysisFault> for Refusal {
 
     fn from(fault: AnalysisFault) -> Refusal {
         match fault {
-            AnalysisFault::Marc { file, nth, fault } => Refusal::of_marc(file, nth, fault),
-            AnalysisFault::Ident { file, nth, fault } => Refusal::of_identifier(file, nth, fault),
+            AnalysisFault::Marc { file, nth, fault } => FoldFault::of_marc(file, nth, fault).into(),
+            AnalysisFault::Ident { file, nth, fault } => {
+                IncomingFault::of_identifier(file, nth, fault).into()
+            }
             AnalysisFault::TooManyRecords => Refusal::TooManyRecords,
             AnalysisFault::Memory => Refusal::Memory,
         }
     }
 }
 
-impl Refusal {
-    ghost use Rattle.zeb_change.specs.Outcomes.{marc_refusal, identifier_refusal};
+impl From<IncomingFault> for Refusal {
+    ghost use Rattle.zeb_change.specs.Outcomes.{incoming_refusal};
 
-    /// The refusal of a record whose bytes are at fault, or could not be read.
-    pub(crate) fn of_marc(file: u64, nth: u64, fault: MarcFault) -> Refusal
-        ensures { result ≡ marc_refusal file nth fault }
-    {
-        let fault = match fault {
-            MarcFault::ReadFault => return Refusal::ReadFault { file },
-            MarcFault::LengthDigits => RecordFault::LengthDigits,
-            MarcFault::LengthRange => RecordFault::LengthRange,
-            MarcFault::Truncated => RecordFault::Truncated,
-            MarcFault::NoTerminator => RecordFault::NoTerminator,
-            MarcFault::LeaderCounts => RecordFault::LeaderCounts,
-            MarcFault::BaseAddress => RecordFault::BaseAddress,
-            MarcFault::DirectoryLength => RecordFault::DirectoryLength,
-            MarcFault::EntryDigits => RecordFault::EntryDigits,
-            MarcFault::EntryTag => RecordFault::EntryTag,
-            MarcFault::EntryRange => RecordFault::EntryRange,
-            MarcFault::FieldEnd => RecordFault::FieldEnd,
-            MarcFault::TooManySeparators => RecordFault::TooManySeparators,
-        };
-        Refusal::Record { file, nth, fault }
+    ghost from_gives = { λ fault refusal. refusal ≡ incoming_refusal fault };
+
+    fn from(fault: IncomingFault) -> Refusal {
+        match fault {
+            IncomingFault::Record { file, nth, fault } => Refusal::Record { file, nth, fault },
+            IncomingFault::Memory => Refusal::Memory,
+        }
     }
+}
 
-    /// The refusal of a record that has no sound identifier.
-    pub(crate) fn of_identifier(file: u64, nth: u64, fault: IdentFault) -> Refusal
-        ensures { result ≡ identifier_refusal file nth fault }
-    {
-        let fault = match fault {
-            IdentFault::Memory => return Refusal::Memory,
-            IdentFault::NoIdentifier => RecordFault::NoIdentifier,
-            IdentFault::BadIdentifier => RecordFault::BadIdentifier,
-        };
-        Refusal::Record { file, nth, fault }
+impl From<TurnFault> for Refusal {
+    ghost use Rattle.zeb_change.specs.Outcomes.{turn_refusal};
+
+    ghost from_gives = { λ fault refusal. refusal ≡ turn_refusal fault };
+
+    fn from(fault: TurnFault) -> Refusal {
+        match fault {
+            TurnFault::Unknown { file, nth } => Refusal::Unknown { file, nth },
+            TurnFault::DatabaseFull => Refusal::DatabaseFull,
+            TurnFault::Register(fault) => fault.into(),
+        }
+    }
+}
+
+impl From<FoldFault> for Refusal {
+    ghost use Rattle.zeb_change.specs.Outcomes.{fold_refusal};
+
+    ghost from_gives = { λ fault refusal. refusal ≡ fold_refusal fault };
+
+    fn from(fault: FoldFault) -> Refusal {
+        match fault {
+            FoldFault::ReadFault { file } => Refusal::ReadFault { file },
+            FoldFault::Take(TakeFault::TooManyRecords) => Refusal::TooManyRecords,
+            FoldFault::Take(TakeFault::Change(ChangeFault::Incoming(fault))) => fault.into(),
+            FoldFault::Take(TakeFault::Change(ChangeFault::Turn(fault))) => fault.into(),
+        }
     }
 }

@@ -32,7 +32,8 @@ impl Tally {
 
     /// Nothing was taken yet.
     pub fn new() -> Tally
-        ensures { (result.records ≡ 0) × (result.inserted ≡ 0) × (result.updated ≡ 0) × (result.deleted ≡ 0) }
+        ensures { (result.records ≡ 0) × (result.inserted ≡ 0) × (result.updated ≡ 0)
+            × (result.deleted ≡ 0) }
     {
         Tally {
             records: 0,

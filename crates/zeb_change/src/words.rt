@@ -76,7 +76,8 @@ pub(crate) fn take_places<'a>(
     count: u64,
     places: &mut Vec<Place>,
 ) -> Result<&'a [u16], AllocError>
-    ensures { IfOk result (λ left. TakesPlaces words.now count left.now places.old.items places.new.items) }
+    ensures { IfOk result (λ left. TakesPlaces words.now count left.now places.old.items
+        places.new.items) }
 {
     let mut left = words;
     for _ in 0..count {

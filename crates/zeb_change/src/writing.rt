@@ -80,10 +80,7 @@ fn write_key<S: Alter, L: Layout>(
         → result ≡ Err RegFault.Damaged
         → (before after : Content) → IsStorable before → holds_in L.format (state S.Store tx.old.conn.now).now.trees before
         → ¬ ArePutAt db.0 key.now notes.now before after }
-    ensures work { HasCleanDisk (state S.Store tx.new.conn.now) → IsTrue (state S.Store tx.old.conn.now).in_transaction
-        → IsStore (state S.Store tx.old.conn.now)
-        → OnOk result ((content : Content) → holds_in L.format (state S.Store tx.old.conn.now).now.trees content
-        → IsWorkFor L.row_work notes.now.count work.old work.new) }
+    ensures work { OnOk result (IsWorkFor L.row_work notes.now.count work.old work.new) }
     ensures no_work { L.row_work ≡ 0 → work.new ≡ work.old }
     ensures malformed { InStore (state S.Store tx.old.conn.now) (state S.Store tx.new.conn.now) (λ trees. OnOk result
         (KeepsMalformed trees (state S.Store tx.new.conn.now).now.trees)) }

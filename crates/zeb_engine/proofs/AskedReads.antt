@@ -1,5 +1,5 @@
 -- What a find or a scan reads, step by step.
-use Rattle.zeb_engine.proofs.Cited.{◌≡◌, ℕ, ◌+◌, ◌-◌, ◌*◌, ◌≤◌, List, Result, Ok, Err, OnOk, String, arith, filter, length, sym, string_bytes, subst, subst₂, take, length-drop, length-take, Global, mul-add, mul-le-mul_left, Database, State, Trees, Directive, Register, Occurrence, TermCount, Work, ChangesNothing, Content, Posting, Format, holds_in, AreTermsBefore, AreTermsFrom, is_before, is_from, last, IsStore, Works, store_same, CountsAtMost, counts_then, counts_within, terms_count, Refusal, DbName, name_bytes, Find, Scan, Reply, StaysOpen, no_work, CommandReads, FindReads, ScanReads}
+use Rattle.zeb_engine.proofs.Cited.{◌≡◌, ℕ, ◌+◌, ◌-◌, ◌*◌, ◌≤◌, List, Result, Ok, Err, OnOk, arith, filter, length, sym, subst, take, length-drop, length-take, mul-add, mul-le-mul_left, Database, State, Trees, Register, Occurrence, TermCount, Work, ChangesNothing, Content, Format, holds_in, AreTermsBefore, AreTermsFrom, is_before, is_from, last, IsStore, Works, store_same, CountsAtMost, counts_then, counts_within, terms_count, Refusal, Reply, StaysOpen}
 
 -- the first of a list, and the last, are at most so many
 first_few : {X : Type 0} (n : ℕ) (xs : List X) → length (take n xs) ≤ n
@@ -28,18 +28,3 @@ told_after format Told old mid new (Ok reply) nothing opened told = λ store con
     let same = nothing opened.0 in
     subst (λ (d : Database). Told d.trees content) same.1 (told (store_same old mid same.1 store) content (subst (λ (d : Database). holds_in format d.trees content) (sym same.1) has))
 told_after format Told old mid new (Err refusal) nothing opened told = tt
-
--- a session's find
-pub find_command_reads : (format : Format) (row_work : ℕ) (block_rows : List Posting → ℕ) (profile : List Directive) (s : State) (result : Result Reply Refusal) (database : DbName) (query : String Global) (first count : ℕ)
-    (name asked : List ℕ) (fresh work : Work) → name ≡ name_bytes database → asked ≡ string_bytes query → fresh ≡ no_work → OnOk result (FindReads format row_work block_rows profile name asked s fresh work)
-    → CommandReads format row_work block_rows profile (Find database query first count) s result work
-find_command_reads format row_work block_rows profile s result database query first count name asked fresh work is_name is_asked is_fresh reads =
-    subst₂ (λ (n q : List ℕ). OnOk result (FindReads format row_work block_rows profile n q s no_work work)) is_name is_asked
-    (subst (λ (w : Work). OnOk result (FindReads format row_work block_rows profile name asked s w work)) is_fresh reads)
-
--- a session's scan
-pub scan_command_reads : (format : Format) (row_work : ℕ) (block_rows : List Posting → ℕ) (profile : List Directive) (s : State) (result : Result Reply Refusal) (database : DbName) (query : String Global) (number position many at : ℕ) (fresh work : Work)
-    → fresh ≡ no_work → many ≡ number → at ≡ position → OnOk result (ScanReads format row_work many at s fresh work) → CommandReads format row_work block_rows profile (Scan database query number position) s result work
-scan_command_reads format row_work block_rows profile s result database query number position many at fresh work is_fresh is_many is_at reads =
-    subst (λ (w : Work). OnOk result (ScanReads format row_work number position s w work)) is_fresh
-    (subst₂ (λ (m p : ℕ). OnOk result (ScanReads format row_work m p s fresh work)) is_many is_at reads)

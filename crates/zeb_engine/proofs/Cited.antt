@@ -64,7 +64,7 @@ pub use Rattle.zeb_change.specs.Inside.{StaysInside}
 pub use Rattle.zeb_change.specs.Occurs.{occurs}
 pub use Rattle.zeb_change.specs.Outcomes.{analysis_refusal, register_refusal, query_refusal, marc_refusal}
 pub use Rattle.zeb_change.specs.PrivateConditions.{AreSessions}
-pub use Rattle.zeb_change.specs.Reading.{HasFailedAt, NamesFailed, NoneFailed}
+pub use Rattle.zeb_change.specs.Reading.{HasFailedAt, NamesFailed, NoneFailed, NoReadFault}
 pub use Rattle.zeb_change.specs.Reasons.{LosesNamedAlone, NamesAny, HasReasonAt, IsNewAt, IsRefusedAt, IsRefusedFor}
 pub use Rattle.zeb_change.specs.Refused.{why_of, Why, Meets, diagnostic, database_full, too_many_records, unknown, damaged, old_format, profile_changed, rule_changed, read_fault, store_failed, out_of_memory, not_initialised, NeverUnready, IsFailing, exists}
 pub use Rattle.zeb_change.specs.Stored.{AreKept, IsBase, AreStored, ArePosted}
@@ -78,37 +78,42 @@ pub use Rattle.zeb_change.specs.declared.settings.Limits.{Limits}
 pub use Rattle.zeb_change.specs.declared.settings.Setting.{Setting}
 pub use Rattle.zeb_change.specs.declared.tally.Fate.{Fate}
 pub use Rattle.zeb_change.specs.declared.tally.Fate.TheVariants.{Inserted, Updated, Deleted, PassedOver}
-pub use Rattle.zeb_engine.specs.Adopting.{StaysOpen}
-pub use Rattle.zeb_engine.specs.Alone.{FindSays, HidesHit, HidesOne, IsSaidOrMissed, MeetsDamage, RefusesFind, OfDatabase, IsAsked, Alone, AnswersAlone, FindAlone, RefusedAlone, ScanSays, IsSaid, Said, CanBeShown, StatSays}
-pub use Rattle.zeb_engine.specs.Analysed.{IsAnalysed, analysis_answer, AnswersAnalysis}
-pub use Rattle.zeb_engine.specs.Answers.{refused, IsFailure, changed, reply_answer, Answer, answer_of, found, scanned, Extent, done, extent_of, analysed, dumped}
-pub use Rattle.zeb_engine.specs.AnyAnswers.{CommandOverTables}
-pub use Rattle.zeb_engine.specs.AnyMade.{DropsDatabase, OnAccepted, MakesDatabase}
-pub use Rattle.zeb_engine.specs.AnyRefusals.{CreateOver, DropOver, HidesDatabase, HidesOf, TellsUnlessHidden, UnlessHidden, HidesAround, HidesPlanned, HidesTerms, AreAroundCounted, HidesRecords, HidesRegisters, HidesRegister, CountedAnswers}
-pub use Rattle.zeb_engine.specs.AnyTables.{AreFewRecords, EachFindsWhole, ElderOver, EldersOver, HasNumbersTo, IsOrBecomes, LeavesRows, LosesNamedOver, LosesWhole, ReasonsOver, HidesUnsaid, JoinsRecords, AnswersTables, ChangeLeaves, ChangesOver, ChangesReady, FindOver, LeavesWhole, LosesNamed, OverReady, ScanOver, TellsAround, DumpOver, DumpTells, FindTells, SoundHits, ScanTells, StatOver, IsSoundUnder, StatTells}
+pub use Rattle.zeb_engine.specs.Adopting.{StaysOpen, HasOwnTables}
+pub use Rattle.zeb_engine.specs.Finding.{FindSays, HidesHit, HidesOne, MeetsDamage, RefusesFind, FindAlone, RefusedAlone, CanBeShown, FindOver, FindTells, SoundHits, FindDoes, has_name, AreShown, IsAnswered, IsNamed, IsPlanned, IsShown, asked_of, IsFound, IsAnsweredBy, IsPlannedBy, FindReads, IsPlanOf, PlanReads}
+pub use Rattle.zeb_engine.specs.Asking.{IsSaidOrMissed, OfDatabase, IsAsked, Alone, IsSaid, Said}
+pub use Rattle.zeb_engine.specs.Scanning.{ScanSays, HidesAround, HidesPlanned, HidesTerms, AreAroundCounted, ScanOver, TellsAround, ScanTells, ScanDoes, ScanReads, IsScanned, IsScanPlanned, around, IsScannedBy, IsScanPlannedBy, AreAround}
+pub use Rattle.zeb_engine.specs.Counting.{StatSays, HidesRegisters, HidesRegister, StatOver, IsSoundUnder, StatTells, IsCounted, IsExtent, Paired, Target, target_list, targets_below}
+pub use Rattle.zeb_engine.specs.Analysed.{IsAnalysed, analysis_answer, IsAnalysis}
+pub use Rattle.zeb_engine.specs.Answers.{refused, IsFailure, changed, reply_answer, Answer, answer_of, found, scanned, Extent, done, extent_of, analysed, dumped, no_database}
+pub use Rattle.zeb_engine.specs.Making.{DropsDatabase, OnAccepted, MakesDatabase, CreateOver, DropOver, CountedAnswers, CreateDoes, DropDoes}
+pub use Rattle.zeb_engine.specs.Hidden.{HidesDatabase, HidesOf, TellsUnlessHidden, UnlessHidden, HidesUnsaid, OverReady}
+pub use Rattle.zeb_engine.specs.Dumping.{HidesRecords, JoinsRecords, DumpOver, DumpTells}
+pub use Rattle.zeb_engine.specs.Changing.{AreFewRecords, EachFindsWhole, ElderOver, EldersOver, HasNumbersTo, IsOrBecomes, LeavesRows, LosesNamedOver, LosesWhole, ReasonsOver, ChangesReady, LeavesWhole, LosesNamed, ChangeDoes}
 pub use Rattle.zeb_engine.specs.Causes.{HasStoreCause}
-pub use Rattle.zeb_engine.specs.Checking.{IsSomeImage, TellsImage, CanBeRemade, IsRemade, ReindexLeaves, TellsSound, UpgradeLeaves}
-pub use Rattle.zeb_engine.specs.Costs.{no_work, Costs, CostsAlone, CountsNothing}
-pub use Rattle.zeb_engine.specs.Counting.{IsCounted, IsExtent, Paired, Target, target_list, targets_below}
-pub use Rattle.zeb_engine.specs.Crashes.{Accepts, Bears, KeepsDisk, IsStoreDisk, Stands, Leaves, CommitsBy, CommitsAdopted, Endures, IsRefused, CommitsReindex, CommitsCommand, CommitsOne, IsCarriedOut, LeavesOne, AreRefused, EnduresRun, RunLeft}
-pub use Rattle.zeb_engine.specs.Finding.{has_name, AreShown, IsAnswered, IsNamed, IsPlanned, IsShown, asked_of, IsFound, IsAnsweredBy, IsPlannedBy}
+pub use Rattle.zeb_engine.specs.Checking.{IsSomeImage, TellsImage, CheckDoes}
+pub use Rattle.zeb_engine.specs.Reindexing.{CanBeRemade, IsRemade, ReindexLeaves, TellsSound, IsReadyToReindex, RefusesReindex, KeepsRule}
+pub use Rattle.zeb_engine.specs.Upgrading.{UpgradeLeaves, RefusesUpgrade, KeepsUpgradable}
+pub use Rattle.zeb_engine.specs.Costs.{no_work, Costs, CostsAlone}
+pub use Rattle.zeb_engine.specs.Counts.{CommandCounts}
+pub use Rattle.zeb_engine.specs.Crashes.{Accepts, Bears, KeepsDisk, IsStoreDisk, Stands, Leaves, CommitsBy, CommitsAdopted, Endures, IsRefused, CommitsReindex, CommitsCommand, CommitsOne, IsCarriedOut, LeavesOne, AreRefused, EnduresRun, RunLeft, AdoptLasts, CommandLasts, RunLasts}
+pub use Rattle.zeb_engine.specs.Does.{AnswersAnyway, CommandOverTables, Does, InitLeaves}
 pub use Rattle.zeb_engine.specs.PrivateAdopting.{HoldsNothing, MayBeTaken}
 pub use Rattle.zeb_engine.specs.PrivateChanging.{MayBeginUnder, MayBegin, BeginsWith, last_of, IsMissedFor, comes_to}
 pub use Rattle.zeb_engine.specs.PrivateCrashes.{IsEmptyDisk, Commits, CommitsTables}
+pub use Rattle.zeb_engine.specs.PrivateDone.{CommandDone, IsSettled}
 pub use Rattle.zeb_engine.specs.PrivateDumping.{KeepsBase}
 pub use Rattle.zeb_engine.specs.PrivateLooking.{MissesDatabase, IsUnready, FindsStanding, IsLook, RefusesText, RefusesVersion, TellsStanding, TellsText}
 pub use Rattle.zeb_engine.specs.PrivateNumbers.{AreGiven, AreWellNumbered, IsMisnumbered}
 pub use Rattle.zeb_engine.specs.PrivateSteps.{found_or, existing}
 pub use Rattle.zeb_engine.specs.PrivateWorks.{Always, Serves, ReachesOutcome, ShowsStore, IsReady, Asks, Finds, ScansFrom}
 pub use Rattle.zeb_engine.specs.PrivateWriting.{AreOf, PutsTexts, Fits, IsReached, written, IsKnown, reply_of_work, DoneOrFails, MakesOrTakes, IsFree, CommitsRemade, HoldsRemade, Remakes, AreUnder, IsRuled, IsUpgradable, Begins, ReadsSound}
-pub use Rattle.zeb_engine.specs.Readiness.{IsReadyFor, IsRefusedOver, GoesByTexts, HidesText, KeepsText, IsReadyToReindex, RefusesReindex, RefusesUpgrade, KeepsRule, KeepsUpgradable, LooksFirst}
-pub use Rattle.zeb_engine.specs.Reads.{CommandReads, FindReads, ScanReads, IsPlanOf, PlanReads}
+pub use Rattle.zeb_engine.specs.Readiness.{IsReadyFor, IsRefusedOver, GoesByTexts, HidesText, KeepsText}
 pub use Rattle.zeb_engine.specs.Replies.{shown_number, record_lines, records_text, holding_line, entry_line, hits_text, hit_line}
 pub use Rattle.zeb_engine.specs.Rules.{same_rule, are_same, is_rule_line, rule_line}
-pub use Rattle.zeb_engine.specs.Scanning.{IsScanned, IsScanPlanned, around, IsScannedBy, IsScanPlannedBy, AreAround}
-pub use Rattle.zeb_engine.specs.Steps.{holding, start_of, checked, checked_from, Step, Ends, Outcome, dumped_by, dumped_from, dumped_in, no_database, FindAnswers, AskedAmong, AskedFrom, AskedIn, ScanAnswers, CountedFrom, CountedIn, Turn, change_ends, change_from, created_in, dropped_in, ends, turned_from, all_stay, OnlyAnswers, FoundFrom, ScannedFrom, Run, TellsOrFails, StatAnswers, OnlyAsks, TakesFiles}
-pub use Rattle.zeb_engine.specs.Transactions.{AsksStore, Commanded, CommandedBy, EnduresRefusal, LeavesNoMore, IsDurable, NoneAsks}
-pub use Rattle.zeb_engine.specs.Works.{ServesBy, ServesCommand, Runs, FindOpen, InTurn}
+pub use Rattle.zeb_engine.specs.Steps.{holding, start_of, checked, checked_from, Step, Ends, Outcome, dumped_by, dumped_from, dumped_in, FindAnswers, AskedAmong, AskedFrom, AskedIn, ScanAnswers, CountedFrom, CountedIn, Turn, change_ends, change_from, created_in, dropped_in, ends, turned_from, all_stay, OnlyAnswers, FoundFrom, ScannedFrom, Run, TellsOrFails, StatAnswers, TakesFiles}
+pub use Rattle.zeb_engine.specs.Taking.{GivesBack, TakesOver}
+pub use Rattle.zeb_engine.specs.Transactions.{AsksStore, Commanded, CommandedBy, EnduresRefusal, LeavesNoMore, IsDurable, NoneAsks, CommandHolds}
+pub use Rattle.zeb_engine.specs.Works.{ServesBy, ServesCommand, Runs, FindOpen, InTurn, CommandTurns, RunHolds}
 pub use Rattle.zeb_engine.specs.declared.commands.Command.{Command}
 pub use Rattle.zeb_engine.specs.declared.commands.Command.TheVariants.{Find, Scan, Change, Init, Check, Reindex, Upgrade, Create, Drop, Stat, Dump, Analyse}
 pub use Rattle.zeb_engine.specs.declared.find.Question.{Question}
@@ -182,7 +187,7 @@ pub use Rattle.zeb_register.specs.Occurring.{AreTermsBefore, AreTermsFrom, is_be
 pub use Rattle.zeb_register.specs.PackedBlocks.{AreBeforeCounted, AreFromCounted, IsRegisterSound}
 pub use Rattle.zeb_register.specs.PlainRows.{register_front}
 pub use Rattle.zeb_register.specs.Sound.{KeepsBeside, KeepsMalformed, KeepsRowsBeside, InPacked, TellsBefore, TellsFrom, AreTermsSound}
-pub use Rattle.zeb_register.specs.Sql.{HasRow, Replaces, KeepsOthers, Loses}
+pub use Rattle.zeb_register.specs.Sql.{HasRow, Replaces, KeepsOthers, Loses, KeepsTables}
 pub use Rattle.zeb_register.specs.Store.{IsStore, IsEmptyStore, Changes, LacksRegisters, meta_tree, entry, IsEntryOf, record_row, HasDatabase, HasRecord, blocks_tree, databases_tree, dict_tree, postings_tree, KeepsRegisters, IsRecordIn, TakesDatabase, IsPostingIn, records_tree, IsValueOf, AreReadableTexts, KeepsLists}
 pub use Rattle.zeb_register.specs.Tables.{store_schema, no_schema}
 pub use Rattle.zeb_register.specs.Tallies.{Works}

@@ -1,5 +1,5 @@
 -- A command that asks, a create and a drop on any tables of a store, step by step: which rows they are refused for.
-use Rattle.zeb_engine.proofs.Cited.{◌≡◌, ◌≢◌, ◌⊎◌, ℕ, ℤ, pos, List, Option, Some, None, Result, Ok, Err, refl, ap, subst, inl, inr, Contents, State, Trees, Directive, IsReadable, RegFault, ChangesNothing, AreCountedDatabases, IsDatabaseOf, HasDatabase, IsStore, store_same, Refusal, register_refusal, why_of, DbName, name_bytes, Reply, StaysOpen, IsSaidOrMissed, OfDatabase, CreateOver, DropOver, HidesDatabase, HidesOf, TellsUnlessHidden, UnlessHidden, Answer, refused, IsFailure, IsUnready, MissesDatabase, reply_of_work, DoneOrFails, IsReadyFor, IsRefusedOver}
+use Rattle.zeb_engine.proofs.Cited.{◌≡◌, ◌≢◌, ◌⊎◌, ℕ, ℤ, pos, List, Option, Some, None, Result, Ok, Err, refl, ap, subst, inl, inr, Contents, State, Trees, Directive, IsReadable, RegFault, ChangesNothing, AreCountedDatabases, IsDatabaseOf, HasDatabase, IsStore, store_same, Refusal, register_refusal, why_of, Reply, StaysOpen, IsSaidOrMissed, OfDatabase, CreateOver, DropOver, HidesDatabase, HidesOf, TellsUnlessHidden, UnlessHidden, Answer, IsFailure, IsUnready, MissesDatabase, reply_of_work, DoneOrFails, IsReadyFor, IsRefusedOver, refused}
 use Rattle.zeb_register.specs.declared.catalog.Database.{Database}
 use Rattle.zeb_register.specs.declared.RegFault.TheVariants as register
 use Rattle.zeb_change.specs.declared.refusals.Refusal.TheVariants as refusal
@@ -27,14 +27,6 @@ module _ (Over : Trees → Answer → Type 0) (Hides : Trees → Type 0) where
       → UnlessHidden version profile Over Hides s (Err why)
   unready_hidden version profile s why few texts whole store is =
       inr (inr (unready_fails version profile s.now.trees is why few (texts store) (whole store is)))
-
--- what is said of a name is said of the same name
-pub hidden_named : (version : List ℕ) (profile : List Directive) (Over : List ℕ → Trees → Answer → Type 0) (Hides : List ℕ → Trees → Type 0) (s : State)
-    (result : Result Reply Refusal) (given named : DbName) → given ≡ named
-    → UnlessHidden version profile (Over (name_bytes given)) (Hides (name_bytes given)) s result
-    → UnlessHidden version profile (Over (name_bytes named)) (Hides (name_bytes named)) s result
-hidden_named version profile Over Hides s result given named same told =
-    subst (λ (n : DbName). UnlessHidden version profile (Over (name_bytes n)) (Hides (name_bytes n)) s result) same told
 
 -- ---- the database of a name
 

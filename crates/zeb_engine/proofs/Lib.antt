@@ -19,6 +19,8 @@ pub mod ServesLemmas
 pub mod CheckAnswers
 pub mod RenewalAnswers
 pub mod ReadyCommands
+pub mod CommandsDone
+pub mod TakenStores
 pub mod ReadyQueries
 pub mod RunLemmas
 pub mod StepLemmas

@@ -1,5 +1,5 @@
 -- What a create makes and a drop takes, from the rows that are written up to the command.
-use Rattle.zeb_engine.proofs.Cited.{◌≡◌, ℕ, ℤ, pos, List, true, false, None, Result, Ok, Err, OnOk, refl, sym, ap, subst, subst₂, Database, Held, state, State, Shows, Ghosts, Trees, ChangesNothing, IsDatabaseOf, PutsDatabase, TakesWhole, KeepsOthers, Loses, Changes, HasDatabase, IsPostingIn, IsRecordIn, IsStore, TakesDatabase, blocks_tree, databases_tree, dict_tree, meta_tree, postings_tree, records_tree, store_schema, store_same, one_name, Refusal, DbName, name_bytes, Write, StaysOpen, DropsDatabase, OnAccepted, MakesDatabase, MakesOrTakes}
+use Rattle.zeb_engine.proofs.Cited.{◌≡◌, ℕ, ℤ, pos, List, true, false, None, Result, Ok, Err, OnOk, refl, sym, ap, subst₂, Database, Held, state, State, Shows, Ghosts, Trees, ChangesNothing, IsDatabaseOf, PutsDatabase, TakesWhole, KeepsOthers, Loses, Changes, HasDatabase, IsPostingIn, IsRecordIn, IsStore, TakesDatabase, blocks_tree, databases_tree, dict_tree, meta_tree, postings_tree, records_tree, store_schema, store_same, one_name, Refusal, name_bytes, Write, StaysOpen, DropsDatabase, OnAccepted, MakesDatabase, MakesOrTakes, subst}
 use Rattle.zeb_engine.specs.declared.writes.Write.TheVariants as write
 use Rattle.zeb_engine.proofs.ServesLemmas.{on_ok}
 
@@ -88,12 +88,3 @@ module _ {T : Type 0} (name : List ℕ) (old mid new : State) (nothing : Changes
   drops_ready did store =
       let still = (nothing opened.1).1 in
       on_ok result (DropsDatabase name mid new) (DropsDatabase name old new) (dropped_between old mid new new still refl name) (did (store_same old mid still store))
-
--- ---- what is said of a name is said of the same name
-
-module _ {T : Type 0} (old new : State) (result : Result T Refusal) (given named : DbName) (same : given ≡ named) where
-  pub made_named : OnAccepted (MakesDatabase (name_bytes given)) old new result → OnAccepted (MakesDatabase (name_bytes named)) old new result
-  made_named said = subst (λ (n : DbName). OnAccepted (MakesDatabase (name_bytes n)) old new result) same said
-
-  pub dropped_named : OnAccepted (DropsDatabase (name_bytes given)) old new result → OnAccepted (DropsDatabase (name_bytes named)) old new result
-  dropped_named said = subst (λ (n : DbName). OnAccepted (DropsDatabase (name_bytes n)) old new result) same said

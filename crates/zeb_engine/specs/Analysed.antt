@@ -1,15 +1,14 @@
 -- What a command answers that analyses files, by the files alone: neither a register nor what it holds is asked.
-use Rattle.std.specs.Prelude.{◌≡◌, ◌⊎◌, ℕ, List, map, Result, Ok, Err}
+use Rattle.zeb_engine.specs.declared.replies.Reply.{Reply}
+use Rattle.zeb_change.specs.declared.refusals.Refusal.TheVariants.{Memory}
+use Rattle.zeb_change.specs.declared.refusals.Refusal.{Refusal}
+use Rattle.zeb_change.specs.Conditions.{Conditions}
+use Rattle.std.specs.Prelude.{◌≡◌, ℕ, List, Result, Ok, Err, ◌⊎◌}
 use Rattle.zeb_profile.specs.declared.directives.Directive.{Directive}
 use Rattle.zeb_profile.specs.Indexes.{index_names}
 use Rattle.zeb_analysis.specs.declared.faults.AnalysisFault.{AnalysisFault}
 use Rattle.zeb_analysis.specs.Analysing.{Analysed, AnalysesTo}
-use Rattle.zeb_engine.specs.declared.commands.Command.{Command}
-use Rattle.zeb_engine.specs.declared.commands.Command.TheVariants.{Analyse}
-use Rattle.zeb_engine.specs.declared.replies.Reply.{Reply}
-use Rattle.zeb_change.specs.declared.refusals.Refusal.{Refusal}
-use Rattle.zeb_change.specs.declared.refusals.Refusal.TheVariants.{Memory}
-use Rattle.zeb_engine.specs.Answers.{Answer, analysed, answer_of, refused}
+use Rattle.zeb_engine.specs.Answers.{Answer, analysed, refused, answer_of}
 use Rattle.zeb_change.specs.Refused.{why_of}
 use Rattle.zeb_change.specs.Outcomes.{analysis_refusal}
 
@@ -22,8 +21,6 @@ analysis_answer profile (Err fault) = refused (why_of (analysis_refusal fault))
 abbrev pub IsAnalysed : List Directive → ℕ → List (List ℕ) → Answer → Type 0
 IsAnalysed profile limit texts answer = (said : Result (List Analysed) AnalysisFault) × AnalysesTo profile limit texts said × (answer ≡ analysis_answer profile said)
 
--- a command that is an analysis is answered so, or memory ran out, whatever is held
-abbrev pub AnswersAnalysis : List Directive → ℕ → Command → Result Reply Refusal → Type 0
-AnswersAnalysis profile limit (Analyse files) result =
-    IsAnalysed profile limit (map (λ file. file.items) files.items) (answer_of result) ⊎ (result ≡ Err Memory)
-AnswersAnalysis profile limit other result = Unit {0}
+-- an analysis is answered by its files alone, or memory ran out
+abbrev pub IsAnalysis : Conditions → List (List ℕ) → Result Reply Refusal → Type 0
+IsAnalysis c texts answer = IsAnalysed c.profile c.limits.records texts (answer_of answer) ⊎ (answer ≡ Err Memory)

@@ -4,7 +4,7 @@ use Rattle.zeb_keys.specs.declared.registers.Register.{Register}
 use Rattle.zeb_analysis.specs.Analysing.{Analysed}
 use Rattle.zeb_analysis.specs.Analysing as analysing
 use Rattle.zeb_change.specs.declared.refusals.Refusal.{Refusal}
-use Rattle.zeb_change.specs.Refused.{Why, why_of, IsFailing}
+use Rattle.zeb_change.specs.Refused.{Why, why_of, IsFailing, diagnostic}
 use Rattle.zeb_engine.specs.declared.replies.Holding.{Holding}
 use Rattle.zeb_engine.specs.declared.replies.Reply.{Reply}
 use Rattle.zeb_engine.specs.declared.replies.Reply.TheVariants as reply
@@ -52,3 +52,6 @@ answer_of (Err refusal) = refused (why_of refusal)
 abbrev pub IsFailure : Answer → Type 0
 IsFailure (refused why) = IsFailing why
 IsFailure answer = ⊥
+
+abbrev pub no_database : List ℕ → Why
+no_database name = diagnostic 235 0 name

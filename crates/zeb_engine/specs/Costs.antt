@@ -1,5 +1,5 @@
 -- What an accepted update or delete counts of the rows of the packed tables.
-use Rattle.std.specs.Prelude.{◌≡◌, ℕ, List, map, Result, Ok, OnOk}
+use Rattle.std.specs.Prelude.{◌≡◌, ℕ, List, Result, Ok, OnOk}
 use Rattle.sqlite.specs.State.{State}
 use Rattle.zeb_register.specs.declared.registers.Work.{Work}
 use Rattle.zeb_change.specs.declared.settings.Kind.{Kind}
@@ -8,12 +8,9 @@ use Rattle.zeb_change.specs.Base.{Base}
 use Rattle.zeb_change.specs.Conditions.{Conditions}
 use Rattle.zeb_change.specs.Costs.{IsFilesCost, IsWorkFor}
 use Rattle.zeb_change.specs.Folding.{at_first, splits_of}
-use Rattle.zeb_engine.specs.declared.commands.Command.{Command}
-use Rattle.zeb_engine.specs.declared.commands.Command.TheVariants.{Init, Create, Drop, Change, Find, Check, Reindex, Upgrade, Stat, Dump, Scan, Analyse}
 use Rattle.zeb_engine.specs.declared.replies.Reply.{Reply}
 use Rattle.zeb_image.specs.Holdings.{Holdings, base_named}
 use Rattle.zeb_image.specs.Image.{Keeps}
-use Rattle.zeb_image.specs.NameOf.{name_bytes}
 use Rattle.zeb_engine.specs.Steps.{ready, start_of}
 
 -- the records of the files cost so much, from the database on with which the change begins
@@ -36,23 +33,3 @@ no_work = record { dict_read = 0; dict_written = 0; block_read = 0; block_writte
 abbrev pub CostsAlone : ℕ → Conditions → Kind → List ℕ → List (List ℕ) → State → Result Reply Refusal → Work → Type 0
 CostsAlone row_work c kind name texts old result work =
     OnOk result ((before : Holdings) → Keeps old before → Costs row_work c kind name texts no_work work before)
-
--- the same of a command that is a change
-abbrev pub CommandCosts : ℕ → Conditions → Command → State → Result Reply Refusal → Work → Type 0
-CommandCosts row_work c (Change kind name files) old result work = CostsAlone row_work c kind (name_bytes name) (map (λ file. file.items) files.items) old result work
-CommandCosts row_work c other old result work = Unit {0}
-
--- the commands that count nothing, whatever they answer
-abbrev pub CountsNothing : Command → Type 0
-CountsNothing Init = Unit {0}
-CountsNothing (Create name) = Unit {0}
-CountsNothing (Drop name) = Unit {0}
-CountsNothing (Change kind name files) = ⊥
-CountsNothing (Find name query first count) = ⊥
-CountsNothing Check = Unit {0}
-CountsNothing Reindex = Unit {0}
-CountsNothing Upgrade = Unit {0}
-CountsNothing (Stat name) = ⊥
-CountsNothing (Dump name) = Unit {0}
-CountsNothing (Scan name query number position) = ⊥
-CountsNothing (Analyse files) = Unit {0}

@@ -1,13 +1,28 @@
 -- What a stat answers of a set of occurrences: how many records a database has, the last number that it gave, and how many terms and
 -- occurrences there are in each register of each index. Read with the bytes of all kept records, no register is looked into.
-use Rattle.std.specs.Prelude.{◌≡◌, ℕ, zero, suc, List, [], ◌∷◌, ◌++◌, length, slice_get, unwrap_or, if◌then◌else◌}
-use Rattle.zeb_profile.specs.declared.directives.Directive.{Directive}
+use Rattle.sqlite.specs.State.{State}
+use Rattle.sqlite.specs.Tree.{Trees}
+use Rattle.sqlite_rules.specs.Lists.{Has}
+use Rattle.std.specs.Prelude.{◌≡◌, ℕ, zero, suc, List, [], ◌∷◌, ◌++◌, length, slice_get, unwrap_or, if◌then◌else◌, ℤ, pos, Result, ◌+◌}
+use Rattle.zeb_change.specs.Conditions.{Conditions}
+use Rattle.zeb_change.specs.declared.refusals.Refusal.{Refusal}
+use Rattle.zeb_engine.specs.Answers.{Answer, Extent, counted}
+use Rattle.zeb_engine.specs.Asking.{IsSaidOrMissed, OfDatabase, Alone, Said}
+use Rattle.zeb_engine.specs.Causes.{OnlyLooks}
+use Rattle.zeb_engine.specs.Hidden.{UnlessHidden, HidesOf}
+use Rattle.zeb_engine.specs.Readiness.{GoesByTexts}
+use Rattle.zeb_engine.specs.declared.replies.Reply.{Reply}
+use Rattle.zeb_keys.specs.declared.keys.Occurrence.{Occurrence}
 use Rattle.zeb_keys.specs.declared.registers.Register.{Register}
 use Rattle.zeb_keys.specs.declared.registers.Register.TheVariants.{Word, Phrase, Number}
 use Rattle.zeb_profile.specs.Indexes.{has_pair, index_names}
-use Rattle.zeb_keys.specs.declared.keys.Occurrence.{Occurrence}
+use Rattle.zeb_profile.specs.declared.directives.Directive.{Directive}
+use Rattle.zeb_register.specs.Content.{posted}
+use Rattle.zeb_register.specs.Formats.{Format}
+use Rattle.zeb_register.specs.Kept.{IsRecordCount}
 use Rattle.zeb_register.specs.Occurring.{AreTotals}
-use Rattle.zeb_engine.specs.Answers.{Answer, Extent, counted}
+use Rattle.zeb_register.specs.PackedBlocks.{IsRegisterSound}
+use Rattle.zeb_register.specs.Sound.{AreTermsSound, InPacked}
 
 -- ---- the registers of a profile
 
@@ -62,3 +77,40 @@ module _ (O : ℕ → Occurrence → Type 0) (profile : List Directive) where
 
   abbrev pub IsCounted : (records last : ℕ) → Answer → Type 0
   IsCounted = IsCountedBy profile IsExtent
+
+-- ---- a command on any tables of a store
+
+-- its records are counted, and none of them is read
+abbrev pub StatSays : List Directive → Said
+StatSays profile trees content db last answer =
+    (kept : ℕ) × (given : ℕ) × IsRecordCount trees db kept × (last ≡ pos given) × IsCounted (posted content db) profile kept given answer
+
+-- the extent stands under the name of its index, and each row of its register counts a term and has a sound list
+pub record IsSoundUnder (format : Format) (profile : List Directive) (trees : Trees) (db : ℤ) (target : Target) (extent : Extent) : Type 0 where
+  pub under : IsUnder profile target extent
+  pub sound : AreTermsSound format trees db target.0 target.1
+
+-- the database's records are counted, and its last number is told, with something of each register that the profile names
+abbrev pub StatTells : Format → List Directive → Trees → OfDatabase
+StatTells format profile trees db last answer =
+    (kept : ℕ) × (given : ℕ) × IsRecordCount trees db kept × (last ≡ pos given) × IsCountedBy profile (IsSoundUnder format profile trees db) kept given answer
+
+abbrev pub StatOver : Format → List Directive → (name : List ℕ) → Trees → Answer → Type 0
+StatOver format profile name trees = IsSaidOrMissed (StatTells format profile trees) name trees
+
+-- Of packed blocks a row of `dict` in one of these registers counts no term, or a row of `blocks` of the terms that these show spells no
+-- postings. Over plain rows damage is free here too.
+abbrev pub HidesRegister : Format → List Target → Trees → (db : ℤ) → Type 0
+HidesRegister format targets trees db =
+    (target : Target) × Has targets target × (¬ InPacked format (IsRegisterSound trees db target.0 target.1))
+
+-- so it is of one of the registers that the profile names
+abbrev pub HidesRegisters : Format → List Directive → (name : List ℕ) → Trees → Type 0
+HidesRegisters format profile name trees = HidesOf (HidesRegister format (target_list profile) trees) name trees
+
+pub record StatDoes (format : Format) (c : Conditions) (name : List ℕ) (old new : State) (answer : Result Reply Refusal) : Type 0 where
+  pub looks : OnlyLooks old new answer
+  pub ready : GoesByTexts c.version c.profile old answer
+  pub alone : Alone format (StatSays c.profile) name old answer
+  -- it is refused as damage only where the row of the name or one of the packed registers of its profile can't be read
+  pub told : UnlessHidden c.version c.profile (StatOver format c.profile name) (HidesRegisters format c.profile name) old answer

@@ -1,25 +1,42 @@
--- What a command counts of the rows of the packed tables, in all.
-use Rattle.std.specs.Prelude.{◌≡◌, ℕ, List, Result}
+-- What a command counts of the rows of the packed tables: one case a command.
+use Rattle.std.specs.Prelude.{◌≡◌, ℕ, List, map, OnOk, Result, string_bytes}
 use Rattle.sqlite.specs.State.{HasCleanDisk, State}
 use Rattle.zeb_register.specs.declared.registers.Work.{Work}
 use Rattle.zeb_register.specs.Content.{Posting}
 use Rattle.zeb_register.specs.Formats.{Format}
 use Rattle.zeb_change.specs.declared.refusals.Refusal.{Refusal}
 use Rattle.zeb_change.specs.Conditions.{Conditions}
+use Rattle.zeb_image.specs.NameOf.{name_bytes}
 use Rattle.zeb_engine.specs.declared.commands.Command.{Command}
+use Rattle.zeb_engine.specs.declared.commands.Command.TheVariants.{Init, Check, Reindex, Upgrade, Create, Drop, Stat, Dump, Change, Find, Scan, Analyse}
 use Rattle.zeb_engine.specs.declared.replies.Reply.{Reply}
-use Rattle.zeb_engine.specs.Costs.{CommandCosts, CountsNothing, no_work}
-use Rattle.zeb_engine.specs.Reads.{CommandReads}
+use Rattle.zeb_engine.specs.Costs.{CostsAlone, no_work}
+use Rattle.zeb_engine.specs.Finding.{FindReads}
+use Rattle.zeb_engine.specs.Scanning.{ScanReads}
+
+-- An accepted change has counted the work for the keys that its records change, and no other. An accepted scan has read the terms that it was
+-- asked for, one more at most, and nothing else. An accepted find has written nothing, and read no more lists than those that its query asks
+-- for. Of terms it has read no more than the searched registers have, once for each pattern with a star and for each term of the query that asks
+-- for entries which it doesn't name. Of a stat nothing is said. Each other command has counted nothing, whatever it answers.
+abbrev pub Counted : Format → (row_work : ℕ) → (block_rows : List Posting → ℕ) → Conditions → Command → (old new : State) → Result Reply Refusal → Work → Type 0
+Counted format row_work block_rows c Init old new answer work = work ≡ no_work
+Counted format row_work block_rows c (Create name) old new answer work = work ≡ no_work
+Counted format row_work block_rows c (Drop name) old new answer work = work ≡ no_work
+Counted format row_work block_rows c (Change kind name files) old new answer work =
+    HasCleanDisk new → CostsAlone row_work c kind (name_bytes name) (map (λ file. file.items) files.items) old answer work
+Counted format row_work block_rows c (Find name query first count) old new answer work =
+    HasCleanDisk new → OnOk answer (FindReads format row_work block_rows c.profile (name_bytes name) (string_bytes query) old no_work work)
+Counted format row_work block_rows c Check old new answer work = work ≡ no_work
+Counted format row_work block_rows c Reindex old new answer work = work ≡ no_work
+Counted format row_work block_rows c Upgrade old new answer work = work ≡ no_work
+Counted format row_work block_rows c (Stat name) old new answer work = Unit {0}
+Counted format row_work block_rows c (Dump name) old new answer work = work ≡ no_work
+Counted format row_work block_rows c (Scan name query number position) old new answer work =
+    HasCleanDisk new → OnOk answer (ScanReads format row_work number position old no_work work)
+Counted format row_work block_rows c (Analyse files) old new answer work = work ≡ no_work
 
 pub record CommandCounts (format : Format) (row_work : ℕ) (block_rows : List Posting → ℕ) (c : Conditions) (command : Command) (old new : State)
-    (result : Result Reply Refusal) (work : Work) : Type 0 where
-  -- an accepted change has counted the work for the keys that its records change, and no other
-  pub costs : HasCleanDisk new → CommandCosts row_work c command old result work
-  -- An accepted scan has read the terms that it was asked for, one more at most, and nothing else. An accepted find has written nothing, and
-  -- read no more lists than those that its query asks for. Of terms it has read no more than the searched registers have, once for each
-  -- pattern with a star and for each term of the query that asks for entries which it doesn't name.
-  pub reads : HasCleanDisk new → CommandReads format row_work block_rows c.profile command old result work
-  -- a command that isn't a change, a find, a scan or a stat has counted nothing, whatever it answers
-  pub idle : CountsNothing command → work ≡ no_work
-  -- nor has any over a layout whose rows count nothing
+    (answer : Result Reply Refusal) (work : Work) : Type 0 where
+  pub counted : Counted format row_work block_rows c command old new answer work
+  -- over a layout whose rows count nothing none has counted anything
   pub none : row_work ≡ 0 → work ≡ no_work

@@ -1,9 +1,10 @@
 -- What a crash leaves on the disk, as an open finds it.
-use Rattle.std.specs.Prelude.{◌≡◌, ◌≢◌, ◌⊎◌, List, [], ◌∷◌, Result, Ok, Err}
+use Rattle.std.specs.Prelude.{◌≡◌, ◌≢◌, ◌⊎◌, List, [], ◌∷◌, map, IfOk, IsOkAnd, Result, Ok, Err, Vec}
+use Rattle.std.specs.declared.alloc.Global.{Global}
 use Rattle.std.specs.List.{AllByRecursion}
 use Rattle.sqlite.specs.Tree.{Trees}
 use Rattle.sqlite.specs.Effect.{IsDatabase}
-use Rattle.sqlite.specs.State.{State}
+use Rattle.sqlite.specs.State.{HasCleanDisk, State, Survives}
 use Rattle.zeb_profile.specs.declared.directives.Directive.{Directive}
 use Rattle.zeb_profile.specs.Canonical.{canonical_text}
 use Rattle.zeb_register.specs.Formats.{Format, version_of}
@@ -11,16 +12,17 @@ use Rattle.zeb_register.specs.Sql.{IsKeyed}
 use Rattle.zeb_register.specs.Store.{IsStore}
 use Rattle.zeb_register.specs.Tables.{no_schema, store_schema}
 use Rattle.zeb_engine.specs.declared.commands.Command.{Command}
+use Rattle.zeb_engine.specs.declared.commands.Command.TheVariants.{Reindex}
 use Rattle.zeb_engine.specs.declared.replies.Reply.{Reply}
 use Rattle.zeb_change.specs.declared.refusals.Refusal.{Refusal}
 use Rattle.zeb_change.specs.declared.refusals.Refusal.TheVariants.{Store}
-use Rattle.zeb_engine.specs.Answers.{Answer, refused, reply_answer}
+use Rattle.zeb_engine.specs.Answers.{Answer, answer_of, refused, reply_answer}
 use Rattle.zeb_change.specs.Refused.{Why, store_failed}
 use Rattle.zeb_change.specs.Base.{Base}
 use Rattle.zeb_change.specs.Conditions.{Conditions}
 use Rattle.zeb_image.specs.Holdings.{Holdings, nothing_yet, under}
 use Rattle.zeb_image.specs.Image.{IsImage, Keeps}
-use Rattle.zeb_engine.specs.Checking.{CanBeRemade, IsRemade}
+use Rattle.zeb_engine.specs.Reindexing.{CanBeRemade, IsRemade}
 use Rattle.zeb_engine.specs.Steps.{TellsOrFails, Step}
 use Rattle.zeb_engine.specs.Transactions.{AsksStore}
 
@@ -102,6 +104,14 @@ Endures Told old new (Err Store) =
     → Stands db before ⊎ ((answer : Answer) × (later : Holdings) × Told before answer later × Stands db later)
 Endures Told old new (Err refusal) = (before : Holdings) → Leaves old before → Leaves new before
 
+pub record CommandLasts (format : Format) (c : Conditions) (command : Command) (old new : State) (answer : Result Reply Refusal) : Type 0 where
+  -- nothing is committed but what an accepted step of the command leaves
+  pub survives : Survives old new (CommitsCommand c command old)
+  -- a reindex commits nothing but registers of the lists, whatever the registers held
+  pub remade : command ≡ Reindex → Survives old new (CommitsReindex format c.profile old)
+  -- so a crash leaves what the command left, or what was there before it
+  pub crash : HasCleanDisk new → Endures (Step c command) old new answer
+
 -- ---- after a list of commands
 
 abbrev pub IsRefused : Answer → Type 0
@@ -129,3 +139,16 @@ abbrev pub EnduresRun : Conditions → List Command → List Answer → State �
 EnduresRun c commands answers old new =
     (before : Holdings) → Keeps old before → Leaves old before → (db : Trees) → new.may_leave db
     → (last : Holdings) × RunLeft c before commands answers last × Stands db last × Keeps new last
+
+pub record RunLasts (c : Conditions) (commands : List Command) (old new : State) (result : Result (Vec (Result Reply Refusal) Global) Refusal) : Type 0 where
+  -- nothing is committed but what one of the commands leaves, on what those before it left
+  pub survives : Survives old new (λ db. IsOkAnd result (λ answers. CommitsOne c commands (map answer_of answers.items) old db))
+  -- so a crash leaves what the run left, but that a command whose store failed may have been carried out
+  pub crash : HasCleanDisk new → IfOk result (λ answers. EnduresRun c commands (map answer_of answers.items) old new)
+
+-- ---- after a store is taken over, or isn't
+
+pub record AdoptLasts (old new : State) : Type 0 where
+  -- nothing is committed but the store of the holdings that were there
+  pub survives : Survives old new (CommitsAdopted old)
+  pub crash : HasCleanDisk new → KeepsDisk old new

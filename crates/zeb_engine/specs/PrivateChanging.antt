@@ -16,7 +16,8 @@ use Rattle.zeb_change.specs.Folding.{splits_of}
 use Rattle.zeb_change.specs.UnderWay.{conditions_of}
 use Rattle.zeb_image.specs.Holdings.{Holdings, base_named}
 use Rattle.zeb_change.specs.Base.{Base}
-use Rattle.zeb_engine.specs.Steps.{Outcome, changed_by_files, no_database, ready, turned}
+use Rattle.zeb_engine.specs.Steps.{Outcome, changed_by_files, ready, turned}
+use Rattle.zeb_engine.specs.Answers.{no_database}
 
 -- the register is ready, and this is what the tables know of the name: a database, or none, with which only an update begins
 abbrev pub MayBeginUnder : Kind → List ℕ → Option Database → Conditions → Trees → Holdings → Type 0

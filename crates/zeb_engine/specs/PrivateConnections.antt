@@ -14,6 +14,7 @@ use Rattle.zeb_engine.specs.Adopting.{StaysOpen}
 use Rattle.zeb_engine.specs.declared.replies.Reply.{Reply}
 use Rattle.zeb_engine.specs.Causes.{HasStoreCause}
 use Rattle.zeb_engine.specs.PrivateCrashes.{Commits}
+use Rattle.zeb_engine.specs.Readiness.{GoesByTexts}
 use Rattle.zeb_engine.specs.Steps.{Outcome}
 use Rattle.zeb_engine.specs.PrivateWorks.{Always, Serves}
 
@@ -36,6 +37,10 @@ LeavesOpen g old new result = HasCleanDisk (state g new) → OnOk result (IsTrue
 -- it finds the store failed only for a cause
 abbrev pub FailsForCause : {S T : Type 0} → Ghosts S → Held S → Held S → Result T Refusal → Type 0
 FailsForCause g old new result = HasCleanDisk (state g new) → HasStoreCause (state g old) (state g new) result
+
+-- the texts of the store tell whether the register was ready
+abbrev pub TellsReady : {S T : Type 0} → Ghosts S → (version : List ℕ) → List Directive → Held S → Held S → Result T Refusal → Type 0
+TellsReady g version profile old new result = HasCleanDisk (state g new) → GoesByTexts version profile (state g old) result
 
 -- ---- a command that goes by the version and the profile alone, under any limits
 

@@ -14,9 +14,8 @@ use Rattle.zeb_change.specs.Refused.{why_of}
 use Rattle.zeb_engine.specs.declared.looks.Standing.{Standing}
 use Rattle.zeb_engine.specs.declared.looks.Standing.TheVariants.{Upgraded, First}
 use Rattle.zeb_engine.specs.Adopting.{StaysOpen}
-use Rattle.zeb_engine.specs.Answers.{IsFailure, refused}
+use Rattle.zeb_engine.specs.Answers.{IsFailure, refused, no_database}
 use Rattle.zeb_engine.specs.Readiness.{IsReadyFor, KeepsText}
-use Rattle.zeb_engine.specs.Steps.{no_database}
 
 -- what a look did to the connection, and what it found on the tables of a store
 pub record IsLook {T : Type 0} (Finds : Trees → T → Type 0) (Refuses : Trees → Refusal → Type 0) (old new : State) (result : Result T Refusal) : Type 0 where

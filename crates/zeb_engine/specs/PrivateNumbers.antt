@@ -8,7 +8,7 @@ use Rattle.zeb_register.specs.declared.kept.Record.{Record}
 use Rattle.zeb_register.specs.Catalog.{PutsDatabase}
 use Rattle.zeb_register.specs.Kept.{AreReadable}
 use Rattle.zeb_register.specs.Store.{Changes, databases_tree}
-use Rattle.zeb_engine.specs.AnyTables.{HasNumbersTo}
+use Rattle.zeb_engine.specs.Changing.{HasNumbersTo}
 
 -- the first record, if there is one, has no number below 1, and none was found above the last number
 abbrev pub AreGiven : (first above : Option Record) → Type 0

@@ -4,7 +4,7 @@ use Rattle.std.specs.Prelude.{ℕ, List, Option, Some, None, Result, Ok, Err}
 use Rattle.zeb_change.specs.Refused.{Why}
 use Rattle.zeb_image.specs.Holdings.{base_named}
 use Rattle.zeb_change.specs.Base.{Base}
-use Rattle.zeb_engine.specs.Steps.{no_database}
+use Rattle.zeb_engine.specs.Answers.{no_database}
 
 -- the database of this name
 abbrev pub found_or : List ℕ → Option Base → Result Base Why

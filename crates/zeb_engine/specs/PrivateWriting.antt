@@ -17,7 +17,7 @@ use Rattle.zeb_engine.specs.declared.writes.Write.TheVariants as write
 use Rattle.zeb_change.specs.declared.refusals.Refusal.{Refusal}
 use Rattle.zeb_engine.specs.declared.replies.Reply.{Reply}
 use Rattle.zeb_engine.specs.declared.replies.Reply.TheVariants.{Done}
-use Rattle.zeb_engine.specs.AnyMade.{MakesDatabase}
+use Rattle.zeb_engine.specs.Making.{MakesDatabase}
 use Rattle.zeb_engine.specs.Answers.{answer_of, done, refused, IsFailure}
 use Rattle.zeb_change.specs.Refused.{why_of}
 use Rattle.zeb_change.specs.Conditions.{Conditions}
@@ -26,7 +26,7 @@ use Rattle.zeb_image.specs.Holdings.{Holdings, base_named, under}
 use Rattle.zeb_change.specs.Base.{Base}
 use Rattle.zeb_image.specs.Image.{HasTexts, IsImage}
 use Rattle.zeb_image.specs.NameOf.{name_bytes}
-use Rattle.zeb_engine.specs.Checking.{CanBeRemade, IsRemade, TellsSound}
+use Rattle.zeb_engine.specs.Reindexing.{CanBeRemade, IsRemade, TellsSound}
 use Rattle.zeb_engine.specs.Crashes.{IsStoreDisk}
 use Rattle.zeb_engine.specs.Steps.{Outcome, holding, ready, initialised, turned, created, dropped, reindexed, ruled, upgradable, upgraded}
 

@@ -1,16 +1,34 @@
 -- What a scan answers of a set of occurrences (Z39.50, Scan): the terms of a register around a start, each with the number of records that
 -- have it. Read with the bytes of all kept records, from nothing, it tells what a scan answers; read with the postings of the registers,
 -- what it answers by the registers alone.
-use Rattle.std.specs.Prelude.{◌≡◌, ℕ, ◌+◌, ◌-◌, List, ◌++◌, Result, Ok, Err, map, filter, take}
-use Rattle.zeb_profile.specs.declared.directives.Directive.{Directive}
-use Rattle.zeb_query.specs.Checks.{Refusal}
-use Rattle.zeb_query.specs.Grammar.{QueryValue, SpellsQuery}
-use Rattle.zeb_query.specs.Plans.{ScanValue, scan_of}
-use Rattle.zeb_keys.specs.declared.keys.Occurrence.{Occurrence}
-use Rattle.zeb_register.specs.declared.registers.TermCount.{TermCount}
-use Rattle.zeb_register.specs.Occurring.{AreTermsOf, is_before, is_from, last}
-use Rattle.zeb_engine.specs.Answers.{Answer, scanned, refused}
+use Rattle.sqlite.specs.State.{State}
+use Rattle.sqlite.specs.Tree.{Trees}
+use Rattle.std.specs.Prelude.{◌≡◌, ℕ, ◌+◌, ◌-◌, List, ◌++◌, Result, Ok, Err, map, filter, take, ℤ, ◌≤◌, ◌*◌}
+use Rattle.zeb_change.specs.Conditions.{Conditions}
 use Rattle.zeb_change.specs.Refused.{diagnostic}
+use Rattle.zeb_change.specs.declared.refusals.Refusal.{Refusal}
+use Rattle.zeb_engine.specs.Answers.{Answer, scanned, refused}
+use Rattle.zeb_engine.specs.Asking.{IsAsked, OfDatabase, Alone, Said}
+use Rattle.zeb_engine.specs.Causes.{OnlyLooks}
+use Rattle.zeb_engine.specs.Hidden.{UnlessHidden, HidesOf}
+use Rattle.zeb_engine.specs.Readiness.{GoesByTexts}
+use Rattle.zeb_engine.specs.declared.replies.Reply.{Reply}
+use Rattle.zeb_keys.specs.declared.keys.Occurrence.{Occurrence}
+use Rattle.zeb_profile.specs.declared.directives.Directive.{Directive}
+use Rattle.zeb_query.specs.Checks.{Refusal as QueryRefusal}
+use Rattle.zeb_query.specs.Grammar.{QueryValue, SpellsQuery}
+use Rattle.zeb_query.specs.Places.{IsReadable}
+use Rattle.zeb_query.specs.Plans.{ScanValue, scan_of}
+use Rattle.zeb_register.specs.Content.{Content, posted}
+use Rattle.zeb_register.specs.Formats.{Format, holds_in}
+use Rattle.zeb_register.specs.Occurring.{AreTermsOf, is_before, is_from, last}
+use Rattle.zeb_register.specs.PackedBlocks.{AreBeforeCounted, AreFromCounted}
+use Rattle.zeb_register.specs.PlainRows.{register_front}
+use Rattle.zeb_register.specs.Sound.{TellsBefore, TellsFrom, InPacked}
+use Rattle.zeb_register.specs.Store.{IsStore}
+use Rattle.zeb_register.specs.declared.registers.TermCount.{TermCount}
+use Rattle.zeb_register.specs.declared.registers.Work.{Work}
+use Rattle.zeb_search.specs.SearchCounts.{CountsAtMost}
 
 -- The position - 1 nearest terms below the start, as far as there are, and behind them the first ones that are not below it,
 -- number - position + 1 of them.
@@ -34,7 +52,7 @@ module _ (AreTerms : ScanValue → ℕ → ℕ → List TermCount → Type 0) wh
       (terms : List TermCount) × AreTerms plan number position terms × (answer ≡ scanned plan.register (map (λ t. (t.term, t.records)) terms))
 
   -- a query that has no plan for a scan is refused by its first diagnostic
-  abbrev pub IsScanPlannedBy : Result ScanValue Refusal → ℕ → ℕ → Answer → Type 0
+  abbrev pub IsScanPlannedBy : Result ScanValue QueryRefusal → ℕ → ℕ → Answer → Type 0
   IsScanPlannedBy (Err e) number position answer = answer ≡ refused (diagnostic e.number e.place e.addinfo)
   IsScanPlannedBy (Ok plan) number position answer = IsScannedFrom plan number position answer
 
@@ -44,8 +62,64 @@ module _ (AreTerms : ScanValue → ℕ → ℕ → List TermCount → Type 0) wh
 
 -- the same over a set of occurrences: the terms are those around the start
 module _ (O : ℕ → Occurrence → Type 0) where
-  abbrev pub IsScanPlanned : Result ScanValue Refusal → ℕ → ℕ → Answer → Type 0
+  abbrev pub IsScanPlanned : Result ScanValue QueryRefusal → ℕ → ℕ → Answer → Type 0
   IsScanPlanned = IsScanPlannedBy (AreAround O)
 
   abbrev pub IsScanned : List Directive → List ℕ → ℕ → ℕ → Answer → Type 0
   IsScanned = IsScannedBy (AreAround O)
+
+-- ---- a command on any tables of a store
+
+abbrev pub ScanSays : List Directive → List ℕ → ℕ → ℕ → Said
+ScanSays profile text number position trees content db last = IsScanned (posted content db) profile text number position
+
+-- The terms are those that the rows of `dict` around the start tell: the last of the register below it, and the first that aren't. Each of
+-- these rows counts a term.
+pub record TellsAround (format : Format) (trees : Trees) (db : ℤ) (plan : ScanValue) (number position : ℕ) (terms : List TermCount) : Type 0 where
+  pub below : List TermCount
+  pub rest : List TermCount
+  pub before : TellsBefore format trees db plan.index plan.register plan.start (position - 1) below
+  pub from : TellsFrom format trees db plan.index plan.register plan.start (number + 1 - position) rest
+  pub joined : terms ≡ below ++ rest
+
+-- they are answered as those of the register that the query asks for
+abbrev pub ScanTells : Format → List Directive → (text : List ℕ) → (number position : ℕ) → Trees → OfDatabase
+ScanTells format profile text number position trees db last = IsScannedBy (TellsAround format trees db) profile text number position
+
+abbrev pub ScanOver : Format → List Directive → (name text : List ℕ) → (number position : ℕ) → Trees → Answer → Type 0
+ScanOver format profile name text number position trees = IsAsked (ScanTells format profile text number position trees) name text trees
+
+-- Each row of `dict` that a scan reads counts a term: the last of the register below the start, and the first that aren't.
+abbrev pub AreAroundCounted : Trees → (db : ℤ) → ScanValue → (number position : ℕ) → Type 0
+AreAroundCounted trees db plan number position =
+    AreBeforeCounted trees (register_front db plan.index plan.register) plan.start (position - 1)
+    × AreFromCounted trees (register_front db plan.index plan.register) plan.start (number + 1 - position)
+
+-- One of these rows of packed blocks doesn't. Over plain rows damage is free: of those it isn't said which can be read.
+abbrev pub HidesAround : Format → Trees → (db : ℤ) → ScanValue → (number position : ℕ) → Type 0
+HidesAround format trees db plan number position = ¬ InPacked format (AreAroundCounted trees db plan number position)
+
+-- the query has a plan for a scan, and so it is of the rows that this reads
+abbrev pub HidesPlanned : Format → List Directive → (text : List ℕ) → (number position : ℕ) → Trees → (db : ℤ) → Type 0
+HidesPlanned format profile text number position trees db =
+    (plan : ScanValue) × IsScanPlanOf profile text plan × HidesAround format trees db plan number position
+
+-- the query is read, and then the database or such rows of it can't be
+abbrev pub HidesTerms : Format → List Directive → (name text : List ℕ) → (number position : ℕ) → Trees → Type 0
+HidesTerms format profile name text number position trees = IsReadable text × HidesOf (HidesPlanned format profile text number position trees) name trees
+
+-- On the tables of a store that hold a content, so many terms are read as are asked for, one more at most, and nothing else. The start is
+-- at one of the places that are asked for.
+abbrev pub ScanReads : Format → ℕ → ℕ → ℕ → State → Work → Work → Type 0
+ScanReads format row_work number position s before after =
+    IsStore s → (content : Content) → holds_in format s.now.trees content → 1 ≤ position → position ≤ number
+    → CountsAtMost (row_work * (number + 1)) 0 before after
+
+pub record ScanDoes (format : Format) (c : Conditions) (name query : List ℕ) (number position : ℕ) (old new : State) (answer : Result Reply Refusal) : Type 0 where
+  pub looks : OnlyLooks old new answer
+  pub ready : GoesByTexts c.version c.profile old answer
+  pub alone : Alone format (ScanSays c.profile query number position) name old answer
+  -- Its terms are those that its rows tell. It is refused as damage only where the row of the name or one of packed registers that it reads
+  -- can't be read.
+  pub told : UnlessHidden c.version c.profile (ScanOver format c.profile name query number position)
+      (HidesTerms format c.profile name query number position) old answer

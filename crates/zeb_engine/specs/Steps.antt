@@ -13,7 +13,7 @@ use Rattle.zeb_engine.specs.declared.commands.Command.TheVariants.{Init, Check, 
 use Rattle.zeb_change.specs.declared.settings.Kind.{Kind}
 use Rattle.zeb_change.specs.declared.settings.Kind.TheVariants.{Update, Delete, Adelete}
 use Rattle.zeb_image.specs.NameOf.{name_bytes}
-use Rattle.zeb_engine.specs.Answers.{Answer, done, changed, dumped, refused, IsFailure}
+use Rattle.zeb_engine.specs.Answers.{Answer, done, changed, dumped, refused, IsFailure, no_database}
 use Rattle.zeb_change.specs.Refused.{Why, not_initialised, old_format, profile_changed, diagnostic, exists, rule_changed}
 use Rattle.zeb_image.specs.Holdings.{Holdings, nothing_yet, under, new_base, base_named, with_base, without_base}
 use Rattle.zeb_change.specs.Base.{Base}
@@ -35,9 +35,6 @@ unfoldable pub ready : Conditions → Holdings → Result (List Base) Why
 ready c nothing_yet = Err not_initialised
 ready c (under version text bases) =
     if bytes_eq version c.version then (if bytes_eq text (canonical_text c.profile) then Ok bases else Err profile_changed) else Err old_format
-
-abbrev pub no_database : List ℕ → Why
-no_database name = diagnostic 235 0 name
 
 -- what is held under these conditions, with these databases
 abbrev pub holding : Conditions → List Base → Holdings
@@ -214,21 +211,6 @@ Step c (Stat name) before = OnlyAnswers (CountedFrom c (name_bytes name) (ready 
 Step c (Dump name) before = Ends (dumped_by c (name_bytes name) before)
 Step c (Scan name query number position) before = OnlyAnswers (ScannedFrom c (name_bytes name) (string_bytes query) number position (ready c before)) before
 Step c (Analyse files) before = OnlyAnswers (IsAnalysed c.profile c.limits.records (map (λ file. file.items) files.items)) before
-
--- the commands that change nothing that is held, whatever it is
-abbrev pub OnlyAsks : Command → Type 0
-OnlyAsks Init = ⊥
-OnlyAsks (Create name) = ⊥
-OnlyAsks (Drop name) = ⊥
-OnlyAsks (Change kind name files) = ⊥
-OnlyAsks (Find name query first count) = Unit {0}
-OnlyAsks Check = Unit {0}
-OnlyAsks Reindex = ⊥
-OnlyAsks Upgrade = ⊥
-OnlyAsks (Stat name) = Unit {0}
-OnlyAsks (Dump name) = Unit {0}
-OnlyAsks (Scan name query number position) = Unit {0}
-OnlyAsks (Analyse files) = Unit {0}
 
 -- ---- a list of commands
 

@@ -8,7 +8,7 @@ use Rattle.sqlite.specs.Tree.{Trees}
 use Rattle.zeb_register.specs.Calls.{ChangesNothing}
 use Rattle.zeb_engine.specs.Adopting.{StaysOpen}
 use Rattle.zeb_engine.specs.declared.commands.Command.{Command}
-use Rattle.zeb_engine.specs.declared.commands.Command.TheVariants.{Analyse}
+use Rattle.zeb_engine.specs.declared.commands.Command.TheVariants.{Init, Check, Reindex, Upgrade, Create, Drop, Stat, Dump, Change, Find, Scan, Analyse}
 use Rattle.zeb_change.specs.declared.refusals.Refusal.{Refusal}
 use Rattle.zeb_change.specs.declared.refusals.Refusal.TheVariants.{Store}
 
@@ -33,13 +33,43 @@ pub record Commanded {T : Type 0} (old new : State) (result : Result T Refusal) 
 
 -- the commands that ask the store: all but an analysis, which reads its files alone
 abbrev pub AsksStore : Command → Type 0
+AsksStore Init = Unit {0}
+AsksStore (Create name) = Unit {0}
+AsksStore (Drop name) = Unit {0}
+AsksStore (Change kind name files) = Unit {0}
+AsksStore (Find name query first count) = Unit {0}
+AsksStore Check = Unit {0}
+AsksStore Reindex = Unit {0}
+AsksStore Upgrade = Unit {0}
+AsksStore (Stat name) = Unit {0}
+AsksStore (Dump name) = Unit {0}
+AsksStore (Scan name query number position) = Unit {0}
 AsksStore (Analyse files) = ⊥
-AsksStore command = Unit {0}
 
 abbrev pub NoneAsks : List Command → Type 0
 NoneAsks = AllByRecursion (λ command. ¬ AsksStore command)
 
 -- One of the commands on a connection. An analysis leaves the connection as it is, open or shut, whatever it answers.
 abbrev pub CommandedBy : {S T : Type 0} → Ghosts S → Command → Held S → Held S → Result T Refusal → Type 0
+CommandedBy g Init old new result = Commanded (state g old) (state g new) result
+CommandedBy g (Create name) old new result = Commanded (state g old) (state g new) result
+CommandedBy g (Drop name) old new result = Commanded (state g old) (state g new) result
+CommandedBy g (Change kind name files) old new result = Commanded (state g old) (state g new) result
+CommandedBy g (Find name query first count) old new result = Commanded (state g old) (state g new) result
+CommandedBy g Check old new result = Commanded (state g old) (state g new) result
+CommandedBy g Reindex old new result = Commanded (state g old) (state g new) result
+CommandedBy g Upgrade old new result = Commanded (state g old) (state g new) result
+CommandedBy g (Stat name) old new result = Commanded (state g old) (state g new) result
+CommandedBy g (Dump name) old new result = Commanded (state g old) (state g new) result
+CommandedBy g (Scan name query number position) old new result = Commanded (state g old) (state g new) result
 CommandedBy g (Analyse files) old new result = new ≡ old
-CommandedBy g command old new result = Commanded (state g old) (state g new) result
+
+-- What the command has done to the connection, and that no transaction is open: what is shown is what was committed.
+pub record CommandHolds {S T : Type 0} (g : Ghosts S) (command : Command) (old new : Held S) (result : Result T Refusal) : Type 0 where
+  pub call : CommandedBy g command old new result
+  pub durable : HasCleanDisk (state g new) → IsDurable (state g new)
+
+-- the same of a call that asks the store
+pub record CallHolds {T : Type 0} (old new : State) (result : Result T Refusal) : Type 0 where
+  pub call : Commanded old new result
+  pub durable : HasCleanDisk new → IsDurable new

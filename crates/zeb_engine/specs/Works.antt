@@ -1,9 +1,14 @@
 -- What commands do to a connection, and to what its tables hold.
-use Rattle.std.specs.Prelude.{◌≡◌, List, [], ◌∷◌, Result, IsTrue, OnOk}
+use Rattle.std.specs.Prelude.{◌≡◌, ℕ, List, [], ◌∷◌, Result, IsTrue, OnOk}
+use Rattle.std.specs.List.{AllByRecursion}
+use Rattle.std.specs.Result.{IsErr}
 use Rattle.sqlite.specs.Held.{Held, state}
 use Rattle.sqlite.specs.State.{State}
 use Rattle.sqlite.specs.Store.{Ghosts}
 use Rattle.zeb_register.specs.declared.registers.Work.{Work}
+use Rattle.zeb_register.specs.Calls.{ChangesNothing}
+use Rattle.zeb_register.specs.Content.{Posting}
+use Rattle.zeb_register.specs.Formats.{Format}
 use Rattle.zeb_engine.specs.declared.commands.Command.{Command}
 use Rattle.zeb_engine.specs.declared.replies.Reply.{Reply}
 use Rattle.zeb_change.specs.declared.refusals.Refusal.{Refusal}
@@ -12,7 +17,9 @@ use Rattle.zeb_change.specs.Conditions.{Conditions}
 use Rattle.zeb_image.specs.Holdings.{Holdings}
 use Rattle.zeb_image.specs.Image.{Keeps}
 use Rattle.zeb_engine.specs.Steps.{TellsOrFails, Run, Step}
-use Rattle.zeb_engine.specs.Transactions.{AsksStore, NoneAsks}
+use Rattle.zeb_engine.specs.Counts.{CommandCounts}
+use Rattle.zeb_engine.specs.Does.{AnswersAnyway, CommandOverTables}
+use Rattle.zeb_engine.specs.Transactions.{AsksStore, IsDurable, NoneAsks}
 
 -- a command that is carried out: it answers what it may, and the tables hold what is held then
 abbrev pub ServesBy : (Told : Holdings → Answer → Holdings → Type 0) → State → State → Result Reply Refusal → Type 0
@@ -44,3 +51,19 @@ module _ {S : Type 0} (g : Ghosts S) (Does : Command → Result Reply Refusal �
       (mid : Held S) × (work : Work) × Does command result (state g old) (state g mid) work × InTurn commands results mid work new after
   InTurn [] (result ∷ results) old before new after = ⊥
   InTurn (command ∷ commands) [] old before new after = ⊥
+
+-- what is said of one of the commands: all that is said of a command alone
+pub record CommandTurns (format : Format) (row_work : ℕ) (block_rows : List Posting → ℕ) (c : Conditions) (command : Command)
+    (answer : Result Reply Refusal) (old new : State) (work : Work) : Type 0 where
+  pub step : ServesCommand c command old new answer
+  pub tables : CommandOverTables format c command old new answer
+  pub answers : AnswersAnyway c command answer
+  pub counts : CommandCounts format row_work block_rows c command old new answer work
+
+-- what a run has done to the connection
+pub record RunHolds (commands : List Command) (answers : List (Result Reply Refusal)) (old new : State) : Type 0 where
+  -- no transaction is open: what is shown is what was committed
+  pub durable : IsDurable new
+  pub asked : FindOpen commands answers old new
+  -- where each command is refused nothing changes, whatever the tables hold
+  pub refused : AllByRecursion IsErr answers → ChangesNothing old new

@@ -12,7 +12,7 @@ ghost use Rattle.zeb_engine.specs.PrivateChanging.{BeginsWith, IsMissedFor, MayB
 ghost use Rattle.zeb_engine.specs.PrivateNumbers.{AreGiven, AreWellNumbered, IsMisnumbered};
 ghost use Rattle.zeb_change.specs.Conditions.{Conditions};
 ghost use Rattle.zeb_engine.specs.Answers.{IsFailure, refused};
-ghost use Rattle.zeb_engine.specs.AnyTables.{ElderOver, EldersOver, HasNumbersTo, LeavesRows, LeavesWhole, LosesNamed, LosesNamedOver, ReasonsOver};
+ghost use Rattle.zeb_engine.specs.Changing.{ElderOver, EldersOver, HasNumbersTo, LeavesRows, LeavesWhole, LosesNamed, LosesNamedOver, ReasonsOver};
 ghost use Rattle.zeb_engine.specs.PrivateCrashes.{Commits};
 ghost use Rattle.zeb_change.specs.Base.{Base};
 ghost use Rattle.zeb_image.specs.Holdings.{Holdings, base_named};

@@ -6,7 +6,9 @@ ghost use Rattle.sqlite.specs.State.{HasCleanDisk};
 ghost use Rattle.zeb_register.specs.Formats.{version_of};
 ghost use Rattle.zeb_change.specs.Reading.{NoReadFault};
 ghost use Rattle.zeb_engine.specs.PrivateLooking.{FindsStanding, IsLook, RefusesText, RefusesVersion, TellsStanding, TellsText};
-ghost use Rattle.zeb_engine.specs.Readiness.{IsReadyToReindex, KeepsText, RefusesReindex, RefusesUpgrade};
+ghost use Rattle.zeb_engine.specs.Reindexing.{IsReadyToReindex, RefusesReindex};
+ghost use Rattle.zeb_engine.specs.Readiness.{KeepsText};
+ghost use Rattle.zeb_engine.specs.Upgrading.{RefusesUpgrade};
 ghost use Rattle.zeb_engine.specs.PrivateConnections.{CommitsNothing};
 
 use crate::readiness::{IDENTIFIER, PROFILE, VERSION};

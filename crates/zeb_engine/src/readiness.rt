@@ -14,11 +14,11 @@ ghost use Rattle.zeb_change.specs.Base.{Base};
 ghost use Rattle.zeb_image.specs.Image.{Keeps};
 ghost use Rattle.zeb_image.specs.NameOf.{name_bytes};
 ghost use Rattle.zeb_engine.specs.PrivateLooking.{IsUnready, MissesDatabase};
-ghost use Rattle.zeb_engine.specs.Readiness.{IsReadyFor, TellsReady};
+ghost use Rattle.zeb_engine.specs.Readiness.{IsReadyFor};
 ghost use Rattle.zeb_change.specs.Reading.{NoReadFault};
 ghost use Rattle.zeb_engine.specs.Steps.{ready};
 ghost use Rattle.zeb_engine.specs.PrivateSteps.{existing};
-ghost use Rattle.zeb_engine.specs.PrivateConnections.{CommitsNothing, FailsForCause, FindsOpen, LeavesAsIs};
+ghost use Rattle.zeb_engine.specs.PrivateConnections.{CommitsNothing, FailsForCause, FindsOpen, LeavesAsIs, TellsReady};
 
 use sqlite::{Alter, Connection};
 use std::alloc::Global;

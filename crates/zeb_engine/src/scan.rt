@@ -16,11 +16,9 @@ ghost use Rattle.zeb_change.specs.Base.{Base};
 ghost use Rattle.zeb_image.specs.Image.{Keeps};
 ghost use Rattle.zeb_image.specs.NameOf.{name_bytes};
 ghost use Rattle.zeb_change.specs.Reading.{NoReadFault};
-ghost use Rattle.zeb_engine.specs.Alone.{Alone, ScanSays};
-ghost use Rattle.zeb_engine.specs.AnyRefusals.{HidesAround, HidesTerms, TellsUnlessHidden};
-ghost use Rattle.zeb_engine.specs.AnyTables.{ScanOver, TellsAround};
-ghost use Rattle.zeb_engine.specs.Reads.{ScanReads};
-ghost use Rattle.zeb_engine.specs.Scanning.{AreAround};
+ghost use Rattle.zeb_engine.specs.Asking.{Alone};
+ghost use Rattle.zeb_engine.specs.Scanning.{ScanSays, HidesAround, HidesTerms, ScanOver, TellsAround, ScanReads, AreAround};
+ghost use Rattle.zeb_engine.specs.Hidden.{TellsUnlessHidden};
 ghost use Rattle.zeb_engine.specs.Steps.{ready, AskedAmong, ScanAnswers};
 ghost use Rattle.zeb_engine.specs.PrivateConnections.{CommitsNothing, FailsForCause, FindsOpen, LeavesAsIs};
 

@@ -9,12 +9,12 @@ ghost use Rattle.zeb_register.specs.Content.{TakesWhole};
 ghost use Rattle.zeb_register.specs.Formats.{version_of};
 ghost use Rattle.zeb_register.specs.Store.{IsStore, meta_tree};
 ghost use Rattle.zeb_change.specs.declared.settings.Limits.{Limits};
-ghost use Rattle.zeb_engine.specs.AnyMade.{DropsDatabase, OnAccepted, MakesDatabase};
-ghost use Rattle.zeb_engine.specs.AnyRefusals.{CreateOver, DropOver, HidesDatabase, TellsUnlessHidden};
+ghost use Rattle.zeb_engine.specs.Making.{DropsDatabase, OnAccepted, MakesDatabase, CreateOver, DropOver};
+ghost use Rattle.zeb_engine.specs.Hidden.{HidesDatabase, TellsUnlessHidden};
 ghost use Rattle.zeb_engine.specs.Answers.{IsFailure, refused};
 ghost use Rattle.zeb_change.specs.Refused.{why_of, NeverUnready};
 ghost use Rattle.zeb_change.specs.Conditions.{Conditions, conditions};
-ghost use Rattle.zeb_engine.specs.Checking.{IsRemade, TellsSound};
+ghost use Rattle.zeb_engine.specs.Reindexing.{IsRemade, TellsSound};
 ghost use Rattle.zeb_engine.specs.PrivateCrashes.{Commits};
 ghost use Rattle.zeb_image.specs.Image.{IsImage};
 ghost use Rattle.zeb_image.specs.NameOf.{name_bytes};
@@ -23,9 +23,7 @@ ghost use Rattle.zeb_engine.specs.Steps.{holding, initialised, turned, created, 
 ghost use Rattle.zeb_engine.specs.Transactions.{Commanded};
 ghost use Rattle.zeb_change.specs.Inside.{StaysInside};
 ghost use Rattle.zeb_engine.specs.PrivateWorks.{IsReady, Serves, ReachesOutcome};
-ghost use Rattle.zeb_engine.specs.PrivateWriting.{AreOf, Begins, CommitsRemade, IsFree, IsKnown, FailsAlone, Fits};
-ghost use Rattle.zeb_engine.specs.PrivateWriting.{IsReached, IsRuled, IsUpgradable, MakesOrTakes, PutsTexts, ReadsSound};
-ghost use Rattle.zeb_engine.specs.PrivateWriting.{Remakes, reply_of_work, written};
+ghost use Rattle.zeb_engine.specs.PrivateWriting.{AreOf, Begins, CommitsRemade, IsFree, IsKnown, FailsAlone, Fits, IsReached, IsRuled, IsUpgradable, MakesOrTakes, PutsTexts, ReadsSound, Remakes, reply_of_work, written};
 ghost use Rattle.zeb_engine.specs.PrivateConnections.{CommitsNothing, CommitsUnder, ServesUnder};
 
 use crate::readiness::{IDENTIFIER, PROFILE, VERSION, existing_database};

@@ -11,7 +11,8 @@ use crate::{Key, Occurrence, Term};
 /// Keys compare by index, then register, then the bytes of the term; occurrences by key, then unit, then place.
 pub fn order_is_by_parts()
     ensures keys { (a b : Key) → ⟦<Key as Ord>⟧.cmp a b ≡ key_order a b }
-    ensures occurrences { (a b : Occurrence) → ⟦<Occurrence as Ord>⟧.cmp a b ≡ occurrence_order a b }
+    ensures occurrences { (a b : Occurrence)
+        → ⟦<Occurrence as Ord>⟧.cmp a b ≡ occurrence_order a b }
 {}
 
 /// Both orders are total, and answer `Equal` of equal values alone.
@@ -26,11 +27,13 @@ pub fn order_is_total()
 pub fn equality_is_identity()
     ensures terms { (a b : List ℕ) → (⟦<Term as PartialEq>⟧.eq a b ≡ true) ↔ (a ≡ b) }
     ensures keys { (a b : Key) → (⟦<Key as PartialEq>⟧.eq a b ≡ true) ↔ (a ≡ b) }
-    ensures occurrences { (a b : Occurrence) → (⟦<Occurrence as PartialEq>⟧.eq a b ≡ true) ↔ (a ≡ b) }
+    ensures occurrences { (a b : Occurrence)
+        → (⟦<Occurrence as PartialEq>⟧.eq a b ≡ true) ↔ (a ≡ b) }
 {}
 
 /// Two rising lists of occurrences that have the same members are the same list.
 pub fn rising_list_is_one()
-    ensures { (xs ys : List Occurrence) → IsRising xs → IsRising ys → ((o : Occurrence) → Contains xs o ↔ Contains ys o)
+    ensures { (xs ys : List Occurrence) → IsRising xs → IsRising ys
+        → ((o : Occurrence) → Contains xs o ↔ Contains ys o)
         → xs ≡ ys }
 {}

@@ -47,12 +47,12 @@ pub use Rattle.zeb_engine.proofs.RenewedImages.{rules_told}
 pub use Rattle.zeb_engine.proofs.StepLemmas.{outcome, step_is, step_told}
 pub use Rattle.zeb_engine.proofs.TurnedOutcomes.{step_changed, step_unchanged}
 pub use Rattle.zeb_engine.specs.Analysed.{IsAnalysed, analysis_answer}
-pub use Rattle.zeb_engine.specs.Answers.{changed, Answer, done, Extent, found, refused, scanned}
+pub use Rattle.zeb_engine.specs.Answers.{changed, Answer, done, Extent, found, refused, scanned, no_database}
 pub use Rattle.zeb_engine.specs.Counting.{IsCounted, IsExtent, Paired, Target, name_of_index, target_list}
 pub use Rattle.zeb_engine.specs.Crashes.{Accepts}
 pub use Rattle.zeb_engine.specs.Finding.{AreShown, IsAnswered, IsFound, IsNamed, IsPlanned, IsShown, has_name}
 pub use Rattle.zeb_engine.specs.Scanning.{IsScanned, IsScanPlanned, around}
-pub use Rattle.zeb_engine.specs.Steps.{change_ends, change_from, ends, start_of, turned_from, AskedFrom, CountedFrom, FindAnswers, ScanAnswers, Step, Turn, all_stay, checked_from, created, dropped, dumped_from, holding, ruled, upgradable, AskedIn, StatAnswers, dumped_by, no_database, checked, AskedAmong, FoundFrom, Outcome, Run}
+pub use Rattle.zeb_engine.specs.Steps.{change_ends, change_from, ends, start_of, turned_from, AskedFrom, CountedFrom, FindAnswers, ScanAnswers, Step, Turn, all_stay, checked_from, created, dropped, dumped_from, holding, ruled, upgradable, AskedIn, StatAnswers, dumped_by, checked, AskedAmong, FoundFrom, Outcome, Run}
 pub use Rattle.zeb_engine.specs.Transactions.{AsksStore}
 pub use Rattle.zeb_engine.specs.declared.commands.Command.{Command}
 pub use Rattle.zeb_engine.specs.declared.commands.Command.TheVariants.{Init, Check, Reindex, Upgrade, Create, Drop, Stat, Dump, Change, Find, Scan, Analyse}

@@ -25,7 +25,7 @@ abbrev term : Word
 term = plain 10 (codes "whale")
 
 abbrev query : QueryValue
-query = record { attribute_set = None; tree = under (with_attribute None (1, codes "4")) (TermValue 10 no_head (codes "whale")) }
+query = record { attrset = None; tree = under (with_attribute None (1, codes "4")) (TermValue 10 no_head (codes "whale")) }
 
 words_are : words_at 0 (chars text) ≡ plain 0 (codes "@attr") ∷ plain 6 (codes "1=4") ∷ term ∷ []
 unfolding chars is_utf8 encode

@@ -23,7 +23,6 @@ pub use Rattle.zeb_marc.specs.Leader.{Check, check, first_failing, leader_checks
 pub use Rattle.zeb_marc.specs.Parts.{IsPart}
 pub use Rattle.zeb_marc.specs.PrivateDirectory.{entry_of}
 pub use Rattle.zeb_marc.specs.PrivateReading.{FailsIf, ByteGives, SkipGives, FillGives, SliceGives}
-pub use Rattle.zeb_marc.specs.Reading.{most_reads}
 pub use Rattle.zeb_marc.specs.Records.{directory_of, data_area, IsRecordFault, IsRecord}
 pub use Rattle.zeb_marc.specs.Splits.{is_separator, next_if, next_behind, Next, at_end, a_fault, Gives, IsSlice, are_separators, IsRun, IsTooLong, IsNoSlice, EndsAs, IsSplit, a_slice, Split, split_next, split_within}
 pub use Rattle.zeb_marc.specs.Units.{left_of}

@@ -1,7 +1,6 @@
--- Reading the next record takes no more than separators and one record's bytes off a stream, and asks no more reads.
-use Rattle.zeb_marc.proofs.Cited.{◌≡◌, ℕ, ◌+◌, ◌<◌, ◌≤◌, ◌^◌, Bool, true, false, cond, leb, Option, Some, None, Result, Ok, Err, List, length, take, ap, subst, length-append, length-take, refl, arith, inl, inr, ◌⊎◌, leb-true, leb-false, MarcFault, LengthDigits, LengthRange, Truncated, TooManySeparators, ReadFault, first_failing, record_length, slice_checks, IsSlice, EndsAs, most_reads, Takes}
+-- Reading the next record takes no more than separators and one record's bytes off a stream.
+use Rattle.zeb_marc.proofs.Cited.{◌≡◌, ℕ, ◌+◌, ◌<◌, ◌≤◌, ◌^◌, Bool, true, false, cond, leb, Option, Some, None, Result, Ok, Err, List, length, take, ap, subst, length-append, length-take, refl, arith, inl, inr, ◌⊎◌, leb-true, leb-false, MarcFault, LengthDigits, LengthRange, Truncated, TooManySeparators, ReadFault, first_failing, record_length, slice_checks, IsSlice, EndsAs, Takes}
 use Rattle.zeb_marc.specs.Leader.{are_digits}
-use Rattle.zeb_marc.specs.Reading.{Keeps}
 use Rattle.zeb_marc.proofs.PartLaws.{number_of-below}
 use Rattle.zeb_marc.proofs.SplitLaws.{SoundSlice-from_checks}
 
@@ -50,11 +49,3 @@ few_taken (Err Truncated) taken rest is = cut_off taken is.0
 few_taken (Err ReadFault) taken rest (inl is) = omega (arith, is.bounded)
 few_taken (Err ReadFault) taken rest (inr is) = cut_off taken is
 few_taken (Err _) taken rest is = omega (arith, ap length is.whole, length-append is.run is.digits, is.skipped.bounded, is.five)
-
-pub few_asked : (answer : Result (Option ℕ) MarcFault) (kept : List ℕ) → Keeps answer kept → most_reads answer ≤ 65535 + 99999
-few_asked (Ok None) kept keeps = omega arith
-few_asked (Ok (Some n)) kept keeps = omega (arith, keeps.1, slice_is_short kept keeps.0)
-few_asked (Err LengthDigits) kept keeps = omega arith
-few_asked (Err LengthRange) kept keeps = omega arith
-few_asked (Err TooManySeparators) kept keeps = omega arith
-few_asked (Err _) kept keeps = omega arith

@@ -1,9 +1,11 @@
 -- A worked record of ISO 2709: a leader, three directory entries, a control field with an identifier, a title of two
 -- subfields and a date; its fields and units, read off by hand. And a small record, with texts that differ from it in one
 -- place.
-use Rattle.std.specs.Prelude.{ℕ, List, [], ◌∷◌, ◌++◌, Some, None, codes}
+use Rattle.std.specs.Prelude.{◌≡◌, ℕ, List, [], ◌∷◌, ◌++◌, Some, None, codes}
 use Rattle.zeb_marc.specs.Directory.{FieldText}
 use Rattle.zeb_marc.specs.Contents.{UnitText}
+use Rattle.zeb_marc.specs.Records.{first_fault}
+use Rattle.zeb_marc.specs.declared.faults.MarcFault.{MarcFault}
 
 -- the record with these ten bytes of its leader (from its length to its second count), and this last byte
 abbrev pub record_with : List ℕ → ℕ → List ℕ
@@ -38,6 +40,10 @@ small_text leader directory area = leader ++ (directory ++ (30 ∷ (area ++ (29 
 abbrev pub with_leader : List ℕ → List ℕ
 with_leader leader = small_text leader (codes "001000300000") (codes "a1" ++ (30 ∷ []))
 
--- the same with its own leader and another entry
-abbrev pub with_entry : List ℕ → List ℕ
-with_entry entry = small_text (codes "00041nam a2200037 a 4500") entry (codes "a1" ++ (30 ∷ []))
+-- with this leader it has this fault
+abbrev pub LeaderFault : List ℕ → MarcFault → Type 0
+LeaderFault leader fault = first_fault (with_leader leader) ≡ Some fault
+
+-- with its own leader and this entry it has this fault
+abbrev pub EntryFault : List ℕ → MarcFault → Type 0
+EntryFault entry fault = first_fault (small_text (codes "00041nam a2200037 a 4500") entry (codes "a1" ++ (30 ∷ []))) ≡ Some fault

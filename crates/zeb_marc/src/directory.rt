@@ -2,7 +2,7 @@
 ghost use Rattle.std.specs.Prelude.{◌≡◌, true, false, length, None, MatchOption};
 ghost use Rattle.zeb_marc.specs.Leader.{first_failing, number_of};
 ghost use Rattle.zeb_marc.specs.PrivateLeader.{Answers};
-ghost use Rattle.zeb_marc.specs.Directory.{directory_checks, end_of, entry_checks, field_of, fields_in, has_digits, has_tag_bytes};
+ghost use Rattle.zeb_marc.specs.Directory.{directory_checks, end_of, entry_checks, field_of, fields_in, has_digits};
 ghost use Rattle.zeb_marc.specs.PrivateDirectory.{entry_of};
 ghost use Rattle.zeb_marc.specs.Fields.{field_text};
 ghost use Rattle.std.specs.Iterator.{YieldsFirstBy, item_count};
@@ -10,6 +10,7 @@ ghost use Rattle.std.specs.Iterator.{YieldsFirstBy, item_count};
 use crate::digits::read_number;
 use crate::faults::MarcFault;
 use crate::leader::{ENTRY_LEN, FIELD_TERMINATOR};
+use crate::tags::is_tag;
 use std::marker::Model;
 
 /// A field of a record.
@@ -27,19 +28,12 @@ fn extent_of(entry: &[u8]) -> Option<(usize, usize)>
     requires { length entry.now ≡ 12 }
     ensures { MatchOption result (has_digits (entry_of entry.now) ≡ false)
         (λ extent. (has_digits (entry_of entry.now) ≡ true)
-        × (extent.0 ≡ number_of (entry_of entry.now).start) × (extent.1 ≡ end_of (entry_of entry.now))) }
+        × (extent.0 ≡ number_of (entry_of entry.now).start)
+        × (extent.1 ≡ end_of (entry_of entry.now))) }
 {
     let size = read_number(&entry[3..7])?;
     let start = read_number(&entry[7..12])?;
     Some((start, start + size))
-}
-
-/// Whether a tag is one: three ASCII letters or digits.
-#[tactic(auto, unfolding(crate::specs::Directory::has_tag_bytes))]
-fn is_tag(tag: &[u8]) -> bool
-    ensures { result ≡ has_tag_bytes tag.now }
-{
-    tag.iter().all(|byte| byte.is_ascii_alphanumeric())
 }
 
 /// Checks one directory entry.

@@ -7,49 +7,56 @@ ghost use Rattle.zeb_marc.specs.Contents.{UnitText, units_of};
 ghost use Rattle.zeb_marc.specs.Records.{first_fault, IsRecord, IsRecordFault};
 ghost use Rattle.zeb_marc.specs.Layout.{IsLaidOut};
 ghost use Rattle.zeb_marc.specs.Splits.{at_end, a_fault, a_slice, next_of, split_next, split_of, EndsAs, IsRun, IsSlice, IsSplit};
-ghost use Rattle.zeb_marc.specs.Reading.{Keeps, most_reads};
 ghost use Rattle.zeb_marc.specs.Unread.{Takes};
 ghost use Rattle.zeb_marc.specs.Parts.{IsPart};
-ghost use Rattle.zeb_marc.specs.Worked.{record_with, small_text, with_entry, with_leader, worked_fields, worked_record, worked_stream, worked_units};
+ghost use Rattle.zeb_marc.specs.Worked.{EntryFault, LeaderFault, record_with, small_text, with_leader, worked_fields, worked_record, worked_stream, worked_units};
+ghost use Rattle.zeb_marc.specs.declared.faults.MarcFault.TheVariants.{BaseAddress, EntryDigits, EntryRange, EntryTag, FieldEnd, LeaderCounts, LengthDigits, LengthRange};
 
 /// A text is a record in at most one way, and in one exactly where no check fails; and it is one exactly where it is
 /// laid out as ISO 2709 says: a leader, the directory's entries, 0x1E, the data area and 0x1D. The texts of its fields
 /// and units are parts of it; its units are numbered from 1, and 64 bits number them. A text that is no record has a
 /// fault of records, and none of streams.
 pub fn record_laws()
-    ensures unique { (text : List ℕ) (one other : List FieldText) → IsRecord text one → IsRecord text other → one ≡ other }
-    ensures exact { (text : List ℕ) → ((fields : List FieldText) × IsRecord text fields) ↔ (first_fault text ≡ None) }
-    ensures laid_out { (text : List ℕ) (fields : List FieldText) → IsRecord text fields ↔ IsLaidOut text fields }
+    ensures unique { (text : List ℕ) (one other : List FieldText) → IsRecord text one
+        → IsRecord text other → one ≡ other }
+    ensures exact { (text : List ℕ)
+        → ((fields : List FieldText) × IsRecord text fields) ↔ (first_fault text ≡ None) }
+    ensures laid_out { (text : List ℕ) (fields : List FieldText)
+        → IsRecord text fields ↔ IsLaidOut text fields }
     ensures field_parts { (text : List ℕ) (fields : List FieldText) → IsRecord text fields
         → AllByRecursion (λ field. IsPart text field.text) fields }
     ensures unit_parts { (text : List ℕ) (fields : List FieldText) → IsRecord text fields
         → AllByRecursion (λ unit. IsPart text unit.text) (units_of fields) }
-    ensures faults { (text : List ℕ) (fault : MarcFault) → first_fault text ≡ Some fault → IsRecordFault fault }
-    ensures numbered { (fields : List FieldText) (k : ℕ) (unit : UnitText) → slice_get (units_of fields) k ≡ Some unit
+    ensures faults { (text : List ℕ) (fault : MarcFault) → first_fault text ≡ Some fault
+        → IsRecordFault fault }
+    ensures numbered { (fields : List FieldText) (k : ℕ) (unit : UnitText)
+        → slice_get (units_of fields) k ≡ Some unit
         → unit.seq ≡ k + 1 }
-    ensures few { (text : List ℕ) (fields : List FieldText) → IsRecord text fields → length (units_of fields) < 2 ^ 64 }
+    ensures few { (text : List ℕ) (fields : List FieldText) → IsRecord text fields
+        → length (units_of fields) < 2 ^ 64 }
 {}
 
 /// A stream is split in exactly one way, which reading it from its front on finds: what stands next is its first slice
 /// behind separators, or its end, or its fault.
 pub fn split_laws()
     ensures found { (file : List ℕ) → IsSplit file (split_of file).slices (split_of file).fault }
-    ensures only { (file : List ℕ) (slices : List (List ℕ)) (end : Option MarcFault) → IsSplit file slices end
+    ensures only { (file : List ℕ) (slices : List (List ℕ)) (end : Option MarcFault)
+        → IsSplit file slices end
         → split_of file ≡ record { slices = slices; fault = end } }
     ensures step { (file : List ℕ) → split_of file ≡ split_next split_of (next_of file) }
     // What stands next, in the same terms.
     ensures slice { (file slice rest : List ℕ) → next_of file ≡ a_slice slice rest
         ↔ ((run : List ℕ) × (file ≡ run ++ (slice ++ rest)) × IsRun run × IsSlice slice) }
     ensures end { (file : List ℕ) → next_of file ≡ at_end ↔ EndsAs file None }
-    ensures fault { (file : List ℕ) (fault : MarcFault) → next_of file ≡ a_fault fault ↔ EndsAs file (Some fault) }
+    ensures fault { (file : List ℕ) (fault : MarcFault)
+        → next_of file ≡ a_fault fault ↔ EndsAs file (Some fault) }
 {}
 
 /// Whatever reading the next record answers, it takes no more bytes off a stream than 65,535 separators and a record of
-/// 99,999 bytes have together, and asks no more reads.
-pub fn reading_laws()
-    ensures few { (answer : Result (Option ℕ) MarcFault) (taken rest : List ℕ) → Takes answer taken rest
+/// 99,999 bytes have together.
+pub fn few_bytes_are_taken()
+    ensures { (answer : Result (Option ℕ) MarcFault) (taken rest : List ℕ) → Takes answer taken rest
         → length taken ≤ 65535 + 99999 }
-    ensures few_reads { (answer : Result (Option ℕ) MarcFault) (kept : List ℕ) → Keeps answer kept → most_reads answer ≤ 65535 + 99999 }
 {}
 
 /// The definitions, tried on a worked record, on three texts that aren't one, and on a stream of two records and one byte.
@@ -57,7 +64,8 @@ pub fn worked_examples()
     ensures accepted { IsRecord worked_record worked_fields }
     ensures units { units_of worked_fields ≡ worked_units }
     ensures cut { first_fault (record_with (codes "00110nam a") 29) ≡ Some MarcFault.Truncated }
-    ensures unended { first_fault (record_with (codes "00109nam a") 30) ≡ Some MarcFault.NoTerminator }
+    ensures unended { first_fault (record_with (codes "00109nam a") 30)
+        ≡ Some MarcFault.NoTerminator }
     ensures empty { first_fault [] ≡ Some MarcFault.Truncated }
     ensures stream { split_of worked_stream
         ≡ record { slices = worked_record ∷ worked_record ∷ []; fault = Some MarcFault.Truncated } }
@@ -70,22 +78,22 @@ pub fn worked_examples()
 #[tactic(auto, unfolding(crate::specs::Records::first_fault, crate::specs::Leader::are_digits, crate::specs::Leader::number_of, crate::specs::Leader::counts, crate::specs::Leader::has_counts, crate::specs::Leader::ends_directory, crate::specs::Leader::has_base_address, crate::specs::Directory::has_tag_bytes, crate::specs::Directory::has_digits, crate::specs::Directory::is_in_area))]
 pub fn fault_examples()
     ensures sound { first_fault (with_leader (codes "00041nam a2200037 a 4500")) ≡ None }
-    ensures length_digits { first_fault (with_leader (codes "0004 nam a2200037 a 4500")) ≡ Some MarcFault.LengthDigits }
-    ensures length_range { first_fault (with_leader (codes "00025nam a2200037 a 4500")) ≡ Some MarcFault.LengthRange }
-    ensures longer { first_fault (with_leader (codes "00040nam a2200037 a 4500")) ≡ Some MarcFault.LengthRange }
-    ensures leader_counts { first_fault (with_leader (codes "00041nam a3200037 a 4500")) ≡ Some MarcFault.LeaderCounts }
-    ensures code_count { first_fault (with_leader (codes "00041nam a2300037 a 4500")) ≡ Some MarcFault.LeaderCounts }
-    ensures length_size { first_fault (with_leader (codes "00041nam a2200037 a 5500")) ≡ Some MarcFault.LeaderCounts }
-    ensures start_size { first_fault (with_leader (codes "00041nam a2200037 a 4400")) ≡ Some MarcFault.LeaderCounts }
-    ensures own_size { first_fault (with_leader (codes "00041nam a2200037 a 4510")) ≡ Some MarcFault.LeaderCounts }
+    ensures length_digits { LeaderFault (codes "0004 nam a2200037 a 4500") LengthDigits }
+    ensures length_range { LeaderFault (codes "00025nam a2200037 a 4500") LengthRange }
+    ensures longer { LeaderFault (codes "00040nam a2200037 a 4500") LengthRange }
+    ensures leader_counts { LeaderFault (codes "00041nam a3200037 a 4500") LeaderCounts }
+    ensures code_count { LeaderFault (codes "00041nam a2300037 a 4500") LeaderCounts }
+    ensures length_size { LeaderFault (codes "00041nam a2200037 a 5500") LeaderCounts }
+    ensures start_size { LeaderFault (codes "00041nam a2200037 a 4400") LeaderCounts }
+    ensures own_size { LeaderFault (codes "00041nam a2200037 a 4510") LeaderCounts }
     // A count that is no digit is read as the one that is wanted.
     ensures no_counts { first_fault (with_leader (codes "00041nam a  00037 a 4500")) ≡ None }
     ensures no_entry_map { first_fault (with_leader (codes "00041nam a2200037 a |||0")) ≡ None }
-    ensures base_address { first_fault (with_leader (codes "00041nam a2200036 a 4500")) ≡ Some MarcFault.BaseAddress }
-    ensures directory_length { first_fault (small_text (codes "00042nam a2200038 a 4500") (codes "0010003000000") (codes "a1" ++ (30 ∷ [])))
-        ≡ Some MarcFault.DirectoryLength }
-    ensures entry_digits { first_fault (with_entry (codes "001000 00000")) ≡ Some MarcFault.EntryDigits }
-    ensures entry_tag { first_fault (with_entry (codes "0-1000300000")) ≡ Some MarcFault.EntryTag }
-    ensures entry_range { first_fault (with_entry (codes "001000400000")) ≡ Some MarcFault.EntryRange }
-    ensures field_end { first_fault (with_entry (codes "001000200000")) ≡ Some MarcFault.FieldEnd }
+    ensures base_address { LeaderFault (codes "00041nam a2200036 a 4500") BaseAddress }
+    ensures directory_length { first_fault (small_text (codes "00042nam a2200038 a 4500")
+        (codes "0010003000000") (codes "a1" ++ (30 ∷ []))) ≡ Some MarcFault.DirectoryLength }
+    ensures entry_digits { EntryFault (codes "001000 00000") EntryDigits }
+    ensures entry_tag { EntryFault (codes "0-1000300000") EntryTag }
+    ensures entry_range { EntryFault (codes "001000400000") EntryRange }
+    ensures field_end { EntryFault (codes "001000200000") FieldEnd }
 {}

@@ -25,7 +25,8 @@ const LEAST_LENGTH: usize = 26;
 /// The length that the first five digits of a record say, where a record may have it.
 pub(crate) fn announced_length(bytes: &[u8]) -> Result<usize, MarcFault>
     ensures checked { Answers (announced_checks bytes.now) result }
-    ensures value { IfOk result (λ length. (length ≡ record_length bytes.now) × (26 ≤ length) × (length < 100000)) }
+    ensures value { IfOk result
+        (λ length. (length ≡ record_length bytes.now) × (26 ≤ length) × (length < 100000)) }
 {
     if bytes.len() < 5 {
         return Err(MarcFault::Truncated);
@@ -74,7 +75,8 @@ fn is_base_address(bytes: &[u8], base: usize) -> bool
 fn read_base_address(bytes: &[u8]) -> Option<usize>
     requires { 26 ≤ length bytes.now }
     ensures { MatchOption result (has_base_address bytes.now ≡ false)
-        (λ base. (has_base_address bytes.now ≡ true) × (base ≡ base_address bytes.now) × (25 ≤ base) × (base < length bytes.now)) }
+        (λ base. (has_base_address bytes.now ≡ true) × (base ≡ base_address bytes.now) × (25 ≤ base)
+        × (base < length bytes.now)) }
 {
     let base = read_number(&bytes[12..17])?;
     if is_base_address(bytes, base) {
@@ -88,7 +90,8 @@ fn read_base_address(bytes: &[u8]) -> Option<usize>
 pub(crate) fn checked_base_address(bytes: &[u8]) -> Result<usize, MarcFault>
     requires { 26 ≤ length bytes.now }
     ensures checked { Answers (layout_checks bytes.now) result }
-    ensures value { IfOk result (λ base. (base ≡ base_address bytes.now) × (25 ≤ base) × (base < length bytes.now)) }
+    ensures value { IfOk result
+        (λ base. (base ≡ base_address bytes.now) × (25 ≤ base) × (base < length bytes.now)) }
 {
     if bytes[bytes.len() - 1] != RECORD_TERMINATOR {
         return Err(MarcFault::NoTerminator);

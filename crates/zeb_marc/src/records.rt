@@ -40,7 +40,8 @@ impl<'a> Marc<'a> {
     /// leader's counts, the base address, the directory's length; then entry after entry. It is never
     /// `TooManySeparators` nor `ReadFault`.
     pub fn read(bytes: &'a [u8]) -> Result<Marc<'a>, MarcFault>
-        ensures { MatchResult result (λ marc. IsRecord bytes.now marc) (λ fault. first_fault bytes.now ≡ Some fault) }
+        ensures { MatchResult result (λ marc. IsRecord bytes.now marc)
+            (λ fault. first_fault bytes.now ≡ Some fault) }
     {
         let length = announced_length(bytes)?;
         if bytes.len() < length {

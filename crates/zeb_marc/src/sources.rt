@@ -1,5 +1,5 @@
 //! Where records are read from.
-ghost use Rattle.std.specs.Prelude.{◌≡◌, ◌≤◌, ◌+◌, List, ℕ, Option, Bool, true, false, Some, Ok, IsErr, is_ok, if◌then◌else◌, MatchResult};
+ghost use Rattle.std.specs.Prelude.{◌≡◌, List, ℕ, Option, Bool, true, false, Some, Ok, IsErr, is_ok, if◌then◌else◌, MatchResult};
 ghost use Rattle.std.specs.Io.{ReadsAtMost};
 ghost use Rattle.std.specs.Io.KnownBytes.{ReadConsumes};
 
@@ -18,17 +18,16 @@ pub trait Source {
     /// Whether a read has failed.
     ghost has_failed: { Self → Bool };
 
-    /// How many reads have been asked, as far as the source counts them: always 0 where it doesn't.
-    ghost reads: { Self → ℕ };
-
     /// Reads some bytes into the front of the buffer and says how many; 0 into a buffer with room is the end.
     ///
-    /// An error, an interruption too, is for good: the source has failed then. It takes no byte of those that are left.
+    /// An error, an interruption too, is for good: the source has failed then, and each later read fails. It takes no byte of
+    /// those that are left.
     fn read(&mut self, buffer: &mut [u8]) -> Result<usize, ReadFailed>
         ensures bound { ReadsAtMost result buffer.new }
         ensures bytes { ReadConsumes (remaining self.old) (remaining self.new) result buffer.new }
-        ensures failed { has_failed self.new ≡ (if is_ok result then has_failed self.old else true) }
-        ensures counted { reads self.new ≤ reads self.old + 1 };
+        ensures failed { has_failed self.new
+            ≡ (if is_ok result then has_failed self.old else true) }
+        ensures still { has_failed self.old ≡ true → IsErr result };
 
     /// Whether a read has failed.
     fn has_failed(&self) -> bool
@@ -63,8 +62,6 @@ impl<'a> Source for Slice<'a> {
 
     ghost has_failed = { λ _. false };
 
-    ghost reads = { λ _. 0 };
-
     fn read(&mut self, buffer: &mut [u8]) -> Result<usize, ReadFailed> {
         let count = buffer.len().min(self.bytes.len());
         let (front, rest) = self.bytes.split_at(count);
@@ -89,7 +86,7 @@ pub fn passed_on(answer: io::Result<usize>) -> Result<usize, ReadFailed>
     }
 }
 
-/// A reader, as a source: its bytes are the reader's. The source has failed once a read has.
+/// A reader, as a source: its bytes are the reader's. The source has failed once a read has, and the reader isn't asked again.
 #[derive(Drop)]
 pub struct FromRead<R: Read> {
     reader: R,
@@ -114,13 +111,12 @@ impl<R: Read> Source for FromRead<R> {
 
     ghost has_failed = { λ s. s.failed };
 
-    ghost reads = { λ _. 0 };
-
     fn read(&mut self, buffer: &mut [u8]) -> Result<usize, ReadFailed> {
-        let answer = passed_on(self.reader.read(buffer));
-        if answer.is_err() {
-            self.failed = true;
+        if self.failed {
+            return Err(ReadFailed);
         }
+        let answer = passed_on(self.reader.read(buffer));
+        self.failed = answer.is_err();
         answer
     }
 

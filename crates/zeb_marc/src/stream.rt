@@ -1,7 +1,7 @@
 //! A stream of records: ISO 2709, where each record begins with its length.
-ghost use Rattle.std.specs.Prelude.{◌≡◌, ◌≤◌, ◌+◌, ◌∷◌, ◌↔◌, [], ℕ, List, length, take, vec_len, Some, false, true, IfOk, IfErr, IsErrOf, MatchResult};
+ghost use Rattle.std.specs.Prelude.{◌≡◌, ◌≤◌, ◌∷◌, ◌↔◌, [], ℕ, List, length, take, vec_len, Some, false, true, IfOk, IfErr, IsErrOf, MatchResult};
 ghost use Rattle.zeb_marc.specs.Splits.{is_separator, next_of, Gives, IsSlice};
-ghost use Rattle.zeb_marc.specs.Reading.{IsStreamFault, Keeps, most_reads, slice_reads};
+ghost use Rattle.zeb_marc.specs.Reading.{IsStreamFault, Keeps};
 ghost use Rattle.zeb_marc.specs.PrivateReading.{ByteGives, FailsIf, FillGives, IsFillFault, IsSkipFault, SkipGives, SliceGives};
 ghost use Rattle.zeb_marc.specs.Unread.{LeavesUnread};
 
@@ -71,9 +71,9 @@ fn may_separate(byte: u8) -> bool
 /// Reads one byte, or `None` at the end.
 fn read_byte<R: Source>(source: &mut R) -> Result<Option<u8>, MarcFault>
     ensures fails { FailsIf result (R.has_failed source.old) (R.has_failed source.new) }
-    ensures told { (text : List ℕ) → R.remaining source.old ≡ Some text → ByteGives text result (R.remaining source.new) }
+    ensures told { (text : List ℕ) → R.remaining source.old ≡ Some text
+        → ByteGives text result (R.remaining source.new) }
     ensures fault { IfErr result (λ fault. fault ≡ MarcFault.ReadFault) }
-    ensures few { R.reads source.new ≤ R.reads source.old + 1 }
 {
     let mut byte = [0u8; 1];
     match source.read(&mut byte) {
@@ -86,9 +86,9 @@ fn read_byte<R: Source>(source: &mut R) -> Result<Option<u8>, MarcFault>
 /// Skips separators, and gives the first byte behind them, or `None` at the end.
 fn skip_separators<R: Source>(source: &mut R) -> Result<Option<u8>, MarcFault>
     ensures fails { FailsIf result (R.has_failed source.old) (R.has_failed source.new) }
-    ensures told { (text : List ℕ) → R.remaining source.old ≡ Some text → SkipGives text result (R.remaining source.new) }
+    ensures told { (text : List ℕ) → R.remaining source.old ≡ Some text
+        → SkipGives text result (R.remaining source.new) }
     ensures fault { IfErr result IsSkipFault }
-    ensures few { R.reads source.new ≤ R.reads source.old + 65536 }
 {
     for _ in 0..TOO_MANY_SEPARATORS {
         let Some(byte) = read_byte(source)? else {
@@ -104,9 +104,9 @@ fn skip_separators<R: Source>(source: &mut R) -> Result<Option<u8>, MarcFault>
 /// Fills a part of a record.
 fn fill<R: Source>(source: &mut R, part: &mut [u8]) -> Result<(), MarcFault>
     ensures fails { FailsIf result (R.has_failed source.old) (R.has_failed source.new) }
-    ensures told { (text : List ℕ) → R.remaining source.old ≡ Some text → FillGives text result part.new (R.remaining source.new) }
+    ensures told { (text : List ℕ) → R.remaining source.old ≡ Some text
+        → FillGives text result part.new (R.remaining source.new) }
     ensures fault { IfErr result IsFillFault }
-    ensures few { R.reads source.new ≤ R.reads source.old + length part.new }
 {
     let mut filled = 0;
     while filled < part.len() {
@@ -125,9 +125,8 @@ fn read_slice<R: Source>(source: &mut R, room: &mut [u8], first: u8) -> Result<u
     ensures fails { FailsIf result (R.has_failed source.old) (R.has_failed source.new) }
     ensures told { (text : List ℕ) → R.remaining source.old ≡ Some text
         → SliceGives (first ∷ text) result room.new (R.remaining source.new) }
-    ensures sound { MatchResult result (λ n. (n ≤ 99999) × IsSlice (take n room.new)) IsStreamFault }
-    // One read has given the first byte.
-    ensures few { R.reads source.new + 1 ≤ R.reads source.old + slice_reads result }
+    ensures sound { MatchResult result
+        (λ n. (n ≤ 99999) × IsSlice (take n room.new)) IsStreamFault }
 {
     room[0] = first;
     fill(source, &mut room[1..LENGTH_DIGITS])?;
@@ -147,25 +146,23 @@ fn read_slice<R: Source>(source: &mut R, room: &mut [u8], first: u8) -> Result<u
 /// behind the five bytes of a bad length. So a record or a fault that stands before a failing read is answered, and not
 /// the failure.
 ///
-/// Few reads are asked, whatever the source gives: no more than one for each of 65,535 separators, and one for each byte of the
-/// record, or of what shows its fault. A source that gives one byte at a time is asked so often.
-///
 /// What is said of the bytes is proved where the source tells them. Of any source it is proved when `ReadFault` comes, that no
-/// fault comes but these five, what the buffer holds, and how many reads are asked.
+/// fault comes but these five, and what the buffer holds.
 pub fn next_record<R: Source>(
     reader: &mut R,
     buffer: &mut RecordBuf,
 ) -> Result<Option<usize>, MarcFault>
     requires { R.has_failed reader.old ≡ false }
     // What stands next in what the source tells, unless the source fails.
-    ensures told { (text : List ℕ) → R.remaining reader.old ≡ Some text → R.has_failed reader.new ≡ false
+    ensures told { (text : List ℕ) → R.remaining reader.old ≡ Some text
+        → R.has_failed reader.new ≡ false
         → Gives (next_of text) result buffer.new (R.remaining reader.new) }
     // What is taken off it and what is left, whatever is answered.
-    ensures unread { (text : List ℕ) → R.remaining reader.old ≡ Some text → LeavesUnread text result (R.remaining reader.new) }
+    ensures unread { (text : List ℕ) → R.remaining reader.old ≡ Some text
+        → LeavesUnread text result (R.remaining reader.new) }
     ensures failed { IsErrOf result MarcFault.ReadFault ↔ (R.has_failed reader.new ≡ true) }
     // The same of any source.
     ensures kept { Keeps result buffer.new }
-    ensures few { R.reads reader.new ≤ R.reads reader.old + most_reads result }
 {
     buffer.len = 0;
     let Some(first) = skip_separators(reader)? else {

@@ -2,11 +2,12 @@
 ghost use Rattle.std.specs.Prelude.{◌≡◌, ◌==◌, ◌<◌, ◌^◌, ◌≤◌, ◌∷◌, [], List, ℕ, length, position, MatchOption};
 ghost use Rattle.std.specs.Iterator.{YieldsFirstBy, item_count};
 ghost use Rattle.std.specs.List.{flat_map, position_or_len};
-ghost use Rattle.zeb_marc.specs.Contents.{contents_of, is_control, subfields_of, units_of};
+ghost use Rattle.zeb_marc.specs.Contents.{contents_of, subfields_of, units_of};
 ghost use Rattle.zeb_marc.specs.Units.{left_of, unit_text};
 ghost use Rattle.zeb_marc.specs.PrivateUnits.{content_of, subfield_content};
 
 use crate::directory::Fields;
+use crate::tags::is_control_tag;
 use std::marker::Model;
 
 /// Stands before each subfield's code.
@@ -59,13 +60,6 @@ fn next_subfield<'a>(text: &'a [u8]) -> Option<(u8, &'a [u8], &'a [u8])>
     }
 }
 
-/// Whether a tag is that of a control field.
-fn is_control_tag(tag: &[u8; 3]) -> bool
-    ensures { result ≡ is_control tag.now }
-{
-    tag[0] == b'0' && tag[1] == b'0'
-}
-
 /// A data field that was begun: what is left of it.
 #[derive(Clone, Copy, Debug)]
 struct Begun<'a> {
@@ -83,8 +77,10 @@ struct Content<'a> {
 
 /// The next unit of a field that was begun and of the fields behind it.
 fn next_content<'a>(begun: &mut Begun<'a>, fields: &mut Fields<'a>) -> Option<Content<'a>>
-    ensures { MatchOption result ((left_of begun.old fields.old ≡ []) × (left_of begun.new fields.new ≡ []))
-        (λ content. left_of begun.old fields.old ≡ content_of content ∷ left_of begun.new fields.new) }
+    ensures { MatchOption result ((left_of begun.old fields.old ≡ [])
+        × (left_of begun.new fields.new ≡ []))
+        (λ content. left_of begun.old fields.old
+        ≡ content_of content ∷ left_of begun.new fields.new) }
 {
     loop {
         let tag = begun.tag;

@@ -44,14 +44,15 @@ pub use Rattle.zeb_keys.proofs.Rising.{numbers_apart}
 pub use Rattle.zeb_keys.specs.Registers.{register_code}
 pub use Rattle.zeb_keys.specs.declared.Register.{Register}
 pub use Rattle.zeb_keys.specs.declared.keys.Key.{Key}
-pub use Rattle.zeb_packed.specs.Answers.{Answers, IfDamaged}
 pub use Rattle.zeb_packed.specs.PrivatePackedChanges.{block_columns, IsClearFrom, IfTold, SpellsIn, block_key, dict_columns, PutsBlock, IsParted}
 pub use Rattle.zeb_packed.specs.PrivatePackedRows.{IsFallingListOf}
-pub use Rattle.zeb_packed.specs.PrivateUnitCalls.{units_of, AllowsBlocks, TurnsBlocks, IsBlockMalformed, AllowsBlock, PutsRun, TurnsBlock}
-pub use Rattle.zeb_packed.specs.UnitChanges.{IsTold, IsBlockIn, CountsOn, IsCountedIn, IsStorableChange, KeyUnits, TurnsUnit, TurnsUnits, AllowsChanges, IsTouched, LacksBlock, LacksBlocks, PutsUnits, PutsAny, IsRefusedAs, IsBlockAmong, IsOwnBlock, KeepsBut, PutsCount, AreSame}
-pub use Rattle.zeb_packed.specs.Units.{BlockReads, places_in, CountsAs, IsOfBlock, ReadsAs, HasMalformed, IsOfKey, ListsUnits}
+pub use Rattle.zeb_packed.specs.PrivateUnitCalls.{AllowsBlocks, TurnsBlocks, AllowsBlock, PutsRun, TurnsBlock}
+pub use Rattle.zeb_register.specs.PrivateUnits.{units_of}
+pub use Rattle.zeb_register.specs.UnitChanges.{IsTold, IsBlockIn, CountsOn, IsBlockCounted, IsStorableChange, KeyUnits, TurnsUnit, TurnsUnits, AllowsChanges, IsTouched, LacksBlock, LacksBlocks, PutsUnits, PutsAny, IsRefusedAs, IsBlockAmong, IsOwnBlock, KeepsBut, PutsCount, AreSame}
 pub use Rattle.zeb_packed.specs.declared.packed_changes.Known.{Known}
-pub use Rattle.zeb_register.proofs.BetweenLemmas.{up_to, blocks_many, blocks_read, blocks_spelled, spelled_row}
+pub use Rattle.zeb_register.proofs.Answered.{refused_so, told_or}
+pub use Rattle.zeb_register.proofs.BlockUnits.{held_block, held_units, malformed_block, none_rises, one_block_read, one_reading, read_rises}
+pub use Rattle.zeb_register.proofs.BetweenLemmas.{up_to, blocks_many, spelled_by, spelled_row, spelled_too}
 pub use Rattle.zeb_register.proofs.BetweenStatements.{between, more}
 pub use Rattle.zeb_register.proofs.Calls.{IsSilent, alters_so, changes_after, changes_none, reads_goes, store_same, inside_so, on_ok_both, on_ok_so, nothing_then, goes_keeps, on_err, goes_then, on_err_so, changes_so, changes_then, stays_then, Stays, lists, nothing, quiet, read_so, alters, refused_keeps, lists_inside, query_keeps}
 pub use Rattle.zeb_register.proofs.CallsInTurn.{quiet_then, violated}
@@ -60,9 +61,10 @@ pub use Rattle.zeb_register.proofs.Columns.{column_is, numbered_rows}
 pub use Rattle.zeb_register.proofs.ContentChanges.{at_sysno, posting_total, told_spot, with_list, place_total}
 pub use Rattle.zeb_register.proofs.ContentLemmas.{told_apart, same_key, one_list, some_posting, ints_order, has_at}
 pub use Rattle.zeb_register.proofs.CountLemmas.{count_upto, counted_none, one_count, count_none, count_so, has_end, less_is, term_total, is_less, rises_last, rises_then}
-pub use Rattle.zeb_register.proofs.ListChanges.{list_changed, content_changed, content_none, content_rises, one_content_changed, place_of, posting_is, place_is, change_alone, changed_alone, no_change, run, run_first, run_long, run_within}
+pub use Rattle.zeb_register.proofs.KeyPlaces.{in_place, own_part, place_in}
+pub use Rattle.zeb_register.proofs.ListChanges.{list_changed, content_changed, content_none, content_rises, one_content_changed, place_of, posting_is, place_is, no_change, run, run_first, run_long, run_within}
 pub use Rattle.zeb_register.proofs.LookUps.{none_is, first_is}
-pub use Rattle.zeb_register.proofs.Malformed.{key_begins, beside_same, malformed_same, places_same, table_same}
+pub use Rattle.zeb_register.proofs.Malformed.{key_begins, beside_same, malformed_same, table_same}
 pub use Rattle.zeb_register.proofs.OccurringLemmas.{key_posted, spot_total, one_terms}
 pub use Rattle.zeb_register.proofs.PackedLemmas.{not_empty, block_rows, dict_there, in_part, part_in_block, part_in_list, keys_as, blocks_have_terms, block_spells, block_there}
 pub use Rattle.zeb_register.proofs.PackedLists.{one_part, all_spelled, each_spelled, key_listed, spelled_more, key_blocks, key_read, key_spelled}
@@ -80,24 +82,26 @@ pub use Rattle.zeb_register.proofs.TermRows.{taken_more}
 pub use Rattle.zeb_register.proofs.TermsAmong.{records_count, records_of}
 pub use Rattle.zeb_register.proofs.ValueKinds.{IsPlainTable, HasKeys, are_fit, are_comparable, code, codes_of, covers}
 pub use Rattle.zeb_register.proofs.Writes.{inserts, keyed_there, codes_there, meets_there, RemakesRows, changed_so, deletes, gains, loses, updates}
+pub use Rattle.zeb_register.specs.Answers.{Answers, IfDamaged}
 pub use Rattle.zeb_register.specs.Between.{IsBetween}
 pub use Rattle.zeb_register.specs.Calls.{Alters, OnlyReads, ChangesNothing, GoesOn}
-pub use Rattle.zeb_register.specs.Content.{AreListChanges, ArePlacesOf, IsListChanged, OldsRise, place_cmp, posting_at, posting_cmp, AreChangedAt, Content, HasRisingLists, IsStorable, posted, AreStorablePlaces, IsStorablePlace}
+pub use Rattle.zeb_register.specs.Content.{AreListChanges, ArePlacesOf, IsListChanged, OldsRise, place_cmp, posting_at, posting_cmp, AreChangedAt, Content, HasRisingLists, IsStorable, posted, AreStorablePlaces, IsStorablePlace, places_in}
 pub use Rattle.zeb_register.specs.Formats.{packed_blocks}
-pub use Rattle.zeb_register.specs.Hindrances.{IsSpelledAt, IsPlacedAt, KeepsPlaces, KeepsSpelled, SpellsMore}
 pub use Rattle.zeb_register.specs.Occurring.{IsCount, HasKey, AreTermsBefore, AreTermsFrom, AreTermsOf, TermIn, is_before, is_from, key_in, last, term_cmp, AreSpotsOf, Spot, spot_cmp, capped}
 pub use Rattle.zeb_register.specs.PackedBlocks.{SpellsPart, IsRecordNumber, HoldsBlocks, block_row, part_in, IsDictRow, dict_row, IsRestBefore, IsRestFrom, AreShown, CountsTerm, count_row, first_two, AreAllSpelled, IsBlockRow, blocks_of, IsBlockUnder}
+pub use Rattle.zeb_register.specs.PackedUnits.{BlockReads, CountsAs, HasMalformed, IsBlockMalformed, IsOfBlock, IsOfKey, ReadsAs}
 pub use Rattle.zeb_register.specs.PlainRows.{key_row, register_front}
 pub use Rattle.zeb_register.specs.PrivateBetweenRows.{IsRestBetween, two_behind}
 pub use Rattle.zeb_register.specs.PrivateKeyColumns.{IsBlockOf, IsDictIn, IsOfNumbered, numbered_columns, IsRowOf, register_columns}
 pub use Rattle.zeb_register.specs.PrivatePackedRows.{HoldsBlockRows, AreSpelled, IsInBlock}
 pub use Rattle.zeb_register.specs.PrivateRowStatements.{Gains, Renews}
 pub use Rattle.zeb_register.specs.PrivateRowTerms.{IsInRecord}
-pub use Rattle.zeb_register.specs.Sound.{KeepsMalformed, KeepsRowsBeside, AreListsSound, TellTerms}
+pub use Rattle.zeb_register.specs.Sound.{KeepsMalformed, KeepsRowsBeside, TellTerms}
 pub use Rattle.zeb_register.specs.Sql.{IsListOf, HasLayout, HasRow, Loses, Replaces}
 pub use Rattle.zeb_register.specs.Store.{IsStore, blocks_tree, IsRest, dict_tree, postings_tree, KeepsLists, Changes, key_of}
 pub use Rattle.zeb_register.specs.Tables.{store_schema}
 pub use Rattle.zeb_register.specs.Tallies.{Works, Rises}
+pub use Rattle.zeb_register.specs.Units.{HasMalformedBetween, HoldsUnits, ListsBetween, ListsUnits}
 pub use Rattle.zeb_register.specs.declared.faults.RegFault.{RegFault}
 pub use Rattle.zeb_register.specs.declared.faults.RegFault.TheVariants.{Damaged, Store}
 pub use Rattle.zeb_register.specs.declared.registers.Place.{Place}

@@ -1,14 +1,15 @@
 -- One record's change of what is held of a block, as a change of its units.
-use Rattle.zeb_packed.proofs.Cited.{◌≡◌, ◌≢◌, ◌∙◌, ◌/◌, ◌≤◌, ℕ, List, [], ◌∷◌, map, refl, sym, ap, subst, inl, inr, arith, eqb_tells, Has, all_has, LiesIn, Posting, Place, RecordChange, IsListChanged, posting_at, units_of, places_in, CountsOn, IsCountedIn, IsStorableChange, KeyUnits, TurnsUnit}
+use Rattle.zeb_packed.proofs.Cited.{packed_blocks, ◌≡◌, ◌≢◌, ◌∙◌, ◌/◌, ◌≤◌, ℕ, List, [], ◌∷◌, map, refl, sym, ap, subst, inl, inr, arith, eqb_tells, Has, all_has, LiesIn, Posting, Place, RecordChange, IsListChanged, posting_at, units_of, places_in, CountsOn, IsBlockCounted, IsStorableChange, KeyUnits, TurnsUnit, place_in}
 use Rattle.zeb_packed.proofs.PackedParts.{own_of}
-use Rattle.zeb_packed.proofs.UnitLaws.{are_in, mapped_back, place_in, place_of, same_places}
+use Rattle.zeb_register.proofs.RisingPlaces.{are_in, mapped_back, same_places}
+use Rattle.zeb_register.proofs.KeyPlaces.{place_of}
 use Rattle.zeb_packed.proofs.UnitTurns.{counts_same}
 
 has_none : (sysno : ℕ) (list : List Posting) → places_in sysno list ≢ [] → list ≢ []
 has_none sysno [] some = absurd (some refl)
 has_none sysno (p ∷ list) some = λ none. cc
 
-counted_in : (block : ℕ) (list : List Posting) (records : ℕ) → (list ≢ [] → 1 ≤ records) → IsCountedIn block (units_of list records)
+counted_in : (block : ℕ) (list : List Posting) (records : ℕ) → (list ≢ [] → 1 ≤ records) → IsBlockCounted block (units_of list records)
 counted_in block list records counted n at some = counted (has_none n list some)
 
 -- the own postings, without their number, are the places
@@ -26,14 +27,14 @@ module _ (change : RecordChange) (block : ℕ) (one : List Posting) (was : ℕ) 
   )
 
   -- no change is made of a record with other places
-  pub not_found : (own : List Place) → map (posting_at change.sysno) own ≡ own_of change.sysno one → own ≢ change.old.now → (are : KeyUnits) → ¬ TurnsUnit change (units_of one was) are
+  pub not_found : (own : List Place) → map (posting_at change.sysno) own ≡ own_of change.sysno one → own ≢ change.old.now → (are : KeyUnits) → ¬ TurnsUnit packed_blocks change (units_of one was) are
   not_found own shown other are turns = other (own_unit change.sysno one own shown ∙ turns.found)
 
-  pub not_counted : was ≡ 0 → one ≢ [] → (are : KeyUnits) → ¬ TurnsUnit change (units_of one was) are
-  not_counted none some are turns = let it = some_unit one lies some in omega (arith, turns.had it.0 it.1 it.2, none)
+  pub not_counted : was ≡ 0 → one ≢ [] → (are : KeyUnits) → ¬ TurnsUnit packed_blocks change (units_of one was) are
+  not_counted none some are turns = let it = some_unit one lies some in omega (arith, turns.count.had it.0 it.1 it.2, none)
 
-  pub not_followed : ((after : ℕ) → CountsOn change.old.now change.new.now was after → ¬ (after ≤ 999999999)) → (are : KeyUnits) → ¬ TurnsUnit change (units_of one was) are
-  not_followed never are turns = never are.records turns.counted turns.few
+  pub not_followed : ((after : ℕ) → CountsOn change.old.now change.new.now was after → ¬ (after ≤ 999999999)) → (are : KeyUnits) → ¬ TurnsUnit packed_blocks change (units_of one was) are
+  not_followed never are turns = never are.records turns.count.counted turns.count.few
 
   module _ (two : List Posting) (after : ℕ) (own : List Place) (shown : map (posting_at change.sysno) own ≡ own_of change.sysno one) (same : own ≡ change.old.now) (changed : IsListChanged change.sysno change.new.now one two)
       (then' : LiesIn block two) (counts : CountsOn change.old.now change.new.now was after) where
@@ -43,23 +44,25 @@ module _ (change : RecordChange) (block : ℕ) (one : List Posting) (was : ℕ) 
     kept_unit : (n : ℕ) → n ≢ change.sysno → places_in n two ≡ places_in n one
     kept_unit n other = same_places n two one changed.rising lies.rising (λ p at. changed.others p (λ it. other (sym at ∙ it)))
 
-    pub unit_turned : after ≤ 999999999 → (one ≢ [] → 1 ≤ was) → (two ≢ [] → 1 ≤ after) → TurnsUnit change (units_of one was) (units_of two after)
+    pub unit_turned : after ≤ 999999999 → (one ≢ [] → 1 ≤ was) → (two ≢ [] → 1 ≤ after) → TurnsUnit packed_blocks change (units_of one was) (units_of two after)
     unit_turned few had has = record {
       found = sym (own_unit change.sysno one own shown) ∙ same;
       put = put_unit;
       kept = kept_unit;
-      counted = counts;
-      few = few;
-      had = counted_in (change.sysno / 256) one was had;
-      has = counted_in (change.sysno / 256) two after has;
+      count = record {
+        counted = counts;
+        few = few;
+        had = counted_in (change.sysno / 256) one was had;
+        has = counted_in (change.sysno / 256) two after has;
+      };
     }
 
-    pub not_left : after ≡ 0 → two ≢ [] → (are : KeyUnits) → ¬ TurnsUnit change (units_of one was) are
+    pub not_left : after ≡ 0 → two ≢ [] → (are : KeyUnits) → ¬ TurnsUnit packed_blocks change (units_of one was) are
     not_left none some are turns =
         let it = some_unit two then' some in
-        let count : are.records ≡ after = counts_same change.old.now change.new.now was are.records after turns.counted counts in
+        let count : are.records ≡ after = counts_same change.old.now change.new.now was are.records after turns.count.counted counts in
         let unit : are.places it.0 ≡ places_in it.0 two = elim (eqb_tells it.0 change.sysno) [
           | inl own' ↦ subst (λ n. are.places n ≡ places_in n two) (sym own'.1) (turns.put ∙ sym put_unit)
           | inr other ↦ turns.kept it.0 other.1 ∙ sym (kept_unit it.0 other.1)
         ] in
-        omega (arith, turns.has it.0 it.1 (λ no. it.2 (sym unit ∙ no)), count, none)
+        omega (arith, turns.count.has it.0 it.1 (λ no. it.2 (sym unit ∙ no)), count, none)

@@ -1,26 +1,26 @@
 -- Rows of `blocks` and that of `dict`, written one after the other, as a change of the key's units.
-use Rattle.zeb_packed.proofs.Cited.{◌≡◌, ◌≢◌, ◌∙◌, ◌≤◌, ◌/◌, ◌==◌, ℕ, zero, suc, ℤ, not, Result, Ok, Err, IfOk, List, [], ◌∷◌, refl, ap, subst, inl, inr, arith, AllByRecursion, State, Trees, Posting, Key, RegFault, Damaged, RecordChange, Alters, IsDictIn, Changes, IsStore, blocks_tree, dict_tree, Known, AllowsBlocks, TurnsBlocks, Answers, IfTold, IsClearFrom, BlockReads, CountsAs, AllowsChanges, IsBlockAmong, IsOwnBlock, IsRefusedAs, IsStorableChange, KeepsBut, KeyUnits, LacksBlocks, PutsAny, PutsCount, PutsUnits, TurnsUnits}
+use Rattle.zeb_packed.proofs.Cited.{IsUtf8, packed_blocks, ◌≡◌, ◌≢◌, ◌∙◌, ◌≤◌, ◌/◌, ◌==◌, ℕ, zero, suc, ℤ, not, Result, Ok, Err, IfOk, List, [], ◌∷◌, refl, ap, subst, inl, inr, arith, AllByRecursion, State, Trees, Posting, Key, RegFault, Damaged, RecordChange, Alters, IsDictIn, Changes, IsStore, blocks_tree, dict_tree, Known, AllowsBlocks, TurnsBlocks, Answers, IfTold, IsClearFrom, BlockReads, CountsAs, AllowsChanges, IsBlockAmong, IsOwnBlock, IsRefusedAs, IsStorableChange, KeepsBut, KeyUnits, LacksBlocks, PutsAny, PutsCount, PutsUnits, TurnsUnits}
 use Rattle.zeb_packed.proofs.KeyCounts.{count_told}
 use Rattle.zeb_packed.proofs.PackedWrites.{has_as, told_as}
-use Rattle.zeb_packed.proofs.UnitLaws.{one_number}
+use Rattle.zeb_register.proofs.BlockContents.{one_key_count}
 use Rattle.zeb_packed.proofs.UnitRuns.{lacks_far, lacks_fewer}
 
 -- rows that allow the changes of a key allow those of its blocks
 pub blocks_allowed : (db : ℤ) (key : Key) (changes : List RecordChange) (known : Known) (trees : Trees) (were are : KeyUnits) → IsClearFrom known → CountsAs trees db key known.records → AllByRecursion IsStorableChange changes
-    → AllowsChanges db key changes trees were are → AllowsBlocks db key changes (λ block. known.clear_from ≤ block) known.records trees
+    → AllowsChanges packed_blocks db key changes trees were are → AllowsBlocks db key changes (λ block. known.clear_from ≤ block) known.records trees
 blocks_allowed db key changes known trees were are clear counts stored allows = record {
   were = were.places;
   are = are;
   found = allows.found;
-  turns = subst (λ r. TurnsUnits changes (record { places = were.places; records = r }) are) same allows.turns;
+  turns = subst (λ r. TurnsUnits packed_blocks changes (record { places = were.places; records = r }) are) same allows.turns;
   lacks = by known.records refl;
 }
   where
     same : were.records ≡ known.records
-    same = one_number trees db key were.records known.records allows.count counts
+    same = one_key_count trees db key were.records known.records allows.count.is counts
 
     by : (n : ℕ) → known.records ≡ n → LacksBlocks (λ block. known.clear_from ≤ block) db key changes trees
-    by zero none = lacks_fewer db key (λ block. Unit {0}) (λ block. known.clear_from ≤ block) changes trees (λ block is. tt) (allows.lacks (same ∙ none))
+    by zero none = lacks_fewer db key (λ block. Unit {0}) (λ block. known.clear_from ≤ block) changes trees (λ block is. tt) (allows.count.lacks (same ∙ none))
     by (suc n) some = lacks_far db key (λ block. known.clear_from ≤ block) known.clear_from changes trees (clear.some (omega (arith, some))) (λ block is. is) stored
 
 -- ---- tables of which one is written
@@ -32,7 +32,7 @@ reads_same old new db key block part same reads = record {
 }
 
 module _ (db : ℤ) (key : Key) (changes : List RecordChange) (known : Known) (after : ℕ) (s mid t : State) (counts : CountsAs s.now.trees db key known.records) (clear : IsClearFrom known)
-    (one : Changes blocks_tree (λ tree. TurnsBlocks db key changes (λ block. known.clear_from ≤ block) known.records after) s mid) (two : Changes dict_tree (IfTold (not (known.records == 0)) (IsDictIn db key) (PutsCount db key after)) mid t) where
+    (text : IsUtf8 key.term) (one : Changes blocks_tree (λ tree. TurnsBlocks db key changes (λ block. known.clear_from ≤ block) known.records after) s mid) (two : Changes dict_tree (IfTold (not (known.records == 0)) (IsDictIn db key) (PutsCount db key after)) mid t) where
   blocks_same : t.now.trees blocks_tree ≡ mid.now.trees blocks_tree
   blocks_same = two.others.1.1.1.1.0 (λ e. absurd (omega (arith, e)))
 
@@ -53,20 +53,25 @@ module _ (db : ℤ) (key : Key) (changes : List RecordChange) (known : Known) (a
     comes = λ row there. one.rows.rows.comes row ((has_as blocks_tree t.now.trees mid.now.trees blocks_same row).0 there);
   }
 
-  pub units_put : PutsUnits db key changes s.now.trees t.now.trees
+  pub units_put : PutsUnits packed_blocks db key changes s.now.trees t.now.trees
   units_put = record {
+    text = text;
     were = record { places = one.rows.were; records = known.records };
     are = record { places = one.rows.are; records = after };
     allowed = record {
-      count = counts;
+      count = record {
+        is = counts;
+        lacks = λ none. lacks_fewer db key (λ block. known.clear_from ≤ block) (λ block. Unit {0}) changes s.now.trees (λ block always. omega (arith, clear.none none)) one.rows.lacks;
+      };
       found = one.rows.found;
       turns = one.rows.turns;
-      lacks = λ none. lacks_fewer db key (λ block. known.clear_from ≤ block) (λ block. Unit {0}) changes s.now.trees (λ block always. omega (arith, clear.none none)) one.rows.lacks;
     };
     put = λ n it. let reads = one.rows.put n it in (reads.0, reads_same mid.now.trees t.now.trees db key (n / 256) reads.0 blocks_same reads.1, reads.2);
-    blocks = kept;
-    dict = counted;
-    postings = two.others.1.1.1.0 (λ e. absurd (omega (arith, e))) ∙ one.others.1.1.1.0 (λ e. absurd (omega (arith, e)));
+    rows = record {
+      blocks = kept;
+      dict = counted;
+      postings = two.others.1.1.1.0 (λ e. absurd (omega (arith, e))) ∙ one.others.1.1.1.0 (λ e. absurd (omega (arith, e)));
+    };
     lists = (
       two.others.0 (λ e. absurd (omega (arith, e))) ∙ one.others.0 (λ e. absurd (omega (arith, e))),
       two.others.1.0 (λ e. absurd (omega (arith, e))) ∙ one.others.1.0 (λ e. absurd (omega (arith, e))),
@@ -74,12 +79,12 @@ module _ (db : ℤ) (key : Key) (changes : List RecordChange) (known : Known) (a
     );
   }
 
-pub key_answers : {A : Type 0} (db : ℤ) (key : Key) (changes : List RecordChange) (known : Known) (after : ℕ) (s mid t : State) (result : Result A RegFault) → CountsAs s.now.trees db key known.records → IsClearFrom known
+pub key_answers : {A : Type 0} (db : ℤ) (key : Key) (changes : List RecordChange) (known : Known) (after : ℕ) (s mid t : State) (result : Result A RegFault) → CountsAs s.now.trees db key known.records → IsClearFrom known → IsUtf8 key.term
     → Changes blocks_tree (λ tree. TurnsBlocks db key changes (λ block. known.clear_from ≤ block) known.records after) s mid → IfOk result (λ done. Alters dict_tree (IfTold (not (known.records == 0)) (IsDictIn db key) (PutsCount db key after)) mid t)
-    → result ≢ Err Damaged → Answers (IsRefusedAs db key changes s.now.trees) (λ done. IsStore t × PutsUnits db key changes s.now.trees t.now.trees) result
-key_answers db key changes known after s mid t (Ok done) counts clear one two honest = let put = two.rows one.layout in (put.layout, units_put db key changes known after s mid t counts clear one put)
-key_answers db key changes known after s mid t (Err fault) counts clear one two honest = λ told. absurd (honest (ap Err told))
+    → result ≢ Err Damaged → Answers (IsRefusedAs packed_blocks db key changes s.now.trees) (λ done. IsStore t × PutsUnits packed_blocks db key changes s.now.trees t.now.trees) result
+key_answers db key changes known after s mid t (Ok done) counts clear text one two honest = let put = two.rows one.layout in (put.layout, units_put db key changes known after s mid t counts clear text one put)
+key_answers db key changes known after s mid t (Err fault) counts clear text one two honest = λ told. absurd (honest (ap Err told))
 
-pub puts_any : (db : ℤ) (key : Key) (changes : List RecordChange) (old new : Trees) → changes ≢ [] → PutsUnits db key changes old new → PutsAny db key changes old new
+pub puts_any : (db : ℤ) (key : Key) (changes : List RecordChange) (old new : Trees) → changes ≢ [] → PutsUnits packed_blocks db key changes old new → PutsAny packed_blocks db key changes old new
 puts_any db key [] old new some puts = absurd (some refl)
 puts_any db key (change ∷ changes) old new some puts = puts

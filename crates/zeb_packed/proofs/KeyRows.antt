@@ -1,5 +1,5 @@
 -- Which row a key has for a block, and what it spells.
-use Rattle.zeb_packed.proofs.Cited.{◌≡◌, ◌∙◌, ◌==◌, ℕ, ℤ, pos, false, not, List, [], ◌∷◌, ◌++◌, drop, length, map, slice_get, None, sym, ap, subst, Int, Text, Blob, Database, Row, column, State, Trees, Has, Posting, Key, register_code, KeyOf, IsSpelledAt, IsOfNumbered, numbered_columns, IsBlockOf, IsBlockIn, IsTold, SpellsIn, block_key, HasRow, IsListOf, IsRest, IsStore, blocks_tree, store_schema, none_is, blocks, blocks_static, blob_of, code_at, spread, code, codes_there}
+use Rattle.zeb_packed.proofs.Cited.{◌≡◌, ◌==◌, ℕ, ℤ, pos, false, not, List, [], ◌∷◌, ◌++◌, length, slice_get, None, sym, subst, Int, Text, Database, Row, Trees, Posting, Key, register_code, KeyOf, IsOfNumbered, numbered_columns, IsBlockOf, IsBlockIn, IsTold, block_key, HasRow, IsListOf, IsRest, blocks_tree, none_is}
 use Rattle.zeb_packed.proofs.PackedReads.{block_front}
 
 -- ---- what a row of the key is
@@ -16,23 +16,7 @@ after_block db idx reg term block (a ∷ b ∷ c ∷ d ∷ e ∷ rest) is = (res
     same : a ≡ Int db → b ≡ Int idx → c ≡ Int reg → d ≡ Text term → e ≡ Int block → a ∷ b ∷ c ∷ d ∷ e ∷ rest ≡ block_key db idx reg term block ++ rest
     same one two three four five = cc
 
--- what follows is bytes
-bytes_follow : (s : State) → IsStore s → (db : ℤ) (key : Key) (block : ℕ) (row : Row) → IsRest blocks_tree (block_front db key block) s.now.trees row → (bytes : List ℕ) × (row ≡ Blob bytes ∷ [])
-bytes_follow s store db key block row there =
-    let typed : map code row ≡ 4 ∷ [] = ap (drop 6) (codes_there store_schema 4 blocks blocks_static s (Int there.0 ∷ block_front db key block ++ row) store there.1) in
-    let bytes = blob_of (column row 0) (code_at row (4 ∷ []) 0 typed) in
-    (bytes.0, spread row (4 ∷ []) typed ∙ ap (λ v. v ∷ []) bytes.1)
-
 -- ---- what is read
-
--- what a row shows is spelled in the tables
-pub shown_spelled : (s : State) → IsStore s → (db : ℤ) (key : Key) (block : ℕ) (row : Row) (list : List Posting) → IsRest blocks_tree (block_front db key block) s.now.trees row → SpellsIn block row list
-    → (p : Posting) → Has list p → IsSpelledAt db key s.now.trees p
-shown_spelled s store db key block row list there spells p here =
-    let it = bytes_follow s store db key block row there in
-    let same : Blob it.0 ≡ Blob spells.0 = ap (λ (r : Row). column r 0) (sym it.1) ∙ spells.1 in
-    let is : row ≡ Blob spells.0 ∷ [] = it.1 ∙ ap (λ v. v ∷ []) same in
-    (block, spells.0, list, subst (IsRest blocks_tree (block_front db key block) s.now.trees) is there, spells.2, here)
 
 -- where none is shown, none is there
 pub none_told : (db : ℤ) (key : Key) (block : ℕ) (rows : List Row) (list : List Posting) (trees : Trees) → list ≡ [] → IsListOf (IsRest blocks_tree (block_front db key block) trees) rows → slice_get rows 0 ≡ None

@@ -1,25 +1,8 @@
 -- The rows of a key, which spell a list, as its units.
-use Rattle.zeb_packed.proofs.Cited.{◌≡◌, ◌≢◌, ◌∙◌, ◌<◌, ◌+◌, ◌/◌, ◌==◌, ℕ, ℤ, pos, true, false, Bool, Result, Ok, Err, IfOk, List, [], ◌∷◌, ◌++◌, filter, map, length, drop, refl, sym, ap, ap₂, subst, inl, inr, Ordering, Less, Equal, Greater, nat_cmp, nat_eq, arith, if◌then◌else◌, eq-eqb, eqb_tells, ordering_then, Value, Int, Null, Row, column, row_cmp, State, Has, all_has, has_left, has_right, has_either, row_cmp_total, value_cmp-Int, Posting, Key, numbers_apart, Work, posting_cmp, SpellsPart, blocks_of, part_in, key_row, AreSpelled, IsListOf, IsRest, IsStore, blocks_tree, Works, posting_total, ints_order, some_posting, is_less, in_part, not_empty, part_in_block, part_in_list, each_spelled, one_part, joined_rises, kept_rises, never_itself, same_list, BlockSpells, RegFault, Damaged, IsBlockMalformed, IsBlockIn, IsTold, SpellsIn, Answers, IfDamaged, BlockReads, IsOfBlock, IsOfKey, ListsUnits}
+use Rattle.zeb_packed.proofs.Cited.{◌≡◌, ◌≢◌, ◌∙◌, ◌<◌, ◌+◌, ◌/◌, ◌==◌, ℕ, ℤ, pos, false, Bool, Result, Ok, Err, IfOk, List, [], ◌∷◌, ◌++◌, map, length, drop, refl, sym, ap, ap₂, subst, inl, inr, Ordering, Less, Equal, Greater, nat_cmp, nat_eq, arith, if◌then◌else◌, eq-eqb, eqb_tells, ordering_then, Value, Int, Null, Row, column, row_cmp, State, Has, all_has, has_left, has_right, has_either, row_cmp_total, value_cmp-Int, Posting, Key, numbers_apart, Work, posting_cmp, SpellsPart, blocks_of, part_in, key_row, AreSpelled, IsListOf, IsRest, IsStore, blocks_tree, Works, posting_total, ints_order, some_posting, is_less, in_part, not_empty, part_in_block, part_in_list, each_spelled, one_part, joined_rises, kept_rises, never_itself, same_list, BlockSpells, RegFault, Damaged, IsBlockMalformed, IsBlockIn, IsTold, SpellsIn, Answers, IfDamaged, BlockReads, IsOfBlock, IsOfKey, ListsUnits, own_part, packed_blocks}
 use Rattle.std.specs.List.Sorted.{IsStrictlySortedBy}
 use Rattle.zeb_packed.proofs.PackedReads.{block_front}
 use Rattle.zeb_packed.proofs.PackedSound.{one_block}
-
--- a call that is refused so answers so
-pub refused_so : {A : Type 0} (Refused : RegFault → Type 0) (Done : A → Type 0) (result : Result A RegFault) (fault : RegFault) → result ≡ Err fault → Refused fault → Answers Refused Done result
-refused_so Refused Done result fault is refused = subst (Answers Refused Done) (sym is) refused
-
--- a record's places stand in its block's part
-pub own_part : (sysno : ℕ) (list : List Posting) → filter (λ p. p.sysno == sysno) list ≡ filter (λ p. p.sysno == sysno) (part_in (sysno / 256) list)
-own_part sysno [] = refl
-own_part sysno (p ∷ list) = elim (eqb_tells p.sysno sysno) [
-  | inl same ↦
-      let block : nat_eq (p.sysno / 256) (sysno / 256) ≡ true = eq-eqb (p.sysno / 256) (sysno / 256) (ap (λ n. n / 256) same.1) in
-      rw block (rw same.0 (ap (λ l. p ∷ l) (own_part sysno list)))
-  | inr other ↦ elim (eqb_tells (p.sysno / 256) (sysno / 256)) [
-    | inl near ↦ rw near.0 (rw other.0 (own_part sysno list))
-    | inr far ↦ rw far.0 (rw other.0 (own_part sysno list))
-  ]
-]
 
 -- a row by its first column
 starts : (row : Row) (v : Value) → column row 0 ≡ v → v ≢ Null → row ≡ v ∷ drop 1 row
@@ -158,13 +141,16 @@ module _ (s : State) (store : IsStore s) (db : ℤ) (key : Key) where
     }
 
     -- the rows of the key, listed and spelled, say its units
-    pub units_listed : (old new : Work) → Works 0 0 (length rows) 0 old new → ListsUnits s.now.trees db key old new list
-    units_listed old new works = record {
+    pub units_listed : ListsUnits packed_blocks s.now.trees db key list
+    units_listed = record {
       rising = rises;
       units = λ sysno. (part_in (sysno / 256) list, block_reads (sysno / 256), ap (map (λ (p : Posting). record { seq = p.seq; pos = p.pos })) (own_part sysno list));
-      spelled = λ row there. each_spelled rows list are row ((listed.each row).1 there);
-      work = subst (λ k. Works 0 0 k 0 old new) (list_blocks rows list ours listed.rising are) works;
+      whole = λ row there. each_spelled rows list are row ((listed.each row).1 there);
     }
+
+    -- they are as many as the list has blocks
+    pub blocks_counted : (old new : Work) → Works 0 0 (length rows) 0 old new → Works 0 0 (blocks_of list) 0 old new
+    blocks_counted old new works = subst (λ k. Works 0 0 k 0 old new) (list_blocks rows list ours listed.rising are) works
 
   -- ---- one block, as a look shows it
 

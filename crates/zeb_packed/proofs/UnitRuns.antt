@@ -1,7 +1,8 @@
 -- Rows of a key's blocks, written run by run, as its units.
-use Rattle.zeb_packed.proofs.Cited.{◌≡◌, ◌≢◌, ◌↔◌, ◌⊎◌, ◌∙◌, ◌/◌, ◌<◌, ◌≤◌, ◌^◌, ℕ, ℤ, pos, Result, List, [], ◌∷◌, ◌++◌, drop, refl, sym, ap, subst, inl, inr, arith, eqb_tells, AllByRecursion, Int, Blob, Row, column, State, Trees, Has, BlockSpells, LiesIn, spelled_from, start_of, Posting, Key, RegFault, Place, RecordChange, SpellsPart, block_row, key_row, blocks_tree, Alters, alters_so, inside_so, told_apart, Known, PutsBlock, AllowsBlock, AllowsBlocks, PutsRun, TurnsBlock, TurnsBlocks, units_of, BlockReads, IsOfBlock, ReadsAs, places_in, IsBlockAmong, IsBlockIn, IsOwnBlock, IsStorableChange, IsTouched, KeepsBut, KeyUnits, LacksBlock, LacksBlocks, TurnsUnits}
-use Rattle.zeb_packed.proofs.UnitLaws.{one_reading}
-use Rattle.zeb_packed.proofs.UnitTurns.{over, over_in, over_out, touched, touched_either, touched_left, touched_right, turns_agree, turns_beside, turns_from, turns_kept, turns_over, turns_parted, turns_then}
+use Rattle.zeb_packed.proofs.Cited.{packed_blocks, ◌≡◌, ◌≢◌, ◌↔◌, ◌⊎◌, ◌∙◌, ◌/◌, ◌<◌, ◌≤◌, ◌^◌, ℕ, ℤ, pos, Result, List, [], ◌∷◌, ◌++◌, drop, refl, sym, ap, subst, inl, inr, arith, eqb_tells, AllByRecursion, Int, Blob, Row, column, State, Trees, Has, BlockSpells, LiesIn, spelled_from, start_of, Posting, Key, RegFault, Place, RecordChange, SpellsPart, block_row, key_row, blocks_tree, Alters, alters_so, inside_so, told_apart, Known, PutsBlock, AllowsBlock, AllowsBlocks, PutsRun, TurnsBlock, TurnsBlocks, units_of, BlockReads, IsOfBlock, ReadsAs, places_in, IsBlockAmong, IsBlockIn, IsOwnBlock, IsStorableChange, IsTouched, KeepsBut, KeyUnits, LacksBlock, LacksBlocks, TurnsUnits, one_reading}
+use Rattle.zeb_register.proofs.ContentTurns.{touched, turns_kept}
+use Rattle.zeb_register.proofs.PackedKeyLaws.{keeps_reads}
+use Rattle.zeb_packed.proofs.UnitTurns.{over, over_in, over_out, touched_either, touched_left, touched_right, turns_agree, turns_beside, turns_from, turns_over, turns_parted, turns_then}
 
 -- ---- the row of one block
 
@@ -123,23 +124,6 @@ lacks_far db key These limit (change ∷ changes) trees high from stored = (
   lacks_far db key (λ b. These b × (change.sysno / 256 < b)) limit changes trees high (λ b is. from b is.0) stored.1,
 )
 
--- ---- rows of a key that no change touches
-
-pub keeps_reads : (db : ℤ) (key : Key) (changes : List RecordChange) (block : ℕ) (old new : Trees) (part : List Posting) → ¬ IsTouched changes block
-    → KeepsBut (IsBlockAmong db key changes) (IsOwnBlock db key changes) blocks_tree old new → BlockReads old db key block part → BlockReads new db key block part
-keeps_reads db key changes block old new part none keeps reads = record {
-  spelled = λ row of. elim (keeps.comes (key_row db key ++ row) of.0) [
-    | inl was ↦ reads.spelled row (was.0, of.1)
-    | inr own ↦
-        let is : row ≡ Int (pos own.0) ∷ Blob own.1 ∷ [] = (told_apart db db key key row (Int (pos own.0) ∷ Blob own.1 ∷ []) own.3).2 in
-        let same = one_block own.0 block (sym (ap (λ (r : Row). column r 0) is) ∙ of.1) in
-        absurd (none (subst (IsTouched changes) same own.2))
-  ];
-  there = λ some.
-      let it = reads.there some in
-      (it.0, (keeps.stays (key_row db key ++ it.0) (λ among. none (subst (IsTouched changes) (one_block among.0 block (sym among.2.4 ∙ it.1.1)) among.1)) it.1.0, it.1.1));
-}
-
 -- ---- run by run
 
 pub none_turned : (db : ℤ) (key : Key) (These : ℕ → Type 0) (records : ℕ) (trees : Trees) → TurnsBlocks db key [] These records records trees trees
@@ -215,7 +199,7 @@ module _ (db : ℤ) (key : Key) (block : ℕ) (run rest : List RecordChange) (in
         lacks_run db key block rest old These run some inside lacks
         (lacks_so db key (λ b. These b × (block < b)) rest mid old (λ b is none. lacks_before db key block turned.next old mid turned.row b (λ same. omega (arith, is.1, same)) none) later.lacks)
 
-    first_run : TurnsUnits run were (over block next were)
+    first_run : TurnsUnits packed_blocks run were (over block next were)
     first_run = turns_over block run own next were inside (λ n at. over_in block own left n at) refl turned.turns
 
     both : IsTouched rest block ⊎ ¬ IsTouched rest block → TurnsBlocks db key (run ++ rest) These records after old new
@@ -273,14 +257,14 @@ module _ (db : ℤ) (key : Key) (block : ℕ) (run rest : List RecordChange) (in
       | inl near ↦ subst (ReadsAs mid db key n) (sym (agree.0 n near.1)) (read_next n near.1)
       | inr far ↦
           let reads = allows.found n (touched_right run rest (n / 256) at) in
-          let kept = turns_kept run (Units allows.were records) it.0 it.1 n (λ c h same. far.1 (sym (ap (λ m. m / 256) same) ∙ inside c h)) in
+          let kept = turns_kept packed_blocks run (Units allows.were records) it.0 it.1 n (λ c h same. far.1 (sym (ap (λ m. m / 256) same) ∙ inside c h)) in
           subst (ReadsAs mid db key n) (sym kept) (reads.0, reads_then db key block turned.next old mid turned.row (n / 256) reads.0 far.1 reads.1, reads.2)
     ];
     turns = turns_from rest it.0 (Units it.0.places mid_count) allows.are (λ n. refl, sym agree.1) it.2;
     lacks = lacks_so db key (λ b. These b × (block < b)) rest old mid (λ b is none. lacks_then db key block turned.next old mid turned.row b (λ same. omega (arith, is.1, same)) none) (lacking_run db key block rest old These run some inside allows.lacks).1;
   }
     where
-      it : (b : KeyUnits) × TurnsUnits run (Units allows.were records) b × TurnsUnits rest b allows.are
+      it : (b : KeyUnits) × TurnsUnits packed_blocks run (Units allows.were records) b × TurnsUnits packed_blocks rest b allows.are
       it = turns_parted run rest (Units allows.were records) allows.are allows.turns
 
       agree : ((n : ℕ) → n / 256 ≡ block → it.0.places n ≡ next.places n) × (it.0.records ≡ next.records)
@@ -310,7 +294,7 @@ allows_run db key block (x ∷ run) rest inside some These records trees allows 
     own : KeyUnits
     own = units_of reads.0 records
 
-    it : (b : KeyUnits) × TurnsUnits (x ∷ run) (Units allows.were records) b × TurnsUnits rest b allows.are
+    it : (b : KeyUnits) × TurnsUnits packed_blocks (x ∷ run) (Units allows.were records) b × TurnsUnits packed_blocks rest b allows.are
     it = turns_parted (x ∷ run) rest (Units allows.were records) allows.are allows.turns
 
 -- ---- what is known of fewer blocks

@@ -1,6 +1,6 @@
 -- A key's units as changes turn them, one after the other: from the same units they come to the same, and only those of the changed records
 -- are others.
-use Rattle.zeb_packed.proofs.Cited.{◌≡◌, ◌≢◌, ◌⊎◌, ◌∙◌, ◌+◌, ◌/◌, ◌==◌, ◌≤◌, ◌<◌, ℕ, zero, suc, true, false, Bool, List, [], ◌∷◌, ◌++◌, drop, length, take, refl, sym, ap, subst, inl, inr, arith, if◌then◌else◌, eq-eqb, eqb_tells, Has, has_either, has_left, has_right, Place, RecordChange, AreSame, CountsOn, IsCountedIn, IsTouched, KeyUnits, TurnsUnit, TurnsUnits}
+use Rattle.zeb_packed.proofs.Cited.{packed_blocks, ◌≡◌, ◌≢◌, ◌⊎◌, ◌∙◌, ◌+◌, ◌/◌, ◌==◌, ◌≤◌, ℕ, zero, suc, Bool, List, [], ◌∷◌, ◌++◌, drop, length, take, refl, sym, ap, subst, inl, inr, arith, if◌then◌else◌, eq-eqb, eqb_tells, Has, has_either, has_left, has_right, Place, RecordChange, AreSame, CountsOn, IsBlockCounted, IsTouched, KeyUnits, TurnsUnit, TurnsUnits}
 
 -- ---- the same units
 
@@ -10,13 +10,13 @@ same_back one two same = (λ n. sym (same.0 n), sym same.1)
 pub same_through : (one two three : KeyUnits) → AreSame one two → AreSame two three → AreSame one three
 same_through one two three left right = (λ n. right.0 n ∙ left.0 n, right.1 ∙ left.1)
 
-counted_so : (block : ℕ) (one two : KeyUnits) → ((n : ℕ) → n / 256 ≡ block → two.places n ≡ one.places n) → two.records ≡ one.records → IsCountedIn block one → IsCountedIn block two
+counted_so : (block : ℕ) (one two : KeyUnits) → ((n : ℕ) → n / 256 ≡ block → two.places n ≡ one.places n) → two.records ≡ one.records → IsBlockCounted block one → IsBlockCounted block two
 counted_so block one two places records counted n at some =
     subst (λ r. 1 ≤ r) (sym records) (counted n at (λ none. some (places n at ∙ none)))
 
 -- a change turns other units in the same way that agree in its block
 pub unit_so : (change : RecordChange) (a b c d : KeyUnits) → ((n : ℕ) → n / 256 ≡ change.sysno / 256 → c.places n ≡ a.places n) → c.records ≡ a.records → ((n : ℕ) → n / 256 ≡ change.sysno / 256 → d.places n ≡ b.places n) → d.records ≡ b.records
-    → ((n : ℕ) → ¬ (n / 256 ≡ change.sysno / 256) → d.places n ≡ c.places n) → TurnsUnit change a b → TurnsUnit change c d
+    → ((n : ℕ) → ¬ (n / 256 ≡ change.sysno / 256) → d.places n ≡ c.places n) → TurnsUnit packed_blocks change a b → TurnsUnit packed_blocks change c d
 unit_so change a b c d first first_count last last_count beside turns = record {
   found = first change.sysno refl ∙ turns.found;
   put = last change.sysno refl ∙ turns.put;
@@ -24,45 +24,44 @@ unit_so change a b c d first first_count last last_count beside turns = record {
     | inl near ↦ last n near.1 ∙ turns.kept n other ∙ sym (first n near.1)
     | inr far ↦ beside n far.1
   ];
-  counted = subst (λ r. CountsOn change.old.now change.new.now r d.records) (sym first_count) (subst (CountsOn change.old.now change.new.now a.records) (sym last_count) turns.counted);
-  few = subst (λ r. r ≤ 999999999) (sym last_count) turns.few;
-  had = counted_so (change.sysno / 256) a c first first_count turns.had;
-  has = counted_so (change.sysno / 256) b d last last_count turns.has;
+  count = record {
+    counted = subst (λ r. CountsOn change.old.now change.new.now r d.records) (sym first_count) (subst (CountsOn change.old.now change.new.now a.records) (sym last_count) turns.count.counted);
+    few = subst (λ r. r ≤ 999999999) (sym last_count) turns.count.few;
+    had = counted_so (change.sysno / 256) a c first first_count turns.count.had;
+    has = counted_so (change.sysno / 256) b d last last_count turns.count.has;
+  };
 }
 
-pub turns_from : (changes : List RecordChange) (a b c : KeyUnits) → AreSame a b → TurnsUnits changes a c → TurnsUnits changes b c
+pub turns_from : (changes : List RecordChange) (a b c : KeyUnits) → AreSame a b → TurnsUnits packed_blocks changes a c → TurnsUnits packed_blocks changes b c
 turns_from [] a b c same turns = same_through b a c (same_back a b same) turns
 turns_from (change ∷ changes) a b c same turns = (turns.0, from, turns.2)
   where
-    from : TurnsUnit change b turns.0
+    from : TurnsUnit packed_blocks change b turns.0
     from = record {
       found = same.0 change.sysno ∙ turns.1.found;
       put = turns.1.put;
       kept = λ n other. turns.1.kept n other ∙ sym (same.0 n);
-      counted = subst (λ r. CountsOn change.old.now change.new.now r turns.0.records) (sym same.1) turns.1.counted;
-      few = turns.1.few;
-      had = counted_so (change.sysno / 256) a b (λ n at. same.0 n) same.1 turns.1.had;
-      has = turns.1.has;
+      count = record {
+        counted = subst (λ r. CountsOn change.old.now change.new.now r turns.0.records) (sym same.1) turns.1.count.counted;
+        few = turns.1.count.few;
+        had = counted_so (change.sysno / 256) a b (λ n at. same.0 n) same.1 turns.1.count.had;
+        has = turns.1.count.has;
+      };
     }
 
-pub turns_to : (changes : List RecordChange) (a b c : KeyUnits) → TurnsUnits changes a b → AreSame b c → TurnsUnits changes a c
+pub turns_to : (changes : List RecordChange) (a b c : KeyUnits) → TurnsUnits packed_blocks changes a b → AreSame b c → TurnsUnits packed_blocks changes a c
 turns_to [] a b c turns same = same_through a b c turns same
 turns_to (change ∷ changes) a b c turns same = (turns.0, turns.1, turns_to changes turns.0 b c turns.2 same)
 
-pub turns_then : (xs ys : List RecordChange) (a b c : KeyUnits) → TurnsUnits xs a b → TurnsUnits ys b c → TurnsUnits (xs ++ ys) a c
+pub turns_then : (xs ys : List RecordChange) (a b c : KeyUnits) → TurnsUnits packed_blocks xs a b → TurnsUnits packed_blocks ys b c → TurnsUnits packed_blocks (xs ++ ys) a c
 turns_then [] ys a b c one two = turns_from ys b a c (same_back a b one) two
 turns_then (x ∷ xs) ys a b c one two = (one.0, one.1, turns_then xs ys one.0 b c one.2 two)
 
-pub turns_parted : (xs ys : List RecordChange) (a c : KeyUnits) → TurnsUnits (xs ++ ys) a c → (b : KeyUnits) × TurnsUnits xs a b × TurnsUnits ys b c
+pub turns_parted : (xs ys : List RecordChange) (a c : KeyUnits) → TurnsUnits packed_blocks (xs ++ ys) a c → (b : KeyUnits) × TurnsUnits packed_blocks xs a b × TurnsUnits packed_blocks ys b c
 turns_parted [] ys a c turns = (a, (λ n. refl, refl), turns)
 turns_parted (x ∷ xs) ys a c turns = let it = turns_parted xs ys turns.0 c turns.2 in (it.0, (turns.0, turns.1, it.1), it.2)
 
 -- ---- which units are turned, and to what
-
-pub turns_kept : (changes : List RecordChange) (a b : KeyUnits) → TurnsUnits changes a b → (n : ℕ) → ((change : RecordChange) → Has changes change → change.sysno ≢ n) → b.places n ≡ a.places n
-turns_kept [] a b turns n others = turns.0 n
-turns_kept (change ∷ changes) a b turns n others =
-    turns_kept changes turns.0 b turns.2 n (λ x here. others x (inr here)) ∙ turns.1.kept n (λ same. others change (inl refl) (sym same))
 
 pub counts_same : (old new : List Place) (was a b : ℕ) → CountsOn old new was a → CountsOn old new was b → a ≡ b
 counts_same [] [] was a b left right = left ∙ sym right
@@ -71,17 +70,17 @@ counts_same (p ∷ old) [] was a b left right = omega (arith, left, right)
 counts_same (p ∷ old) (q ∷ new) was a b left right = left ∙ sym right
 
 -- a change turns the same units to the same
-pub same_after : (change : RecordChange) (a b c : KeyUnits) → TurnsUnit change a b → TurnsUnit change a c → AreSame b c
+pub same_after : (change : RecordChange) (a b c : KeyUnits) → TurnsUnit packed_blocks change a b → TurnsUnit packed_blocks change a c → AreSame b c
 same_after change a b c left right = (
   λ n. elim (eqb_tells n change.sysno) [
     | inl same ↦ subst (λ m. c.places m ≡ b.places m) (sym same.1) (right.put ∙ sym left.put)
     | inr other ↦ right.kept n other.1 ∙ sym (left.kept n other.1)
   ],
-  counts_same change.old.now change.new.now a.records c.records b.records right.counted left.counted,
+  counts_same change.old.now change.new.now a.records c.records b.records right.count.counted left.count.counted,
 )
 
 -- units that agree in these records, and in the count, are turned to units that agree in them
-pub turns_agree : (P : ℕ → Type 0) (changes : List RecordChange) (a b c d : KeyUnits) → TurnsUnits changes a b → TurnsUnits changes c d → ((n : ℕ) → P n → c.places n ≡ a.places n) → c.records ≡ a.records
+pub turns_agree : (P : ℕ → Type 0) (changes : List RecordChange) (a b c d : KeyUnits) → TurnsUnits packed_blocks changes a b → TurnsUnits packed_blocks changes c d → ((n : ℕ) → P n → c.places n ≡ a.places n) → c.records ≡ a.records
     → ((n : ℕ) → P n → d.places n ≡ b.places n) × (d.records ≡ b.records)
 turns_agree P [] a b c d left right places records = (λ n is. right.0 n ∙ places n is ∙ sym (left.0 n), right.1 ∙ records ∙ sym left.1)
 turns_agree P (change ∷ changes) a b c d left right places records =
@@ -90,11 +89,11 @@ turns_agree P (change ∷ changes) a b c d left right places records =
       | inl same ↦ subst (λ m. right.0.places m ≡ left.0.places m) (sym same.1) (right.1.put ∙ sym left.1.put)
       | inr other ↦ right.1.kept n other.1 ∙ places n is ∙ sym (left.1.kept n other.1)
     ])
-    (counts_same change.old.now change.new.now a.records right.0.records left.0.records (subst (λ r. CountsOn change.old.now change.new.now r right.0.records) records right.1.counted) left.1.counted)
+    (counts_same change.old.now change.new.now a.records right.0.records left.0.records (subst (λ r. CountsOn change.old.now change.new.now r right.0.records) records right.1.count.counted) left.1.count.counted)
 
-pub turns_few : (changes : List RecordChange) (a b : KeyUnits) → TurnsUnits changes a b → a.records ≤ 999999999 → b.records ≤ 999999999
+pub turns_few : (changes : List RecordChange) (a b : KeyUnits) → TurnsUnits packed_blocks changes a b → a.records ≤ 999999999 → b.records ≤ 999999999
 turns_few [] a b turns few = subst (λ r. r ≤ 999999999) (sym turns.1) few
-turns_few (change ∷ changes) a b turns few = turns_few changes turns.0 b turns.2 turns.1.few
+turns_few (change ∷ changes) a b turns few = turns_few changes turns.0 b turns.2 turns.1.count.few
 
 -- ---- units of one block beside those of the others
 
@@ -113,7 +112,7 @@ module _ (block : ℕ) (own others : KeyUnits) (n : ℕ) where
 
 -- the units of one block are turned as they are beside any others
 pub turns_over : (block : ℕ) (run : List RecordChange) (a b c : KeyUnits) → ((change : RecordChange) → Has run change → change.sysno / 256 ≡ block) → ((n : ℕ) → n / 256 ≡ block → c.places n ≡ a.places n) → c.records ≡ a.records
-    → TurnsUnits run a b → TurnsUnits run c (over block b c)
+    → TurnsUnits packed_blocks run a b → TurnsUnits packed_blocks run c (over block b c)
 turns_over block [] a b c inside places records turns = (
   λ n. elim (eqb_tells (n / 256) block) [
     | inl near ↦ over_in block b c n near.1 ∙ turns.0 n ∙ sym (places n near.1)
@@ -138,8 +137,8 @@ turns_over block (change ∷ run) a b c inside places records turns =
     )
 
 -- and units of other blocks whatever one block has
-pub turns_beside : (block : ℕ) (changes : List RecordChange) (own a b : KeyUnits) → ((change : RecordChange) → Has changes change → change.sysno / 256 ≢ block) → TurnsUnits changes a b
-    → TurnsUnits changes (record { places = (over block own a).places; records = a.records }) (record { places = (over block own b).places; records = b.records })
+pub turns_beside : (block : ℕ) (changes : List RecordChange) (own a b : KeyUnits) → ((change : RecordChange) → Has changes change → change.sysno / 256 ≢ block) → TurnsUnits packed_blocks changes a b
+    → TurnsUnits packed_blocks changes (record { places = (over block own a).places; records = a.records }) (record { places = (over block own b).places; records = b.records })
 turns_beside block [] own a b outside turns = (
   λ n. elim (eqb_tells (n / 256) block) [
     | inl near ↦ over_in block own b n near.1 ∙ sym (over_in block own a n near.1)
@@ -162,20 +161,6 @@ turns_beside block (change ∷ changes) own a b outside turns =
 
 -- ---- touched blocks
 
-pub touched : (changes : List RecordChange) (block : ℕ) → IsTouched changes block ⊎ ¬ IsTouched changes block
-touched [] block = inr (λ it. it.1)
-touched (change ∷ changes) block = from (eqb_tells (change.sysno / 256) block) (touched changes block)
-  where
-    untouched : change.sysno / 256 ≢ block → ¬ IsTouched changes block → (x : RecordChange) → Has (change ∷ changes) x → x.sysno / 256 ≢ block
-    untouched other none x (inl same) at = other (subst (λ (y : RecordChange). y.sysno / 256 ≡ block) same at)
-    untouched other none x (inr later) at = none (x, later, at)
-
-    from : ((change.sysno / 256 == block) ≡ true) × (change.sysno / 256 ≡ block) ⊎ ((change.sysno / 256 == block) ≡ false) × (change.sysno / 256 ≢ block) → IsTouched changes block ⊎ ¬ IsTouched changes block
-        → IsTouched (change ∷ changes) block ⊎ ¬ IsTouched (change ∷ changes) block
-    from (inl same) rest = inl (change, inl refl, same.1)
-    from (inr other) (inl later) = inl (later.0, inr later.1, later.2)
-    from (inr other) (inr none) = inr (λ it. untouched other.1 none it.0 it.1 it.2)
-
 pub touched_left : (xs ys : List RecordChange) (block : ℕ) → IsTouched xs block → IsTouched (xs ++ ys) block
 touched_left xs ys block it = (it.0, has_left xs ys it.0 it.1, it.2)
 
@@ -186,12 +171,6 @@ pub touched_either : (xs ys : List RecordChange) (block : ℕ) → IsTouched (xs
 touched_either xs ys block it = elim (has_either xs ys it.0 it.1) [ inl first ↦ inl (it.0, first, it.2) | inr later ↦ inr (it.0, later, it.2) ]
 
 -- ---- changes that are left
-
-pub none_left : (i : ℕ) (changes : List RecordChange) → length changes ≤ i → drop i changes ≡ []
-none_left zero [] all = refl
-none_left zero (x ∷ changes) all = absurd (omega (arith, all))
-none_left (suc i) [] all = refl
-none_left (suc i) (x ∷ changes) all = none_left i changes (omega (arith, all))
 
 drop_none : (k : ℕ) → drop {A = RecordChange} k [] ≡ []
 drop_none zero = refl

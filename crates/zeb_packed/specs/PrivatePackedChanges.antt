@@ -9,7 +9,7 @@ use Rattle.zeb_blocks.specs.Blocks.{BlockSpells}
 use Rattle.zeb_keys.specs.declared.keys.Key.{Key}
 use Rattle.zeb_packed.specs.declared.packed_parts.Parted.{Parted}
 use Rattle.zeb_packed.specs.declared.packed_changes.Known.{Known}
-use Rattle.zeb_packed.specs.UnitChanges.{IsBlockIn, IsTold}
+use Rattle.zeb_register.specs.UnitChanges.{IsBlockIn, IsTold}
 use Rattle.zeb_register.specs.Content.{posting_at}
 use Rattle.zeb_register.specs.PackedBlocks.{block_row}
 use Rattle.zeb_register.specs.Sql.{HasRow}

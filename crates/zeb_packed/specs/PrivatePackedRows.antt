@@ -10,7 +10,7 @@ use Rattle.sqlite_sql.specs.Query.{as_count, limited}
 use Rattle.sqlite_rules.specs.Lists.{Has}
 use Rattle.zeb_register.specs.Sql.{IsListOf}
 use Rattle.zeb_register.specs.Store.{IsStore}
-use Rattle.zeb_packed.specs.Units.{IsMalformed}
+use Rattle.zeb_register.specs.PackedUnits.{IsMalformed}
 
 -- ---- what statements list
 

@@ -10,39 +10,33 @@ use Rattle.zeb_register.specs.Calls.{Alters, Inside}
 use Rattle.zeb_register.specs.Clauses.{InStore}
 use Rattle.zeb_register.specs.Store.{blocks_tree}
 use Rattle.sqlite.specs.Tree.{Trees}
-use Rattle.sqlite.specs.Order.{Row}
 use Rattle.zeb_blocks.specs.Blocks.{LiesIn}
 use Rattle.zeb_blocks.specs.declared.postings.Posting.{Posting}
 use Rattle.zeb_register.specs.declared.registers.Place.{Place}
 use Rattle.zeb_register.specs.Store.{IsStore}
-use Rattle.zeb_packed.specs.Answers.{Answers}
+use Rattle.zeb_register.specs.Answers.{Answers}
+use Rattle.zeb_register.specs.Content.{places_in}
 use Rattle.zeb_packed.specs.PrivatePackedChanges.{PutsBlock}
-use Rattle.zeb_packed.specs.Units.{BlockReads, IsMalformed, IsOfBlock, ReadsAs, places_in}
-use Rattle.zeb_packed.specs.UnitChanges.{IsBlockAmong, IsOwnBlock, IsRefusedAs, IsTouched, KeepsBut, KeyUnits, LacksBlock, LacksBlocks, PutsUnits, TurnsUnits}
+use Rattle.zeb_register.specs.PackedUnits.{BlockReads, ReadsAs}
+use Rattle.zeb_register.specs.Formats.{packed_blocks}
+use Rattle.zeb_register.specs.PrivateUnits.{units_of}
+use Rattle.zeb_register.specs.UnitChanges.{IsBlockAmong, IsOwnBlock, IsRefusedAs, IsTouched, KeepsBut, KeyUnits, LacksBlock, LacksBlocks, PutsUnits, TurnsUnits}
 
 -- ---- units of one block
-
--- its row spells no postings
-abbrev pub IsBlockMalformed : Trees → ℤ → Key → ℕ → Type 0
-IsBlockMalformed trees db key block = (row : Row) × IsOfBlock trees db key block row × IsMalformed row
-
--- the places of each record in the postings of one block, where so many records have the key
-abbrev pub units_of : List Posting → ℕ → KeyUnits
-units_of list records = record { places = λ sysno. places_in sysno list; records = records }
 
 -- the row of a block spells the postings that it had with the changes of its records
 pub record TurnsBlock (db : ℤ) (key : Key) (block : ℕ) (run : List RecordChange) (records after : ℕ) (old new : Trees) : Type 0 where
   pub part : List Posting
   pub next : List Posting
   pub reads : BlockReads old db key block part
-  pub turns : TurnsUnits run (units_of part records) (units_of next after)
+  pub turns : TurnsUnits packed_blocks run (units_of part records) (units_of next after)
   pub lies : LiesIn block next
   pub row : PutsBlock db key block next blocks_tree old new
 
 -- it can be changed so
 abbrev pub AllowsBlock : ℤ → Key → ℕ → List RecordChange → ℕ → Trees → Type 0
 AllowsBlock db key block run records trees =
-    (part : List Posting) × (are : KeyUnits) × BlockReads trees db key block part × TurnsUnits run (units_of part records) are
+    (part : List Posting) × (are : KeyUnits) × BlockReads trees db key block part × TurnsUnits packed_blocks run (units_of part records) are
 
 -- ---- all blocks
 
@@ -52,7 +46,7 @@ pub record TurnsBlocks (db : ℤ) (key : Key) (changes : List RecordChange) (The
   pub are : ℕ → List Place
   pub found : (sysno : ℕ) → IsTouched changes (sysno / 256) → ReadsAs old db key sysno (were sysno)
   pub put : (sysno : ℕ) → IsTouched changes (sysno / 256) → ReadsAs new db key sysno (are sysno)
-  pub turns : TurnsUnits changes (record { places = were; records = records }) (record { places = are; records = after })
+  pub turns : TurnsUnits packed_blocks changes (record { places = were; records = records }) (record { places = are; records = after })
   pub lacks : LacksBlocks These db key changes old
   pub rows : KeepsBut (IsBlockAmong db key changes) (IsOwnBlock db key changes) blocks_tree old new
 
@@ -61,13 +55,13 @@ pub record AllowsBlocks (db : ℤ) (key : Key) (changes : List RecordChange) (Th
   pub were : ℕ → List Place
   pub are : KeyUnits
   pub found : (sysno : ℕ) → IsTouched changes (sysno / 256) → ReadsAs trees db key sysno (were sysno)
-  pub turns : TurnsUnits changes (record { places = were; records = records }) are
+  pub turns : TurnsUnits packed_blocks changes (record { places = were; records = records }) are
   pub lacks : LacksBlocks These db key changes trees
 
 -- a call inside a transaction puts the changes, with the row of `dict`
 abbrev pub ChangesUnits : {A : Type 0} → ℤ → Key → List RecordChange → (old new : State) → Result A RegFault → Type 0
 ChangesUnits db key changes old new result = InStore old new (λ trees.
-    Answers (IsRefusedAs db key changes trees) (λ done. IsStore new × PutsUnits db key changes trees new.now.trees) result)
+    Answers (IsRefusedAs packed_blocks db key changes trees) (λ done. IsStore new × PutsUnits packed_blocks db key changes trees new.now.trees) result)
 
 -- ---- calls on one row
 

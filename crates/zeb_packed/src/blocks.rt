@@ -1,27 +1,18 @@
 //! The layout of packed blocks.
 
-ghost use Rattle.std.specs.Prelude.{IsUtf8, ◌≡◌, ◌≢◌, ◌↔◌, ◌*◌, ◌∷◌, [], List, length, map, sum_by, IfOk, OnOk};
-ghost use Rattle.std.specs.List.Sorted.{IsStrictlySortedBy};
+ghost use Rattle.std.specs.Prelude.{◌*◌, List, length, sum_by, IfOk, OnOk};
 ghost use Rattle.sqlite.specs.Held.{state};
 ghost use Rattle.sqlite.specs.State.{IsUnchanged};
-ghost use Rattle.sqlite_rules.specs.Lists.{Has};
-ghost use Rattle.zeb_blocks.specs.declared.postings.Posting.{Posting};
-ghost use Rattle.zeb_keys.specs.declared.keys.Key.{Key};
-ghost use Rattle.zeb_packed.specs.Answers.{Answers, IfDamaged};
-ghost use Rattle.zeb_packed.specs.UnitChanges.{ChangesKey};
-ghost use Rattle.zeb_packed.specs.Units.{HasMalformed, ListsUnits};
-ghost use Rattle.zeb_register.specs.Between.{AreKeysBetween, IsPostingBetween};
-ghost use Rattle.zeb_register.specs.Calls.{GoesOn, Inside, Reading};
-ghost use Rattle.zeb_register.specs.Clauses.{ChangesHeld, DamagedHeld, FindsHeld, InStore, IsHonest};
+ghost use Rattle.zeb_register.specs.Calls.{Reading};
+ghost use Rattle.zeb_register.specs.Clauses.{IsHonest};
 ghost use Rattle.zeb_register.specs.Clauses.{IsHonestStorable, IsReasoned, OnStore, Tells, TellsHeld};
-ghost use Rattle.zeb_register.specs.Content.{AreChangedAt, ArePlacesOf, Content, IsChangedAt, OldsRise, place_cmp, posted};
-ghost use Rattle.zeb_register.specs.Hindrances.{IsPlacedAt, KeepsPlaces, KeepsSpelled, SpellsMore, placed};
+ghost use Rattle.zeb_register.specs.Content.{posted};
 ghost use Rattle.zeb_register.specs.Occurring.{AreTermsBefore, AreTermsFrom, AreTermsOf, AreTotals, key_in};
 ghost use Rattle.zeb_register.specs.Formats.{packed_blocks};
-ghost use Rattle.zeb_register.specs.PackedBlocks.{AreAllCounted, AreAllSpelled, AreBeforeCounted, AreFromCounted};
+ghost use Rattle.zeb_register.specs.PackedBlocks.{AreAllCounted, AreBeforeCounted, AreFromCounted};
 ghost use Rattle.zeb_register.specs.PackedBlocks.{CountsRegister, HoldsBlocks, IsRegisterSound, blocks_of};
-ghost use Rattle.zeb_register.specs.PlainRows.{key_row, register_front};
-ghost use Rattle.zeb_register.specs.Sound.{AreListsSound, KeepsMalformed, KeepsRowsBeside, TellsBefore, TellsFrom, TellsRegister};
+ghost use Rattle.zeb_register.specs.PlainRows.{register_front};
+ghost use Rattle.zeb_register.specs.Sound.{TellsBefore, TellsFrom, TellsRegister};
 ghost use Rattle.zeb_register.specs.Tallies.{Works};
 ghost use Rattle.zeb_register.specs.declared.registers.TermCount.{TermCount};
 
@@ -36,8 +27,7 @@ use zeb_blocks::Posting;
 use zeb_keys::Key;
 use zeb_register::for_layouts::{blocks_agree, database_drop_whole};
 use zeb_register::{
-    DatabaseId, Expected, Layout, Place, RecordChange, RegFault, RegisterOf, TermCount, Totals,
-    Work,
+    DatabaseId, Expected, Layout, RecordChange, RegFault, RegisterOf, TermCount, Totals, Work,
 };
 
 /// The layout with one row of `blocks` for each key and each 256 system numbers in which it has a posting, one row of `dict` for each key,
@@ -65,80 +55,16 @@ impl Layout for Blocks {
         "2"
     }
 
-    fn key_change<S: Alter>(
-        tx: &mut Transaction<'_, S>,
-        work: &mut Work,
-        db: DatabaseId,
-        key: &Key,
-        sysno: u64,
-        old: &[Place],
-        new: &[Place],
-    ) -> Result<(), RegFault>
-        ensures same { tx.new.conn.ghost_name ≡ tx.old.conn.ghost_name }
-        ensures call { Inside (state S.Store tx.old.conn.now) (state S.Store tx.new.conn.now) result (λ _. GoesOn) }
-        ensures change { ChangesHeld HoldsBlocks (state S.Store tx.old.conn.now) (state S.Store tx.new.conn.now) result
-            (IsChangedAt db.0 key.now sysno new.now) }
-        ensures found { FindsHeld HoldsBlocks (state S.Store tx.old.conn.now) (state S.Store tx.new.conn.now) result
-            (λ content. ArePlacesOf sysno old.now (content db.0 key.now)) }
-        ensures damaged { DamagedHeld HoldsBlocks (state S.Store tx.old.conn.now) (state S.Store tx.new.conn.now) result
-            (IsStrictlySortedBy place_cmp old.now) (λ content. ¬ ArePlacesOf sysno old.now (content db.0 key.now)) }
-        ensures units { ChangesKey db.0 key.now
-            (record { sysno = sysno; old = old.entry; new = new.entry } ∷ [])
-            (state S.Store tx.old.conn.now) (state S.Store tx.new.conn.now) result }
-        ensures text { OnOk result (IsUtf8 key.now.term) }
-        ensures malformed { InStore (state S.Store tx.old.conn.now) (state S.Store tx.new.conn.now) (λ trees. OnOk result
-            (KeepsMalformed trees (state S.Store tx.new.conn.now).now.trees)) }
-        ensures others { InStore (state S.Store tx.old.conn.now) (state S.Store tx.new.conn.now) (λ trees. OnOk result
-            (KeepsRowsBeside (key_row db.0 key.now) trees (state S.Store tx.new.conn.now).now.trees)) }
-        ensures spelled { InStore (state S.Store tx.old.conn.now) (state S.Store tx.new.conn.now) (λ trees. OnOk result
-            (SpellsMore db.0 key.now (IsPlacedAt ((sysno, new.now) ∷ [])) trees (state S.Store tx.new.conn.now).now.trees)) }
-        ensures still { InStore (state S.Store tx.old.conn.now) (state S.Store tx.new.conn.now) (λ trees. OnOk result
-            (KeepsSpelled db.0 key.now ((sysno, new.now) ∷ []) trees (state S.Store tx.new.conn.now).now.trees)) }
-        ensures places { InStore (state S.Store tx.old.conn.now) (state S.Store tx.new.conn.now) (λ trees. OnOk result
-            (KeepsPlaces db.0 key.now ((sysno, new.now) ∷ []) trees (state S.Store tx.new.conn.now).now.trees)) }
-        ensures work { FindsHeld HoldsBlocks (state S.Store tx.old.conn.now) (state S.Store tx.new.conn.now) result
-            (λ _. Works 1 1 1 1 work.old work.new) }
-    {
-        let change = RecordChange { sysno, old, new };
-        Self::key_changes(tx, work, db, key, &[change])
-    }
-
     /// `Damaged` just where the rows that are read don't allow the changes: the row of the key in `dict` doesn't say 1 to 999,999,999, the row
     /// of a changed record's block spells no postings, or where it has other places in the record than its change says; where a block has a
-    /// row, but the key none in `dict`; and where no record would be left to count, or more than 999,999,999. `Store` also where a number is 0
-    /// or above 999,999,999, one of the places `new` is 0, or these don't rise.
+    /// row, but the key none in `dict`; and where no record would be left to count, or more than 999,999,999.
     fn key_changes<S: Alter>(
         tx: &mut Transaction<'_, S>,
         work: &mut Work,
         db: DatabaseId,
         key: &Key,
         changes: &[RecordChange<'_>],
-    ) -> Result<(), RegFault>
-        ensures same { tx.new.conn.ghost_name ≡ tx.old.conn.ghost_name }
-        ensures call { Inside (state S.Store tx.old.conn.now) (state S.Store tx.new.conn.now) result (λ _. GoesOn) }
-        ensures change { ChangesHeld HoldsBlocks (state S.Store tx.old.conn.now) (state S.Store tx.new.conn.now) result
-            (AreChangedAt db.0 key.now changes.now) }
-        ensures found { FindsHeld HoldsBlocks (state S.Store tx.old.conn.now) (state S.Store tx.new.conn.now) result
-            (λ content. (after : Content) × AreChangedAt db.0 key.now changes.now content after) }
-        ensures damaged { DamagedHeld HoldsBlocks (state S.Store tx.old.conn.now) (state S.Store tx.new.conn.now) result
-            (OldsRise changes.now) (λ content. (after : Content) → ¬ AreChangedAt db.0 key.now changes.now content after) }
-        ensures units { ChangesKey db.0 key.now changes.now
-            (state S.Store tx.old.conn.now) (state S.Store tx.new.conn.now) result }
-        ensures text { OnOk result (changes.now ≢ [] → IsUtf8 key.now.term) }
-        ensures malformed { InStore (state S.Store tx.old.conn.now) (state S.Store tx.new.conn.now) (λ trees. OnOk result
-            (KeepsMalformed trees (state S.Store tx.new.conn.now).now.trees)) }
-        ensures others { InStore (state S.Store tx.old.conn.now) (state S.Store tx.new.conn.now) (λ trees. OnOk result
-            (KeepsRowsBeside (key_row db.0 key.now) trees (state S.Store tx.new.conn.now).now.trees)) }
-        ensures spelled { InStore (state S.Store tx.old.conn.now) (state S.Store tx.new.conn.now) (λ trees. OnOk result
-            (SpellsMore db.0 key.now (IsPlacedAt (map placed changes.now)) trees (state S.Store tx.new.conn.now).now.trees)) }
-        ensures still { InStore (state S.Store tx.old.conn.now) (state S.Store tx.new.conn.now) (λ trees. OnOk result
-            (KeepsSpelled db.0 key.now (map placed changes.now) trees (state S.Store tx.new.conn.now).now.trees)) }
-        ensures places { InStore (state S.Store tx.old.conn.now) (state S.Store tx.new.conn.now) (λ trees. OnOk result
-            (KeepsPlaces db.0 key.now (map placed changes.now) trees (state S.Store tx.new.conn.now).now.trees)) }
-        ensures work { FindsHeld HoldsBlocks (state S.Store tx.old.conn.now) (state S.Store tx.new.conn.now) result
-            (λ _. Works (1 * length changes.now) (1 * length changes.now) (1 * length changes.now) (1 * length changes.now)
-            work.old work.new) }
-    {
+    ) -> Result<(), RegFault> {
         changes_made(tx, work, db, key, changes)
     }
 
@@ -149,33 +75,16 @@ impl Layout for Blocks {
         database_drop_whole(tx, db)
     }
 
-    /// The postings of a key, rising. Never accepted where a row of its blocks spells none, and `Damaged` only there.
     fn key_list<S: Alter>(
         alloc: Global,
         conn: &mut Connection<S>,
         work: &mut Work,
         db: DatabaseId,
         key: &Key,
-    ) -> Result<Vec<Posting>, RegFault>
-        ensures units { OnStore (state S.Store conn.old) (state S.Store conn.new) (λ trees. Answers
-            (IfDamaged (HasMalformed trees db.0 key.now))
-            (λ list. ListsUnits trees db.0 key.now work.old work.new list.items) result) }
-        ensures call { Reading (state S.Store conn.old) (state S.Store conn.new) result (λ _. IsUnchanged) }
-        ensures value { TellsHeld HoldsBlocks (state S.Store conn.old) (state S.Store conn.new) result
-            (λ content list. list.items ≡ content db.0 key.now) }
-        ensures honest { IsHonestStorable HoldsBlocks (state S.Store conn.old) (state S.Store conn.new) result }
-        ensures refused { IsReasoned (state S.Store conn.old) (state S.Store conn.new) result }
-        ensures spelled { OnStore (state S.Store conn.old) (state S.Store conn.new) (λ trees. OnOk result
-            (AreAllSpelled trees (key_row db.0 key.now))) }
-        ensures damaged { IsHonest (state S.Store conn.old) (state S.Store conn.new) result
-            (λ trees. AreAllSpelled trees (key_row db.0 key.now)) }
-        ensures work { TellsHeld HoldsBlocks (state S.Store conn.old) (state S.Store conn.new) result
-            (λ content list. Works 0 0 (blocks_of list.items) 0 work.old work.new) }
-    {
+    ) -> Result<Vec<Posting>, RegFault> {
         key_postings(alloc, conn, work, db, key)
     }
 
-    /// The postings of the terms from `first` to `last`. Never accepted where a row of their blocks spells none, and `Damaged` only there.
     fn postings_between<S: Alter>(
         alloc: Global,
         conn: &mut Connection<S>,
@@ -183,20 +92,7 @@ impl Layout for Blocks {
         at: RegisterOf,
         first: &str,
         last: &str,
-    ) -> Result<Vec<Posting>, RegFault>
-        ensures call { Reading (state S.Store conn.old) (state S.Store conn.new) result (λ _. IsUnchanged) }
-        ensures value { TellsHeld HoldsBlocks (state S.Store conn.old) (state S.Store conn.new) result
-            (λ content list. (p : Posting) → Has list.items p ↔ IsPostingBetween content at first.now last.now p) }
-        ensures honest { IsHonestStorable HoldsBlocks (state S.Store conn.old) (state S.Store conn.new) result }
-        ensures refused { IsReasoned (state S.Store conn.old) (state S.Store conn.new) result }
-        ensures spelled { OnStore (state S.Store conn.old) (state S.Store conn.new) (λ trees. OnOk result
-            (AreListsSound packed_blocks trees at.db.0 at.index at.register first.now last.now)) }
-        ensures damaged { IsHonest (state S.Store conn.old) (state S.Store conn.new) result
-            (λ trees. AreListsSound packed_blocks trees at.db.0 at.index at.register first.now last.now) }
-        ensures work { TellsHeld HoldsBlocks (state S.Store conn.old) (state S.Store conn.new) result
-            (λ content _. (keys : List Key) → AreKeysBetween content at first.now last.now keys → Works 0 0
-            (sum_by (λ key. blocks_of (content at.db.0 key)) keys) 0 work.old work.new) }
-    {
+    ) -> Result<Vec<Posting>, RegFault> {
         blocks_between(alloc, conn, work, at, first, last)
     }
 

@@ -6,17 +6,19 @@ ghost use Rattle.sqlite.specs.Order.{Row as Columns, column};
 ghost use Rattle.sqlite.specs.declared.types.Value.TheVariants.{Int};
 ghost use Rattle.sqlite_rules.specs.Lists.{Has};
 ghost use Rattle.sqlite_sql.specs.Query.{as_count, limited};
-ghost use Rattle.zeb_register.specs.PackedBlocks.{AreShown, CountsTerm, IsRecordNumber, SpellsPart, count_row, first_two};
+ghost use Rattle.zeb_register.specs.PackedBlocks.{AreShown, CountsTerm, IsRecordNumber, SpellsPart, blocks_of, count_row, first_two};
 ghost use Rattle.zeb_register.specs.PrivatePackedRows.{AreSpelled};
 ghost use Rattle.zeb_blocks.specs.Blocks.{BlockSpells};
 ghost use Rattle.zeb_packed.specs.PrivatePackedRows.{SomeMalformed};
-ghost use Rattle.zeb_packed.specs.Answers.{Answers, IfDamaged};
-ghost use Rattle.zeb_packed.specs.Units.{HasMalformed, ListsUnits};
+ghost use Rattle.zeb_register.specs.Answers.{Answers, IfDamaged};
+ghost use Rattle.zeb_register.specs.Formats.{packed_blocks};
+ghost use Rattle.zeb_register.specs.PackedUnits.{HasMalformed};
+ghost use Rattle.zeb_register.specs.Units.{ListsUnits};
 ghost use Rattle.sqlite.specs.Held.{state};
 ghost use Rattle.sqlite.specs.State.{IsUnchanged};
 ghost use Rattle.zeb_register.specs.Calls.{Reading};
-ghost use Rattle.zeb_register.specs.Clauses.{IsReasoned, OnStore};
-ghost use Rattle.zeb_register.specs.Tallies.{Rises};
+ghost use Rattle.zeb_register.specs.Clauses.{IsReasoned, OnStore, Tells};
+ghost use Rattle.zeb_register.specs.Tallies.{Rises, Works};
 
 use crate::statements::packed::block_rows;
 use sqlite::{Alter, Connection, Row};
@@ -49,8 +51,10 @@ pub(crate) fn key_postings<S: Alter>(
         (λ _. IsUnchanged) }
     ensures lists { OnStore (state S.Store conn.old) (state S.Store conn.new) (λ trees. Answers
         (IfDamaged (HasMalformed trees db.0 key.now))
-        (λ list. ListsUnits trees db.0 key.now work.old work.new list.items) result) }
+        (λ list. ListsUnits packed_blocks trees db.0 key.now list.items) result) }
     ensures refused { IsReasoned (state S.Store conn.old) (state S.Store conn.new) result }
+    ensures work { Tells (state S.Store conn.old) (state S.Store conn.new) result
+        (λ _ list. Works 0 0 (blocks_of list.items) 0 work.old work.new) }
 {
     let at = RegisterOf {
         db,

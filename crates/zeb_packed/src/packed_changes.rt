@@ -13,11 +13,10 @@ ghost use Rattle.zeb_register.specs.Clauses.{InStore, Writes};
 ghost use Rattle.zeb_register.specs.PrivateKeyColumns.{IsOfNumbered, IsDictIn};
 ghost use Rattle.zeb_register.specs.PackedBlocks.{IsRecordNumber};
 ghost use Rattle.zeb_register.specs.Store.{blocks_tree, dict_tree};
-ghost use Rattle.zeb_packed.specs.PrivateUnitCalls.{IsBlockMalformed};
-ghost use Rattle.zeb_packed.specs.UnitChanges.{IsBlockIn, IsTold, PutsCount};
-ghost use Rattle.zeb_packed.specs.Answers.{Answers, IfDamaged};
+ghost use Rattle.zeb_register.specs.UnitChanges.{IsBlockIn, IsTold, PutsCount};
+ghost use Rattle.zeb_register.specs.Answers.{Answers, IfDamaged};
 ghost use Rattle.zeb_packed.specs.PrivatePackedChanges.{IfTold, IsClearFrom, PutsBlock, SpellsIn};
-ghost use Rattle.zeb_packed.specs.Units.{BlockReads, CountsAs};
+ghost use Rattle.zeb_register.specs.PackedUnits.{BlockReads, CountsAs, IsBlockMalformed};
 
 use crate::packed::{add_spelled, records_at};
 use crate::statements::packed_changes::{

@@ -2,16 +2,16 @@
 
 ghost use Rattle.std.specs.Prelude.{◌≡◌, ◌≢◌, ◌≤◌, ◌++◌, ◌∷◌, [], ℕ, List};
 ghost use Rattle.std.specs.Prelude.{map, true, false, IfOk, MatchOption, OnOk};
-ghost use Rattle.std.specs.declared.cmp.Ordering.TheVariants.{Less};
 ghost use Rattle.std.specs.List.{AllByRecursion};
 ghost use Rattle.zeb_blocks.specs.Blocks.{LiesIn};
 ghost use Rattle.zeb_blocks.specs.declared.postings.Posting.{Posting};
-ghost use Rattle.zeb_register.specs.Content.{AreStorablePlaces, IsStorablePlace, place_cmp, posting_at};
+ghost use Rattle.zeb_register.specs.Content.{posting_at};
 ghost use Rattle.zeb_register.specs.PrivatePackedRows.{IsInBlock};
-ghost use Rattle.zeb_packed.specs.PrivateUnitCalls.{units_of};
-ghost use Rattle.zeb_packed.specs.Answers.{Answers, IfDamaged};
+ghost use Rattle.zeb_register.specs.Formats.{packed_blocks};
+ghost use Rattle.zeb_register.specs.PrivateUnits.{units_of};
+ghost use Rattle.zeb_register.specs.Answers.{Answers, IfDamaged};
 ghost use Rattle.zeb_packed.specs.PrivatePackedChanges.{IsParted};
-ghost use Rattle.zeb_packed.specs.UnitChanges.{CountsOn, IsStorableChange, KeyUnits, TurnsUnit, TurnsUnits};
+ghost use Rattle.zeb_register.specs.UnitChanges.{CountsOn, IsStorableChange, KeyUnits, TurnsUnit, TurnsUnits};
 
 use crate::packed::MOST_RECORDS;
 use std::alloc::Global;
@@ -39,8 +39,8 @@ impl Held {
         requires few { self.records ≤ 999999999 }
         ensures turned { Answers
             (IfDamaged ((are : KeyUnits)
-            → ¬ TurnsUnits changes.now (units_of self.list.items self.records) are))
-            (λ held. TurnsUnits changes.now (units_of self.list.items self.records)
+            → ¬ TurnsUnits packed_blocks changes.now (units_of self.list.items self.records) are))
+            (λ held. TurnsUnits packed_blocks changes.now (units_of self.list.items self.records)
             (units_of held.list.items held.records))
             result }
         ensures lies { IfOk result (λ held. LiesIn self.block held.list.items) }
@@ -60,8 +60,8 @@ impl Held {
         requires few { self.now.records ≤ 999999999 }
         ensures turned { Answers
             (IfDamaged ((are : KeyUnits)
-            → ¬ TurnsUnit change.now (units_of self.now.list.items self.now.records) are))
-            (λ held. TurnsUnit change.now (units_of self.now.list.items self.now.records)
+            → ¬ TurnsUnit packed_blocks change.now (units_of self.now.list.items self.now.records) are))
+            (λ held. TurnsUnit packed_blocks change.now (units_of self.now.list.items self.now.records)
             (units_of held.list.items held.records))
             result }
         ensures lies { IfOk result (λ held. LiesIn self.now.block held.list.items) }
@@ -185,46 +185,4 @@ fn records_after(records: u64, old: &[Place], new: &[Place]) -> Option<u64>
         (false, true) => records.checked_sub(1),
         _ => Some(records),
     }
-}
-
-/// Refuses changes that no row has, as `Store`: one with a number of 0 or above 999,999,999, and one to places that don't rise.
-pub(crate) fn check_changes(changes: &[RecordChange<'_>]) -> Result<(), RegFault>
-    ensures stored { OnOk result (AllByRecursion IsStorableChange changes.now) }
-    ensures honest { result ≢ Err RegFault.Damaged }
-{
-    for change in changes {
-        check_numbers(change.sysno, change.new)?;
-    }
-    Ok(())
-}
-
-/// Refuses what no row has, as `Store`: a number that no record has, and places that don't rise.
-fn check_numbers(sysno: u64, places: &[Place]) -> Result<(), RegFault>
-    ensures number { OnOk result ((1 ≤ sysno) × (sysno ≤ 999999999)) }
-    ensures stored { OnOk result (AreStorablePlaces places.now) }
-    ensures honest { result ≢ Err RegFault.Damaged }
-{
-    if sysno == 0 || sysno > MOST_RECORDS {
-        return Err(RegFault::Store);
-    }
-    let mut before = Place { seq: 0, pos: 0 };
-    for place in places {
-        check_place(before, *place)?;
-        before = *place;
-    }
-    Ok(())
-}
-
-/// Refuses a place that isn't above the one before it, or that no column stores.
-fn check_place(before: Place, place: Place) -> Result<(), RegFault>
-    ensures ok { OnOk result (IsStorablePlace place × (place_cmp before place ≡ Less)) }
-    ensures honest { result ≢ Err RegFault.Damaged }
-{
-    stored(place.seq)?;
-    stored(place.pos)?;
-    let rises = before.seq < place.seq || (before.seq == place.seq && before.pos < place.pos);
-    if place.seq == 0 || place.pos == 0 || !rises {
-        return Err(RegFault::Store);
-    }
-    Ok(())
 }

@@ -1,24 +1,25 @@
 //! A key's places changed in many records, in packed registers: the row of a block is read and written once for the records of it that
 //! stand next to each other, and the row of `dict` once for all. A block that the key can have no row for is only written.
 
-ghost use Rattle.std.specs.Prelude.{IsTrue, IsUtf8, ◌≡◌, ◌≢◌, ◌<◌, ◌≤◌, ◌^◌, ◌∷◌, [], List, length, take, IfOk, OnOk};
+ghost use Rattle.std.specs.Prelude.{IsTrue, ◌≡◌, ◌<◌, ◌≤◌, ◌^◌, ◌∷◌, List, length, take, IfOk, OnOk};
 ghost use Rattle.std.specs.List.{AllByRecursion};
 ghost use Rattle.sqlite.specs.Held.{state};
 ghost use Rattle.zeb_register.specs.Calls.{GoesOn, Inside};
 ghost use Rattle.zeb_register.specs.Clauses.{ChangesTable, InStore};
+ghost use Rattle.zeb_register.specs.Formats.{packed_blocks};
 ghost use Rattle.zeb_register.specs.PrivatePackedRows.{IsInBlock};
 ghost use Rattle.zeb_register.specs.Store.{blocks_tree};
 ghost use Rattle.zeb_register.specs.Tallies.{Works};
 ghost use Rattle.zeb_packed.specs.PrivateUnitCalls.{AllowsBlocks, ChangesUnits, IsHonestRun, PutsRun, TurnsBlocks};
-ghost use Rattle.zeb_packed.specs.UnitChanges.{ChangesKey, IsStorableChange};
+ghost use Rattle.zeb_register.specs.UnitChanges.{ChangesKey, IsStorableChange};
 
 use crate::packed::counted;
 use crate::packed_changes::{Known, block_begin, block_list, block_write, dict_write, key_known};
-use crate::packed_parts::{Held, check_changes};
+use crate::packed_parts::Held;
 use sqlite::{Alter, Transaction};
 use std::alloc::Global;
 use zeb_keys::Key;
-use zeb_register::for_layouts::nothing_inside;
+use zeb_register::for_layouts::{check_changes, nothing_inside};
 use zeb_register::{DatabaseId, RecordChange, RegFault, Work};
 
 /// How many system numbers belong to one block.
@@ -35,9 +36,8 @@ pub(crate) fn changes_made<S: Alter>(
     ensures same { tx.new.conn.ghost_name ≡ tx.old.conn.ghost_name }
     ensures call { Inside (state S.Store tx.old.conn.now) (state S.Store tx.new.conn.now) result
         (λ _. GoesOn) }
-    ensures units { ChangesKey db.0 key.now changes.now
+    ensures units { ChangesKey packed_blocks db.0 key.now changes.now
         (state S.Store tx.old.conn.now) (state S.Store tx.new.conn.now) result }
-    ensures text { OnOk result (changes.now ≢ [] → IsUtf8 key.now.term) }
     ensures work { OnOk result (Works (length changes.now) (length changes.now)
         (length changes.now) (length changes.now) work.old work.new) }
 {
@@ -74,7 +74,6 @@ fn changes_put<S: Alter>(
     ensures call { Inside (state S.Store tx.old.conn.now) (state S.Store tx.new.conn.now) result (λ _. GoesOn) }
     ensures units { ChangesUnits db.0 key.now changes.now
         (state S.Store tx.old.conn.now) (state S.Store tx.new.conn.now) result }
-    ensures text { OnOk result (IsUtf8 key.now.term) }
 {
     let known = key_known(tx, db, key)?;
     let after = runs_put(tx, db, key, known, changes)?;

@@ -117,9 +117,10 @@ impl Source for FileReader<'_> {
 
     ghost has_failed = { λ s. s.failed };
 
-    ghost reads = { λ _. 0 };
-
     fn read(&mut self, buffer: &mut [u8]) -> Result<usize, ReadFailed> {
+        if self.failed {
+            return Err(ReadFailed);
+        }
         match passed_on(self.read_on(buffer)) {
             Ok(count) => {
                 if count == 0 && !buffer.is_empty() {

@@ -125,12 +125,10 @@ impl Source for ShelfReader<'_> {
 
     ghost has_failed = { λ s. s.failed };
 
-    ghost reads = { λ _. 0 };
-
     fn read(&mut self, buffer: &mut [u8]) -> Result<usize, ReadFailed> {
         match &mut self.bytes {
-            Some(bytes) => bytes.read(buffer),
-            None => {
+            Some(bytes) if !self.failed => bytes.read(buffer),
+            _ => {
                 self.failed = true;
                 Err(ReadFailed)
             }

@@ -36,9 +36,10 @@ pub use Rattle.std.specs.Vec.Iter.{into_iter_items}
 pub use Rattle.zeb_keys.specs.Registers.{register_text}
 pub use Rattle.zeb_keys.specs.declared.registers.Register.{Register}
 pub use Rattle.zeb_keys.specs.declared.registers.Register.TheVariants.{Word, Phrase, Number}
+pub use Rattle.zeb_marc.specs.Contents.{is_control}
 pub use Rattle.zeb_profile.specs.Canonical.{target_text, targets_text, pattern_text, canonical_text, canonical_line}
 pub use Rattle.zeb_profile.specs.Directives.{directive_of, all_of, att_of, directive_from, identifier_of, melm_of, one_word, store_of, two_words}
-pub use Rattle.zeb_profile.specs.Indexes.{names_in, first_spelling, first_told, identifier_pattern, identifier_told, index_names, path_told, store_path, pair_of, all_pairs, index_by_use, unit_targets, all_line_targets, all_told, further_pairs, has_pair, is_control_tag, melm_targets, melm_told, same_pair, index_by_name, name_told, use_name, fits}
+pub use Rattle.zeb_profile.specs.Indexes.{names_in, first_spelling, first_told, identifier_pattern, identifier_told, index_names, path_told, store_path, pair_of, all_pairs, index_by_use, unit_targets, all_line_targets, all_told, further_pairs, has_pair, melm_targets, melm_told, same_pair, index_by_name, name_told, use_name, fits}
 pub use Rattle.zeb_profile.specs.Laws.{CommentsSayNothing, AreSaid, FirstFaultIsAnswered, IsFirstFaulty, LacksSomething, said_alone, said_soundly, CanonicalTextReadsBack, IsProfile, OneTextSaysTheSame, SaysTheSame, text_with_store, without_store, StoreSaysNothingElse, EachTargetOnce, AreTargets, IsFaultyPart, IsFirstFaultyPart, TargetsAreRead, read_soundly}
 pub use Rattle.zeb_profile.specs.Lines.{is_blank, is_no_blank, without_leading_blanks, words_of, after_word, trimmed, without_trailing_blanks, says_something}
 pub use Rattle.zeb_profile.specs.Outcomes.{◌>>=◌, FailsPlaced, GivesPlaced}
@@ -46,7 +47,7 @@ pub use Rattle.zeb_profile.specs.PrivateIndexes.{numbered}
 pub use Rattle.zeb_profile.specs.PrivateKeys.{HoldsKeys, name_key, target_key, NotesNumber, NumbersNames, has_number, NotesSpellings, spelled_at, spelled_with, AddsKeys, held_with, ties_beside, spelled}
 pub use Rattle.zeb_profile.specs.PrivateOutcomes.{Fails}
 pub use Rattle.zeb_profile.specs.PrivateRepeats.{NotesAlso, NotesClashes, directive_beside, noted_clash}
-pub use Rattle.zeb_profile.specs.PrivateResolved.{AreResolved, any_pair, directives_on, first_pairs, is_all, is_melm_for, line_value, resolved}
+pub use Rattle.zeb_profile.specs.PrivateResolved.{AreResolved, any_pair, directives_on, first_pairs, is_all, is_melm_for, line_value, resolved, unit_pairs}
 pub use Rattle.zeb_profile.specs.PrivateSettled.{Settles}
 pub use Rattle.zeb_profile.specs.Profiles.{clash, directive_after, directives_in, first_clash, first_of, unless, at_line, has_room, is_identifier, is_store, lack_of, placed_after, placed_lines, telling_lines, ties_unknown, all_targets, first_lack, most_indexes, profile_of, targets_in}
 pub use Rattle.zeb_profile.specs.Words.{is_name, name_of, number_of, pattern_of, targets_of, same_name, same_register, same_target, target_names, distinct_names, is_colon, is_comma, is_name_byte, register_after_colon, register_of, target_of, targets_after, is_tag, is_use_number}

@@ -1,5 +1,5 @@
 -- What the lines of a profile lack together, by what each profile has once.
-use Rattle.zeb_profile.proofs.Cited.{◌≡◌, ◌≢◌, ℕ, List, [], ◌∷◌, Bool, true, false, ◌||◌, Option, Some, None, Result, Ok, Err, option_map, subst, refl, sym, ◌∙◌, ap, length, ◌<◌, ◌≤◌, ◌^◌, arith, le-leb, lt-leb, length-map, list_any, find, is_some, option_or, IsErr, IsErrAnd, Directive, Store, Identifier, Att, Melm, Placed, ProfileFault, ProfileFaultKind, NoIdentifier, NoStore, TooManyIndexes, UnknownIndex, first_spelling, first_told, identifier_pattern, identifier_told, index_names, path_told, store_path, UnitPattern, FailsPlaced, GivesPlaced, all_targets, directives_in, first_lack, has_room, is_identifier, is_store, lack_of, most_indexes, placed_lines, profile_of, ties_unknown, unless, target_names}
+use Rattle.zeb_profile.proofs.Cited.{◌≡◌, ℕ, List, [], ◌∷◌, Bool, true, false, ◌||◌, Option, Some, None, Result, Ok, Err, option_map, subst, refl, sym, ◌∙◌, ap, length, ◌<◌, ◌≤◌, arith, le-leb, lt-leb, length-map, list_any, find, is_some, option_or, IsErr, IsErrAnd, Directive, Store, Identifier, Att, Melm, Placed, ProfileFault, ProfileFaultKind, NoIdentifier, NoStore, TooManyIndexes, UnknownIndex, first_spelling, first_told, identifier_pattern, identifier_told, index_names, path_told, store_path, UnitPattern, FailsPlaced, GivesPlaced, all_targets, directives_in, first_lack, has_room, is_identifier, is_store, lack_of, most_indexes, placed_lines, profile_of, ties_unknown, unless, target_names}
 use Rattle.zeb_profile.specs.declared.directives.Directive.TheVariants.{All}
 
 pub lack_none : (o : Option Placed) (a b c : Bool) → first_lack o a b c ≡ None → (o ≡ None) × (a ≡ true) × (b ≡ true) × (c ≡ true)

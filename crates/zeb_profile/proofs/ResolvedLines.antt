@@ -1,5 +1,5 @@
 -- Lines with their targets resolved say what their directives say.
-use Rattle.zeb_profile.proofs.Cited.{◌≡◌, ℕ, List, [], ◌∷◌, ◌++◌, map, Bool, true, false, Option, Some, None, unwrap_or, refl, ap, sym, ◌∙◌, inl, inr, if◌then◌else◌, list_any, cases_Bool, map-append, list_any-append, Register, Directive, Store, Identifier, Att, Melm, Target, Line, all_line_targets, all_told, first_told, further_pairs, has_pair, index_names, is_control_tag, melm_targets, melm_told, pair_of, same_pair, unit_targets, AreResolved, any_pair, directives_on, first_pairs, is_all, is_melm_for, line_value, resolved, Placed, all_targets, directives_in, targets_in}
+use Rattle.zeb_profile.proofs.Cited.{◌≡◌, ℕ, List, [], ◌∷◌, ◌++◌, map, Bool, true, false, Option, Some, None, unwrap_or, refl, ap, sym, ◌∙◌, inl, inr, if◌then◌else◌, list_any, cases_Bool, map-append, list_any-append, Register, Directive, Store, Identifier, Att, Melm, Target, Line, all_line_targets, all_told, first_told, further_pairs, has_pair, index_names, is_control, melm_targets, melm_told, pair_of, same_pair, unit_targets, AreResolved, any_pair, directives_on, first_pairs, is_all, is_melm_for, line_value, resolved, Placed, all_targets, directives_in, targets_in, unit_pairs}
 use Rattle.zeb_profile.specs.declared.directives.Directive.TheVariants.{All}
 
 -- the pairs of a line that stands first, and that those behind it are resolved
@@ -64,27 +64,23 @@ if_mapped : {X Y : Type 0} (b : Bool) (f : X → Y) (xs : List X) → (if b then
 if_mapped true f xs = refl
 if_mapped false f xs = refl
 
--- the targets of a unit, by the lines
-abbrev pub pairs_by : List ℕ → List (ℕ × Register) → List (ℕ × Register) → List (ℕ × Register)
-pairs_by tag first further = first ++ further_pairs first (if is_control_tag tag then [] else further)
-
 pub unit_resolved : (names : List (List ℕ)) (lines : List Line) (directives : List Directive) (tag : List ℕ) (code : Option ℕ)
     → names ≡ index_names (directives_on lines) → AreResolved names lines → directives_on lines ≡ directives
-    → pairs_by tag (first_pairs (is_melm_for tag code) lines) (first_pairs is_all lines) ≡ unit_targets directives tag code
+    → unit_pairs tag code lines ≡ unit_targets directives tag code
 unit_resolved names lines directives tag code named all of =
     let melm = melm_resolved tag code names lines all in
-    let further : (if is_control_tag tag then [] else first_pairs is_all lines) ≡ map (pair_of names) (if is_control_tag tag then [] else all_line_targets (directives_on lines)) =
-    ap (λ (pairs : List (ℕ × Register)). if is_control_tag tag then [] else pairs) (all_resolved names lines all)
-    ∙ if_mapped (is_control_tag tag) (pair_of names) (all_line_targets (directives_on lines)) in
-    let joined : pairs_by tag (first_pairs (is_melm_for tag code) lines) (first_pairs is_all lines)
+    let further : (if is_control tag then [] else first_pairs is_all lines) ≡ map (pair_of names) (if is_control tag then [] else all_line_targets (directives_on lines)) =
+    ap (λ (pairs : List (ℕ × Register)). if is_control tag then [] else pairs) (all_resolved names lines all)
+    ∙ if_mapped (is_control tag) (pair_of names) (all_line_targets (directives_on lines)) in
+    let joined : unit_pairs tag code lines
     ≡ map (pair_of names) (melm_targets tag code (directives_on lines))
-    ++ further_pairs (map (pair_of names) (melm_targets tag code (directives_on lines))) (map (pair_of names) (if is_control_tag tag then [] else all_line_targets (directives_on lines))) =
+    ++ further_pairs (map (pair_of names) (melm_targets tag code (directives_on lines))) (map (pair_of names) (if is_control tag then [] else all_line_targets (directives_on lines))) =
     rw (melm, further) refl in
     let whole : map (pair_of names) (melm_targets tag code (directives_on lines))
-    ++ further_pairs (map (pair_of names) (melm_targets tag code (directives_on lines))) (map (pair_of names) (if is_control_tag tag then [] else all_line_targets (directives_on lines)))
+    ++ further_pairs (map (pair_of names) (melm_targets tag code (directives_on lines))) (map (pair_of names) (if is_control tag then [] else all_line_targets (directives_on lines)))
     ≡ unit_targets (directives_on lines) tag code =
     ap (λ (known : List (List ℕ)). map (pair_of known) (melm_targets tag code (directives_on lines))
-    ++ further_pairs (map (pair_of known) (melm_targets tag code (directives_on lines))) (map (pair_of known) (if is_control_tag tag then [] else all_line_targets (directives_on lines)))) named in
+    ++ further_pairs (map (pair_of known) (melm_targets tag code (directives_on lines))) (map (pair_of known) (if is_control tag then [] else all_line_targets (directives_on lines)))) named in
     joined ∙ whole ∙ ap (λ ds. unit_targets ds tag code) of
 
 pub pair_held : (names : List (List ℕ)) (lines : List Line) (directives : List Directive) (pair : ℕ × Register)

@@ -1,5 +1,5 @@
 -- What a `store` line doesn't touch.
-use Rattle.zeb_profile.proofs.Cited.{◌≡◌, ℕ, List, [], ◌∷◌, ◌++◌, map, Option, None, unwrap_or, refl, ap, sym, ◌∙◌, if◌then◌else◌, Directive, Store, Identifier, Att, Melm, Target, flat_map, position, option_and_then, option_or, canonical_line, canonical_text, all_line_targets, all_told, first_spelling, first_told, further_pairs, identifier_told, index_by_name, index_names, is_control_tag, melm_targets, melm_told, name_told, names_in, pair_of, use_name, SaysTheSame, StoreSaysNothingElse, without_store, Register, same_name, all_targets, targets_in}
+use Rattle.zeb_profile.proofs.Cited.{◌≡◌, ℕ, List, [], ◌∷◌, ◌++◌, map, Option, None, unwrap_or, refl, ap, sym, ◌∙◌, if◌then◌else◌, Directive, Store, Identifier, Att, Melm, Target, flat_map, position, option_and_then, option_or, canonical_line, canonical_text, all_line_targets, all_told, first_spelling, first_told, further_pairs, identifier_told, index_by_name, index_names, is_control, melm_targets, melm_told, name_told, names_in, pair_of, use_name, SaysTheSame, StoreSaysNothingElse, without_store, Register, same_name, all_targets, targets_in}
 use Rattle.zeb_profile.specs.declared.directives.Directive.TheVariants.{All}
 
 -- a function that goes over a list and passes over `store` lines
@@ -36,7 +36,7 @@ index_names-without_store ds = rw (spellings-without_store ds, all_targets-witho
 -- the targets of a unit, by the names of the indexes and the two lists of targets
 abbrev targets_by : List ℕ → List (List ℕ) → List Target → List Target → List (ℕ × Register)
 targets_by tag names melm all =
-    map (pair_of names) melm ++ further_pairs (map (pair_of names) melm) (map (pair_of names) (if is_control_tag tag then [] else all))
+    map (pair_of names) melm ++ further_pairs (map (pair_of names) melm) (map (pair_of names) (if is_control tag then [] else all))
 
 says_the_same : (ds : List Directive) → SaysTheSame (without_store ds) ds
 says_the_same ds =

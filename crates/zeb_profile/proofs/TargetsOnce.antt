@@ -1,5 +1,5 @@
 -- The targets of a unit are each there once.
-use Rattle.zeb_profile.proofs.Cited.{◌≡◌, ℕ, ◌+◌, ◌==◌, List, [], ◌∷◌, ◌++◌, Bool, true, false, not, ◌&&◌, ◌||◌, Option, Ok, Err, refl, ap, arith, sym, ◌∙◌, append_assoc, cond, map, inl, inr, subst, if◌then◌else◌, AllByRecursion, filter, list_any, position_or_len, slice_split, and_from, and_parts, cases_Bool, eq-eqb, eqb-false, eqb-true, false_from_ne_true, ne_eqb, or_parts, list_any-append, any-filter_same, Directive, Store, Identifier, Att, Melm, AllUnits, Target, DuplicateTarget, Register, Word, Phrase, Number, targets_text, all_line_targets, first_spelling, fits, further_pairs, index_names, is_control_tag, melm_targets, pair_of, same_pair, EachTargetOnce, all_targets, distinct_names, is_comma, same_name, same_register, same_target, target_of, targets_after, targets_of}
+use Rattle.zeb_profile.proofs.Cited.{◌≡◌, ℕ, ◌+◌, ◌==◌, List, [], ◌∷◌, ◌++◌, Bool, true, false, not, ◌&&◌, ◌||◌, Option, Ok, Err, refl, ap, arith, sym, ◌∙◌, append_assoc, cond, map, inl, inr, subst, if◌then◌else◌, AllByRecursion, filter, list_any, position_or_len, slice_split, and_from, and_parts, cases_Bool, eq-eqb, eqb-false, eqb-true, false_from_ne_true, ne_eqb, or_parts, list_any-append, any-filter_same, Directive, Store, Identifier, Att, Melm, AllUnits, Target, DuplicateTarget, Register, Word, Phrase, Number, targets_text, all_line_targets, first_spelling, fits, further_pairs, index_names, is_control, melm_targets, pair_of, same_pair, EachTargetOnce, all_targets, distinct_names, is_comma, same_name, same_register, same_target, target_of, targets_after, targets_of}
 use Rattle.std.specs.List.{IsDistinct}
 use Rattle.zeb_profile.proofs.Numbering.{first_spelling-same, same_name-along, same_name-refl, same_name-sym}
 use Rattle.zeb_profile.proofs.ProfilesBack.{profile_sound}
@@ -225,6 +225,6 @@ each_target_once ds tag code profile =
     let sound = profile_sound ds profile in
     let names = index_names ds in
     let known = all_known ds in
-    joined_once names (melm_targets tag code ds) (if is_control_tag tag then [] else all_line_targets ds)
+    joined_once names (melm_targets tag code ds) (if is_control tag then [] else all_line_targets ds)
     (melm_line names tag code ds sound.read known)
-    (further_line names (is_control_tag tag) (all_line_targets ds) (all_line names ds sound.read known))
+    (further_line names (is_control tag) (all_line_targets ds) (all_line names ds sound.read known))

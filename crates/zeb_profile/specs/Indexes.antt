@@ -2,10 +2,11 @@
 -- Own rules of this project, which the manual leaves open or has otherwise: which indexes there are, their order and their spelling; that
 -- `all` adds to every unit of a data field what its `melm` line lacks, so that a unit has each target once; and what `store` and
 -- `identifier` say.
-use Rattle.std.specs.Prelude.{ℕ, Bool, true, false, not, ◌&&◌, List, [], ◌∷◌, ◌++◌, ◌==◌, map, filter, Option, Some, None, unwrap_or, slice_index, if◌then◌else◌}
+use Rattle.std.specs.Prelude.{ℕ, Bool, true, false, not, ◌&&◌, List, [], ◌∷◌, ◌++◌, ◌==◌, map, filter, Option, Some, None, unwrap_or, if◌then◌else◌}
 use Rattle.std.specs.List.{find, list_any, flat_map, position, position_or_len}
 use Rattle.std.specs.Option.{option_and_then, option_or}
 use Rattle.std.specs.Str.{bytes_eq}
+use Rattle.zeb_marc.specs.Contents.{is_control}
 use Rattle.zeb_profile.specs.declared.directives.Directive.{Directive}
 use Rattle.zeb_profile.specs.declared.directives.Directive.TheVariants.{Store, Identifier, Att, Melm, All}
 use Rattle.zeb_profile.specs.declared.directives.Target.{Target}
@@ -83,10 +84,6 @@ all_told _ = None
 abbrev pub all_line_targets : List Directive → List Target
 all_line_targets directives = unwrap_or (first_told all_told directives) []
 
--- the tag of a control field begins with two zeros (48)
-abbrev pub is_control_tag : List ℕ → Bool
-is_control_tag tag = (slice_index tag 0 == 48) && (slice_index tag 1 == 48)
-
 -- the pairs of the second list that the first lacks
 abbrev pub further_pairs : List (ℕ × Register) → List (ℕ × Register) → List (ℕ × Register)
 further_pairs first second = filter (λ pair. not (list_any (same_pair pair) first)) second
@@ -96,7 +93,7 @@ abbrev pub unit_targets : List Directive → List ℕ → Option ℕ → List (�
 unit_targets directives tag code =
     let pair = pair_of (index_names directives) in
     let first = map pair (melm_targets tag code directives) in
-    let further = map pair (if is_control_tag tag then [] else all_line_targets directives) in
+    let further = map pair (if is_control tag then [] else all_line_targets directives) in
     first ++ further_pairs first further
 
 -- the pattern of the `identifier` line

@@ -21,7 +21,8 @@ pub(crate) fn canonical(alloc: Global, placed: &[Placed]) -> Result<String, Allo
 }
 
 fn push_line(text: &mut String, directive: &Directive) -> Result<(), AllocError>
-    ensures { OnOk result (string_bytes text.new ≡ string_bytes text.old ++ canonical_line directive.now) }
+    ensures { OnOk result (string_bytes text.new
+        ≡ string_bytes text.old ++ canonical_line directive.now) }
 {
     match directive {
         Directive::Store(_) => Ok(()),
@@ -44,7 +45,8 @@ fn push_line(text: &mut String, directive: &Directive) -> Result<(), AllocError>
 }
 
 fn push_targets(text: &mut String, targets: &[Target]) -> Result<(), AllocError>
-    ensures { OnOk result (string_bytes text.new ≡ string_bytes text.old ++ targets_text targets.now) }
+    ensures { OnOk result (string_bytes text.new
+        ≡ string_bytes text.old ++ targets_text targets.now) }
 {
     match targets.split_first() {
         None => Ok(()),
@@ -60,7 +62,8 @@ fn push_targets(text: &mut String, targets: &[Target]) -> Result<(), AllocError>
 }
 
 fn push_target(text: &mut String, target: &Target) -> Result<(), AllocError>
-    ensures { OnOk result (string_bytes text.new ≡ string_bytes text.old ++ target_text target.now) }
+    ensures { OnOk result (string_bytes text.new
+        ≡ string_bytes text.old ++ target_text target.now) }
 {
     let name = target.name.as_str();
     let register = target.register;

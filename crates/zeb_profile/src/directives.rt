@@ -1,6 +1,7 @@
 //! What one line of a profile says: the directives, and how each is read from its words.
 
 ghost use Rattle.std.specs.Prelude.{◌≡◌, List, ℕ, map, IfOk, option_map, string_bytes};
+ghost use Rattle.std.specs.Option.{option_copied};
 ghost use Rattle.std.specs.List.{list_all, slice_split};
 ghost use Rattle.std.specs.Char.{is_ascii_digit};
 ghost use Rattle.zeb_profile.specs.PrivateKeys.{target_key};
@@ -114,7 +115,8 @@ impl TargetList {
 }
 
 fn split_commas(alloc: Global, word: &str) -> Result<Vec<&str>, AllocError>
-    ensures { IfOk result (λ parts. map (λ part. part.now) parts.items ≡ slice_split is_comma word.now) }
+    ensures { IfOk result
+        (λ parts. map (λ part. part.now) parts.items ≡ slice_split is_comma word.now) }
 {
     word.split(',').collect(alloc)
 }
@@ -175,7 +177,7 @@ impl Directive {
 
     /// The pattern of an `identifier` line.
     pub fn identifier(&self) -> Option<&UnitPattern>
-        ensures { option_map (λ pattern. pattern.now) result ≡ identifier_told self.now }
+        ensures { option_copied result ≡ identifier_told self.now }
     {
         match self {
             Directive::Identifier(pattern) => Some(pattern),
@@ -185,7 +187,7 @@ impl Directive {
 
     /// The path of a `store` line.
     pub fn store(&self) -> Option<&str>
-        ensures { option_map (λ path. path.now) result ≡ path_told self.now }
+        ensures { option_copied result ≡ path_told self.now }
     {
         match self {
             Directive::Store(path) => Some(path.as_str()),
@@ -195,7 +197,7 @@ impl Directive {
 
     /// The name that the line ties to a use attribute.
     pub fn tied_to(&self, number: u32) -> Option<&Name>
-        ensures { option_map (λ name. name.now) result ≡ name_told number self.now }
+        ensures { option_copied result ≡ name_told number self.now }
     {
         match self {
             Directive::Att(tied, name) if *tied == number => Some(name),
@@ -222,7 +224,7 @@ impl Directive {
 
 /// The only word of a text.
 fn only_word(text: &str) -> Option<&str>
-    ensures { option_map (λ word. word.now) result ≡ one_word (words_of text.now) }
+    ensures { option_copied result ≡ one_word (words_of text.now) }
 {
     let (word, rest) = first_word(text)?;
     if first_word(rest).is_some() {
@@ -260,7 +262,8 @@ fn are_digits(word: &[u8]) -> bool
 }
 
 fn read_store(alloc: Global, rest: &str) -> Result<Directive, ProfileFaultKind>
-    ensures { Gives (λ directive. directive) result (store_of (words_of rest.now) (trimmed rest.now)) }
+    ensures { Gives
+        (λ directive. directive) result (store_of (words_of rest.now) (trimmed rest.now)) }
 {
     first_word(rest).ok_or(ProfileFaultKind::Directive)?;
     Ok(Directive::Store(StorePath {

@@ -39,7 +39,8 @@ fn number_name<'a>(
 ) -> Result<(), AllocError>
     requires keys { HoldsKeys keys.old (map name_key names.old.items) }
     requires spelling { same_name (spelled spellings.now name.now) name.now ≡ true }
-    ensures names { OnOk result (names.new.items ≡ numbered (spelled spellings.now) names.old.items name.now) }
+    ensures names { OnOk result (names.new.items
+        ≡ numbered (spelled spellings.now) names.old.items name.now) }
     ensures keys { OnOk result (HoldsKeys keys.new (map name_key names.new.items)) }
 {
     let key = name.key(alloc)?;
@@ -63,7 +64,9 @@ fn spelling_of<'a>(spellings: &BTreeMap<String, &'a Name>, key: &str, name: &'a 
 
 /// Each name as the first line that has it spells it, at its key.
 fn first_spellings(alloc: Global, placed: &[Placed]) -> Result<BTreeMap<String, &Name>, AllocError>
-    ensures { IfOk result (λ spellings. (name : List ℕ) → spelled spellings name ≡ first_spelling_of (directives_in placed.now) name) }
+    ensures { IfOk result
+        (λ spellings. (name : List ℕ)
+        → spelled spellings name ≡ first_spelling_of (directives_in placed.now) name) }
 {
     let mut spellings: BTreeMap<String, &Name> = BTreeMap::new(alloc);
     for line in placed {
@@ -91,7 +94,8 @@ fn note_target_spellings<'a>(
     spellings: &mut BTreeMap<String, &'a Name>,
     targets: &'a [Target],
 ) -> Result<(), AllocError>
-    ensures { OnOk result (NotesSpellings spellings.old spellings.new (map (λ target. target.name) targets.now)) }
+    ensures { OnOk result
+        (NotesSpellings spellings.old spellings.new (map (λ target. target.name) targets.now)) }
 {
     for target in targets {
         note_spelling(alloc, spellings, &target.name)?;

@@ -28,3 +28,4 @@ pub use laws::{
 pub use lookups::Profile;
 pub use patterns::UnitPattern;
 pub use unit_targets::Targets;
+pub use zeb_keys::Register;

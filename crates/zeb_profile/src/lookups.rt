@@ -1,6 +1,7 @@
 //! A profile that was read, and what may be asked of it.
 
-ghost use Rattle.std.specs.Prelude.{◌≡◌, length, Some, slice_get, option_map};
+ghost use Rattle.std.specs.Prelude.{◌≡◌, length, Some, slice_get};
+ghost use Rattle.std.specs.Option.{option_copied};
 ghost use Rattle.zeb_profile.specs.Indexes as indexes;
 ghost use Rattle.zeb_profile.specs.Canonical.{canonical_text};
 ghost use Rattle.zeb_profile.specs.Laws.{IsProfile, SaysTheSame};
@@ -49,8 +50,11 @@ impl Model for Profile {
     ghost invariant = { λ profile. let directives = map (λ line. line.directive) profile.lines.items in
         (profile.names.items ≡ indexes.index_names directives)
         × (length profile.names.items < 2 ^ 32)
-        × (map {B = Directive × List (ℕ × Register)} (λ line. (line.directive, line.pairs.items)) profile.lines.items
-        ≡ map {B = Directive × List (ℕ × Register)} (λ directive. (directive, map (indexes.pair_of profile.names.items) (targets_in directive))) directives)
+        × (map {B = Directive × List (ℕ × Register)}
+        (λ line. (line.directive, line.pairs.items)) profile.lines.items
+        ≡ map {B = Directive × List (ℕ × Register)}
+        (λ directive. (directive, map (indexes.pair_of profile.names.items) (targets_in directive)))
+        directives)
         × (indexes.identifier_pattern directives ≡ Some profile.identifier)
         × (indexes.store_path directives ≡ Some (string_bytes profile.store))
         × (string_bytes profile.text ≡ canonical_text directives)
@@ -97,7 +101,7 @@ impl Profile {
 
     /// The name of an index as the first line that has it spells it.
     pub fn index_name(&self, index: u32) -> Option<&str>
-        ensures { option_map (λ name. name.now) result ≡ slice_get (indexes.index_names self.now) index }
+        ensures { option_copied result ≡ slice_get (indexes.index_names self.now) index }
     {
         Some(self.names.get(index as usize)?.as_str())
     }
@@ -156,7 +160,8 @@ impl Profile {
 
     /// A law: two profiles that show one text say the same of indexes, units and identifiers.
     pub fn text_tells_all(&self, other: &Profile)
-        ensures { canonical_text self.now ≡ canonical_text other.now → SaysTheSame self.now other.now }
+        ensures { canonical_text self.now ≡ canonical_text other.now
+            → SaysTheSame self.now other.now }
     {
         self.is_of_some_text();
         other.is_of_some_text();

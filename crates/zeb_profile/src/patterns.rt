@@ -1,13 +1,12 @@
 //! Patterns of units: a tag, or a tag and a subfield code.
 
 ghost use Rattle.std.specs.Prelude.{◌≡◌};
-ghost use Rattle.std.specs.List.{list_all};
-ghost use Rattle.std.specs.Char.{is_ascii_alphanumeric};
 ghost use Rattle.zeb_profile.specs.Words.{pattern_of};
 ghost use Rattle.zeb_profile.specs.Indexes.{fits as pattern_fits};
 
 use crate::ProfileFaultKind;
 use std::fmt;
+use zeb_marc::is_tag;
 
 /// The place of a subfield or field in a record: a tag, and a code where only subfields with that code are meant.
 #[derive(Clone, Copy, Debug, PartialEq, Eq)]
@@ -28,6 +27,7 @@ impl UnitPattern {
     }
 
     /// Reads a pattern as a profile spells it, `245` or `245$a`; `Pattern` where the word is none.
+    #[tactic(auto, unfolding(zeb_marc::specs::Directory::has_tag_bytes))]
     pub(crate) fn read(word: &str) -> Result<UnitPattern, ProfileFaultKind>
         ensures { result ≡ pattern_of word.now }
     {
@@ -45,12 +45,6 @@ impl UnitPattern {
             _ => Err(ProfileFaultKind::Pattern),
         }
     }
-}
-
-fn is_tag(tag: &[u8]) -> bool
-    ensures { result ≡ list_all is_ascii_alphanumeric tag.now }
-{
-    tag.iter().all(|byte| byte.is_ascii_alphanumeric())
 }
 
 impl fmt::Display for UnitPattern {

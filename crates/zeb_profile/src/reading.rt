@@ -93,7 +93,8 @@ pub(crate) fn settle<'a>(
 ) -> Result<Settled<'a>, ProfileFault>
     requires { index_count ≡ length (index_names (directives_in placed.now)) }
     ensures settled { IfOk result (λ settled. Settles placed.now settled) }
-    ensures lacks { IfErr result (λ fault. FailsPlaced fault (unless (lack_of placed.now) placed.now)) }
+    ensures lacks { IfErr result
+        (λ fault. FailsPlaced fault (unless (lack_of placed.now) placed.now)) }
 {
     if let Some(line) = unknown_use(alloc, placed)? {
         return Err(ProfileFault::at_line(line, ProfileFaultKind::UnknownIndex));

@@ -29,7 +29,9 @@ pub(crate) fn resolve(
 ) -> Result<Vec<Line>, AllocError>
     requires few { length names.now < 2 ^ 32 }
     requires names { names.now ≡ index_names (directives_in placed.items) }
-    ensures { IfOk result (λ lines. map line_value lines.items ≡ map (resolved names.now) (directives_in placed.items)) }
+    ensures { IfOk result
+        (λ lines. map line_value lines.items
+        ≡ map (resolved names.now) (directives_in placed.items)) }
 {
     let numbers = numbers_of(alloc, names)?;
     let mut lines: Vec<Line> = Vec::new(alloc);
@@ -91,7 +93,9 @@ fn pair_of(
     target: &Target,
 ) -> Result<(u32, Register), AllocError>
     requires { has_number numbers.now target.now.name ≡ true }
-    ensures { IfOk result (λ pair. (names : List (List ℕ)) → NumbersNames numbers.now names → pair ≡ pair_in names target.now) }
+    ensures { IfOk result
+        (λ pair. (names : List (List ℕ)) → NumbersNames numbers.now names
+        → pair ≡ pair_in names target.now) }
 {
     let key = target.name.key(alloc)?;
     let number = *numbers.get(key.as_str()).unwrap();

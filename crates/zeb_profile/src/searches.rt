@@ -1,6 +1,7 @@
 //! Searches through the directives of a profile.
 
-ghost use Rattle.std.specs.Prelude.{◌≡◌, option_map};
+ghost use Rattle.std.specs.Prelude.{◌≡◌};
+ghost use Rattle.std.specs.Option.{option_copied};
 ghost use Rattle.zeb_profile.specs.Indexes as indexes;
 ghost use Rattle.zeb_profile.specs.PrivateResolved.{directives_on};
 ghost use Rattle.zeb_profile.specs.Profiles.{directives_in};
@@ -12,7 +13,7 @@ use crate::resolved::Line;
 
 /// The name that a use attribute is tied to.
 pub(crate) fn use_name(lines: &[Line], number: u32) -> Option<&Name>
-    ensures { option_map (λ name. name.now) result ≡ indexes.use_name number (directives_on lines.now) }
+    ensures { option_copied result ≡ indexes.use_name number (directives_on lines.now) }
 {
     for line in lines {
         let name = line.directive.tied_to(number);
@@ -25,7 +26,7 @@ pub(crate) fn use_name(lines: &[Line], number: u32) -> Option<&Name>
 
 /// The pattern of the `identifier` line.
 pub(crate) fn identifier_pattern(placed: &[Placed]) -> Option<&UnitPattern>
-    ensures { option_map (λ pattern. pattern.now) result ≡ indexes.identifier_pattern (directives_in placed.now) }
+    ensures { option_copied result ≡ indexes.identifier_pattern (directives_in placed.now) }
 {
     for line in placed {
         let pattern = line.directive.identifier();
@@ -38,7 +39,7 @@ pub(crate) fn identifier_pattern(placed: &[Placed]) -> Option<&UnitPattern>
 
 /// The path of the `store` line.
 pub(crate) fn store_path(placed: &[Placed]) -> Option<&str>
-    ensures { option_map (λ path. path.now) result ≡ indexes.store_path (directives_in placed.now) }
+    ensures { option_copied result ≡ indexes.store_path (directives_in placed.now) }
 {
     for line in placed {
         let path = line.directive.store();

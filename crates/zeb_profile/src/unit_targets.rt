@@ -1,11 +1,12 @@
 //! The targets of a unit, one after the other.
 
-ghost use Rattle.std.specs.Prelude.{◌≡◌, ◌++◌, ◌∷◌, [], if◌then◌else◌, IfSome, IfNone};
-ghost use Rattle.zeb_profile.specs.Indexes.{further_pairs, is_control_tag as control_tag};
-ghost use Rattle.zeb_profile.specs.PrivateResolved.{first_pairs, is_all, is_melm_for};
+ghost use Rattle.std.specs.Prelude.{◌≡◌, ◌∷◌, [], IfSome, IfNone};
+ghost use Rattle.zeb_profile.specs.Indexes.{further_pairs};
+ghost use Rattle.zeb_profile.specs.PrivateResolved.{unit_pairs};
 
 use crate::resolved::{Line, all_pairs, is_among, melm_pairs};
 use zeb_keys::Register;
+use zeb_marc::is_control_tag;
 
 /// The targets of a unit, each pair of an index number and a register once.
 #[derive(Drop)]
@@ -23,9 +24,7 @@ impl<'a> Targets<'a> {
     /// The targets of the first `melm` line that fits a unit, and then, for a data field, those of the `all` line that are
     /// not among them.
     pub(crate) fn of_unit(lines: &'a [Line], tag: &[u8; 3], code: Option<u8>) -> Targets<'a>
-        ensures { let first = first_pairs (is_melm_for tag.now code) lines.now in
-            let further = (if control_tag tag.now then [] else first_pairs is_all lines.now) in
-            targets_left result ≡ first ++ further_pairs first further }
+        ensures { targets_left result ≡ unit_pairs tag.now code lines.now }
     {
         let first = melm_pairs(lines, tag, code);
         let all = if is_control_tag(tag) {
@@ -39,13 +38,6 @@ impl<'a> Targets<'a> {
             all,
         }
     }
-}
-
-/// Whether a tag is a control field's: it begins with two zeros.
-fn is_control_tag(tag: &[u8; 3]) -> bool
-    ensures { result ≡ control_tag tag.now }
-{
-    tag[0] == b'0' && tag[1] == b'0'
 }
 
 impl<'a> Iterator for Targets<'a> {

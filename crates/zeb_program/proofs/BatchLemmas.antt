@@ -1,5 +1,5 @@
--- A change or a scan that a line names, from what is said of the rest of the line.
-use Rattle.std.proofs.Common.{◌≡◌, ◌≢◌, List, [], ◌∷◌, ℕ, get_or, drop, length, arith, ap, sym, subst, ◌∙◌, refl}
+-- A change, a find or a scan that a line names, from what is said of the rest of the line.
+use Rattle.std.proofs.Common.{inl, inr, ◌≡◌, ◌≢◌, List, [], ◌∷◌, ℕ, get_or, drop, length, arith, ap, sym, subst, ◌∙◌, refl}
 use Rattle.std.specs.Prelude.{Result, Ok, Err, Option, Some, None, IfOk, IsOk, MatchOption, codes, map}
 use Rattle.std.specs.declared.alloc.AllocError.{AllocError}
 use Rattle.hex.specs.Hex.{decode_of}
@@ -8,8 +8,8 @@ use Rattle.zeb_engine.specs.declared.commands.Command.{Command}
 use Rattle.zeb_engine.specs.declared.commands.Command.TheVariants.{Init, Check, Reindex, Upgrade, Create, Drop, Stat, Dump, Change, Find, Scan, Analyse}
 use Rattle.zeb_change.specs.declared.settings.Kind.{Kind}
 use Rattle.zeb_change.specs.declared.settings.Kind.TheVariants.{Update, Delete, Adelete}
-use Rattle.zeb_program.specs.Batches.{Names, HasChange, HasScan, kind_word}
-use Rattle.zeb_program.specs.PrivateBatches.{IsChange, IsScan}
+use Rattle.zeb_program.specs.Batches.{Names, HasChange, HasFind, HasPage, HasScan, kind_word}
+use Rattle.zeb_program.specs.PrivateBatches.{IsChange, IsFind, IsPage, IsScan}
 use Rattle.zeb_program.specs.Words.{first_word, after_first_word}
 
 -- two texts that begin otherwise differ
@@ -61,6 +61,11 @@ no_find Update e = apart (codes "update") (codes "find") (λ l. omega (arith, l)
 no_find Delete e = apart (codes "delete") (codes "find") (λ l. omega (arith, l)) e
 no_find Adelete e = apart (codes "adelete") (codes "find") (λ l. omega (arith, l)) e
 
+no_page : (k : Kind) → kind_word k ≡ codes "page" → ⊥
+no_page Update e = apart (codes "update") (codes "page") (λ l. omega (arith, l)) e
+no_page Delete e = apart (codes "delete") (codes "page") (λ l. omega (arith, l)) e
+no_page Adelete e = apart (codes "adelete") (codes "page") (λ l. omega (arith, l)) e
+
 no_scan : (k : Kind) → kind_word k ≡ codes "scan" → ⊥
 no_scan Update e = apart (codes "update") (codes "scan") (λ l. omega (arith, l)) e
 no_scan Delete e = apart (codes "delete") (codes "scan") (λ l. omega (arith, l)) e
@@ -69,6 +74,16 @@ no_scan Adelete e = apart (codes "adelete") (codes "scan") (λ l. omega (arith, 
 has_bytes : (r : Result (List ℕ) FromHexError) (files : List (List ℕ)) → r ∷ [] ≡ map Ok files → IsOk r
 has_bytes r [] e = absurd cc
 has_bytes r (file ∷ files) e = let same : r ≡ Ok file = cc in rw same refl
+
+-- what is said of the rest of a line, said of the line
+named_by : (Has : List ℕ → Type 0) (Is : List ℕ → Command → Type 0) (t rest : List ℕ) (r : Result (Option Command) AllocError) → rest ≡ after_first_word t
+    → (¬ Has (after_first_word t) → (c : Command) → ¬ Names t c) → ((c : Command) → Is (after_first_word t) c → Names t c)
+    → IfOk r (λ found. MatchOption found (¬ Has rest) (Is rest)) → IfOk r (λ found. MatchOption found ((c : Command) → ¬ Names t c) (Names t))
+named_by Has Is t rest (Err e) same none some h = h
+named_by Has Is t rest (Ok None) same none some h = none (subst (λ x. ¬ Has x) same h)
+named_by Has Is t rest (Ok (Some c)) same none some h = some c (subst (λ x. Is x c) same h)
+
+-- ---- a change
 
 -- where no change is named, no command is, since the first word is a change's
 unnamed : (k : Kind) (t : List ℕ) → first_word t ≡ kind_word k → ¬ HasChange (after_first_word t) → (c : Command) → ¬ Names t c
@@ -81,30 +96,73 @@ unnamed k t word lacks (Drop name) names = no_drop k (sym word ∙ names.0)
 unnamed k t word lacks (Stat name) names = no_stat k (sym word ∙ names.0)
 unnamed k t word lacks (Dump name) names = no_dump k (sym word ∙ names.0)
 unnamed k t word lacks (Change kind database files) names = lacks record { name = names.1.name.0; mark = names.1.mark; bytes = has_bytes (decode_of (drop 4 (after_first_word (after_first_word t)))) (map (λ file. file.items) files.items) names.1.bytes }
-unnamed k t word lacks (Find database query first count) names = no_find k (sym word ∙ names.0)
+unnamed k t word lacks (Find database query first count) (inl names) = no_find k (sym word ∙ names.0)
+unnamed k t word lacks (Find database query first count) (inr names) = no_page k (sym word ∙ names.0)
 unnamed k t word lacks (Scan database query number position) names = no_scan k (sym word ∙ names.0)
 unnamed k t word lacks (Analyse files) names = names
 
 named : (k : Kind) (t : List ℕ) → first_word t ≡ kind_word k → (c : Command) → IsChange k (after_first_word t) c → Names t c
-named k t word Init h = absurd h
-named k t word Check h = absurd h
-named k t word Reindex h = absurd h
-named k t word Upgrade h = absurd h
-named k t word (Create name) h = absurd h
-named k t word (Drop name) h = absurd h
-named k t word (Stat name) h = absurd h
-named k t word (Dump name) h = absurd h
 named k t word (Change kind database files) (same, h) = (word ∙ ap kind_word (sym same), h)
-named k t word (Find database query first count) h = absurd h
-named k t word (Scan database query number position) h = absurd h
-named k t word (Analyse files) h = absurd h
+named k t word _ h = absurd h
 
 pub names_change : (k : Kind) (t rest : List ℕ) (r : Result (Option Command) AllocError) → first_word t ≡ kind_word k → rest ≡ after_first_word t
     → IfOk r (λ found. MatchOption found (¬ HasChange rest) (IsChange k rest))
     → IfOk r (λ found. MatchOption found ((c : Command) → ¬ Names t c) (Names t))
-names_change k t rest (Err e) word same h = h
-names_change k t rest (Ok None) word same h = unnamed k t word (subst (λ x. ¬ HasChange x) same h)
-names_change k t rest (Ok (Some c)) word same h = named k t word c (subst (λ x. IsChange k x c) same h)
+names_change k t rest r word same h = named_by HasChange (IsChange k) t rest r same (unnamed k t word) (named k t word) h
+
+-- ---- a find
+
+-- where no find is named, no command is, since the first word is a find's
+unnamed_find : (t : List ℕ) → first_word t ≡ codes "find" → ¬ HasFind (after_first_word t) → (c : Command) → ¬ Names t c
+unnamed_find t word lacks Init names = apart (codes "find") (codes "init") (λ l. omega (arith, l)) (sym word ∙ names.0)
+unnamed_find t word lacks Check names = apart (codes "find") (codes "check") (λ l. omega (arith, l)) (sym word ∙ names.0)
+unnamed_find t word lacks Reindex names = apart (codes "find") (codes "reindex") (λ l. omega (arith, l)) (sym word ∙ names.0)
+unnamed_find t word lacks Upgrade names = apart (codes "find") (codes "upgrade") (λ l. omega (arith, l)) (sym word ∙ names.0)
+unnamed_find t word lacks (Create name) names = apart (codes "find") (codes "create") (λ l. omega (arith, l)) (sym word ∙ names.0)
+unnamed_find t word lacks (Drop name) names = apart (codes "find") (codes "drop") (λ l. omega (arith, l)) (sym word ∙ names.0)
+unnamed_find t word lacks (Stat name) names = apart (codes "find") (codes "stat") (λ l. omega (arith, l)) (sym word ∙ names.0)
+unnamed_find t word lacks (Dump name) names = apart (codes "find") (codes "dump") (λ l. omega (arith, l)) (sym word ∙ names.0)
+unnamed_find t word lacks (Change kind database files) names = no_find kind (sym names.0 ∙ word)
+unnamed_find t word lacks (Find database query first count) (inr names) = apart (codes "find") (codes "page") (λ l. omega (arith, l)) (sym word ∙ names.0)
+unnamed_find t word lacks (Find database query first count) (inl names) = lacks record { name = names.1.name.0; some = λ none. names.1.some (names.1.rest ∙ none) }
+unnamed_find t word lacks (Scan database query number position) names = apart (codes "find") (codes "scan") (λ l. omega (arith, l)) (sym word ∙ names.0)
+unnamed_find t word lacks (Analyse files) names = names
+
+named_find : (t : List ℕ) → first_word t ≡ codes "find" → (c : Command) → IsFind (after_first_word t) c → Names t c
+named_find t word (Find database query first count) h = inl (word, h.0, h.1, h.2)
+named_find t word _ h = absurd h
+
+pub names_find : (t rest : List ℕ) (r : Result (Option Command) AllocError) → first_word t ≡ codes "find" → rest ≡ after_first_word t
+    → IfOk r (λ found. MatchOption found (¬ HasFind rest) (IsFind rest))
+    → IfOk r (λ found. MatchOption found ((c : Command) → ¬ Names t c) (Names t))
+names_find t rest r word same h = named_by HasFind IsFind t rest r same (unnamed_find t word) (named_find t word) h
+
+-- ---- a page
+
+-- where no page is named, no command is, since the first word is a page's
+unnamed_page : (t : List ℕ) → first_word t ≡ codes "page" → ¬ HasPage (after_first_word t) → (c : Command) → ¬ Names t c
+unnamed_page t word lacks Init names = apart (codes "page") (codes "init") (λ l. omega (arith, l)) (sym word ∙ names.0)
+unnamed_page t word lacks Check names = apart (codes "page") (codes "check") (λ l. omega (arith, l)) (sym word ∙ names.0)
+unnamed_page t word lacks Reindex names = apart (codes "page") (codes "reindex") (λ l. omega (arith, l)) (sym word ∙ names.0)
+unnamed_page t word lacks Upgrade names = apart (codes "page") (codes "upgrade") (λ l. omega (arith, l)) (sym word ∙ names.0)
+unnamed_page t word lacks (Create name) names = apart (codes "page") (codes "create") (λ l. omega (arith, l)) (sym word ∙ names.0)
+unnamed_page t word lacks (Drop name) names = apart (codes "page") (codes "drop") (λ l. omega (arith, l)) (sym word ∙ names.0)
+unnamed_page t word lacks (Stat name) names = apart (codes "page") (codes "stat") (λ l. omega (arith, l)) (sym word ∙ names.0)
+unnamed_page t word lacks (Dump name) names = apart (codes "page") (codes "dump") (λ l. omega (arith, l)) (sym word ∙ names.0)
+unnamed_page t word lacks (Change kind database files) names = no_page kind (sym names.0 ∙ word)
+unnamed_page t word lacks (Find database query first count) (inl names) = apart (codes "page") (codes "find") (λ l. omega (arith, l)) (sym word ∙ names.0)
+unnamed_page t word lacks (Find database query first count) (inr names) = lacks record { name = names.1.name.0; first = first; count = count; from = names.1.from; many = names.1.many; within = names.1.within; some = λ none. names.1.some (names.1.rest ∙ none) }
+unnamed_page t word lacks (Scan database query number position) names = apart (codes "page") (codes "scan") (λ l. omega (arith, l)) (sym word ∙ names.0)
+unnamed_page t word lacks (Analyse files) names = names
+
+named_page : (t : List ℕ) → first_word t ≡ codes "page" → (c : Command) → IsPage (after_first_word t) c → Names t c
+named_page t word (Find database query first count) h = inr (word, h)
+named_page t word _ h = absurd h
+
+pub names_page : (t rest : List ℕ) (r : Result (Option Command) AllocError) → first_word t ≡ codes "page" → rest ≡ after_first_word t
+    → IfOk r (λ found. MatchOption found (¬ HasPage rest) (IsPage rest))
+    → IfOk r (λ found. MatchOption found ((c : Command) → ¬ Names t c) (Names t))
+names_page t rest r word same h = named_by HasPage IsPage t rest r same (unnamed_page t word) (named_page t word) h
 
 -- ---- a scan
 
@@ -119,28 +177,17 @@ unnamed_scan t word lacks (Drop name) names = apart (codes "scan") (codes "drop"
 unnamed_scan t word lacks (Stat name) names = apart (drop 1 (codes "scan")) (drop 1 (codes "stat")) (λ l. omega (arith, l)) (ap (drop 1) (sym word ∙ names.0))
 unnamed_scan t word lacks (Dump name) names = apart (codes "scan") (codes "dump") (λ l. omega (arith, l)) (sym word ∙ names.0)
 unnamed_scan t word lacks (Change kind database files) names = no_scan kind (sym names.0 ∙ word)
-unnamed_scan t word lacks (Find database query first count) names = apart (codes "scan") (codes "find") (λ l. omega (arith, l)) (sym word ∙ names.0)
+unnamed_scan t word lacks (Find database query first count) (inl names) = apart (codes "scan") (codes "find") (λ l. omega (arith, l)) (sym word ∙ names.0)
+unnamed_scan t word lacks (Find database query first count) (inr names) = apart (codes "scan") (codes "page") (λ l. omega (arith, l)) (sym word ∙ names.0)
 unnamed_scan t word lacks (Scan database query number position) names =
     lacks record { name = names.1.name.0; number = number; position = position; many = names.1.many; place = names.1.place; within = names.1.within; some = λ none. names.1.some (names.1.rest ∙ none) }
 unnamed_scan t word lacks (Analyse files) names = names
 
 named_scan : (t : List ℕ) → first_word t ≡ codes "scan" → (c : Command) → IsScan (after_first_word t) c → Names t c
-named_scan t word Init h = absurd h
-named_scan t word Check h = absurd h
-named_scan t word Reindex h = absurd h
-named_scan t word Upgrade h = absurd h
-named_scan t word (Create name) h = absurd h
-named_scan t word (Drop name) h = absurd h
-named_scan t word (Stat name) h = absurd h
-named_scan t word (Dump name) h = absurd h
-named_scan t word (Change kind database files) h = absurd h
-named_scan t word (Find database query first count) h = absurd h
 named_scan t word (Scan database query number position) h = (word, h)
-named_scan t word (Analyse files) h = absurd h
+named_scan t word _ h = absurd h
 
 pub names_scan : (t rest : List ℕ) (r : Result (Option Command) AllocError) → first_word t ≡ codes "scan" → rest ≡ after_first_word t
     → IfOk r (λ found. MatchOption found (¬ HasScan rest) (IsScan rest))
     → IfOk r (λ found. MatchOption found ((c : Command) → ¬ Names t c) (Names t))
-names_scan t rest (Err e) word same h = h
-names_scan t rest (Ok None) word same h = unnamed_scan t word (subst (λ x. ¬ HasScan x) same h)
-names_scan t rest (Ok (Some c)) word same h = named_scan t word c (subst (λ x. IsScan x c) same h)
+names_scan t rest r word same h = named_by HasScan IsScan t rest r same (unnamed_scan t word) (named_scan t word) h

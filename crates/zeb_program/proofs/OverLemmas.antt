@@ -11,28 +11,28 @@ use Rattle.zeb_profile.specs.declared.directives.Directive.{Directive}
 use Rattle.zeb_register.specs.Calls.{ChangesNothing}
 use Rattle.zeb_register.specs.Formats.{Format, version_of}
 use Rattle.zeb_change.specs.Conditions.{Conditions}
-use Rattle.zeb_change.specs.Reading.{NamesFailed, NoneFailed}
+use Rattle.zeb_change.specs.Reading.{NamesFailed, NoneFailed, NoReadFault}
 use Rattle.zeb_change.specs.declared.refusals.Refusal.{Refusal}
-use Rattle.zeb_change.specs.declared.refusals.Refusal.TheVariants.{Damaged, Store}
+use Rattle.zeb_change.specs.declared.refusals.Refusal.TheVariants.{Damaged, Memory as OutOfMemory}
 use Rattle.zeb_change.specs.declared.settings.Kind.{Kind}
 use Rattle.zeb_change.specs.declared.settings.Limits.{Limits}
 use Rattle.zeb_image.specs.Holdings.{Holdings}
 use Rattle.zeb_image.specs.Image.{Keeps}
 use Rattle.zeb_image.specs.NameOf.{name_bytes}
 use Rattle.zeb_image.specs.declared.names.DbName.{DbName}
-use Rattle.zeb_engine.specs.Analysed.{AnswersAnalysis}
-use Rattle.zeb_engine.specs.AnyAnswers.{CommandLeaves, IsAnswerOver}
-use Rattle.zeb_engine.specs.AnyTables.{ChangesReady, LeavesWhole, LosesNamed}
+use Rattle.zeb_engine.specs.Analysed.{IsAnalysed}
+use Rattle.zeb_engine.specs.Changing.{ChangesReady, LeavesWhole, LosesNamed}
+use Rattle.zeb_engine.specs.Answers.{answer_of}
+use Rattle.zeb_engine.specs.Does.{CommandOverTables}
 use Rattle.zeb_engine.specs.Readiness.{GoesByTexts}
 use Rattle.zeb_engine.specs.Refusals.{refusal_text, status_of}
 use Rattle.zeb_engine.specs.Replies.{reply_text}
 use Rattle.zeb_engine.specs.Steps.{TakesFiles}
 use Rattle.zeb_engine.specs.Transactions.{CommandedBy}
-use Rattle.zeb_engine.specs.Works.{ServesBy}
+use Rattle.zeb_engine.specs.Works.{ServesBy, ServesCommand}
 use Rattle.zeb_engine.specs.declared.commands.Command.{Command}
 use Rattle.zeb_engine.specs.declared.commands.Command.TheVariants.{Analyse as Analysis}
 use Rattle.zeb_engine.specs.declared.replies.Reply.{Reply}
-use Rattle.zeb_engine.proofs.CommandedConnections.{did, did_refuse}
 use Rattle.zeb_program.specs.declared.faults.Fault.{Fault}
 use Rattle.zeb_program.specs.declared.faults.Fault.TheVariants as fault
 use Rattle.zeb_program.specs.declared.lines.Line.{Line}
@@ -54,25 +54,20 @@ still s = λ is_open. (is_open, refl, refl)
 
 -- ---- a command
 
--- refused, it changes nothing
-pub refused_still : {S T : Type 0} (g : Ghosts S) (command : Command) (old new : Held S) (result : Result T Refusal) → CommandedBy g command old new result
-    → HasCleanDisk (state g new) → OnErr result (ChangesNothing (state g old) (state g new))
-refused_still g command old new result call clean = did_refuse command (state g old) (state g new) result clean (did g command old new result call)
-
 module _ (format : Format) (c : Conditions) (command : Command) (old new : State) (wrote writes : Option (List ℕ)) (failed : Bool) (Clean : Type 0) where
-  pub refused_over : (refusal : Refusal) (r : Result ℕ AllocError) → (Clean → IsAnswerOver format c.profile c.limits command old (Err refusal))
-      → (Clean → CommandLeaves format c command old new (Err refusal))
+  pub refused_over : (refusal : Refusal) (r : Result ℕ AllocError) → (Clean → ServesCommand c command old new (Err refusal))
+      → (Clean → CommandOverTables format c command old new (Err refusal))
       → IfOk r (λ status. failed ≡ false → Writes wrote writes (λ bytes. (bytes ≡ refusal_text refusal ++ 10 ∷ []) × (status ≡ status_of refusal)))
       → IfOk r (λ status. failed ≡ false → Clean → Writes wrote writes (λ bytes. CommandOver format c command old bytes status new))
-  refused_over refusal (Err e) over leaves h = h
-  refused_over refusal (Ok status) over leaves h = λ sound clean.
+  refused_over refusal (Err e) serves over h = h
+  refused_over refusal (Ok status) serves over h = λ sound clean.
       let w = h sound in
-      (w.0, (Err refusal, w.1.0, w.1.1, (over clean, leaves clean)), w.2)
+      (w.0, (Err refusal, w.1.0, w.1.1, (serves clean, over clean)), w.2)
 
-  pub replied_over : (reply : Reply) (bytes : List ℕ) → (Clean → IsAnswerOver format c.profile c.limits command old (Ok reply)) → (Clean → CommandLeaves format c command old new (Ok reply))
+  pub replied_over : (reply : Reply) (bytes : List ℕ) → (Clean → ServesCommand c command old new (Ok reply)) → (Clean → CommandOverTables format c command old new (Ok reply))
       → bytes ≡ reply_text reply → (failed ≡ false → Appends wrote writes bytes)
       → failed ≡ false → Clean → Writes wrote writes (λ given. CommandOver format c command old given 0 new)
-  replied_over reply bytes over leaves is grew sound clean = (bytes, (Ok reply, is, refl, (over clean, leaves clean)), grew sound)
+  replied_over reply bytes serves over is grew sound clean = (bytes, (Ok reply, is, refl, (serves clean, over clean)), grew sound)
 
 -- ---- a change by paths
 
@@ -163,9 +158,9 @@ module _ (told : List ℕ → Option (List ℕ)) (profile : List Directive) (lim
   -- the register was asked for the analysis of these contents
   pub analysed_over : (contents : Vec (Vec ℕ Global) Global) (r : Result Reply Fault) → AreShort (map (λ content. content.items) contents.items)
       → ((files : List (List ℕ)) → AreTold told paths files → map (λ content. content.items) contents.items ≡ files)
-      → GivesAnswer (AnswersAnalysis profile limit (Analysis contents)) r → AnalysesOver told profile limit paths r
-  analysed_over contents (Ok reply) short these answer = inr (record { texts = map (λ content. content.items) contents.items; analysed = answer; short = short; these = these })
-  analysed_over contents (Err (fault.Refused refusal)) short these answer = inr (record { texts = map (λ content. content.items) contents.items; analysed = answer; short = short; these = these })
+      → GivesAnswer (λ answer. NoReadFault answer × (IsAnalysed profile limit (map (λ content. content.items) contents.items) (answer_of answer) ⊎ (answer ≡ Err OutOfMemory))) r → AnalysesOver told profile limit paths r
+  analysed_over contents (Ok reply) short these answer = inr (record { texts = map (λ content. content.items) contents.items; analysed = answer.1; short = short; these = these })
+  analysed_over contents (Err (fault.Refused refusal)) short these answer = inr (record { texts = map (λ content. content.items) contents.items; analysed = answer.1; short = short; these = these })
   analysed_over contents (Err fault.Memory) short these answer = inr tt
   analysed_over contents (Err (fault.Profile file why)) short these answer = absurd answer
   analysed_over contents (Err (fault.Unreadable path)) short these answer = absurd answer

@@ -1,6 +1,6 @@
 -- A result of which the value is taken, or another one in its place; and what two clauses say of the value of a result together.
 use Rattle.std.proofs.Common.{◌≡◌, ◌∙◌, ap, subst, sym}
-use Rattle.std.specs.Prelude.{Result, Ok, Err, IfOk, IsErrAnd, MatchResult, OnErr}
+use Rattle.std.specs.Prelude.{Result, Ok, Err, IfErr, IfOk, IsErrAnd, MatchResult, OnErr}
 use Rattle.std.specs.Result.{result_unwrap_or}
 
 pub unwrapped : {T E : Type 0} (r : Result T E) (P : T → Type 0) (other : T) → IfOk r P → OnErr r (P other) → P (result_unwrap_or r other)
@@ -14,10 +14,14 @@ together (Err fault) P Q None Goal one other none both never = never none
 pub ok_is_no_err : {T E : Type 0} (value : T) (fault : E) (Goal : Type 0) → Ok value ≡ Err fault → Goal
 ok_is_no_err value fault Goal e = absurd cc
 
--- what is said of a result stays so where a part of its fault is taken
-pub narrowed_ok : {T F E : Type 0} (from : Result T F) (to : Result T E) (part : F → E) (P : T → Type 0) → IfOk from P → MatchResult from (λ value. to ≡ Ok value) (λ fault. to ≡ Err (part fault)) → IfOk to P
-narrowed_ok (Ok value) to part P said is = subst (λ r. IfOk r P) (sym is) said
-narrowed_ok (Err fault) to part P said is = subst (λ r. IfOk r P) (sym is) tt
+-- what is said of a result stays so, and what follows from it, where a part of its fault is taken
+pub narrowed_so : {T F E : Type 0} (from : Result T F) (to : Result T E) (part : F → E) (P Q : T → Type 0) → ((value : T) → P value → Q value) → IfOk from P → MatchResult from (λ value. to ≡ Ok value) (λ fault. to ≡ Err (part fault)) → IfOk to Q
+narrowed_so (Ok value) to part P Q so said is = subst (λ r. IfOk r Q) (sym is) (so value said)
+narrowed_so (Err fault) to part P Q so said is = subst (λ r. IfOk r Q) (sym is) tt
+
+pub narrowed_fault : {T F E : Type 0} (from : Result T F) (to : Result T E) (part : F → E) (P : F → Type 0) (Q : E → Type 0) → ((fault : F) → P fault → Q (part fault)) → IfErr from P → MatchResult from (λ value. to ≡ Ok value) (λ fault. to ≡ Err (part fault)) → IfErr to Q
+narrowed_fault (Ok value) to part P Q so said is = subst (λ r. IfErr r Q) (sym is) tt
+narrowed_fault (Err fault) to part P Q so said is = subst (λ r. IfErr r Q) (sym is) (so fault said)
 
 pub narrowed_err : {T F E : Type 0} (from : Result T F) (to : Result T E) (part : F → E) (P : F → Type 0) (why : E) → IsErrAnd from (λ fault. P fault × (part fault ≡ why)) → MatchResult from (λ value. to ≡ Ok value) (λ fault. to ≡ Err (part fault)) → to ≡ Err why
 narrowed_err (Ok value) to part P why said is = absurd said

@@ -11,12 +11,12 @@ use Rattle.zeb_engine.specs.declared.commands.Command.TheVariants.{Change}
 use Rattle.zeb_engine.specs.declared.replies.Reply.{Reply}
 use Rattle.zeb_image.specs.Holdings.{Holdings}
 use Rattle.zeb_image.specs.NameOf.{name_bytes}
-use Rattle.zeb_program.specs.Answers.{AnswersLine, AnswersLines, ChangesBy, IsAnswerTo, answer_status, answer_text, none as no_lines, more}
-use Rattle.zeb_program.specs.BatchRuns.{AreFilesShort, BatchIsOneRun, IsOneRun, TellsLines, MakesChange, NamesCommand, NamesFile, none, remark, bad, command, unread}
+use Rattle.zeb_program.specs.Answers.{AnswersLine, AnswersLines, ChangesBy, IsAnswerTo, answer_status, answer_text, mark_line, none as no_lines, more}
+use Rattle.zeb_program.specs.BatchRuns.{AreFilesShort, BatchIsOneRun, IsOneRun, TellsLines, MakesChange, NamesCommand, NamesFile, none, remark, mark, bad, command, unread}
 use Rattle.zeb_program.specs.Lines.{first_line, after_first_line}
 use Rattle.zeb_program.specs.Says.{Says}
 use Rattle.zeb_program.specs.declared.lines.Line.{Line}
-use Rattle.zeb_program.specs.declared.lines.Line.TheVariants.{Remark, Command as Order, Path, Bad}
+use Rattle.zeb_program.specs.declared.lines.Line.TheVariants.{Remark, Command as Order, Path, Mark, Bad}
 use Rattle.zeb_program.specs.declared.path_changes.PathChange.{PathChange}
 
 -- ---- a change by the bytes of a file, as a command
@@ -87,6 +87,10 @@ module _ (told : List ℕ → Option (List ℕ)) (c : Conditions) (short : AreFi
       run_command n text order answer.0 before next last here there status greatest some (inl says) answer.1 answer.2 step rest
   run_line n text (Path change) before next last here there status greatest some says answer rest =
       run_file n text change answer.0 answer.2.0 before next last here there status greatest some (says, answer.1) answer.2.1 answer.2.2 answer.2.3 rest
+  run_line n text (Mark marked) before next last here there status greatest some says answer rest =
+      let same : greatest ≡ max status greatest = omega (arith, answer.1) in
+      run_passed n text before next last (here ++ there) there (max status greatest) greatest
+      (λ commands answers w. subst (λ s. TellsLines told n text commands answers (here ++ there) s) same (rw answer.0 (mark marked some says w))) answer.2 rest
   run_line n text Bad before next last here there status greatest some says answer rest =
       run_passed n text before next last (here ++ there) there (max status greatest) greatest
       (λ commands answers w. rw (answer.0, answer.1) (bad some says w)) answer.2 rest
@@ -98,6 +102,9 @@ module _ (told : List ℕ → Option (List ℕ)) (c : Conditions) (short : AreFi
       run_line n text line before next last here there top greatest some says answer (run_lines (n + 1) (after_first_line text) next there greatest rest last later ended)
 
 -- ---- from a run to the answers of lines
+
+zero_max : (s : ℕ) → max 0 s ≡ s
+zero_max s = omega arith
 
 module _ (told : List ℕ → Option (List ℕ)) (c : Conditions) where
   answers_command : (number : ℕ) (line : List ℕ) (order : Command) (answer : Result Reply Refusal) (before next : Holdings) → NamesCommand told line order
@@ -112,9 +119,9 @@ module _ (told : List ℕ → Option (List ℕ)) (c : Conditions) where
   answers_lines n text commands answers before bytes status last (remark some says w) run =
       subst (λ s. AnswersLines told c n text before bytes s [] last) (zero_max status)
       (more some (Remark, says, (refl, refl, refl)) (answers_lines (n + 1) (after_first_line text) commands answers before bytes status last w run))
-    where
-      zero_max : (s : ℕ) → max 0 s ≡ s
-      zero_max s = omega arith
+  answers_lines n text commands answers before bytes status last (mark {bytes = there} marked some says w) run =
+      subst (λ s. AnswersLines told c n text before (mark_line (string_bytes marked) ++ there) s [] last) (zero_max status)
+      (more some (Mark marked, says, (refl, refl, refl)) (answers_lines (n + 1) (after_first_line text) commands answers before there status last w run))
   answers_lines n text commands answers before bytes status last (bad {bytes = there} {status = greatest} some says w) run =
       more some (Bad, says, (refl, refl, refl)) (answers_lines (n + 1) (after_first_line text) commands answers before there greatest last w run)
   answers_lines n text commands answers before bytes status last (command {commands = orders} {answers = others} {bytes = there} {status = greatest} order answer some names w) run =

@@ -1,6 +1,7 @@
 -- How far the lines of a batch have come over a connection.
 use Rattle.std.proofs.Common.{◌≡◌, ◌<◌, ◌+◌, ℕ, Bool, false, List, [], ◌∷◌, ◌++◌, length, refl}
-use Rattle.std.specs.Prelude.{Option, Result, Ok, Err, IfOk, OnErr, max}
+use Rattle.std.specs.Prelude.{Option, Result, Ok, Err, IfOk, OnErr, String, max, string_bytes}
+use Rattle.std.specs.declared.alloc.Global.{Global}
 use Rattle.std.specs.declared.alloc.AllocError.{AllocError}
 use Rattle.std.specs.Io.KnownBytes.{Appends}
 use Rattle.sqlite.specs.State.{State}
@@ -13,10 +14,10 @@ use Rattle.zeb_image.specs.Image.{Keeps}
 use Rattle.zeb_engine.specs.Refusals.{refusal_text, status_of}
 use Rattle.zeb_engine.specs.Replies.{reply_text}
 use Rattle.zeb_engine.specs.Works.{ServesCommand}
-use Rattle.zeb_program.specs.declared.lines.Line.TheVariants.{Remark, Command as Order, Bad}
+use Rattle.zeb_program.specs.declared.lines.Line.TheVariants.{Remark, Command as Order, Mark, Bad}
 use Rattle.zeb_program.specs.Says.{Says}
 use Rattle.zeb_program.specs.Lines.{first_line, after_first_line}
-use Rattle.zeb_program.specs.Answers.{Writes, bad_line, IsAnswer, AnswersLine, AnswersBatch, AnswersPart}
+use Rattle.zeb_program.specs.Answers.{Writes, bad_line, mark_line, IsAnswer, AnswersLine, AnswersBatch, AnswersPart}
 use Rattle.zeb_program.specs.PrivateServing.{Leads, Stops}
 use Rattle.zeb_program.proofs.AnswerLemmas.{Appends-nil, IsAnswered, answered_all, answered_start, answered_line, answered_lines}
 
@@ -55,6 +56,11 @@ ordered_line told c command number text old new wrote writes failed Clean Told (
 pub bad_line_answer : (told : List ℕ → Option (List ℕ)) (c : Conditions) (number : ℕ) (text : List ℕ) (old : State) (wrote writes : Option (List ℕ)) (status : ℕ) → Says text Bad → status ≡ 2
     → Appends wrote writes (bad_line number) → Leads old old wrote writes (λ before bytes later. AnswersLine told c number text before bytes status later)
 bad_line_answer told c number text old wrote writes status says misused grew before keeps = (before, keeps, (bad_line number, (Bad, says, (refl, misused, refl)), grew))
+
+-- a line that has a text written
+pub mark_answer : (told : List ℕ → Option (List ℕ)) (c : Conditions) (number : ℕ) (text : List ℕ) (old : State) (wrote writes : Option (List ℕ)) (marked : String Global) (status : ℕ) → Says text (Mark marked) → status ≡ 0
+    → Appends wrote writes (mark_line (string_bytes marked)) → Leads old old wrote writes (λ before bytes later. AnswersLine told c number text before bytes status later)
+mark_answer told c number text old wrote writes marked status says fine grew before keeps = (before, keeps, (mark_line (string_bytes marked), (Mark marked, says, (refl, fine, refl)), grew))
 
 -- a line that says nothing
 pub remark_line : (told : List ℕ → Option (List ℕ)) (c : Conditions) (number : ℕ) (text : List ℕ) (old : State) (wrote : Option (List ℕ)) → Says text Remark

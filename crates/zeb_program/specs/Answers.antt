@@ -18,7 +18,7 @@ use Rattle.zeb_engine.specs.Replies.{reply_text}
 use Rattle.zeb_engine.specs.Refusals.{refusal_text, status_of}
 use Rattle.zeb_engine.specs.Steps.{TellsOrFails, Run, TakesFiles}
 use Rattle.zeb_program.specs.declared.lines.Line.{Line}
-use Rattle.zeb_program.specs.declared.lines.Line.TheVariants.{Remark, Command as Order, Path, Bad}
+use Rattle.zeb_program.specs.declared.lines.Line.TheVariants.{Remark, Command as Order, Path, Mark, Bad}
 use Rattle.zeb_program.specs.declared.path_changes.PathChange.{PathChange}
 use Rattle.zeb_program.specs.Lines.{first_line, after_first_line}
 use Rattle.zeb_program.specs.Says.{Says}
@@ -61,12 +61,17 @@ IsFileAnswer c change file before bytes status later =
 abbrev pub bad_line : ℕ → List ℕ
 bad_line number = codes "zebraidx: bad line " ++ decimal number ++ 10 ∷ []
 
+-- a mark is its text on a line of its own
+abbrev pub mark_line : List ℕ → List ℕ
+mark_line text = text ++ 10 ∷ []
+
 -- what is written for a line that says this, its status, and what the register holds then
 abbrev pub IsAnswerTo : (List ℕ → Option (List ℕ)) → Conditions → ℕ → Line → Holdings → List ℕ → ℕ → Holdings → Type 0
 IsAnswerTo told c number Remark before bytes status later = (bytes ≡ []) × (status ≡ 0) × (later ≡ before)
 IsAnswerTo told c number (Order command) before bytes status later = IsAnswer c command before bytes status later
 IsAnswerTo told c number (Path change) before bytes status later =
     (file : List ℕ) × (told (string_bytes change.path) ≡ Some file) × IsFileAnswer c change file before bytes status later
+IsAnswerTo told c number (Mark text) before bytes status later = (bytes ≡ mark_line (string_bytes text)) × (status ≡ 0) × (later ≡ before)
 IsAnswerTo told c number Bad before bytes status later = (bytes ≡ bad_line number) × (status ≡ 2) × (later ≡ before)
 
 -- the same for a line, by its text and its number

@@ -1,5 +1,6 @@
 -- A batch as one run: the commands that its lines name, in their order, with the answer to each (this program's own).
-use Rattle.std.specs.Prelude.{◌≡◌, ◌⊎◌, ◌↔◌, ◌<◌, ◌+◌, ◌^◌, ℕ, max, map, Option, Some, Result, Err, List, [], ◌∷◌, ◌++◌, length, string_bytes}
+use Rattle.std.specs.Prelude.{◌≡◌, ◌⊎◌, ◌↔◌, ◌<◌, ◌+◌, ◌^◌, ℕ, max, map, Option, Some, Result, Err, List, [], ◌∷◌, ◌++◌, length, String, string_bytes}
+use Rattle.std.specs.declared.alloc.Global.{Global}
 use Rattle.zeb_change.specs.Conditions.{Conditions}
 use Rattle.zeb_change.specs.declared.refusals.Refusal.{Refusal}
 use Rattle.zeb_change.specs.declared.refusals.Refusal.TheVariants.{ReadFault}
@@ -10,10 +11,10 @@ use Rattle.zeb_engine.specs.declared.commands.Command.TheVariants.{Change}
 use Rattle.zeb_engine.specs.declared.replies.Reply.{Reply}
 use Rattle.zeb_image.specs.Holdings.{Holdings}
 use Rattle.zeb_image.specs.NameOf.{name_bytes}
-use Rattle.zeb_program.specs.Answers.{AnswersBatch, answer_status, answer_text, bad_line}
+use Rattle.zeb_program.specs.Answers.{AnswersBatch, answer_status, answer_text, bad_line, mark_line}
 use Rattle.zeb_program.specs.Lines.{first_line, after_first_line}
 use Rattle.zeb_program.specs.Says.{Says}
-use Rattle.zeb_program.specs.declared.lines.Line.TheVariants.{Remark, Command as Order, Path, Bad}
+use Rattle.zeb_program.specs.declared.lines.Line.TheVariants.{Remark, Command as Order, Path, Mark, Bad}
 use Rattle.zeb_program.specs.declared.path_changes.PathChange.{PathChange}
 
 -- the command makes that change by one file of these bytes
@@ -38,6 +39,9 @@ pub data TellsLines : (List ℕ → Option (List ℕ)) → ℕ → List ℕ → 
   remark : {told : List ℕ → Option (List ℕ)} {n : ℕ} {text : List ℕ} {commands : List Command} {answers : List (Result Reply Refusal)} {bytes : List ℕ} {status : ℕ}
       → 0 < length text → Says (first_line text) Remark → TellsLines told (n + 1) (after_first_line text) commands answers bytes status
       → TellsLines told n text commands answers bytes status
+  mark : {told : List ℕ → Option (List ℕ)} {n : ℕ} {text : List ℕ} {commands : List Command} {answers : List (Result Reply Refusal)} {bytes : List ℕ} {status : ℕ}
+      → (marked : String Global) → 0 < length text → Says (first_line text) (Mark marked) → TellsLines told (n + 1) (after_first_line text) commands answers bytes status
+      → TellsLines told n text commands answers (mark_line (string_bytes marked) ++ bytes) status
   bad : {told : List ℕ → Option (List ℕ)} {n : ℕ} {text : List ℕ} {commands : List Command} {answers : List (Result Reply Refusal)} {bytes : List ℕ} {status : ℕ}
       → 0 < length text → Says (first_line text) Bad → TellsLines told (n + 1) (after_first_line text) commands answers bytes status
       → TellsLines told n text commands answers (bad_line (n + 1) ++ bytes) (max 2 status)

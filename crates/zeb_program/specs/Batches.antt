@@ -1,6 +1,6 @@
 -- The lines of a batch (Zebra manual, zebraidx, whose commands they are; the batch itself is this program's own).
 -- Words are separated by blanks.
-use Rattle.std.specs.Prelude.{◌≡◌, ◌≢◌, ◌≤◌, ℕ, Some, List, [], ◌∷◌, Ok, IsOk, map, take, drop, codes, string_bytes}
+use Rattle.std.specs.Prelude.{◌≡◌, ◌≢◌, ◌⊎◌, ◌≤◌, ℕ, Some, List, [], ◌∷◌, Ok, IsOk, map, take, drop, codes, string_bytes}
 use Rattle.hex.specs.Hex.{decode_of}
 use Rattle.zeb_image.specs.Names.{IsDatabaseName}
 use Rattle.zeb_image.specs.NameOf.{name_bytes}
@@ -32,27 +32,40 @@ pub record NamesFind (text : List ℕ) (database : DbName) (query : List ℕ) : 
   pub rest : query ≡ after_first_word text
   pub some : query ≢ []
 
+-- the words of a page or a scan behind the database's name: two numbers, and the rest
+abbrev pub second_word : List ℕ → List ℕ
+second_word text = first_word (after_first_word text)
+
+abbrev pub third_word : List ℕ → List ℕ
+third_word text = first_word (after_first_word (after_first_word text))
+
+abbrev pub after_third_word : List ℕ → List ℕ
+after_third_word text = after_first_word (after_first_word (after_first_word text))
+
+-- from which of its hits a find shows records, and how many, 0 to 1,000,000
+abbrev pub IsShown : ℕ → ℕ → Type 0
+IsShown first count = (1 ≤ first) × (count ≤ 1000000)
+
+-- a database's name, the place of the first hit, how many hits, and a query that isn't empty
+pub record NamesPage (text : List ℕ) (database : DbName) (query : List ℕ) (first count : ℕ) : Type 0 where
+  pub name : IsName (first_word text) database
+  pub from : number_of (second_word text) ≡ Some first
+  pub many : number_of (third_word text) ≡ Some count
+  pub within : IsShown first count
+  pub rest : query ≡ after_third_word text
+  pub some : query ≢ []
+
 -- how many terms a scan shows, 1 to 1,000, and at which of their places its start stands
 abbrev pub IsRange : ℕ → ℕ → Type 0
 IsRange number position = (number ≤ 1000) × (1 ≤ position) × (position ≤ number)
 
--- the words of a scan behind the database's name: a number, a position, and the rest
-abbrev pub number_word : List ℕ → List ℕ
-number_word text = first_word (after_first_word text)
-
-abbrev pub position_word : List ℕ → List ℕ
-position_word text = first_word (after_first_word (after_first_word text))
-
-abbrev pub scan_query : List ℕ → List ℕ
-scan_query text = after_first_word (after_first_word (after_first_word text))
-
 -- a database's name, how many terms, the start's place, and a query that isn't empty
 pub record NamesScan (text : List ℕ) (database : DbName) (query : List ℕ) (number position : ℕ) : Type 0 where
   pub name : IsName (first_word text) database
-  pub many : number_of (number_word text) ≡ Some number
-  pub place : number_of (position_word text) ≡ Some position
+  pub many : number_of (second_word text) ≡ Some number
+  pub place : number_of (third_word text) ≡ Some position
   pub within : IsRange number position
-  pub rest : query ≡ scan_query text
+  pub rest : query ≡ after_third_word text
   pub some : query ≢ []
 
 -- the text, which begins and ends with no blank, names the command
@@ -66,7 +79,9 @@ Names text (Drop name) = (first_word text ≡ codes "drop") × IsName (after_fir
 Names text (Stat name) = (first_word text ≡ codes "stat") × IsName (after_first_word text) name
 Names text (Dump name) = (first_word text ≡ codes "dump") × IsName (after_first_word text) name
 Names text (Change kind database files) = (first_word text ≡ kind_word kind) × NamesChange (after_first_word text) database (map (λ file. file.items) files.items)
-Names text (Find database query first count) = (first_word text ≡ codes "find") × NamesFind (after_first_word text) database (string_bytes query) × (first ≡ 1) × (count ≡ 20)
+Names text (Find database query first count) =
+    ((first_word text ≡ codes "find") × NamesFind (after_first_word text) database (string_bytes query) × (first ≡ 1) × (count ≡ 20))
+    ⊎ ((first_word text ≡ codes "page") × NamesPage (after_first_word text) database (string_bytes query) first count)
 Names text (Scan database query number position) = (first_word text ≡ codes "scan") × NamesScan (after_first_word text) database (string_bytes query) number position
 Names text _ = ⊥
 
@@ -81,12 +96,30 @@ pub record HasFind (text : List ℕ) : Type 0 where
   pub name : IsDatabaseName (first_word text)
   pub some : after_first_word text ≢ []
 
+-- a page is named
+pub record HasPage (text : List ℕ) : Type 0 where
+  pub name : IsDatabaseName (first_word text)
+  pub first : ℕ
+  pub count : ℕ
+  pub from : number_of (second_word text) ≡ Some first
+  pub many : number_of (third_word text) ≡ Some count
+  pub within : IsShown first count
+  pub some : after_third_word text ≢ []
+
 -- a scan is named
 pub record HasScan (text : List ℕ) : Type 0 where
   pub name : IsDatabaseName (first_word text)
   pub number : ℕ
   pub position : ℕ
-  pub many : number_of (number_word text) ≡ Some number
-  pub place : number_of (position_word text) ≡ Some position
+  pub many : number_of (second_word text) ≡ Some number
+  pub place : number_of (third_word text) ≡ Some position
   pub within : IsRange number position
-  pub some : scan_query text ≢ []
+  pub some : after_third_word text ≢ []
+
+-- the text, which begins and ends with no blank, asks that this text be written
+abbrev pub NamesMark : List ℕ → List ℕ → Type 0
+NamesMark text mark = (first_word text ≡ codes "mark") × (mark ≡ after_first_word text) × (mark ≢ [])
+
+-- so it does of some text
+abbrev pub HasMark : List ℕ → Type 0
+HasMark text = (first_word text ≡ codes "mark") × (after_first_word text ≢ [])

@@ -18,19 +18,20 @@ use Rattle.zeb_image.specs.Image.{Keeps}
 use Rattle.zeb_image.specs.NameOf.{name_bytes}
 use Rattle.zeb_engine.specs.Analysed.{IsAnalysed}
 use Rattle.zeb_engine.specs.Answers.{answer_of}
-use Rattle.zeb_engine.specs.AnyAnswers.{CommandLeaves, IsAnswerOver}
-use Rattle.zeb_engine.specs.AnyTables.{ChangesReady, LeavesWhole, LosesNamed}
+use Rattle.zeb_engine.specs.Changing.{ChangesReady, LeavesWhole, LosesNamed}
+use Rattle.zeb_engine.specs.Does.{CommandOverTables}
 use Rattle.zeb_engine.specs.Readiness.{GoesByTexts}
+use Rattle.zeb_engine.specs.Works.{ServesCommand}
 use Rattle.zeb_engine.specs.declared.commands.Command.{Command}
 use Rattle.zeb_engine.specs.declared.replies.Reply.{Reply}
 use Rattle.zeb_program.specs.declared.faults.Fault.{Fault}
 use Rattle.zeb_program.specs.declared.faults.Fault.TheVariants.{Refused}
 use Rattle.zeb_program.specs.declared.lines.Line.{Line}
-use Rattle.zeb_program.specs.declared.lines.Line.TheVariants.{Remark, Command as Order, Path, Bad}
+use Rattle.zeb_program.specs.declared.lines.Line.TheVariants.{Remark, Command as Order, Path, Mark, Bad}
 use Rattle.zeb_program.specs.declared.path_changes.PathChange.{PathChange}
 use Rattle.zeb_program.specs.declared.tasks.Task.{Task}
 use Rattle.zeb_program.specs.declared.tasks.Task.TheVariants.{Ask, Change, Analyse}
-use Rattle.zeb_program.specs.Answers.{ChangesBy, EachLine, IsReadFaultOf, Writes, answer_status, answer_text, bad_line}
+use Rattle.zeb_program.specs.Answers.{ChangesBy, EachLine, IsReadFaultOf, Writes, answer_status, answer_text, bad_line, mark_line}
 use Rattle.zeb_program.specs.Inputs.{TakesAtMost}
 use Rattle.zeb_program.specs.FaultLines.{TellsFault}
 use Rattle.zeb_program.specs.PrivateFaults.{GivesAnswer, IsUnreadable}
@@ -79,9 +80,9 @@ pub record PathsLeave (told : List ℕ → Option (List ℕ)) (c : Conditions) (
 abbrev pub AnalysesOver : (List ℕ → Option (List ℕ)) → List Directive → ℕ → List (List ℕ) → Result Reply Fault → Type 0
 AnalysesOver told profile limit paths result = IsUnreadable result ⊎ GivesAnswer (IsAnalysisOver told profile limit paths) result
 
--- A command is answered as the engine says of it on any tables, and this is what it leaves of them.
+-- A command is answered, and leaves the tables, as the engine says: of those that keep what a register holds, and of any.
 abbrev pub ServesOver : Format → Conditions → Command → State → State → Result Reply Refusal → Type 0
-ServesOver format c command old new answer = IsAnswerOver format c.profile c.limits command old answer × CommandLeaves format c command old new answer
+ServesOver format c command old new answer = ServesCommand c command old new answer × CommandOverTables format c command old new answer
 
 -- A task of one command is answered as the engine says of it on any tables, and this is what it leaves of them; so it is of a change by paths. An
 -- analysis by paths is answered as above.
@@ -124,6 +125,7 @@ abbrev pub SaysOver : (List ℕ → Option (List ℕ)) → Format → Conditions
 SaysOver told format c number Remark old bytes status new = (bytes ≡ []) × (status ≡ 0) × ChangesNothing old new
 SaysOver told format c number (Order command) old bytes status new = CommandOver format c command old bytes status new
 SaysOver told format c number (Path change) old bytes status new = PathOver told format c change old bytes status new
+SaysOver told format c number (Mark text) old bytes status new = (bytes ≡ mark_line (string_bytes text)) × (status ≡ 0) × ChangesNothing old new
 SaysOver told format c number Bad old bytes status new = (bytes ≡ bad_line number) × (status ≡ 2) × ChangesNothing old new
 
 -- the same for a line, by its text and its number, and by the connection

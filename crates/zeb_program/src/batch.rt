@@ -8,7 +8,7 @@ ghost use Rattle.zeb_change.specs.Conditions.{conditions};
 ghost use Rattle.zeb_engine.specs.Refusals.{refusal_text, status_of};
 ghost use Rattle.zeb_program.specs.ScriptAnswers.{AnswersOpened, AnswersStopped};
 ghost use Rattle.std.specs.Io.KnownBytes.{Appends};
-ghost use Rattle.zeb_program.specs.Answers.{Writes, bad_line, IsAnswer, AnswersLine, AnswersBatch, AnswersPart};
+ghost use Rattle.zeb_program.specs.Answers.{Writes, bad_line, mark_line, IsAnswer, AnswersLine, AnswersBatch, AnswersPart};
 ghost use Rattle.zeb_program.specs.PrivateOverTables.{CommandOver, LineOver, LinesOver};
 ghost use Rattle.zeb_program.specs.PathChanges.{AreFilesTold, IsLineTold};
 ghost use Rattle.zeb_program.specs.PrivateServing.{Leads, Stops};
@@ -124,6 +124,7 @@ pub fn run_line<S: Alter, L: Layout, P: Paths, W: Write>(
         Line::Remark => Ok(ANSWERED),
         Line::Command(command) => run_command(alloc, session, &command, output),
         Line::Path(change) => run_path_change(alloc, session, paths, &change, output),
+        Line::Mark(text) => Ok(write_mark(text.as_str(), output)),
         Line::Bad => Ok(refuse_line(number, output)),
     }
 }
@@ -156,6 +157,17 @@ fn run_command<S: Alter, L: Layout, W: Write>(
         }
         Err(refusal) => refuse(alloc, &refusal, output),
     }
+}
+
+/// Writes the text of a mark, and answers the status of such a line.
+fn write_mark<W: Write>(text: &str, output: &mut Sink<W>) -> u8
+    ensures sound { output.new.failed ≡ false → output.old.failed ≡ false }
+    ensures status { result ≡ ANSWERED }
+    ensures line { output.new.failed ≡ false →
+        Appends (W.contents output.old.writer) (W.contents output.new.writer) (mark_line text.now) }
+{
+    output.write_line(text);
+    ANSWERED
 }
 
 /// Writes that the line of this number is no command, and answers the status of such a line.

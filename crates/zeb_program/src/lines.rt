@@ -1,9 +1,9 @@
 //! The lines of a batch, each of which names a command.
 
-ghost use Rattle.std.specs.Prelude.{IfOk, MatchOption};
+ghost use Rattle.std.specs.Prelude.{IfOk, MatchOption, string_bytes};
 ghost use Rattle.zeb_engine.specs.declared.commands.Command.{Command};
-ghost use Rattle.zeb_program.specs.Batches.{Names, HasChange, HasFind, HasScan};
-ghost use Rattle.zeb_program.specs.PrivateBatches.{IsChange, IsFind, IsScan};
+ghost use Rattle.zeb_program.specs.Batches.{Names, HasChange, HasFind, HasMark, HasPage, HasScan, NamesMark};
+ghost use Rattle.zeb_program.specs.PrivateBatches.{IsChange, IsFind, IsPage, IsScan};
 
 use crate::digits::bytes_of_digits;
 use crate::numbers::number_of;
@@ -14,6 +14,9 @@ use zeb_engine::{Command, DbName, Kind};
 
 /// How many records a `find` line shows at most.
 const SHOWN: u32 = 20;
+
+/// How many records a page shows at most.
+const PAGED: u32 = 1_000_000;
 
 /// How many terms a scan shows at most.
 const TERMS: u32 = 1_000;
@@ -26,6 +29,8 @@ pub enum Line {
     Command(Command),
     /// A change by the path of its file.
     Path(PathChange),
+    /// To write this text, by which a front end sees that the lines before are answered.
+    Mark(String),
     /// Something that is no command.
     Bad,
 }
@@ -48,12 +53,15 @@ impl Line {
     /// delete NAME FILE
     /// adelete NAME FILE
     /// find NAME QUERY
+    /// page NAME K N QUERY
     /// scan NAME N P QUERY
+    /// mark TEXT
     /// ```
     ///
-    /// FILE and QUERY are the rest of the line, and are not empty. FILE is `hex:` with the hexadecimal digits of one
-    /// file's bytes, or else a path. Of the records that a query finds the first 20 are shown. A scan shows N terms
-    /// (1 to 1,000), the start at place P (1 to N); both have 1 to 9 digits.
+    /// FILE, QUERY and TEXT are the rest of the line, and are not empty. FILE is `hex:` with the hexadecimal digits of
+    /// one file's bytes, or else a path. Of the records that a query finds `find` shows the first 20, and `page` shows N
+    /// (0 to 1,000,000) from the K-th on (at least 1). A scan shows N terms (1 to 1,000), the start at place P (1 to N).
+    /// All these numbers have 1 to 9 digits.
     pub fn read(alloc: Global, text: &str) -> Result<Line, AllocError>
         ensures { IfOk result (SaysText text.now) }
     {
@@ -63,6 +71,9 @@ impl Line {
         }
         if let Some(command) = read_command(alloc, text)? {
             return Ok(Line::Command(command));
+        }
+        if let Some(mark) = read_mark(alloc, text)? {
+            return Ok(Line::Mark(mark));
         }
         let change = read_path_change(alloc, text)?;
         Ok(change.map_or(Line::Bad, Line::Path))
@@ -87,6 +98,7 @@ fn read_command(alloc: Global, text: &str) -> Result<Option<Command>, AllocError
         "delete" => read_change(alloc, Kind::Delete, rest),
         "adelete" => read_change(alloc, Kind::Adelete, rest),
         "find" => read_find(alloc, rest),
+        "page" => read_page(alloc, rest),
         "scan" => read_scan(alloc, rest),
         _ => Ok(None),
     }
@@ -130,6 +142,30 @@ fn read_find(alloc: Global, text: &str) -> Result<Option<Command>, AllocError>
     }))
 }
 
+/// `NAME K N QUERY`.
+fn read_page(alloc: Global, text: &str) -> Result<Option<Command>, AllocError>
+    ensures { IfOk result (λ found. MatchOption found (¬ HasPage text.now) (IsPage text.now)) }
+{
+    let (name, rest) = cut_word(text);
+    let (first, rest) = cut_word(rest);
+    let (count, query) = cut_word(rest);
+    let Some(database) = DbName::read(name) else {
+        return Ok(None);
+    };
+    let (Some(first), Some(count)) = (number_of(first), number_of(count)) else {
+        return Ok(None);
+    };
+    if first == 0 || count > PAGED || query.is_empty() {
+        return Ok(None);
+    }
+    Ok(Some(Command::Find {
+        database,
+        query: String::from_str(alloc, query)?,
+        first,
+        count,
+    }))
+}
+
 /// `NAME N P QUERY`.
 fn read_scan(alloc: Global, text: &str) -> Result<Option<Command>, AllocError>
     ensures { IfOk result (λ found. MatchOption found (¬ HasScan text.now) (IsScan text.now)) }
@@ -152,4 +188,15 @@ fn read_scan(alloc: Global, text: &str) -> Result<Option<Command>, AllocError>
         number,
         position,
     }))
+}
+
+/// The text of a line `mark TEXT`.
+fn read_mark(alloc: Global, text: &str) -> Result<Option<String>, AllocError>
+    ensures { IfOk result (λ found. MatchOption found (¬ HasMark text.now) (λ mark. NamesMark text.now (string_bytes mark))) }
+{
+    let (word, mark) = cut_word(text);
+    if word == "mark" && !mark.is_empty() {
+        return Ok(Some(String::from_str(alloc, mark)?));
+    }
+    Ok(None)
 }

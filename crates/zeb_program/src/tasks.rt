@@ -9,7 +9,7 @@ ghost use Rattle.zeb_change.specs.Conditions.{conditions};
 ghost use Rattle.zeb_image.specs.NameOf.{name_bytes};
 ghost use Rattle.zeb_register.specs.Calls.{ChangesNothing};
 ghost use Rattle.zeb_register.specs.Formats.{packed_blocks, version_of};
-ghost use Rattle.zeb_engine.specs.Analysed.{AnswersAnalysis};
+ghost use Rattle.zeb_engine.specs.Does.{AnswersAnyway};
 ghost use Rattle.zeb_program.specs.PrivateFaults.{GivesAnswer, IsOpeningFault, IsUnread, IsUnreadable};
 ghost use Rattle.zeb_program.specs.ScriptAnswers.{AreScriptConditions};
 ghost use Rattle.zeb_program.specs.PrivateOverTables.{AnalysesOver, PathsLeave, PathsOver, ServesOver, TaskOver};
@@ -231,7 +231,8 @@ fn ask<S: Alter, L: Layout>(session: &mut Session<S, L>, command: &Command) -> R
     ensures refused { HasCleanDisk (state S.Store session.new.connection)
         → OnErr result (ChangesNothing (state S.Store session.old.connection) (state S.Store session.new.connection)) }
     // An analysis asks the store for nothing.
-    ensures analysed { GivesAnswer (AnswersAnalysis session.old.profile session.old.limits.records command.now) result }
+    ensures analysed { GivesAnswer (AnswersAnyway
+        (conditions (version_of L.format) session.old.profile session.old.limits) command.now) result }
     ensures still { (files : Vec (Vec ℕ Global) Global) → command.now ≡ Command.Analyse files
         → session.new.connection ≡ session.old.connection }
     ensures read { IfErr result (λ fault. ¬ IsUnread fault) }

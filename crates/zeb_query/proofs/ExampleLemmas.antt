@@ -1,5 +1,5 @@
 -- Queries' texts and what they spell, word by word.
-use Rattle.zeb_query.proofs.Cited.{◌≡◌, ℕ, true, false, List, [], ◌∷◌, ◌++◌, Some, None, length, codes, refl, subst, Result, list_all, Plain, Quoted, Operator, Connective, Directive, Word, AreWords, words_at, TreeValue, TermValue, NamedValue, PairValue, QueryValue, IsStructure, is_term, is_named, is_attribute, is_attribute_of_set, is_typed, is_pair, IsQuery, is_structure_of_set, keyword_spelled, has_equals, is_good, text_of, parameter_count, under, with_attribute, with_type, no_head, SpellsQuery, PlanValue, ScanValue, plan_of, scan_of, Refusal, sample_profile, PlansUnder, PlansAs, ScansAs}
+use Rattle.zeb_query.proofs.Cited.{◌≡◌, ℕ, true, false, List, [], ◌∷◌, ◌++◌, Some, None, length, codes, refl, subst, Result, list_all, Plain, Quoted, Operator, OperatorWord, Directive, Word, AreWords, words_at, TreeValue, TermValue, NamedValue, PairValue, QueryValue, IsStructure, is_term, is_named, is_attribute, is_attribute_of_set, is_typed, is_pair, IsQuery, is_structure_of_set, keyword_spelled, has_equals, is_good, text_of, parameter_count, under, with_attribute, with_type, no_head, SpellsQuery, PlanValue, ScanValue, plan_of, scan_of, Refusal, sample_profile, PlansUnder, PlansAs, ScansAs, ConnectiveValue, connective_of}
 use Rattle.std.proofs.Common.{map}
 use Rattle.std.specs.Prelude.{chars}
 use Rattle.zeb_query.specs.Grammar.{kind_and_value}
@@ -32,11 +32,11 @@ pub typed_at : {words : List Word} {tree : TreeValue} (place at : ℕ) (type : L
     → IsStructure (plain place (codes "@term") ∷ plain at type ∷ words) (under (with_type type) tree)
 typed_at {words} {tree} place at type s = is_typed (plain place (codes "@term")) (plain at type) words tree refl refl s
 
-pub pair_at : {left right : List Word} {x y : TreeValue} (place : ℕ) (name : List ℕ) (connective : Connective) (parameters : List Word)
-    → keyword_spelled name ≡ Some (Operator connective) → length parameters ≡ parameter_count connective → list_all is_good parameters ≡ true
+pub pair_at : {left right : List Word} {x y : TreeValue} {connective : ConnectiveValue} (place : ℕ) (name : List ℕ) (word : OperatorWord) (parameters : List Word)
+    → keyword_spelled name ≡ Some (Operator word) → connective_of word (map text_of parameters) ≡ Some connective → list_all is_good parameters ≡ true
     → IsStructure left x → IsStructure right y
-    → IsStructure (plain place name ∷ (parameters ++ (left ++ right))) (PairValue place no_head connective (map text_of parameters) x y)
-pair_at {left} {right} {x} {y} place name connective parameters key count good s t = is_pair (plain place name) connective parameters left right x y key count good s t
+    → IsStructure (plain place name ∷ (parameters ++ (left ++ right))) (PairValue place no_head connective x y)
+pair_at {left} {right} {x} {y} {connective} place name word parameters key is good s t = is_pair (plain place name) word connective parameters left right x y key is good s t
 
 -- a text that spells a query
 spells : (text : List ℕ) (words : List Word) (query : QueryValue) → IsQuery words query → words_at 0 (chars text) ≡ words → SpellsQuery text query
@@ -44,7 +44,7 @@ spells text words query is read = record { words = words; are_words = subst (Are
 
 -- a query whose attribute set is named
 pub of_set : {words : List Word} {tree : TreeValue} (place at : ℕ) (set : List ℕ) → IsStructure words tree
-    → IsQuery (plain place (codes "@attrset") ∷ plain at set ∷ words) (record { attribute_set = Some set; tree = tree })
+    → IsQuery (plain place (codes "@attrset") ∷ plain at set ∷ words) (record { attrset = Some set; tree = tree })
 of_set {words} {tree} place at set s = is_structure_of_set (plain place (codes "@attrset")) (plain at set) words tree refl refl s
 
 pub planned_under : {profile : List Directive} {text : List ℕ} {words : List Word} {query : QueryValue} {result : Result PlanValue Refusal} → IsQuery words query

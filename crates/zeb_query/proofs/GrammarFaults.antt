@@ -1,6 +1,6 @@
 -- Where a text's fault stands: past a front that some query begins with, at a word that none has there or none has room
 -- for, or at the end.
-use Rattle.zeb_query.proofs.Cited.{◌≡◌, ◌≢◌, ℕ, zero, suc, ◌⊎◌, inl, inr, Bool, true, false, List, [], ◌∷◌, ◌++◌, Option, Some, None, refl, ap, sym, subst, ◌∙◌, arith, append_assoc, slice_get, option_map, Connective, Keyword, AttributeSet, Attribute, TermType, ResultSet, Operator, Word, keyword_of, IsQuery, is_good, has_equals, parameter_count, QueryValue, Due, Start, Structures, SetOrSpec, Spec, MoreWords, words_then, fault, fault_at_end, Step, Allowed, Refused, step, good_step, structure_step, start_step, spec_step, IsBeginning, IsQueryWithin, IsBeginningWithin, IsStrange, IsUnfinished, IsUnspelled, IsCrowded, operators}
+use Rattle.zeb_query.proofs.Cited.{◌≡◌, ◌≢◌, ℕ, zero, suc, ◌⊎◌, inl, inr, Bool, true, false, List, [], ◌∷◌, ◌++◌, Option, Some, None, refl, ap, sym, subst, ◌∙◌, arith, append_assoc, slice_get, option_map, OperatorWord, Keyword, AttributeSet, Attribute, TermType, ResultSet, Operator, Word, keyword_of, IsQuery, is_good, has_equals, parameter_count, QueryValue, Due, Start, Structures, SetOrSpec, Spec, MoreWords, words_then, fault, fault_at_end, Step, Allowed, Refused, step, good_step, structure_step, start_step, spec_step, IsBeginning, IsQueryWithin, IsBeginningWithin, IsStrange, IsUnfinished, IsUnspelled, IsCrowded, operators}
 use Rattle.zeb_query.specs.Grammar.{kind_and_value}
 use Rattle.zeb_query.proofs.GrammarLemmas.{append-nil, step-start, fault-step}
 use Rattle.zeb_query.proofs.GrammarLaws.{over_query}
@@ -70,7 +70,7 @@ none_some h = absurd (cc)
 
 -- a word is refused where there is no room for it, and then it is an operator, or where nothing goes on with it
 record NoRoom (room : ℕ) (w : Word) (due : Due) : Type 0 where
-  connective : Connective
+  connective : OperatorWord
   is : keyword_of w ≡ Some (Operator connective)
   next : Due
   allowed : step 1 w due ≡ Allowed 0 next

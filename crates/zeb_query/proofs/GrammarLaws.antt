@@ -1,9 +1,9 @@
 -- A structure is read to its end and no further, and one text is one structure.
-use Rattle.zeb_query.proofs.Cited.{◌≡◌, ◌≢◌, ℕ, zero, suc, ◌+◌, ◌-◌, ◌≤◌, Bool, true, false, true≢false, List, [], ◌∷◌, ◌++◌, Some, None, length, refl, ap, sym, ◌∙◌, arith, append_assoc, length-append, list_all, list_any, position_or_len, one-add, Connective, Keyword, AttributeSet, Attribute, TermType, ResultSet, Operator, Word, keyword_of, IsStructure, is_term, is_named, is_attribute, is_attribute_of_set, is_typed, is_pair, IsQuery, is_structure, is_structure_of_set, is_good, has_equals, is_equals_sign, parameter_count, under, with_attribute, with_type, HeadValue, TreeValue, TermValue, NamedValue, PairValue, QueryValue, Due, Start, Structures, SetOrSpec, Spec, MoreWords, words_then, fault, Allowed, step, structure_step, start_step, operators, first_keyword}
+use Rattle.zeb_query.proofs.Cited.{◌≡◌, ◌≢◌, ℕ, zero, suc, ◌+◌, ◌-◌, ◌≤◌, Bool, true, false, true≢false, List, [], ◌∷◌, ◌++◌, Some, None, length, refl, ap, sym, ◌∙◌, arith, append_assoc, length-append, list_all, list_any, position_or_len, one-add, OperatorWord, Keyword, AttributeSet, Attribute, TermType, ResultSet, Operator, Word, keyword_of, IsStructure, is_term, is_named, is_attribute, is_attribute_of_set, is_typed, is_pair, IsQuery, is_structure, is_structure_of_set, is_good, has_equals, is_equals_sign, parameter_count, under, with_attribute, with_type, HeadValue, TreeValue, TermValue, NamedValue, PairValue, QueryValue, Due, Start, Structures, SetOrSpec, Spec, MoreWords, words_then, fault, Allowed, step, structure_step, start_step, operators, first_keyword}
 use Rattle.std.proofs.Common.{◌||◌}
 use Rattle.zeb_query.specs.Grammar.{kind_and_value}
 use Rattle.zeb_query.proofs.DigitLemmas.{and_parts}
-use Rattle.zeb_query.proofs.GrammarLemmas.{kind_and_value-none, append-nil, fault-start, fault-step, step-structure, good_from_keyword}
+use Rattle.zeb_query.proofs.GrammarLemmas.{kind_and_value-none, append-nil, fault-start, fault-step, step-structure, good_from_keyword, words_count}
 
 -- a SPEC has `=`
 or_parts : (a b : Bool) → (a || b) ≡ false → (a ≡ false) × (b ≡ false)
@@ -26,7 +26,7 @@ has_equals_from_read text read e = decide (has_equals text) refl
 pub operators-under : (h : HeadValue) (t : TreeValue) → operators (under h t) ≡ operators t
 operators-under h (TermValue place head text) = refl
 operators-under h (NamedValue place head name) = refl
-operators-under h (PairValue place head connective parameters left right) = refl
+operators-under h (PairValue place head connective left right) = refl
 
 -- one step over a word
 pub over : (end room r : ℕ) (due next : Due) (w : Word) (ws : List Word) → step room w due ≡ Allowed r next → fault end room due (w ∷ ws) ≡ fault end r next ws
@@ -58,7 +58,7 @@ over-set_or_spec end room n w ws read good e =
     let has : has_equals w.text ≡ true = has_equals_from_read w.text read e in
     over end room room (SetOrSpec n) (Structures (suc n)) w ws (rw (good, has, e) refl)
 
-pub over-operator : (end r n : ℕ) (connective : Connective) (w : Word) (ws : List Word) → keyword_of w ≡ Some (Operator connective) → fault end (suc r) (Structures (suc n)) (w ∷ ws) ≡ fault end r (words_then (parameter_count connective) (suc (suc n))) ws
+pub over-operator : (end r n : ℕ) (connective : OperatorWord) (w : Word) (ws : List Word) → keyword_of w ≡ Some (Operator connective) → fault end (suc r) (Structures (suc n)) (w ∷ ws) ≡ fault end r (words_then (parameter_count connective) (suc (suc n))) ws
 over-operator end r n connective w ws key =
     over end (suc r) r (Structures (suc n)) (words_then (parameter_count connective) (suc (suc n))) w ws
     (step-structure (suc r) n w (good_from_keyword w (Operator connective) key) ∙ ap (λ j. structure_step (suc r) j n) key)
@@ -87,13 +87,13 @@ over_structure (is_typed keyword type words tree key good inside) end room r n r
     over-keyword end room n (MoreWords 0 (suc n)) TermType keyword (type ∷ (words ++ rest)) key refl
     ∙ over-word end room 0 (suc n) type (words ++ rest) good
     ∙ over_structure inside end room r n rest (has ∙ ap (λ ps. length ps + r) (operators-under (with_type type.text) tree))
-over_structure (is_pair operator connective ps left right x y key count good l m) end room r n rest has =
+over_structure (is_pair operator word connective ps left right x y key is good l m) end room r n rest has =
     let below : ℕ = length (operators x) + (length (operators y) + r) in
     let whole : room ≡ suc below = has ∙ omega (arith, length-append (operators x) (operators y)) in
     ap (λ k. fault end k (Structures (suc n)) (operator ∷ ((ps ++ (left ++ right)) ++ rest))) whole
-    ∙ over-operator end below n connective operator ((ps ++ (left ++ right)) ++ rest) key
-    ∙ ap (λ ws. fault end below (words_then (parameter_count connective) (suc (suc n))) ws) (append_assoc ps (left ++ right) rest ∙ ap (λ ws. ps ++ ws) (append_assoc left right rest))
-    ∙ over-words end below (parameter_count connective) (suc (suc n)) ps (left ++ (right ++ rest)) count good
+    ∙ over-operator end below n word operator ((ps ++ (left ++ right)) ++ rest) key
+    ∙ ap (λ ws. fault end below (words_then (parameter_count word) (suc (suc n))) ws) (append_assoc ps (left ++ right) rest ∙ ap (λ ws. ps ++ ws) (append_assoc left right rest))
+    ∙ over-words end below (parameter_count word) (suc (suc n)) ps (left ++ (right ++ rest)) (words_count word ps connective is) good
     ∙ over_structure l end below (length (operators y) + r) (suc n) (right ++ rest) refl
     ∙ over_structure m end (length (operators y) + r) r n rest refl
 
@@ -104,7 +104,7 @@ not_set_first (is_named set name key good) e = cc
 not_set_first (is_attribute attr spec words tree read key good e inside) h = cc
 not_set_first (is_attribute_of_set attr set spec words tree read key good plain good2 e inside) h = cc
 not_set_first (is_typed keyword type words tree key good inside) h = cc
-not_set_first (is_pair operator connective ps left right x y key count good l m) h = cc
+not_set_first (is_pair operator word connective ps left right x y key is good l m) h = cc
 
 over_whole : {ws : List Word} {t : TreeValue} → IsStructure ws t → (end room : ℕ) → length (operators t) ≤ room → fault end room (Structures 1) ws ≡ None
 over_whole {ws} {t} s end room fits =

@@ -1,5 +1,6 @@
 -- Steps of a reader of queries, in the words of the grammar.
-use Rattle.zeb_query.proofs.Cited.{◌≡◌, ◌≢◌, ℕ, suc, ◌+◌, ◌-◌, ◌<◌, Bool, true, false, List, [], ◌∷◌, ◌++◌, Option, Some, None, length, cond, eqb, refl, ap, sym, subst, ◌∙◌, arith, append_assoc, option_and_then, nat_lt, map, list_all, before_first, after_first, position_or_len, nat_tests, length_push, map-append, nil_from_length, length-map, Rest, QueryFault, Spelling, Plain, Quoted, Bad, Connective, Keyword, AttributeSet, Attribute, TermType, ResultSet, Operator, number_of, keyword_of, keyword_by, if_any, is_equals_sign, has_equals, is_good, is_good_spelling, IsStructure, is_attribute, is_attribute_of_set, is_typed, under, heads, no_head, inner_type, with_type, text_of, is_term, is_named, is_pair, parameter_count, IsQuery, is_structure, is_structure_of_set, AttributeValue, HeadValue, TreeValue, TermValue, NamedValue, PairValue, Word, word_of, left, fault_of, first_keyword, IsAfterFirst, ReadsFirst, ReadsWord, SpellsSpec, SpellsAttribute, SpellsHead, SpellsParameters, SpellsOperator, SpellsSet, Spells, first_place, IsFault, Due, Start, Structures, SetOrSpec, Spec, MoreWords, words_then, fault, Step, Allowed, Refused, step, structure_step, operator_step, start_step}
+use Rattle.zeb_query.proofs.Cited.{first_equals, ◌≡◌, ◌≢◌, ℕ, suc, ◌+◌, ◌-◌, ◌<◌, Bool, true, false, List, [], ◌∷◌, ◌++◌, Option, Some, None, length, cond, eqb, refl, ap, sym, subst, ◌∙◌, arith, append_assoc, option_and_then, nat_lt, map, list_all, before_first, after_first, position_or_len, nat_tests, length_push, map-append, nil_from_length, length-map, Rest, QueryFault, Spelling, Plain, Quoted, Bad, OperatorWord, Keyword, AttributeSet, Attribute, TermType, ResultSet, Operator, number_of, keyword_of, keyword_by, if_any, is_equals_sign, has_equals, is_good, is_good_spelling, IsStructure, is_attribute, is_attribute_of_set, is_typed, under, heads, no_head, inner_type, with_type, text_of, is_term, is_named, is_pair, parameter_count, IsQuery, is_structure, is_structure_of_set, AttributeValue, HeadValue, TreeValue, TermValue, NamedValue, PairValue, Word, word_of, left, fault_of, first_keyword, IsAfterFirst, ReadsFirst, ReadsWord, SpellsSpec, SpellsAttribute, SpellsHead, SpellsParameters, SpellsOperator, SpellsSet, Spells, first_place, IsFault, Due, Start, Structures, SetOrSpec, Spec, MoreWords, words_then, fault, Step, Allowed, Refused, step, structure_step, operator_step, start_step, And, Or, Not, Proximity, ConnectiveValue, connective_of, ◌&&◌}
+use Rattle.std.proofs.lemmas.List.Folds.{list_all-append}
 use Rattle.zeb_query.proofs.DigitLemmas.{and_parts}
 use Rattle.zeb_query.specs.Grammar.{kind_and_value}
 
@@ -64,12 +65,18 @@ fault-step end room due word words s e =
 step-spec : (room : ℕ) (word : Word) (n : ℕ) → true ≡ has_equals word.text → step room word (SetOrSpec n) ≡ step room word (Spec n)
 step-spec room word n has = rw (← has) refl
 
-pub fault_of-spec : (rest : Rest) (word : Word) (words : List Word) → left rest ≡ word ∷ words → true ≡ has_equals word.text → (n : ℕ) → fault_of rest (SetOrSpec n) ≡ fault_of rest (Spec n)
-fault_of-spec rest word words is has n =
-    ap (λ ws. fault rest.end rest.room (SetOrSpec n) ws) is
-    ∙ fault-step rest.end rest.room (SetOrSpec n) word words _ (step-spec rest.room word n has)
-    ∙ sym (fault-step rest.end rest.room (Spec n) word words _ refl)
-    ∙ sym (ap (λ ws. fault rest.end rest.room (Spec n) ws) is)
+pub fault_of-first_spec : (rest : Rest) → first_equals (left rest) ≡ true → (n : ℕ) → fault_of rest (SetOrSpec n) ≡ fault_of rest (Spec n)
+fault_of-first_spec rest has n = at (left rest) has
+  where
+    at : (words : List Word) → first_equals words ≡ true → fault rest.end rest.room (SetOrSpec n) words ≡ fault rest.end rest.room (Spec n) words
+    at [] e = absurd cc
+    at (word ∷ words) e =
+        fault-step rest.end rest.room (SetOrSpec n) word words _ (step-spec rest.room word n (sym e))
+        ∙ sym (fault-step rest.end rest.room (Spec n) word words _ refl)
+
+-- the first word has no `=`
+pub first_plain : (rest after : Rest) (word : Word) → left rest ≡ word ∷ left after → first_equals (left rest) ≡ false → has_equals word.text ≡ false
+first_plain rest after word is none = sym (ap first_equals is) ∙ none
 
 -- an error that has the same fault
 pub IsFault-same : (e : QueryFault) (x y : Option (ℕ × ℕ)) → y ≡ x → IsFault e x → IsFault e y
@@ -126,7 +133,7 @@ heads-assoc a b c =
 pub under-under : (a b : HeadValue) (tree : TreeValue) → under a (under b tree) ≡ under (heads a b) tree
 under-under a b (TermValue place head text) = ap (λ h. TermValue place h text) (sym (heads-assoc a b head))
 under-under a b (NamedValue place head name) = ap (λ h. NamedValue place h name) (sym (heads-assoc a b head))
-under-under a b (PairValue place head connective parameters left right) = ap (λ h. PairValue place h connective parameters left right) (sym (heads-assoc a b head))
+under-under a b (PairValue place head connective left right) = ap (λ h. PairValue place h connective left right) (sym (heads-assoc a b head))
 
 inner_type-none : (t : Option (List ℕ)) → inner_type None t ≡ t
 inner_type-none (Some t) = refl
@@ -138,7 +145,7 @@ heads-no_head h = ap (λ type. record { attributes = h.attributes; term_type = t
 pub under-no_head : (tree : TreeValue) → under no_head tree ≡ tree
 under-no_head (TermValue place head text) = ap (λ h. TermValue place h text) (heads-no_head head)
 under-no_head (NamedValue place head name) = ap (λ h. NamedValue place h name) (heads-no_head head)
-under-no_head (PairValue place head connective parameters left right) = ap (λ h. PairValue place h connective parameters left right) (heads-no_head head)
+under-no_head (PairValue place head connective left right) = ap (λ h. PairValue place h connective left right) (heads-no_head head)
 
 -- nothing is read yet
 pub spells_no_head : (rest : Rest) → SpellsHead rest rest no_head
@@ -174,33 +181,8 @@ spells_more_type start rest middle after head w found reads word good s =
 pub heads-with_type : (h : HeadValue) (t : List ℕ) → record { attributes = h.attributes; term_type = Some t } ≡ heads h (with_type t)
 heads-with_type h t = ap (λ attributes. record { attributes = attributes; term_type = Some t }) (sym (append-nil h.attributes))
 
--- parameters: none yet, and one more
-pub spells_no_parameters : (rest : Rest) → SpellsParameters rest rest 0 []
-spells_no_parameters rest = record { words = []; is = refl; count_is = refl; good = refl; texts_are = refl }
-
-all_good_more : (xs : List Word) (w : Word) → list_all is_good xs ≡ true → is_good w ≡ true → list_all is_good (xs ++ w ∷ []) ≡ true
-all_good_more [] w e good = rw good refl
-all_good_more (x ∷ xs) w e good =
-    let p = and_parts (is_good x) (list_all is_good xs) e in
-    rw (p.0) (all_good_more xs w p.1 good)
-
-pub spells_more_parameters : (start rest after : Rest) (count more : ℕ) (texts : List (List ℕ)) (w : Word) → ReadsWord rest after w → is_good w ≡ true → more ≡ count + 1 → SpellsParameters start rest count texts → SpellsParameters start after more (texts ++ w.text ∷ [])
-spells_more_parameters start rest after count more texts w reads good next s = record {
-  words = s.words ++ w ∷ [];
-  is = s.is ∙ ap (λ ws. s.words ++ ws) reads.is ∙ sym (append_assoc s.words (w ∷ []) (left after));
-  count_is = length_push s.words w ∙ ap (λ n. n + 1) s.count_is ∙ sym next;
-  good = all_good_more s.words w s.good good;
-  texts_are = map-append text_of s.words (w ∷ []) ∙ ap (λ ts. ts ++ w.text ∷ []) s.texts_are;
-}
-
--- words due count down
-pub words_then-more : (start rest after : Rest) (w : Word) (count i j : ℕ) → i < count → j ≡ i + 1 → ReadsWord rest after w → is_good w ≡ true → ((n : ℕ) → fault_of start (words_then count n) ≡ fault_of rest (words_then (count - i) n)) → (n : ℕ) → fault_of start (words_then count n) ≡ fault_of after (words_then (count - j) n)
-words_then-more start rest after w count i j lt next reads good goes n =
-    let down : count - i ≡ suc (count - j) = omega arith in
-    goes n ∙ ap (λ k. fault_of rest (words_then k n)) down ∙ fault_of-word rest after w reads good (count - j) n
-
 -- an operator at the front of a structure, where there is room for it
-pub fault_of-operator : (rest after : Rest) (w : Word) (connective : Connective) (room : ℕ) → ReadsWord rest after w → is_good w ≡ true → keyword_of w ≡ Some (Operator connective) → after.room ≡ suc room → (n : ℕ) → fault_of rest (Structures (suc n)) ≡ fault_of (record { words = after.words; end = after.end; room = room }) (words_then (parameter_count connective) (suc (suc n)))
+pub fault_of-operator : (rest after : Rest) (w : Word) (connective : OperatorWord) (room : ℕ) → ReadsWord rest after w → is_good w ≡ true → keyword_of w ≡ Some (Operator connective) → after.room ≡ suc room → (n : ℕ) → fault_of rest (Structures (suc n)) ≡ fault_of (record { words = after.words; end = after.end; room = room }) (words_then (parameter_count connective) (suc (suc n)))
 fault_of-operator rest after w connective room reads good key has n =
     let due = words_then (parameter_count connective) (suc (suc n)) in
     ap (λ ws. fault rest.end rest.room (Structures (suc n)) ws) reads.is
@@ -231,29 +213,81 @@ spells_named start rest middle after head set name text s reads key named good s
     (subst (λ t. Spells start after (NamedValue set.place (heads head no_head) t)) (sym same)
     (spells_under start rest after head (set ∷ name ∷ []) (NamedValue set.place no_head name.text) s (reads.is ∙ ap (λ ws. set ∷ ws) named.is) (is_named set name (sym key) good)))
 
-pub spells_operator : (rest after last : Rest) (w : Word) (connective : Connective) (texts : List (List ℕ)) (room : ℕ) → ReadsWord rest after w → keyword_of w ≡ Some (Operator connective) → SpellsParameters (record { words = after.words; end = after.end; room = room }) last (parameter_count connective) texts → SpellsOperator rest last connective texts
-spells_operator rest after last w connective texts room reads key s = record {
+-- an operator with what stands behind its word
+pub spells_operator : (rest after last : Rest) (w : Word) (word : OperatorWord) (connective : ConnectiveValue) (texts : List (List ℕ)) (room : ℕ) → ReadsWord rest after w → keyword_of w ≡ Some (Operator word)
+    → SpellsParameters (record { words = after.words; end = after.end; room = room }) last texts → connective_of word texts ≡ Some connective → SpellsOperator rest last word w.place connective
+spells_operator rest after last w word connective texts room reads key s is = record {
   operator = w;
   words = s.words;
   is = reads.is ∙ ap (λ ws. w ∷ ws) s.is;
+  place_is = refl;
   keyword = key;
-  count_is = s.count_is;
   good = s.good;
-  texts_are = s.texts_are;
+  connective_is = ap (λ ts. connective_of word ts) s.texts_are ∙ is;
 }
 
-pub spells_pair : (start rest first second after : Rest) (head : HeadValue) (w : Word) (place : ℕ) (connective : Connective) (texts : List (List ℕ)) (x y : TreeValue) → SpellsHead start rest head → ReadsWord rest second w → place ≡ w.place → SpellsOperator rest first connective texts → (middle : Rest) → Spells first middle x → Spells middle after y → Spells start after (PairValue place head connective texts x y)
-spells_pair start rest first second after head w place connective texts x y s reads at o middle l r =
-    let same : w ≡ o.operator = head_same (sym reads.is ∙ o.is) in
-    subst (λ p. Spells start after (PairValue p head connective texts x y)) (sym (at ∙ ap (λ v. v.place) same))
-    (subst (λ h. Spells start after (PairValue o.operator.place h connective texts x y)) (heads-to_no_head head)
-    (subst (λ t. Spells start after (PairValue o.operator.place (heads head no_head) connective t x y)) o.texts_are
-    (spells_under start rest after head (o.operator ∷ (o.words ++ (l.words ++ r.words))) (PairValue o.operator.place no_head connective (map text_of o.words) x y) s
+-- no parameters
+pub spells_no_parameters : (rest : Rest) → SpellsParameters rest rest []
+spells_no_parameters rest = record { words = []; is = refl; good = refl; texts_are = refl }
+
+-- one more parameter in front
+pub spells_next : (rest middle after : Rest) (text : List ℕ) (texts : List (List ℕ)) → SpellsParameters rest middle (text ∷ []) → SpellsParameters middle after texts → SpellsParameters rest after (text ∷ texts)
+spells_next rest middle after text texts s t = record {
+  words = s.words ++ t.words;
+  is = s.is ∙ ap (λ ws. s.words ++ ws) t.is ∙ sym (append_assoc s.words t.words (left after));
+  good = list_all-append is_good s.words t.words ∙ ap (λ b. b && list_all is_good t.words) s.good ∙ t.good;
+  texts_are = map-append text_of s.words t.words ∙ ap (λ ts. ts ++ map text_of t.words) s.texts_are ∙ ap (λ ts. text ∷ ts) t.texts_are;
+}
+
+-- a single parameter
+pub spells_one : (rest after : Rest) (w : Word) (text : List ℕ) → ReadsWord rest after w → is_good w ≡ true → text ≡ w.text → SpellsParameters rest after (text ∷ [])
+spells_one rest after w text reads good same =
+    record { words = w ∷ []; is = reads.is; good = ap (λ b. b && true) good; texts_are = ap (λ t. t ∷ []) (sym same) }
+
+-- as many parameters as the operator has
+pub count_of : (word : OperatorWord) (texts : List (List ℕ)) (connective : ConnectiveValue) → connective_of word texts ≡ Some connective → length texts ≡ parameter_count word
+count_of And [] connective e = refl
+count_of And (a ∷ texts) connective e = absurd cc
+count_of Or [] connective e = refl
+count_of Or (a ∷ texts) connective e = absurd cc
+count_of Not [] connective e = refl
+count_of Not (a ∷ texts) connective e = absurd cc
+count_of Proximity [] connective e = absurd cc
+count_of Proximity (a ∷ []) connective e = absurd cc
+count_of Proximity (a ∷ b ∷ []) connective e = absurd cc
+count_of Proximity (a ∷ b ∷ c ∷ []) connective e = absurd cc
+count_of Proximity (a ∷ b ∷ c ∷ d ∷ []) connective e = absurd cc
+count_of Proximity (a ∷ b ∷ c ∷ d ∷ f ∷ []) connective e = absurd cc
+count_of Proximity (a ∷ b ∷ c ∷ d ∷ f ∷ g ∷ []) connective e = refl
+count_of Proximity (a ∷ b ∷ c ∷ d ∷ f ∷ g ∷ h ∷ texts) connective e = absurd cc
+
+pub words_count : (word : OperatorWord) (words : List Word) (connective : ConnectiveValue) → connective_of word (map text_of words) ≡ Some connective → length words ≡ parameter_count word
+words_count word words connective e = sym (length-map words text_of) ∙ count_of word (map text_of words) connective e
+
+-- so many parameters are those of the operator
+pub connective_with : (word : OperatorWord) (texts : List (List ℕ)) → length texts ≡ parameter_count word → (connective : ConnectiveValue) × (connective_of word texts ≡ Some connective)
+connective_with And [] e = (_, refl)
+connective_with And (a ∷ texts) e = absurd (omega arith)
+connective_with Or [] e = (_, refl)
+connective_with Or (a ∷ texts) e = absurd (omega arith)
+connective_with Not [] e = (_, refl)
+connective_with Not (a ∷ texts) e = absurd (omega arith)
+connective_with Proximity [] e = absurd (omega arith)
+connective_with Proximity (a ∷ []) e = absurd (omega arith)
+connective_with Proximity (a ∷ b ∷ []) e = absurd (omega arith)
+connective_with Proximity (a ∷ b ∷ c ∷ []) e = absurd (omega arith)
+connective_with Proximity (a ∷ b ∷ c ∷ d ∷ []) e = absurd (omega arith)
+connective_with Proximity (a ∷ b ∷ c ∷ d ∷ f ∷ []) e = absurd (omega arith)
+connective_with Proximity (a ∷ b ∷ c ∷ d ∷ f ∷ g ∷ []) e = (_, refl)
+connective_with Proximity (a ∷ b ∷ c ∷ d ∷ f ∷ g ∷ h ∷ texts) e = absurd (omega arith)
+
+pub spells_pair : (start rest first after : Rest) (head : HeadValue) (word : OperatorWord) (place : ℕ) (connective : ConnectiveValue) (x y : TreeValue) → SpellsHead start rest head → SpellsOperator rest first word place connective → (middle : Rest) → Spells first middle x → Spells middle after y → Spells start after (PairValue place head connective x y)
+spells_pair start rest first after head word place connective x y s o middle l r =
+    subst (λ p. Spells start after (PairValue p head connective x y)) (sym o.place_is)
+    (subst (λ h. Spells start after (PairValue o.operator.place h connective x y)) (heads-to_no_head head)
+    (spells_under start rest after head (o.operator ∷ (o.words ++ (l.words ++ r.words))) (PairValue o.operator.place no_head connective x y) s
     (o.is ∙ ap (λ ws. o.operator ∷ ws) (ap (λ ws. o.words ++ ws) (l.is ∙ ap (λ ws. l.words ++ ws) r.is ∙ sym (append_assoc l.words r.words (left after))) ∙ sym (append_assoc o.words (l.words ++ r.words) (left after))))
-    (is_pair o.operator connective o.words l.words r.words x y o.keyword o.count_is o.good l.spells r.spells))))
-  where
-    head_same : {v w : Word} {vs ws : List Word} → v ∷ vs ≡ w ∷ ws → v ≡ w
-    head_same e = cc
+    (is_pair o.operator word connective o.words l.words r.words x y o.keyword o.connective_is o.good l.spells r.spells)))
 
 -- the start of a query without an attribute set is that of a structure
 pub start_step-structure : (room : ℕ) (k : Option Keyword) → k ≢ Some AttributeSet → start_step room k ≡ structure_step room k 0
@@ -315,8 +349,8 @@ fault_of-past rest e =
     let some : 0 < length rest.words.now = grind (arith, nat_tests) in
     fault-past rest.end rest.room (left rest) (rw (length-map) some)
 
-pub spells_query : (rest middle last : Rest) (set : Option (List ℕ)) (tree : TreeValue) → SpellsSet rest middle set → Spells middle last tree → true ≡ eqb (length last.words.now) 0 → IsQuery (left rest) (record { attribute_set = set; tree = tree })
+pub spells_query : (rest middle last : Rest) (set : Option (List ℕ)) (tree : TreeValue) → SpellsSet rest middle set → Spells middle last tree → true ≡ eqb (length last.words.now) 0 → IsQuery (left rest) (record { attrset = set; tree = tree })
 spells_query rest middle last set tree s t e =
     let nothing : left last ≡ [] = ap (λ ws. map word_of ws) (nil_from_length last.words.now (zero_from_test (length last.words.now) e)) in
     let whole : left rest ≡ s.words ++ t.words = s.is ∙ ap (λ ws. s.words ++ ws) (t.is ∙ ap (λ ws. t.words ++ ws) nothing ∙ append-nil t.words) in
-    subst (λ ws. IsQuery ws (record { attribute_set = set; tree = tree })) (sym whole) (s.spells t.words tree t.spells)
+    subst (λ ws. IsQuery ws (record { attrset = set; tree = tree })) (sym whole) (s.spells t.words tree t.spells)

@@ -1,6 +1,7 @@
 -- One text is one structure: the first word says which rule it is by, and each part is read to its end and no further.
-use Rattle.zeb_query.proofs.Cited.{◌≡◌, ℕ, ◌⊎◌, inl, inr, true, false, true≢false, List, [], ◌∷◌, ◌++◌, Option, Some, None, length, refl, ap, sym, subst, ◌∙◌, arith, append_assoc, map, Connective, Keyword, AttributeSet, Attribute, TermType, ResultSet, Operator, Word, keyword_of, IsStructure, is_term, is_named, is_attribute, is_attribute_of_set, is_typed, is_pair, IsQuery, is_structure, is_structure_of_set, is_good, has_equals, parameter_count, under, text_of, no_head, with_attribute, with_type, TreeValue, TermValue, NamedValue, PairValue, QueryValue, first_keyword}
+use Rattle.zeb_query.proofs.Cited.{◌≡◌, ℕ, ◌⊎◌, inl, inr, true, false, true≢false, List, [], ◌∷◌, ◌++◌, Option, Some, None, length, refl, ap, sym, subst, ◌∙◌, arith, append_assoc, map, OperatorWord, Keyword, AttributeSet, Attribute, TermType, ResultSet, Operator, Word, keyword_of, IsStructure, is_term, is_named, is_attribute, is_attribute_of_set, is_typed, is_pair, IsQuery, is_structure, is_structure_of_set, is_good, has_equals, parameter_count, under, text_of, no_head, with_attribute, with_type, TreeValue, TermValue, NamedValue, PairValue, QueryValue, first_keyword, ConnectiveValue, connective_of}
 use Rattle.zeb_query.specs.Grammar.{kind_and_value}
+use Rattle.zeb_query.proofs.GrammarLemmas.{words_count}
 use Rattle.zeb_query.proofs.GrammarLaws.{has_equals_from_read, not_set_first}
 
 -- what a structure is, whose words and then v are the word and then rest, by the keyword that the word is
@@ -40,7 +41,8 @@ pub record Typed (word : Word) (rest v whole : List Word) (y : TreeValue) : Type
   pub inside : IsStructure words tree
   pub tree_is : y ≡ under (with_type type.text) tree
 
-pub record Paired (connective : Connective) (word : Word) (rest v whole : List Word) (y : TreeValue) : Type 0 where
+pub record Paired (operator : OperatorWord) (word : Word) (rest v whole : List Word) (y : TreeValue) : Type 0 where
+  pub connective : ConnectiveValue
   pub parameters : List Word
   pub left : List Word
   pub right : List Word
@@ -48,10 +50,10 @@ pub record Paired (connective : Connective) (word : Word) (rest v whole : List W
   pub z : TreeValue
   pub is : whole ≡ word ∷ (parameters ++ (left ++ right))
   pub rest_is : rest ≡ parameters ++ (left ++ (right ++ v))
-  pub count : length parameters ≡ parameter_count connective
+  pub read : connective_of operator (map text_of parameters) ≡ Some connective
   pub first : IsStructure left x
   pub second : IsStructure right z
-  pub tree_is : y ≡ PairValue word.place no_head connective (map text_of parameters) x z
+  pub tree_is : y ≡ PairValue word.place no_head connective x z
 
 pub record Termed (word : Word) (rest v whole : List Word) (y : TreeValue) : Type 0 where
   pub is : whole ≡ word ∷ []
@@ -105,13 +107,13 @@ shape_of (is_typed keyword type words tree key good inside) w rest v e =
     subst (λ x. Shape (keyword_of x) x rest v (keyword ∷ type ∷ words) (under (with_type type.text) tree)) (sym same)
     (subst (λ k. Shape k keyword rest v (keyword ∷ type ∷ words) (under (with_type type.text) tree)) (sym key)
     (record { type = type; words = words; tree = tree; is = refl; rest_is = tails_same e; inside = inside; tree_is = refl }))
-shape_of (is_pair operator connective ps left right x z key count good l r) w rest v e =
+shape_of (is_pair operator word connective ps left right x z key read good l r) w rest v e =
     let same : w ≡ operator = heads_same e in
-    let tree : TreeValue = PairValue operator.place no_head connective (map text_of ps) x z in
+    let tree : TreeValue = PairValue operator.place no_head connective x z in
     let whole : List Word = operator ∷ (ps ++ (left ++ right)) in
     subst (λ o. Shape (keyword_of o) o rest v whole tree) (sym same)
     (subst (λ k. Shape k operator rest v whole tree) (sym key)
-    (record { parameters = ps; left = left; right = right; x = x; z = z; is = refl; rest_is = tails_same e ∙ append_assoc ps (left ++ right) v ∙ ap (λ ws. ps ++ ws) (append_assoc left right v); count = count; first = l; second = r; tree_is = refl }))
+    (record { connective = connective; parameters = ps; left = left; right = right; x = x; z = z; is = refl; rest_is = tails_same e ∙ append_assoc ps (left ++ right) v ∙ ap (λ ws. ps ++ ws) (append_assoc left right v); read = read; first = l; second = r; tree_is = refl }))
 
 -- two structures at the front of one text
 pub record IsSame (a b u v : List Word) (x y : TreeValue) : Type 0 where
@@ -132,6 +134,9 @@ somes_same e = cc
 
 pub no_set : (w : Word) (read : ℕ × List ℕ) → kind_and_value w.text ≡ Some read → has_equals w.text ≡ false → ⊥
 no_set w read reads plain = true≢false (sym (has_equals_from_read w.text read reads) ∙ plain)
+
+same_value : {a b : ConnectiveValue} → Some a ≡ Some b → a ≡ b
+same_value e = cc
 
 pub same_structure : {a : List Word} {x : TreeValue} → IsStructure a x → {b : List Word} {y : TreeValue} → IsStructure b y → (u v : List Word) → a ++ u ≡ b ++ v → IsSame a b u v x y
 same_structure (is_term term good key) {b} {y} d u v e =
@@ -184,18 +189,18 @@ same_structure (is_typed keyword type words tree key good inside) {b} {y} d u v 
       rest = i.rest;
       tree = ap (λ w. under (with_type w.text) tree) n ∙ ap (λ t. under (with_type p.type.text) t) i.tree ∙ sym p.tree_is;
     }
-same_structure (is_pair operator connective ps left right x z key count good l r) {b} {y} d u v e =
+same_structure (is_pair operator word connective ps left right x z key read good l r) {b} {y} d u v e =
     let front : List Word = ps ++ (left ++ right) in
-    let p : Paired connective operator (front ++ u) v b y = subst (λ k. Shape k operator (front ++ u) v b y) key (shape_of d operator (front ++ u) v e) in
+    let p : Paired word operator (front ++ u) v b y = subst (λ k. Shape k operator (front ++ u) v b y) key (shape_of d operator (front ++ u) v e) in
     let rest : ps ++ (left ++ (right ++ u)) ≡ p.parameters ++ (p.left ++ (p.right ++ v)) =
     ap (λ ws. ps ++ ws) (sym (append_assoc left right u)) ∙ sym (append_assoc ps (left ++ right) u) ∙ p.rest_is in
-    let f : (ps ≡ p.parameters) × (left ++ (right ++ u) ≡ p.left ++ (p.right ++ v)) = same_fronts ps p.parameters _ _ (count ∙ sym p.count) rest in
+    let f : (ps ≡ p.parameters) × (left ++ (right ++ u) ≡ p.left ++ (p.right ++ v)) = same_fronts ps p.parameters _ _ (words_count word ps connective read ∙ sym (words_count word p.parameters p.connective p.read)) rest in
     let i : IsSame left p.left (right ++ u) (p.right ++ v) x p.x = same_structure l p.first (right ++ u) (p.right ++ v) f.1 in
     let j : IsSame right p.right u v z p.z = same_structure r p.second u v i.rest in
     record {
       words = ap (λ qs. operator ∷ (qs ++ (left ++ right))) f.0 ∙ ap (λ ws. operator ∷ (p.parameters ++ (ws ++ right))) i.words ∙ ap (λ ws. operator ∷ (p.parameters ++ (p.left ++ ws))) j.words ∙ sym p.is;
       rest = j.rest;
-      tree = ap (λ qs. PairValue operator.place no_head connective (map text_of qs) x z) f.0 ∙ ap (λ t. PairValue operator.place no_head connective (map text_of p.parameters) t z) i.tree ∙ ap (λ t. PairValue operator.place no_head connective (map text_of p.parameters) p.x t) j.tree ∙ sym p.tree_is;
+      tree = ap (λ c. PairValue operator.place no_head c x z) (same_value (sym read ∙ ap (λ qs. connective_of word (map text_of qs)) f.0 ∙ p.read)) ∙ ap (λ t. PairValue operator.place no_head p.connective t z) i.tree ∙ ap (λ t. PairValue operator.place no_head p.connective p.x t) j.tree ∙ sym p.tree_is;
     }
 
 -- one text is one query
@@ -205,13 +210,13 @@ first_of_set keyword ws key s e = not_set_first s (ap first_keyword e ∙ key)
 same_query_by : {us : List Word} {x : QueryValue} → IsQuery us x → {vs : List Word} {y : QueryValue} → IsQuery vs y → us ≡ vs → x ≡ y
 same_query_by (is_structure us t s) (is_structure vs r q) e =
     let i = same_structure s q [] [] (ap (λ ws. ws ++ []) e) in
-    ap (λ tree. record { attribute_set = None; tree = tree }) i.tree
+    ap (λ tree. record { attrset = None; tree = tree }) i.tree
 same_query_by (is_structure us t s) (is_structure_of_set keyword set vs r key good q) e = absurd (first_of_set keyword (set ∷ vs) key s e)
 same_query_by (is_structure_of_set keyword set us t key good s) (is_structure vs r q) e = absurd (first_of_set keyword (set ∷ us) key q (sym e))
 same_query_by (is_structure_of_set keyword set us t key good s) (is_structure_of_set keyword2 set2 vs r key2 good2 q) e =
     let f : set ∷ us ≡ set2 ∷ vs = tails_same e in
     let i = same_structure s q [] [] (ap (λ ws. ws ++ []) (tails_same f)) in
-    ap (λ w. record { attribute_set = Some w.text; tree = t }) (heads_same f) ∙ ap (λ tree. record { attribute_set = Some set2.text; tree = tree }) i.tree
+    ap (λ w. record { attrset = Some w.text; tree = t }) (heads_same f) ∙ ap (λ tree. record { attrset = Some set2.text; tree = tree }) i.tree
 
 pub same_query : (words : List Word) (x y : QueryValue) → IsQuery words x → IsQuery words y → x ≡ y
 same_query words x y p q = same_query_by p q refl

@@ -1,9 +1,9 @@
 -- Which words may follow: a word is allowed exactly where some text goes on with it, unless there is no room for an operator.
-use Rattle.zeb_query.proofs.Cited.{◌≡◌, ℕ, zero, suc, ◌⊎◌, inl, inr, Bool, true, false, List, [], ◌∷◌, ◌++◌, Option, Some, None, length, refl, ap, sym, subst, ◌∙◌, arith, append_assoc, list_all, Connective, Plain, Keyword, AttributeSet, Attribute, TermType, ResultSet, Operator, Word, keyword_of, IsStructure, is_term, is_named, is_attribute, is_attribute_of_set, is_typed, is_pair, IsQuery, is_structure, is_structure_of_set, is_good, has_equals, parameter_count, under, no_head, with_attribute, TreeValue, TermValue, QueryValue, Due, Start, Structures, SetOrSpec, Spec, MoreWords, words_then, fault, fault_at_end, Step, Allowed, Refused, step, good_step, structure_step, start_step, spec_step, operator_step, first_keyword}
+use Rattle.zeb_query.proofs.Cited.{◌≡◌, ℕ, zero, suc, ◌⊎◌, inl, inr, Bool, true, false, List, [], ◌∷◌, ◌++◌, Option, Some, None, length, refl, ap, sym, subst, ◌∙◌, arith, append_assoc, list_all, OperatorWord, Plain, Keyword, AttributeSet, Attribute, TermType, ResultSet, Operator, Word, keyword_of, IsStructure, is_term, is_named, is_attribute, is_attribute_of_set, is_typed, is_pair, IsQuery, is_structure, is_structure_of_set, is_good, has_equals, parameter_count, under, no_head, with_attribute, TreeValue, TermValue, QueryValue, Due, Start, Structures, SetOrSpec, Spec, MoreWords, words_then, fault, fault_at_end, Step, Allowed, Refused, step, good_step, structure_step, start_step, spec_step, operator_step, first_keyword, map, text_of, length-map}
 use Rattle.std.specs.Prelude.{codes}
 use Rattle.zeb_query.specs.Grammar.{kind_and_value}
 use Rattle.zeb_query.proofs.DigitLemmas.{and_parts}
-use Rattle.zeb_query.proofs.GrammarLemmas.{append-nil, step-start, step-structure, good_from_keyword}
+use Rattle.zeb_query.proofs.GrammarLemmas.{append-nil, step-start, step-structure, good_from_keyword, connective_with, words_count}
 use Rattle.zeb_query.proofs.GrammarLaws.{has_equals_from_read, not_set_first, over-words, over-set_or_spec, over-spec}
 use Rattle.zeb_query.proofs.GrammarOnce.{Attributed, AttributedOfSet, shape_of, heads_same, tails_same, no_set}
 
@@ -53,7 +53,7 @@ After (Refused number) ws = number ≡ 6
 stepped : (s t : Step) (ws : List Word) → s ≡ t → After t ws → After s ws
 stepped s t ws e a = subst (λ x. After x ws) (sym e) a
 
-after_operator : (room n : ℕ) (connective : Connective) (ps rest ws : List Word) → ws ≡ ps ++ rest → length ps ≡ parameter_count connective → list_all is_good ps ≡ true → AreStructures (suc (suc n)) rest → After (operator_step room connective n) ws
+after_operator : (room n : ℕ) (connective : OperatorWord) (ps rest ws : List Word) → ws ≡ ps ++ rest → length ps ≡ parameter_count connective → list_all is_good ps ≡ true → AreStructures (suc (suc n)) rest → After (operator_step room connective n) ws
 after_operator zero n connective ps rest ws is count good c = refl
 after_operator (suc room) n connective ps rest ws is count good c = subst (λ xs. Completes (words_then (parameter_count connective) (suc (suc n))) xs) (sym is) (words_due (parameter_count connective) (suc (suc n)) ps rest count good c)
 
@@ -90,14 +90,14 @@ after_structure (is_typed keyword type words tree key good inside) n room ws res
     subst (λ x. After (step room x (Structures (suc n))) ws) (sym same)
     (stepped _ (Allowed room (MoreWords 0 (suc n))) ws (step-keyword room n keyword TermType key)
     (record { parameters = type ∷ []; rest = words ++ rest; is = tails_same e; count = refl; good = one_good type good; past = more }))
-after_structure (is_pair operator connective ps left right x z key count good l r) n room ws rest w e c =
+after_structure (is_pair operator word connective ps left right x z key is good l r) n room ws rest w e c =
     let same : w ≡ operator = heads_same e in
     let second : AreStructures (suc n) (right ++ rest) = record { front = right; rest = rest; tree = z; is = refl; spelled = r; past = c } in
     let first : AreStructures (suc (suc n)) (left ++ (right ++ rest)) = record { front = left; rest = right ++ rest; tree = x; is = refl; spelled = l; past = second } in
     subst (λ y. After (step room y (Structures (suc n))) ws) (sym same)
-    (stepped _ (operator_step room connective n) ws (step-keyword room n operator (Operator connective) key)
-    (after_operator room n connective ps (left ++ (right ++ rest)) ws
-    (tails_same e ∙ append_assoc ps (left ++ right) rest ∙ ap (λ xs. ps ++ xs) (append_assoc left right rest)) count good first))
+    (stepped _ (operator_step room word n) ws (step-keyword room n operator (Operator word) key)
+    (after_operator room n word ps (left ++ (right ++ rest)) ws
+    (tails_same e ∙ append_assoc ps (left ++ right) rest ∙ ap (λ xs. ps ++ xs) (append_assoc left right rest)) (words_count word ps connective is) good first))
 
 -- words to try: @attr, a set, a SPEC and a term
 abbrev the_attr : Word
@@ -212,19 +212,20 @@ before_keyword n (suc room) r d w ws (Some (Operator connective)) key good e c =
     let p : WordsThen (AreStructures (suc (suc n))) (parameter_count connective) ws = due_words (parameter_count connective) (suc (suc n)) ws (subst (λ x. Completes x ws) (sym (steps_same e)) c) in
     let x = p.past in
     let y = x.past in
+    let given = connective_with connective (map text_of p.parameters) (length-map p.parameters text_of ∙ p.count) in
     record {
       front = w ∷ (p.parameters ++ (x.front ++ y.front));
       rest = y.rest;
       tree = _;
       is = ap (λ xs. w ∷ xs) (p.is ∙ ap (λ xs. p.parameters ++ xs) (x.is ∙ ap (λ xs. x.front ++ xs) y.is ∙ sym (append_assoc x.front y.front y.rest)) ∙ sym (append_assoc p.parameters (x.front ++ y.front) y.rest));
-      spelled = is_pair w connective p.parameters x.front y.front x.tree y.tree key p.count p.good x.spelled y.spelled;
+      spelled = is_pair w connective given.0 p.parameters x.front y.front x.tree y.tree key given.1 p.good x.spelled y.spelled;
       past = y.past;
     }
 
 query_of_one : (ws : List Word) → AreStructures 1 ws → (q : QueryValue) × IsQuery ws q
 query_of_one ws c =
     let all : ws ≡ c.front = c.is ∙ ap (λ xs. c.front ++ xs) c.past ∙ append-nil c.front in
-    (record { attribute_set = None; tree = c.tree }, subst (λ xs. IsQuery xs (record { attribute_set = None; tree = c.tree })) (sym all) (is_structure c.front c.tree c.spelled))
+    (record { attrset = None; tree = c.tree }, subst (λ xs. IsQuery xs (record { attrset = None; tree = c.tree })) (sym all) (is_structure c.front c.tree c.spelled))
 
 before_start : (room r : ℕ) (d : Due) (w : Word) (ws : List Word) (k : Option Keyword) → keyword_of w ≡ k → is_good w ≡ true → start_step room k ≡ Allowed r d → Completes d ws → (q : QueryValue) × IsQuery (w ∷ ws) q
 before_start room r d w ws (Some AttributeSet) key good e c =
@@ -233,7 +234,7 @@ before_start room r d w ws (Some AttributeSet) key good e c =
     let g : is_good s.0 ≡ true = (and_parts (is_good s.0) true (sym (ap (λ qs. list_all is_good qs) s.1) ∙ p.good)).0 in
     let all : p.rest ≡ p.past.front = p.past.is ∙ ap (λ xs. p.past.front ++ xs) p.past.past ∙ append-nil p.past.front in
     let whole : ws ≡ s.0 ∷ p.past.front = p.is ∙ ap (λ qs. qs ++ p.rest) s.1 ∙ ap (λ xs. s.0 ∷ xs) all in
-    (record { attribute_set = Some s.0.text; tree = p.past.tree }, subst (λ xs. IsQuery (w ∷ xs) (record { attribute_set = Some s.0.text; tree = p.past.tree })) (sym whole) (is_structure_of_set w s.0 p.past.front p.past.tree key g p.past.spelled))
+    (record { attrset = Some s.0.text; tree = p.past.tree }, subst (λ xs. IsQuery (w ∷ xs) (record { attrset = Some s.0.text; tree = p.past.tree })) (sym whole) (is_structure_of_set w s.0 p.past.front p.past.tree key g p.past.spelled))
 before_start room r d w ws None key good e c = query_of_one (w ∷ ws) (before_keyword 0 room r d w ws None key good e c)
 before_start room r d w ws (Some Attribute) key good e c = query_of_one (w ∷ ws) (before_keyword 0 room r d w ws (Some Attribute) key good e c)
 before_start room r d w ws (Some TermType) key good e c = query_of_one (w ∷ ws) (before_keyword 0 room r d w ws (Some TermType) key good e c)
@@ -305,7 +306,7 @@ good-terms zero = refl
 good-terms (suc k) = good-terms k
 
 pub completion : (due : Due) → (ws : List Word) × Completes due ws
-completion Start = (the_set ∷ [], (record { attribute_set = None; tree = TermValue 0 no_head the_set.text }, is_structure (the_set ∷ []) (TermValue 0 no_head the_set.text) (is_term the_set refl refl)))
+completion Start = (the_set ∷ [], (record { attrset = None; tree = TermValue 0 no_head the_set.text }, is_structure (the_set ∷ []) (TermValue 0 no_head the_set.text) (is_term the_set refl refl)))
 completion (Structures n) = (terms n, are_terms n)
 completion (SetOrSpec n) =
     let p : AreStructures (suc n) (terms (suc n)) = are_terms (suc n) in
@@ -335,7 +336,7 @@ nonempty (is_named set name key good) rest e = absurd (cc)
 nonempty (is_attribute attr spec words tree read key good reads inside) rest e = absurd (cc)
 nonempty (is_attribute_of_set attr set spec words tree read key good plain good2 reads inside) rest e = absurd (cc)
 nonempty (is_typed keyword type words tree key good inside) rest e = absurd (cc)
-nonempty (is_pair operator connective ps left right x z key count good l r) rest e = absurd (cc)
+nonempty (is_pair operator word connective ps left right x z key is good l r) rest e = absurd (cc)
 
 no_query : {us : List Word} {q : QueryValue} → IsQuery us q → us ≡ [] → ⊥
 no_query (is_structure us tree s) e = nonempty s [] (sym e ∙ sym (append-nil us))

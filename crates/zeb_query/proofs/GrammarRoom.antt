@@ -1,6 +1,6 @@
 -- Operators that there is no room for: a query's fault is 6 at the first of them, if there is one.
 use Rattle.zeb_query.proofs.Cited.{◌≡◌, ℕ, zero, suc, ◌+◌, ◌<◌, ◌≤◌, ◌⊎◌, inl, inr, List, [], ◌∷◌, ◌++◌, Option, Some, None, length, refl, ap, sym, subst, ◌∙◌, arith, append_assoc, length-append, slice_get, option_map, slice_get_past, AttributeSet, Attribute, TermType, Operator, Word, TreeValue, QueryValue, IsStructure, is_term, is_named, is_attribute, is_attribute_of_set, is_typed, is_pair, IsQuery, is_structure, is_structure_of_set, parameter_count, with_attribute, with_type, Start, Structures, SetOrSpec, MoreWords, words_then, fault, Refused, structure_step, start_step, operators}
-use Rattle.zeb_query.proofs.GrammarLemmas.{append-nil, fault-start, fault-step, step-structure, good_from_keyword}
+use Rattle.zeb_query.proofs.GrammarLemmas.{append-nil, fault-start, fault-step, step-structure, good_from_keyword, words_count}
 use Rattle.zeb_query.proofs.GrammarLaws.{operators-under, over, over-keyword, over-word, over-words, over-set, over-spec, over-set_or_spec, over-operator, over_structure, over_query, not_set_first}
 
 -- 6 at a place
@@ -53,13 +53,13 @@ crowded_structure (is_typed keyword type words tree key good inside) end room n 
     ∙ over-word end room 0 (suc n) type (words ++ rest) good
     ∙ crowded_structure inside end room n rest (subst (λ ps. room < length ps) same h)
     ∙ ap (λ ps. crowd room ps) (sym same)
-crowded_structure (is_pair operator connective ps left right x y key count good l m) end zero n rest h =
+crowded_structure (is_pair operator word connective ps left right x y key is good l m) end zero n rest h =
     fault-step end 0 (Structures (suc n)) operator _ (Refused 6)
-    (step-structure 0 n operator (good_from_keyword operator (Operator connective) key) ∙ ap (λ j. structure_step 0 j n) key)
-crowded_structure (is_pair operator connective ps left right x y key count good l m) end (suc r) n rest h =
-    over-operator end r n connective operator ((ps ++ (left ++ right)) ++ rest) key
-    ∙ ap (λ ws. fault end r (words_then (parameter_count connective) (suc (suc n))) ws) (append_assoc ps (left ++ right) rest ∙ ap (λ ws. ps ++ ws) (append_assoc left right rest))
-    ∙ over-words end r (parameter_count connective) (suc (suc n)) ps (left ++ (right ++ rest)) count good
+    (step-structure 0 n operator (good_from_keyword operator (Operator word) key) ∙ ap (λ j. structure_step 0 j n) key)
+crowded_structure (is_pair operator word connective ps left right x y key is good l m) end (suc r) n rest h =
+    over-operator end r n word operator ((ps ++ (left ++ right)) ++ rest) key
+    ∙ ap (λ ws. fault end r (words_then (parameter_count word) (suc (suc n))) ws) (append_assoc ps (left ++ right) rest ∙ ap (λ ws. ps ++ ws) (append_assoc left right rest))
+    ∙ over-words end r (parameter_count word) (suc (suc n)) ps (left ++ (right ++ rest)) (words_count word ps connective is) good
     ∙ operands (below_or_above r (length (operators x))) (crowded_structure l end r (suc n) (right ++ rest)) (λ k. crowded_structure m end k n rest)
   where
     operands : ((r < length (operators x)) ⊎ ((k : ℕ) × (r ≡ length (operators x) + k)))

@@ -1,6 +1,5 @@
 -- In which register a term's plan looks.
-use Rattle.zeb_query.proofs.Cited.{◌≡◌, ℕ, Bool, true, false, cond, eqb, List, [], ◌∷◌, ◌++◌, Option, Some, None, refl, ap, sym, subst, ◌∙◌, Ok, not, ◌&&◌, is_none, unwrap_or, eqb-true, digits_value, Profile, Register, has_pair, Symbol, Relation, Order, And, Or, Not, Proximity, HeadValue, TreeValue, TermValue, NamedValue, PairValue, QueryValue, heads, no_head, HoldingValue, number_or, is_among, relation_is, structure_is, position_is, completeness_is, index_used, index_held, register_searched, patterns_held, relation_held, order_held, joined_words_if_any, joined_if_any, Check, check, first_that_applies, one_of, has_target, head_checks, value_checks, words_checks, clash_checks, near_clash_checks, register_checks, number_checks, term_checks, find_checks, Operand, operand_of, parameter_checks, operand_checks, operands_checks, proximity_checks, checks_in, query_checks, Refusal, TermPlanValue, PlanValue, RecordNumberOf, AlwaysOf, NumberOf, OrderedOf, CompleteOf, PhraseOf, AllWordsOf, AnyWordOf, near_asked, tree_asked, plan_of, plan_register, held_in, looked_into, AllLookInto, LooksInto}
-use Rattle.std.specs.Prelude.{codes}
+use Rattle.zeb_query.proofs.Cited.{◌≡◌, ℕ, Bool, true, false, cond, eqb, List, [], ◌∷◌, ◌++◌, Option, Some, None, refl, ap, sym, subst, ◌∙◌, Ok, not, ◌&&◌, is_none, unwrap_or, eqb-true, digits_value, Profile, Register, has_pair, Symbol, Relation, Order, BooleanOf, ParametersValue, ProximityOf, Proximity, operator_word, HeadValue, TreeValue, TermValue, NamedValue, PairValue, QueryValue, heads, no_head, HoldingValue, number_or, is_among, relation_is, structure_is, position_is, completeness_is, index_used, index_held, register_searched, patterns_held, relation_held, order_held, joined_words_if_any, joined_if_any, Check, check, first_that_applies, one_of, has_target, head_checks, value_checks, words_checks, clash_checks, near_clash_checks, register_checks, number_checks, term_checks, find_checks, Operand, operand_of, parameter_checks, operand_checks, operands_checks, proximity_checks, checks_in, query_checks, Refusal, TermPlanValue, PlanValue, RecordNumberOf, AlwaysOf, NumberOf, OrderedOf, CompleteOf, PhraseOf, AllWordsOf, AnyWordOf, near_asked, tree_asked, plan_of, plan_register, held_in, looked_into, AllLookInto, LooksInto}
 use Rattle.zeb_keys.specs.declared.Register.TheVariants as register
 use Rattle.zeb_query.specs.Attributes.{holding_of}
 use Rattle.zeb_query.specs.Plans.{plan_asked}
@@ -120,7 +119,7 @@ operand_looks profile o e =
       found = λ l. target_found profile (structure_is h (107 ∷ [])) (index_used profile h.use_attribute) (register_searched h) applied.0 l;
     }
 
-near_look : (profile : Profile) (place : ℕ) (parameters : List (List ℕ)) (left right : Operand)
+near_look : (profile : Profile) (place : ℕ) (parameters : ParametersValue) (left right : Operand)
     → first_that_applies (proximity_checks profile place parameters (Some left) (Some right)) ≡ None
     → AllLookInto profile (left.held ∷ right.held ∷ []) (looked_into (near_asked profile parameters (Some left) (Some right)))
 near_look profile place parameters left right none =
@@ -134,45 +133,35 @@ near_look profile place parameters left right none =
     (operand_looks profile left lefts.0, (subst (λ i. LooksInto profile right.held (Some (i, register.Word))) (sym same) (operand_looks profile right rights.0), tt))
 
 -- some check of `@prox` applies unless both operands are terms
-no_near : (profile : Profile) (place : ℕ) (parameters : List (List ℕ)) (left right : Option Operand)
-    → first_that_applies (operands_checks profile place left right) ≡ Some (check place 110 (codes "@prox") true).refusal
+no_near : (profile : Profile) (place : ℕ) (parameters : ParametersValue) (left right : Option Operand)
+    → first_that_applies (operands_checks profile place left right) ≡ Some (check place 110 (operator_word Proximity) true).refusal
     → first_that_applies (proximity_checks profile place parameters left right) ≡ None → ⊥
 no_near profile place parameters left right applies none =
-    let never : ◌≡◌ {A = Option Refusal} (Some (check place 110 (codes "@prox") true).refusal) None = sym applies ∙ (none-append (parameter_checks place parameters) (operands_checks profile place left right) none).1 in
+    let never : ◌≡◌ {A = Option Refusal} (Some (check place 110 (operator_word Proximity) true).refusal) None = sym applies ∙ (none-append (parameter_checks place parameters) (operands_checks profile place left right) none).1 in
     absurd cc
 
 all_look : (profile : Profile) (set : Option (List ℕ)) (outer : HeadValue) (tree : TreeValue) → first_that_applies (checks_in profile set outer tree) ≡ None
     → AllLookInto profile (held_in set outer tree) (looked_into (tree_asked profile set outer tree))
 all_look profile set outer (TermValue place head text) none = (looks_into profile (holding_of set (heads outer head)) place text none, tt)
 all_look profile set outer (NamedValue place head name) none = absurd cc
-all_look profile set outer (PairValue place head Proximity parameters (TermValue p h t) (TermValue q i u)) none =
+all_look profile set outer (PairValue place head (ProximityOf parameters) (TermValue p h t) (TermValue q i u)) none =
     near_look profile place parameters (record { place = p; held = holding_of set (heads (heads outer head) h); text = t }) (record { place = q; held = holding_of set (heads (heads outer head) i); text = u }) none
-all_look profile set outer (PairValue place head Proximity parameters (TermValue p h t) (NamedValue q i u)) none =
+all_look profile set outer (PairValue place head (ProximityOf parameters) (TermValue p h t) (NamedValue q i u)) none =
     absurd (no_near profile place parameters (operand_of set (heads outer head) (TermValue p h t)) None refl none)
-all_look profile set outer (PairValue place head Proximity parameters (TermValue p h t) (PairValue q i c ps l r)) none =
+all_look profile set outer (PairValue place head (ProximityOf parameters) (TermValue p h t) (PairValue q i c l r)) none =
     absurd (no_near profile place parameters (operand_of set (heads outer head) (TermValue p h t)) None refl none)
-all_look profile set outer (PairValue place head Proximity parameters (NamedValue p h t) right) none =
+all_look profile set outer (PairValue place head (ProximityOf parameters) (NamedValue p h t) right) none =
     absurd (no_near profile place parameters None (operand_of set (heads outer head) right) refl none)
-all_look profile set outer (PairValue place head Proximity parameters (PairValue p h c ps l r) right) none =
+all_look profile set outer (PairValue place head (ProximityOf parameters) (PairValue p h c l r) right) none =
     absurd (no_near profile place parameters None (operand_of set (heads outer head) right) refl none)
-all_look profile set outer (PairValue place head And parameters left right) none =
-    let inner : HeadValue = heads outer head in
-    let both = none-append (checks_in profile set inner left) (checks_in profile set inner right) none in
-    AllLookInto-append profile (held_in set inner left) (looked_into (tree_asked profile set inner left)) (held_in set inner right) (looked_into (tree_asked profile set inner right))
-    (all_look profile set inner left both.0) (all_look profile set inner right both.1)
-all_look profile set outer (PairValue place head Or parameters left right) none =
-    let inner : HeadValue = heads outer head in
-    let both = none-append (checks_in profile set inner left) (checks_in profile set inner right) none in
-    AllLookInto-append profile (held_in set inner left) (looked_into (tree_asked profile set inner left)) (held_in set inner right) (looked_into (tree_asked profile set inner right))
-    (all_look profile set inner left both.0) (all_look profile set inner right both.1)
-all_look profile set outer (PairValue place head Not parameters left right) none =
+all_look profile set outer (PairValue place head (BooleanOf op) left right) none =
     let inner : HeadValue = heads outer head in
     let both = none-append (checks_in profile set inner left) (checks_in profile set inner right) none in
     AllLookInto-append profile (held_in set inner left) (looked_into (tree_asked profile set inner left)) (held_in set inner right) (looked_into (tree_asked profile set inner right))
     (all_look profile set inner left both.0) (all_look profile set inner right both.1)
 
 pub plan_looks : (profile : Profile) (query : QueryValue) (plan : PlanValue) → plan_of profile query ≡ Ok plan
-    → AllLookInto profile (held_in query.attribute_set no_head query.tree) (looked_into plan)
+    → AllLookInto profile (held_in query.attrset no_head query.tree) (looked_into plan)
 plan_looks profile query plan e =
-    let answer = answered_ok (first_that_applies (query_checks profile query)) (tree_asked profile query.attribute_set no_head query.tree) plan e in
-    subst (λ p. AllLookInto profile (held_in query.attribute_set no_head query.tree) (looked_into p)) answer.1 (all_look profile query.attribute_set no_head query.tree answer.0)
+    let answer = answered_ok (first_that_applies (query_checks profile query)) (tree_asked profile query.attrset no_head query.tree) plan e in
+    subst (λ p. AllLookInto profile (held_in query.attrset no_head query.tree) (looked_into p)) answer.1 (all_look profile query.attrset no_head query.tree answer.0)

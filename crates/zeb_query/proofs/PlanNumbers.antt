@@ -1,5 +1,5 @@
 -- How great the numbers of a plan are, and where a scan of numbers begins.
-use Rattle.zeb_query.proofs.Cited.{◌≡◌, ℕ, ◌<◌, ◌^◌, Bool, true, false, cond, List, [], ◌∷◌, Option, Some, None, refl, subst, Ok, not, ◌&&◌, ◌||◌, is_none, bytes_eq, digits_value, Profile, Register, Symbol, Relation, Order, And, Or, Not, Proximity, is_number, heads, no_head, HeadValue, TreeValue, TermValue, NamedValue, PairValue, QueryValue, number_or, HoldingValue, is_among, relation_is, structure_is, position_is, truncation_is, completeness_is, register_searched, patterns_held, index_held, relation_held, order_held, joined_words, joined_words_if_any, joined_if_any, Check, check, first_that_applies, scan_clash_checks, number_checks, find_checks, scan_checks, Operand, kept_text, orderings, distance_relations, operand_of, parameter_checks, separation_of, operands_checks, proximity_checks, checks_in, query_checks, TermPlanValue, PlanValue, RecordNumberOf, AlwaysOf, NumberOf, OrderedOf, CompleteOf, PhraseOf, AllWordsOf, AnyWordOf, near_asked, tree_asked, plan_of, HasSmallNumber, HasSmallNumbers, ScanValue, BeginsAtKey}
+use Rattle.zeb_query.proofs.Cited.{◌≡◌, ℕ, ◌<◌, ◌^◌, Bool, true, false, cond, List, [], ◌∷◌, Option, Some, None, refl, subst, Ok, not, ◌&&◌, ◌||◌, is_none, bytes_eq, digits_value, Profile, Register, Symbol, Relation, Order, BooleanOf, ParametersValue, ProximityOf, is_number, heads, no_head, HeadValue, TreeValue, TermValue, NamedValue, PairValue, QueryValue, number_or, HoldingValue, is_among, relation_is, structure_is, position_is, truncation_is, completeness_is, register_searched, patterns_held, index_held, relation_held, order_held, joined_words, joined_words_if_any, joined_if_any, Check, check, first_that_applies, scan_clash_checks, number_checks, find_checks, scan_checks, Operand, kept_text, orderings, distance_relations, operand_of, parameter_checks, separation_of, operands_checks, proximity_checks, checks_in, query_checks, TermPlanValue, PlanValue, RecordNumberOf, AlwaysOf, NumberOf, OrderedOf, CompleteOf, PhraseOf, AllWordsOf, AnyWordOf, near_asked, tree_asked, plan_of, HasSmallNumber, HasSmallNumbers, ScanValue, BeginsAtKey}
 use Rattle.std.specs.Prelude.{codes}
 use Rattle.zeb_keys.specs.declared.Register.TheVariants as register
 use Rattle.zeb_text.specs.Numbers.{number_key}
@@ -64,22 +64,15 @@ leaf_small profile h place text none =
 
 -- ---- two words near each other
 
-distance_small : (place : ℕ) (parameters : List (List ℕ)) → first_that_applies (parameter_checks place parameters) ≡ None → (separation_of parameters).distance < 10 ^ 9
-distance_small place [] e = absurd cc
-distance_small place (a ∷ []) e = absurd cc
-distance_small place (a ∷ b ∷ []) e = absurd cc
-distance_small place (a ∷ b ∷ c ∷ []) e = absurd cc
-distance_small place (a ∷ b ∷ c ∷ d ∷ []) e = absurd cc
-distance_small place (a ∷ b ∷ c ∷ d ∷ f ∷ []) e = absurd cc
-distance_small place (a ∷ b ∷ c ∷ d ∷ f ∷ g ∷ i ∷ more) e = absurd cc
-distance_small place (exclusion ∷ distance ∷ c ∷ d ∷ f ∷ g ∷ []) e = number_below 9 distance (at (check place 110 c (is_none (kept_text orderings c)) ∷ check place 110 d (is_none (kept_text distance_relations d)) ∷ check place 110 f (not (bytes_eq f (codes "k") || bytes_eq f (codes "known"))) ∷ check place 110 g (not (bytes_eq g (codes "2"))) ∷ []) (bytes_eq exclusion (codes "0")) (is_number 9 distance) e)
+distance_small : (place : ℕ) (p : ParametersValue) → first_that_applies (parameter_checks place p) ≡ None → (separation_of p).distance < 10 ^ 9
+distance_small place p e = number_below 9 p.distance (at (check place 110 p.ordered (is_none (kept_text orderings p.ordered)) ∷ check place 110 p.relation (is_none (kept_text distance_relations p.relation)) ∷ check place 110 p.which_code (not (bytes_eq p.which_code (codes "k") || bytes_eq p.which_code (codes "known"))) ∷ check place 110 p.unit_code (not (bytes_eq p.unit_code (codes "2"))) ∷ []) (bytes_eq p.exclusion (codes "0")) (is_number 9 p.distance) e)
   where
-    at : (more : List Check) (a b : Bool) → first_that_applies (check place 110 exclusion (not a) ∷ check place 110 distance (not b) ∷ more) ≡ None → b ≡ true
+    at : (more : List Check) (a b : Bool) → first_that_applies (check place 110 p.exclusion (not a) ∷ check place 110 p.distance (not b) ∷ more) ≡ None → b ≡ true
     at more true true e' = refl
     at more true false e' = absurd cc
     at more false b e' = absurd cc
 
-near_small : (profile : Profile) (place : ℕ) (parameters : List (List ℕ)) (left right : Option Operand) → first_that_applies (proximity_checks profile place parameters left right) ≡ None
+near_small : (profile : Profile) (place : ℕ) (parameters : ParametersValue) (left right : Option Operand) → first_that_applies (proximity_checks profile place parameters left right) ≡ None
     → HasSmallNumbers (near_asked profile parameters left right)
 near_small profile place parameters left right none = at left right (distance_small place parameters (none-append (parameter_checks place parameters) (operands_checks profile place left right) none).0)
   where
@@ -93,25 +86,17 @@ near_small profile place parameters left right none = at left right (distance_sm
 all_small : (profile : Profile) (set : Option (List ℕ)) (outer : HeadValue) (tree : TreeValue) → first_that_applies (checks_in profile set outer tree) ≡ None → HasSmallNumbers (tree_asked profile set outer tree)
 all_small profile set outer (TermValue place head text) none = leaf_small profile (holding_of set (heads outer head)) place text none
 all_small profile set outer (NamedValue place head name) none = tt
-all_small profile set outer (PairValue place head Proximity parameters left right) none =
+all_small profile set outer (PairValue place head (ProximityOf parameters) left right) none =
     near_small profile place parameters (operand_of set (heads outer head) left) (operand_of set (heads outer head) right) none
-all_small profile set outer (PairValue place head And parameters left right) none =
-    let inner : HeadValue = heads outer head in
-    let both = none-append (checks_in profile set inner left) (checks_in profile set inner right) none in
-    (all_small profile set inner left both.0, all_small profile set inner right both.1)
-all_small profile set outer (PairValue place head Or parameters left right) none =
-    let inner : HeadValue = heads outer head in
-    let both = none-append (checks_in profile set inner left) (checks_in profile set inner right) none in
-    (all_small profile set inner left both.0, all_small profile set inner right both.1)
-all_small profile set outer (PairValue place head Not parameters left right) none =
+all_small profile set outer (PairValue place head (BooleanOf op) left right) none =
     let inner : HeadValue = heads outer head in
     let both = none-append (checks_in profile set inner left) (checks_in profile set inner right) none in
     (all_small profile set inner left both.0, all_small profile set inner right both.1)
 
 pub plan_numbers : (profile : Profile) (query : QueryValue) (plan : PlanValue) → plan_of profile query ≡ Ok plan → HasSmallNumbers plan
 plan_numbers profile query plan e =
-    let answer = answered_ok (first_that_applies (query_checks profile query)) (tree_asked profile query.attribute_set no_head query.tree) plan e in
-    subst HasSmallNumbers answer.1 (all_small profile query.attribute_set no_head query.tree answer.0)
+    let answer = answered_ok (first_that_applies (query_checks profile query)) (tree_asked profile query.attrset no_head query.tree) plan e in
+    subst HasSmallNumbers answer.1 (all_small profile query.attrset no_head query.tree answer.0)
 
 -- ---- where a scan begins
 

@@ -1,11 +1,11 @@
 -- A term is refused by the first of its checks that applies, and else has its values.
-use Rattle.zeb_query.proofs.Cited.{◌≡◌, ℕ, Bool, true, false, cond, List, [], ◌∷◌, ◌++◌, Option, Some, None, refl, ap, sym, ◌∙◌, length, Ok, not, nat_lt, ◌||◌, ◌&&◌, is_some, is_none, unwrap_or, Profile, Register, has_pair, Symbol, patterns_of, Equal, Compared, Any, Structure, Phrase, WordList, FreeForm, LocalNumber, Numeric, Incomplete, Values, relations, positions, structures, completenesses, values_held, patterns_if, is_always, is_first, is_truncated, is_complete, is_local, is_numeric, spread_of, is_local_if, kept_or, patterns_read, truncations, number_or, value_of, HoldingValue, relation_is, structure_is, position_is, truncation_is, completeness_is, index_used, index_held, Check, check, first_that_applies, written, has_target, head_checks, use_checks, value_checks, words_checks, checked_by}
+use Rattle.zeb_query.proofs.Cited.{◌≡◌, ℕ, Bool, true, false, cond, List, [], ◌∷◌, ◌++◌, Option, Some, None, refl, ap, sym, ◌∙◌, length, Ok, not, nat_lt, ◌||◌, ◌&&◌, eqb, is_none, is_some, option_and_then, unwrap_or, Profile, Register, has_pair, Symbol, patterns_of, Equal, Compared, Any, Structure, Phrase, Incomplete, Subject, Record, Entries, Values, relations, positions, structures, completenesses, values_held, patterns_if, is_always, is_first, is_truncated, is_complete, is_local, is_numeric, kept, spread_of, subject_by, index_used_or, kept_or, patterns_read, subject_read, truncations, is_among, number_or, value_of, HoldingValue, relation_is, structure_is, position_is, truncation_is, completeness_is, index_used, index_held, Check, check, first_that_applies, written, has_target, head_checks, use_checks, value_checks, words_checks, checked_by}
 use Rattle.std.specs.Prelude.{chars}
 use Rattle.zeb_text.specs.declared.Cut.TheVariants as cut
-use Rattle.zeb_query.specs.PrivatePlanning.{head_read, index_read, values_read, term_read}
+use Rattle.zeb_query.specs.PrivatePlanning.{head_read, index_read, subject_with, values_read, term_read}
 use Rattle.zeb_query.proofs.TermSteps.{type_check, set_check, kind_check, head_parts, index_parts, value_parts, term_parts}
 use Rattle.zeb_query.proofs.CheckLemmas.{◌>>=◌, then_checks, none-cons, none-append, unkept, kept_by}
-use Rattle.zeb_query.proofs.ValueLemmas.{RelationIs, relation_value, position_value, StructureIs, structure_value, truncation_value, completeness_value, local_value}
+use Rattle.zeb_query.proofs.ValueLemmas.{RelationIs, relation_value, position_value, StructureIs, structure_value, truncation_value, completeness_value}
 
 -- ---- the term's type, and the sets and types of the attributes over it
 
@@ -18,7 +18,7 @@ head_steps place h =
 
 -- ---- the values
 
-used : (profile : Profile) (place : ℕ) (text : Option (List ℕ)) → (kept_or (cond (is_some text) 114 116) place text (index_used profile text) >>= λ index. Ok (Some index))
+used : (profile : Profile) (place : ℕ) (text : Option (List ℕ)) → (index_used_or profile place text >>= λ index. Ok (Some index))
     ≡ checked_by (use_checks profile place false text) (Some (unwrap_or (index_used profile text) 0))
 used profile place None = elim (index_used profile None) as (λ o. (kept_or 116 place None o >>= λ index. Ok (Some index)) ≡ checked_by (check place 114 [] false ∷ check place 116 [] (is_none o) ∷ []) (Some (unwrap_or o 0))) [
   | Some index ↦ refl
@@ -29,19 +29,16 @@ used profile place (Some text) = elim (index_used profile (Some text)) as (λ o.
   | None ↦ refl
 ]
 
-pub index_steps : (profile : Profile) (place : ℕ) (text : Option (List ℕ)) (structure : Option Structure) → index_read profile place text structure ≡ index_parts profile place text structure
+pub index_steps : (profile : Profile) (place : ℕ) (local : Bool) (text : Option (List ℕ)) → index_read profile place local text ≡ index_parts profile place local text
 unfolding index_read
-index_steps profile place text None = sym (used profile place text)
-index_steps profile place text (Some LocalNumber) = refl
-index_steps profile place text (Some Phrase) = sym (used profile place text)
-index_steps profile place text (Some WordList) = sym (used profile place text)
-index_steps profile place text (Some FreeForm) = sym (used profile place text)
-index_steps profile place text (Some Numeric) = sym (used profile place text)
+index_steps profile place true None = refl
+index_steps profile place true (Some text) = refl
+index_steps profile place false text = sym (used profile place text)
 
-index_stage : (profile : Profile) (place : ℕ) (text : Option (List ℕ)) (structure : Option Structure) (local : Bool) → local ≡ is_local_if structure
-    → index_read profile place text structure ≡ checked_by (use_checks profile place local text) (cond local None (Some (unwrap_or (index_used profile text) 0)))
+index_stage : (profile : Profile) (place : ℕ) (local : Bool) (text : Option (List ℕ))
+    → index_read profile place local text ≡ checked_by (use_checks profile place local text) (cond local None (Some (unwrap_or (index_used profile text) 0)))
 unfolding index_read
-index_stage profile place text structure local e = ap (λ b. checked_by (use_checks profile place b text) (cond b None (Some (unwrap_or (index_used profile text) 0)))) (sym e)
+index_stage profile place local text = refl
 
 abbrev relation_check : ℕ → HoldingValue → Check
 relation_check place h = check place 117 (written h.relation) (not (relation_is h (1 ∷ 2 ∷ 3 ∷ 4 ∷ 5 ∷ 103 ∷ [])))
@@ -57,6 +54,50 @@ truncation_check place h = check place 120 (written h.truncation) (not (truncati
 
 abbrev completeness_check : ℕ → HoldingValue → Check
 completeness_check place h = check place 122 (written h.completeness) (not (completeness_is h (1 ∷ 2 ∷ 3 ∷ [])))
+
+-- a local number is kept, and a number that is no local one is kept where it is another structure
+local_kept : (a b c d x y : Bool) → (x || false) ≡ true → (a || (b || (c || (d || (x || (y || false)))))) ≡ true
+local_kept true b c d x y e = refl
+local_kept false true c d x y e = refl
+local_kept false false true d x y e = refl
+local_kept false false false true x y e = refl
+local_kept false false false false true y e = refl
+local_kept false false false false false y e = absurd cc
+
+other_kept : (a b c d x y : Bool) → (x || false) ≡ false → (a || (b || (c || (d || (x || (y || false)))))) ≡ (a || (b || (c || (d || (y || false)))))
+other_kept true b c d x y e = refl
+other_kept false true c d x y e = refl
+other_kept false false true d x y e = refl
+other_kept false false false true x y e = refl
+other_kept false false false false true y e = absurd cc
+other_kept false false false false false y e = refl
+
+kept_if_local : (m : Option ℕ) → is_among (107 ∷ []) m ≡ true → is_among (1 ∷ 2 ∷ 6 ∷ 105 ∷ 107 ∷ 109 ∷ []) m ≡ true
+kept_if_local None e = absurd cc
+kept_if_local (Some n) e = local_kept (eqb n 1) (eqb n 2) (eqb n 6) (eqb n 105) (eqb n 107) (eqb n 109) e
+
+kept_if_other : (m : Option ℕ) → is_among (107 ∷ []) m ≡ false → is_among (1 ∷ 2 ∷ 6 ∷ 105 ∷ 107 ∷ 109 ∷ []) m ≡ is_among (1 ∷ 2 ∷ 6 ∷ 105 ∷ 109 ∷ []) m
+kept_if_other None e = refl
+kept_if_other (Some n) e = other_kept (eqb n 1) (eqb n 2) (eqb n 6) (eqb n 105) (eqb n 107) (eqb n 109) e
+
+subject_kept : (place : ℕ) (text : Option (List ℕ)) (index : ℕ) (o : Option Structure)
+    → (checked_by (check place 118 (written text) (is_none o) ∷ []) (Entries index (unwrap_or o Phrase))) ≡ subject_with index (kept_or 118 place text o)
+subject_kept place text index (Some structure) = refl
+subject_kept place text index None = refl
+
+subject_stage : (place : ℕ) (h : HoldingValue) (index : ℕ)
+    → subject_read place h.structure (cond (structure_is h (107 ∷ [])) None (Some index))
+    ≡ checked_by (structure_check place h ∷ []) (subject_by index (number_or 1 h.structure))
+subject_stage place h index = at (structure_is h (107 ∷ [])) refl
+  where
+    at : (local : Bool) → structure_is h (107 ∷ []) ≡ local → subject_read place h.structure (cond local None (Some index))
+        ≡ checked_by (structure_check place h ∷ []) (cond local Record (Entries index (unwrap_or (option_and_then (kept structures) (number_or 1 h.structure)) Phrase)))
+    at true e = ap (λ b. checked_by (check place 118 (written h.structure) (not b) ∷ []) Record) (sym (kept_if_local (number_or 1 h.structure) e))
+    at false e =
+        let o = option_and_then (kept structures) (number_or 1 h.structure) in
+        sym (subject_kept place h.structure index o)
+        ∙ ap (λ b. checked_by (check place 118 (written h.structure) b ∷ []) (Entries index (unwrap_or o Phrase)))
+        (sym (ap not (kept_if_other (number_or 1 h.structure) e) ∙ unkept structures (number_or 1 h.structure)))
 
 -- the checks of types 2 to 6, and those that follow on each
 abbrev after_structure : ℕ → HoldingValue → List Check
@@ -75,14 +116,16 @@ pub values_steps : (profile : Profile) (place : ℕ) (h : HoldingValue) → valu
 unfolding values_read value_parts
 values_steps profile place h =
     let v : Values = values_held profile h in
-    sym (then_checks (index_read profile place h.use_attribute (value_of structures 1 h.structure)) _ (use_checks profile place (structure_is h (107 ∷ [])) h.use_attribute) (after_use place h) v.index v
-    (index_stage profile place h.use_attribute (value_of structures 1 h.structure) (structure_is h (107 ∷ [])) (local_value (number_or 1 h.structure)))
+    let local = structure_is h (107 ∷ []) in
+    let index = index_held profile h in
+    sym (then_checks (index_read profile place local h.use_attribute) _ (use_checks profile place local h.use_attribute) (after_use place h) (cond local None (Some index)) v
+    (index_stage profile place local h.use_attribute)
     (λ _. then_checks (kept_or 117 place h.relation (value_of relations 3 h.relation)) _ (relation_check place h ∷ []) (after_relation place h) v.relation v
     (kept_by place 117 h.relation (value_of relations 3 h.relation) (Compared Equal) _ (unkept relations (number_or 3 h.relation)))
     (λ _. then_checks (kept_or 119 place h.position (value_of positions 3 h.position)) _ (position_check place h ∷ []) (after_position place h) v.position v
     (kept_by place 119 h.position (value_of positions 3 h.position) Any _ (unkept positions (number_or 3 h.position)))
-    (λ _. then_checks (kept_or 118 place h.structure (value_of structures 1 h.structure)) _ (structure_check place h ∷ []) (after_structure place h) v.structure v
-    (kept_by place 118 h.structure (value_of structures 1 h.structure) Phrase _ (unkept structures (number_or 1 h.structure)))
+    (λ _. then_checks (subject_read place h.structure (cond local None (Some index))) _ (structure_check place h ∷ []) (after_structure place h) v.subject v
+    (subject_stage place h index)
     (λ _. then_checks (kept_or 120 place h.truncation (value_of truncations 100 h.truncation)) _ (truncation_check place h ∷ []) (completeness_check place h ∷ []) v.truncation v
     (kept_by place 120 h.truncation (value_of truncations 100 h.truncation) cut.None _ (unkept truncations (number_or 100 h.truncation)))
     (λ _. then_checks (kept_or 122 place h.completeness (value_of completenesses 1 h.completeness)) _ (completeness_check place h ∷ []) [] v.completeness v
@@ -94,7 +137,7 @@ values_steps profile place h =
 pub record AreHeld (profile : Profile) (h : HoldingValue) (v : Values) : Type 0 where
   pub relation : RelationIs (number_or 3 h.relation) v.relation
   pub position : position_is h (1 ∷ 2 ∷ []) ≡ is_first v.position
-  pub structure : StructureIs (number_or 1 h.structure) v.structure
+  pub structure : StructureIs (number_or 1 h.structure) v.subject
   pub truncation : not (truncation_is h (100 ∷ [])) ≡ is_truncated v.truncation
   pub completeness : completeness_is h (2 ∷ 3 ∷ []) ≡ is_complete v.completeness
   pub target : structure_is h (107 ∷ []) ≡ false → (r : Register) → has_target profile (index_used profile h.use_attribute) r ≡ has_pair profile (index_held profile h, r)
@@ -126,7 +169,7 @@ held profile place h e =
     record {
       relation = relation_value (number_or 3 h.relation) (false_of_not _ relation.0);
       position = position_value (number_or 3 h.position) (false_of_not _ position.0);
-      structure = structure_value (number_or 1 h.structure) (false_of_not _ structure.0);
+      structure = structure_value (index_held profile h) (number_or 1 h.structure) (false_of_not _ structure.0);
       truncation = truncation_value (number_or 100 h.truncation) (false_of_not _ truncation.0);
       completeness = completeness_value (number_or 1 h.completeness) (false_of_not _ completeness.0);
       target = λ l r. target_of profile place h.use_attribute (structure_is h (107 ∷ [])) uses.0 l r;
@@ -147,9 +190,9 @@ words_stage : (profile : Profile) (place : ℕ) (h : HoldingValue) (text : List 
     → patterns_read place text (values_held profile h) ≡ checked_by (words_checks place h text) (patterns_if (values_held profile h) text)
 words_stage profile place h text are =
     let v : Values = values_held profile h in
-    ap (λ b. checked_by (check place 5 [] b ∷ []) (patterns_if v text)) (words_at (is_always v.relation) (is_local v.structure) (is_numeric v.structure) (patterns_of v.truncation (spread_of v.structure) (chars text)))
-    ∙ ap (λ b. checked_by (check place 5 [] (not b && (not (is_always v.relation) && nat_lt 64 (length (patterns_of v.truncation (spread_of v.structure) (chars text))))) ∷ []) (patterns_if v text)) (sym are.structure.number)
-    ∙ ap (λ b. checked_by (check place 5 [] (not (structure_is h (107 ∷ 109 ∷ [])) && (not b && nat_lt 64 (length (patterns_of v.truncation (spread_of v.structure) (chars text))))) ∷ []) (patterns_if v text)) (sym are.relation.always)
+    ap (λ b. checked_by (check place 5 [] b ∷ []) (patterns_if v text)) (words_at (is_always v.relation) (is_local v.subject) (is_numeric v.subject) (patterns_of v.truncation (spread_of v.subject) (chars text)))
+    ∙ ap (λ b. checked_by (check place 5 [] (not b && (not (is_always v.relation) && nat_lt 64 (length (patterns_of v.truncation (spread_of v.subject) (chars text))))) ∷ []) (patterns_if v text)) (sym are.structure.number)
+    ∙ ap (λ b. checked_by (check place 5 [] (not (structure_is h (107 ∷ 109 ∷ [])) && (not b && nat_lt 64 (length (patterns_of v.truncation (spread_of v.subject) (chars text))))) ∷ []) (patterns_if v text)) (sym are.relation.always)
     ∙ ap (λ s. checked_by (check place 5 [] (not (structure_is h (107 ∷ 109 ∷ [])) && (not (relation_is h (103 ∷ [])) && nat_lt 64 (length (patterns_of v.truncation s (chars text))))) ∷ []) (patterns_if v text)) (sym are.structure.stars)
 
 -- ---- what is read of a term

@@ -1,5 +1,5 @@
 -- How a term is read, step by step: its head, its values one after another, its words; and its number.
-use Rattle.zeb_query.proofs.Cited.{is_some, if◌then◌else◌, Result, Ok, Profile, Symbol, Structure, LocalNumber, Relation, Values, number_of, HoldingValue, default_completeness, default_position, default_relation, default_structure, default_truncation, index_used, joined_words, order_of, truncations, value_of, Check, Refusal, check, checked_by, is_other_type, numeral, written, NumberOf, TermPlanValue, completenesses, is_numeric, positions, relations, structures, kept_or, ordered_plan, patterns_read}
+use Rattle.zeb_query.proofs.Cited.{Bool, true, false, is_some, if◌then◌else◌, Result, Ok, Profile, Symbol, Structure, Relation, Values, many, number_of, HoldingValue, default_completeness, default_position, default_relation, default_truncation, joined_words, local_numbers, order_of, structure_is, truncations, value_of, Check, Refusal, check, checked_by, is_other_type, numeral, written, NumberOf, TermPlanValue, asks_number, completenesses, is_numeric, positions, relations, index_used_or, kept_or, ordered_plan, patterns_read, subject_read}
 use Rattle.std.specs.Prelude.{ℕ, List, [], ◌∷◌, Option, Some, None}
 use Rattle.zeb_text.specs.Numbers.{number_key}
 use Rattle.zeb_query.specs.PrivatePlanning.{head_read, index_read, number_in, values_read}
@@ -21,20 +21,19 @@ head_parts place h = do
   checked_by (kind_check place h ∷ []) (tt {0})
 
 -- a local number has no index
-abbrev pub index_parts : Profile → ℕ → Option (List ℕ) → Option Structure → Result (Option ℕ) Refusal
-index_parts profile place text (Some LocalNumber) = Ok None
-index_parts profile place text structure =
-    kept_or (if is_some text then 114 else 116) place text (index_used profile text) >>= λ index. Ok (Some index)
+abbrev pub index_parts : Profile → ℕ → Bool → Option (List ℕ) → Result (Option ℕ) Refusal
+index_parts profile place true text = Ok None
+index_parts profile place false text = index_used_or profile place text >>= λ index. Ok (Some index)
 
 unfoldable pub value_parts : Profile → ℕ → HoldingValue → Result Values Refusal
 value_parts profile place h = do
-  index ← index_read profile place h.use_attribute (value_of structures default_structure h.structure)
+  index ← index_read profile place (structure_is h local_numbers) h.use_attribute
   relation ← kept_or 117 place h.relation (value_of relations default_relation h.relation)
   position ← kept_or 119 place h.position (value_of positions default_position h.position)
-  structure ← kept_or 118 place h.structure (value_of structures default_structure h.structure)
+  subject ← subject_read place h.structure index
   truncation ← kept_or 120 place h.truncation (value_of truncations default_truncation h.truncation)
   completeness ← kept_or 122 place h.completeness (value_of completenesses default_completeness h.completeness)
-  Ok (record { index = index; relation = relation; position = position; structure = structure; truncation = truncation; completeness = completeness })
+  Ok (record { subject = subject; relation = relation; position = position; truncation = truncation; completeness = completeness })
 
 unfoldable pub term_parts : Profile → ℕ → List ℕ → HoldingValue → Result (Values × List (List Symbol)) Refusal
 term_parts profile place text h = do
@@ -46,11 +45,11 @@ term_parts profile place text h = do
 abbrev pub number_parts : ℕ → ℕ → List ℕ → Result ℕ Refusal
 number_parts most place text = kept_or 126 place (Some text) (number_of most text)
 
-unfoldable pub compared_parts : ℕ → List ℕ → Values → ℕ → List (List Symbol) → Relation → Result TermPlanValue Refusal
-compared_parts place text v index patterns relation =
-    if is_numeric v.structure then (number_in 18 place text >>= λ number. Ok (NumberOf index relation number)) else (
-    Ok (ordered_plan text v index patterns (order_of relation)))
+unfoldable pub compared_parts : ℕ → List ℕ → Values → ℕ → Structure → List (List Symbol) → Relation → Result TermPlanValue Refusal
+compared_parts place text v index structure patterns relation =
+    if asks_number structure then (number_in many place text >>= λ number. Ok (NumberOf index relation number)) else (
+    Ok (ordered_plan text v index structure patterns (order_of relation)))
 
 unfoldable pub start_parts : ℕ → List ℕ → Values → Result (List ℕ) Refusal
 start_parts place text v =
-    if is_numeric v.structure then (number_in 18 place text >>= λ number. Ok (number_key number)) else Ok (joined_words text)
+    if is_numeric v.subject then (number_in many place text >>= λ number. Ok (number_key number)) else Ok (joined_words text)

@@ -1,11 +1,10 @@
 -- The checks of a structure and what it asks for are those of its parts.
-use Rattle.zeb_query.proofs.Cited.{◌≡◌, ℕ, List, ◌++◌, Option, refl, sym, Ok, Profile, Connective, And, Or, Not, Proximity, HeadValue, TreeValue, TermValue, NamedValue, PairValue, heads, first_that_applies, find_checks, checks_in, operand_of, Check, checked_by, refused, PlanValue, TermOf, PairOf, tree_asked, operator_of}
-use Rattle.zeb_query.specs.declared.plans.Operator.TheVariants as operator
+use Rattle.zeb_query.proofs.Cited.{◌≡◌, ℕ, List, ◌++◌, Option, refl, sym, Ok, Profile, BooleanOf, ParametersValue, ProximityOf, HeadValue, TreeValue, TermValue, NamedValue, PairValue, heads, first_that_applies, find_checks, checks_in, operand_of, Check, checked_by, refused, PlanValue, TermOf, PairOf, tree_asked}
 use Rattle.zeb_query.specs.declared.plans.Operator.{Operator}
 use Rattle.zeb_query.specs.Attributes.{holding_of}
 use Rattle.zeb_query.specs.Plans.{plan_asked}
 use Rattle.zeb_query.specs.PrivatePlanning.{leaf_plan, near_plan, tree_plan}
-use Rattle.zeb_query.proofs.PlanSteps.{pair_plan}
+use Rattle.zeb_query.proofs.PlanSteps.{operator_plan}
 use Rattle.zeb_query.proofs.CheckLemmas.{answered_then, then_checks, ◌>>=◌}
 
 -- an operator on sets: the checks of its left side, then those of its right side
@@ -27,18 +26,16 @@ pub tree_named : (profile : Profile) (set : Option (List ℕ)) (outer : HeadValu
 unfolding tree_plan
 tree_named profile set outer place head name = refl
 
-pub tree_pair : (profile : Profile) (set : Option (List ℕ)) (outer : HeadValue) (place : ℕ) (head : HeadValue) (connective : Connective) (parameters : List (List ℕ)) (left right : TreeValue)
-    → tree_plan profile set outer (PairValue place head connective parameters left right)
-    ≡ pair_plan (operator_of connective) (tree_plan profile set (heads outer head) left) (tree_plan profile set (heads outer head) right)
-    (near_plan profile place parameters (operand_of set (heads outer head) left) (operand_of set (heads outer head) right))
+pub tree_boolean : (profile : Profile) (set : Option (List ℕ)) (outer : HeadValue) (place : ℕ) (head : HeadValue) (op : Operator) (left right : TreeValue)
+    → tree_plan profile set outer (PairValue place head (BooleanOf op) left right)
+    ≡ operator_plan op (tree_plan profile set (heads outer head) left) (tree_plan profile set (heads outer head) right)
+unfolding tree_plan
+tree_boolean profile set outer place head op left right =
+    let h = heads outer head in
+    sym (sides op (checks_in profile set h left) (checks_in profile set h right) (tree_asked profile set h left) (tree_asked profile set h right))
+
+pub tree_near : (profile : Profile) (set : Option (List ℕ)) (outer : HeadValue) (place : ℕ) (head : HeadValue) (parameters : ParametersValue) (left right : TreeValue)
+    → tree_plan profile set outer (PairValue place head (ProximityOf parameters) left right)
+    ≡ near_plan profile place parameters (operand_of set (heads outer head) left) (operand_of set (heads outer head) right)
 unfolding tree_plan near_plan
-tree_pair profile set outer place head Proximity parameters left right = refl
-tree_pair profile set outer place head And parameters left right =
-    let h = heads outer head in
-    sym (sides operator.And (checks_in profile set h left) (checks_in profile set h right) (tree_asked profile set h left) (tree_asked profile set h right))
-tree_pair profile set outer place head Or parameters left right =
-    let h = heads outer head in
-    sym (sides operator.Or (checks_in profile set h left) (checks_in profile set h right) (tree_asked profile set h left) (tree_asked profile set h right))
-tree_pair profile set outer place head Not parameters left right =
-    let h = heads outer head in
-    sym (sides operator.Not (checks_in profile set h left) (checks_in profile set h right) (tree_asked profile set h left) (tree_asked profile set h right))
+tree_near profile set outer place head parameters left right = refl

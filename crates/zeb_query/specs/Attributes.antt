@@ -25,7 +25,7 @@ use Rattle.zeb_query.specs.declared.plans.Relation.TheVariants.{Equal, Greater, 
 use Rattle.zeb_keys.specs.declared.Register.TheVariants as register
 use Rattle.zeb_query.specs.declared.plans.Order.TheVariants as in_order
 use Rattle.zeb_text.specs.declared.Cut.TheVariants as cut
-use Rattle.zeb_query.specs.Grammar.{AttributeValue, HeadValue, number_of}
+use Rattle.zeb_query.specs.Grammar.{AttributeValue, HeadValue, few, number_of}
 
 -- ---- the attributes over a term
 
@@ -195,7 +195,7 @@ kept (row ∷ rows) number = if number == row.0 then Some row.1 else kept rows n
 -- the number of an attribute's value, or the default where there is no attribute
 abbrev pub number_or : ℕ → Option (List ℕ) → Option ℕ
 number_or default None = Some default
-number_or default (Some text) = number_of 9 text
+number_or default (Some text) = number_of few text
 
 -- what a value stands for, if it is kept
 abbrev pub value_of : {A : Type 0} → List (ℕ × A) → ℕ → Option (List ℕ) → Option A
@@ -237,7 +237,7 @@ index_named profile name None = index_by_name profile name
 
 abbrev pub index_used : Profile → Option (List ℕ) → Option ℕ
 index_used profile None = index_by_use profile default_use
-index_used profile (Some text) = index_named profile text (number_of 9 text)
+index_used profile (Some text) = index_named profile text (number_of few text)
 
 abbrev pub index_held : Profile → HoldingValue → ℕ
 index_held profile h = unwrap_or (index_used profile h.use_attribute) 0

@@ -21,9 +21,10 @@ use Rattle.zeb_query.specs.declared.faults.QueryFault.TheVariants.{Diagnostic, M
 use Rattle.zeb_query.specs.declared.plans.DistanceRelation.{DistanceRelation}
 use Rattle.zeb_query.specs.declared.plans.DistanceRelation.TheVariants.{Equal, Greater, GreaterOrEqual, Less, LessOrEqual, NotEqual}
 use Rattle.zeb_query.specs.declared.plans.Separation.{Separation}
-use Rattle.zeb_query.specs.declared.queries.Connective.{Connective}
-use Rattle.zeb_query.specs.declared.queries.Connective.TheVariants.{And, Not, Or, Proximity}
-use Rattle.zeb_query.specs.Grammar.{HeadValue, NamedValue, PairValue, QueryValue, TermValue, TreeValue, heads, is_number, no_head, operator_word}
+use Rattle.zeb_query.specs.declared.keywords.OperatorWord.{OperatorWord}
+use Rattle.zeb_query.specs.declared.keywords.OperatorWord.TheVariants.{And, Not, Or, Proximity}
+use Rattle.zeb_query.specs.declared.plans.Operator.TheVariants as on_sets
+use Rattle.zeb_query.specs.Grammar.{BooleanOf, ConnectiveValue, HeadValue, NamedValue, PairValue, ParametersValue, ProximityOf, QueryValue, TermValue, TreeValue, few, heads, is_number, many, no_head, operator_word}
 use Rattle.zeb_query.specs.Attributes.{HoldingValue, always_matches, completeness_is, equality, first_positions, holding_of, index_held, index_used, kept_completenesses, kept_positions, kept_relations, kept_structures, kept_truncations, lists, local_numbers, no_truncation, numeric_strings, one_number, ordered_relations, patterns_held, phrases, position_is, register_searched, relation_is, structure_is, truncation_is, whole_texts}
 
 -- ---- diagnostics as values
@@ -184,8 +185,8 @@ register_checks profile place h =
 -- a term that has to be a number
 abbrev pub number_checks : ℕ → HoldingValue → List ℕ → List Check
 number_checks place h text =
-    check place 126 text (structure_is h local_numbers && not (is_number 9 text))
-    ∷ check place 126 text (structure_is h numeric_strings && (not (relation_is h always_matches) && not (is_number 18 text)))
+    check place 126 text (structure_is h local_numbers && not (is_number few text))
+    ∷ check place 126 text (structure_is h numeric_strings && (not (relation_is h always_matches) && not (is_number many text)))
     ∷ []
 
 -- the checks of a term, with those of further values that aren't taken
@@ -226,26 +227,24 @@ distance_relations =
     (codes "1", Less) ∷ (codes "2", LessOrEqual) ∷ (codes "3", Equal) ∷ (codes "4", GreaterOrEqual) ∷ (codes "5", Greater)
     ∷ (codes "6", NotEqual) ∷ []
 
--- the first parameter that isn't kept is told; there are six
-abbrev pub parameter_checks : ℕ → List (List ℕ) → List Check
-parameter_checks place (exclusion ∷ distance ∷ ordered ∷ relation ∷ which_code ∷ unit_code ∷ []) =
-    check place 110 exclusion (not (bytes_eq exclusion (codes "0")))
-    ∷ check place 110 distance (not (is_number 9 distance))
-    ∷ check place 110 ordered (is_none (kept_text orderings ordered))
-    ∷ check place 110 relation (is_none (kept_text distance_relations relation))
-    ∷ check place 110 which_code (not (bytes_eq which_code (codes "k") || bytes_eq which_code (codes "known")))
-    ∷ check place 110 unit_code (not (bytes_eq unit_code (codes "2")))
+-- the first parameter that isn't kept is told
+abbrev pub parameter_checks : ℕ → ParametersValue → List Check
+parameter_checks place p =
+    check place 110 p.exclusion (not (bytes_eq p.exclusion (codes "0")))
+    ∷ check place 110 p.distance (not (is_number few p.distance))
+    ∷ check place 110 p.ordered (is_none (kept_text orderings p.ordered))
+    ∷ check place 110 p.relation (is_none (kept_text distance_relations p.relation))
+    ∷ check place 110 p.which_code (not (bytes_eq p.which_code (codes "k") || bytes_eq p.which_code (codes "known")))
+    ∷ check place 110 p.unit_code (not (bytes_eq p.unit_code (codes "2")))
     ∷ []
-parameter_checks place other = check place 110 (codes "@prox") true ∷ []
 
 -- what parameters ask for that are kept
-abbrev pub separation_of : List (List ℕ) → Separation
-separation_of (exclusion ∷ distance ∷ ordered ∷ relation ∷ which_code ∷ unit_code ∷ []) = record {
-  distance = digits_value 10 distance;
-  ordered = unwrap_or (kept_text orderings ordered) false;
-  relation = unwrap_or (kept_text distance_relations relation) Equal;
+abbrev pub separation_of : ParametersValue → Separation
+separation_of p = record {
+  distance = digits_value 10 p.distance;
+  ordered = unwrap_or (kept_text orderings p.ordered) false;
+  relation = unwrap_or (kept_text distance_relations p.relation) Equal;
 }
-separation_of other = record { distance = 0; ordered = false; relation = Equal }
 
 -- ---- proximity: the operands, the left one first
 
@@ -259,7 +258,7 @@ pub record Operand : Type 0 where
 abbrev pub operand_of : Option (List ℕ) → HeadValue → TreeValue → Option Operand
 operand_of set outer (TermValue place head text) = Some (record { place = place; held = holding_of set (heads outer head); text = text })
 operand_of set outer (NamedValue place head name) = None
-operand_of set outer (PairValue place head connective parameters left right) = None
+operand_of set outer (PairValue place head connective left right) = None
 
 abbrev pub operand_checks : Profile → Operand → List Check
 operand_checks profile o = near_checks profile o.place o.held o.text
@@ -269,39 +268,39 @@ operands_checks profile place (Some left) (Some right) =
     operand_checks profile left
     ++ (operand_checks profile right
     ++ check place 123 [] (not (index_held profile left.held == index_held profile right.held)) ∷ [])
-operands_checks profile place (Some left) None = check place 110 (codes "@prox") true ∷ []
-operands_checks profile place None right = check place 110 (codes "@prox") true ∷ []
+operands_checks profile place (Some left) None = check place 110 (operator_word Proximity) true ∷ []
+operands_checks profile place None right = check place 110 (operator_word Proximity) true ∷ []
 
-abbrev pub proximity_checks : Profile → ℕ → List (List ℕ) → Option Operand → Option Operand → List Check
+abbrev pub proximity_checks : Profile → ℕ → ParametersValue → Option Operand → Option Operand → List Check
 proximity_checks profile place parameters left right = parameter_checks place parameters ++ operands_checks profile place left right
 
 -- ---- a whole query
-
-abbrev pub is_proximity : Connective → Bool
-is_proximity And = false
-is_proximity Or = false
-is_proximity Not = false
-is_proximity Proximity = true
 
 -- the checks of a structure, over which the set is named and the head stands
 abbrev pub checks_in : Profile → Option (List ℕ) → HeadValue → TreeValue → List Check
 checks_in profile set outer (TermValue place head text) = find_checks profile place (holding_of set (heads outer head)) text
 checks_in profile set outer (NamedValue place head name) = check place 18 name true ∷ []
-checks_in profile set outer (PairValue place head connective parameters left right) =
-    if is_proximity connective
-    then proximity_checks profile place parameters (operand_of set (heads outer head) left) (operand_of set (heads outer head) right)
-    else (checks_in profile set (heads outer head) left ++ checks_in profile set (heads outer head) right)
+checks_in profile set outer (PairValue place head (BooleanOf operator) left right) =
+    checks_in profile set (heads outer head) left ++ checks_in profile set (heads outer head) right
+checks_in profile set outer (PairValue place head (ProximityOf parameters) left right) =
+    proximity_checks profile place parameters (operand_of set (heads outer head) left) (operand_of set (heads outer head) right)
 
 abbrev pub query_checks : Profile → QueryValue → List Check
-query_checks profile query = checks_in profile query.attribute_set no_head query.tree
+query_checks profile query = checks_in profile query.attrset no_head query.tree
 
 -- ---- a scan, which takes a term alone
+
+abbrev pub operator_named : ConnectiveValue → OperatorWord
+operator_named (BooleanOf on_sets.And) = And
+operator_named (BooleanOf on_sets.Or) = Or
+operator_named (BooleanOf on_sets.Not) = Not
+operator_named (ProximityOf parameters) = Proximity
 
 abbrev pub scan_checks_in : Profile → Option (List ℕ) → TreeValue → List Check
 scan_checks_in profile set (TermValue place head text) = scan_checks profile place (holding_of set (heads no_head head)) text
 scan_checks_in profile set (NamedValue place head name) = check place 18 name true ∷ []
-scan_checks_in profile set (PairValue place head connective parameters left right) =
-    check place 110 (operator_word connective) true ∷ []
+scan_checks_in profile set (PairValue place head connective left right) =
+    check place 110 (operator_word (operator_named connective)) true ∷ []
 
 abbrev pub scan_query_checks : Profile → QueryValue → List Check
-scan_query_checks profile query = scan_checks_in profile query.attribute_set query.tree
+scan_query_checks profile query = scan_checks_in profile query.attrset query.tree

@@ -18,8 +18,13 @@ use Rattle.std.specs.Str.Parse.{digits_value}
 use Rattle.zeb_query.specs.declared.keywords.Keyword.{Keyword}
 use Rattle.zeb_query.specs.declared.keywords.Keyword.TheVariants.{Attribute, AttributeSet, Operator, ResultSet, TermType}
 use Rattle.zeb_query.specs.declared.queries.Attribute.{Attribute as AttributeOfQuery}
+use Rattle.zeb_query.specs.declared.keywords.OperatorWord.{OperatorWord}
+use Rattle.zeb_query.specs.declared.keywords.OperatorWord.TheVariants.{And, Not, Or, Proximity}
+use Rattle.zeb_query.specs.declared.plans.Operator.{Operator as OperatorOnSets}
+use Rattle.zeb_query.specs.declared.plans.Operator.TheVariants as on_sets
 use Rattle.zeb_query.specs.declared.queries.Connective.{Connective}
-use Rattle.zeb_query.specs.declared.queries.Connective.TheVariants.{And, Not, Or, Proximity}
+use Rattle.zeb_query.specs.declared.queries.Connective.TheVariants as connective
+use Rattle.zeb_query.specs.declared.queries.Parameters.{Parameters}
 use Rattle.zeb_query.specs.declared.queries.Head.{Head}
 use Rattle.zeb_query.specs.declared.queries.Query.{Query}
 use Rattle.zeb_query.specs.declared.queries.Tree.{Named, Pair', Term, Tree}
@@ -43,14 +48,28 @@ pub record HeadValue : Type 0 where
   pub attributes : List AttributeValue
   pub term_type : Option (List ℕ)
 
--- a term, a named result set, or an operator with its parameters and operands; each with its place and head
+-- the six parameters of `@prox` as written
+pub record ParametersValue : Type 0 where
+  pub exclusion : List ℕ
+  pub distance : List ℕ
+  pub ordered : List ℕ
+  pub relation : List ℕ
+  pub which_code : List ℕ
+  pub unit_code : List ℕ
+
+-- an operator on sets of records, or `@prox`
+pub data ConnectiveValue : Type 0 where
+  BooleanOf : OperatorOnSets → ConnectiveValue
+  ProximityOf : ParametersValue → ConnectiveValue
+
+-- a term, a named result set, or an operator with its operands; each with its place and head
 pub data TreeValue : Type 0 where
   TermValue : ℕ → HeadValue → List ℕ → TreeValue
   NamedValue : ℕ → HeadValue → List ℕ → TreeValue
-  PairValue : ℕ → HeadValue → Connective → List (List ℕ) → TreeValue → TreeValue → TreeValue
+  PairValue : ℕ → HeadValue → ConnectiveValue → TreeValue → TreeValue → TreeValue
 
 pub record QueryValue : Type 0 where
-  pub attribute_set : Option (List ℕ)
+  pub attrset : Option (List ℕ)
   pub tree : TreeValue
 
 abbrev pub attribute_value : AttributeOfQuery → AttributeValue
@@ -59,16 +78,38 @@ attribute_value a = record { set = option_map string_bytes a.set; kind = a.kind;
 abbrev pub head_value : Head → HeadValue
 head_value head = record { attributes = map attribute_value head.attributes.items; term_type = option_map string_bytes head.term_type }
 
+abbrev pub parameters_value : Parameters → ParametersValue
+parameters_value p = record {
+  exclusion = string_bytes p.exclusion;
+  distance = string_bytes p.distance;
+  ordered = string_bytes p.ordered;
+  relation = string_bytes p.relation;
+  which_code = string_bytes p.which_code;
+  unit_code = string_bytes p.unit_code;
+}
+
+abbrev pub connective_value : Connective → ConnectiveValue
+connective_value (connective.Boolean operator) = BooleanOf operator
+connective_value (connective.Proximity parameters) = ProximityOf (parameters_value parameters)
+
 abbrev pub tree_value : Tree → TreeValue
 tree_value (Term leaf) = TermValue leaf.place (head_value leaf.head) (string_bytes leaf.text)
 tree_value (Named leaf) = NamedValue leaf.place (head_value leaf.head) (string_bytes leaf.text)
-tree_value (Pair' place head connective parameters p left q right) =
-    PairValue place (head_value head) connective (map string_bytes parameters.items) (tree_value left) (tree_value right)
+tree_value (Pair' place head connective p left q right) =
+    PairValue place (head_value head) (connective_value connective) (tree_value left) (tree_value right)
 
 abbrev pub query_value : Query → QueryValue
-query_value query = record { attribute_set = option_map string_bytes query.attribute_set; tree = tree_value query.tree }
+query_value query = record { attrset = option_map string_bytes query.attrset; tree = tree_value query.tree }
 
 -- ---- numbers
+
+-- the most digits of an attribute's type and value, of a distance and of a system number, and those of another number: limits of
+-- this project's own
+abbrev pub few : ℕ
+few = 9
+
+abbrev pub many : ℕ
+many = 18
 
 -- whether a text has 1 to `most` digits and nothing else
 abbrev pub is_number : ℕ → List ℕ → Bool
@@ -80,18 +121,29 @@ number_of most text = if is_number most text then Some (digits_value 10 text) el
 
 -- ---- keywords
 
+-- the word of an operator
+abbrev pub operator_word : OperatorWord → List ℕ
+operator_word And = codes "@and"
+operator_word Or = codes "@or"
+operator_word Not = codes "@not"
+operator_word Proximity = codes "@prox"
+
+abbrev pub operator_spelled : List ℕ → Option OperatorWord
+operator_spelled text =
+    if bytes_eq text (operator_word And) then Some And else (
+    if bytes_eq text (operator_word Or) then Some Or else (
+    if bytes_eq text (operator_word Not) then Some Not else (
+    if bytes_eq text (operator_word Proximity) then Some Proximity else
+    None)))
+
 -- the keyword of a text
 abbrev pub keyword_spelled : List ℕ → Option Keyword
 keyword_spelled text =
     if bytes_eq text (codes "@attrset") then Some AttributeSet else (
     if bytes_eq text (codes "@attr") then Some Attribute else (
     if bytes_eq text (codes "@term") then Some TermType else (
-    if bytes_eq text (codes "@set") then Some ResultSet else (
-    if bytes_eq text (codes "@and") then Some (Operator And) else (
-    if bytes_eq text (codes "@or") then Some (Operator Or) else (
-    if bytes_eq text (codes "@not") then Some (Operator Not) else (
-    if bytes_eq text (codes "@prox") then Some (Operator Proximity) else
-    None)))))))
+    if bytes_eq text (codes "@set") then Some ResultSet else
+    option_map Operator (operator_spelled text))))
 
 -- the keyword that a word of this spelling and text is
 abbrev pub keyword_by : Spelling → List ℕ → Option Keyword
@@ -101,13 +153,6 @@ keyword_by Bad text = None
 
 abbrev pub keyword_of : Word → Option Keyword
 keyword_of word = keyword_by word.spelling word.text
-
--- the word of an operator
-abbrev pub operator_word : Connective → List ℕ
-operator_word And = codes "@and"
-operator_word Or = codes "@or"
-operator_word Not = codes "@not"
-operator_word Proximity = codes "@prox"
 
 -- ---- structures and queries
 
@@ -135,7 +180,7 @@ if_any kind (b ∷ bs) = Some (kind, b ∷ bs)
 unfoldable pub kind_and_value : List ℕ → Option (ℕ × List ℕ)
 kind_and_value text =
     if nat_lt (position_or_len is_equals_sign text) (length text)
-    then option_and_then (λ kind. if_any kind (after_first is_equals_sign text)) (number_of 9 (before_first is_equals_sign text))
+    then option_and_then (λ kind. if_any kind (after_first is_equals_sign text)) (number_of few (before_first is_equals_sign text))
     else None
 
 abbrev pub no_head : HeadValue
@@ -154,7 +199,7 @@ heads outer inner = record { attributes = outer.attributes ++ inner.attributes; 
 abbrev pub under : HeadValue → TreeValue → TreeValue
 under head (TermValue place inner text) = TermValue place (heads head inner) text
 under head (NamedValue place inner name) = NamedValue place (heads head inner) name
-under head (PairValue place inner connective parameters left right) = PairValue place (heads head inner) connective parameters left right
+under head (PairValue place inner connective left right) = PairValue place (heads head inner) connective left right
 
 abbrev pub with_attribute : Option (List ℕ) → ℕ × List ℕ → HeadValue
 with_attribute set spec = record { attributes = record { set = set; kind = spec.0; value = spec.1 } ∷ []; term_type = None }
@@ -162,12 +207,20 @@ with_attribute set spec = record { attributes = record { set = set; kind = spec.
 abbrev pub with_type : List ℕ → HeadValue
 with_type type = record { attributes = []; term_type = Some type }
 
--- how many parameters an operator has
-abbrev pub parameter_count : Connective → ℕ
-parameter_count And = 0
-parameter_count Or = 0
-parameter_count Not = 0
-parameter_count Proximity = 6
+-- the operator of this word with these parameters
+abbrev pub connective_of : OperatorWord → List (List ℕ) → Option ConnectiveValue
+connective_of And [] = Some (BooleanOf on_sets.And)
+connective_of Or [] = Some (BooleanOf on_sets.Or)
+connective_of Not [] = Some (BooleanOf on_sets.Not)
+connective_of Proximity (exclusion ∷ distance ∷ ordered ∷ relation ∷ which_code ∷ unit_code ∷ []) = Some (ProximityOf (record {
+  exclusion = exclusion;
+  distance = distance;
+  ordered = ordered;
+  relation = relation;
+  which_code = which_code;
+  unit_code = unit_code;
+}))
+connective_of word parameters = None
 
 abbrev pub text_of : Word → List ℕ
 text_of word = word.text
@@ -191,20 +244,19 @@ pub data IsStructure : List Word → TreeValue → Type 0 where
       → keyword_of keyword ≡ Some TermType → is_good type ≡ true
       → IsStructure words tree
       → IsStructure (keyword ∷ type ∷ words) (under (with_type type.text) tree)
-  is_pair : (operator : Word) (connective : Connective) (parameters left right : List Word) (x y : TreeValue)
-      → keyword_of operator ≡ Some (Operator connective)
-      → length parameters ≡ parameter_count connective → list_all is_good parameters ≡ true
+  is_pair : (operator : Word) (word : OperatorWord) (connective : ConnectiveValue) (parameters left right : List Word) (x y : TreeValue)
+      → keyword_of operator ≡ Some (Operator word)
+      → connective_of word (map text_of parameters) ≡ Some connective → list_all is_good parameters ≡ true
       → IsStructure left x → IsStructure right y
-      → IsStructure (operator ∷ (parameters ++ (left ++ right)))
-      (PairValue operator.place no_head connective (map text_of parameters) x y)
+      → IsStructure (operator ∷ (parameters ++ (left ++ right))) (PairValue operator.place no_head connective x y)
 
 -- the words spell the query
 pub data IsQuery : List Word → QueryValue → Type 0 where
   is_structure : (words : List Word) (tree : TreeValue) → IsStructure words tree
-      → IsQuery words (record { attribute_set = None; tree = tree })
+      → IsQuery words (record { attrset = None; tree = tree })
   is_structure_of_set : (keyword set : Word) (words : List Word) (tree : TreeValue)
       → keyword_of keyword ≡ Some AttributeSet → is_good set ≡ true → IsStructure words tree
-      → IsQuery (keyword ∷ set ∷ words) (record { attribute_set = Some set.text; tree = tree })
+      → IsQuery (keyword ∷ set ∷ words) (record { attrset = Some set.text; tree = tree })
 
 -- ---- texts
 

@@ -8,7 +8,7 @@ use Rattle.std.specs.Prelude.{List, Some, [], chars, length, slice_get, string_b
 use Rattle.zeb_query.specs.declared.faults.QueryFault.{QueryFault}
 use Rattle.zeb_query.specs.declared.faults.QueryFault.TheVariants.{Diagnostic, Memory}
 use Rattle.zeb_query.specs.declared.keywords.Keyword.TheVariants.{Operator}
-use Rattle.zeb_query.specs.declared.queries.Connective.{Connective}
+use Rattle.zeb_query.specs.declared.keywords.OperatorWord.{OperatorWord}
 use Rattle.zeb_query.specs.Words.{AreWords, Word}
 use Rattle.zeb_query.specs.Grammar.{IsQuery, NamedValue, PairValue, QueryValue, SpellsQuery, TermValue, TreeValue, keyword_of}
 
@@ -18,7 +18,7 @@ use Rattle.zeb_query.specs.Grammar.{IsQuery, NamedValue, PairValue, QueryValue, 
 abbrev pub operators : TreeValue → List ℕ
 operators (TermValue place head text) = []
 operators (NamedValue place head name) = []
-operators (PairValue place head connective parameters left right) = place ∷ (operators left ++ operators right)
+operators (PairValue place head connective left right) = place ∷ (operators left ++ operators right)
 
 -- some query begins with the words
 abbrev pub IsBeginning : List Word → Type 0
@@ -62,7 +62,7 @@ pub record IsCrowded (room : ℕ) (words : List Word) (place : ℕ) : Type 0 whe
   pub more : List Word
   pub is : words ≡ front ++ word ∷ more
   pub place_is : place ≡ word.place
-  pub operator : (connective : Connective) × (keyword_of word ≡ Some (Operator connective))
+  pub operator : (operator : OperatorWord) × (keyword_of word ≡ Some (Operator operator))
   pub fits : IsBeginningWithin room front
   pub begins : IsBeginning (front ++ word ∷ [])
   pub crowded : (rest : List Word) (query : QueryValue) → IsQuery (front ++ word ∷ rest) query → slice_get (operators query.tree) room ≡ Some place

@@ -17,12 +17,9 @@ use Rattle.zeb_query.specs.declared.plans.Relation.{Relation}
 use Rattle.zeb_query.specs.declared.plans.ScanPlan.{ScanPlan}
 use Rattle.zeb_query.specs.declared.plans.Separation.{Separation}
 use Rattle.zeb_query.specs.declared.plans.TermPlan.{TermPlan}
-use Rattle.zeb_query.specs.declared.queries.Connective.{Connective}
-use Rattle.zeb_query.specs.declared.queries.Connective.TheVariants.{And, Not, Or, Proximity}
 use Rattle.zeb_keys.specs.declared.Register.TheVariants as register
-use Rattle.zeb_query.specs.declared.plans.Operator.TheVariants as operator
 use Rattle.zeb_query.specs.declared.plans.TermPlan.TheVariants as term
-use Rattle.zeb_query.specs.Grammar.{HeadValue, NamedValue, PairValue, QueryValue, TermValue, TreeValue, heads, no_head}
+use Rattle.zeb_query.specs.Grammar.{BooleanOf, HeadValue, NamedValue, PairValue, ParametersValue, ProximityOf, QueryValue, TermValue, TreeValue, heads, no_head}
 use Rattle.zeb_query.specs.Checks.{Operand, Refusal, checked_by, one_of, operand_of, query_checks, scan_query_checks, separation_of}
 use Rattle.zeb_query.specs.Attributes.{HoldingValue, always_matches, completeness_is, equality, first_positions, free_forms, holding_of, index_held, joined_if_any, joined_words, joined_words_if_any, local_numbers, numeric_strings, order_held, patterns_held, position_is, register_searched, relation_held, relation_is, structure_is, whole_texts, word_lists}
 
@@ -86,7 +83,7 @@ abbrev pub no_plan : PlanValue
 no_plan = TermOf (AnyWordOf 0 [])
 
 -- what `@prox` with these parameters asks for, where none of its checks applies
-abbrev pub near_asked : Profile → List (List ℕ) → Option Operand → Option Operand → PlanValue
+abbrev pub near_asked : Profile → ParametersValue → Option Operand → Option Operand → PlanValue
 near_asked profile parameters (Some left) (Some right) =
     NearOf (index_held profile left.held) (operand_pattern left) (operand_pattern right) (separation_of parameters)
 near_asked profile parameters (Some left) None = no_plan
@@ -94,24 +91,18 @@ near_asked profile parameters None right = no_plan
 
 -- ---- queries
 
--- an operator on the sets of records of its sides; proximity, which is none, asks for what its parameters and operands say
-abbrev pub pair_asked : Connective → PlanValue → PlanValue → PlanValue → PlanValue
-pair_asked And left right near = PairOf operator.And left right
-pair_asked Or left right near = PairOf operator.Or left right
-pair_asked Not left right near = PairOf operator.Not left right
-pair_asked Proximity left right near = near
-
 -- what a structure asks for, over which the set is named and the head stands, where none of its checks applies
 abbrev pub tree_asked : Profile → Option (List ℕ) → HeadValue → TreeValue → PlanValue
 tree_asked profile set outer (TermValue place head text) = TermOf (plan_asked profile (holding_of set (heads outer head)) text)
 tree_asked profile set outer (NamedValue place head name) = no_plan
-tree_asked profile set outer (PairValue place head connective parameters left right) =
-    pair_asked connective (tree_asked profile set (heads outer head) left) (tree_asked profile set (heads outer head) right)
-    (near_asked profile parameters (operand_of set (heads outer head) left) (operand_of set (heads outer head) right))
+tree_asked profile set outer (PairValue place head (BooleanOf operator) left right) =
+    PairOf operator (tree_asked profile set (heads outer head) left) (tree_asked profile set (heads outer head) right)
+tree_asked profile set outer (PairValue place head (ProximityOf parameters) left right) =
+    near_asked profile parameters (operand_of set (heads outer head) left) (operand_of set (heads outer head) right)
 
 -- the first diagnostic of the query's checks, or what the query asks for
 abbrev pub plan_of : Profile → QueryValue → Result PlanValue Refusal
-plan_of profile query = checked_by (query_checks profile query) (tree_asked profile query.attribute_set no_head query.tree)
+plan_of profile query = checked_by (query_checks profile query) (tree_asked profile query.attrset no_head query.tree)
 
 -- ---- what every plan says of its numbers
 
@@ -150,7 +141,7 @@ pub record LooksInto (profile : Profile) (h : HoldingValue) (looked : Option (�
 abbrev pub held_in : Option (List ℕ) → HeadValue → TreeValue → List HoldingValue
 held_in set outer (TermValue place head text) = holding_of set (heads outer head) ∷ []
 held_in set outer (NamedValue place head name) = []
-held_in set outer (PairValue place head connective parameters left right) =
+held_in set outer (PairValue place head connective left right) =
     held_in set (heads outer head) left ++ held_in set (heads outer head) right
 
 -- the index and the register in which each term of a plan looks, from the left
@@ -194,11 +185,11 @@ no_scan = record { index = 0; register = register.Word; start = [] }
 abbrev pub tree_scanned : Profile → Option (List ℕ) → TreeValue → ScanValue
 tree_scanned profile set (TermValue place head text) = scan_asked profile (holding_of set (heads no_head head)) text
 tree_scanned profile set (NamedValue place head name) = no_scan
-tree_scanned profile set (PairValue place head connective parameters left right) = no_scan
+tree_scanned profile set (PairValue place head connective left right) = no_scan
 
 -- the first diagnostic of the scan's checks, or where it begins
 abbrev pub scan_of : Profile → QueryValue → Result ScanValue Refusal
-scan_of profile query = checked_by (scan_query_checks profile query) (tree_scanned profile query.attribute_set query.tree)
+scan_of profile query = checked_by (scan_query_checks profile query) (tree_scanned profile query.attrset query.tree)
 
 -- in the register of numbers a scan begins at the key of a number below 10^18
 abbrev pub BeginsAtKey : ScanValue → Type 0

@@ -1,9 +1,11 @@
 -- What only the contracts of private functions speak of; no public clause reaches it.
 -- What the functions that read a text give, in the words of the grammar.
-use Rattle.std.specs.Prelude.{ℕ, List, ◌++◌, map, string_bytes, ◌≡◌, [], ◌∷◌, true, Option, Some, None, length, ◌==◌, if◌then◌else◌}
+use Rattle.std.specs.Prelude.{ℕ, List, ◌++◌, map, string_bytes, ◌≡◌, [], ◌∷◌, true, false, Bool, Option, Some, None, length, ◌==◌, if◌then◌else◌}
 use Rattle.std.specs.List.{list_all}
 use Rattle.std.specs.Borrow.{Bor}
 use Rattle.std.specs.Option.{option_map}
+use Rattle.zeb_query.specs.declared.diagnostics.Condition.{Condition}
+use Rattle.zeb_query.specs.declared.diagnostics.Condition.TheVariants as condition
 use Rattle.zeb_query.specs.declared.faults.QueryFault.{QueryFault}
 use Rattle.zeb_query.specs.declared.faults.QueryFault.TheVariants.{Diagnostic, Memory}
 use Rattle.zeb_query.specs.declared.words.Word.{Word as WordOfText}
@@ -11,16 +13,37 @@ use Rattle.zeb_query.specs.declared.words.Mode.{Mode}
 use Rattle.zeb_query.specs.declared.words.Mode.TheVariants.{Between, Plain, Quoted, Escaped}
 use Rattle.zeb_query.specs.declared.words.Cutter.{Cutter}
 use Rattle.zeb_query.specs.declared.grammar.Rest.{Rest}
-use Rattle.zeb_query.specs.declared.queries.Connective.{Connective}
+use Rattle.zeb_query.specs.declared.keywords.OperatorWord.{OperatorWord}
 use Rattle.zeb_query.specs.declared.keywords.Keyword.{Keyword}
 use Rattle.zeb_query.specs.declared.keywords.Keyword.TheVariants.{Attribute, Operator}
 use Rattle.zeb_query.specs.declared.holding.Holding.{Holding}
 use Rattle.zeb_query.specs.Words.{Word}
 use Rattle.zeb_query.specs.PrivateWalk.{words_at, in_word, in_quotes, escaped, plain_word, quoted_word, with_front, Due, fault}
-use Rattle.zeb_query.specs.Grammar.{keyword_of, IsStructure, IsQuery, under, is_good, text_of, kind_and_value, parameter_count, AttributeValue, HeadValue, TreeValue}
+use Rattle.zeb_query.specs.Grammar.{keyword_of, has_equals, IsStructure, IsQuery, under, is_good, text_of, kind_and_value, connective_of, AttributeValue, ConnectiveValue, HeadValue, ParametersValue, TreeValue}
 use Rattle.zeb_query.specs.Attributes.{HoldingValue, is_bib1, is_other_kind, or_else}
 
 -- ---- faults
+
+-- the number of a condition in the list Bib-1
+abbrev pub condition_number : Condition → ℕ
+condition_number condition.TooManyWords = 5
+condition_number condition.TooManyOperators = 6
+condition_number condition.TooManyCharacters = 11
+condition_number condition.ResultSet = 18
+condition_number condition.MalformedQuery = 108
+condition_number condition.Operator = 110
+condition_number condition.AttributeType = 113
+condition_number condition.UseAttribute = 114
+condition_number condition.NoUseAttribute = 116
+condition_number condition.Relation = 117
+condition_number condition.Structure = 118
+condition_number condition.Position = 119
+condition_number condition.Truncation = 120
+condition_number condition.AttributeSet = 121
+condition_number condition.Completeness = 122
+condition_number condition.Combination = 123
+condition_number condition.TermValue = 126
+condition_number condition.TermType = 229
 
 -- the fault is this diagnostic, or want of memory
 abbrev pub IsDiagnostic : QueryFault → ℕ → ℕ → List ℕ → Type 0
@@ -69,6 +92,11 @@ abbrev pub first_keyword : List Word → Option Keyword
 first_keyword [] = None
 first_keyword (word ∷ words) = keyword_of word
 
+-- the first word has an `=`
+abbrev pub first_equals : List Word → Bool
+first_equals [] = false
+first_equals (word ∷ words) = has_equals word.text
+
 -- one word is read from a rest, and what follows is left
 pub record ReadsWord (rest after : Rest) (word : Word) : Type 0 where
   pub is : left rest ≡ word ∷ left after
@@ -102,7 +130,7 @@ pub record SpellsSpec (rest after : Rest) (set : Option (List ℕ)) (attribute :
 pub record SpellsSet (rest after : Rest) (set : Option (List ℕ)) : Type 0 where
   pub words : List Word
   pub is : left rest ≡ words ++ left after
-  pub spells : (more : List Word) (tree : TreeValue) → IsStructure more tree → IsQuery (words ++ more) (record { attribute_set = set; tree = tree })
+  pub spells : (more : List Word) (tree : TreeValue) → IsStructure more tree → IsQuery (words ++ more) (record { attrset = set; tree = tree })
 
 -- what follows @attr, up to the rest, spells the attribute
 pub record SpellsAttribute (rest after : Rest) (attribute : AttributeValue) : Type 0 where
@@ -119,22 +147,26 @@ pub record SpellsHead (rest after : Rest) (head : HeadValue) : Type 0 where
   pub spells : (more : List Word) (tree : TreeValue) → IsStructure more tree → IsStructure (words ++ more) (under head tree)
 
 -- the words between are parameters
-pub record SpellsParameters (rest after : Rest) (count : ℕ) (texts : List (List ℕ)) : Type 0 where
+pub record SpellsParameters (rest after : Rest) (texts : List (List ℕ)) : Type 0 where
   pub words : List Word
   pub is : left rest ≡ words ++ left after
-  pub count_is : length words ≡ count
   pub good : list_all is_good words ≡ true
   pub texts_are : map text_of words ≡ texts
 
+-- these six
+abbrev pub SpellsProximity : Rest → Rest → ParametersValue → Type 0
+SpellsProximity rest after p =
+    SpellsParameters rest after (p.exclusion ∷ p.distance ∷ p.ordered ∷ p.relation ∷ p.which_code ∷ p.unit_code ∷ [])
+
 -- the words between are the operator, which stands at the front, and its parameters
-pub record SpellsOperator (rest after : Rest) (connective : Connective) (texts : List (List ℕ)) : Type 0 where
+pub record SpellsOperator (rest after : Rest) (word : OperatorWord) (place : ℕ) (connective : ConnectiveValue) : Type 0 where
   pub operator : Word
   pub words : List Word
   pub is : left rest ≡ operator ∷ (words ++ left after)
-  pub keyword : keyword_of operator ≡ Some (Operator connective)
-  pub count_is : length words ≡ parameter_count connective
+  pub place_is : place ≡ operator.place
+  pub keyword : keyword_of operator ≡ Some (Operator word)
   pub good : list_all is_good words ≡ true
-  pub texts_are : map text_of words ≡ texts
+  pub connective_is : connective_of word (map text_of words) ≡ Some connective
 
 -- the words between spell the structure
 pub record Spells (rest after : Rest) (tree : TreeValue) : Type 0 where

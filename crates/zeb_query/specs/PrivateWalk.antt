@@ -6,11 +6,12 @@ use Rattle.std.specs.Option.{is_some}
 use Rattle.std.specs.Prelude.{Bool, List, None, Option, Some, [], encode_utf8, false, if◌then◌else◌, suc, true, zero, ℕ, ◌++◌, ◌+◌, ◌==◌, ◌∷◌}
 use Rattle.zeb_query.specs.declared.keywords.Keyword.{Keyword}
 use Rattle.zeb_query.specs.declared.keywords.Keyword.TheVariants.{Attribute, AttributeSet, Operator, ResultSet, TermType}
-use Rattle.zeb_query.specs.declared.queries.Connective.{Connective}
+use Rattle.zeb_query.specs.declared.keywords.OperatorWord.{OperatorWord}
+use Rattle.zeb_query.specs.declared.keywords.OperatorWord.TheVariants.{And, Not, Or, Proximity}
 use Rattle.zeb_query.specs.declared.words.Spelling.{Spelling}
 use Rattle.zeb_query.specs.declared.words.Spelling.TheVariants.{Bad, Plain, Quoted}
 use Rattle.zeb_query.specs.Words.{Word, is_blank}
-use Rattle.zeb_query.specs.Grammar.{has_equals, is_good, keyword_of, kind_and_value, parameter_count}
+use Rattle.zeb_query.specs.Grammar.{has_equals, is_good, keyword_of, kind_and_value}
 
 -- ---- words
 
@@ -86,7 +87,14 @@ abbrev pub words_then : ℕ → ℕ → Due
 words_then zero n = Structures n
 words_then (suc k) n = MoreWords k n
 
-abbrev pub operator_step : ℕ → Connective → ℕ → Step
+-- how many parameters an operator has
+abbrev pub parameter_count : OperatorWord → ℕ
+parameter_count And = 0
+parameter_count Or = 0
+parameter_count Not = 0
+parameter_count Proximity = 6
+
+abbrev pub operator_step : ℕ → OperatorWord → ℕ → Step
 operator_step zero connective n = Refused 6
 operator_step (suc room) connective n = Allowed room (words_then (parameter_count connective) (suc (suc n)))
 

@@ -2,9 +2,9 @@
 ghost use Rattle.std.specs.Prelude.{◌≡◌};
 ghost use Rattle.std.specs.Option.{option_map};
 ghost use Rattle.zeb_query.specs.PrivateValues.{relations, positions, structures, completenesses};
-ghost use Rattle.zeb_query.specs.Attributes.{default_completeness, default_position, default_relation, default_structure, default_truncation, truncations, number_or, value_of};
+ghost use Rattle.zeb_query.specs.Attributes.{default_completeness, default_position, default_relation, default_structure, default_truncation, is_among, local_numbers, truncations, number_or, value_of};
 
-use crate::digits::number_of;
+use crate::digits::short_number;
 use crate::{Order, Relation};
 use zeb_text::Cut;
 
@@ -44,7 +44,7 @@ pub(crate) enum Position {
     Any,
 }
 
-/// How a term is read (Bib-1, attribute type 4).
+/// How a term that is looked up in an index is read (Bib-1, attribute type 4).
 #[derive(Clone, Copy, Debug, PartialEq, Eq)]
 pub(crate) enum Structure {
     /// 1, phrase, and 2, word, which this project treats alike.
@@ -53,10 +53,20 @@ pub(crate) enum Structure {
     WordList,
     /// 105, free-form text.
     FreeForm,
-    /// 107, local number, which this project reads as the record's system number.
-    LocalNumber,
     /// 109, numeric string.
     Numeric,
+}
+
+impl Structure {
+    ghost use Rattle.std.specs.Prelude.{◌≡◌};
+    ghost use Rattle.zeb_query.specs.PrivateValues.{asks_number};
+
+    /// Whether the term is a number.
+    pub(crate) fn is_numeric(self) -> bool
+        ensures { result ≡ asks_number self }
+    {
+        self == Structure::Numeric
+    }
 }
 
 /// How much of a field a term stands for (Bib-1, attribute type 6).
@@ -69,12 +79,12 @@ pub(crate) enum Completeness {
 }
 
 /// The number that an attribute's value spells, or the default where there is no attribute of the type.
-fn number_or(value: Option<&str>, default: u64) -> Option<u64>
+fn number_or(value: Option<&str>, default: u32) -> Option<u32>
     ensures { result ≡ number_or default (option_map (λ text. text.now) value.entry) }
 {
     match value {
         None => Some(default),
-        Some(text) => number_of(text, 9),
+        Some(text) => short_number(text),
     }
 }
 
@@ -104,7 +114,17 @@ pub(crate) fn position_of(value: Option<&str>) -> Option<Position>
     }
 }
 
-/// The structure, a phrase where there is no attribute; nothing for a value that isn't kept.
+/// Whether the structure is 107, local number, which this project reads as the record's system number, in no index.
+pub(crate) fn is_local_number(value: Option<&str>) -> bool
+    ensures { result ≡ is_among local_numbers (number_or default_structure (option_map (λ text. text.now) value.entry)) }
+{
+    match number_or(value, 1) {
+        Some(number) => number == 107,
+        None => false,
+    }
+}
+
+/// Another structure, a phrase where there is no attribute; nothing for a value that isn't kept.
 pub(crate) fn structure_of(value: Option<&str>) -> Option<Structure>
     ensures { result ≡ value_of structures default_structure (option_map (λ text. text.now) value.entry) }
 {
@@ -112,7 +132,6 @@ pub(crate) fn structure_of(value: Option<&str>) -> Option<Structure>
         1 | 2 => Some(Structure::Phrase),
         6 => Some(Structure::WordList),
         105 => Some(Structure::FreeForm),
-        107 => Some(Structure::LocalNumber),
         109 => Some(Structure::Numeric),
         _ => None,
     }

@@ -2,7 +2,13 @@
 ghost use Rattle.std.specs.Prelude.{◌≡◌, ◌^◌, ◌<◌, ◌≤◌, IfSome};
 ghost use Rattle.std.specs.List.{list_all};
 ghost use Rattle.std.specs.Char.{is_ascii_digit};
-ghost use Rattle.zeb_query.specs.Grammar.{is_number, number_of};
+ghost use Rattle.zeb_query.specs.Grammar.{is_number, number_of, few, many};
+
+/// The most digits of an attribute's type and value, of a distance and of a system number, a limit of this project's own.
+const FEW: usize = 9;
+
+/// The most digits of another number, a limit of this project's own.
+const MANY: usize = 18;
 
 /// Whether the text has ASCII digits alone.
 fn has_digits_alone(text: &str) -> bool
@@ -19,7 +25,7 @@ fn is_number(text: &str, most: usize) -> bool
 }
 
 /// The number that a text of 1 to `most` ASCII digits spells, leading zeros included.
-pub(crate) fn number_of(text: &str, most: usize) -> Option<u64>
+fn number_within(text: &str, most: usize) -> Option<u64>
     requires { most ≤ 18 }
     ensures value { result ≡ number_of most text.now }
     ensures small { IfSome result (λ number. number < 10 ^ most) }
@@ -29,4 +35,23 @@ pub(crate) fn number_of(text: &str, most: usize) -> Option<u64>
     } else {
         None
     }
+}
+
+/// The number that a text of 1 to 9 digits spells.
+pub(crate) fn short_number(text: &str) -> Option<u32>
+    ensures value { result ≡ number_of few text.now }
+    ensures small { IfSome result (λ number. number < 10 ^ few) }
+{
+    match number_within(text, FEW) {
+        Some(number) => Some(number as u32),
+        None => None,
+    }
+}
+
+/// The number that a text of 1 to 18 digits spells.
+pub(crate) fn long_number(text: &str) -> Option<u64>
+    ensures value { result ≡ number_of many text.now }
+    ensures small { IfSome result (λ number. number < 10 ^ many) }
+{
+    number_within(text, MANY)
 }

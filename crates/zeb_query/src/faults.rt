@@ -1,4 +1,5 @@
 //! Why a text is no query, or a query has no plan.
+use crate::diagnostics::Condition;
 use std::alloc::{AllocError, AllocFailed, Global};
 use std::fmt;
 use thiserror::Error;
@@ -40,26 +41,26 @@ impl fmt::Display for Told<'_> {
 
 impl QueryFault {
     ghost use Rattle.std.specs.Prelude.{[]};
-    ghost use Rattle.zeb_query.specs.PrivateReading.{IsDiagnostic};
+    ghost use Rattle.zeb_query.specs.PrivateReading.{IsDiagnostic, condition_number};
 
     /// A diagnostic without an addinfo.
-    pub(crate) fn diagnostic(alloc: Global, number: u32, place: usize) -> QueryFault
-        ensures { IsDiagnostic result number place [] }
+    pub(crate) fn diagnostic(alloc: Global, condition: Condition, place: usize) -> QueryFault
+        ensures { IsDiagnostic result (condition_number condition) place [] }
     {
         QueryFault::Diagnostic {
-            number,
+            number: condition.number(),
             place,
             addinfo: String::new(alloc),
         }
     }
 
     /// A diagnostic about a text. Where there is no memory for that, the fault is `Memory`.
-    pub(crate) fn about(alloc: Global, number: u32, place: usize, text: &str) -> QueryFault
-        ensures { IsDiagnostic result number place text.now }
+    pub(crate) fn about(alloc: Global, condition: Condition, place: usize, text: &str) -> QueryFault
+        ensures { IsDiagnostic result (condition_number condition) place text.now }
     {
         match String::from_str(alloc, text) {
             Ok(addinfo) => QueryFault::Diagnostic {
-                number,
+                number: condition.number(),
                 place,
                 addinfo,
             },

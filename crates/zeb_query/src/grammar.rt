@@ -1,16 +1,17 @@
 //! Reading the words of a text as a query, from the left, an operator before its operands.
 ghost use Rattle.std.specs.Prelude.{◌≡◌, ◌≢◌, ◌<◌, ◌≤◌, ℕ, suc, ◌∷◌, Some, None, length, map, IfOk, OnOk, IfErr, IfSome, true, string_bytes, []};
-ghost use Rattle.zeb_query.specs.declared.keywords.Keyword.TheVariants.{Attribute as AttributeKeyword, TermType as TermTypeKeyword, Operator};
+ghost use Rattle.zeb_query.specs.declared.keywords.Keyword.TheVariants.{Attribute as AttributeKeyword, TermType as TermTypeKeyword, Operator as OperatorKeyword};
 ghost use Rattle.std.specs.Option.{option_map};
-ghost use Rattle.zeb_query.specs.PrivateReading.{IsFault, word_of, left, first_keyword, fault_of, pair_value, SpellsSpec, SpellsAttribute};
+ghost use Rattle.zeb_query.specs.PrivateReading.{IsFault, word_of, left, first_keyword, fault_of, pair_value, SpellsSpec, SpellsAttribute, SpellsProximity};
 ghost use Rattle.zeb_query.specs.PrivateReading.{SpellsHead, SpellsParameters, SpellsOperator, SpellsSet, Spells};
-ghost use Rattle.zeb_query.specs.Grammar.{attribute_value, head_value, tree_value, query_value, PairValue, IsQuery, kind_and_value, has_equals, heads, parameter_count};
-ghost use Rattle.zeb_query.specs.PrivateWalk.{Start, Structures, SetOrSpec, Spec, fault, words_then};
+ghost use Rattle.zeb_query.specs.Grammar.{attribute_value, connective_value, head_value, parameters_value, tree_value, query_value, PairValue, IsQuery, kind_and_value, has_equals, heads};
+ghost use Rattle.zeb_query.specs.PrivateWalk.{Start, Structures, SetOrSpec, Spec, MoreWords, fault, words_then};
 
-use crate::digits::number_of;
-use crate::keywords::Keyword;
+use crate::diagnostics::Condition;
+use crate::digits::short_number;
+use crate::keywords::{Keyword, OperatorWord};
 use crate::words::{Spelling, Word};
-use crate::{Attribute, Connective, Head, Leaf, Query, QueryFault, Tree};
+use crate::{Attribute, Connective, Head, Leaf, Operator, Parameters, Query, QueryFault, Tree};
 use std::alloc::{AllocError, Global};
 
 /// The greatest number of operators in a query, a limit of this project's own.
@@ -28,7 +29,7 @@ struct Rest<'a> {
 
 impl<'a> Rest<'a> {
     ghost use Rattle.std.specs.Prelude.{◌≡◌, ◌≢◌, ◌<◌, ℕ, ◌∷◌, [], Some, length, IfOk, IfErr, IfSome, IfNone, true, string_bytes};
-    ghost use Rattle.zeb_query.specs.PrivateReading.{IsFault, word_of, left, first_place, first_keyword, fault_of, ReadsWord, ReadsFirst};
+    ghost use Rattle.zeb_query.specs.PrivateReading.{IsFault, word_of, left, first_equals, first_place, first_keyword, fault_of, ReadsWord, ReadsFirst};
     ghost use Rattle.zeb_query.specs.Grammar.{is_good};
     ghost use Rattle.zeb_query.specs.PrivateWalk.{Due, fault_at_end};
 
@@ -40,7 +41,7 @@ impl<'a> Rest<'a> {
             Some(word) => word.place,
             None => self.end,
         };
-        QueryFault::diagnostic(alloc, 108, place)
+        QueryFault::diagnostic(alloc, Condition::MalformedQuery, place)
     }
 
     /// The first word, whatever it is but a bad one, and what follows it.
@@ -56,6 +57,23 @@ impl<'a> Rest<'a> {
                 Ok((word, Rest { words, ..*self }))
             }
             _ => Err(self.unspelled(alloc)),
+        }
+    }
+
+    /// The keyword that the first word is.
+    fn keyword(&self) -> Option<Keyword>
+        ensures { result ≡ first_keyword (left self.now) }
+    {
+        self.words.first()?.keyword()
+    }
+
+    /// Whether the first word has the `=` of a SPEC.
+    fn has_spec(&self) -> bool
+        ensures { result ≡ first_equals (left self.now) }
+    {
+        match self.words.first() {
+            Some(word) => has_equals(word.text.as_str()),
+            None => false,
         }
     }
 
@@ -86,15 +104,12 @@ pub(crate) fn query(alloc: Global, words: &[Word], end: usize) -> Result<Query, 
         end,
         room: MOST_OPERATORS,
     };
-    let (attribute_set, rest) = attribute_set_of(alloc, rest)?;
+    let (attrset, rest) = attribute_set_of(alloc, rest)?;
     let (tree, rest) = structure(alloc, rest)?;
     if !rest.words.is_empty() {
         return Err(rest.unspelled(alloc));
     }
-    Ok(Query {
-        attribute_set,
-        tree,
-    })
+    Ok(Query { attrset, tree })
 }
 
 /// `[ @attrset SET ]`, where the query begins.
@@ -123,23 +138,25 @@ fn structure<'a>(alloc: Global, rest: Rest<'a>) -> Result<(Tree, Rest<'a>), Quer
     ensures fails { IfErr result (λ e. (n : ℕ) → IsFault e (fault_of rest.entry (Structures (suc n)))) }
 {
     let (head, rest) = head_of(alloc, rest)?;
-    let (word, after) = rest.word(alloc)?;
-    let place = word.place;
-    match word.keyword() {
+    match rest.keyword() {
         None => {
+            let (word, after) = rest.word(alloc)?;
+            let place = word.place;
             let text = word.text.clone()?;
             Ok((Tree::Term(Leaf { place, head, text }), after))
         }
         Some(Keyword::ResultSet) => {
+            let (word, after) = rest.word(alloc)?;
+            let place = word.place;
             let (name, after) = after.word(alloc)?;
             let text = name.text.clone()?;
             Ok((Tree::Named(Leaf { place, head, text }), after))
         }
-        Some(Keyword::Operator(connective)) => {
-            let (parameters, after) = operator_of(alloc, connective, rest)?;
+        Some(Keyword::Operator(operator)) => {
+            let (place, connective, after) = connective_of(alloc, operator, rest)?;
             let (left, after) = structure(alloc, after)?;
             let (right, after) = structure(alloc, after)?;
-            let tree = pair_of(alloc, place, head, connective, parameters, left, right)?;
+            let tree = pair_tree(alloc, place, head, connective, left, right)?;
             Ok((tree, after))
         }
         Some(_) => Err(rest.unspelled(alloc)),
@@ -147,17 +164,16 @@ fn structure<'a>(alloc: Global, rest: Rest<'a>) -> Result<(Tree, Rest<'a>), Quer
 }
 
 /// An operator and its operands.
-fn pair_of(
+fn pair_tree(
     alloc: Global,
     place: usize,
     head: Head,
     connective: Connective,
-    parameters: Vec<String>,
     left: Tree,
     right: Tree,
 ) -> Result<Tree, AllocError>
-    ensures { IfOk result (λ tree. tree_value tree ≡ PairValue place (head_value head) connective
-        (map string_bytes parameters.items) (tree_value left) (tree_value right)) }
+    ensures { IfOk result (λ tree. tree_value tree
+        ≡ PairValue place (head_value head) (connective_value connective) (tree_value left) (tree_value right)) }
 {
     let left = Box::new(alloc, left)?;
     let right = Box::new(alloc, right)?;
@@ -165,7 +181,6 @@ fn pair_of(
         place,
         head,
         connective,
-        parameters,
         left,
         right,
     })
@@ -219,10 +234,10 @@ fn attribute_of<'a>(alloc: Global, rest: Rest<'a>) -> Result<(Attribute, Rest<'a
     ensures spelled { IfOk result (λ read. SpellsAttribute rest.entry read.1 (attribute_value read.0)) }
     ensures fails { IfErr result (λ e. (n : ℕ) → IsFault e (fault_of rest.entry (SetOrSpec n))) }
 {
-    let (word, after) = rest.word(alloc)?;
-    if has_equals(word.text.as_str()) {
+    if rest.has_spec() {
         return spec_of(alloc, None, rest);
     }
+    let (word, after) = rest.word(alloc)?;
     let set = word.text.clone()?;
     spec_of(alloc, Some(set), after)
 }
@@ -253,11 +268,11 @@ fn has_equals(text: &str) -> bool
 }
 
 /// The type and the value that a word spells, if it is a SPEC.
-fn kind_and_value(text: &str) -> Option<(u64, &str)>
+fn kind_and_value(text: &str) -> Option<(u32, &str)>
     ensures { pair_value result ≡ kind_and_value text.now }
 {
     let (kind, value) = text.split_once('=')?;
-    let kind = number_of(kind, 9)?;
+    let kind = short_number(kind)?;
     if value.is_empty() {
         None
     } else {
@@ -265,58 +280,70 @@ fn kind_and_value(text: &str) -> Option<(u64, &str)>
     }
 }
 
-/// The operator at the front and its parameters, where there is room for one more operator.
-fn operator_of<'a>(
+/// The operator at the front with its place and its parameters, where there is room for one more operator.
+fn connective_of<'a>(
     alloc: Global,
-    connective: Connective,
+    operator: OperatorWord,
     rest: Rest<'a>,
-) -> Result<(Vec<String>, Rest<'a>), QueryFault>
-    requires { first_keyword (left rest) ≡ Some (Operator connective) }
-    ensures shorter { IfOk result (λ read. length read.1.words.now < length rest.entry.words.now) }
+) -> Result<(usize, Connective, Rest<'a>), QueryFault>
+    requires { first_keyword (left rest) ≡ Some (OperatorKeyword operator) }
+    ensures shorter { IfOk result (λ read. length read.2.words.now < length rest.entry.words.now) }
     ensures goes { IfOk result (λ read. (n : ℕ) →
-        fault_of rest.entry (Structures (suc n)) ≡ fault_of read.1 (Structures (suc (suc n)))) }
-    ensures spelled { IfOk result (λ read. SpellsOperator rest.entry read.1 connective (map string_bytes read.0.items)) }
+        fault_of rest.entry (Structures (suc n)) ≡ fault_of read.2 (Structures (suc (suc n)))) }
+    ensures spelled { IfOk result (λ read. SpellsOperator rest.entry read.2 operator read.0 (connective_value read.1)) }
     ensures fails { IfErr result (λ e. (n : ℕ) → IsFault e (fault_of rest.entry (Structures (suc n)))) }
 {
     let (word, after) = rest.word(alloc)?;
+    let place = word.place;
     if after.room == 0 {
-        return Err(QueryFault::diagnostic(alloc, 6, word.place));
+        return Err(QueryFault::diagnostic(alloc, Condition::TooManyOperators, place));
     }
     let after = Rest {
         room: after.room - 1,
         ..after
     };
-    parameters_of(alloc, parameter_count(connective), after)
-}
-
-/// How many parameters an operator has.
-fn parameter_count(connective: Connective) -> usize
-    ensures { result ≡ parameter_count connective }
-{
-    match connective {
-        Connective::And | Connective::Or | Connective::Not => 0,
-        Connective::Proximity => 6,
+    match operator {
+        OperatorWord::And => Ok((place, Connective::Boolean(Operator::And), after)),
+        OperatorWord::Or => Ok((place, Connective::Boolean(Operator::Or), after)),
+        OperatorWord::Not => Ok((place, Connective::Boolean(Operator::Not), after)),
+        OperatorWord::Proximity => {
+            let (parameters, after) = parameters_of(alloc, after)?;
+            Ok((place, Connective::Proximity(parameters), after))
+        }
     }
 }
 
-/// So many words of any kind.
-fn parameters_of<'a>(
-    alloc: Global,
-    count: usize,
-    rest: Rest<'a>,
-) -> Result<(Vec<String>, Rest<'a>), QueryFault>
+/// The six parameters of `@prox`.
+fn parameters_of<'a>(alloc: Global, rest: Rest<'a>) -> Result<(Parameters, Rest<'a>), QueryFault>
     ensures shorter { IfOk result (λ read. length read.1.words.now ≤ length rest.entry.words.now) }
-    ensures goes { IfOk result (λ read. (n : ℕ) →
-        fault_of rest.entry (words_then count n) ≡ fault_of read.1 (Structures n)) }
-    ensures spelled { IfOk result (λ read. SpellsParameters rest.entry read.1 count (map string_bytes read.0.items)) }
-    ensures fails { IfErr result (λ e. (n : ℕ) → IsFault e (fault_of rest.entry (words_then count n))) }
+    ensures goes { IfOk result (λ read. (n : ℕ) → fault_of rest.entry (words_then 6 n) ≡ fault_of read.1 (Structures n)) }
+    ensures spelled { IfOk result (λ read. SpellsProximity rest.entry read.1 (parameters_value read.0)) }
+    ensures fails { IfErr result (λ e. (n : ℕ) → IsFault e (fault_of rest.entry (words_then 6 n))) }
 {
-    let mut left = rest;
-    let mut parameters = Vec::new(alloc);
-    for _ in 0..count {
-        let (word, after) = left.word(alloc)?;
-        parameters.push(word.text.clone()?)?;
-        left = after;
-    }
-    Ok((parameters, left))
+    let (exclusion, rest) = parameter(alloc, rest)?;
+    let (distance, rest) = parameter(alloc, rest)?;
+    let (ordered, rest) = parameter(alloc, rest)?;
+    let (relation, rest) = parameter(alloc, rest)?;
+    let (which_code, rest) = parameter(alloc, rest)?;
+    let (unit_code, rest) = parameter(alloc, rest)?;
+    let parameters = Parameters {
+        exclusion,
+        distance,
+        ordered,
+        relation,
+        which_code,
+        unit_code,
+    };
+    Ok((parameters, rest))
+}
+
+/// A word of any kind.
+fn parameter<'a>(alloc: Global, rest: Rest<'a>) -> Result<(String, Rest<'a>), QueryFault>
+    ensures shorter { IfOk result (λ read. length read.1.words.now ≤ length rest.entry.words.now) }
+    ensures goes { IfOk result (λ read. (k n : ℕ) → fault_of rest.entry (MoreWords k n) ≡ fault_of read.1 (words_then k n)) }
+    ensures spelled { IfOk result (λ read. SpellsParameters rest.entry read.1 (string_bytes read.0 ∷ [])) }
+    ensures fails { IfErr result (λ e. (k n : ℕ) → IsFault e (fault_of rest.entry (MoreWords k n))) }
+{
+    let (word, after) = rest.word(alloc)?;
+    Ok((word.text.clone()?, after))
 }

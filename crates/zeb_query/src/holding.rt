@@ -13,7 +13,7 @@ pub(crate) struct Holding<'a> {
     /// The leftmost name of an attribute set other than Bib-1.
     pub other_set: Option<&'a str>,
     /// The leftmost attribute type outside 1 to 6.
-    pub other_kind: Option<u64>,
+    pub other_kind: Option<u32>,
     /// The innermost term type.
     pub term_type: Option<&'a str>,
     /// The values that hold, as written.
@@ -33,7 +33,7 @@ impl<'a> Holding<'a> {
 
     /// What holds over the whole of a query.
     pub(crate) fn over(query: &'a Query) -> Holding<'a>
-        ensures { holding_value result ≡ holding_of (query_value query.now).attribute_set no_head }
+        ensures { holding_value result ≡ holding_of (query_value query.now).attrset no_head }
     {
         let mut holding = Holding {
             other_set: None,
@@ -46,7 +46,7 @@ impl<'a> Holding<'a> {
             truncation: None,
             completeness: None,
         };
-        if let Some(set) = &query.attribute_set {
+        if let Some(set) = &query.attrset {
             holding.name_set(set.as_str());
         }
         holding

@@ -1,6 +1,9 @@
 //! The keywords of the format, as words of a text.
-use crate::Connective;
+ghost use Rattle.std.specs.Prelude.{◌≡◌};
+ghost use Rattle.zeb_query.specs.Grammar.{operator_spelled};
+
 use crate::words::{Spelling, Word};
+use crate::{Connective, Operator};
 
 /// The words with a meaning of their own (YAZ manual, PQF).
 #[derive(Clone, Copy, Debug, PartialEq, Eq)]
@@ -13,22 +16,48 @@ pub(crate) enum Keyword {
     TermType,
     /// `@set`
     ResultSet,
-    Operator(Connective),
+    Operator(OperatorWord),
 }
 
-impl Connective {
+/// The words of operators.
+#[derive(Clone, Copy, Debug, PartialEq, Eq)]
+pub(crate) enum OperatorWord {
+    And,
+    Or,
+    Not,
+    Proximity,
+}
+
+impl OperatorWord {
     ghost use Rattle.std.specs.Prelude.{◌≡◌};
     ghost use Rattle.zeb_query.specs.Grammar.{operator_word};
 
-    /// The operator's word.
     pub(crate) fn as_str(self) -> &'static str
         ensures { result.now ≡ operator_word self }
     {
         match self {
-            Connective::And => "@and",
-            Connective::Or => "@or",
-            Connective::Not => "@not",
-            Connective::Proximity => "@prox",
+            OperatorWord::And => "@and",
+            OperatorWord::Or => "@or",
+            OperatorWord::Not => "@not",
+            OperatorWord::Proximity => "@prox",
+        }
+    }
+}
+
+impl Connective {
+    ghost use Rattle.std.specs.Prelude.{◌≡◌};
+    ghost use Rattle.zeb_query.specs.Grammar.{connective_value};
+    ghost use Rattle.zeb_query.specs.Checks.{operator_named};
+
+    /// The operator's word.
+    pub(crate) fn word(&self) -> OperatorWord
+        ensures { result ≡ operator_named (connective_value self.now) }
+    {
+        match self {
+            Connective::Boolean(Operator::And) => OperatorWord::And,
+            Connective::Boolean(Operator::Or) => OperatorWord::Or,
+            Connective::Boolean(Operator::Not) => OperatorWord::Not,
+            Connective::Proximity(_) => OperatorWord::Proximity,
         }
     }
 }
@@ -50,11 +79,24 @@ impl Word {
             "@attr" => Some(Keyword::Attribute),
             "@term" => Some(Keyword::TermType),
             "@set" => Some(Keyword::ResultSet),
-            "@and" => Some(Keyword::Operator(Connective::And)),
-            "@or" => Some(Keyword::Operator(Connective::Or)),
-            "@not" => Some(Keyword::Operator(Connective::Not)),
-            "@prox" => Some(Keyword::Operator(Connective::Proximity)),
-            _ => None,
+            text => Some(Keyword::Operator(operator_in(text)?)),
         }
+    }
+}
+
+/// The operator of which the text is the word.
+fn operator_in(text: &str) -> Option<OperatorWord>
+    ensures { result ≡ operator_spelled text.now }
+{
+    if text == OperatorWord::And.as_str() {
+        Some(OperatorWord::And)
+    } else if text == OperatorWord::Or.as_str() {
+        Some(OperatorWord::Or)
+    } else if text == OperatorWord::Not.as_str() {
+        Some(OperatorWord::Not)
+    } else if text == OperatorWord::Proximity.as_str() {
+        Some(OperatorWord::Proximity)
+    } else {
+        None
     }
 }

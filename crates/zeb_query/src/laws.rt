@@ -48,5 +48,5 @@ pub fn a_text_is_read_or_has_one_fault()
 /// register; a local number is looked up in no register.
 pub fn a_plan_looks_into_its_register()
     ensures { (profile : Profile) (query : QueryValue) (plan : PlanValue) → plan_of profile query ≡ Ok plan
-        → AllLookInto profile (held_in query.attribute_set no_head query.tree) (looked_into plan) }
+        → AllLookInto profile (held_in query.attrset no_head query.tree) (looked_into plan) }
 {}

@@ -8,13 +8,14 @@
 #![tactic(auto)]
 
 mod attributes;
+mod diagnostics;
 mod digits;
-mod examples;
+pub mod examples;
 mod faults;
 mod grammar;
 mod holding;
 mod keywords;
-mod laws;
+pub mod laws;
 mod planning;
 mod plans;
 mod proximity;
@@ -22,22 +23,15 @@ mod queries;
 mod reading;
 mod scanning;
 mod terms;
+mod values;
 mod words;
 
-pub use examples::{
-    diagnostics_at_examples, faults_at_examples, plans_at_examples, profiles_at_examples,
-    proximity_at_examples, scans_at_examples, truncations_at_examples, values_at_examples,
-};
 pub use faults::QueryFault;
-pub use laws::{
-    a_plan_looks_into_its_register, a_text_has_one_list_of_words, a_text_is_read_or_has_one_fault,
-    no_text_spells_two_queries, words_at_examples,
-};
 pub use planning::plan;
 pub use plans::{
     DistanceRelation, NearPlan, Operator, Order, PairPlan, Plan, Relation, ScanPlan, Separation,
     TermPlan,
 };
-pub use queries::{Attribute, Connective, Head, Leaf, Query, Tree};
+pub use queries::{Attribute, Connective, Head, Leaf, Parameters, Query, Tree};
 pub use reading::read_pqf;
 pub use scanning::plan_scan;

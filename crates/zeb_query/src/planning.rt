@@ -1,19 +1,21 @@
 //! The plan of a query, or its first diagnostic.
-ghost use Rattle.std.specs.Prelude.{◌≡◌, List, ℕ, Option, ◌≤◌, ◌<◌, ◌^◌, IfOk, string_bytes};
+ghost use Rattle.std.specs.Prelude.{◌≡◌, List, ℕ, Option, Some, ◌<◌, ◌^◌, IfOk, string_bytes};
 ghost use Rattle.std.specs.Option.{option_map};
-ghost use Rattle.zeb_query.specs.Grammar.{HeadValue, tree_value, query_value, head_value, heads};
+ghost use Rattle.zeb_query.specs.Grammar.{HeadValue, tree_value, query_value, head_value, heads, few, many};
 ghost use Rattle.zeb_query.specs.Checks.{Gives};
 ghost use Rattle.zeb_query.specs.Attributes.{holding_of};
-ghost use Rattle.zeb_query.specs.PrivateReading.{holding_value};
+ghost use Rattle.zeb_query.specs.PrivateReading.{IsDiagnostic, holding_value};
 ghost use Rattle.zeb_query.specs.Plans as plans;
 ghost use Rattle.zeb_query.specs.Attributes as term_words;
 ghost use Rattle.zeb_query.specs.PrivatePlanning as steps;
 
 use crate::attributes::{Asked, Completeness, Position, Structure};
-use crate::digits::number_of;
+use crate::diagnostics::Condition;
+use crate::digits::{long_number, short_number};
 use crate::holding::Holding;
 use crate::proximity::plan_near;
-use crate::terms::{Values, read_term};
+use crate::terms::taken_term;
+use crate::values::{Purpose, Subject, Values};
 use crate::{
     Connective, Leaf, Operator, PairPlan, Plan, Query, QueryFault, Relation, TermPlan, Tree,
 };
@@ -26,8 +28,7 @@ use zeb_text::{Pattern, join, join_patterns, words};
 /// The checks of its operators, named sets and terms stand in the order of the text, and the first that applies is answered, with
 /// the place of the operator's word, of `@set` or of the term:
 /// - 18 at a named result set, about its name;
-/// - at `@prox`, 110 about the first of its parameters that isn't kept, or about `@prox` where an operand isn't a term or
-///   there aren't six parameters; then the faults of its operands, for which 123 is answered also for a relation other than
+/// - at `@prox`, 110 about the first of its parameters that isn't kept, or about `@prox` where an operand isn't a term; then the faults of its operands, for which 123 is answered also for a relation other than
 ///   equal, a position other than any, a structure other than phrase and word, a completeness other than incomplete, and a
 ///   number of words other than one; and last 123 where their indexes differ;
 /// - at a term, 229 about a term type other than `general` and `string`; 121 about the leftmost attribute set other
@@ -49,7 +50,7 @@ pub fn plan(alloc: Global, query: &Query, profile: &Profile) -> Result<Plan, Que
 }
 
 /// The plan of a structure over which these attributes hold.
-#[tactic(auto, using(crate::proofs::TreeSteps::tree_term, crate::proofs::TreeSteps::tree_named, crate::proofs::TreeSteps::tree_pair))]
+#[tactic(auto, using(crate::proofs::TreeSteps::tree_term, crate::proofs::TreeSteps::tree_named, crate::proofs::TreeSteps::tree_boolean, crate::proofs::TreeSteps::tree_near))]
 fn plan_tree(
     alloc: Global,
     tree: &Tree,
@@ -61,27 +62,37 @@ fn plan_tree(
 {
     match tree {
         Tree::Term(leaf) => Ok(Plan::Term(plan_leaf(alloc, leaf, over, profile)?)),
-        Tree::Named(leaf) => Err(QueryFault::about(alloc, 18, leaf.place, leaf.text.as_str())),
+        Tree::Named(leaf) => Err(named_set(alloc, leaf)),
         Tree::Pair {
             place,
             head,
             connective,
-            parameters,
             left,
             right,
         } => {
             let holding = over.within(head);
-            let Some(operator) = operator_of(*connective) else {
-                return plan_near(alloc, *place, parameters, left, right, holding, profile);
-            };
-            let left = plan_tree(alloc, left, holding, profile)?;
-            let right = plan_tree(alloc, right, holding, profile)?;
-            Ok(pair_of(alloc, operator, left, right)?)
+            match connective {
+                Connective::Boolean(operator) => {
+                    let left = plan_tree(alloc, left, holding, profile)?;
+                    let right = plan_tree(alloc, right, holding, profile)?;
+                    Ok(pair_plan(alloc, *operator, left, right)?)
+                }
+                Connective::Proximity(parameters) => {
+                    plan_near(alloc, *place, parameters, left, right, holding, profile)
+                }
+            }
         }
     }
 }
 
-fn pair_of(alloc: Global, operator: Operator, left: Plan, right: Plan) -> Result<Plan, AllocError>
+/// The fault of a named result set.
+pub(crate) fn named_set(alloc: Global, leaf: &Leaf) -> QueryFault
+    ensures { IsDiagnostic result 18 leaf.now.place (string_bytes leaf.now.text) }
+{
+    QueryFault::about(alloc, Condition::ResultSet, leaf.place, leaf.text.as_str())
+}
+
+fn pair_plan(alloc: Global, operator: Operator, left: Plan, right: Plan) -> Result<Plan, AllocError>
     ensures { IfOk result (λ plan. plans.plan_value plan
         ≡ plans.PairOf operator (plans.plan_value left) (plans.plan_value right)) }
 {
@@ -91,18 +102,6 @@ fn pair_of(alloc: Global, operator: Operator, left: Plan, right: Plan) -> Result
         right,
     };
     Ok(Plan::Pair(Box::new(alloc, pair)?))
-}
-
-/// The operator on sets of records; `@prox` is none.
-fn operator_of(connective: Connective) -> Option<Operator>
-    ensures { result ≡ steps.operator_of connective }
-{
-    match connective {
-        Connective::And => Some(Operator::And),
-        Connective::Or => Some(Operator::Or),
-        Connective::Not => Some(Operator::Not),
-        Connective::Proximity => None,
-    }
 }
 
 #[tactic(auto, using(crate::proofs::PlanCheckLemmas::leaf_steps), unfolding(crate::proofs::PlanSteps::term_plan))]
@@ -117,37 +116,51 @@ fn plan_leaf(
         leaf.now.place (string_bytes leaf.now.text)) }
 {
     let holding = over.within(&leaf.head);
-    let (values, patterns) = read_term(alloc, leaf, &holding, profile)?;
-    if values.clashes() {
-        return Err(QueryFault::diagnostic(alloc, 123, leaf.place));
-    }
-    let Some(index) = values.index else {
-        return Ok(TermPlan::RecordNumber(number_in(alloc, leaf, 9)?));
+    let (values, patterns) = taken_term(alloc, leaf, &holding, profile, Purpose::Find)?;
+    let Subject::Entries { index, structure } = values.subject else {
+        return Ok(TermPlan::RecordNumber(system_number_in(alloc, leaf)?));
     };
-    if !profile.has(index, values.register()) {
-        return Err(QueryFault::diagnostic(alloc, 123, leaf.place));
-    }
     match values.relation {
         Asked::Always => Ok(TermPlan::Always {
             index,
             register: values.register(),
         }),
-        Asked::Compared(relation) => compared(alloc, leaf, &values, index, relation, patterns),
+        Asked::Compared(relation) => {
+            compared(alloc, leaf, &values, index, structure, relation, patterns)
+        }
     }
 }
 
-/// The number that a term has to be, of at most so many digits.
-#[tactic(auto, using(crate::proofs::PlanCheckLemmas::number_steps))]
-pub(crate) fn number_in(alloc: Global, leaf: &Leaf, most: usize) -> Result<u64, QueryFault>
-    requires { most ≤ 18 }
-    ensures gives { Gives (λ x. x) result (steps.number_in most leaf.now.place (string_bytes leaf.now.text)) }
-    ensures small { IfOk result (λ number. number < 10 ^ most) }
+/// The number that a term has to be, if it is one.
+fn number_or_fault<T>(alloc: Global, leaf: &Leaf, number: Option<T>) -> Result<T, QueryFault>
+    ensures gives { Gives (λ x. x) result (steps.kept_or 126 leaf.now.place (Some (string_bytes leaf.now.text)) number) }
+    ensures is { IfOk result (λ x. number ≡ Some x) }
 {
-    let text = leaf.text.as_str();
-    match number_of(text, most) {
+    match number {
         Some(number) => Ok(number),
-        None => Err(QueryFault::about(alloc, 126, leaf.place, text)),
+        None => {
+            let text = leaf.text.as_str();
+            Err(QueryFault::about(alloc, Condition::TermValue, leaf.place, text))
+        }
     }
+}
+
+/// The system number that a term has to be.
+#[tactic(auto, using(crate::proofs::PlanCheckLemmas::number_steps))]
+fn system_number_in(alloc: Global, leaf: &Leaf) -> Result<u64, QueryFault>
+    ensures { Gives (λ x. x) result (steps.number_in few leaf.now.place (string_bytes leaf.now.text)) }
+{
+    let number = number_or_fault(alloc, leaf, short_number(leaf.text.as_str()))?;
+    Ok(number as u64)
+}
+
+/// The number that a term has to be, which the register of numbers may have.
+#[tactic(auto, using(crate::proofs::PlanCheckLemmas::number_steps))]
+pub(crate) fn number_in(alloc: Global, leaf: &Leaf) -> Result<u64, QueryFault>
+    ensures gives { Gives (λ x. x) result (steps.number_in many leaf.now.place (string_bytes leaf.now.text)) }
+    ensures small { IfOk result (λ number. number < 10 ^ many) }
+{
+    number_or_fault(alloc, leaf, long_number(leaf.text.as_str()))
 }
 
 /// The term's words with a space between.
@@ -176,14 +189,15 @@ fn compared(
     leaf: &Leaf,
     values: &Values,
     index: u32,
+    structure: Structure,
     relation: Relation,
     patterns: Vec<Pattern>,
 ) -> Result<TermPlan, QueryFault>
     ensures { Gives plans.term_plan_value result
-        (steps.compared_plan leaf.now.place (string_bytes leaf.now.text) values.now index patterns.items relation) }
+        (steps.compared_plan leaf.now.place (string_bytes leaf.now.text) values.now index structure patterns.items relation) }
 {
-    if values.is_numeric() {
-        let number = number_in(alloc, leaf, 18)?;
+    if structure.is_numeric() {
+        let number = number_in(alloc, leaf)?;
         return Ok(TermPlan::Number {
             index,
             relation,
@@ -203,7 +217,7 @@ fn compared(
         let pattern = joined_if_any(alloc, &patterns)?;
         return Ok(TermPlan::Complete { index, pattern });
     }
-    Ok(words_plan(values, index, patterns))
+    Ok(words_plan(index, structure, values.position, patterns))
 }
 
 /// The pattern of all words, if there is a word.
@@ -217,16 +231,21 @@ fn joined_if_any(alloc: Global, patterns: &[Pattern]) -> Result<Option<Pattern>,
     }
 }
 
-fn words_plan(values: &Values, index: u32, patterns: Vec<Pattern>) -> TermPlan
-    ensures { plans.term_plan_value result ≡ steps.list_plan values.now index patterns.items values.now.structure }
+fn words_plan(
+    index: u32,
+    structure: Structure,
+    position: Position,
+    patterns: Vec<Pattern>,
+) -> TermPlan
+    ensures { plans.term_plan_value result ≡ steps.list_plan index structure position patterns.items }
 {
-    match values.structure {
+    match structure {
         Structure::WordList => TermPlan::AllWords { index, patterns },
         Structure::FreeForm => TermPlan::AnyWord { index, patterns },
-        Structure::Phrase | Structure::LocalNumber | Structure::Numeric => TermPlan::Phrase {
+        Structure::Phrase | Structure::Numeric => TermPlan::Phrase {
             index,
             patterns,
-            first: values.position == Position::First,
+            first: position == Position::First,
         },
     }
 }

@@ -113,7 +113,7 @@ pub enum DistanceRelation {
 #[derive(Clone, Copy, Debug, PartialEq, Eq)]
 pub struct Separation {
     /// In words, 0 to 999,999,999; neighbours are at distance 1.
-    pub distance: u64,
+    pub distance: u32,
     /// Whether the left word has to stand before the right one.
     pub ordered: bool,
     /// How the number of words from the one to the other stands to the distance.

@@ -1,16 +1,19 @@
 //! The plan of `@prox`: two words near each other in one unit.
-ghost use Rattle.std.specs.Prelude.{◌≡◌, List, ℕ, Option, map, string_bytes, if◌then◌else◌};
-ghost use Rattle.zeb_query.specs.Grammar.{HeadValue, tree_value, head_value, heads};
+ghost use Rattle.std.specs.Prelude.{◌≡◌, List, ℕ, Option, Some, string_bytes, if◌then◌else◌};
+ghost use Rattle.zeb_query.specs.Grammar.{HeadValue, parameters_value, tree_value, head_value, heads};
 ghost use Rattle.zeb_query.specs.Checks.{Gives, refused, one_of, operand_of, kept_text, orderings, distance_relations, checked_by, parameter_checks, separation_of};
 ghost use Rattle.zeb_query.specs.Attributes.{holding_of};
 ghost use Rattle.zeb_query.specs.PrivateReading.{holding_value};
 ghost use Rattle.zeb_query.specs.Plans.{plan_value};
-ghost use Rattle.zeb_query.specs.PrivatePlanning.{word_near, near_plan};
+ghost use Rattle.zeb_query.specs.PrivatePlanning.{kept_or, word_near, near_plan};
 
-use crate::digits::number_of;
+use crate::diagnostics::Condition;
+use crate::digits::short_number;
 use crate::holding::Holding;
-use crate::terms::{kept, read_term};
-use crate::{DistanceRelation, Leaf, NearPlan, Plan, QueryFault, Separation, Tree};
+use crate::keywords::OperatorWord;
+use crate::terms::{index_in, kept, taken_term};
+use crate::values::Purpose;
+use crate::{DistanceRelation, Leaf, NearPlan, Parameters, Plan, QueryFault, Separation, Tree};
 use std::alloc::Global;
 use zeb_profile::Profile;
 use zeb_text::Pattern;
@@ -21,24 +24,29 @@ use zeb_text::Pattern;
 pub(crate) fn plan_near(
     alloc: Global,
     place: usize,
-    parameters: &[String],
+    parameters: &Parameters,
     left: &Tree,
     right: &Tree,
     over: Holding<'_>,
     profile: &Profile,
 ) -> Result<Plan, QueryFault>
     ensures { (set : Option (List ℕ)) (outer : HeadValue) → holding_value over.entry ≡ holding_of set outer
-        → Gives plan_value result (near_plan profile.now place (map string_bytes parameters.now)
+        → Gives plan_value result (near_plan profile.now place (parameters_value parameters.now)
         (operand_of set outer (tree_value left.now)) (operand_of set outer (tree_value right.now))) }
 {
     let separation = separation_of(alloc, place, parameters)?;
     let (Tree::Term(left), Tree::Term(right)) = (left, right) else {
-        return Err(QueryFault::about(alloc, 110, place, "@prox"));
+        return Err(QueryFault::about(
+            alloc,
+            Condition::Operator,
+            place,
+            OperatorWord::Proximity.as_str(),
+        ));
     };
     let (index, left) = near_operand(alloc, left, over, profile)?;
     let (other, right) = near_operand(alloc, right, over, profile)?;
     if index != other {
-        return Err(QueryFault::diagnostic(alloc, 123, place));
+        return Err(QueryFault::diagnostic(alloc, Condition::Combination, place));
     }
     Ok(Plan::Near(NearPlan {
         index,
@@ -53,40 +61,36 @@ pub(crate) fn plan_near(
 fn separation_of(
     alloc: Global,
     place: usize,
-    parameters: &[String],
+    parameters: &Parameters,
 ) -> Result<Separation, QueryFault>
-    ensures { Gives (λ x. x) result (checked_by (parameter_checks place (map string_bytes parameters.now))
-        (separation_of (map string_bytes parameters.now))) }
+    ensures { Gives (λ x. x) result (checked_by (parameter_checks place (parameters_value parameters.now))
+        (separation_of (parameters_value parameters.now))) }
 {
-    let [
-        exclusion,
-        distance,
-        ordered,
-        relation,
-        which_code,
-        unit_code,
-    ] = parameters
-    else {
-        return Err(QueryFault::about(alloc, 110, place, "@prox"));
-    };
-    let exclusion = exclusion.as_str();
+    let exclusion = parameters.exclusion.as_str();
     check(alloc, place, exclusion, exclusion == "0")?;
-    let text = distance.as_str();
-    let distance = kept(alloc, 110, place, Some(text), number_of(text, 9))?;
-    let text = ordered.as_str();
-    let ordered = kept(alloc, 110, place, Some(text), ordering_of(text))?;
-    let text = relation.as_str();
-    let relation = kept(alloc, 110, place, Some(text), distance_relation_of(text))?;
-    let which_code = which_code.as_str();
+    let distance = parameters.distance.as_str();
+    let distance = asked(alloc, place, distance, short_number(distance))?;
+    let ordered = parameters.ordered.as_str();
+    let ordered = asked(alloc, place, ordered, ordering_of(ordered))?;
+    let relation = parameters.relation.as_str();
+    let relation = asked(alloc, place, relation, distance_relation_of(relation))?;
+    let which_code = parameters.which_code.as_str();
     let is_known = which_code == "k" || which_code == "known";
     check(alloc, place, which_code, is_known)?;
-    let unit_code = unit_code.as_str();
+    let unit_code = parameters.unit_code.as_str();
     check(alloc, place, unit_code, unit_code == "2")?;
     Ok(Separation {
         distance,
         ordered,
         relation,
     })
+}
+
+/// What a parameter asks for, or the fault of one that isn't kept.
+fn asked<T>(alloc: Global, place: usize, parameter: &str, value: Option<T>) -> Result<T, QueryFault>
+    ensures { Gives (λ x. x) result (kept_or 110 place (Some parameter.now) value) }
+{
+    kept(alloc, Condition::Operator, place, Some(parameter), value)
 }
 
 /// The fault of a parameter that isn't kept.
@@ -96,7 +100,7 @@ fn check(alloc: Global, place: usize, parameter: &str, is_kept: bool) -> Result<
     if is_kept {
         Ok(())
     } else {
-        Err(QueryFault::about(alloc, 110, place, parameter))
+        Err(QueryFault::about(alloc, Condition::Operator, place, parameter))
     }
 }
 
@@ -142,17 +146,12 @@ fn near_operand(
         }) }
 {
     let holding = over.within(&leaf.head);
-    let (values, patterns) = read_term(alloc, leaf, &holding, profile)?;
-    if values.clashes_near() {
-        return Err(QueryFault::diagnostic(alloc, 123, leaf.place));
+    let (values, patterns) = taken_term(alloc, leaf, &holding, profile, Purpose::Near)?;
+    let index = index_in(alloc, leaf.place, values.subject)?;
+    match only(patterns) {
+        Some(pattern) => Ok((index, pattern)),
+        None => Err(QueryFault::diagnostic(alloc, Condition::Combination, leaf.place)),
     }
-    let (Some(index), Some(pattern)) = (values.index, only(patterns)) else {
-        return Err(QueryFault::diagnostic(alloc, 123, leaf.place));
-    };
-    if !profile.has(index, values.register()) {
-        return Err(QueryFault::diagnostic(alloc, 123, leaf.place));
-    }
-    Ok((index, pattern))
 }
 
 /// The one pattern, if there is just one.

@@ -1,12 +1,14 @@
 //! Queries, each word with its place in the text. What is said here of places, ranges and values is so of the queries that
 //! `read_pqf` gives, by its contract; another caller may build others.
+use crate::Operator;
+
 /// An attribute as it stands in a query: `@attr SET TYPE=VALUE` (YAZ manual, PQF).
 #[derive(Debug, Drop)]
 pub struct Attribute {
     /// The name of the attribute set, where the query gives one.
     pub set: Option<String>,
     /// The attribute's type, 0 to 999,999,999; the limit is this project's own.
-    pub kind: u64,
+    pub kind: u32,
     /// The value as written; never empty.
     pub value: String,
 }
@@ -31,17 +33,24 @@ pub struct Leaf {
     pub text: String,
 }
 
+/// The six parameters of `@prox`, as written (YAZ manual, PQF).
+#[derive(Debug, Drop)]
+pub struct Parameters {
+    pub exclusion: String,
+    pub distance: String,
+    pub ordered: String,
+    pub relation: String,
+    pub which_code: String,
+    pub unit_code: String,
+}
+
 /// The operators of PQF.
-#[derive(Clone, Copy, Debug, PartialEq, Eq)]
+#[derive(Debug, Drop)]
 pub enum Connective {
-    /// `@and`
-    And,
-    /// `@or`
-    Or,
-    /// `@not`, which is and-not.
-    Not,
+    /// `@and`, `@or`, or `@not`, which is and-not.
+    Boolean(Operator),
     /// `@prox`
-    Proximity,
+    Proximity(Parameters),
 }
 
 /// The structure of a query (YAZ manual, PQF): a term, a named result set, or an operator over two structures.
@@ -59,8 +68,6 @@ pub enum Tree {
         head: Head,
         /// Which operator it is.
         connective: Connective,
-        /// The six parameters of `@prox` in their order; empty for the other operators.
-        parameters: Vec<String>,
         /// The first operand.
         left: Box<Tree>,
         /// The second operand.
@@ -72,7 +79,7 @@ pub enum Tree {
 #[derive(Debug, Drop)]
 pub struct Query {
     /// The attribute set named after `@attrset`.
-    pub attribute_set: Option<String>,
+    pub attrset: Option<String>,
     /// What the query asks for.
     pub tree: Tree,
 }

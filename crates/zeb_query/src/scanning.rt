@@ -5,9 +5,11 @@ ghost use Rattle.zeb_query.specs.Checks.{Gives};
 ghost use Rattle.zeb_query.specs.Plans as scans;
 ghost use Rattle.zeb_query.specs.PrivatePlanning as steps;
 
+use crate::diagnostics::Condition;
 use crate::holding::Holding;
-use crate::planning::{joined_words, number_in};
-use crate::terms::{Values, read_term};
+use crate::planning::{joined_words, named_set, number_in};
+use crate::terms::{index_in, taken_term};
+use crate::values::{Purpose, Values};
 use crate::{Leaf, Query, QueryFault, ScanPlan, Tree};
 use std::alloc::Global;
 use zeb_profile::Profile;
@@ -25,12 +27,17 @@ pub fn plan_scan(alloc: Global, query: &Query, profile: &Profile) -> Result<Scan
 {
     match &query.tree {
         Tree::Term(leaf) => scan_leaf(alloc, leaf, query, profile),
-        Tree::Named(leaf) => Err(QueryFault::about(alloc, 18, leaf.place, leaf.text.as_str())),
+        Tree::Named(leaf) => Err(named_set(alloc, leaf)),
         Tree::Pair {
             place,
             connective,
             ..
-        } => Err(QueryFault::about(alloc, 110, *place, connective.as_str())),
+        } => Err(QueryFault::about(
+            alloc,
+            Condition::Operator,
+            *place,
+            connective.word().as_str(),
+        )),
     }
 }
 
@@ -41,25 +48,16 @@ fn scan_leaf(
     query: &Query,
     profile: &Profile,
 ) -> Result<ScanPlan, QueryFault>
-    ensures { Gives scans.scan_value result (steps.leaf_scan profile.now (query_value query.now).attribute_set
+    ensures { Gives scans.scan_value result (steps.leaf_scan profile.now (query_value query.now).attrset
         (heads no_head (head_value leaf.now.head)) leaf.now.place (string_bytes leaf.now.text)) }
 {
     let holding = Holding::over(query).within(&leaf.head);
-    let (values, _) = read_term(alloc, leaf, &holding, profile)?;
-    if values.clashes_in_scan() {
-        return Err(QueryFault::diagnostic(alloc, 123, leaf.place));
-    }
-    let Some(index) = values.index else {
-        return Err(QueryFault::diagnostic(alloc, 123, leaf.place));
-    };
-    let register = values.register();
-    if !profile.has(index, register) {
-        return Err(QueryFault::diagnostic(alloc, 123, leaf.place));
-    }
+    let (values, _) = taken_term(alloc, leaf, &holding, profile, Purpose::Scan)?;
+    let index = index_in(alloc, leaf.place, values.subject)?;
     let start = start_of(alloc, leaf, &values)?;
     Ok(ScanPlan {
         index,
-        register,
+        register: values.register(),
         start,
     })
 }
@@ -71,7 +69,7 @@ fn start_of(alloc: Global, leaf: &Leaf, values: &Values) -> Result<String, Query
         (steps.scan_start leaf.now.place (string_bytes leaf.now.text) values.now) }
 {
     if values.is_numeric() {
-        let number = number_in(alloc, leaf, 18)?;
+        let number = number_in(alloc, leaf)?;
         Ok(key_of_number(alloc, number)?)
     } else {
         Ok(joined_words(alloc, leaf)?)

@@ -1,14 +1,13 @@
 -- Rows of the terms from one text to another, as the postings of a content.
-use Rattle.zeb_register.proofs.Cited.{Row, column, row_cmp, value_cmp, Trees, Value, Blob, Int, Text, all_has, has_either, has_filtered, has_kept, has_left, has_right, has_mapped, mapped_has, Has, row_cmp_total, value_cmp_total, value_cmp-Text, ◌≡◌, ◌≢◌, ◌↔◌, ◌∙◌, ◌+◌, ◌<◌, ◌/◌, ℕ, pos, Bool, true, false, not, List, [], ◌∷◌, ◌++◌, length, map, filter, take, drop, get_or, refl, sym, ap, ap₂, subst, inl, inr, Ordering, Less, Equal, Greater, nat_cmp, arith, is_eq, cases_Bool, tied_itself, length-map, map-append, take_more, length-filter_both, sum_by-cons, slice_cmp, nat_list_cmp_total, sum_by, is_lt, ordering_then, Posting, BlockSpells, spelled_from, start_of, Key, register_code, RegisterOf, AreKeysBetween, IsBetween, IsPostingBetween, term_list, IsRestBetween, three_behind, two_behind, Content, register_columns, key_in, HoldsBlocks, SpellsPart, blocks_of, part_in, AreSpelled, HoldsRows, key_row, posting_row, IsThreeNumbers, IsListOf, IsRest, blocks_tree, postings_tree}
+use Rattle.zeb_register.proofs.Cited.{Row, column, row_cmp, value_cmp, Trees, Value, Blob, Int, Text, all_has, has_either, has_filtered, has_kept, has_left, has_right, has_mapped, mapped_has, Has, row_cmp_total, value_cmp_total, value_cmp-Text, ◌≡◌, ◌≢◌, ◌↔◌, ◌∙◌, ◌+◌, ◌<◌, ℕ, pos, Bool, true, false, not, List, [], ◌∷◌, ◌++◌, length, map, filter, take, drop, get_or, refl, sym, ap, ap₂, subst, inl, inr, Ordering, Less, Equal, Greater, nat_cmp, arith, is_eq, cases_Bool, tied_itself, length-map, map-append, take_more, length-filter_both, sum_by-cons, slice_cmp, nat_list_cmp_total, sum_by, is_lt, ordering_then, Posting, BlockSpells, Key, register_code, RegisterOf, AreKeysBetween, IsBetween, term_list, IsRestBetween, two_behind, Content, register_columns, key_in, HoldsBlocks, SpellsPart, blocks_of, part_in, AreSpelled, key_row, IsListOf, IsRest, blocks_tree}
 use Rattle.std.specs.List.Sorted.{IsStrictlySortedBy}
-use Rattle.zeb_register.proofs.ContentLemmas.{same_key, same_posting, some_posting}
-use Rattle.zeb_register.proofs.PackedLemmas.{block_rows, block_there, in_part, part_in_list}
-use Rattle.zeb_register.proofs.PackedLists.{all_spelled, key_blocks, key_spelled, one_part, spelled_behind}
+use Rattle.zeb_register.proofs.ContentLemmas.{same_key, some_posting}
+use Rattle.zeb_register.proofs.PackedLemmas.{part_in_list}
+use Rattle.zeb_register.proofs.PackedLists.{key_blocks, key_spelled, one_part, spelled_behind}
 use Rattle.zeb_register.proofs.RisingLists.{kept_rises, never_itself}
 use Rattle.zeb_register.proofs.RowLemmas.{same_bytes}
 use Rattle.zeb_register.proofs.Scans.{strictly_mapped, tied}
 use Rattle.zeb_register.proofs.TermLists.{above_least, least_above}
-use Rattle.zeb_register.proofs.TermRows.{register_row, register_there}
 
 -- ---- texts up to a last one
 
@@ -52,7 +51,7 @@ spelled_row rows i row list part within is are spells =
     subst (λ (rs : List Row). AreSpelled rs (list ++ part)) (sym mapped) (spelled_behind (map two_behind (take i rows)) (two_behind row) list part are spells)
 
 -- a posting that they spell is one of a row's part
-spelled_by : (rows : List Row) (list : List Posting) → AreSpelled rows list → (p : Posting) → Has list p → (row : Row) × Has rows row × ((part : List Posting) × SpellsPart row part × Has part p)
+pub spelled_by : (rows : List Row) (list : List Posting) → AreSpelled rows list → (p : Posting) → Has list p → (row : Row) × Has rows row × ((part : List Posting) × SpellsPart row part × Has part p)
 spelled_by [] list are p here = absurd (subst (λ (l : List Posting). Has l p) are here)
 spelled_by (row ∷ rows) list are p here = elim (has_either are.0 are.1 p (subst (λ (l : List Posting). Has l p) are.4 here)) [
   | inl first ↦ (row, inl refl, (are.0, are.2, first))
@@ -60,7 +59,7 @@ spelled_by (row ∷ rows) list are p here = elim (has_either are.0 are.1 p (subs
 ]
 
 -- what a row spells is among what they spell
-spelled_too : (rows : List Row) (list : List Posting) → AreSpelled rows list → (row : Row) (part : List Posting) (p : Posting) → Has rows row → SpellsPart row part → Has part p → Has list p
+pub spelled_too : (rows : List Row) (list : List Posting) → AreSpelled rows list → (row : Row) (part : List Posting) (p : Posting) → Has rows row → SpellsPart row part → Has part p → Has list p
 spelled_too [] list are row part p here spells inside = absurd here
 spelled_too (r ∷ rows) list are row part p (inl same) spells inside =
     let is : part ≡ are.0 = one_part r part are.0 (subst (λ (x : Row). SpellsPart x part) same spells) are.2 in
@@ -189,49 +188,11 @@ module _ (trees : Trees) (content : Content) (at : RegisterOf) (holds : HoldsBlo
         let is : row ≡ Text it.1.term ∷ Int (pos it.2) ∷ Blob it.3 ∷ [] = ap (drop 3) it.5 in
         (it.1.term, ((met first last it.1.term row (ap (λ (r : Row). column r 0) is)).0 (there.1, there.2), (it.2, it.3, is, subst (λ (l : List Posting). BlockSpells it.2 (part_in it.2 l) it.3) list it.4)))
 
-    row_spells : (row : Row) (term : List ℕ) (it : IsOf row term) → SpellsPart (two_behind row) (part_in it.1.0 (term_list content at term))
-    row_spells row term it = (it.1.0, it.1.1, ap (λ (r : Row). column r 1) it.1.2, ap (λ (r : Row). column r 2) it.1.2, it.1.3)
-
     -- a row of a term between is one of the rows
     row_there : (term : List ℕ) (x : Row) → IsBetween first last term → IsRest blocks_tree (key_row at.db.0 (key_in at.index at.register term)) trees x → Has rows (Text term ∷ x)
     row_there term x between rest =
         let meets = (met first last term (Text term ∷ x) refl).1 between in
         (are.each (Text term ∷ x)).1 (rest, meets.0, meets.1)
-
-    -- the rows spell the postings of the terms between, and no other
-    pub blocks_read : (list : List Posting) → AreSpelled (map two_behind rows) list → (p : Posting) → Has list p ↔ IsPostingBetween content at first last p
-    blocks_read list spelled p = (
-      λ here.
-          let from = spelled_by (map two_behind rows) list spelled p here in
-          let row = has_mapped two_behind rows from.0 from.1 in
-          let it = row_of row.0 row.1 in
-          let part = part_in it.1.1.0 (term_list content at it.0) in
-          let same : from.2.0 ≡ part = one_part from.0 from.2.0 part from.2.1 (subst (λ (r : Row). SpellsPart r part) (sym row.2) (row_spells row.0 it.0 it.1)) in
-          (it.0, it.1.0, part_in_list it.1.1.0 (term_list content at it.0) p (subst (λ (l : List Posting). Has l p) same from.2.2)),
-      λ of.
-          let term = of.0 in
-          let key = key_in at.index at.register term in
-          let block = p.sysno / 256 in
-          let bytes = spelled_from (start_of block) (part_in block (content at.db.0 key)) in
-          let x : Row = Int (pos block) ∷ Blob bytes ∷ [] in
-          let here : Has rows (Text term ∷ x) = row_there term x of.1 (block_there trees content at.db.0 key p (block_rows trees content holds) of.2) in
-          let it = row_of (Text term ∷ x) here in
-          let texts : Text term ≡ Text it.0 = ap (λ (r : Row). column r 0) it.1.1.2 in
-          let numbers : Int (pos block) ≡ Int (pos it.1.1.0) = ap (λ (r : Row). column r 1) it.1.1.2 in
-          let same : it.0 ≡ term = cc in
-          let number : it.1.1.0 ≡ block = cc in
-          let part = part_in it.1.1.0 (term_list content at it.0) in
-          let inside : Has part p = in_part it.1.1.0 (term_list content at it.0) p (subst (λ (t : List ℕ). Has (term_list content at t) p) (sym same) of.2) (sym number) in
-          spelled_too (map two_behind rows) list spelled x part p (mapped_has two_behind rows (Text term ∷ x) here) (row_spells (Text term ∷ x) it.0 it.1) inside,
-    )
-
-    -- each of them can be read
-    pub blocks_spelled : (list : List Posting) × AreSpelled (map two_behind rows) list
-    blocks_spelled = all_spelled (map two_behind rows) (λ x h.
-        let row = has_mapped two_behind rows x h in
-        let it = row_of row.0 row.1 in
-        let part = part_in it.1.1.0 (term_list content at it.0) in
-        (part, subst (λ (r : Row). SpellsPart r part) (sym row.2) (row_spells row.0 it.0 it.1)))
 
     -- there are as many of them as the lists of the keys have blocks
     pub blocks_many : (keys : List Key) → AreKeysBetween content at first last keys → length rows ≡ sum_by (λ key. blocks_of (content at.db.0 key)) keys
@@ -247,37 +208,3 @@ module _ (trees : Trees) (content : Content) (at : RegisterOf) (holds : HoldsBlo
           let rest = subst (λ (k : Key). IsRest blocks_tree (key_row at.db.0 k) trees under.2.0) is.0 under.2.2 in
           subst (Has rows) (sym under.2.1) (row_there under.0.term under.2.0 is.1 rest),
     ))
-
--- ---- rows of postings
-
-module _ (trees : Trees) (content : Content) (at : RegisterOf) (holds : HoldsRows trees content) (first last : List ℕ) (rows : List Row) (are : IsListOf (IsRestBetween postings_tree (register_columns at) first (last ++ 0 ∷ []) trees) rows) where
-  -- a row by its term and its posting
-  posting_row_of : (row : Row) → Has rows row → (term : List ℕ) × (p : Posting) × IsBetween first last term × Has (term_list content at term) p × (row ≡ Text term ∷ posting_row p)
-  posting_row_of row here =
-      let there = (are.each row).0 here in
-      let it = register_row trees content at.db.0 at.index at.register holds row there.0 in
-      (it.0, it.1, (met first last it.0 row (ap (λ (r : Row). column r 0) it.3)).0 (there.1, there.2), it.2, it.3)
-
-  posting_row_there : (term : List ℕ) (p : Posting) → IsBetween first last term → Has (term_list content at term) p → Has rows (Text term ∷ posting_row p)
-  posting_row_there term p between here =
-      let row : Row = Text term ∷ posting_row p in
-      let meets = (met first last term row refl).1 between in
-      (are.each row).1 (register_there trees content at.db.0 at.index at.register holds term p here, meets.0, meets.1)
-
-  -- the rows show the postings of the terms between, and no other
-  pub rows_read : (list : List Posting) → map posting_row list ≡ map three_behind rows → (p : Posting) → Has list p ↔ IsPostingBetween content at first last p
-  rows_read list shown p = (
-    λ here.
-        let row = has_mapped three_behind rows (posting_row p) (subst (λ (l : List Row). Has l (posting_row p)) shown (mapped_has posting_row list p here)) in
-        let it = posting_row_of row.0 row.1 in
-        let same : p ≡ it.1 = same_posting p it.1 (row.2 ∙ ap three_behind it.4) in
-        (it.0, it.2, subst (Has (term_list content at it.0)) (sym same) it.3),
-    λ of.
-        let there = mapped_has three_behind rows (Text of.0 ∷ posting_row p) (posting_row_there of.0 p of.1 of.2) in
-        let q = has_mapped posting_row list (posting_row p) (subst (λ (l : List Row). Has l (posting_row p)) (sym shown) there) in
-        subst (Has list) (sym (same_posting p q.0 q.2)) q.1,
-  )
-
-  -- each of them can be read
-  pub rows_numbered : (row : Row) → Has rows row → IsThreeNumbers (three_behind row)
-  rows_numbered row here = let it = posting_row_of row here in (it.1.sysno, it.1.seq, it.1.pos, ap three_behind it.4)

@@ -77,7 +77,7 @@ pub use Rattle.sqlite_value.proofs.KeyLemmas.{first_key-plain, then_tied}
 pub use Rattle.sqlite_value.proofs.OrderLemmas.{row_cmp_total, value_cmp_total, value_cmp-Text, value_cmp-Int, then-Equal, value_cmp-Blob}
 pub use Rattle.sqlite_value.specs.Keys.{first_key, plain}
 pub use Rattle.sqlite_value.specs.Value.{owned}
-pub use Rattle.std.proofs.Common.{◌≡◌, ◌≢◌, ◌↔◌, ◌∙◌, ℕ, ℤ, pos, List, [], ◌∷◌, ◌++◌, drop, refl, sym, ap, subst, inl, map, Bool, true, false, cond, filter, string_bytes, ap₂, inr, Ordering, Less, Equal, nat_cmp, is_eq, ◌+◌, ◌<◌, ◌/◌, not, length, take, get_or, Greater, arith, codes, ◌⊎◌, IsTrue, None, IsSome, Result, Ok, Err, OnOk, OnErr, IfOk, IfErr, to_z, of_z, w64, FitsSigned, nat_eq, int_cmp, zero, suc, ◌≤◌, length-append, ◌^◌, ◌&&◌, ◌==◌, if◌then◌else◌, Some, IsUtf8, ◌-◌, length-drop, drop-cons, slice_get, ◌≤ℤ◌, ◌<ℤ◌, ◌+ℤ◌, Option, subst₂, append_assoc, append-nil, min, ◌||◌, eqb, true≢false, MatchOption, leb, negsuc, reverse, String, unwrap_or, IfSome, rules}
+pub use Rattle.std.proofs.Common.{◌≡◌, ◌≢◌, ◌↔◌, ◌∙◌, ℕ, ℤ, pos, List, [], ◌∷◌, ◌++◌, drop, refl, sym, ap, subst, inl, map, Bool, true, false, cond, filter, string_bytes, ap₂, inr, Ordering, Less, Equal, nat_cmp, is_eq, ◌+◌, ◌<◌, ◌/◌, not, length, take, get_or, Greater, arith, codes, ◌⊎◌, IsTrue, None, IsSome, Result, Ok, Err, OnOk, OnErr, IfOk, IfErr, to_z, of_z, w64, FitsSigned, nat_eq, int_cmp, zero, suc, ◌≤◌, length-append, ◌^◌, ◌&&◌, ◌==◌, if◌then◌else◌, Some, IsUtf8, ◌-◌, length-drop, drop-cons, slice_get, ◌≤ℤ◌, ◌<ℤ◌, ◌+ℤ◌, Option, subst₂, Vec, append_assoc, append-nil, min, ◌||◌, eqb, true≢false, MatchOption, leb, negsuc, reverse, String, unwrap_or, IfSome, rules}
 pub use Rattle.std.proofs.Math.Facts.{to_z-of_z}
 pub use Rattle.std.proofs.Math.Seq.{split_at, take-add}
 pub use Rattle.std.proofs.lemmas.Bool.{cases_Bool, cases_eq, and_parts, not-true, both_ways, eqb-true, eq-eqb, and_from, or_cases, or_left, or_right, ltb-true}
@@ -113,7 +113,7 @@ pub use Rattle.zeb_keys.specs.declared.Register.{Register}
 pub use Rattle.zeb_keys.specs.declared.Register.TheVariants.{Word, Phrase, Number}
 pub use Rattle.zeb_keys.specs.declared.keys.Key.{Key}
 pub use Rattle.zeb_keys.specs.declared.keys.Occurrence.{Occurrence}
-pub use Rattle.zeb_register.specs.Between.{AreKeysBetween, IsBetween, IsPostingBetween, term_list}
+pub use Rattle.zeb_register.specs.Between.{AreKeysBetween, IsBetween, term_list}
 pub use Rattle.zeb_register.specs.Calls.{GoesOn, OnlyReads, ChangesNothing, Alters, Inside, Reading, MayRefuse}
 pub use Rattle.zeb_register.specs.Catalog.{AreDatabases, AreReadableDatabases, listed_order, PutsDatabase, AreCountedDatabases}
 pub use Rattle.zeb_register.specs.Clauses.{IsReasoned}
@@ -121,7 +121,6 @@ pub use Rattle.zeb_register.specs.Content.{posted, Content, HasRisingLists, post
 pub use Rattle.zeb_register.specs.Expected.{AreExpected, IsOrdered, IsExpectedAs, IsPostingExpected, key_posting_order, name_order, IsTextOf, number_order}
 pub use Rattle.zeb_register.specs.Faults.{fault_of}
 pub use Rattle.zeb_register.specs.Formats.{packed_blocks, plain_rows, Format, holds_in, version_of}
-pub use Rattle.zeb_register.specs.Hindrances.{IsSpelledAt, KeepsPlaces, KeepsSpelled, Placed, SpellsMore, IsPlacedAt, placed}
 pub use Rattle.zeb_register.specs.Kept.{record_shown, AreNumbered, AreReadableIdents, AreReadable, IsFirstFrom, IsNumberOf}
 pub use Rattle.zeb_register.specs.Occurring.{HasKey, key_in, IsCount, AreCounts, term_cmp, AreTermsOf, Spot, spot_cmp, capped, TermIn, AreSpotsOf, AreTotals, is_before, is_from, last, HasSpot}
 pub use Rattle.zeb_register.specs.PackedBlocks.{HoldsBlocks, part_in, SpellsPart, blocks_of, block_row, IsBlockRow, IsDictRow, dict_row, first_two}

@@ -1,5 +1,5 @@
 -- Rows of postings as the postings of a content.
-use Rattle.zeb_register.proofs.Cited.{Row, column, row_cmp, Trees, Int, Text, has_mapped, mapped_has, Has, row_cmp_total, value_cmp-Int, int_cmp, zero, suc, get_or, length, ◌<◌, ◌≡◌, ◌∙◌, ℕ, ℤ, pos, List, [], ◌∷◌, ◌++◌, map, drop, inl, inr, refl, sym, ap, ap₂, subst, Ordering, Less, Equal, Greater, arith, ◌≢◌, nat_cmp, nat_tests, AllByRecursion, ordering_then, Key, Register, Word, Phrase, Number, Posting, register_code, IsListOf, postings_tree, IsRest, Content, posting_cmp, key_row, posting_row, HoldsRows, first_three, IsThreeNumbers}
+use Rattle.zeb_register.proofs.Cited.{Row, column, row_cmp, Trees, Int, Text, has_mapped, mapped_has, Has, row_cmp_total, value_cmp-Int, int_cmp, zero, suc, get_or, length, ◌<◌, ◌≡◌, ◌∙◌, ℕ, ℤ, pos, List, [], ◌∷◌, ◌++◌, map, drop, inl, inr, refl, sym, ap, ap₂, subst, Ordering, Less, Equal, Greater, arith, ◌≢◌, nat_cmp, nat_tests, AllByRecursion, ordering_then, Key, Register, Word, Phrase, Number, Posting, register_code, IsListOf, postings_tree, IsRest, Content, posting_cmp, key_row, posting_row, HoldsRows}
 use Rattle.std.specs.List.Sorted.{IsStrictlySortedBy}
 use Rattle.zeb_register.proofs.RisingLists.{same_list}
 
@@ -96,25 +96,6 @@ list_held trees content db key holds = record {
   rising = rows_rise (content db key) (holds.rising db key);
 }
 
--- ---- what is read of rows
-
-first_three_same : (rows : List Row) → ((r : Row) → Has rows r → (p : Posting) × (r ≡ posting_row p)) → map first_three rows ≡ rows
-first_three_same [] known = refl
-first_three_same (r ∷ rows) known =
-    let p = known r (inl refl) in
-    ap₂ (λ a as'. a ∷ as') (ap first_three p.1 ∙ sym p.1) (first_three_same rows (λ s h. known s (inr h)))
-
-pub rows_known : (trees : Trees) (content : Content) (db : ℤ) (key : Key) (rows : List Row) → HoldsRows trees content → IsListOf (IsRest postings_tree (key_row db key) trees) rows → (r : Row) → Has rows r → (p : Posting) × (r ≡ posting_row p)
-rows_known trees content db key rows holds list r here =
-    let p = (holds.each (key_row db key ++ r)).0 ((list.each r).0 here) in
-    (p.2, (told_apart p.0 db p.1 key r (posting_row p.2) p.4).2)
-
--- the list that is read is that of the content
-pub list_read : (trees : Trees) (content : Content) (db : ℤ) (key : Key) (rows : List Row) (list : List Posting) → HoldsRows trees content → IsListOf (IsRest postings_tree (key_row db key) trees) rows
-    → map posting_row list ≡ map first_three rows → list ≡ content db key
-list_read trees content db key rows list holds are shown =
-    same_postings list (content db key) (shown ∙ first_three_same rows (rows_known trees content db key rows holds are) ∙ one_list _ rows (map posting_row (content db key)) are (list_held trees content db key holds))
-
 pub has_get : {X : Type 0} (xs : List X) (i : ℕ) (d : X) → i < length xs → Has xs (get_or xs i d)
 has_get [] i d below = absurd (omega (arith, below))
 has_get (x ∷ xs) zero d below = inl refl
@@ -124,9 +105,6 @@ pub has_at : {X : Type 0} (xs : List X) (i : ℕ) (x : X) → x ≡ get_or xs i 
 has_at [] i x is below = absurd (omega arith)
 has_at (y ∷ ys) zero x is below = inl is
 has_at (y ∷ ys) (suc i) x is below = inr (has_at ys i x is (omega arith))
-
-pub rows_numbered : (trees : Trees) (content : Content) (db : ℤ) (key : Key) (rows : List Row) → HoldsRows trees content → IsListOf (IsRest postings_tree (key_row db key) trees) rows → (r : Row) → Has rows r → IsThreeNumbers r
-rows_numbered trees content db key rows holds list r here = let p = rows_known trees content db key rows holds list r here in (p.0.sysno, p.0.seq, p.0.pos, p.1)
 
 -- the tables tell the content
 pub one_content : (trees : Trees) (one two : Content) (db : ℤ) (key : Key) → HoldsRows trees one → HoldsRows trees two → one db key ≡ two db key

@@ -1,7 +1,7 @@
 -- Changes of one key's list in turn: there is one outcome, and a change of a record stays in its block.
-use Rattle.zeb_register.proofs.Cited.{Has, ◌≡◌, ◌≢◌, ◌⊎◌, ◌∙◌, ◌+◌, ◌-◌, ◌/◌, ◌<◌, ◌≤◌, ◌==◌, ℕ, ℤ, zero, suc, arith, length-drop, List, [], ◌∷◌, ◌++◌, drop, get_or, length, take, refl, sym, ap, ap₂, subst, inl, inr, drop-cons, split_at, take-add, length-take, length-take-le, take-append-drop, take_more, take_rest, nat_cmp_total, AllByRecursion, Posting, LiesIn, Key, numbers_apart, Place, RecordChange, AreChangedAt, AreListChanges, ArePlacesOf, Content, IsChangedAt, IsListChanged, HasRisingLists, posting_cmp, posting_at, part_in, IsInBlock}
+use Rattle.zeb_register.proofs.Cited.{Has, ◌≡◌, ◌≢◌, ◌⊎◌, ◌∙◌, ◌+◌, ◌-◌, ◌/◌, ◌<◌, ◌≤◌, ◌==◌, ℕ, ℤ, zero, suc, arith, length-drop, List, [], ◌∷◌, ◌++◌, drop, get_or, length, take, refl, sym, ap, ap₂, subst, inl, inr, drop-cons, take-add, length-take, length-take-le, take-append-drop, take_rest, nat_cmp_total, AllByRecursion, Posting, LiesIn, Key, numbers_apart, Place, RecordChange, AreChangedAt, AreListChanges, Content, IsListChanged, HasRisingLists, posting_cmp, posting_at, part_in, IsInBlock}
 use Rattle.std.specs.List.Sorted.{IsStrictlySortedBy}
-use Rattle.zeb_register.proofs.ContentChanges.{at_sysno, at_sysno_others, at_sysno_part, at_sysno_rises, changed_at, change_is, posting_total, told_spot, with_list, with_list_here, with_list_there}
+use Rattle.zeb_register.proofs.ContentChanges.{at_sysno, at_sysno_others, at_sysno_part, at_sysno_rises, posting_total, told_spot, with_list, with_list_here, with_list_there}
 use Rattle.zeb_register.proofs.PackedLemmas.{in_part, part_in_block, part_in_list}
 use Rattle.zeb_register.proofs.RisingLists.{kept_rises, same_list, told_by}
 
@@ -81,10 +81,6 @@ one_outcome (change ∷ changes) old a b left right =
     let same = one_changed change.sysno change.new.now old left.0 right.0 left.2 right.2 in
     one_outcome changes right.0 a b (subst (λ next. AreListChanges changes next a) same left.3) right.3
 
-pub changes_then : (xs ys : List RecordChange) (a b c : List Posting) → AreListChanges xs a b → AreListChanges ys b c → AreListChanges (xs ++ ys) a c
-changes_then [] ys a b c one two = subst (λ l. AreListChanges ys l c) one two
-changes_then (x ∷ xs) ys a b c one two = (one.0, one.1, one.2, changes_then xs ys one.0 b c one.3 two)
-
 pub changes_split : (xs ys : List RecordChange) (a c : List Posting) → AreListChanges (xs ++ ys) a c → (b : List Posting) × AreListChanges xs a b × AreListChanges ys b c
 changes_split [] ys a c is = (a, refl, is)
 changes_split (x ∷ xs) ys a c is =
@@ -100,18 +96,6 @@ changes_left xs ys a b c made all =
 -- the value that stands for a change where there is none
 abbrev pub no_change : RecordChange
 no_change = record { sysno = 0; old = record { ref_ptr = (0, 0); now = [] }; new = record { ref_ptr = (0, 0); now = [] } }
-
--- one change more
-module _ (xs : List RecordChange) (i : ℕ) (below : i < length xs) where
-  abbrev change : RecordChange
-  change = get_or xs i no_change
-
-  pub changes_more : (a b c : List Posting) → AreListChanges (take i xs) a b → ArePlacesOf change.sysno change.old.now b → IsListChanged change.sysno change.new.now b c → AreListChanges (take (i + 1) xs) a c
-  changes_more a b c made found is = subst (λ l. AreListChanges l a c) (sym (take_more xs i no_change below)) (changes_then (take i xs) (change ∷ []) a b c made (c, found, is, refl))
-
-  pub next_places : (a b c : List Posting) → AreListChanges (take i xs) a b → AreListChanges xs a c → ArePlacesOf change.sysno change.old.now b
-  next_places a b c made all =
-      (changes_left (take i xs) (change ∷ drop (suc i) xs) a b c made (subst (λ l. AreListChanges l a c) (split_at xs i no_change below) all)).1
 
 -- ---- a run of changes, cut out of all
 
@@ -181,16 +165,6 @@ module _ (db : ℤ) (key : Key) where
     others = with_list_there db key list old;
   }
 
-  pub content_then : (xs ys : List RecordChange) (a b c : Content) → AreChangedAt db key xs a b → AreChangedAt db key ys b c → AreChangedAt db key (xs ++ ys) a c
-  content_then xs ys a b c one two = record {
-    list = changes_then xs ys (a db key) (b db key) (c db key) one.list two.list;
-    others = λ d k other. two.others d k other ∙ one.others d k other;
-  }
-
-  pub content_more : (xs : List RecordChange) (i : ℕ) → i < length xs → (a b c : Content) → AreChangedAt db key (take i xs) a b → AreChangedAt db key (get_or xs i no_change ∷ []) b c → AreChangedAt db key (take (i + 1) xs) a c
-  content_more xs i below a b c one two =
-      subst (λ l. AreChangedAt db key l a c) (sym (take_more xs i no_change below)) (content_then (take i xs) (get_or xs i no_change ∷ []) a b c one two)
-
   pub content_none : (a : Content) → AreChangedAt db key [] a a
   content_none a = record { list = refl; others = λ d k other. refl }
 
@@ -206,18 +180,3 @@ module _ (db : ℤ) (key : Key) where
       at : (d : ℤ) (k : Key) → ((d ≡ db) × (k ≡ key)) ⊎ ¬ ((d ≡ db) × (k ≡ key)) → b d k ≡ c d k
       at d k (inl same) = ap₂ b same.0 same.1 ∙ one_outcome changes (a db key) (b db key) (c db key) left.list right.list ∙ sym (ap₂ c same.0 same.1)
       at d k (inr other) = left.others d k other ∙ sym (right.others d k other)
-
-  -- one change of a list is one of the content
-  module _ (change : RecordChange) (a b : Content) (up : HasRisingLists a) (is : IsChangedAt db key change.sysno change.new.now a b) (found : ArePlacesOf change.sysno change.old.now (a db key)) where
-    pub changed_alone : AreChangedAt db key (change ∷ []) a b
-    changed_alone = record {
-      list = (b db key, found, record { rising = is.rising db key; part = is.part; others = λ p differs. is.others db key p (λ same. differs same.2) }, refl);
-      others = λ d k other. same_list posting_total (b d k) (a d k) (is.rising d k) (up d k)
-          (λ p h. (is.others d k p (λ same. other (same.0, same.1))).0 h) (λ p h. (is.others d k p (λ same. other (same.0, same.1))).1 h);
-    }
-
-  -- and the content can be changed so
-  pub change_alone : (change : RecordChange) (a : Content) → HasRisingLists a → ArePlacesOf change.sysno change.old.now (a db key) → (b : Content) × AreChangedAt db key (change ∷ []) a b
-  change_alone change a up found =
-      let b = changed_at db key change.sysno change.new.now a in
-      (b, changed_alone change a b up (change_is db key change.sysno change.new.now a up) found)

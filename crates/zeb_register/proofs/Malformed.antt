@@ -1,5 +1,5 @@
--- Rows of the registers that are there still: malformed ones, those beside the rows of one key, and those that spell postings.
-use Rattle.zeb_register.proofs.Cited.{Database, Row, column, Trees, Int, Null, Text, Has, ◌≡◌, ◌≢◌, ◌∷◌, ◌++◌, [], ℕ, ℤ, pos, List, ap, sym, subst, inl, inr, Posting, Key, register_code, IsSpelledAt, KeepsPlaces, KeepsSpelled, Placed, SpellsMore, block_row, key_row, KeepsBeside, KeepsMalformed, KeepsRowsBeside, HasRow, KeepsRegisters, blocks_tree, dict_tree, postings_tree}
+-- Rows of the registers that are there still: malformed ones, and those beside the rows of one key.
+use Rattle.zeb_register.proofs.Cited.{Database, Row, column, Trees, Int, Null, Text, Has, ◌≡◌, ◌≢◌, ◌∷◌, ◌++◌, [], ℕ, ℤ, pos, List, ap, sym, subst, Key, register_code, key_row, KeepsBeside, KeepsMalformed, KeepsRowsBeside, HasRow, KeepsRegisters, blocks_tree, dict_tree, postings_tree}
 
 pub row_same : (tree : ℕ) (old new : Trees) → new tree ≡ old tree → (row : Row) → HasRow old tree row → HasRow new tree row
 row_same tree old new same row there = (there.0, subst (λ (rows : List Row). Has rows (Int there.0 ∷ row)) (sym same) there.1)
@@ -74,30 +74,3 @@ key_begins db key (a ∷ []) one two three four = absurd (let e : Null ≡ Int (
 key_begins db key (a ∷ b ∷ []) one two three four = absurd (let e : Null ≡ Int (pos (register_code key.register)) = three in cc)
 key_begins db key (a ∷ b ∷ c ∷ []) one two three four = absurd (let e : Null ≡ Text key.term = four in cc)
 key_begins db key (a ∷ b ∷ c ∷ d ∷ rest) one two three four = (rest, λ i. one i ∷ two i ∷ three i ∷ four i ∷ rest)
-
--- ---- rows of other records of the key
-
-pub places_same : (db : ℤ) (key : Key) (given : List Placed) (old new : Trees) → new postings_tree ≡ old postings_tree → KeepsPlaces db key given old new
-places_same db key given old new same row other = (row_same postings_tree new old (sym same) row, row_same postings_tree old new same row)
-
-pub places_then : (db : ℤ) (key : Key) (given : List Placed) (a b c : Trees) → KeepsPlaces db key given a b → KeepsPlaces db key given b c → KeepsPlaces db key given a c
-places_then db key given a b c one two row other = (λ there. (one row other).0 ((two row other).0 there), λ there. (two row other).1 ((one row other).1 there))
-
--- what stays but for one of some records stays but for all of them
-pub places_among : (db : ℤ) (key : Key) (x : Placed) (given : List Placed) (old new : Trees) → Has given x → KeepsPlaces db key (x ∷ []) old new → KeepsPlaces db key given old new
-places_among db key x given old new among keeps row other = keeps row (λ it. elim it.2 [
-  | inl same ↦ other (it.0, it.1, subst (Has given) (sym same) among, it.3)
-  | inr none ↦ none
-])
-
--- ---- what rows spell
-
--- the table of blocks tells it
-pub spelled_stays : (old new : Trees) → new blocks_tree ≡ old blocks_tree → (db : ℤ) (key : Key) (p : Posting) → IsSpelledAt db key new p → IsSpelledAt db key old p
-spelled_stays old new same db key p it = (it.0, it.1, it.2, row_same blocks_tree new old (sym same) (block_row db key it.0 it.1) it.3, it.4, it.5)
-
-pub spells_same : (db : ℤ) (key : Key) (P : Posting → Type 0) (old new : Trees) → new blocks_tree ≡ old blocks_tree → SpellsMore db key P old new
-spells_same db key P old new same p it = inl (spelled_stays old new same db key p it)
-
-pub spelled_same : (db : ℤ) (key : Key) (given : List Placed) (old new : Trees) → new blocks_tree ≡ old blocks_tree → KeepsSpelled db key given old new
-spelled_same db key given old new same p others = (spelled_stays old new same db key p, spelled_stays new old (sym same) db key p)

@@ -1,6 +1,6 @@
 -- What the registers hold: for each database and each key a list of postings, each the number of a record and a place in it, in
 -- rising order of number, unit and place.
-use Rattle.std.specs.Prelude.{◌≡◌, ◌≢◌, ◌↔◌, ◌≤◌, ◌<◌, ◌^◌, ℕ, ℤ, List, [], ◌∷◌, IsUtf8}
+use Rattle.std.specs.Prelude.{◌≡◌, ◌≢◌, ◌↔◌, ◌≤◌, ◌<◌, ◌^◌, ◌==◌, ℕ, ℤ, List, [], ◌∷◌, filter, map, IsUtf8}
 use Rattle.std.specs.List.{AllByRecursion}
 use Rattle.std.specs.List.Sorted.{IsStrictlySortedBy}
 use Rattle.std.specs.declared.cmp.Ordering.{Ordering}
@@ -32,6 +32,10 @@ posted content db n o = Has (content db o.key) (record { sysno = n; seq = o.seq;
 
 abbrev pub posting_at : ℕ → Place → Posting
 posting_at sysno place = record { sysno = sysno; seq = place.seq; pos = place.pos }
+
+-- the places of a record in a list of postings
+abbrev pub places_in : ℕ → List Posting → List Place
+places_in sysno list = map (λ p. record { seq = p.seq; pos = p.pos }) (filter (λ p. p.sysno == sysno) list)
 
 -- these are the places of the key in the record
 abbrev pub ArePlacesOf : ℕ → List Place → List Posting → Type 0

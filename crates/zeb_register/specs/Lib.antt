@@ -1,6 +1,5 @@
 pub mod Tables
 pub mod Sql
-pub mod Hindrances
 pub mod Store
 pub mod Faults
 pub mod Calls
@@ -10,6 +9,7 @@ pub mod Kept
 pub mod Content
 pub mod Clauses
 pub mod PrivateClauses
+pub mod Answers
 pub mod Queries
 pub mod Occurring
 pub mod Tallies
@@ -19,7 +19,11 @@ pub mod PrivateRowStatements
 pub mod PrivateRowTerms
 pub mod PrivateRowPlaces
 pub mod PrivatePackedRows
+pub mod PlainUnits
+pub mod PackedUnits
 pub mod Formats
+pub mod Between
+pub mod Units
 pub mod Sound
 pub mod Expected
 pub mod PrivateRowExpected
@@ -27,6 +31,7 @@ pub mod PrivateRowKeys
 pub mod PrivateRowReads
 pub mod PrivateKeyColumns
 pub mod PrivateTableForms
-pub mod Between
 pub mod PrivateBetweenRows
 pub mod PrivateStoreTables
+pub mod UnitChanges
+pub mod PrivateUnits

@@ -5,6 +5,8 @@ use Rattle.std.specs.Ordering.{is_lt}
 use Rattle.sqlite.specs.declared.types.Value.TheVariants.{Text}
 use Rattle.sqlite.specs.Order.{Row, column, value_cmp}
 use Rattle.sqlite.specs.Tree.{Trees}
+use Rattle.sqlite_rules.specs.Lists.{Has}
+use Rattle.zeb_register.specs.PlainUnits.{ShowsNone}
 use Rattle.zeb_register.specs.Store.{IsRest}
 
 -- a row that follows these columns in some row of a table, and whose text is not below the first one and is below the end
@@ -19,3 +21,7 @@ two_behind row = column row 1 ∷ column row 2 ∷ []
 -- the three columns behind the text
 abbrev pub three_behind : Row → Row
 three_behind row = column row 1 ∷ column row 2 ∷ column row 3 ∷ []
+
+-- one of the rows shows no posting behind its text
+abbrev pub SomeShowsNoneBehind : List Row → Type 0
+SomeShowsNoneBehind rows = (row : Row) × Has rows row × ShowsNone (three_behind row)

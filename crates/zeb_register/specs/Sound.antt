@@ -9,9 +9,8 @@ use Rattle.zeb_blocks.specs.declared.postings.Posting.{Posting}
 use Rattle.zeb_keys.specs.declared.keys.Key.{Key}
 use Rattle.zeb_keys.specs.declared.Register.{Register}
 use Rattle.zeb_register.specs.declared.registers.TermCount.{TermCount}
-use Rattle.zeb_register.specs.Between.{IsBetween}
 use Rattle.zeb_register.specs.Formats.{Format, plain_rows, packed_blocks}
-use Rattle.zeb_register.specs.Occurring.{key_in, last}
+use Rattle.zeb_register.specs.Occurring.{last}
 use Rattle.zeb_register.specs.PackedBlocks.{AreAllSpelled, AreShown, CountsTerm, IsRecordNumber, IsRegisterSound, IsRestBefore, IsRestFrom, SpellsPart}
 use Rattle.zeb_register.specs.PlainRows.{key_row, register_front}
 use Rattle.zeb_register.specs.Sql.{HasRow, IsListOf}
@@ -23,11 +22,6 @@ use Rattle.zeb_register.specs.Store.{IsRest, blocks_tree, dict_tree, postings_tr
 abbrev pub IsListSound : Format → Trees → ℤ → Key → Type 0
 IsListSound plain_rows trees db key = Unit {0}
 IsListSound packed_blocks trees db key = AreAllSpelled trees (key_row db key)
-
--- so does each of the terms of a register from one text to another
-abbrev pub AreListsSound : Format → Trees → ℤ → ℕ → Register → (first last : List ℕ) → Type 0
-AreListsSound format trees db index register first last =
-    (term : List ℕ) → IsBetween first last term → IsListSound format trees db (key_in index register term)
 
 -- ---- terms
 

@@ -1,6 +1,7 @@
 //! What those who write a `Layout` over the tables need, beside the public calls: values on their way into a row and out of it, and what
 //! more than one crate needs of the tables.
 
+pub use crate::checked_changes::check_changes;
 pub use crate::dropping::database_drop_whole;
 pub use crate::packed_agreeing::blocks_agree;
 pub use crate::statements::inside::nothing_inside;

@@ -9,6 +9,7 @@
 mod agreeing;
 mod belonging;
 mod catalog;
+mod checked_changes;
 mod dropping;
 mod expected;
 mod faults;
@@ -45,8 +46,9 @@ pub use meta::{meta_of, meta_put};
 pub use occurring::{OccurrenceSet, occurrences_have_one_list_of_terms};
 pub use plain::Rows;
 pub use registers::{
-    Layout, Place, RecordChange, RegisterOf, TermCount, Totals, Work, contents_change,
-    registers_hold_one_content,
+    Layout, Place, RecordChange, RegisterOf, TermCount, Totals, Work,
+    changed_units_are_of_a_content, contents_change, registers_hold_one_content,
+    units_tell_the_content,
 };
 pub use schema::{is_bare_schema, is_store_schema};
 pub use tables::make_tables;

@@ -1,21 +1,23 @@
 //! Registers with one row for each posting.
 
 ghost use Rattle.std.specs.Prelude.{◌≡◌, ◌≢◌, map, IfOk, IfErr};
-ghost use Rattle.sqlite_rules.specs.Lists.{Has};
 ghost use Rattle.sqlite.specs.Held.{state};
 ghost use Rattle.sqlite.specs.State.{IsUnchanged};
 ghost use Rattle.zeb_register.specs.Calls.{Reading};
-ghost use Rattle.zeb_register.specs.Clauses.{IsHonestOfHeld, IsReasoned, TellsHeld};
+ghost use Rattle.zeb_register.specs.Answers.{Answers, IfDamaged};
+ghost use Rattle.zeb_register.specs.Clauses.{IsReasoned, OnStore};
+ghost use Rattle.zeb_register.specs.Formats.{plain_rows};
 ghost use Rattle.zeb_register.specs.Occurring.{key_in};
-ghost use Rattle.zeb_register.specs.PlainRows.{HoldsRows, posting_row};
-ghost use Rattle.zeb_register.specs.PrivateRowPlaces.{first_three, IsThreeNumbers};
+ghost use Rattle.zeb_register.specs.PlainRows.{posting_row};
+ghost use Rattle.zeb_register.specs.PlainUnits.{HasShownNone, ShowsNone};
+ghost use Rattle.zeb_register.specs.PrivateRowPlaces.{first_three, SomeShowsNone};
+ghost use Rattle.zeb_register.specs.Units.{ListsUnits};
 
 use crate::agreeing::{lists_beside, rows_agree};
 use crate::dropping::database_drop_whole;
 use crate::plain_between::postings_between;
-use crate::plain_changes::key_change_plain;
-use crate::registers::{Layout, Place, RecordChange, RegisterOf, TermCount, Totals, Work};
-use crate::statements::inside::nothing_inside;
+use crate::plain_changes::key_changes_plain;
+use crate::registers::{Layout, RecordChange, RegisterOf, TermCount, Totals, Work};
 use crate::statements::postings::{nothing_of, posting_rows, register_rows};
 use crate::terms::{count_terms, term_before, term_count, term_from, text_above};
 use crate::values::read_number;
@@ -43,18 +45,6 @@ impl Layout for Rows {
         "1"
     }
 
-    fn key_change<S: Alter>(
-        tx: &mut Transaction<'_, S>,
-        _work: &mut Work,
-        db: DatabaseId,
-        key: &Key,
-        sysno: u64,
-        old: &[Place],
-        new: &[Place],
-    ) -> Result<(), RegFault> {
-        key_change_plain(tx, db, key, sysno, old, new)
-    }
-
     fn key_changes<S: Alter>(
         tx: &mut Transaction<'_, S>,
         _work: &mut Work,
@@ -62,12 +52,7 @@ impl Layout for Rows {
         key: &Key,
         changes: &[RecordChange<'_>],
     ) -> Result<(), RegFault> {
-        // A closed connection is refused also where there is no change.
-        nothing_inside(tx)?;
-        for change in changes {
-            key_change_plain(tx, db, key, change.sysno, change.old, change.new)?;
-        }
-        Ok(())
+        key_changes_plain(tx, db, key, changes)
     }
 
     fn database_take<S: Alter>(
@@ -194,9 +179,9 @@ pub(crate) fn postings_under<S: Alter>(
     term: &str,
 ) -> Result<Vec<Posting>, RegFault>
     ensures call { Reading (state S.Store conn.old) (state S.Store conn.new) result (λ _. IsUnchanged) }
-    ensures value { TellsHeld HoldsRows (state S.Store conn.old) (state S.Store conn.new) result
-        (λ content list. list.items ≡ content at.db.0 (key_in at.index at.register term.now)) }
-    ensures honest { IsHonestOfHeld HoldsRows (state S.Store conn.old) (state S.Store conn.new) result }
+    ensures lists { OnStore (state S.Store conn.old) (state S.Store conn.new) (λ trees. Answers
+        (IfDamaged (HasShownNone trees at.db.0 (key_in at.index at.register term.now)))
+        (λ list. ListsUnits plain_rows trees at.db.0 (key_in at.index at.register term.now) list.items) result) }
     ensures refused { IsReasoned (state S.Store conn.old) (state S.Store conn.new) result }
 {
     let rows = posting_rows(conn, at, term)?;
@@ -205,9 +190,8 @@ pub(crate) fn postings_under<S: Alter>(
 
 /// The postings that rows of a key show.
 fn postings_of(alloc: Global, rows: &[Row]) -> Result<Vec<Posting>, RegFault>
-    ensures ok { IfOk result (λ list. map posting_row list.items ≡ map first_three rows.now) }
-    ensures honest { result ≡ Err RegFault.Damaged → ¬ ((row : _) → Has rows.now row → IsThreeNumbers row) }
-    ensures unstored { result ≢ Err RegFault.Store }
+    ensures { Answers (λ fault. (fault ≢ RegFault.Store) × IfDamaged (SomeShowsNone rows.now) fault)
+        (λ list. map posting_row list.items ≡ map first_three rows.now) result }
 {
     let mut postings = Vec::new(alloc);
     for row in rows {
@@ -219,7 +203,7 @@ fn postings_of(alloc: Global, rows: &[Row]) -> Result<Vec<Posting>, RegFault>
 /// The posting that a row shows.
 fn posting_of(row: &Row) -> Result<Posting, RegFault>
     ensures ok { IfOk result (λ p. posting_row p ≡ first_three row.now) }
-    ensures refused { IfErr result (λ fault. (fault ≡ RegFault.Damaged) × ¬ IsThreeNumbers row.now) }
+    ensures refused { IfErr result (λ fault. (fault ≡ RegFault.Damaged) × ShowsNone row.now) }
 {
     Ok(Posting {
         sysno: read_number(row, 0)?,

@@ -1,15 +1,16 @@
 //! The postings of neighbouring terms, by a row for each.
 
-ghost use Rattle.std.specs.Prelude.{◌≡◌, ◌≢◌, ◌↔◌, map, IfOk, IfErr};
+ghost use Rattle.std.specs.Prelude.{◌≡◌, ◌≢◌, map, IfOk, IfErr};
 ghost use Rattle.sqlite.specs.Held.{state};
 ghost use Rattle.sqlite.specs.State.{IsUnchanged};
-ghost use Rattle.sqlite_rules.specs.Lists.{Has};
-ghost use Rattle.zeb_register.specs.Between.{IsPostingBetween};
-ghost use Rattle.zeb_register.specs.PrivateBetweenRows.{three_behind};
+ghost use Rattle.zeb_register.specs.Answers.{Answers, IfDamaged};
 ghost use Rattle.zeb_register.specs.Calls.{Reading};
-ghost use Rattle.zeb_register.specs.Clauses.{IsHonestOfHeld, IsReasoned, TellsHeld};
-ghost use Rattle.zeb_register.specs.PlainRows.{HoldsRows, posting_row};
-ghost use Rattle.zeb_register.specs.PrivateRowPlaces.{IsThreeNumbers};
+ghost use Rattle.zeb_register.specs.Clauses.{IsReasoned, OnStore};
+ghost use Rattle.zeb_register.specs.Formats.{plain_rows};
+ghost use Rattle.zeb_register.specs.PlainRows.{posting_row};
+ghost use Rattle.zeb_register.specs.PlainUnits.{ShowsNone};
+ghost use Rattle.zeb_register.specs.PrivateBetweenRows.{SomeShowsNoneBehind, three_behind};
+ghost use Rattle.zeb_register.specs.Units.{HasMalformedBetween, ListsBetween};
 
 use crate::RegFault;
 use crate::registers::RegisterOf;
@@ -29,9 +30,9 @@ pub(crate) fn postings_between<S: Alter>(
     last: &str,
 ) -> Result<Vec<Posting>, RegFault>
     ensures call { Reading (state S.Store conn.old) (state S.Store conn.new) result (λ _. IsUnchanged) }
-    ensures value { TellsHeld HoldsRows (state S.Store conn.old) (state S.Store conn.new) result
-        (λ content list. (p : _) → Has list.items p ↔ IsPostingBetween content at first.now last.now p) }
-    ensures honest { IsHonestOfHeld HoldsRows (state S.Store conn.old) (state S.Store conn.new) result }
+    ensures lists { OnStore (state S.Store conn.old) (state S.Store conn.new) (λ trees. Answers
+        (IfDamaged (HasMalformedBetween plain_rows trees at first.now last.now))
+        (λ list. ListsBetween plain_rows trees at first.now last.now list.items) result) }
     ensures refused { IsReasoned (state S.Store conn.old) (state S.Store conn.new) result }
 {
     let end = text_above(alloc, last)?;
@@ -41,9 +42,8 @@ pub(crate) fn postings_between<S: Alter>(
 
 /// The postings that rows show behind their terms.
 fn postings_behind(alloc: Global, rows: &[Row]) -> Result<Vec<Posting>, RegFault>
-    ensures ok { IfOk result (λ list. map posting_row list.items ≡ map three_behind rows.now) }
-    ensures honest { result ≡ Err RegFault.Damaged → ¬ ((row : _) → Has rows.now row → (IsThreeNumbers (three_behind row))) }
-    ensures unstored { result ≢ Err RegFault.Store }
+    ensures { Answers (λ fault. (fault ≢ RegFault.Store) × IfDamaged (SomeShowsNoneBehind rows.now) fault)
+        (λ list. map posting_row list.items ≡ map three_behind rows.now) result }
 {
     let mut postings = Vec::new(alloc);
     for row in rows {
@@ -55,7 +55,7 @@ fn postings_behind(alloc: Global, rows: &[Row]) -> Result<Vec<Posting>, RegFault
 /// The posting that a row shows behind its term.
 fn posting_behind(row: &Row) -> Result<Posting, RegFault>
     ensures ok { IfOk result (λ p. posting_row p ≡ three_behind row.now) }
-    ensures refused { IfErr result (λ fault. (fault ≡ RegFault.Damaged) × ¬ IsThreeNumbers (three_behind row.now)) }
+    ensures refused { IfErr result (λ fault. (fault ≡ RegFault.Damaged) × ShowsNone (three_behind row.now)) }
 {
     Ok(Posting {
         sysno: read_number(row, 1)?,

@@ -1,23 +1,26 @@
 //! A key's places in records changed, in registers with one row for each posting.
 
-ghost use Rattle.std.specs.Prelude.{IsUtf8, ◌≡◌, ◌≢◌, [], ◌∷◌, map, true, false, IsTrue, IfErr, OnOk};
+ghost use Rattle.std.specs.Prelude.{IsUtf8, ◌≡◌, ◌≢◌, ◌↔◌, map, true, false, IsTrue, IfErr, OnOk};
 ghost use Rattle.std.specs.List.Sorted.{IsStrictlySortedBy};
 ghost use Rattle.sqlite_rules.specs.Lists.{Has};
 ghost use Rattle.sqlite.specs.Held.{state};
+ghost use Rattle.zeb_register.specs.Answers.{Answers, IfDamaged};
 ghost use Rattle.zeb_register.specs.Calls.{GoesOn, OnlyReads, Inside};
-ghost use Rattle.zeb_register.specs.Clauses.{Writes};
-ghost use Rattle.zeb_register.specs.Clauses.{ChangesHeld, FindsHeld, InStore};
-ghost use Rattle.zeb_register.specs.Content.{ArePlacesOf, Content, IsChangedAt, place_cmp};
-ghost use Rattle.zeb_register.specs.Hindrances.{KeepsPlaces};
-ghost use Rattle.zeb_register.specs.PlainRows.{HoldsRows, key_row};
+ghost use Rattle.zeb_register.specs.Clauses.{InStore, Writes};
+ghost use Rattle.zeb_register.specs.Content.{place_cmp};
+ghost use Rattle.zeb_register.specs.Formats.{plain_rows};
 ghost use Rattle.zeb_register.specs.PackedBlocks.{first_two};
+ghost use Rattle.zeb_register.specs.PlainUnits.{RowsRead};
 ghost use Rattle.zeb_register.specs.PrivateRowPlaces.{place_row, IsTwoNumbers, IsPlaceIn, posting_columns, Puts};
 ghost use Rattle.zeb_register.specs.PrivateRowStatements.{Gains};
+ghost use Rattle.zeb_register.specs.PrivateUnits.{ChangesUnit};
 ghost use Rattle.zeb_register.specs.Sql.{Loses};
-ghost use Rattle.zeb_register.specs.Sound.{KeepsMalformed, KeepsRowsBeside};
-ghost use Rattle.zeb_register.specs.Store.{blocks_tree, postings_tree};
+ghost use Rattle.zeb_register.specs.Store.{postings_tree};
+ghost use Rattle.zeb_register.specs.UnitChanges.{ChangesKey};
 
-use crate::registers::Place;
+use crate::checked_changes::check_changes;
+use crate::registers::{Place, RecordChange};
+use crate::statements::inside::nothing_inside;
 use crate::statements::keys::KeyOf;
 use crate::statements::postings::place_rows;
 use crate::statements::writing::write;
@@ -31,9 +34,29 @@ const PUT: &str = "INSERT INTO postings VALUES (?1, ?2, ?3, ?4, ?5, ?6, ?7)";
 const TAKE: &str =
     "DELETE FROM postings WHERE db = ?1 AND idx = ?2 AND reg = ?3 AND term = ?4 AND sysno = ?5";
 
-/// Puts the places `new` of a key in a record where `old` stood. Both lists rise. It fails as `key_change` of
-/// `Layout` does.
-pub(crate) fn key_change_plain<S: Alter>(
+/// Puts changes of a key into its rows, one after the other. It fails as `key_changes` of `Layout` does.
+pub(crate) fn key_changes_plain<S: Alter>(
+    tx: &mut Transaction<'_, S>,
+    db: DatabaseId,
+    key: &Key,
+    changes: &[RecordChange<'_>],
+) -> Result<(), RegFault>
+    ensures same { tx.new.conn.ghost_name ≡ tx.old.conn.ghost_name }
+    ensures call { Inside (state S.Store tx.old.conn.now) (state S.Store tx.new.conn.now) result (λ _. GoesOn) }
+    ensures units { ChangesKey plain_rows db.0 key.now changes.now
+        (state S.Store tx.old.conn.now) (state S.Store tx.new.conn.now) result }
+{
+    check_changes(changes)?;
+    // A closed connection is refused also where there is no change.
+    nothing_inside(tx)?;
+    for change in changes {
+        unit_change(tx, db, key, change.sysno, change.old, change.new)?;
+    }
+    Ok(())
+}
+
+/// Puts the places `new` of a key in a record where `old` stood. `Damaged` where others did.
+fn unit_change<S: Alter>(
     tx: &mut Transaction<'_, S>,
     db: DatabaseId,
     key: &Key,
@@ -41,24 +64,11 @@ pub(crate) fn key_change_plain<S: Alter>(
     old: &[Place],
     new: &[Place],
 ) -> Result<(), RegFault>
+    requires rising { IsStrictlySortedBy place_cmp new.now }
     ensures same { tx.new.conn.ghost_name ≡ tx.old.conn.ghost_name }
     ensures call { Inside (state S.Store tx.old.conn.now) (state S.Store tx.new.conn.now) result (λ _. GoesOn) }
-    ensures change { ChangesHeld HoldsRows (state S.Store tx.old.conn.now) (state S.Store tx.new.conn.now) result
-        (IsChangedAt db.0 key.now sysno new.now) }
-    ensures found { FindsHeld HoldsRows (state S.Store tx.old.conn.now) (state S.Store tx.new.conn.now) result
-        (λ content. ArePlacesOf sysno old.now (content db.0 key.now)) }
-    ensures damaged { InStore (state S.Store tx.old.conn.now) (state S.Store tx.new.conn.now) (λ trees. result ≡ Err RegFault.Damaged
-        → IsStrictlySortedBy place_cmp old.now → (content : Content) → HoldsRows trees content
-        → ¬ ArePlacesOf sysno old.now (content db.0 key.now)) }
-    ensures text { OnOk result (IsUtf8 key.now.term) }
-    ensures malformed { InStore (state S.Store tx.old.conn.now) (state S.Store tx.new.conn.now) (λ trees. OnOk result
-        (KeepsMalformed trees (state S.Store tx.new.conn.now).now.trees)) }
-    ensures others { InStore (state S.Store tx.old.conn.now) (state S.Store tx.new.conn.now) (λ trees. OnOk result
-        (KeepsRowsBeside (key_row db.0 key.now) trees (state S.Store tx.new.conn.now).now.trees)) }
-    ensures blocks { InStore (state S.Store tx.old.conn.now) (state S.Store tx.new.conn.now) (λ trees. OnOk result
-        ((state S.Store tx.new.conn.now).now.trees blocks_tree ≡ trees blocks_tree)) }
-    ensures places { InStore (state S.Store tx.old.conn.now) (state S.Store tx.new.conn.now) (λ trees. OnOk result
-        (KeepsPlaces db.0 key.now ((sysno, new.now) ∷ []) trees (state S.Store tx.new.conn.now).now.trees)) }
+    ensures units { ChangesUnit db.0 key.now sysno old.now new.now
+        (state S.Store tx.old.conn.now) (state S.Store tx.new.conn.now) result }
 {
     if !holds_places(tx, db, key, sysno, old)? {
         return Err(RegFault::Damaged);
@@ -105,13 +115,9 @@ fn holds_places<S: Alter>(
 ) -> Result<bool, RegFault>
     ensures same { tx.new.conn.ghost_name ≡ tx.old.conn.ghost_name }
     ensures call { Inside (state S.Store tx.old.conn.now) (state S.Store tx.new.conn.now) result (λ _. OnlyReads) }
-    ensures found { InStore (state S.Store tx.old.conn.now) (state S.Store tx.new.conn.now) (λ trees. (content : Content)
-        → HoldsRows trees content → result ≡ Ok true → ArePlacesOf sysno places.now (content db.0 key.now)) }
-    ensures lost { InStore (state S.Store tx.old.conn.now) (state S.Store tx.new.conn.now) (λ trees. (content : Content)
-        → HoldsRows trees content → IsStrictlySortedBy place_cmp places.now → result ≡ Ok false
-        → ¬ ArePlacesOf sysno places.now (content db.0 key.now)) }
-    ensures honest { InStore (state S.Store tx.old.conn.now) (state S.Store tx.new.conn.now) (λ trees. (content : Content)
-        → HoldsRows trees content → result ≢ Err RegFault.Damaged) }
+    ensures told { InStore (state S.Store tx.old.conn.now) (state S.Store tx.new.conn.now) (λ trees. Answers
+        (IfDamaged (¬ RowsRead trees db.0 key.now sysno places.now))
+        (λ same. IsTrue same ↔ RowsRead trees db.0 key.now sysno places.now) result) }
     ensures text { OnOk result (IsUtf8 key.now.term) }
 {
     let number = stored(sysno)?;

@@ -1,17 +1,22 @@
 //! What a layout of the registers has to do, whatever tables it keeps them in.
 
-ghost use Rattle.std.specs.Prelude.{◌≡◌, ◌≢◌, ◌↔◌, ◌*◌, ℕ, ℤ, List, [], length, IsUtf8, OnOk};
+ghost use Rattle.std.specs.Prelude.{◌≡◌, ◌≢◌, ◌↔◌, ◌*◌, ℕ, ℤ, List, [], length, OnOk};
+ghost use Rattle.std.specs.List.{AllByRecursion};
 ghost use Rattle.sqlite.specs.Held.{state};
 ghost use Rattle.sqlite.specs.State.{IsUnchanged};
 ghost use Rattle.sqlite_rules.specs.Lists.{Has};
 ghost use Rattle.zeb_register.specs.Calls.{GoesOn, Inside, Reading};
-ghost use Rattle.zeb_register.specs.Clauses.{ChangesHeld, DamagedHeld, FindsHeld, InStore, IsHonest, IsHonestStorable};
+ghost use Rattle.zeb_register.specs.Clauses.{InStore, IsHonest, IsHonestStorable};
 ghost use Rattle.zeb_register.specs.Clauses.{IsReasoned, OnStore};
 ghost use Rattle.zeb_register.specs.Clauses.{Tells, TellsHeld, TellsWhether};
 ghost use Rattle.sqlite.specs.Tree.{Trees};
-ghost use Rattle.zeb_register.specs.Content.{Content, HasRisingLists, IsChangedAt, IsWithout};
+ghost use Rattle.zeb_register.specs.Content.{AreChangedAt, Content, HasRisingLists, IsChangedAt, IsStorable, IsWithout, OldsRise};
 ghost use Rattle.zeb_register.specs.Formats.{Format, holds_in, version_of};
+ghost use Rattle.zeb_register.specs.PlainRows.{key_row};
+ghost use Rattle.zeb_register.specs.Sound.{KeepsMalformed, KeepsRowsBeside};
 ghost use Rattle.zeb_register.specs.Store.{KeepsRegisters, LacksRegisters};
+ghost use Rattle.zeb_register.specs.UnitChanges.{AllowsChanges, IsStorableChange, KeyUnits, PutsAny};
+ghost use Rattle.zeb_register.specs.Units.{HoldsUnits, counts_as, is_malformed, is_miscounted, reads_as};
 
 use crate::{DatabaseId, Expected, RegFault};
 use sqlite::{Alter, Connection, Transaction};
@@ -73,22 +78,22 @@ pub struct Work {
 /// What the registers hold is, for each database and each key, a rising list of postings. The system numbers of records are 1 to
 /// 999,999,999.
 pub trait Layout {
-    ghost use Rattle.std.specs.Prelude.{List, ◌∷◌, ℕ, map, sum_by};
-    ghost use Rattle.std.specs.List.Sorted.{IsStrictlySortedBy};
+    ghost use Rattle.std.specs.Prelude.{List, ◌∷◌, ℕ, sum_by};
     ghost use Rattle.sqlite.specs.Tree.{Trees};
     ghost use Rattle.zeb_register.specs.Formats.{Format, version_of, holds_in};
-    ghost use Rattle.zeb_register.specs.Content.{AreChangedAt, Content, IsChangedAt, ArePlacesOf, OldsRise, place_cmp, posted};
+    ghost use Rattle.zeb_register.specs.Content.{Content, posted};
     ghost use Rattle.zeb_register.specs.Content.{IsWithout, TakesWhole};
     ghost use Rattle.zeb_register.specs.Occurring.{AreTermsOf, AreTermsFrom, AreTermsBefore, AreTotals, key_in};
     ghost use Rattle.zeb_register.specs.Expected.{IsOrdered, AreExpected};
     ghost use Rattle.zeb_register.specs.Tallies.{Works};
     ghost use Rattle.zeb_register.specs.declared.registers.TermCount.{TermCount};
-    ghost use Rattle.zeb_register.specs.Between.{AreKeysBetween, IsPostingBetween};
-    ghost use Rattle.zeb_register.specs.PackedBlocks.{AreAllCounted, AreAllSpelled, AreBeforeCounted, AreFromCounted, IsRegisterSound};
-    ghost use Rattle.zeb_register.specs.PlainRows.{key_row, register_front};
-    ghost use Rattle.zeb_register.specs.Sound.{AreListsSound, AreTermsSound, InPacked, IsListSound, KeepsMalformed, KeepsRowsBeside};
+    ghost use Rattle.zeb_register.specs.Between.{AreKeysBetween};
+    ghost use Rattle.zeb_register.specs.PackedBlocks.{AreAllCounted, AreBeforeCounted, AreFromCounted, IsRegisterSound};
+    ghost use Rattle.zeb_register.specs.Units.{ListsKey, ListsTerms};
+    ghost use Rattle.zeb_register.specs.PlainRows.{register_front};
+    ghost use Rattle.zeb_register.specs.Sound.{AreTermsSound, InPacked};
     ghost use Rattle.zeb_register.specs.Sound.{TellsBefore, TellsFrom, TellsRegister};
-    ghost use Rattle.zeb_register.specs.Hindrances.{IsPlacedAt, KeepsPlaces, KeepsSpelled, SpellsMore, placed};
+    ghost use Rattle.zeb_register.specs.UnitChanges.{ChangesKey};
     ghost use Rattle.zeb_keys.specs.declared.keys.Key.{Key};
     ghost use Rattle.zeb_blocks.specs.declared.postings.Posting.{Posting};
 
@@ -105,10 +110,7 @@ pub trait Layout {
     fn version() -> &'static str
         ensures { result.now ≡ version_of format };
 
-    /// Puts the places `new` of a key in a record where `old` stood. Both lists rise.
-    ///
-    /// `Damaged` where the register holds other places there than `old`. `Store` also where `sysno` or a number of `new` is above
-    /// `2^63 - 1`, and in packed blocks where one is 0 or `new` doesn't rise.
+    /// Puts the places `new` of a key in a record where `old` stood: `key_changes` of one change.
     fn key_change<S: Alter>(
         tx: &mut Transaction<'_, S>,
         work: &mut Work,
@@ -120,32 +122,22 @@ pub trait Layout {
     ) -> Result<(), RegFault>
         ensures same { tx.new.conn.ghost_name ≡ tx.old.conn.ghost_name }
         ensures call { Inside (state S.Store tx.old.conn.now) (state S.Store tx.new.conn.now) result (λ _. GoesOn) }
-        ensures change { ChangesHeld (holds_in format) (state S.Store tx.old.conn.now) (state S.Store tx.new.conn.now) result
-            (IsChangedAt db.0 key.now sysno new.now) }
-        ensures found { FindsHeld (holds_in format) (state S.Store tx.old.conn.now) (state S.Store tx.new.conn.now) result
-            (λ content. ArePlacesOf sysno old.now (content db.0 key.now)) }
-        ensures damaged { DamagedHeld (holds_in format) (state S.Store tx.old.conn.now) (state S.Store tx.new.conn.now) result
-            (IsStrictlySortedBy place_cmp old.now) (λ content. ¬ ArePlacesOf sysno old.now (content db.0 key.now)) }
-        ensures text { OnOk result (IsUtf8 key.now.term) }
-        ensures malformed { InStore (state S.Store tx.old.conn.now) (state S.Store tx.new.conn.now) (λ trees. OnOk result
-            (KeepsMalformed trees (state S.Store tx.new.conn.now).now.trees)) }
-        ensures others { InStore (state S.Store tx.old.conn.now) (state S.Store tx.new.conn.now) (λ trees. OnOk result
-            (KeepsRowsBeside (key_row db.0 key.now) trees (state S.Store tx.new.conn.now).now.trees)) }
-        ensures spelled { InStore (state S.Store tx.old.conn.now) (state S.Store tx.new.conn.now) (λ trees. OnOk result
-            (SpellsMore db.0 key.now (IsPlacedAt ((sysno, new.now) ∷ [])) trees (state S.Store tx.new.conn.now).now.trees)) }
-        ensures still { InStore (state S.Store tx.old.conn.now) (state S.Store tx.new.conn.now) (λ trees. OnOk result
-            (KeepsSpelled db.0 key.now ((sysno, new.now) ∷ []) trees (state S.Store tx.new.conn.now).now.trees)) }
-        ensures places { InStore (state S.Store tx.old.conn.now) (state S.Store tx.new.conn.now) (λ trees. OnOk result
-            (KeepsPlaces db.0 key.now ((sysno, new.now) ∷ []) trees (state S.Store tx.new.conn.now).now.trees)) }
-        ensures work { FindsHeld (holds_in format) (state S.Store tx.old.conn.now) (state S.Store tx.new.conn.now) result
-            (λ _. Works row_work row_work row_work row_work work.old work.new) }
-        ensures no_work { row_work ≡ 0 → work.new ≡ work.old };
+        ensures units { ChangesKey format db.0 key.now
+            (record { sysno = sysno; old = old.entry; new = new.entry } ∷ [])
+            (state S.Store tx.old.conn.now) (state S.Store tx.new.conn.now) result }
+        ensures work { OnOk result (Works row_work row_work row_work row_work work.old work.new) }
+        ensures no_work { row_work ≡ 0 → work.new ≡ work.old }
+    {
+        let change = RecordChange { sysno, old, new };
+        Self::key_changes(tx, work, db, key, &[change])
+    }
 
     /// Puts places of a key in several records, one after the other, each where its `old` stood. A layout may read and write a row once
     /// for several records that stand next to each other in `changes`; it counts work as if each record had been changed alone.
     ///
-    /// `Damaged` where the register holds other places in a record than its `old`. `Store` also where a number is none that the layout
-    /// stores, as in `key_change`.
+    /// `Damaged` where a record has other places than its `old`, where a row that is read is malformed, and where the number of the records
+    /// that have the key is kept and can't follow. `Store` also where a number of a record is 0 or above 999,999,999, one of a place 0 or
+    /// above `2^63 - 1`, and where places `new` don't rise.
     fn key_changes<S: Alter>(
         tx: &mut Transaction<'_, S>,
         work: &mut Work,
@@ -155,26 +147,10 @@ pub trait Layout {
     ) -> Result<(), RegFault>
         ensures same { tx.new.conn.ghost_name ≡ tx.old.conn.ghost_name }
         ensures call { Inside (state S.Store tx.old.conn.now) (state S.Store tx.new.conn.now) result (λ _. GoesOn) }
-        ensures change { ChangesHeld (holds_in format) (state S.Store tx.old.conn.now) (state S.Store tx.new.conn.now) result
-            (AreChangedAt db.0 key.now changes.now) }
-        ensures found { FindsHeld (holds_in format) (state S.Store tx.old.conn.now) (state S.Store tx.new.conn.now) result
-            (λ content. (after : Content) × AreChangedAt db.0 key.now changes.now content after) }
-        ensures damaged { DamagedHeld (holds_in format) (state S.Store tx.old.conn.now) (state S.Store tx.new.conn.now) result
-            (OldsRise changes.now) (λ content. (after : Content) → ¬ AreChangedAt db.0 key.now changes.now content after) }
-        ensures text { OnOk result (changes.now ≢ [] → IsUtf8 key.now.term) }
-        ensures malformed { InStore (state S.Store tx.old.conn.now) (state S.Store tx.new.conn.now) (λ trees. OnOk result
-            (KeepsMalformed trees (state S.Store tx.new.conn.now).now.trees)) }
-        ensures others { InStore (state S.Store tx.old.conn.now) (state S.Store tx.new.conn.now) (λ trees. OnOk result
-            (KeepsRowsBeside (key_row db.0 key.now) trees (state S.Store tx.new.conn.now).now.trees)) }
-        ensures spelled { InStore (state S.Store tx.old.conn.now) (state S.Store tx.new.conn.now) (λ trees. OnOk result
-            (SpellsMore db.0 key.now (IsPlacedAt (map placed changes.now)) trees (state S.Store tx.new.conn.now).now.trees)) }
-        ensures still { InStore (state S.Store tx.old.conn.now) (state S.Store tx.new.conn.now) (λ trees. OnOk result
-            (KeepsSpelled db.0 key.now (map placed changes.now) trees (state S.Store tx.new.conn.now).now.trees)) }
-        ensures places { InStore (state S.Store tx.old.conn.now) (state S.Store tx.new.conn.now) (λ trees. OnOk result
-            (KeepsPlaces db.0 key.now (map placed changes.now) trees (state S.Store tx.new.conn.now).now.trees)) }
-        ensures work { FindsHeld (holds_in format) (state S.Store tx.old.conn.now) (state S.Store tx.new.conn.now) result
-            (λ _. Works (row_work * length changes.now) (row_work * length changes.now) (row_work * length changes.now)
-            (row_work * length changes.now) work.old work.new) }
+        ensures units { ChangesKey format db.0 key.now changes.now
+            (state S.Store tx.old.conn.now) (state S.Store tx.new.conn.now) result }
+        ensures work { OnOk result (Works (row_work * length changes.now) (row_work * length changes.now)
+            (row_work * length changes.now) (row_work * length changes.now) work.old work.new) }
         ensures no_work { row_work ≡ 0 → work.new ≡ work.old };
 
     /// Takes a database out, with its records and its rows in every table of the registers.
@@ -187,7 +163,7 @@ pub trait Layout {
             → holds_in format (state S.Store tx.new.conn.now).now.trees after))) }
         ensures honest { result ≢ Err RegFault.Damaged };
 
-    /// The postings of a key, rising.
+    /// The postings of a key, rising: those that its units say. `Damaged` only where one of its rows is malformed.
     fn key_list<S: Alter>(
         alloc: Global,
         conn: &mut Connection<S>,
@@ -196,15 +172,8 @@ pub trait Layout {
         key: &Key,
     ) -> Result<Vec<Posting>, RegFault>
         ensures call { Reading (state S.Store conn.old) (state S.Store conn.new) result (λ _. IsUnchanged) }
-        ensures value { TellsHeld (holds_in format) (state S.Store conn.old) (state S.Store conn.new) result
-            (λ content list. list.items ≡ content db.0 key.now) }
-        ensures honest { IsHonestStorable (holds_in format) (state S.Store conn.old) (state S.Store conn.new) result }
-        ensures refused { IsReasoned (state S.Store conn.old) (state S.Store conn.new) result }
-        ensures spelled { OnStore (state S.Store conn.old) (state S.Store conn.new) (λ trees. OnOk result
-            (IsListSound format trees db.0 key.now)) }
-        ensures damaged { IsHonest (state S.Store conn.old) (state S.Store conn.new) result (λ trees.
-            InPacked format (AreAllSpelled trees (key_row db.0 key.now))) }
-        ensures work { TellsHeld (holds_in format) (state S.Store conn.old) (state S.Store conn.new) result
+        ensures units { ListsKey format db.0 key.now (state S.Store conn.old) (state S.Store conn.new) result }
+        ensures work { Tells (state S.Store conn.old) (state S.Store conn.new) result
             (λ _ list. Works 0 0 (block_rows list.items) 0 work.old work.new) }
         ensures no_work { row_work ≡ 0 → work.new ≡ work.old };
 
@@ -219,14 +188,7 @@ pub trait Layout {
         last: &str,
     ) -> Result<Vec<Posting>, RegFault>
         ensures call { Reading (state S.Store conn.old) (state S.Store conn.new) result (λ _. IsUnchanged) }
-        ensures value { TellsHeld (holds_in format) (state S.Store conn.old) (state S.Store conn.new) result
-            (λ content list. (p : Posting) → Has list.items p ↔ IsPostingBetween content at first.now last.now p) }
-        ensures honest { IsHonestStorable (holds_in format) (state S.Store conn.old) (state S.Store conn.new) result }
-        ensures refused { IsReasoned (state S.Store conn.old) (state S.Store conn.new) result }
-        ensures spelled { OnStore (state S.Store conn.old) (state S.Store conn.new) (λ trees. OnOk result
-            (AreListsSound format trees at.db.0 at.index at.register first.now last.now)) }
-        ensures damaged { IsHonest (state S.Store conn.old) (state S.Store conn.new) result (λ trees.
-            InPacked format (AreListsSound format trees at.db.0 at.index at.register first.now last.now)) }
+        ensures units { ListsTerms format at first.now last.now (state S.Store conn.old) (state S.Store conn.new) result }
         ensures work { TellsHeld (holds_in format) (state S.Store conn.old) (state S.Store conn.new) result
             (λ content _. (keys : List Key) → AreKeysBetween content at first.now last.now keys → Works 0 0
             (sum_by (λ key. block_rows (content at.db.0 key)) keys) 0 work.old work.new) }
@@ -342,6 +304,23 @@ pub fn contents_change()
         → ((new : Content) × IsWithout db old new) × ((one two : Content) → IsWithout db old one → IsWithout db old two → one ≡ two) }
 {}
 
+/// Units that are changed are those of the changed content. Each row that is malformed is there still, and each that isn't of the key. Where
+/// the changes are those of a content, the rows that hold it allow them.
+pub fn changed_units_are_of_a_content()
+    ensures held { (format : Format) (db : ℤ) (key : _) (changes : List _) (old new : Trees) → PutsAny format db key changes old new
+        → (before after : Content) → holds_in format old before → AreChangedAt db key changes before after → holds_in format new after }
+    ensures found { (format : Format) (db : ℤ) (key : _) (changes : List _) (old new : Trees) → PutsAny format db key changes old new
+        → (content : Content) → holds_in format old content → (after : Content) × AreChangedAt db key changes content after }
+    ensures malformed { (format : Format) (db : ℤ) (key : _) (changes : List _) (old new : Trees)
+        → PutsAny format db key changes old new → KeepsMalformed old new }
+    ensures others { (format : Format) (db : ℤ) (key : _) (changes : List _) (old new : Trees)
+        → PutsAny format db key changes old new → KeepsRowsBeside (key_row db key) old new }
+    ensures allowed { (format : Format) (db : ℤ) (key : _) (changes : List _) (trees : Trees) (content : Content)
+        → holds_in format trees content → IsStorable content → AllByRecursion IsStorableChange changes → OldsRise changes
+        → (after : Content) → AreChangedAt db key changes content after
+        → (were : KeyUnits) × (are : KeyUnits) × AllowsChanges format db key changes trees were are }
+{}
+
 /// What tables hold in a format is one content at most, and each of its lists rises. It is told by the tables of the registers alone, and
 /// where these have no row it has no posting. No two formats have one version.
 pub fn registers_hold_one_content()
@@ -352,4 +331,22 @@ pub fn registers_hold_one_content()
         → holds_in format new content }
     ensures empty { (format : Format) (trees : Trees) → LacksRegisters trees → holds_in format trees (λ _ _. []) }
     ensures version { (one two : Format) → version_of one ≡ version_of two → one ≡ two }
+{}
+
+/// A record's places under a key, its unit, read in one way at most, and not where the unit is malformed; a key has one count at most, and none
+/// where it is miscounted. Tables hold a content that every layout can store just where each unit and each count reads as the content says,
+/// and no row stands beside.
+pub fn units_tell_the_content()
+    ensures one { (format : Format) (trees : Trees) (db : ℤ) (key : _) (sysno : ℕ) (one two : List _)
+        → reads_as format trees db key sysno one → reads_as format trees db key sysno two → one ≡ two }
+    ensures unread { (format : Format) (trees : Trees) (db : ℤ) (key : _) (sysno : ℕ) (places : List _)
+        → is_malformed format trees db key sysno → ¬ reads_as format trees db key sysno places }
+    ensures counted { (format : Format) (trees : Trees) (db : ℤ) (key : _) (one two : ℕ)
+        → counts_as format trees db key one → counts_as format trees db key two → one ≡ two }
+    ensures uncounted { (format : Format) (trees : Trees) (db : ℤ) (key : _) (records : ℕ)
+        → is_miscounted format trees db key → ¬ counts_as format trees db key records }
+    ensures said { (format : Format) (trees : Trees) (content : Content) → IsStorable content
+        → holds_in format trees content → HoldsUnits format trees content }
+    ensures held { (format : Format) (trees : Trees) (content : Content) → HoldsUnits format trees content
+        → holds_in format trees content }
 {}

@@ -1,3 +1,4 @@
+pub mod AttributeRows
 pub mod Comparisons
 pub mod SearchCountLemmas
 pub mod DictCounts

@@ -3,6 +3,7 @@ pub mod SearchCounts
 pub mod PrivateSearchCounts
 pub mod DictRows
 pub mod Holds
+pub mod ByAttributes
 pub mod ListRows
 pub mod SearchRows
 pub mod Lists

@@ -81,7 +81,8 @@ pub(crate) fn near(
         → IfOk result (λ numbers. AreNumbers (IsNear separation.now left.now right.now) numbers.items) }
 {
     let ordered = separation.ordered;
-    let (words, more_words) = ranges(separation.relation, separation.distance);
+    let distance = separation.distance as u64;
+    let (words, more_words) = ranges(separation.relation, distance);
     let mut numbers = Vec::new(alloc);
     add_near(alloc, &mut numbers, left, right, ordered, words)?;
     if let Some(more_words) = more_words {

@@ -6,6 +6,7 @@
 
 mod distances;
 mod keys;
+pub mod laws;
 mod lists;
 mod plans;
 mod postings;

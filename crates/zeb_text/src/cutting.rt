@@ -12,7 +12,8 @@ use unicode::properties::{GeneralCategory, GeneralCategoryGroup};
 /// The words of the text in order: the maximal runs, in the folded text, of characters whose General_Category is a
 /// letter, a mark or a number (The Unicode Standard, section 4.5). The only refusal is want of memory.
 pub fn words(alloc: Global, text: &str) -> Result<Vec<String>, AllocError>
-    ensures { IfOk result (λ found. map string_bytes found.items ≡ map encode_utf8_all (words_of (chars text.now))) }
+    ensures { IfOk result
+        (λ found. map string_bytes found.items ≡ map encode_utf8_all (words_of (chars text.now))) }
 {
     let folded = fold(alloc, text)?;
     runs(alloc, folded.as_str(), Cut::None)
@@ -20,7 +21,8 @@ pub fn words(alloc: Global, text: &str) -> Result<Vec<String>, AllocError>
 
 /// The words with one space between each two; of none, the empty text. The only refusal is want of memory.
 pub fn join(alloc: Global, words: &[String]) -> Result<String, AllocError>
-    ensures { IfOk result (λ joined. string_bytes joined ≡ joined_text (map string_bytes words.now)) }
+    ensures { IfOk result
+        (λ joined. string_bytes joined ≡ joined_text (map string_bytes words.now)) }
 {
     let mut joined = String::new(alloc);
     for (at, word) in words.iter().enumerate() {
@@ -35,7 +37,8 @@ pub fn join(alloc: Global, words: &[String]) -> Result<String, AllocError>
 /// The maximal runs of what belongs to a word under the truncation `cut`.
 pub(crate) fn runs(alloc: Global, text: &str, cut: Cut) -> Result<Vec<String>, AllocError>
     ensures { IfOk result
-        (λ found. map string_bytes found.items ≡ map encode_utf8_all (runs_of (belongs_to_word cut) (chars text.now))) }
+        (λ found. map string_bytes found.items
+        ≡ map encode_utf8_all (runs_of (belongs_to_word cut) (chars text.now))) }
 {
     let mut found = Vec::new(alloc);
     let mut run = String::new(alloc);

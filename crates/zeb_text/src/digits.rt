@@ -70,7 +70,8 @@ fn first_run(text: &[u8]) -> Option<(&[u8], &[u8])>
 fn front_len(text: &[u8], are_digits: bool) -> usize
     ensures within { result ≤ length text.now }
     ensures front { (k : ℕ) → k < result → is_ascii_digit (slice_index text.now k) ≡ are_digits }
-    ensures next { result < length text.now → is_ascii_digit (slice_index text.now result) ≡ not are_digits }
+    ensures next { result < length text.now
+        → is_ascii_digit (slice_index text.now result) ≡ not are_digits }
 {
     for (i, b) in text.iter().enumerate() {
         if b.is_ascii_digit() != are_digits {

@@ -27,23 +27,27 @@ pub fn runs_are_maximal()
 /// The words of a text, joined with one space between each two, are the runs of word characters of what was joined. They
 /// are not always its words, since folding a text twice is not always folding it once.
 pub fn joined_words_stay()
-    ensures { (text : List ℕ) → runs_of is_word_character (joined_text (words_of text)) ≡ words_of text }
+    ensures { (text : List ℕ)
+        → runs_of is_word_character (joined_text (words_of text)) ≡ words_of text }
 {}
 
 /// Words are joined alike as characters and as UTF-8: what [`join`](crate::join) makes of a text's words is that text's
 /// joined text in UTF-8.
 pub fn joined_texts_are_encoded()
-    ensures { (words : List (List ℕ)) → joined_text (map encode_utf8_all words) ≡ encode_utf8_all (joined_text words) }
+    ensures { (words : List (List ℕ))
+        → joined_text (map encode_utf8_all words) ≡ encode_utf8_all (joined_text words) }
 {}
 
 /// What folding makes the same, and where it changes nothing: texts that are a canonical caseless match fold to one text;
 /// ASCII folds to lower case; and a folded text is its own folding where it is still decomposed and its case folded. That
 /// it is not where dropping U+034F, which parts two sequences of marks, leaves marks out of their canonical order.
 pub fn folding_joins_matches()
-    ensures matching { (left right : List ℕ) → IsCanonicalMatch left right → folded left ≡ folded right }
-    ensures ascii { (text : List ℕ) → All (λ c. c < 128) text → folded text ≡ map to_ascii_lowercase text }
-    ensures twice { (text : List ℕ) → nfd (folded text) ≡ folded text → default_case_fold (folded text) ≡ folded text →
-        folded (folded text) ≡ folded text }
+    ensures matching { (left right : List ℕ) → IsCanonicalMatch left right
+        → folded left ≡ folded right }
+    ensures ascii { (text : List ℕ) → All (λ c. c < 128) text
+        → folded text ≡ map to_ascii_lowercase text }
+    ensures twice { (text : List ℕ) → nfd (folded text) ≡ folded text
+        → default_case_fold (folded text) ≡ folded text → folded (folded text) ≡ folded text }
 {}
 
 /// A pattern without stars is a text: it matches that text alone; and the patterns of a term that is not truncated, joined,
@@ -56,7 +60,8 @@ pub fn plain_patterns_are_texts()
 
 /// Patterns that are joined match just the texts that each of them matches, joined.
 pub fn joined_patterns_match_joined_texts()
-    ensures { (patterns : List (List Symbol)) (text : List ℕ) → (Matches (joined_patterns patterns) text)
+    ensures { (patterns : List (List Symbol)) (text : List ℕ)
+        → (Matches (joined_patterns patterns) text)
         ↔ ((texts : List (List ℕ)) × (text ≡ joined_text texts) × MatchEach patterns texts) }
 {}
 
@@ -90,7 +95,8 @@ pub fn definitions_at_examples()
     ensures sharp_s { folded (codes "Stra" ++ 223 ∷ codes "e") ≡ codes "strasse" }
     ensures parted { folded (97 ∷ 1425 ∷ 847 ∷ 1456 ∷ []) ≡ 97 ∷ 1425 ∷ 1456 ∷ [] }
     ensures again { folded (97 ∷ 1425 ∷ 1456 ∷ []) ≡ 97 ∷ 1456 ∷ 1425 ∷ [] }
-    ensures words { words_of (codes "or, the whale /") ≡ codes "or" ∷ codes "the" ∷ codes "whale" ∷ [] }
+    ensures words { words_of (codes "or, the whale /")
+        ≡ codes "or" ∷ codes "the" ∷ codes "whale" ∷ [] }
     ensures numbers { numbers_of (codes "c1851, 007, 1234567890123456789") ≡ 1851 ∷ 7 ∷ [] }
     ensures key { number_key 1851 ≡ codes "000000000000001851" }
 {}
@@ -100,8 +106,10 @@ pub fn definitions_at_examples()
 pub fn patterns_at_examples()
     ensures right { patterns_of Cut.Right Spread.Ends (codes "Moby d")
         ≡ literal (codes "moby") ∷ (literal (codes "d") ++ Star ∷ []) ∷ [] }
-    ensures hash { patterns_of Cut.Hash Spread.Ends (codes "m#y") ≡ (Char 109 ∷ Star ∷ Char 121 ∷ []) ∷ [] }
-    ensures separator { patterns_of Cut.None Spread.Ends (codes "m#y") ≡ literal (codes "m") ∷ literal (codes "y") ∷ [] }
+    ensures hash { patterns_of Cut.Hash Spread.Ends (codes "m#y")
+        ≡ (Char 109 ∷ Star ∷ Char 121 ∷ []) ∷ [] }
+    ensures separator { patterns_of Cut.None Spread.Ends (codes "m#y")
+        ≡ literal (codes "m") ∷ literal (codes "y") ∷ [] }
     ensures star { Matches (Char 109 ∷ Star ∷ Char 121 ∷ []) (codes "moby") }
     ensures empty { Matches (Char 109 ∷ Star ∷ Char 121 ∷ []) (codes "my") }
     ensures other { ¬ (Matches (Char 109 ∷ Star ∷ Char 121 ∷ []) (codes "m")) }

@@ -106,7 +106,8 @@ fn after_pieces<'a>(text: &'a str, pieces: &[String]) -> Option<&'a str>
     ensures text { IfSome result (λ rest. IsUtf8 rest.now) }
     ensures rest { MatchOption result
         ((last : List ℕ) → ¬ (Matches (Star ∷ starred (texts_of pieces.now) last) (chars text.now)))
-        (λ rest. (last : List ℕ) → (Matches (Star ∷ starred (texts_of pieces.now) last) (chars text.now))
+        (λ rest. (last : List ℕ)
+        → (Matches (Star ∷ starred (texts_of pieces.now) last) (chars text.now))
         ↔ (Matches (Star ∷ literal last) (chars rest.now))) }
 {
     let mut rest = text;

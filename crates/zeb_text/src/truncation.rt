@@ -91,7 +91,8 @@ fn word_pattern(
     after: bool,
 ) -> Result<Pattern, AllocError>
     ensures { IfOk result
-        (λ pattern. pattern ≡ (star_if before ++ map (symbol_of cut) (chars word.now)) ++ star_if after) }
+        (λ pattern. pattern
+        ≡ (star_if before ++ map (symbol_of cut) (chars word.now)) ++ star_if after) }
 {
     let mut pattern = Pattern::new(alloc);
     if before {

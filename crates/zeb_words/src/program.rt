@@ -13,6 +13,11 @@ use std::alloc::{AllocError, Global};
 /// The version, which the file VERSION of the repository names: tools/quick compares them.
 const VERSION: &str = "0.1.0";
 
+/// What the program does, and what its statuses say.
+const ABOUT: &str =
+    "Indexes MARC 21 records and searches them. Without a word it runs the script on the standard input.
+Its status: 0 answered, 1 refused, 2 not understood, 3 something failed.";
+
 /// The program, with its options and its fifteen commands.
 pub(crate) fn program<'a>(alloc: Global) -> Result<Command<'a>, AllocError>
     ensures { IfOk result (λ command. app_of command ≡ program_app) }
@@ -66,7 +71,7 @@ fn with_options<'a>(alloc: Global) -> Result<Command<'a>, AllocError>
     ensures { IfOk result (λ command. app_of command ≡ top_app) }
 {
     Command::new(alloc, "zebraidx")
-        .about("Indexes MARC 21 records and searches them")
+        .about(ABOUT)
         .version(VERSION)
         .no_binary_name(true)
         .subcommand_required(true)
@@ -210,5 +215,10 @@ fn query<'a>(alloc: Global) -> Arg<'a>
     ensures rule { rule_of result ≡ query_rule }
     ensures local { result.global ≡ false }
 {
-    Arg::new(alloc, "query").value_name("QUERY").required(true)
+    Arg::new(alloc, "query")
+        .value_name("QUERY")
+        .required(true)
+        .help(
+            "In Prefix Query Format, as one word: '@attr 1=4 whale', '@and moby @attr 1=1003 melville'",
+        )
 }

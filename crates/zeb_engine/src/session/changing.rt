@@ -9,13 +9,14 @@ ghost use Rattle.zeb_change.specs.Reading.{HasFailedAt, NamesFailed, NoneFailed,
 ghost use Rattle.zeb_image.specs.Holdings.{Holdings};
 ghost use Rattle.zeb_image.specs.Image.{Keeps};
 ghost use Rattle.zeb_image.specs.NameOf.{name_bytes};
-ghost use Rattle.zeb_engine.specs.AnyTables.{ChangesReady, LeavesWhole, LosesNamed};
+ghost use Rattle.zeb_engine.specs.Changing.{ChangesReady, LeavesWhole, LosesNamed};
 ghost use Rattle.zeb_engine.specs.Costs.{CostsAlone, no_work};
-ghost use Rattle.zeb_engine.specs.Crashes.{CommitsBy, Endures};
+ghost use Rattle.zeb_engine.specs.Crashes.{CommitsBy};
+ghost use Rattle.zeb_engine.specs.FromReaders.{Give, NamesFaults, ReadersChange, ReadersCount, ReadersLast};
 ghost use Rattle.zeb_engine.specs.Steps.{TakesFiles};
-ghost use Rattle.zeb_engine.specs.Transactions.{Commanded, IsDurable};
+ghost use Rattle.zeb_engine.specs.Transactions.{CallHolds, Commanded};
 ghost use Rattle.zeb_engine.specs.Works.{ServesBy};
-ghost use Rattle.zeb_engine.specs.Readiness.{TellsReady};
+ghost use Rattle.zeb_engine.specs.PrivateConnections.{TellsReady};
 
 use crate::changes::change_database;
 use crate::readiness::check_ready;
@@ -74,55 +75,28 @@ impl<S: Alter, L: Layout> Session<S, L> {
         kind: Kind,
         readers: &mut [R],
     ) -> Result<Reply, Refusal>
-        ensures durable { HasCleanDisk (state S.Store self.new.connection) → IsDurable (state S.Store self.new.connection) }
-        ensures call { Commanded (state S.Store self.old.connection) (state S.Store self.new.connection) result }
-        ensures survives { Survives (state S.Store self.old.connection) (state S.Store self.new.connection) (λ db. (texts : List (List ℕ))
-            → map R.remaining readers.old ≡ map Some texts → NoneFailed R.has_failed readers.new
-            → CommitsBy (TakesFiles (conditions (version_of L.format) self.old.profile self.old.limits) kind
-            (name_bytes database.now) texts) (state S.Store self.old.connection) db) }
-        // A crash then leaves what the change left, or what was there before it.
-        ensures crash { HasCleanDisk (state S.Store self.new.connection) → (texts : List (List ℕ))
-            → map R.remaining readers.old ≡ map Some texts → NoneFailed R.has_failed readers.new
-            → Endures (TakesFiles (conditions (version_of L.format) self.old.profile self.old.limits) kind
-            (name_bytes database.now) texts) (state S.Store self.old.connection) (state S.Store self.new.connection) result }
-        ensures under { (self.new.profile ≡ self.old.profile) × (self.new.limits ≡ self.old.limits) }
-        ensures serves { HasCleanDisk (state S.Store self.new.connection) → (texts : List (List ℕ))
-            → map R.remaining readers.old ≡ map Some texts → NoneFailed R.has_failed readers.new
-            → ServesBy (TakesFiles (conditions (version_of L.format) self.old.profile self.old.limits) kind
-            (name_bytes database.now) texts) (state S.Store self.old.connection) (state S.Store self.new.connection) result }
-        // The texts of the store tell whether its register was ready, on any tables.
-        ensures ready { TellsReady S.Store (version_of L.format) self.old.profile self.old.connection self.new.connection result }
-        // A reader that has failed, also before the call, is named, whatever else would be refused.
-        ensures sound { NoneFailed R.has_failed readers.new ⊎ IsErrAnd result (NamesFailed R.has_failed readers.new) }
-        ensures fault { (file : ℕ) → result ≡ Err (Refusal.ReadFault file) → HasFailedAt R.has_failed readers.new file }
-        // Damage is answered only where the tables are the image of nothing that can be held, whatever the readers tell.
-        ensures honest { HasCleanDisk (state S.Store self.new.connection) → result ≡ Err Refusal.Damaged
-            → (before : Holdings) → ¬ Keeps (state S.Store self.old.connection) before }
-        // An accepted change has counted the work for the keys that its records change, and no other.
-        ensures work { HasCleanDisk (state S.Store self.new.connection) → (texts : List (List ℕ))
-            → map R.remaining readers.old ≡ map Some texts
-            → CostsAlone L.row_work (conditions (version_of L.format) self.old.profile self.old.limits) kind
-            (name_bytes database.now) texts (state S.Store self.old.connection) result self.new.work }
-        // Over a layout whose rows count nothing no work is counted, whatever is answered, and whatever the tables and the readers are.
-        ensures no_work { L.row_work ≡ 0 → self.new.work ≡ no_work }
-        // Whatever rows the tables of a ready register have: what is kept under the first record's identifier is whole, or the change is
-        // refused as damage or by a failure; and where the change is accepted, so is what is kept under each record's identifier, and the
-        // files have no more records than a command may have. Any other refusal has a reason that the files and the limits give.
-        ensures elder { HasCleanDisk (state S.Store self.new.connection) → (texts : List (List ℕ))
-            → map R.remaining readers.old ≡ map Some texts → NoneFailed R.has_failed readers.new
-            → ChangesReady (version_of L.format) self.old.profile kind self.old.limits (name_bytes database.now) texts
-            (state S.Store self.old.connection) result }
-        // Of any store and whatever the readers tell, too: where the change is accepted, the database is there, with a last number that
-        // hasn't fallen; each record that it kept had a number that it can have given, and was whole or is kept after just as it was;
-        // and nothing else is changed, of other databases or under other ids.
-        ensures loses { HasCleanDisk (state S.Store self.new.connection)
-            → LeavesWhole self.old.profile kind (name_bytes database.now) (state S.Store self.old.connection)
-            (state S.Store self.new.connection) result }
-        // Where the readers tell their bytes, it has lost no record but under identifiers that records of the files have.
-        ensures named { HasCleanDisk (state S.Store self.new.connection) → (texts : List (List ℕ))
-            → map R.remaining readers.old ≡ map Some texts
-            → LosesNamed self.old.profile (name_bytes database.now) texts (state S.Store self.old.connection)
-            (state S.Store self.new.connection) result }
+        // From tables that keep what a register holds it is answered as a step of a run, and they keep what is held then.
+        ensures step { HasCleanDisk (state S.Store self.new.connection)
+            → Give R.remaining R.has_failed readers.old readers.new (λ texts. ServesBy
+            (TakesFiles (conditions (version_of L.format) self.old.profile self.old.limits) kind (name_bytes database.now) texts)
+            (state S.Store self.old.connection) (state S.Store self.new.connection) result) }
+        // What it does on any tables, and whatever the readers tell.
+        ensures tables { HasCleanDisk (state S.Store self.new.connection)
+            → ReadersChange R.remaining R.has_failed readers.old readers.new
+            (conditions (version_of L.format) self.old.profile self.old.limits) kind (name_bytes database.now)
+            (state S.Store self.old.connection) (state S.Store self.new.connection) result }
+        // A reader that fails is named.
+        ensures faults { NamesFaults R.has_failed readers.new result }
+        // What it has done to the connection; the session's profile and limits stay.
+        ensures holds { CallHolds (state S.Store self.old.connection) (state S.Store self.new.connection) result
+            × ((self.new.profile ≡ self.old.profile) × (self.new.limits ≡ self.old.limits)) }
+        // What a crash leaves.
+        ensures lasts { ReadersLast R.remaining R.has_failed readers.old readers.new
+            (conditions (version_of L.format) self.old.profile self.old.limits) kind (name_bytes database.now)
+            (state S.Store self.old.connection) (state S.Store self.new.connection) result }
+        ensures counts { ReadersCount R.remaining R.has_failed readers.old readers.new
+            (conditions (version_of L.format) self.old.profile self.old.limits) kind (name_bytes database.now)
+            (state S.Store self.old.connection) (state S.Store self.new.connection) result L.row_work self.new.work }
     {
         let answer = self.change_from(database, kind, readers);
         // What is shown is what was committed.

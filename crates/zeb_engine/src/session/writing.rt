@@ -7,13 +7,13 @@ ghost use Rattle.zeb_register.specs.Formats.{version_of};
 ghost use Rattle.zeb_change.specs.Conditions.{conditions};
 ghost use Rattle.zeb_change.specs.Reading.{NoReadFault};
 ghost use Rattle.zeb_image.specs.NameOf.{name_bytes};
-ghost use Rattle.zeb_engine.specs.AnyMade.{DropsDatabase, OnAccepted, MakesDatabase};
-ghost use Rattle.zeb_engine.specs.AnyRefusals.{CreateOver, DropOver, HidesDatabase, UnlessHidden};
+ghost use Rattle.zeb_engine.specs.Making.{DropsDatabase, OnAccepted, MakesDatabase, CreateOver, DropOver};
+ghost use Rattle.zeb_engine.specs.Hidden.{HidesDatabase, UnlessHidden};
 ghost use Rattle.zeb_engine.specs.PrivateCrashes.{Commits};
 ghost use Rattle.zeb_engine.specs.Steps.{created, dropped, turned};
 ghost use Rattle.zeb_engine.specs.Transactions.{Commanded};
 ghost use Rattle.zeb_engine.specs.PrivateWorks.{Always, Serves};
-ghost use Rattle.zeb_engine.specs.Readiness.{TellsReady};
+ghost use Rattle.zeb_engine.specs.PrivateConnections.{TellsReady};
 
 use crate::readiness::check_ready;
 use crate::replies::Reply;

@@ -4,7 +4,7 @@ ghost use Rattle.std.specs.Prelude.{IsUtf8, ◌≡◌, ◌++◌, [], ◌∷◌, 
 ghost use Rattle.sqlite.specs.declared.types.Value.TheVariants.{Blob, Int};
 ghost use Rattle.sqlite.specs.Held.{state};
 ghost use Rattle.zeb_register.specs.Calls.{Inside};
-ghost use Rattle.zeb_packed.specs.UnitChanges.{IsTold};
+ghost use Rattle.zeb_register.specs.UnitChanges.{IsTold};
 ghost use Rattle.zeb_register.specs.Clauses.{InStore, Writes};
 ghost use Rattle.zeb_register.specs.PrivateKeyColumns.{IsOfKey, IsOfNumbered, key_columns, numbered_columns};
 ghost use Rattle.zeb_register.specs.PrivateRowStatements.{Gains, IsUnchangedByViolation, ListsInside, Renews};

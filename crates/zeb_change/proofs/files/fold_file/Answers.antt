@@ -1,6 +1,8 @@
-use Rattle.zeb_change.proofs.Cited.{rules, arith, ◌≡◌, ◌∙◌, Bool, true, false, Option, List, Result, Ok, Err, refl, sym, ap, subst, subst₂, state, HasCleanDisk, Refusal, ReadsRecord, TakesReader, TakesRecord, at}
+use Rattle.zeb_change.proofs.Cited.{rules, arith, ◌≡◌, true, false, Ok, Err, refl, sym, ap, subst, subst₂, state, HasCleanDisk, Refusal, as_refusal, fold_refusal, take_refusal, ReadsRecord, TakesReader, TakesRecord, at}
 use Rattle.zeb_change.proofs.FoldParts.{advances_then, rest_ends, rest_fault, rest_further, rest_refused, store_of}
+use Rattle.zeb_change.proofs.ReadFaults.{never_reads}
 use Rattle.zeb_change.proofs.TransactionLemmas.{continues_then}
+use Rattle.zeb_change.specs.declared.part_faults.FoldFault.TheVariants.{Take}
 use Rattle.zeb_change.proofs.files.fold_file.Given as given
 use Rattle.zeb_change.proofs.files.fold_file.Goals.{After-take_record}
 use Rattle.zeb_change.proofs.files.fold_file.Goals as goal
@@ -18,11 +20,11 @@ loop-nth-init g c = record {
 
 -- a record is read
 record_read : (g : given.Over) (c : After-take_record g)
-    → ReadsRecord c.args.file c.loop-nth.nth (g.R.Source.has_failed c.read_record.new.reader) (g.R.Source.remaining c.loop-nth.reader) (Ok true) c.read_record.new.buffer (g.R.Source.remaining c.read_record.new.reader)
+    → ReadsRecord (g.R.Source.has_failed c.read_record.new.reader) (g.R.Source.remaining c.loop-nth.reader) (Ok true) c.read_record.new.buffer (g.R.Source.remaining c.read_record.new.reader)
 record_read g c =
-    let found : c.in_ok-read_record.field-0 ≡ true = search rules in
-    subst (λ b. ReadsRecord c.args.file c.loop-nth.nth (g.R.Source.has_failed c.read_record.new.reader) (g.R.Source.remaining c.loop-nth.reader) (Ok b) c.read_record.new.buffer (g.R.Source.remaining c.read_record.new.reader)) found
-    c.in_ok-read_record.ensures.reads
+    let found : c.in-Ok.found ≡ true = search rules in
+    subst (λ b. ReadsRecord (g.R.Source.has_failed c.read_record.new.reader) (g.R.Source.remaining c.loop-nth.reader) (Ok b) c.read_record.new.buffer (g.R.Source.remaining c.read_record.new.reader)) found
+    c.in-Ok.ensures.reads
 
 pub loop-nth-preserved : goal.loop-nth-preserved
 loop-nth-preserved g c =
@@ -52,32 +54,32 @@ loop-nth-preserved g c =
           c.read_record.new.buffer (g.R.Source.remaining c.read_record.new.reader) read.1 next took end result goes);
     }
 
-pub returns-in_err-read_record-clause-takes : goal.returns-in_err-read_record-clause-takes
-returns-in_err-read_record-clause-takes g c clean mode store =
-    let refusal = c.in_err-read_record.field-0.0 in
-    let result : c.from_residual.result ≡ Err refusal = search rules in
+pub returns-in-Err-clause-takes : goal.returns-in-Err-clause-takes
+returns-in-Err-clause-takes g c clean mode store =
     let failed = g.R.Source.has_failed c.read_record.new.reader in
     let first = at (state g.S.Store c.args.tx.now.conn.now) c.args.pending.now c.args.fold.now in
     let now = at (state g.S.Store c.loop-nth.tx.conn.now) c.loop-nth.pending c.loop-nth.fold in
-    let read = c.in_err-read_record.ensures.reads in
-    subst (TakesReader c.args.setting.now g.L.Layout.format g.L.Layout.row_work c.args.fold.now.progress.database.0 failed (g.R.Source.remaining c.args.reader.now) c.args.file 1 first now) (sym (result ∙ ap Err read.1))
+    subst (λ (r : Refusal). TakesReader c.args.setting.now g.L.Layout.format g.L.Layout.row_work c.args.fold.now.progress.database.0 failed (g.R.Source.remaining c.args.reader.now) c.args.file 1 first now (Err r)) (sym c.of_marc.ensures)
     (c.loop-nth.invariant.takes clean mode store failed now _
-    (rest_fault failed c.args.setting.now g.L.Layout.format g.L.Layout.row_work c.args.fold.now.progress.database.0 c.args.file c.loop-nth.nth (g.R.Source.remaining c.loop-nth.reader) now read.0 read.2))
+    (rest_fault failed c.args.setting.now g.L.Layout.format g.L.Layout.row_work c.args.fold.now.progress.database.0 c.args.file c.loop-nth.nth (g.R.Source.remaining c.loop-nth.reader) now c.in-Err.fault c.in-Err.ensures.reads))
 
-pub returns-then-not-branch-clause-takes : goal.returns-then-not-branch-clause-takes
-returns-then-not-branch-clause-takes g c clean mode store =
+pub returns-in_err-take_record-clause-fault : goal.returns-in_err-take_record-clause-fault
+returns-in_err-take_record-clause-fault g c other told = absurd (never_reads c.in_err-take_record.field-0.0 c.from_residual.result (search rules) other told)
+
+pub returns-then-not-found-clause-takes : goal.returns-then-not-found-clause-takes
+returns-then-not-found-clause-takes g c clean mode store =
     let failed = g.R.Source.has_failed c.read_record.new.reader in
     let now = at (state g.S.Store c.loop-nth.tx.conn.now) c.loop-nth.pending c.loop-nth.fold in
-    let none : c.in_ok-read_record.field-0 ≡ false = search rules in
-    let read = subst (λ b. ReadsRecord c.args.file c.loop-nth.nth failed (g.R.Source.remaining c.loop-nth.reader) (Ok b) c.read_record.new.buffer (g.R.Source.remaining c.read_record.new.reader)) none
-    c.in_ok-read_record.ensures.reads in
+    let none : c.in-Ok.found ≡ false = search rules in
+    let read = subst (λ b. ReadsRecord failed (g.R.Source.remaining c.loop-nth.reader) (Ok b) c.read_record.new.buffer (g.R.Source.remaining c.read_record.new.reader)) none
+    c.in-Ok.ensures.reads in
     c.loop-nth.invariant.takes clean mode store failed now (Ok tt)
     (rest_ends failed c.args.setting.now g.L.Layout.format g.L.Layout.row_work c.args.fold.now.progress.database.0 c.args.file c.loop-nth.nth (g.R.Source.remaining c.loop-nth.reader) now read.1)
 
 pub returns-in_err-take_record-clause-takes : goal.returns-in_err-take_record-clause-takes
 returns-in_err-take_record-clause-takes g c clean mode store =
-    let refusal = c.in_err-take_record.field-0.0 in
-    let result : c.from_residual-in_err-take_record.result ≡ Err refusal = search rules in
+    let refusal = take_refusal c.in_err-take_record.field-0.0 in
+    let result : c.from_residual.result ≡ Err (Take c.in_err-take_record.field-0.0) = search rules in
     let failed = g.R.Source.has_failed c.read_record.new.reader in
     let first = at (state g.S.Store c.args.tx.now.conn.now) c.args.pending.now c.args.fold.now in
     let now = at (state g.S.Store c.loop-nth.tx.conn.now) c.loop-nth.pending c.loop-nth.fold in
@@ -86,7 +88,7 @@ returns-in_err-take_record-clause-takes g c clean mode store =
     let read = record_read g (goal.at.returns-in_err-take_record-clause-takes g c).After-take_record in
     let took = subst₂ (λ i bytes. TakesRecord c.args.setting.now g.L.Layout.format g.L.Layout.row_work i c.args.file c.loop-nth.nth bytes now next (Err refusal)) (ap (λ d. d.0) c.loop-nth.invariant.steps.database) c.bytes.ensures
     (c.in_err-take_record.ensures.takes clean (c.loop-nth.invariant.stays was mode).mode (c.loop-nth.invariant.store was mode store)) in
-    subst (TakesReader c.args.setting.now g.L.Layout.format g.L.Layout.row_work c.args.fold.now.progress.database.0 failed (g.R.Source.remaining c.args.reader.now) c.args.file 1 first next) (sym result)
+    subst (TakesReader c.args.setting.now g.L.Layout.format g.L.Layout.row_work c.args.fold.now.progress.database.0 failed (g.R.Source.remaining c.args.reader.now) c.args.file 1 first next) (sym (ap (as_refusal fold_refusal) result))
     (c.loop-nth.invariant.takes was mode store failed next (Err refusal)
     (rest_refused failed c.args.setting.now g.L.Layout.format g.L.Layout.row_work c.args.fold.now.progress.database.0 c.args.file c.loop-nth.nth (g.R.Source.remaining c.loop-nth.reader) now
     c.read_record.new.buffer (g.R.Source.remaining c.read_record.new.reader) read.1 next refusal took))

@@ -1,4 +1,4 @@
-use Rattle.zeb_change.proofs.Cited.{rules, arith, ◌≡◌, ◌≢◌, ◌⊎◌, ◌∙◌, ◌∷◌, ◌+◌, ◌≤◌, ◌<◌, Bool, true, false, List, Option, drop, length, map, get_or, get_or-set_other, get_or-set_same, slice_set, length-set, suc, Result, Ok, Err, inl, inr, refl, sym, ap, subst, subst₂, state, HasCleanDisk, HasFailedAt, NoneFailed, Refusal, ReadFault, AreReadAs, IsReadAs, OfReaders, TakesFiles, TakesReader, TakesReaders, TakesRest, at}
+use Rattle.zeb_change.proofs.Cited.{rules, arith, ◌≡◌, ◌≢◌, ◌∙◌, ◌∷◌, ◌+◌, ◌≤◌, ◌<◌, ℕ, false, drop, length, map, get_or, get_or-set_other, get_or-set_same, slice_set, length-set, Ok, Err, refl, sym, ap, subst, subst₂, state, HasCleanDisk, HasFailedAt, NoneFailed, ReadFault, as_refusal, fold_refusal, OfReaders, TakesFiles, TakesReader, TakesReaders, at}
 use Rattle.zeb_change.proofs.FoldAll.{drop_all, failed_here, failed_now, fine_at, fine_more, none_at}
 use Rattle.zeb_change.proofs.FoldParts.{advances_then, files_end, files_further, files_refused, next_remains, of_refused, rest_stores, sound, store_of, stores}
 use Rattle.zeb_change.proofs.TransactionLemmas.{continues_then}
@@ -75,8 +75,8 @@ returns-clause-takes g c clean mode store =
 
 pub returns-in_err-fold_file-clause-takes : goal.returns-in_err-fold_file-clause-takes
 returns-in_err-fold_file-clause-takes g c clean mode store =
-    let refusal = c.in_err-fold_file.field-0.0 in
-    let result : c.from_residual.result ≡ Err refusal = search rules in
+    let refusal = fold_refusal c.in_err-fold_file.field-0.0 in
+    let result : c.from_residual.result ≡ Err c.in_err-fold_file.field-0.0 = search rules in
     let index = c.loop-index.index in
     let readers = c.loop-index.readers in
     let db = c.args.fold.now.progress.database.0 in
@@ -96,7 +96,7 @@ returns-in_err-fold_file-clause-takes g c clean mode store =
     (files_refused failed setting g.L.Layout.format g.L.Layout.row_work db (index + 1) (g.R.Source.remaining (get_or readers index c.index-readers-index.result))
     (map g.R.Source.remaining (drop (index + 1) c.args.readers.now)) now next refusal took)) in
     subst (OfReaders (NoneFailed g.R.Source.has_failed (slice_set readers index c.fold_file.new.reader)) (map g.R.Source.remaining c.args.readers.now)
-    (λ splits. TakesFiles setting g.L.Layout.format g.L.Layout.row_work db 1 splits first next)) (sym result)
+    (λ splits. TakesFiles setting g.L.Layout.format g.L.Layout.row_work db 1 splits first next)) (sym (ap (as_refusal fold_refusal) result))
     (of_refused failed (NoneFailed g.R.Source.has_failed (slice_set readers index c.fold_file.new.reader)) (map g.R.Source.remaining c.args.readers.now)
     (λ splits. TakesFiles setting g.L.Layout.format g.L.Layout.row_work db 1 splits first next) refusal
     (λ fine. ap g.R.Source.has_failed (sym set) ∙ fine_at g.R.Source.has_failed (slice_set readers index c.fold_file.new.reader) index c.fold_file.new.reader fine within) all)
@@ -115,15 +115,13 @@ returns-in_err-fold_file-clause-failed g c none file at =
     let index = c.loop-index.index in
     let within : index < length c.loop-index.readers = omega (arith, c.loop-index-test.true, c.loop-index.auto.readers) in
     let here = failed_here g.R.Source.has_failed c.loop-index.readers index c.loop-index.invariant.fine c.fold_file.new.reader within c.args.readers.now c.loop-index.auto.readers none c.loop-index.invariant.unread file at in
-    let told = c.in_err-fold_file.ensures.failed here.1 in
-    let numbered = here.0 in
-    search rules
+    let result : c.from_residual.result ≡ Err c.in_err-fold_file.field-0.0 = search rules in
+    ap (as_refusal fold_refusal) result ∙ c.in_err-fold_file.ensures.failed here.1 ∙ ap (λ (f : ℕ). Err (ReadFault f)) (sym here.0)
 
 pub returns-in_err-fold_file-clause-fault : goal.returns-in_err-fold_file-clause-fault
 returns-in_err-fold_file-clause-fault g c file told =
     let index = c.loop-index.index in
     let within : index < length c.loop-index.readers = omega (arith, c.loop-index-test.true, c.loop-index.auto.readers) in
     let given : c.from_residual.result ≡ Err c.in_err-fold_file.field-0.0 = search rules in
-    let said : c.fold_file.result ≡ Err (ReadFault file) = cc in
-    let fault = c.fold_file.ensures.fault file said in
+    let fault = c.in_err-fold_file.ensures.fault file (sym (ap (as_refusal fold_refusal) given) ∙ told) in
     subst (HasFailedAt g.R.Source.has_failed (slice_set c.loop-index.readers index c.fold_file.new.reader)) (sym fault.0) (failed_now g.R.Source.has_failed c.loop-index.readers index c.loop-index.invariant.fine c.fold_file.new.reader within fault.1)

@@ -1,6 +1,7 @@
-use Rattle.zeb_change.proofs.Cited.{rules, arith, ◌≡◌, ◌⊎◌, ◌∙◌, IsTrue, List, Option, map, Result, Ok, Err, inl, inr, refl, sym, ap, subst, state, HasCleanDisk, IsStore, Refusal, register_refusal, NoneFailed, ChangesFiles, OfReaders, TakesFiles, at}
+use Rattle.zeb_change.proofs.Cited.{rules, arith, ◌≡◌, ◌∙◌, IsTrue, map, Ok, Err, inl, inr, refl, sym, ap, subst, state, HasCleanDisk, IsStore, fold_refusal, register_refusal, NoneFailed, ChangesFiles, OfReaders, TakesFiles, at}
 use Rattle.zeb_change.proofs.FoldParts.{advances_worked, files_stores, of_more, settled_at, store_of, stores, write_failed}
 use Rattle.zeb_change.proofs.KeptStill.{beside_id}
+use Rattle.zeb_change.proofs.ReadFaults.{fold_ready}
 use Rattle.zeb_change.proofs.SettledChanges.{at_id, worked}
 use Rattle.zeb_change.proofs.TransactionLemmas.{continues_then}
 use Rattle.zeb_change.proofs.files.take_files.Given as given
@@ -26,8 +27,16 @@ returns-clause-steps g c = advances_worked _ _ _ _ _ c.fold_readers.ensures.step
 
 pub returns-in_err-fold_readers-clause-failed : goal.returns-in_err-fold_readers-clause-failed
 returns-in_err-fold_readers-clause-failed g c none file at =
-    let result : c.from_residual.result ≡ Err c.in_err-fold_readers.field-0.0 = search rules in
+    let result : c.from_residual.result ≡ Err (fold_refusal c.in_err-fold_readers.field-0.0) = search rules in
     result ∙ c.in_err-fold_readers.ensures.failed none file at
+
+pub returns-in_err-fold_readers-clause-fault : goal.returns-in_err-fold_readers-clause-fault
+returns-in_err-fold_readers-clause-fault g c file told =
+    let result : c.from_residual.result ≡ Err (fold_refusal c.in_err-fold_readers.field-0.0) = search rules in
+    c.in_err-fold_readers.ensures.fault file (sym result ∙ told)
+
+pub returns-in_err-fold_readers-clause-ready : goal.returns-in_err-fold_readers-clause-ready
+returns-in_err-fold_readers-clause-ready g c = fold_ready c.in_err-fold_readers.field-0.0 c.from_residual.result (search rules)
 
 pub returns-in_err-write_pending-clause-failed : goal.returns-in_err-write_pending-clause-failed
 returns-in_err-write_pending-clause-failed g c none file at = let no = c.in_ok-fold_readers.ensures.failed none file at in absurd (cc)
@@ -36,7 +45,7 @@ returns-in_err-write_pending-clause-failed g c none file at = let no = c.in_ok-f
 
 pub returns-in_err-fold_readers-clause-changes : goal.returns-in_err-fold_readers-clause-changes
 returns-in_err-fold_readers-clause-changes g c clean mode store =
-    let refusal = c.in_err-fold_readers.field-0.0 in
+    let refusal = fold_refusal c.in_err-fold_readers.field-0.0 in
     let told : c.from_residual.result ≡ Err refusal = search rules in
     let first = at (state g.S.Store c.args.tx.now.conn.now) c.args.pending.now c.args.fold.now in
     let new = at (state g.S.Store c.fold_readers.new.tx.conn.now) c.fold_readers.new.pending c.fold_readers.new.fold in

@@ -1,4 +1,7 @@
-use Rattle.zeb_change.proofs.Cited.{rules, arith, ◌≡◌, IsTrue, Ok, Err, inl, inr, refl, sym, ap, subst, state, HasCleanDisk, IsStore, register_refusal, FoldsRecord, TakesRecord, at}
+use Rattle.zeb_change.proofs.Cited.{rules, arith, ◌≡◌, IsTrue, Ok, Err, inl, inr, sym, ap, subst, state, HasCleanDisk, IsStore, as_refusal, take_refusal, FoldsRecord, TakesRecord, at}
+use Rattle.zeb_change.specs.declared.part_faults.ChangeFault.TheVariants.{Turn}
+use Rattle.zeb_change.specs.declared.part_faults.TakeFault.TheVariants.{Change}
+use Rattle.zeb_change.specs.declared.part_faults.TurnFault.TheVariants.{Register}
 use Rattle.zeb_change.proofs.FoldParts.{advanced, advances_worked, folded_stores, settled_at, store_of, stores, write_failed}
 use Rattle.zeb_change.proofs.KeptStill.{beside_id}
 use Rattle.zeb_change.proofs.SettledChanges.{at_id, worked}
@@ -33,7 +36,7 @@ pub returns-in_err-note_record-clause-takes : goal.returns-in_err-note_record-cl
 returns-in_err-note_record-clause-takes g c clean mode store =
     let told : c.from_residual.result ≡ Err c.in_err-note_record.field-0.0 = search rules in
     subst (TakesRecord c.args.setting.now g.L.Layout.format g.L.Layout.row_work c.args.fold.now.progress.database.0 c.args.incoming.file c.args.incoming.nth c.args.incoming.bytes.now
-    (at (state g.S.Store c.args.tx.now.conn.now) c.args.pending.now c.args.fold.now) (at (state g.S.Store c.note_record.new.tx.conn.now) c.note_record.new.pending c.note_record.new.fold)) (sym told)
+    (at (state g.S.Store c.args.tx.now.conn.now) c.args.pending.now c.args.fold.now) (at (state g.S.Store c.note_record.new.tx.conn.now) c.note_record.new.pending c.note_record.new.fold)) (sym (ap (as_refusal take_refusal) told))
     (inr (inl (c.in_err-note_record.ensures.folds clean mode store)))
 
 -- what is noted, where its record was taken in
@@ -55,7 +58,7 @@ noted g c clean mode store =
 pub returns-in_err-write_where_full-clause-takes : goal.returns-in_err-write_where_full-clause-takes
 returns-in_err-write_where_full-clause-takes g c clean mode store =
     let f = c.in_err-write_where_full.field-0.0 in
-    let told : c.from_residual-in_err-write_where_full.result ≡ Err (register_refusal f) = search rules in
+    let told : c.from_residual-in_err-write_where_full.result ≡ Err (Change (Turn (Register f))) = search rules in
     let db = c.args.fold.now.progress.database.0 in
     let first = at (state g.S.Store c.args.tx.now.conn.now) c.args.pending.now c.args.fold.now in
     let mid = at (state g.S.Store c.note_record.new.tx.conn.now) c.note_record.new.pending c.note_record.new.fold in
@@ -63,7 +66,7 @@ returns-in_err-write_where_full-clause-takes g c clean mode store =
     let folds = noted g (goal.at.returns-in_err-write_where_full-clause-takes g c).After-write_where_full clean mode store in
     let does = at_id (ap (λ d. d.0) c.note_record.ensures.steps.database) c.in_err-write_where_full.ensures.call in
     write_failed g.L.Layout.format g.L.Layout.row_work db (FoldsRecord c.args.setting.now db c.args.incoming.file c.args.incoming.nth c.args.incoming.bytes.now) first mid new folds.0
-    f (λ is. does.honest clean folds.1 folds.2 (ap Err is)) c.from_residual-in_err-write_where_full.result told
+    f (λ is. does.honest clean folds.1 folds.2 (ap Err is)) (as_refusal take_refusal c.from_residual-in_err-write_where_full.result) (ap (as_refusal take_refusal) told)
 
 pub returns-clause-takes : goal.returns-clause-takes
 returns-clause-takes g c clean mode store =

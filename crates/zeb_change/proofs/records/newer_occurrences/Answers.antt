@@ -2,11 +2,11 @@ use Rattle.zeb_change.proofs.Cited.{◌↔◌, List, subst, Contains, FieldText,
 use Rattle.zeb_marc.specs.Contents.{units_of}
 use Rattle.zeb_change.proofs.records.newer_occurrences.Goals as goal
 
-pub returns-clause-found : goal.returns-clause-found
-returns-clause-found c =
-    let found = c.in_ok-occurrences.ensures in
+pub returns : goal.returns
+returns c =
+    let found = c.in_ok-found.ensures in
     record {
       rising = found.rising;
-      each = subst (λ (fields : List FieldText). (o : Occurrence) → Contains c.in_ok-occurrences.field-0.items o ↔ IsOccurrence (unit_targets c.args.setting.now.profile.now) (units_of fields) o)
+      each = subst (λ (fields : List FieldText). (o : Occurrence) → Contains c.in_ok-found.found.items o ↔ IsOccurrence (unit_targets c.args.setting.now.profile.now) (units_of fields) o)
           c.requires.whole.fields_are found.members;
     }

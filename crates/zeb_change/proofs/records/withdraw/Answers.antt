@@ -1,7 +1,13 @@
-use Rattle.zeb_change.proofs.Cited.{refl, sym, subst, [], AreOccurrencesOf}
-use Rattle.zeb_change.proofs.RecordParts.{wrote}
+use Rattle.zeb_change.proofs.Cited.{rules, Err, refl, sym, ap, subst, [], register_refusal, kept_fault, AreOccurrencesOf}
+use Rattle.zeb_change.proofs.RecordParts.{refused_as, unread, wrote}
 use Rattle.zeb_change.proofs.TurnLemmas.{none_rise}
 use Rattle.zeb_change.proofs.records.withdraw.Goals as goal
+
+pub returns-in_err-old-clause-withdraws : goal.returns-in_err-old-clause-withdraws
+returns-in_err-old-clause-withdraws g c clean mode store =
+    let fault = c.in_err-old.field-0.0 in
+    refused_as register_refusal _ _ _ (kept_fault fault) c.from_residual.result (search rules)
+    (unread c.args.setting.now.profile.now c.args.ident.now c.args.elder.now fault (λ damaged. c.in_err-old.ensures.damaged (ap Err damaged)) (λ memory. c.in_err-old.ensures.unread (ap Err memory)))
 
 pub returns-clause-withdraws : goal.returns-clause-withdraws
 returns-clause-withdraws g c clean mode store =

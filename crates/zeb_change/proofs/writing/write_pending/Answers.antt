@@ -44,7 +44,7 @@ loop-key-preserved g c =
             keeps_then old.now.trees now.now.trees next.now.trees so_far.1 write.1,
             λ ahead storable holds.
                 let held = so_far.2 ahead storable holds in
-                let worked = c.in_ok-write_key.ensures.work clean stays.mode so_far.0 held.0.behind held.0.held in (
+                let worked = c.in_ok-write_key.ensures.work in (
                   held_then g.L.Layout.format now.now.trees next.now.trees db key notes c.loop-key.pending c.take_first.new.self ahead storable out write.2 held.0,
                   due_written g.L.Layout.row_work notes.count c.args.work.now c.loop-key.work c.write_key.new.work
                       c.args.pending.now c.loop-key.pending c.take_first.new.self c.counts_are_numbers.ensures held.1 worked out.count,

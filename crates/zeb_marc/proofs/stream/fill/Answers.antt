@@ -16,7 +16,6 @@ loop-filled-preserved g c =
     record {
       fails = c.in-Ok.ensures.failed ∙ c.loop-filled.invariant.fails;
       within = omega (arith, length-put_mid part bytes a k (omega (arith, parts)) len);
-      few = omega (arith, c.loop-filled.invariant.few, c.in-Ok.ensures.counted);
       told = λ text told.
           let inv = c.loop-filled.invariant.told text told in
           let took = consumed (g.R.Source.remaining c.loop-filled.source) (g.R.Source.remaining c.read.new.self) (take n bytes) (drop a text) inv.2 c.in-Ok.ensures.bytes.0 in

@@ -1,5 +1,5 @@
-use Rattle.zeb_packed.proofs.Cited.{◌∙◌, arith, inl, rules, subst, state, Has, AreSpelled, Rises, key_listed}
-use Rattle.zeb_packed.proofs.UnitLists.{refused_so, units_listed}
+use Rattle.zeb_packed.proofs.Cited.{◌∙◌, arith, inl, rules, subst, state, Has, AreSpelled, Rises, key_listed, refused_so}
+use Rattle.zeb_packed.proofs.UnitLists.{blocks_counted, units_listed}
 use Rattle.zeb_packed.proofs.packed.key_postings.Goals as goal
 
 pub returns-clause-lists : goal.returns-clause-lists
@@ -9,7 +9,16 @@ returns-clause-lists g c clean store =
     let list = c.in_ok-list.list.items in
     let spelled : AreSpelled items list = subst (λ rows. AreSpelled rows list) c.deref.ensures.value c.in_ok-list.ensures in
     let are = key_listed old.now.trees c.args.db.0 c.args.key.now c.as_str.result.now c.as_str.ensures items ((c.in_ok-rows.ensures.call.ok clean).1 store) in
-    units_listed old store c.args.db.0 c.args.key.now items list are spelled _ _ (record {
+    units_listed old store c.args.db.0 c.args.key.now items list are spelled
+
+pub returns-clause-work : goal.returns-clause-work
+returns-clause-work g c clean store =
+    let old = state g.S.Store c.args.conn.now in
+    let items = c.in_ok-rows.rows.items in
+    let list = c.in_ok-list.list.items in
+    let spelled : AreSpelled items list = subst (λ rows. AreSpelled rows list) c.deref.ensures.value c.in_ok-list.ensures in
+    let are = key_listed old.now.trees c.args.db.0 c.args.key.now c.as_str.result.now c.as_str.ensures items ((c.in_ok-rows.ensures.call.ok clean).1 store) in
+    blocks_counted old store c.args.db.0 c.args.key.now items list are spelled _ _ (record {
       reads_terms = inl (omega arith);
       writes_terms = inl (omega arith);
       reads_blocks = subst (λ k. Rises k c.args.work.now.block_read c.counted-work.result) (c.len.ensures ∙ c.in_ok-rows.rows.ok.0) c.counted-work.ensures.rises;

@@ -1,5 +1,4 @@
-use Rattle.zeb_packed.proofs.Cited.{Err, ap, rules, has_at, spelled_more}
-use Rattle.zeb_packed.proofs.UnitLists.{refused_so}
+use Rattle.zeb_packed.proofs.Cited.{Err, ap, rules, has_at, spelled_more, refused_so}
 use Rattle.zeb_packed.proofs.packed.postings_in.Goals as goal
 
 pub returns-in_err-add_part : goal.returns-in_err-add_part

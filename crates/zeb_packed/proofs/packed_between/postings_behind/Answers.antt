@@ -1,11 +1,11 @@
-use Rattle.zeb_packed.proofs.Cited.{map, rules, mapped_has, two_behind, spelled_row, has_at, each_spelled}
+use Rattle.zeb_packed.proofs.Cited.{Err, ap, map, rules, mapped_has, two_behind, spelled_row, has_at, refused_so}
 use Rattle.zeb_packed.proofs.packed_between.postings_behind.Goals as goal
 
-pub returns-in_err-add_behind-clause-honest : goal.returns-in_err-add_behind-clause-honest
-returns-in_err-add_behind-clause-honest c is list are =
-    let here = mapped_has two_behind c.args.rows.now c.row-item.result (has_at _ _ _ c.row-item.is c.loop-row-test.true) in
-    let spells = each_spelled (map two_behind c.args.rows.now) list are (two_behind c.row-item.result) here in
-    c.in_err-add_behind.ensures.honest (search rules) spells.0 spells.1
+pub returns-in_err-add_behind : goal.returns-in_err-add_behind
+returns-in_err-add_behind c = refused_so _ _ c.from_residual.result c.in_err-add_behind.field-0.0 (search rules) (
+  λ is. c.in_err-add_behind.ensures.unstored (ap Err is),
+  λ told. (two_behind c.row-item.result, mapped_has two_behind c.args.rows.now c.row-item.result (has_at _ _ _ c.row-item.is c.loop-row-test.true), λ part. c.in_err-add_behind.ensures.honest (ap Err told) part),
+)
 
 pub loop-row-preserved : goal.loop-row-preserved
 loop-row-preserved c =

@@ -1,6 +1,5 @@
-use Rattle.zeb_packed.proofs.Cited.{Err, ap, ◌≤◌, ℕ, ℤ, IsTrue, List, arith, rules, subst, sym, IfOk-weaker, Database, state, HasCleanDisk, State, Key, Known, RecordChange, GoesOn, Changes, IsStore, blocks_tree, changes_after, goes_keeps, goes_then, on_err, on_err_so, reads_goes, store_same, quiet_then, AllowsBlocks, TurnsBlocks}
+use Rattle.zeb_packed.proofs.Cited.{Err, ap, ◌≤◌, ℕ, ℤ, IsTrue, List, arith, rules, subst, sym, IfOk-weaker, Database, state, HasCleanDisk, State, Key, Known, RecordChange, GoesOn, Changes, IsStore, blocks_tree, changes_after, goes_keeps, goes_then, on_err, on_err_so, reads_goes, store_same, quiet_then, AllowsBlocks, TurnsBlocks, refused_so}
 use Rattle.zeb_packed.proofs.KeyPuts.{blocks_allowed, key_answers}
-use Rattle.zeb_packed.proofs.UnitLists.{refused_so}
 use Rattle.zeb_packed.proofs.packed_runs.changes_put.Given as given
 use Rattle.zeb_packed.proofs.packed_runs.changes_put.Goals.{In_ok-after}
 use Rattle.zeb_packed.proofs.packed_runs.changes_put.Goals as goal
@@ -62,11 +61,11 @@ returns-clause-units g c clean inside store =
     let clean2 : HasCleanDisk third = omega (arith, c.dict_write.ensures.call.crash.clean) in
     let blocks = blocks_done g (goal.at.returns-clause-units g c).In_ok-after clean2 inside in
     key_answers c.args.db.0 c.args.key.now c.args.changes.now c.in_ok-known.known c.in_ok-after.after first third (state g.S.Store c.dict_write.new.tx.conn.now) c.dict_write.result
-    (c.in_ok-known.ensures.knows blocks.clean inside store) c.in_ok-known.ensures.clear.1 (blocks.runs store) (c.dict_write.ensures.call.ok clean blocks.goes.mode) c.dict_write.ensures.honest
+    (c.in_ok-known.ensures.knows blocks.clean inside store) c.in_ok-known.ensures.clear.1 c.in_ok-known.ensures.text (blocks.runs store) (c.dict_write.ensures.call.ok clean blocks.goes.mode) c.dict_write.ensures.honest
 
 pub returns-in_err-known-clause-units : goal.returns-in_err-known-clause-units
 returns-in_err-known-clause-units g c clean inside store = refused_so _ _ c.from_residual.result c.in_err-known.field-0.0 (search rules) (λ told.
-    (c.requires.stored, λ were are allows. c.in_err-known.ensures.knows clean inside store told were.records allows.count))
+    (c.requires.stored, λ were are allows. c.in_err-known.ensures.knows clean inside store told were.records allows.count.is))
 
 pub returns-in_err-after-clause-units : goal.returns-in_err-after-clause-units
 returns-in_err-after-clause-units g c clean inside store = refused_so _ _ c.from_residual-in_err-after.result c.in_err-after.field-0.0 (search rules) (λ told.

@@ -1,7 +1,5 @@
-use Rattle.zeb_packed.proofs.Cited.{◌∙◌, [], false, rules, subst, sym, state, LiesIn, Changes, blocks_tree, changes_so, TurnsBlock, units_of, IfTold, PutsBlock, BlockReads, IsBlockIn, LacksBlock, TurnsUnits}
-use Rattle.zeb_packed.proofs.BlockLaws.{lacks_reads}
-use Rattle.zeb_packed.proofs.PackedReads.{empty_lies}
-use Rattle.zeb_packed.proofs.UnitLaws.{one_block_read}
+use Rattle.zeb_packed.proofs.Cited.{packed_blocks, ◌∙◌, [], false, rules, subst, sym, state, LiesIn, Changes, blocks_tree, changes_so, TurnsBlock, units_of, IfTold, PutsBlock, BlockReads, IsBlockIn, LacksBlock, TurnsUnits, one_block_read}
+use Rattle.zeb_packed.proofs.PackedReads.{empty_lies, lacks_reads}
 use Rattle.zeb_packed.proofs.UnitTurns.{turns_few}
 use Rattle.zeb_packed.proofs.packed_runs.row_begin.Goals as goal
 
@@ -14,7 +12,7 @@ returns-in_err-after-clause-damaged g c clean inside store is lacks allows =
     let db = c.args.db.0 in
     let key = c.args.key.now in
     let same = one_block_read trees db key c.args.block allows.0 [] allows.2 (lacks_reads trees db key c.args.block (lacks tt)) ∙ sym c.new.ensures.items in
-    c.in_err-after.ensures.turned (search rules) allows.1 (subst (λ l. TurnsUnits c.args.run.now (units_of l c.args.records) allows.1) same allows.3)
+    c.in_err-after.ensures.turned (search rules) allows.1 (subst (λ l. TurnsUnits packed_blocks c.args.run.now (units_of l c.args.records) allows.1) same allows.3)
 
 pub returns-in_err-block_begin-clause-damaged : goal.returns-in_err-block_begin-clause-damaged
 returns-in_err-block_begin-clause-damaged g c clean inside store is lacks allows = c.in_err-block_begin.ensures.honest clean inside store (search rules) (lacks tt)

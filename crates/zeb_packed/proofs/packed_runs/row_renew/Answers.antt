@@ -1,6 +1,5 @@
-use Rattle.zeb_packed.proofs.Cited.{◌≡◌, ◌∙◌, ◌==◌, ap, arith, length, not, rules, subst, sym, state, HasCleanDisk, Changes, blocks_tree, changes_after, changes_so, goes_then, reads_goes, store_same, TurnsBlock, units_of, IfTold, PutsBlock, IsBlockIn, IsTold, LacksBlock, TurnsUnits}
-use Rattle.zeb_packed.proofs.BlockLaws.{reads_told}
-use Rattle.zeb_packed.proofs.UnitLaws.{malformed_block, one_block_read}
+use Rattle.zeb_packed.proofs.Cited.{packed_blocks, ◌≡◌, ◌∙◌, ◌==◌, ap, arith, length, not, rules, subst, sym, state, HasCleanDisk, Changes, blocks_tree, changes_after, changes_so, goes_then, reads_goes, store_same, TurnsBlock, units_of, IfTold, PutsBlock, IsBlockIn, IsTold, LacksBlock, TurnsUnits, malformed_block, one_block_read}
+use Rattle.zeb_register.proofs.PackedKeyLaws.{reads_told}
 use Rattle.zeb_packed.proofs.UnitTurns.{turns_few}
 use Rattle.zeb_packed.proofs.packed_runs.row_renew.Goals as goal
 
@@ -52,7 +51,7 @@ returns-in_err-after-clause-damaged g c clean inside store is lacks allows =
     let first = state g.S.Store c.args.tx.now.conn.now in
     let reads = c.in_ok-list.ensures.reads clean inside store in
     let same = one_block_read first.now.trees c.args.db.0 c.args.key.now c.args.block allows.0 c.in_ok-list.list.items allows.2 reads in
-    c.in_err-after.ensures.turned (search rules) allows.1 (subst (λ l. TurnsUnits c.args.run.now (units_of l c.args.records) allows.1) same allows.3)
+    c.in_err-after.ensures.turned (search rules) allows.1 (subst (λ l. TurnsUnits packed_blocks c.args.run.now (units_of l c.args.records) allows.1) same allows.3)
 
 pub returns-clause-few : goal.returns-clause-few
 returns-clause-few g c = turns_few c.args.run.now (units_of c.in_ok-list.list.items c.args.records) (units_of c.in_ok-after.after.list.items c.in_ok-after.after.records) c.in_ok-after.ensures.turned c.requires.few

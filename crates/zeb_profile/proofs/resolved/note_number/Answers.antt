@@ -1,5 +1,5 @@
-use Rattle.zeb_profile.proofs.Cited.{◌≡◌, true, false, string_bytes, get_by_text, is_some, name_key}
-use Rattle.zeb_profile.proofs.NamesByNumber.{notes_known, notes_new}
+use Rattle.zeb_profile.proofs.Cited.{◌≡◌, false, string_bytes, get_by_text, is_some, name_key}
+use Rattle.zeb_profile.proofs.NamesByNumber.{notes_new}
 use Rattle.zeb_profile.proofs.resolved.note_number.Goals as goal
 
 pub returns-in_ok-insert : goal.returns-in_ok-insert

@@ -2,14 +2,16 @@ use Rattle.std.proofs.Common.{[], inl, refl, subst}
 use Rattle.sqlite.specs.Held.{state}
 use Rattle.sqlite.specs.State.{HasCleanDisk}
 use Rattle.zeb_change.specs.Conditions.{conditions}
-use Rattle.zeb_program.specs.Answers.{bad_line}
+use Rattle.std.specs.Prelude.{string_bytes}
+use Rattle.std.specs.Io.KnownBytes.{Appends}
+use Rattle.zeb_program.specs.Answers.{bad_line, mark_line}
 use Rattle.zeb_program.specs.Says.{SaysText}
-use Rattle.zeb_program.specs.declared.lines.Line.TheVariants.{Remark, Command as Order, Path, Bad}
+use Rattle.zeb_program.specs.declared.lines.Line.TheVariants.{Remark, Command as Order, Path, Mark, Bad}
 use Rattle.zeb_program.specs.PathChanges.{IsLineTold}
 use Rattle.zeb_program.proofs.AnswerLemmas.{Appends-nil}
 use Rattle.zeb_program.proofs.OverLemmas.{said_over, still}
 use Rattle.zeb_program.proofs.PathLemmas.{path_line}
-use Rattle.zeb_program.proofs.ServingLemmas.{bad_line_answer, ordered_line, remark_line}
+use Rattle.zeb_program.proofs.ServingLemmas.{bad_line_answer, mark_answer, ordered_line, remark_line}
 use Rattle.zeb_program.proofs.batch.run_line.Goals as goal
 use Rattle.zeb_register.specs.Formats.{version_of}
 
@@ -63,3 +65,14 @@ returns-in-Path-clause-over g c =
 pub returns-in-Bad-clause-over : goal.returns-in-Bad-clause-over
 returns-in-Bad-clause-over g c = λ sound _.
     (bad_line c.args.number, (Bad, inl (c.utf8.line, subst (SaysText c.args.line.now) c.in-Bad.is c.in_ok-read.ensures), (refl, c.refuse_line.ensures.status, still (state g.S.Store c.args.session.now.connection))), c.refuse_line.ensures.line sound)
+
+pub returns-in-Mark-clause-answer : goal.returns-in-Mark-clause-answer
+returns-in-Mark-clause-answer g c =
+    let k = conditions (version_of g.L.Layout.format) c.args.session.now.profile c.args.session.now.limits in
+    let old = state g.S.Store c.args.session.now.connection in
+    λ sound _ _. mark_answer (g.P.Paths.tells c.args.paths.now) k c.args.number c.args.line.now old (g.W.Write.contents c.args.output.now.writer) (g.W.Write.contents c.write_mark.new.output.writer)
+    c.in-Mark.text c.write_mark.result (inl (c.utf8.line, subst (SaysText c.args.line.now) c.in-Mark.is c.in_ok-read.ensures)) c.write_mark.ensures.status (subst (λ t. Appends (g.W.Write.contents c.args.output.now.writer) (g.W.Write.contents c.write_mark.new.output.writer) (mark_line t)) c.as_str.ensures.value (c.write_mark.ensures.line sound))
+
+pub returns-in-Mark-clause-over : goal.returns-in-Mark-clause-over
+returns-in-Mark-clause-over g c = λ sound _.
+    (mark_line (string_bytes c.in-Mark.text), (Mark c.in-Mark.text, inl (c.utf8.line, subst (SaysText c.args.line.now) c.in-Mark.is c.in_ok-read.ensures), (refl, c.write_mark.ensures.status, still (state g.S.Store c.args.session.now.connection))), subst (λ t. Appends (g.W.Write.contents c.args.output.now.writer) (g.W.Write.contents c.write_mark.new.output.writer) (mark_line t)) c.as_str.ensures.value (c.write_mark.ensures.line sound))

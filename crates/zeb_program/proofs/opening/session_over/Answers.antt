@@ -1,6 +1,7 @@
 -- What adopting the store says, of what is given on.
 use Rattle.zeb_change.specs.declared.refusals.Refusal.TheVariants.{Store}
-use Rattle.zeb_program.proofs.ResultValues.{holds_of, narrowed_err, narrowed_ok}
+use Rattle.zeb_program.specs.PrivateFaults.{IsOpeningFailure}
+use Rattle.zeb_program.proofs.ResultValues.{holds_of, narrowed_err, narrowed_fault, narrowed_so}
 use Rattle.zeb_program.proofs.opening.session_over.Goals as goal
 
 pub returns-in-Ok-clause-other : goal.returns-in-Ok-clause-other
@@ -9,4 +10,7 @@ returns-in-Ok-clause-other g c =
 
 pub returns-in-Ok-clause-keeps : goal.returns-in-Ok-clause-keeps
 returns-in-Ok-clause-keeps g c =
-    holds_of c.args.opened c.in-Ok.connection _ c.in-Ok.is (narrowed_ok c.adopt.result c.taken_over.result (λ back. back.1) _ c.adopt.ensures.keeps c.taken_over.ensures)
+    holds_of c.args.opened c.in-Ok.connection _ c.in-Ok.is (narrowed_so c.adopt.result c.taken_over.result (λ back. back.1) _ _ (λ session taken clean. (taken clean).keeps) c.adopt.ensures.taken c.taken_over.ensures)
+
+pub returns-in-Ok-clause-failed : goal.returns-in-Ok-clause-failed
+returns-in-Ok-clause-failed g c = narrowed_fault c.adopt.result c.taken_over.result (λ back. back.1) _ IsOpeningFailure (λ back said. said.1) c.adopt.ensures.refused c.taken_over.ensures

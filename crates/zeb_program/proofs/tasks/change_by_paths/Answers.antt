@@ -16,7 +16,7 @@ returns-in-Ok-clause-leaves g c = λ clean.
     changed_leaves (g.P.Paths.tells c.args.paths.now) k c.args.kind (name_bytes c.args.database.now) (map string_bytes c.args.named.now) old new
     g.P.Reader.Source.remaining g.P.Reader.Source.has_failed c.deref_mut.result.now c.update_from.new.readers (Ok c.in-Ok.reply)
     (λ files known. ap (map g.P.Reader.Source.remaining) c.deref_mut.ensures.value ∙ c.in_ok-readers.ensures.told files known) same
-    c.in-Ok.ensures.sound (c.in-Ok.ensures.call.refused clean) (c.in-Ok.ensures.serves clean) (c.in-Ok.ensures.loses clean) (c.in-Ok.ensures.named clean)
+    c.in-Ok.ensures.faults.sound (c.in-Ok.ensures.holds.0.call.refused clean) (c.in-Ok.ensures.step clean) (c.in-Ok.ensures.tables clean).leaves (c.in-Ok.ensures.tables clean).loses
 
 pub returns-clause-leaves : goal.returns-clause-leaves
 returns-clause-leaves g c = λ clean.
@@ -27,7 +27,7 @@ returns-clause-leaves g c = λ clean.
     changed_leaves (g.P.Paths.tells c.args.paths.now) k c.args.kind (name_bytes c.args.database.now) (map string_bytes c.args.named.now) old new
     g.P.Reader.Source.remaining g.P.Reader.Source.has_failed c.deref_mut.result.now c.update_from.new.readers (Err c.in-Err.refusal)
     (λ files known. ap (map g.P.Reader.Source.remaining) c.deref_mut.ensures.value ∙ c.in_ok-readers.ensures.told files known) same
-    c.in-Err.ensures.sound (c.in-Err.ensures.call.refused clean) (c.in-Err.ensures.serves clean) (c.in-Err.ensures.loses clean) (c.in-Err.ensures.named clean)
+    c.in-Err.ensures.faults.sound (c.in-Err.ensures.holds.0.call.refused clean) (c.in-Err.ensures.step clean) (c.in-Err.ensures.tables clean).leaves (c.in-Err.ensures.tables clean).loses
 
 pub returns-in_err-readers-clause-leaves : goal.returns-in_err-readers-clause-leaves
 returns-in_err-readers-clause-leaves g c = λ clean.
@@ -46,7 +46,7 @@ returns-in-Ok-clause-over g c = λ clean.
     changed_over (g.P.Paths.tells c.args.paths.now) g.L.Layout.format c.args.session.now.profile c.args.kind c.args.session.now.limits (name_bytes c.args.database.now) (map string_bytes c.args.named.now) (state g.S.Store c.args.session.now.connection)
     g.P.Reader.Source.remaining g.P.Reader.Source.has_failed c.deref_mut.result.now c.update_from.new.readers (Ok c.in-Ok.reply)
     (λ files known. ap (map g.P.Reader.Source.remaining) c.deref_mut.ensures.value ∙ c.in_ok-readers.ensures.told files known) same
-    (c.in-Ok.ensures.ready clean) (c.in-Ok.ensures.elder clean) c.in-Ok.ensures.sound (c.in-Ok.ensures.honest clean)
+    (c.in-Ok.ensures.tables clean).ready (c.in-Ok.ensures.tables clean).told c.in-Ok.ensures.faults.sound (c.in-Ok.ensures.tables clean).honest
 
 pub returns-clause-over : goal.returns-clause-over
 returns-clause-over g c = λ clean.
@@ -54,4 +54,4 @@ returns-clause-over g c = λ clean.
     changed_over (g.P.Paths.tells c.args.paths.now) g.L.Layout.format c.args.session.now.profile c.args.kind c.args.session.now.limits (name_bytes c.args.database.now) (map string_bytes c.args.named.now) (state g.S.Store c.args.session.now.connection)
     g.P.Reader.Source.remaining g.P.Reader.Source.has_failed c.deref_mut.result.now c.update_from.new.readers (Err c.in-Err.refusal)
     (λ files known. ap (map g.P.Reader.Source.remaining) c.deref_mut.ensures.value ∙ c.in_ok-readers.ensures.told files known) same
-    (c.in-Err.ensures.ready clean) (c.in-Err.ensures.elder clean) c.in-Err.ensures.sound (c.in-Err.ensures.honest clean)
+    (c.in-Err.ensures.tables clean).ready (c.in-Err.ensures.tables clean).told c.in-Err.ensures.faults.sound (c.in-Err.ensures.tables clean).honest

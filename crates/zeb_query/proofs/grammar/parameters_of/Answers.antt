@@ -1,19 +1,14 @@
-use Rattle.zeb_query.proofs.Cited.{◌≡◌, ◌+◌, ◌∷◌, [], ◌++◌, ◌∙◌, refl, ap, subst, sym, arith, string_bytes, map-append, word_of, SpellsParameters}
-use Rattle.std.proofs.Common.{map}
-use Rattle.zeb_query.proofs.GrammarLemmas.{words_then-more, spells_more_parameters}
+use Rattle.zeb_query.proofs.Cited.{◌∙◌, [], ◌∷◌, string_bytes}
+use Rattle.zeb_query.proofs.GrammarLemmas.{spells_next}
 use Rattle.zeb_query.proofs.grammar.parameters_of.Goals as goal
 
-pub loop-preserved : goal.loop-preserved
-loop-preserved c =
-    let word = word_of c.in_ok-word.word.now in
-    let texts = map (λ s. string_bytes s) c.loop.parameters.items in
-    let grown : map (λ s. string_bytes s) c.push.new.self.items ≡ texts ++ word.text ∷ [] =
-    ap (λ items. map (λ s. string_bytes s) items) c.in_ok-push.ensures.items
-    ∙ map-append (λ s. string_bytes s) c.loop.parameters.items (c.in_ok-clone.field-0 ∷ [])
-    ∙ ap (λ text. texts ++ text ∷ []) c.in_ok-clone.ensures.cases in
-    record {
-      shorter = omega (arith, c.in_ok-word.ensures.shorter, c.loop.invariant.shorter);
-      goes = words_then-more c.args.rest c.loop.left c.in_ok-word.after word c.args.count c.loop.counter (c.loop.counter + 1) c.loop-test.true refl c.in_ok-word.ensures.reads c.in_ok-word.ensures.good c.loop.invariant.goes;
-      spelled = subst (λ ts. SpellsParameters c.args.rest c.in_ok-word.after (c.loop.counter + 1) ts) (sym grown)
-          (spells_more_parameters c.args.rest c.loop.left c.in_ok-word.after c.loop.counter (c.loop.counter + 1) texts word c.in_ok-word.ensures.reads c.in_ok-word.ensures.good refl c.loop.invariant.spelled);
-    }
+pub returns-clause-goes : goal.returns-clause-goes
+returns-clause-goes c = λ n.
+    c.in_ok-exclusion.ensures.goes 5 n ∙ c.in_ok-distance.ensures.goes 4 n ∙ c.in_ok-ordered.ensures.goes 3 n
+    ∙ c.in_ok-relation.ensures.goes 2 n ∙ c.in_ok-which_code.ensures.goes 1 n ∙ c.in_ok-unit_code.ensures.goes 0 n
+
+pub returns-clause-spelled : goal.returns-clause-spelled
+returns-clause-spelled c =
+    spells_next _ _ _ _ _ c.in_ok-exclusion.ensures.spelled (spells_next _ _ _ _ _ c.in_ok-distance.ensures.spelled
+    (spells_next _ _ _ _ _ c.in_ok-ordered.ensures.spelled (spells_next _ _ _ _ _ c.in_ok-relation.ensures.spelled
+    (spells_next _ _ _ _ _ c.in_ok-which_code.ensures.spelled c.in_ok-unit_code.ensures.spelled))))

@@ -6,11 +6,11 @@ use Rattle.zeb_query.proofs.planning.plan.Goals as goal
 
 pub returns-clause-planned : goal.returns-clause-planned
 unfolding tree_plan
-returns-clause-planned c = c.plan_tree.ensures (query_value c.args.query.now).attribute_set no_head c.over.ensures
+returns-clause-planned c = c.plan_tree.ensures (query_value c.args.query.now).attrset no_head c.over.ensures
 
 pub returns-clause-numbers : goal.returns-clause-numbers
 unfolding tree_plan
 returns-clause-numbers c =
     let query = query_value c.args.query.now in
     given_ok plan_value HasSmallNumbers c.plan_tree.result (plan_of c.args.profile.now query)
-    (c.plan_tree.ensures query.attribute_set no_head c.over.ensures) (plan_numbers c.args.profile.now query)
+    (c.plan_tree.ensures query.attrset no_head c.over.ensures) (plan_numbers c.args.profile.now query)

@@ -1,5 +1,4 @@
-use Rattle.zeb_query.proofs.Cited.{ap, ◌∙◌, sym, subst, string_bytes, Term, Tree, tree_value, head_value, heads, Fails, operand_of}
-use Rattle.std.proofs.Common.{map}
+use Rattle.zeb_query.proofs.Cited.{ap, ◌∙◌, sym, subst, string_bytes, Term, Tree, tree_value, head_value, heads, parameters_value, Fails, operand_of}
 use Rattle.zeb_query.specs.Attributes.{holding_of}
 use Rattle.zeb_query.specs.PrivatePlanning.{near_plan}
 use Rattle.zeb_query.proofs.NearLemmas.{near_apart, near_read}
@@ -8,7 +7,7 @@ use Rattle.zeb_query.proofs.proximity.plan_near.Goals as goal
 pub returns : goal.returns
 returns c = λ set outer held.
     let profile = c.args.profile.now in
-    let parameters = map (λ s. string_bytes s) c.args.parameters.now in
+    let parameters = parameters_value c.args.parameters.now in
     let left = c.in-Term-Term.left in
     let right = c.in-Term-Term.right in
     ap (λ t. near_plan profile c.args.place parameters (operand_of set outer (tree_value t)) (operand_of set outer (tree_value c.args.right.now))) c.in-Term-Term.is-0
@@ -22,7 +21,7 @@ returns c = λ set outer held.
 pub returns-then-index-other : goal.returns-then-index-other
 returns-then-index-other c = λ set outer held.
     let profile = c.args.profile.now in
-    let parameters = map (λ s. string_bytes s) c.args.parameters.now in
+    let parameters = parameters_value c.args.parameters.now in
     let left = c.in-Term-Term.left in
     let right = c.in-Term-Term.right in
     let seen : Tree → Tree → Type 0 = λ one other. Fails c.diagnostic.result (near_plan profile c.args.place parameters (operand_of set outer (tree_value one)) (operand_of set outer (tree_value other))) in

@@ -1,4 +1,4 @@
-use Rattle.zeb_engine.proofs.Cited.{◌≡◌, ◌≤◌, IsTrue, map, length, take, vec_capacity, AllByRecursion, IsErr, state, HasCleanDisk, Survives, ChangesNothing, answer_of, conditions, CommitsOne, EnduresRun, CommandOverTables, FindOpen, InTurn, Runs, version_of}
+use Rattle.zeb_engine.proofs.Cited.{◌≡◌, ◌≤◌, IsTrue, map, length, take, vec_capacity, AllByRecursion, IsErr, state, HasCleanDisk, Survives, ChangesNothing, answer_of, conditions, CommitsOne, EnduresRun, CommandTurns, FindOpen, InTurn, Runs, version_of}
 use Rattle.zeb_engine.proofs.session.Session.run_all.Given as goal
 
 abbrev pub invariant-loop-command : goal.invariant-loop-command
@@ -12,7 +12,7 @@ invariant-loop-command g l =
       survives : Survives old now
           (CommitsOne (conditions (version_of g.L.Layout.format) l.fn.self.profile l.fn.self.limits) (take l.command-index l.commands) (map answer_of l.answers.items) old);
       refused : HasCleanDisk now → AllByRecursion IsErr l.answers.items → ChangesNothing old now;
-      turns : HasCleanDisk now → InTurn g.S.Store (CommandOverTables g.L.Layout.format g.L.Layout.row_work g.L.Layout.block_rows (conditions (version_of g.L.Layout.format) l.fn.self.profile l.fn.self.limits))
+      turns : HasCleanDisk now → InTurn g.S.Store (CommandTurns g.L.Layout.format g.L.Layout.row_work g.L.Layout.block_rows (conditions (version_of g.L.Layout.format) l.fn.self.profile l.fn.self.limits))
           (take l.command-index l.commands) l.answers.items l.fn.self.connection l.fn.self.work l.self.connection l.self.work;
       was_open : HasCleanDisk now → IsTrue now.is_open → IsTrue old.is_open;
       «open» : HasCleanDisk now → FindOpen (take l.command-index l.commands) l.answers.items old now;

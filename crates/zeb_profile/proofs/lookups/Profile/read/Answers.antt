@@ -1,6 +1,6 @@
-use Rattle.zeb_profile.proofs.Cited.{◌≡◌, ◌<◌, ◌^◌, length, None, Some, Ok, ap, refl, ◌∙◌, subst, sym, ℕ, List, string_bytes, Placed, canonical_text, identifier_pattern, index_names, store_path, AreResolved, directives_on, line_value, resolved, Settles, FailsPlaced, directives_in, lack_of, placed_lines, profile_of, unless, map}
+use Rattle.zeb_profile.proofs.Cited.{◌≡◌, ◌<◌, ◌^◌, length, Some, Ok, ap, refl, ◌∙◌, subst, sym, ℕ, List, Placed, canonical_text, index_names, directives_on, line_value, resolved, Settles, FailsPlaced, directives_in, lack_of, placed_lines, profile_of, unless, map}
 use Rattle.zeb_profile.proofs.Lacks.{fault_given, lack_of_text}
-use Rattle.zeb_profile.proofs.ResolvedLines.{are_resolved, resolved-directives}
+use Rattle.zeb_profile.proofs.ResolvedLines.{resolved-directives}
 use Rattle.zeb_profile.proofs.lookups.Profile.read.Goals as goal
 
 pub invariant_of-result : goal.invariant_of-result

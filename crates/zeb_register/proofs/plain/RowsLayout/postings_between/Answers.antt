@@ -1,16 +1,24 @@
-use Rattle.zeb_register.proofs.Cited.{arith, inl, IfOk-weaker}
+use Rattle.zeb_register.proofs.Cited.{state, arith, inl, IfOk-weaker, plain_rows}
+use Rattle.zeb_register.specs.Units.{HasMalformedBetween, ListsBetween}
+use Rattle.zeb_register.proofs.Answered.{told_or}
+use Rattle.zeb_register.proofs.BetweenLists.{between_told}
 use Rattle.zeb_register.proofs.CountLemmas.{none_in_sum}
 use Rattle.zeb_register.proofs.plain.RowsLayout.postings_between.Goals as goal
 
-pub returns-clause-honest : goal.returns-clause-honest
-returns-clause-honest g c clean store is content storable holds = c.postings_between.ensures.honest clean store is content holds
+pub returns-clause-units : goal.returns-clause-units
+returns-clause-units g c =
+    told_or (λ trees. HasMalformedBetween plain_rows trees c.args.at c.args.first.now c.args.last.now) (λ trees list. ListsBetween plain_rows trees c.args.at c.args.first.now c.args.last.now list.items) (state g.S.Store c.args.conn.now) (state g.S.Store c.postings_between.new.conn) c.postings_between.result c.postings_between.ensures.lists c.postings_between.ensures.refused
 
 pub returns-clause-work : goal.returns-clause-work
-returns-clause-work g c clean store = IfOk-weaker c.postings_between.result _ _ (λ list value content holds keys known.
+returns-clause-work g c clean store =
+    let old = state g.S.Store c.args.conn.now in
+    let new = state g.S.Store c.postings_between.new.conn in
+    IfOk-weaker c.postings_between.result _ _ (λ list value content holds keys known.
     let none = none_in_sum keys in
     record {
       reads_terms = inl (omega arith);
       writes_terms = inl (omega arith);
       reads_blocks = inl (omega (arith, none));
       writes_blocks = inl (omega arith);
-    }) (c.postings_between.ensures.value clean store)
+    }) (between_told plain_rows c.args.at c.args.first.now c.args.last.now old new c.postings_between.result
+    (told_or (λ trees. HasMalformedBetween plain_rows trees c.args.at c.args.first.now c.args.last.now) (λ trees list. ListsBetween plain_rows trees c.args.at c.args.first.now c.args.last.now list.items) old new c.postings_between.result c.postings_between.ensures.lists c.postings_between.ensures.refused) clean store)

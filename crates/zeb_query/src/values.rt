@@ -1,0 +1,202 @@
+//! The values of a term's attributes, and which of them are taken together.
+use crate::Relation;
+use crate::attributes::{Asked, Completeness, Position, Structure};
+use zeb_keys::Register;
+use zeb_profile::Profile;
+use zeb_text::{Cut, Spread};
+
+/// What a term names, by its structure.
+#[derive(Clone, Copy, Debug, PartialEq, Eq)]
+pub(crate) enum Subject {
+    /// A local number: the record with that system number, which is in no index.
+    Record,
+    /// Another structure: entries of the index of the use attribute.
+    Entries { index: u32, structure: Structure },
+}
+
+/// What a term is for.
+#[derive(Clone, Copy, Debug, PartialEq, Eq)]
+pub(crate) enum Purpose {
+    Find,
+    /// To begin a scan.
+    Scan,
+    /// To stand near another term.
+    Near,
+}
+
+/// A term's attributes as kept values.
+#[derive(Clone, Copy)]
+pub(crate) struct Values {
+    /// By the use attribute and the structure.
+    pub subject: Subject,
+    pub relation: Asked,
+    pub position: Position,
+    pub truncation: Cut,
+    pub completeness: Completeness,
+}
+
+impl Values {
+    ghost use Rattle.std.specs.Prelude.{◌≡◌};
+    ghost use Rattle.zeb_query.specs.PrivateValues as terms;
+
+    /// Whether the words of the term are compared: it is no number, and the relation isn't "always matches".
+    pub(crate) fn has_words(&self) -> bool
+        ensures { result ≡ terms.has_words self.now }
+    {
+        !self.is_always() && !self.is_local() && !self.is_numeric()
+    }
+
+    fn is_always(&self) -> bool
+        ensures { result ≡ terms.is_always self.now.relation }
+    {
+        match self.relation {
+            Asked::Compared(_) => false,
+            Asked::Always => true,
+        }
+    }
+
+    fn is_equal(&self) -> bool
+        ensures { result ≡ terms.asks_equal self.now.relation }
+    {
+        match self.relation {
+            Asked::Compared(relation) => relation == Relation::Equal,
+            Asked::Always => false,
+        }
+    }
+
+    /// Whether the relation is one of order.
+    fn is_ordered(&self) -> bool
+        ensures { result ≡ terms.is_ordered self.now.relation }
+    {
+        match self.relation {
+            Asked::Compared(relation) => relation != Relation::Equal,
+            Asked::Always => false,
+        }
+    }
+
+    fn is_first(&self) -> bool
+        ensures { result ≡ terms.is_first self.now.position }
+    {
+        self.position == Position::First
+    }
+
+    fn is_complete(&self) -> bool
+        ensures { result ≡ terms.is_complete self.now.completeness }
+    {
+        self.completeness == Completeness::Complete
+    }
+
+    fn is_truncated(&self) -> bool
+        ensures { result ≡ terms.is_truncated self.now.truncation }
+    {
+        match self.truncation {
+            Cut::None => false,
+            Cut::Right | Cut::Left | Cut::Both | Cut::Hash => true,
+        }
+    }
+
+    fn is_local(&self) -> bool
+        ensures { result ≡ terms.is_local self.now.subject }
+    {
+        match self.subject {
+            Subject::Record => true,
+            Subject::Entries { .. } => false,
+        }
+    }
+
+    pub(crate) fn is_numeric(&self) -> bool
+        ensures { result ≡ terms.is_numeric self.now.subject }
+    {
+        match self.subject {
+            Subject::Record => false,
+            Subject::Entries { structure, .. } => structure.is_numeric(),
+        }
+    }
+
+    fn is_phrase(&self) -> bool
+        ensures { result ≡ terms.is_phrase self.now.subject }
+    {
+        match self.subject {
+            Subject::Record => false,
+            Subject::Entries { structure, .. } => structure == Structure::Phrase,
+        }
+    }
+
+    fn is_list(&self) -> bool
+        ensures { result ≡ terms.is_list self.now.subject }
+    {
+        match self.subject {
+            Subject::Record => false,
+            Subject::Entries { structure, .. } => {
+                structure == Structure::WordList || structure == Structure::FreeForm
+            }
+        }
+    }
+
+    /// Whether a position, a truncation or a completeness is asked for.
+    fn is_limited(&self) -> bool
+        ensures { result ≡ terms.is_limited self.now }
+    {
+        self.is_first() || self.is_truncated() || self.is_complete()
+    }
+
+    /// Whether the values aren't taken together for the purpose.
+    pub(crate) fn clashes(&self, purpose: Purpose) -> bool
+        ensures { result ≡ terms.clashes purpose self.now }
+    {
+        let number = (self.is_local() || self.is_numeric()) && self.is_limited();
+        let local = self.is_local() && !self.is_equal();
+        let list = self.is_list() && (self.is_first() || self.is_complete() || self.is_ordered());
+        let order = self.is_ordered() && (self.is_first() || self.is_truncated());
+        number || local || list || order || self.is_beyond(purpose)
+    }
+
+    /// Whether a scan, or a word near another, doesn't take the values, though a find may.
+    fn is_beyond(&self, purpose: Purpose) -> bool
+        ensures { result ≡ terms.is_beyond purpose self.now }
+    {
+        match purpose {
+            Purpose::Find => false,
+            Purpose::Scan => {
+                !self.is_equal() || self.is_first() || self.is_truncated() || self.is_list()
+            }
+            Purpose::Near => {
+                !self.is_equal() || self.is_first() || !self.is_phrase() || self.is_complete()
+            }
+        }
+    }
+
+    /// The register that is searched.
+    pub(crate) fn register(&self) -> Register
+        ensures { result ≡ terms.register_of self.now }
+    {
+        if self.is_numeric() {
+            Register::Number
+        } else if self.is_complete() {
+            Register::Phrase
+        } else {
+            Register::Word
+        }
+    }
+
+    /// Whether the index has no target with the register that is searched; a system number is searched in none.
+    pub(crate) fn lacks_register(&self, profile: &Profile) -> bool
+        ensures { result ≡ terms.lacks_register profile.now (terms.register_of self.now) self.now.subject }
+    {
+        match self.subject {
+            Subject::Record => false,
+            Subject::Entries { index, .. } => !profile.has(index, self.register()),
+        }
+    }
+
+    /// Where the stars of the truncation stand.
+    pub(crate) fn spread(&self) -> Spread
+        ensures { result ≡ terms.spread_of self.now.subject }
+    {
+        if self.is_list() {
+            Spread::Each
+        } else {
+            Spread::Ends
+        }
+    }
+}

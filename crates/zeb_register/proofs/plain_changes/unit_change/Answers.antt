@@ -1,0 +1,29 @@
+use Rattle.zeb_register.proofs.Cited.{state, HasCleanDisk, ◌≡◌, ◌∙◌, arith, rules, sym, true, false}
+use Rattle.zeb_register.proofs.Answered.{refused_so}
+use Rattle.zeb_register.proofs.Calls.{changes_after, store_same}
+use Rattle.zeb_register.proofs.PlaceLemmas.{beside}
+use Rattle.zeb_register.proofs.PlainTurns.{unit_answers}
+use Rattle.zeb_register.proofs.plain_changes.unit_change.Goals as goal
+
+pub returns-clause-units : goal.returns-clause-units
+returns-clause-units g c clean inside store =
+    let first = state g.S.Store c.args.tx.now.conn.now in
+    let second = state g.S.Store c.holds_places.new.tx.conn.now in
+    let third = state g.S.Store c.places_take.new.tx.conn.now in
+    let last = state g.S.Store c.places_put.new.tx.conn.now in
+    let clean2 : HasCleanDisk third = omega (arith, clean, c.places_put.ensures.call.crash.clean) in
+    let clean1 : HasCleanDisk second = omega (arith, clean2, c.places_take.ensures.call.crash.clean) in
+    let reads = c.in_ok-holds_places.ensures.call.ok clean1 inside in
+    let taken = c.in_ok-places_take.ensures.call.ok clean2 reads.mode in
+    let done = changes_after _ _ _ _ _ reads inside (taken.rows (store_same _ _ reads.now_is store)) in
+    let found = (c.in_ok-holds_places.ensures.told clean1 inside store).0 (search rules) in
+    unit_answers c.args.db.0 c.args.key.now c.args.sysno c.args.old.now c.args.new.now first third last c.places_put.result c.in_ok-holds_places.ensures.text found c.requires.rising
+    done.rows (beside first.now.trees third.now.trees done.others) (c.places_put.ensures.put clean taken.on.mode done.layout) c.places_put.ensures.honest
+
+pub returns-then-not-branch-clause-units : goal.returns-then-not-branch-clause-units
+returns-then-not-branch-clause-units g c clean inside store told reads =
+    let e : true ≡ false = sym ((c.in_ok-holds_places.ensures.told clean inside store).1 reads) ∙ c.if-not-branch.true in
+    cc
+
+pub returns-in_err-holds_places-clause-units : goal.returns-in_err-holds_places-clause-units
+returns-in_err-holds_places-clause-units g c clean inside store = refused_so _ _ c.from_residual.result c.in_err-holds_places.field-0.0 (search rules) (c.in_err-holds_places.ensures.told clean inside store)
