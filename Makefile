@@ -64,6 +64,8 @@ words: bin/zebraidx
 	@tests/words/faults
 	@tests/words/nightly
 	@tests/words/front_end
+	@tests/words/one_file
+	@tests/words/causes
 
 session: bin/zebraidx
 	@tests/words/session

@@ -33,16 +33,21 @@ MADE_BY_HAND = {
     "crates/zeb_engine/src/tables.rt": (["check_tables 9fb18e69"], "a store with other tables, and no other store, as a clause says"),
     "crates/zeb_words/src/words.rt": (["usage_of c0e9217c", "usage_of c0e9217c"], "the want of memory that the parser names, and of its text"),
     "crates/zeb_paths/src/walk.rt": (["next_file e0a517fc"], "more folders than could be held"),
-    "crates/zeb_paths/src/disk.rt": (["store 4b5e5bda", "read b7b8174b"], "whatever fails as a store is opened, and a read behind one that failed"),
-    "crates/zeb_paths/src/shelf.rt": (["read 47e3c23b", "store ad5a252e", "store ad5a252e"], "a file that fails when it is read, and a shelf without a store under the path, or one that fails"),
+    "crates/zeb_paths/src/disk.rt": (["store 82d8eb71", "read b7b8174b"], "whatever fails as a store is opened, and a read behind one that failed"),
+    "crates/zeb_paths/src/looks.rt": (["use_file 2944a786", "use_file 2944a786"], "no memory for the name of a file beside the store"),
+    "crates/zeb_paths/src/shelf.rt": (["read 47e3c23b", "store 6bbb2170", "store 6bbb2170"], "a file that fails when it is read, and a shelf without a store under the path, or one that fails"),
     "crates/zeb_program/src/command_line.rt": (["refuse_words 14383364"], "the status of words that memory ran out for"),
     "crates/zeb_program/src/faults.rt": (["tell 1777e2de"], "the status of a path that can't be read, as a clause says"),
+    "crates/zeb_program/src/failures.rt": (
+        ["of_store e6fac76b", "tell_closed 869849cb", "tell_closed 869849cb"],
+        "no failure, a cause; and the status of a register that wasn't closed, as a clause says",
+    ),
     "crates/zeb_program/src/files.rt": (["readers_of 4729b173", "contents_of 89790e8e"], "more files than could be held"),
-    "crates/zeb_program/src/memory.rt": (["open_in_memory 2bd5a522"], "whatever fails as a store is opened"),
-    "crates/zeb_program/src/opening.rt": (["session_over 4093001b"], "an open that failed, as a clause says"),
+    "crates/zeb_program/src/memory.rt": (["open_in_memory ce0a36a4", "open_in_memory ce0a36a4"], "whatever fails as a store is opened"),
+    "crates/zeb_program/src/opening.rt": (["session_over 8bfe0300"], "an open that failed, as a clause says"),
     "crates/zeb_program/src/program.rt": (["run fbf1216e", "run fbf1216e", "finish 3c11e3e9", "run_script ec467c47", "profile_status 103311da"], "the status of want of memory, of a failed write, of an input that is no text"),
     "crates/zeb_program/src/shell.rt": (["serve_lines 58d0081f", "run_shell_lines 2ed6cca4"], "the status of a failed read and of a failed write, as clauses say"),
-    "crates/zebraidx/src/main.rt": (["main c9ec8a38"], "an outside that failed"),
+    "crates/zebraidx/src/main.rt": (["main d09e0e02"], "an outside that failed"),
     "crates/small_catalogue/src/lib.rt": (["open cb1c9c16"], "an open that failed"),
 }
 
@@ -160,7 +165,7 @@ class Reader:
             or TYPE_ENDS.match(behind)
             or name == "AllocFailed" and behind.lstrip().startswith("<")
             or name.endswith("::Memory") and behind.lstrip().startswith("::")
-            or before.rstrip().endswith(("<", "==", "!="))
+            or before.rstrip().endswith(("<", "==", "!=", ": &mut"))
             or re.search(r"\b(?:const|static|struct)\s+$", before)
             or name in VALUES and before.rstrip().endswith(":") and behind.lstrip().startswith(")")
             or passed and self.kinds.get(passed[1]) == kind

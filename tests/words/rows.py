@@ -86,8 +86,9 @@ class Row:
     def differs(self, program, folder):
         """What the program answers, where that isn't what is wanted."""
         ran = subprocess.run([program, *self.words()], cwd=folder, stdin=subprocess.DEVNULL, capture_output=True)
-        # Below `bad usage` the parser says why, in words of its own.
-        fault = ran.stderr.splitlines(keepends=True)[0] if ran.returncode == 2 and ran.stderr else ran.stderr
+        # Below `bad usage` the parser says why, in words of its own, and below a fault stands its cause: tests/words/causes looks at these.
+        lines = ran.stderr.splitlines(keepends=True)
+        fault = b"".join(it for it in lines[: 1 if ran.returncode == 2 else None] if not re.match(rb"zebraidx: (cause: |file [0-9]+ is )", it))
         if (ran.returncode, ran.stdout, fault) == self.wanted(folder):
             return None
         return f"{self.place}: {self.command[:200]}\n  wanted {self.answer[:300]}\n  status {ran.returncode}, {ran.stdout[:300]!r} {ran.stderr[:300]!r}"

@@ -1,6 +1,7 @@
 //! Files are analysed, with nothing kept.
 
-use command_rows::commands::{Script, Step, TITLES};
+use command_rows::commands::{Script, Step, TITLES, run_each};
+use std::test::Fail;
 use worked_samples::{BARE, BOOKS, CUT, MOBY, MOBY_LINES};
 
 /// Before `init` and after it, and what is kept stays.
@@ -58,4 +59,7 @@ const UNDER: Script = &[
     ),
 ];
 
-pub const SCRIPTS: [Script; 3] = [ASIDE, REFUSED, UNDER];
+#[test]
+fn files_are_analysed(rt: HostRuntime) -> Result<(), Fail> {
+    run_each(&rt, &[ASIDE, REFUSED, UNDER])
+}

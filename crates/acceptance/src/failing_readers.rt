@@ -18,11 +18,13 @@ struct Stream<'a> {
 }
 
 impl Source for Stream<'_> {
-    ghost use Rattle.std.specs.Prelude.{None};
+    ghost use Rattle.std.specs.Prelude.{None, true};
 
     ghost remaining = { λ _. None };
 
     ghost has_failed = { λ s. s.failed };
+
+    ghost may_fail = { λ _. true };
 
     fn read(&mut self, buffer: &mut [u8]) -> Result<usize, ReadFailed> {
         if self.failed {

@@ -5,29 +5,9 @@
 #[cfg(test)]
 mod analyses;
 #[cfg(test)]
-mod beside_slow;
-#[cfg(test)]
-mod catalogue;
-#[cfg(test)]
-mod changes;
-#[cfg(test)]
-mod databases;
-#[cfg(test)]
 mod failing_readers;
 #[cfg(test)]
-mod finds;
-#[cfg(test)]
 mod limits;
-#[cfg(test)]
-mod query_lists;
-#[cfg(test)]
-mod reads;
-#[cfg(test)]
-mod rows;
-#[cfg(test)]
-mod scans;
-#[cfg(test)]
-mod slow_find;
 #[cfg(test)]
 mod steps;
 #[cfg(test)]

@@ -72,6 +72,8 @@ impl Source for Maker {
 
     ghost has_failed = { λ _. false };
 
+    ghost may_fail = { λ _. false };
+
     fn read(&mut self, buffer: &mut [u8]) -> Result<usize, ReadFailed> {
         if buffer.is_empty() || self.made >= self.end {
             return Ok(0);

@@ -4,9 +4,9 @@
 ghost use Rattle.std.specs.Prelude.{◌≡◌, false};
 
 use crate::fakes::{Endless, Narrow, Torn};
-use script_rows::records::{Unmade, with_records};
-use script_rows::runs::{Outcome, run_script};
-use script_rows::words::{contents, loaded, shelved};
+use crate::records::{Unmade, with_records};
+use crate::runs::{Outcome, run_script};
+use crate::words::{contents, loaded, shelved};
 use std::alloc::{AllocError, AllocGlobal, Global};
 use std::io::BufWriter;
 use std::process::Abort;

@@ -1,8 +1,8 @@
 //! The program by words over the file system, one run after the other.
 
-use script_rows::records::bytes_of_records;
-use script_rows::runs::{Outcome, run_on};
-use script_rows::words::expect;
+use crate::records::bytes_of_records;
+use crate::runs::{Outcome, run_on};
+use crate::words::expect;
 use std::alloc::{AllocError, AllocGlobal, Global};
 use std::test::Fail;
 use std::{env, fs, process};
@@ -52,7 +52,7 @@ const RUNS: [Run; 15] = [
         "",
         3,
         "",
-        "zebraidx: cannot read %/none\n",
+        "zebraidx: cannot read %/none\nzebraidx: cause: nothing stands there\n",
     ),
     // A file that is there and can't be read, on Linux: the process's own memory, from address 0 on.
     (
@@ -60,14 +60,14 @@ const RUNS: [Run; 15] = [
         "",
         3,
         "",
-        "zebraidx: file 2: read fault\n",
+        "zebraidx: file 2: read fault\nzebraidx: file 2 is /proc/self/mem\n",
     ),
     (
         &["-c", "%/zebra.cfg", "-s", "update", "/proc/self/mem"],
         "",
         3,
         "",
-        "zebraidx: cannot read /proc/self/mem\n",
+        "zebraidx: cannot read /proc/self/mem\nzebraidx: cause: the system failed a call\n",
     ),
     (
         &["-c", "%/zebra.cfg", "stat"],
@@ -117,14 +117,14 @@ const RUNS: [Run; 15] = [
         "",
         3,
         "",
-        "zebraidx: store fault\n",
+        "zebraidx: store fault\nzebraidx: cause: no such folder\n",
     ),
     (
         &["-c", "%/none.cfg", "init"],
         "",
         3,
         "",
-        "zebraidx: cannot read %/none.cfg\n",
+        "zebraidx: cannot read %/none.cfg\nzebraidx: cause: nothing stands there\n",
     ),
 ];
 

@@ -1,11 +1,7 @@
-//! Tests of the whole program over its public names, and no product code: lines as they come, paths, damaged registers, and sources,
-//! writers and memory that fail.
+//! Tests of the whole program over its public names, and no product code: a register on a disk, and sources, writers and memory that
+//! fail.
 #![tactic(auto)]
 
-#[cfg(test)]
-mod by_lines;
-#[cfg(test)]
-mod damaged;
 #[cfg(test)]
 mod failing;
 #[cfg(test)]
@@ -15,4 +11,8 @@ mod folder;
 #[cfg(test)]
 mod memory;
 #[cfg(test)]
-mod paths;
+mod records;
+#[cfg(test)]
+mod runs;
+#[cfg(test)]
+mod words;

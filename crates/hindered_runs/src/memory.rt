@@ -1,9 +1,9 @@
 //! The program while memory is refused. Whichever allocation is refused (tests/each_allocation.py of the repository refuses each in
 //! turn), a run writes its ordinary answer, or ends in status 3; and run again it writes its ordinary answer.
 
-use script_rows::records::{Unmade, with_records};
-use script_rows::runs::Outcome;
-use script_rows::words::{expect, loaded, run_words};
+use crate::records::{Unmade, with_records};
+use crate::runs::Outcome;
+use crate::words::{expect, loaded, run_words};
 use std::alloc::Global;
 use std::str;
 use std::test::Fail;

@@ -1,9 +1,9 @@
-//! Files whose analysis is known from outside.
+//! Analyses under a limit, and want of memory. What is printed of records stands in `crates/rows`.
+
 use std::alloc::{AllocError, Global};
 use std::test::Fail;
 use worked_samples::{BARE, BOOKS, CUT, MOBY, MOBY_LINES};
 use zeb_analysis::{AnalysisFault, analyse, analysis_lines};
-use zeb_extract::IdentFault;
 use zeb_marc::MarcFault;
 use zeb_profile::Profile;
 
@@ -38,33 +38,6 @@ struct Refused<'a> {
     fault: AnalysisFault,
 }
 
-#[test]
-fn the_sample_record_is_printed(rt: HostRuntime) -> Result<(), Fail> {
-    let profile = Profile::read(rt.alloc(), BOOKS)?;
-    let names = names_of(rt.alloc(), &profile)?;
-    let files = files_of(rt.alloc(), &[&[MOBY]])?;
-    let analyses = analyse(rt.alloc(), &profile, 1, &files)?;
-    assert_eq!(rt; analyses.len(), 1);
-    let first = analyses.first().ok_or("no analysis")?;
-    let lines = analysis_lines(rt.alloc(), &names, first)?;
-    assert_eq!(rt; lines.as_str(), MOBY_LINES);
-    Ok(())
-}
-
-/// Records are counted in their file, with separators passed over.
-#[test]
-fn records_have_their_places(rt: HostRuntime) -> Result<(), Fail> {
-    let profile = Profile::read(rt.alloc(), BOOKS)?;
-    let files = files_of(rt.alloc(), &[&[MOBY, b"\r\n", MOBY, b"\n"], &[], &[MOBY]])?;
-    let mut places = String::new(rt.alloc());
-    for analysis in &analyse(rt.alloc(), &profile, 3, &files)? {
-        let (file, nth) = (analysis.file, analysis.nth);
-        write!(places, "{file} {nth}, ")?;
-    }
-    assert_eq!(rt; places.as_str(), "1 1, 1 2, 3 1, ");
-    Ok(())
-}
-
 /// Each row is files that are refused, and by what.
 #[test]
 fn the_first_that_refuses_ends_it(rt: HostRuntime) -> Result<(), Fail> {
@@ -73,27 +46,12 @@ fn the_first_that_refuses_ends_it(rt: HostRuntime) -> Result<(), Fail> {
         nth: 2,
         fault: MarcFault::Truncated,
     };
-    let unnamed = AnalysisFault::Ident {
-        file: 2,
-        nth: 1,
-        fault: IdentFault::NoIdentifier,
-    };
     let rows = [
-        Refused {
-            files: &[&[MOBY, CUT]],
-            limit: 9,
-            fault: cut,
-        },
         // The limit is of records, and what stands behind the last one is none.
         Refused {
             files: &[&[MOBY, CUT]],
             limit: 1,
             fault: cut,
-        },
-        Refused {
-            files: &[&[MOBY], &[BARE]],
-            limit: 2,
-            fault: unnamed,
         },
         // A record too many isn't looked at.
         Refused {

@@ -2,7 +2,6 @@
 
 mod faults;
 mod lookups;
-mod marc21;
 
 use std::process::Abort;
 use zeb_profile::{Profile, ProfileFault, ProfileFaultKind};

@@ -1,4 +1,4 @@
-//! Queries, scans and their faults, from the table of attributes that are kept and worked by hand.
+//! Plans of queries and scans, and their faults, also while a request for memory is refused.
 
 use std::alloc::{AllocError, Global};
 use std::test::Fail;
@@ -6,20 +6,12 @@ use worked_samples::BOOKS;
 use zeb_profile::Profile;
 use zeb_query::{Plan, QueryFault, ScanPlan, plan, plan_scan, read_pqf};
 
-mod combinations;
-mod diagnostics;
-mod limits;
 mod memory;
-mod order;
+mod one_each;
 mod plans;
-mod scans;
-mod texts;
 
 /// The sample profile without an index for the use attribute that holds where none is given.
 const WITHOUT_ANY: &str = "store books.db\nidentifier 001\natt 4 Title\nmelm 245 Title\n";
-
-/// A profile whose one index has all registers.
-const WHOLE: &str = "store books.db\nidentifier 001\natt 1016 All\nmelm 245 All:w,All:p,All:n\n";
 
 /// Rows, each a text, and behind an arrow what it comes to.
 struct Table {

@@ -30,11 +30,13 @@ impl<'a> Failing<'a> {
 }
 
 impl Source for Failing<'_> {
-    ghost use Rattle.std.specs.Prelude.{None};
+    ghost use Rattle.std.specs.Prelude.{None, true};
 
     ghost remaining = { λ _. None };
 
     ghost has_failed = { λ s. s.failed };
+
+    ghost may_fail = { λ _. true };
 
     fn read(&mut self, buffer: &mut [u8]) -> Result<usize, ReadFailed> {
         self.reads = self.reads.saturating_add(1);

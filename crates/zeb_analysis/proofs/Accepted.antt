@@ -1,5 +1,5 @@
 -- Files of which nothing is refused.
-use Rattle.zeb_analysis.proofs.Cited.{◌≡◌, ◌∙◌, ℕ, ◌+◌, ◌≤◌, ◌<◌, suc, true, false, cond, leb, List, [], ◌∷◌, length, length-append, Option, Some, None, Result, Ok, Err, refl, sym, ap, arith, AllByRecursion, flat_map, option_or, leb-false, Directive, MarcFault, first_fault, split_of, TooManyRecords, Analysed, AnalysesTo, Standing, first_refusal, refused_content, refused_record, standing_from, standing_in_all, slices_of}
+use Rattle.zeb_analysis.proofs.Cited.{◌≡◌, ◌∙◌, ℕ, ◌+◌, ◌≤◌, ◌<◌, suc, true, false, cond, leb, List, [], ◌∷◌, length, length-append, Option, Some, None, Result, Ok, Err, refl, sym, ap, arith, AllByRecursion, flat_map, option_or, leb-false, Directive, MarcFault, first_fault, split_of, TooManyRecords, Analysed, AnalysesTo, Standing, first_refusal, refused_content, refused_record, standing_from, standing_in_all, slices_of, IsWhole}
 use Rattle.zeb_analysis.specs.Analysing.{refusal_at, standing_in}
 use Rattle.zeb_analysis.proofs.SoFar.{as_many, refusal-append}
 
@@ -57,15 +57,8 @@ module _ (profile : List Directive) (limit : ℕ) where
       let rest = as_many_in_all (before + length these) (file + 1) texts both.1 in
       ((here.0, rest.0), omega (arith, length-append these others, length-append (slices_of text) (flat_map slices_of texts), here.1, rest.1))
 
-  module _ (texts : List (List ℕ)) (analyses : List Analysed) (is : AnalysesTo profile limit texts (Ok analyses)) where
-    all_are : length analyses ≡ length (standing_in_all 1 texts)
-    all_are = as_many profile limit (standing_in_all 1 texts) analyses is.1
-
-    pub one_each : length analyses ≡ length (flat_map slices_of texts)
-    one_each = all_are ∙ (as_many_in_all 0 1 texts is.0).1
-
-    pub few : length analyses ≤ limit
-    few = omega (arith, all_are, few_stand 0 (standing_in_all 1 texts) (omega arith) is.0)
-
-    pub all_sound : AllByRecursion (λ text. (split_of text).fault ≡ None) texts
-    all_sound = (as_many_in_all 0 1 texts is.0).0
+  pub is_whole : (texts : List (List ℕ)) (analyses : List Analysed) → AnalysesTo profile limit texts (Ok analyses) → IsWhole limit texts analyses
+  is_whole texts analyses is =
+      let all_are = as_many profile limit (standing_in_all 1 texts) analyses is.1 in
+      let all = as_many_in_all 0 1 texts is.0 in
+      record { one_each = all_are ∙ all.1; few = omega (arith, all_are, few_stand 0 (standing_in_all 1 texts) (omega arith) is.0); sound = all.0 }

@@ -12,7 +12,7 @@ pub use Rattle.std.specs.Prelude.{slice_get, ⊤}
 pub use Rattle.std.specs.Str.Lossy.{utf8_lossy}
 pub use Rattle.std.specs.Str.Parse.{digits_value}
 pub use Rattle.zeb_analysis.specs.Analysing.{Analysed, AnalysesTo, Standing, first_refusal, refused_content, refused_record, standing_from, standing_in_all, IsAnalysisOf, at_place, AreAnalysesOf, refused_name, units_in, analysed}
-pub use Rattle.zeb_analysis.specs.Laws.{slices_of, IsFirstRefused, IsRefusal}
+pub use Rattle.zeb_analysis.specs.Laws.{slices_of, IsWhole, IsFirstRefused, IsRefusal}
 pub use Rattle.zeb_analysis.specs.Printing.{printed_number, occurrence_line, record_line}
 pub use Rattle.zeb_analysis.specs.PrivateRefusals.{ident_fault}
 pub use Rattle.zeb_analysis.specs.PrivateWalk.{Extends, ReadsPlace}

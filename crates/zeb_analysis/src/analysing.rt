@@ -1,8 +1,8 @@
 //! Files of records, analysed record by record.
 ghost use Rattle.std.specs.Prelude.{◌≡◌, ◌≢◌, IfOk, IfErr, OnOk, length, map};
 ghost use Rattle.zeb_marc.specs.Splits.{next_of};
-ghost use Rattle.zeb_analysis.specs.Analysing.{AnalysesTo, IsAnalysisOf, analysed, first_refusal, refusal_at, standing_in};
-ghost use Rattle.zeb_analysis.specs.PrivateWalk.{Extends, ReadsPlace, record_at};
+ghost use Rattle.zeb_analysis.specs.Analysing.{AnalysesTo, IsAnalysisOf, analysed, first_refusal, standing_in};
+ghost use Rattle.zeb_analysis.specs.PrivateWalk.{Extends, ReadsPlace, record_at, refused_in};
 
 use crate::faults::{AnalysisFault, Place};
 use std::alloc::Global;
@@ -59,10 +59,11 @@ fn analyse_record(
     before: u64,
     incoming: Incoming<'_>,
 ) -> Result<Analysis, AnalysisFault>
-    ensures passed { OnOk result (refusal_at setting.now.profile.now setting.now.limit before (record_at incoming.entry) ≡ None) }
-    ensures ok { IfOk result (λ analysis. IsAnalysisOf setting.now.profile.now (record_at incoming.entry) (analysed analysis)) }
+    ensures passed { OnOk result (refused_in setting.now before incoming.entry ≡ None) }
+    ensures ok { IfOk result (λ analysis.
+        IsAnalysisOf setting.now.profile.now (record_at incoming.entry) (analysed analysis)) }
     ensures err { IfErr result (λ fault. fault ≢ AnalysisFault.Memory
-        → refusal_at setting.now.profile.now setting.now.limit before (record_at incoming.entry) ≡ Some fault) }
+        → refused_in setting.now before incoming.entry ≡ Some fault) }
 {
     let Incoming { place, bytes } = incoming;
     if before >= setting.limit {
@@ -92,11 +93,12 @@ fn analyse_file(
     file: u64,
     bytes: &[u8],
 ) -> Result<(), AnalysisFault>
-    ensures ok { OnOk result (Extends setting.now.profile.now setting.now.limit (standing_in file bytes.now)
+    ensures ok { OnOk result (Extends setting.now.profile.now setting.now.limit
+        (standing_in file bytes.now)
         (map analysed analyses.old.items) (map analysed analyses.new.items)) }
     ensures err { IfErr result (λ fault. fault ≢ AnalysisFault.Memory
-        → first_refusal setting.now.profile.now setting.now.limit (length (map analysed analyses.old.items))
-        (standing_in file bytes.now) ≡ Some fault) }
+        → first_refusal setting.now.profile.now setting.now.limit
+        (length (map analysed analyses.old.items)) (standing_in file bytes.now) ≡ Some fault) }
 {
     let mut left = Slice::new(bytes);
     let mut nth = 1;
@@ -124,7 +126,8 @@ pub fn analyse(
     files: &[Vec<u8>],
 ) -> Result<Vec<Analysis>, AnalysisFault>
     ensures ok { IfOk result (λ analyses.
-        AnalysesTo profile.now limit (map (λ file. file.items) files.now) (Ok (map analysed analyses.items))) }
+        AnalysesTo profile.now limit (map (λ file. file.items) files.now)
+        (Ok (map analysed analyses.items))) }
     ensures err { IfErr result (λ fault. fault ≢ AnalysisFault.Memory
         → AnalysesTo profile.now limit (map (λ file. file.items) files.now) (Err fault)) }
 {

@@ -1,5 +1,7 @@
 //! Why an analysis ends.
 ghost use Rattle.std.specs.Prelude.{◌≡◌};
+ghost use Rattle.zeb_analysis.specs.PrivateRefusals.{ident_fault};
+ghost use Rattle.zeb_analysis.specs.declared.faults.AnalysisFault.TheVariants.{Marc, Memory};
 
 use std::alloc::{AllocError, AllocFailed};
 use std::error::Error;
@@ -36,9 +38,6 @@ pub(crate) struct Place {
 }
 
 impl Place {
-    ghost use Rattle.zeb_analysis.specs.PrivateRefusals.{ident_fault};
-    ghost use Rattle.zeb_analysis.specs.declared.faults.AnalysisFault.TheVariants.{Marc};
-
     /// The fault of the bytes that stand here.
     pub fn of_marc(self, fault: MarcFault) -> AnalysisFault
         ensures { result ≡ Marc self.file self.nth fault }
@@ -82,8 +81,6 @@ impl fmt::Display for AnalysisFault {
 impl Error for AnalysisFault {}
 
 impl From<AllocError> for AnalysisFault {
-    ghost use Rattle.zeb_analysis.specs.declared.faults.AnalysisFault.TheVariants.{Memory};
-
     ghost from_gives = { λ _ fault. fault ≡ Memory };
 
     fn from(_error: AllocError) -> AnalysisFault {
@@ -92,8 +89,6 @@ impl From<AllocError> for AnalysisFault {
 }
 
 impl<T: Drop> From<AllocFailed<T>> for AnalysisFault {
-    ghost use Rattle.zeb_analysis.specs.declared.faults.AnalysisFault.TheVariants.{Memory};
-
     ghost from_gives = { λ _ fault. fault ≡ Memory };
 
     fn from(_error: AllocFailed<T>) -> AnalysisFault {

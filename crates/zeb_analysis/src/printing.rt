@@ -18,7 +18,6 @@ fn number_text(alloc: Global, term: &str) -> Result<String, AllocError>
     }
 }
 
-/// A term as it is printed.
 fn term_text(alloc: Global, register: Register, term: &str) -> Result<String, AllocError>
     ensures { IfOk result (λ text. string_bytes text ≡ printed_term register term.now) }
 {
@@ -38,13 +37,13 @@ fn name_of(names: &[String], index: u32) -> &str
     }
 }
 
-/// The line of one occurrence.
 fn occurrence_text(
     alloc: Global,
     names: &[String],
     occurrence: &Occurrence,
 ) -> Result<String, AllocError>
-    ensures { IfOk result (λ text. string_bytes text ≡ occurrence_line (map string_bytes names.now) occurrence.now) }
+    ensures { IfOk result (λ text. string_bytes text
+        ≡ occurrence_line (map string_bytes names.now) occurrence.now) }
 {
     let name = name_of(names, occurrence.key.index);
     let register = occurrence.key.register;
@@ -54,7 +53,6 @@ fn occurrence_text(
     format!(in alloc; "{name}:{register} {seq} {pos} {term}\n")
 }
 
-/// The line of the record itself.
 fn record_text(alloc: Global, analysis: &Analysis) -> Result<String, AllocError>
     ensures { IfOk result (λ text. string_bytes text ≡ record_line (analysed analysis.now)) }
 {
@@ -72,7 +70,8 @@ pub fn analysis_lines(
     names: &[String],
     analysis: &Analysis,
 ) -> Result<String, AllocError>
-    ensures { IfOk result (λ text. string_bytes text ≡ analysis_text (map string_bytes names.now) (analysed analysis.now)) }
+    ensures { IfOk result (λ text. string_bytes text
+        ≡ analysis_text (map string_bytes names.now) (analysed analysis.now)) }
 {
     let mut text = record_text(alloc, analysis)?;
     for occurrence in &analysis.occurrences {

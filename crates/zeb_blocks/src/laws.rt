@@ -1,5 +1,6 @@
 //! What holds of blocks, whatever their lists: each law is the contract of a function that does nothing.
 ghost use Rattle.std.specs.Prelude.{◌≡◌, ◌≢◌, ◌^◌, ◌-◌, ◌≤◌, ◌<◌, ◌∷◌, ◌++◌, [], ℕ, List, length};
+ghost use Rattle.std.specs.List.{AllByRecursion};
 ghost use Rattle.zeb_blocks.specs.declared.postings.Posting.{Posting};
 ghost use Rattle.zeb_blocks.specs.Blocks.{BlockSpells, LiesIn};
 ghost use Rattle.zeb_blocks.specs.Numbers.{IsShortestForm, uleb};
@@ -24,25 +25,17 @@ pub fn numbers_are_in_their_shortest_form()
 
 /// The definitions, tried on worked lists and on bytes that spell none.
 pub fn worked_examples()
-    ensures one { BlockSpells 0 (at 1 2 2 ∷ []) (1 ∷ 2 ∷ 2 ∷ []) }
-    ensures next_unit { BlockSpells 0 (at 1 2 2 ∷ at 1 3 1 ∷ []) (1 ∷ 2 ∷ 2 ∷ 0 ∷ 1 ∷ 1 ∷ []) }
-    ensures next_place { BlockSpells 0 (at 1 2 2 ∷ at 1 2 5 ∷ []) (1 ∷ 2 ∷ 2 ∷ 0 ∷ 0 ∷ 3 ∷ []) }
-    ensures next_record { BlockSpells 0 (at 1 2 2 ∷ at 255 1 1 ∷ [])
-        (1 ∷ 2 ∷ 2 ∷ 0xfe ∷ 1 ∷ 1 ∷ 1 ∷ []) }
-    ensures next_block { BlockSpells 1 (at 256 2 2 ∷ []) (0 ∷ 2 ∷ 2 ∷ []) }
-    ensures long { BlockSpells (2 ^ 56 - 1) (at (2 ^ 64 - 1) (2 ^ 63) (2 ^ 64 - 1) ∷ [])
+    ensures spelled { BlockSpells 0 (at 1 2 2 ∷ []) (1 ∷ 2 ∷ 2 ∷ [])
+        × BlockSpells 0 (at 1 2 2 ∷ at 1 3 1 ∷ []) (1 ∷ 2 ∷ 2 ∷ 0 ∷ 1 ∷ 1 ∷ [])
+        × BlockSpells 0 (at 1 2 2 ∷ at 1 2 5 ∷ []) (1 ∷ 2 ∷ 2 ∷ 0 ∷ 0 ∷ 3 ∷ [])
+        × BlockSpells 0 (at 1 2 2 ∷ at 255 1 1 ∷ []) (1 ∷ 2 ∷ 2 ∷ 0xfe ∷ 1 ∷ 1 ∷ 1 ∷ []) }
+    ensures other_blocks { BlockSpells 1 (at 256 2 2 ∷ []) (0 ∷ 2 ∷ 2 ∷ [])
+        × BlockSpells (2 ^ 56 - 1) (at (2 ^ 64 - 1) (2 ^ 63) (2 ^ 64 - 1) ∷ [])
         (0xff ∷ 1 ∷ (ten_bytes 0x80 1 ++ ten_bytes 0xff 1)) }
-
     // What spells no list of block 0: nothing, a number 0, a cut, a number that isn't in its shortest form, no rise, a posting
     // outside the block, and numbers that don't fit 64 bits.
-    ensures empty { (list : List Posting) → ¬ BlockSpells 0 list [] }
-    ensures zero { (list : List Posting) → ¬ BlockSpells 0 list (0 ∷ 2 ∷ 2 ∷ []) }
-    ensures cut { (list : List Posting) → ¬ BlockSpells 0 list (1 ∷ 2 ∷ []) }
-    ensures padded { (list : List Posting) → ¬ BlockSpells 0 list (1 ∷ 2 ∷ 0x82 ∷ 0 ∷ []) }
-    ensures level { (list : List Posting) → ¬ BlockSpells 0 list (1 ∷ 2 ∷ 2 ∷ 0 ∷ 0 ∷ 0 ∷ []) }
-    ensures outside { (list : List Posting) → ¬ BlockSpells 0 list (0x80 ∷ 2 ∷ 1 ∷ 1 ∷ []) }
-    ensures too_large { (list : List Posting)
-        → ¬ BlockSpells 0 list (1 ∷ (ten_bytes 0xff 2 ++ 1 ∷ [])) }
-    ensures too_long { (list : List Posting)
-        → ¬ BlockSpells 0 list (1 ∷ (ten_bytes 0x80 0x81 ++ 1 ∷ 1 ∷ [])) }
+    ensures none { AllByRecursion (λ bytes. (list : List Posting) → ¬ BlockSpells 0 list bytes)
+        ([] ∷ (0 ∷ 2 ∷ 2 ∷ []) ∷ (1 ∷ 2 ∷ []) ∷ (1 ∷ 2 ∷ 0x82 ∷ 0 ∷ [])
+        ∷ (1 ∷ 2 ∷ 2 ∷ 0 ∷ 0 ∷ 0 ∷ []) ∷ (0x80 ∷ 2 ∷ 1 ∷ 1 ∷ [])
+        ∷ (1 ∷ (ten_bytes 0xff 2 ++ 1 ∷ [])) ∷ (1 ∷ (ten_bytes 0x80 0x81 ++ 1 ∷ 1 ∷ [])) ∷ []) }
 {}

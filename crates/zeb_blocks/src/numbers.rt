@@ -9,7 +9,8 @@ const GROUP: u64 = 128;
 
 /// The value with one more group, which counts by the scale; `None` where that doesn't fit 64 bits.
 fn with_group(value: u64, scale: u64, byte: u8) -> Option<u64>
-    ensures { SomeIff result (value + scale * (byte % 128) < 2 ^ 64) (value + scale * (byte % 128)) }
+    ensures { SomeIff result
+        (value + scale * (byte % 128) < 2 ^ 64) (value + scale * (byte % 128)) }
 {
     let group = scale.checked_mul(u64::from(byte) % GROUP)?;
     value.checked_add(group)

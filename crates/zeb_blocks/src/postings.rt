@@ -1,8 +1,8 @@
 //! A posting, one place at which a key stands, and the blocks of postings.
 ghost use Rattle.std.specs.Prelude.{◌^◌, ◌*◌, ◌<◌, SomeIff};
 
-/// How many system numbers belong to one block.
-pub(crate) const BLOCK_RECORDS: u64 = 256;
+/// How many system numbers belong to one block: a record is in the block of its number div these.
+pub const BLOCK_RECORDS: u64 = 256;
 
 /// A place of a key in a database: the record's system number, the number of the unit in that record, and the number of the word
 /// or number in that unit. In a block each is 1 to 2^64 - 1.

@@ -120,7 +120,8 @@ impl<'a> Model for Postings<'a> {
 
     ghost view = { λ s. postings_at s.count s.before s.bytes.now };
 
-    ghost invariant = { λ s. SpellsFrom s.before (postings_at s.count s.before s.bytes.now) s.bytes.now };
+    ghost invariant = { λ s.
+        SpellsFrom s.before (postings_at s.count s.before s.bytes.now) s.bytes.now };
 }
 
 impl<'a> Postings<'a> {

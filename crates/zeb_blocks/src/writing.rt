@@ -26,9 +26,14 @@ impl Model for BlockWriter {
     ghost use Rattle.zeb_blocks.specs.Left.{postings_at};
     ghost use Rattle.zeb_blocks.specs.Writing.{IsWritten};
 
-    ghost view = { λ w. record { block = w.block; list = postings_at w.count (start_of w.block) w.bytes.items } };
+    ghost view = { λ w. record {
+      block = w.block;
+      list = postings_at w.count (start_of w.block) w.bytes.items;
+    } };
 
-    ghost invariant = { λ w. IsWritten w.block (postings_at w.count (start_of w.block) w.bytes.items) w.last w.bytes.items };
+    ghost invariant = { λ w.
+        IsWritten w.block (postings_at w.count (start_of w.block) w.bytes.items) w.last
+        w.bytes.items };
 }
 
 impl BlockWriter {

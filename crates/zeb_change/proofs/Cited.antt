@@ -30,7 +30,7 @@ pub use Rattle.std.specs.Bool.{Decides}
 pub use Rattle.std.specs.Char.{IsScalar}
 pub use Rattle.std.specs.Cmp.{nat_cmp_total, int_cmp_total}
 pub use Rattle.std.specs.Cmp.Lexicographic.{pointwise, same_text}
-pub use Rattle.std.specs.List.{flat_map, Contains, AllByRecursion, AllPass, enumerate_from}
+pub use Rattle.std.specs.List.{flat_map, Contains, AllByRecursion, AllZip, AllPass, enumerate_from}
 pub use Rattle.std.specs.List.Sorted.{IsStableByKey, ties}
 pub use Rattle.std.specs.Map.{lookup, set_value}
 pub use Rattle.std.specs.Ordering.{nat_cmp, ordering_then, is_eq, int_eq, ordering_reverse}
@@ -65,7 +65,8 @@ pub use Rattle.zeb_change.specs.PrivateReasons.{TakesNamed, IsDamageOrFailure, I
 pub use Rattle.zeb_change.specs.PrivateRecords.{IsElderAs, elder_bytes, GoesBy, IsWholeElder, IsNewer}
 pub use Rattle.zeb_change.specs.PrivateStanding.{WillBe, standing, WillBeFolded, WillBeTaken, Standing}
 pub use Rattle.zeb_change.specs.PrivateTallies.{AreInRange, IsTallied}
-pub use Rattle.zeb_change.specs.Reading.{HasFailedAt, NoneFailed}
+pub use Rattle.zeb_change.specs.Reading.{HasFailedAt, NoneFailed, StayAble}
+pub use Rattle.zeb_marc.specs.Reading.{StaysAble}
 pub use Rattle.zeb_change.specs.Reasons.{IsRefusedFor, LosesNamedAlone, AreNamed, HasReasonAt, IsAllowed, IsAtFault, IsNamed, IsNewAt, NamesAny, IsRefusedAt}
 pub use Rattle.zeb_change.specs.PrivateRecordChanges.{Point, Turns, AreStores, Steps, Accepts, ChangesRecord, HasOccurrences, IsSound, IsWithdrawn, NotesRecord, RefusesTurn, WritesRecords, point, Answers, RefusesSound, TurnsRecord, FailsTurn, FailsWhole, TellsFailure, IsUnsound}
 pub use Rattle.zeb_change.specs.PrivateRecordFolds.{At, FoldsRecord, SettlesNotes, TakesFiles, TakesRecord, TakesRest, point_in, ChangesFiles, at, Each, EndsAll, EndsFile, ThenSettles, Advances, AreReadAs, IsReadAs, IsUnsettled, OfReaders, TakesReader, TakesReaders}

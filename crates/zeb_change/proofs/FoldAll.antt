@@ -1,5 +1,5 @@
 -- Readers of files, of which one may have failed.
-use Rattle.zeb_change.proofs.Cited.{◌≡◌, ◌⊎◌, ◌∙◌, ◌+◌, ◌<◌, ◌≤◌, ℕ, zero, suc, List, [], ◌∷◌, Bool, true, false, length, drop, get_or, set, length-set, get_or-set_other, get_or-set_same, arith, refl, sym, ap, inl, inr, AllByRecursion, cases_order, HasFailedAt, NoneFailed}
+use Rattle.zeb_change.proofs.Cited.{◌≡◌, ◌⊎◌, ◌∙◌, ◌+◌, ◌<◌, ◌≤◌, ℕ, zero, suc, List, [], ◌∷◌, Bool, true, false, length, drop, get_or, set, length-set, get_or-set_other, get_or-set_same, arith, refl, sym, ap, inl, inr, AllByRecursion, AllZip, cases_order, HasFailedAt, NoneFailed}
 
 pub drop_all : {A : Type 0} (xs : List A) (n : ℕ) → length xs ≤ n → drop n xs ≡ []
 drop_all [] zero within = refl
@@ -72,3 +72,17 @@ one_failed failed (x ∷ xs) = by (failed x) refl (one_failed failed xs)
         failed = some.1.failed;
       },
     )
+
+-- ---- readers that can't fail
+
+pub all_same : {X : Type 0} (Q : X → X → Type 0) → ((x : X) → Q x x) → (xs : List X) → AllZip Q xs xs
+all_same Q same [] = tt
+all_same Q same (x ∷ xs) = (same x, all_same Q same xs)
+
+-- one of them is set to what it leads to
+pub all_zip_set : {X : Type 0} (Q : X → X → Type 0) (xs ys : List X) (i : ℕ) (d z : X) → AllZip Q xs ys → Q (get_or xs i d) z → AllZip Q xs (set ys i z)
+all_zip_set Q [] [] i d z all leads = tt
+all_zip_set Q [] (y ∷ ys) i d z all leads = absurd all
+all_zip_set Q (x ∷ xs) [] i d z all leads = absurd all
+all_zip_set Q (x ∷ xs) (y ∷ ys) zero d z all leads = (leads, all.1)
+all_zip_set Q (x ∷ xs) (y ∷ ys) (suc i) d z all leads = (all.0, all_zip_set Q xs ys i d z all.1 leads)

@@ -1,6 +1,7 @@
 -- What is answered where a reader of the files has failed.
 use Rattle.std.specs.Prelude.{◌≡◌, ◌≢◌, ◌+◌, ◌<◌, ◌≤◌, ℕ, Bool, true, false, List, length, slice_index_or, Result, Err}
-use Rattle.std.specs.List.{AllByRecursion}
+use Rattle.std.specs.List.{AllByRecursion, AllZip}
+use Rattle.zeb_marc.specs.Reading.{StaysAble}
 use Rattle.zeb_change.specs.declared.refusals.Refusal.{Refusal}
 use Rattle.zeb_change.specs.declared.refusals.Refusal.TheVariants.{ReadFault}
 
@@ -33,3 +34,7 @@ TellsFailed has_failed old new result = NoneFailed has_failed old → (file : �
 -- a call is refused so for readers alone that have failed
 abbrev pub BlamesFailed : {R T : Type 0} → (R → Bool) → List R → Result T Refusal → Type 0
 BlamesFailed has_failed readers result = (file : ℕ) → result ≡ Err (ReadFault file) → HasFailedAt has_failed readers file
+
+-- readers that can't fail stay so, and none of them has failed that hadn't, one by one
+abbrev pub StayAble : {R : Type 0} → (may_fail has_failed : R → Bool) → (old new : List R) → Type 0
+StayAble may_fail has_failed = AllZip (StaysAble may_fail has_failed)

@@ -16,7 +16,8 @@ ghost use Rattle.zeb_change.specs.Reasons.{IsRefusedFor, LosesNamedAlone};
 ghost use Rattle.zeb_change.specs.Costs.{IsFilesCost, IsWorkFor};
 ghost use Rattle.zeb_change.specs.Noted.{IsNothingNoted};
 ghost use Rattle.zeb_change.specs.Refused.{NeverUnready, Meets};
-ghost use Rattle.zeb_change.specs.Reading.{NamesFailed, NoneFailed, TellsFailed, BlamesFailed};
+ghost use Rattle.zeb_marc.specs.Reading.{StaysAble};
+ghost use Rattle.zeb_change.specs.Reading.{NamesFailed, NoneFailed, TellsFailed, BlamesFailed, StayAble};
 ghost use Rattle.zeb_change.specs.Outcomes.{fold_refusal, take_refusal};
 ghost use Rattle.zeb_change.specs.PrivateFaults.{as_refusal};
 ghost use Rattle.zeb_change.specs.PrivateReading.{ReadsRecord};
@@ -45,6 +46,7 @@ fn read_record<R: Source>(reader: &mut R, buffer: &mut RecordBuf) -> Result<bool
     ensures reads { ReadsRecord (R.has_failed reader.new) (R.remaining reader.old) result buffer.new
         (R.remaining reader.new) }
     ensures failed { IsErrOf result MarcFault.ReadFault ↔ (R.has_failed reader.new ≡ true) }
+    ensures able { StaysAble R.may_fail R.has_failed reader.old reader.new }
 {
     if reader.has_failed() {
         return Err(MarcFault::ReadFault);
@@ -160,6 +162,7 @@ fn fold_file<S: Alter, L: Layout, R: Source>(
         → as_refusal fold_refusal result ≡ Err (Refusal.ReadFault file) }
     ensures fault { (other : ℕ) → as_refusal fold_refusal result ≡ Err (Refusal.ReadFault other)
         → (other ≡ file) × (R.has_failed reader.new ≡ true) }
+    ensures able { StaysAble R.may_fail R.has_failed reader.old reader.new }
 {
     for nth in 1..u64::MAX {
         let found = match read_record(reader, buffer) {
@@ -201,6 +204,7 @@ fn fold_readers<S: Alter, L: Layout, R: Source>(
     ensures failed { TellsFailed R.has_failed readers.old readers.new
         (as_refusal fold_refusal result) }
     ensures fault { BlamesFailed R.has_failed readers.new (as_refusal fold_refusal result) }
+    ensures able { StayAble R.may_fail R.has_failed readers.old readers.new }
 {
     for (index, reader) in readers.iter_mut().enumerate() {
         let file = index as u64 + 1;
@@ -230,6 +234,7 @@ fn take_files<S: Alter, L: Layout, R: Source>(
     ensures all { OnOk result (IsNothingNoted pending.new) }
     ensures failed { TellsFailed R.has_failed readers.old readers.new result }
     ensures fault { BlamesFailed R.has_failed readers.new result }
+    ensures able { StayAble R.may_fail R.has_failed readers.old readers.new }
     ensures ready { NeverUnready result }
 {
     fold_readers::<S, L, R>(tx, setting, fold, pending, buffer, readers)?;
@@ -285,6 +290,7 @@ pub fn fold_files<S: Alter, L: Layout, R: Source>(
         records_of (state S.Store tx.new.conn.now) fold.new.progress.last) }
     ensures failed { TellsFailed R.has_failed readers.old readers.new result }
     ensures fault { BlamesFailed R.has_failed readers.new result }
+    ensures able { StayAble R.may_fail R.has_failed readers.old readers.new }
     ensures ready { NeverUnready result }
     ensures crash { Survives (state S.Store tx.old.conn.now) (state S.Store tx.new.conn.now)
         (λ _. ⊥) }

@@ -39,7 +39,8 @@ fn given<'a>(
     places: &'a [Place],
 ) -> Result<Vec<RecordChange<'a>>, AllocError>
     ensures many { IfOk result (λ given. length given.items ≡ length counts.now) }
-    ensures told { IfOk result (λ given. (changes : List KeyChange) → counts.now ≡ map counts_in changes → places.now ≡ places_in changes
+    ensures told { IfOk result (λ given. (changes : List KeyChange)
+        → counts.now ≡ map counts_in changes → places.now ≡ places_in changes
         → AreGivenInOrder changes given.items) }
 {
     let mut given = Vec::with_capacity(alloc, counts.len())?;
@@ -68,23 +69,32 @@ fn write_key<S: Alter, L: Layout>(
     notes: &KeyNotes,
 ) -> Result<(), RegFault>
     ensures same { tx.new.conn.ghost_name ≡ tx.old.conn.ghost_name }
-    ensures call { Inside (state S.Store tx.old.conn.now) (state S.Store tx.new.conn.now) result (λ _. GoesOn) }
-    ensures written { HasCleanDisk (state S.Store tx.new.conn.now) → IsTrue (state S.Store tx.old.conn.now).in_transaction
+    ensures call { Inside (state S.Store tx.old.conn.now) (state S.Store tx.new.conn.now) result
+        (λ _. GoesOn) }
+    ensures written { HasCleanDisk (state S.Store tx.new.conn.now)
+        → IsTrue (state S.Store tx.old.conn.now).in_transaction
         → IsStore (state S.Store tx.old.conn.now)
         → OnOk result (IsStore (state S.Store tx.new.conn.now)
-        × KeepsLists (state S.Store tx.old.conn.now).now.trees (state S.Store tx.new.conn.now).now.trees
-        × ((before after : Content) → holds_in L.format (state S.Store tx.old.conn.now).now.trees before
-        → ArePutAt db.0 key.now notes.now before after → holds_in L.format (state S.Store tx.new.conn.now).now.trees after)) }
-    ensures honest { HasCleanDisk (state S.Store tx.new.conn.now) → IsTrue (state S.Store tx.old.conn.now).in_transaction
+        × KeepsLists (state S.Store tx.old.conn.now).now.trees
+        (state S.Store tx.new.conn.now).now.trees
+        × ((before after : Content) → holds_in L.format (state S.Store tx.old.conn.now).now.trees
+        before
+        → ArePutAt db.0 key.now notes.now before after
+        → holds_in L.format (state S.Store tx.new.conn.now).now.trees after)) }
+    ensures honest { HasCleanDisk (state S.Store tx.new.conn.now)
+        → IsTrue (state S.Store tx.old.conn.now).in_transaction
         → IsStore (state S.Store tx.old.conn.now)
         → result ≡ Err RegFault.Damaged
-        → (before after : Content) → IsStorable before → holds_in L.format (state S.Store tx.old.conn.now).now.trees before
+        → (before after : Content) → IsStorable before
+        → holds_in L.format (state S.Store tx.old.conn.now).now.trees before
         → ¬ ArePutAt db.0 key.now notes.now before after }
     ensures work { OnOk result (IsWorkFor L.row_work notes.now.count work.old work.new) }
     ensures no_work { L.row_work ≡ 0 → work.new ≡ work.old }
-    ensures malformed { InStore (state S.Store tx.old.conn.now) (state S.Store tx.new.conn.now) (λ trees. OnOk result
+    ensures malformed { InStore (state S.Store tx.old.conn.now) (state S.Store tx.new.conn.now)
+        (λ trees. OnOk result
         (KeepsMalformed trees (state S.Store tx.new.conn.now).now.trees)) }
-    ensures beside { InStore (state S.Store tx.old.conn.now) (state S.Store tx.new.conn.now) (λ trees. OnOk result
+    ensures beside { InStore (state S.Store tx.old.conn.now) (state S.Store tx.new.conn.now)
+        (λ trees. OnOk result
         (KeepsRowsBeside (Int db.0 ∷ []) trees (state S.Store tx.new.conn.now).now.trees)) }
 {
     let (counts, places) = notes.read(alloc)?;
@@ -106,12 +116,15 @@ pub fn write_pending<S: Alter, L: Layout>(
     pending: &mut Pending,
 ) -> Result<(), RegFault>
     ensures same { tx.new.conn.ghost_name ≡ tx.old.conn.ghost_name }
-    ensures call { Settles L.format L.row_work db.0 (state S.Store tx.old.conn.now) (state S.Store tx.new.conn.now) pending.old pending.new
+    ensures call { Settles L.format L.row_work db.0 (state S.Store tx.old.conn.now)
+        (state S.Store tx.new.conn.now) pending.old pending.new
         work.old work.new result }
     ensures all { OnOk result (IsNothingNoted pending.new) }
-    ensures malformed { InStore (state S.Store tx.old.conn.now) (state S.Store tx.new.conn.now) (λ trees. OnOk result
+    ensures malformed { InStore (state S.Store tx.old.conn.now) (state S.Store tx.new.conn.now)
+        (λ trees. OnOk result
         (KeepsMalformed trees (state S.Store tx.new.conn.now).now.trees)) }
-    ensures beside { InStore (state S.Store tx.old.conn.now) (state S.Store tx.new.conn.now) (λ trees. OnOk result
+    ensures beside { InStore (state S.Store tx.old.conn.now) (state S.Store tx.new.conn.now)
+        (λ trees. OnOk result
         (KeepsRowsBeside (Int db.0 ∷ []) trees (state S.Store tx.new.conn.now).now.trees)) }
     // Over a layout whose rows count nothing the counts stay, also where it is refused.
     ensures no_work { L.row_work ≡ 0 → work.new ≡ work.old }
@@ -132,11 +145,14 @@ pub fn write_where_full<S: Alter, L: Layout>(
     pending: &mut Pending,
 ) -> Result<(), RegFault>
     ensures same { tx.new.conn.ghost_name ≡ tx.old.conn.ghost_name }
-    ensures call { Settles L.format L.row_work db.0 (state S.Store tx.old.conn.now) (state S.Store tx.new.conn.now) pending.old pending.new
+    ensures call { Settles L.format L.row_work db.0 (state S.Store tx.old.conn.now)
+        (state S.Store tx.new.conn.now) pending.old pending.new
         work.old work.new result }
-    ensures malformed { InStore (state S.Store tx.old.conn.now) (state S.Store tx.new.conn.now) (λ trees. OnOk result
+    ensures malformed { InStore (state S.Store tx.old.conn.now) (state S.Store tx.new.conn.now)
+        (λ trees. OnOk result
         (KeepsMalformed trees (state S.Store tx.new.conn.now).now.trees)) }
-    ensures beside { InStore (state S.Store tx.old.conn.now) (state S.Store tx.new.conn.now) (λ trees. OnOk result
+    ensures beside { InStore (state S.Store tx.old.conn.now) (state S.Store tx.new.conn.now)
+        (λ trees. OnOk result
         (KeepsRowsBeside (Int db.0 ∷ []) trees (state S.Store tx.new.conn.now).now.trees)) }
     ensures no_work { L.row_work ≡ 0 → work.new ≡ work.old }
 {

@@ -64,7 +64,7 @@ pub use Rattle.zeb_change.specs.Inside.{StaysInside}
 pub use Rattle.zeb_change.specs.Occurs.{occurs}
 pub use Rattle.zeb_change.specs.Outcomes.{analysis_refusal, register_refusal, query_refusal, marc_refusal}
 pub use Rattle.zeb_change.specs.PrivateConditions.{AreSessions}
-pub use Rattle.zeb_change.specs.Reading.{HasFailedAt, NamesFailed, NoneFailed, NoReadFault}
+pub use Rattle.zeb_change.specs.Reading.{HasFailedAt, NamesFailed, NoneFailed, NoReadFault, StayAble}
 pub use Rattle.zeb_change.specs.Reasons.{LosesNamedAlone, NamesAny, HasReasonAt, IsNewAt, IsRefusedAt, IsRefusedFor}
 pub use Rattle.zeb_change.specs.Refused.{why_of, Why, Meets, diagnostic, database_full, too_many_records, unknown, damaged, old_format, profile_changed, rule_changed, read_fault, store_failed, out_of_memory, not_initialised, NeverUnready, IsFailing, exists}
 pub use Rattle.zeb_change.specs.Stored.{AreKept, IsBase, AreStored, ArePosted}
@@ -81,8 +81,8 @@ pub use Rattle.zeb_change.specs.declared.tally.Fate.TheVariants.{Inserted, Updat
 pub use Rattle.zeb_engine.specs.Adopting.{StaysOpen, HasOwnTables}
 pub use Rattle.zeb_engine.specs.Finding.{FindSays, HidesHit, HidesOne, MeetsDamage, RefusesFind, FindAlone, RefusedAlone, CanBeShown, FindOver, FindTells, SoundHits, FindDoes, has_name, AreShown, IsAnswered, IsNamed, IsPlanned, IsShown, asked_of, IsFound, IsAnsweredBy, IsPlannedBy, FindReads, IsPlanOf, PlanReads}
 pub use Rattle.zeb_engine.specs.Asking.{IsSaidOrMissed, OfDatabase, IsAsked, Alone, IsSaid, Said}
-pub use Rattle.zeb_engine.specs.Scanning.{ScanSays, HidesAround, HidesPlanned, HidesTerms, AreAroundCounted, ScanOver, TellsAround, ScanTells, ScanDoes, ScanReads, IsScanned, IsScanPlanned, around, IsScannedBy, IsScanPlannedBy, AreAround}
-pub use Rattle.zeb_engine.specs.Counting.{StatSays, HidesRegisters, HidesRegister, StatOver, IsSoundUnder, StatTells, IsCounted, IsExtent, Paired, Target, target_list, targets_below}
+pub use Rattle.zeb_engine.specs.Scanning.{ScanSays, HidesAround, HidesPlanned, HidesTerms, ScanOver, TellsAround, ScanTells, ScanDoes, ScanReads, IsScanned, IsScanPlanned, around, IsScannedBy, IsScanPlannedBy, AreAround}
+pub use Rattle.zeb_engine.specs.Counting.{StatSays, HidesRegisters, HidesRegister, StatOver, IsSummedUp, StatTells, IsCounted, IsExtent, Paired, Target, target_list, targets_below}
 pub use Rattle.zeb_engine.specs.Analysed.{IsAnalysed, analysis_answer, IsAnalysis}
 pub use Rattle.zeb_engine.specs.Answers.{refused, IsFailure, changed, reply_answer, Answer, answer_of, found, scanned, Extent, done, extent_of, analysed, dumped, no_database}
 pub use Rattle.zeb_engine.specs.Making.{DropsDatabase, OnAccepted, MakesDatabase, CreateOver, DropOver, CountedAnswers, CreateDoes, DropDoes}
@@ -95,7 +95,7 @@ pub use Rattle.zeb_engine.specs.Reindexing.{CanBeRemade, IsRemade, ReindexLeaves
 pub use Rattle.zeb_engine.specs.Upgrading.{UpgradeLeaves, RefusesUpgrade, KeepsUpgradable}
 pub use Rattle.zeb_engine.specs.Costs.{no_work, Costs, CostsAlone}
 pub use Rattle.zeb_engine.specs.Counts.{CommandCounts}
-pub use Rattle.zeb_engine.specs.Crashes.{Accepts, Bears, KeepsDisk, IsStoreDisk, Stands, Leaves, CommitsBy, CommitsAdopted, Endures, IsRefused, CommitsReindex, CommitsCommand, CommitsOne, IsCarriedOut, LeavesOne, AreRefused, EnduresRun, RunLeft, AdoptLasts, CommandLasts, RunLasts}
+pub use Rattle.zeb_engine.specs.Crashes.{Accepts, Bears, KeepsDisk, IsStoreDisk, Stands, Leaves, CommitsBy, CommitsAdopted, Endures, IsRefused, CommitsReindex, CommitsCommand, MayCommit, CommitsOne, IsCarriedOut, LeavesOne, AreRefused, EnduresRun, RunLeft, AdoptLasts, CommandLasts, RunLasts}
 pub use Rattle.zeb_engine.specs.Does.{AnswersAnyway, CommandOverTables, Does, InitLeaves}
 pub use Rattle.zeb_engine.specs.PrivateAdopting.{HoldsNothing, MayBeTaken}
 pub use Rattle.zeb_engine.specs.PrivateChanging.{MayBeginUnder, MayBegin, BeginsWith, last_of, IsMissedFor, comes_to}
@@ -184,9 +184,9 @@ pub use Rattle.zeb_register.specs.Content.{Content, Posting, posting_cmp, IsStor
 pub use Rattle.zeb_register.specs.Formats.{Format, holds_in, version_of, plain_rows, packed_blocks}
 pub use Rattle.zeb_register.specs.Kept.{IsFirstFrom, AreReadable, IsNumberOf, IsRecordCount, IsIdentOf, AreReadableIdents}
 pub use Rattle.zeb_register.specs.Occurring.{AreTermsBefore, AreTermsFrom, is_before, is_from, last, AreTotals}
-pub use Rattle.zeb_register.specs.PackedBlocks.{AreBeforeCounted, AreFromCounted, IsRegisterSound}
 pub use Rattle.zeb_register.specs.PlainRows.{register_front}
-pub use Rattle.zeb_register.specs.Sound.{KeepsBeside, KeepsMalformed, KeepsRowsBeside, InPacked, TellsBefore, TellsFrom, AreTermsSound}
+pub use Rattle.zeb_register.specs.Sound.{KeepsBeside, KeepsMalformed, KeepsRowsBeside}
+pub use Rattle.zeb_register.specs.Terms.{HidesBefore, HidesFrom, HidesSums, ListsBefore, ListsFrom, SumsUp}
 pub use Rattle.zeb_register.specs.Sql.{HasRow, Replaces, KeepsOthers, Loses, KeepsTables}
 pub use Rattle.zeb_register.specs.Store.{IsStore, IsEmptyStore, Changes, LacksRegisters, meta_tree, entry, IsEntryOf, record_row, HasDatabase, HasRecord, blocks_tree, databases_tree, dict_tree, postings_tree, KeepsRegisters, IsRecordIn, TakesDatabase, IsPostingIn, records_tree, IsValueOf, AreReadableTexts, KeepsLists}
 pub use Rattle.zeb_register.specs.Tables.{store_schema, no_schema}

@@ -1,7 +1,6 @@
 -- What a command has done, by what its own call says of the values that the command has.
-use Rattle.zeb_engine.proofs.Cited.{◌≡◌, ◌∙◌, ℕ, List, [], Result, Ok, Err, OnOk, String, Vec, map, string_bytes, refl, subst, subst₂, Global, Ghosts, Held, state, State, HasCleanDisk, Survives, nothing_still, Work, Posting, Format, Conditions, Limits, IsImage, IsStore, holding, InitLeaves, Reply, Refusal, DbName, name_bytes, Analyse, Find, Scan, Step, Commanded, CommandDone, FindDoes, ScanDoes, FindReads, ScanReads, Finds, ScansFrom, FoundFrom, ScannedFrom, IsAnalysis, IsSettled, no_work, NoReadFault}
+use Rattle.zeb_engine.proofs.Cited.{◌≡◌, ◌∙◌, ℕ, List, [], Result, Ok, Err, OnOk, String, Vec, map, string_bytes, refl, subst, subst₂, Global, Ghosts, Held, state, State, HasCleanDisk, Survives, nothing_still, Work, Posting, Format, Conditions, Limits, IsImage, IsStore, holding, InitLeaves, Reply, Refusal, DbName, name_bytes, Analyse, Find, Scan, Commanded, CommandDone, FindDoes, ScanDoes, FindReads, ScanReads, Finds, ScansFrom, FoundFrom, ScannedFrom, IsAnalysis, IsSettled, no_work, NoReadFault}
 use Rattle.zeb_engine.specs.Steps.{ready}
-use Rattle.zeb_engine.proofs.CommitCrashes.{none_commits}
 use Rattle.zeb_engine.proofs.ReadyCommands.{analysis_serves, asks_serve}
 use Rattle.zeb_engine.proofs.StoreCauses.{analysis_caused}
 
@@ -26,8 +25,7 @@ module _ {S : Type 0} (g : Ghosts S) (format : Format) (row_work : ℕ) (block_r
       let said = subst₂ (λ n q. FindSaid n q first count) is_name is_asked (subst₂ (λ f m. FindSaid name asked f m) is_from is_many says) in
       record {
         call = call;
-        survives = none_commits (Step c (Find database query first count)) (state g old) (state g new) commits;
-        remade = λ is. absurd (cc is);
+        survives = commits;
         step = λ clean. asks_serve (λ before. FoundFrom c (name_bytes database) (string_bytes query) first count (ready c before)) (state g old) (state g new) answer (said.0 clean);
         does = λ clean settled. said.1 clean;
         answers = unread;
@@ -51,8 +49,7 @@ module _ {S : Type 0} (g : Ghosts S) (format : Format) (row_work : ℕ) (block_r
       let said = subst₂ (λ n q. ScanSaid n q number position) is_name is_asked (subst₂ (λ m p. ScanSaid name asked m p) is_many is_at says) in
       record {
         call = call;
-        survives = none_commits (Step c (Scan database query number position)) (state g old) (state g new) commits;
-        remade = λ is. absurd (cc is);
+        survives = commits;
         step = λ clean. asks_serve (λ before. ScannedFrom c (name_bytes database) (string_bytes query) number position (ready c before)) (state g old) (state g new) answer (said.0 clean);
         does = λ clean settled. said.1 clean;
         answers = unread;
@@ -71,8 +68,7 @@ analysis_done g format row_work block_rows c held answer work fresh files given 
     let s = state g held in
     record {
       call = refl;
-      survives = none_commits (Step c (Analyse files)) s s commits;
-      remade = λ is. absurd (cc is);
+      survives = commits;
       step = λ clean. analysis_serves answer files c s analysed;
       does = λ clean settled. record { nothing = nothing_still s; caused = analysis_caused c (map (λ file. file.items) files.items) s s answer analysed };
       answers = (unread, analysed);

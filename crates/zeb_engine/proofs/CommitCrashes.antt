@@ -1,5 +1,5 @@
 -- What a crash leaves, by what a transaction was given to commit.
-use Rattle.zeb_engine.proofs.Cited.{◌≡◌, ◌⊎◌, ◌∙◌, ℕ, true, List, Result, Ok, Err, IfErr, OnOk, inl, inr, arith, refl, sym, ap, subst, IsTrue, Trees, Ghosts, Database, IsDatabase, State, HasCleanDisk, IsLive, IsUnchanged, Opens, Survives, Held, state, Schema, lists_once, catalog_tree, survives_then, ChangesNothing, GoesOn, IsStore, IsEmptyStore, no_schema, store_schema, Reply, Refusal, StaysOpen, Answer, reply_answer, IsFailure, Conditions, Accepts, Bears, KeepsDisk, IsStoreDisk, Stands, Leaves, CommitsBy, CommitsAdopted, Endures, IsEmptyDisk, Commits, CommitsTables, Holdings, IsImage, Keeps, Ends, Outcome, EnduresRefusal, IsDurable, LeavesNoMore, Write, Fits, IsReached, written, ServesBy, Always, ReachesOutcome, Format}
+use Rattle.zeb_engine.proofs.Cited.{◌≡◌, ◌⊎◌, ◌∙◌, ℕ, true, List, Result, Ok, Err, IfErr, OnOk, inl, inr, arith, refl, sym, ap, subst, IsTrue, Trees, Ghosts, Database, IsDatabase, State, HasCleanDisk, IsLive, IsUnchanged, Opens, Survives, Held, state, Schema, lists_once, catalog_tree, survives_then, ChangesNothing, GoesOn, IsStore, IsEmptyStore, no_schema, store_schema, Reply, Refusal, StaysOpen, Answer, reply_answer, IsFailure, Conditions, Accepts, Bears, KeepsDisk, IsStoreDisk, Stands, Leaves, CommitsBy, CommitsCommand, MayCommit, CommitsAdopted, Endures, IsEmptyDisk, Command, Init, Create, Drop, Change, Find, Scan, Check, Reindex, Upgrade, Stat, Dump, Analyse, Commits, CommitsTables, Holdings, IsImage, Keeps, Ends, Outcome, EnduresRefusal, IsDurable, LeavesNoMore, Write, Fits, IsReached, written, ServesBy, Always, ReachesOutcome, Format}
 use Rattle.zeb_engine.specs.declared.replies.Reply.TheVariants as reply
 use Rattle.zeb_change.specs.declared.refusals.Refusal.TheVariants as refusal
 use Rattle.zeb_engine.proofs.ServesLemmas.{keeps_still, reached_inside}
@@ -56,6 +56,37 @@ survives_as old new P Q so it = record {
   closes = it.closes;
   crash = λ clean db left. elim (it.crash clean db left) [ inl was ↦ inl was | inr made ↦ inr (so clean db made) ];
 }
+
+pub survives_both : (old new : State) (P Q : Trees → Type 0) → Survives old new P → Survives old new Q → Survives old new (λ db. P db × Q db)
+survives_both old new P Q one other = record {
+  clean = one.clean;
+  shield = one.shield;
+  counts = one.counts;
+  limit = one.limit;
+  closes = one.closes;
+  crash = λ clean db left. elim (one.crash clean db left) [
+    | inl was ↦ inl was
+    | inr made ↦ elim (other.crash clean db left) [ inl was ↦ inl was | inr too ↦ inr (made, too) ]
+  ];
+}
+
+-- what a command commits, an accepted step of it leaves
+commits_step : (format : Format) (c : Conditions) (command : Command) (old : State) (db : Trees) → MayCommit format c command old db → CommitsCommand c command old db
+commits_step format c Init old db made = made
+commits_step format c (Create name) old db made = made
+commits_step format c (Drop name) old db made = made
+commits_step format c (Change kind name files) old db made = made
+commits_step format c Reindex old db made = made.0
+commits_step format c Upgrade old db made = made
+commits_step format c (Find name query first count) old db made = absurd made
+commits_step format c (Scan name query number position) old db made = absurd made
+commits_step format c Check old db made = absurd made
+commits_step format c (Stat name) old db made = absurd made
+commits_step format c (Dump name) old db made = absurd made
+commits_step format c (Analyse files) old db made = absurd made
+
+pub survives_step : (format : Format) (c : Conditions) (command : Command) (old new : State) → Survives old new (MayCommit format c command old) → Survives old new (CommitsCommand c command old)
+survives_step format c command old new survives = survives_as old new _ _ (λ clean db. commits_step format c command old db) survives
 
 -- `inside` is the connection as the transaction begins
 pub survives_inside : {S : Type 0} (g : Ghosts S) (old inside : Held S) (new : State) (P : Trees → Type 0) → inside ≡ record old { in_transaction = true } → Survives (state g inside) new P → Survives (state g old) new P
@@ -163,10 +194,6 @@ pub ends_commit : (does : Holdings → Outcome) (old new : State) → Survives o
 ends_commit does old new survives =
     survives_as old new (Commits Always does old) (CommitsBy (λ before. Ends (does before)) old)
     (λ clean db made before keeps. let done = made before (λ _. tt) keeps in ((does before).0, (does before).1, (refl, refl), done.0, done.1)) survives
-
--- a command that commits nothing
-pub none_commits : (Told : Holdings → Answer → Holdings → Type 0) (old new : State) → Survives old new (λ _. ⊥) → Survives old new (CommitsBy Told old)
-none_commits Told old new survives = survives_as old new (λ _. ⊥) (CommitsBy Told old) (λ clean db none. absurd none) survives
 
 -- ---- a store that is taken over
 

@@ -1,5 +1,5 @@
 -- Readers of which none has failed.
-use Rattle.zeb_engine.proofs.Cited.{◌≡◌, ◌⊎◌, ◌∙◌, ◌≤◌, arith, ℕ, Bool, true, false, List, [], ◌∷◌, Result, Err, IsErrAnd, inl, inr, refl, subst, sym, ap, Refusal, ReadFault, HasFailedAt, NamesFailed, NoneFailed, fine_at, one_failed}
+use Rattle.zeb_engine.proofs.Cited.{◌≡◌, ◌⊎◌, ◌∙◌, ◌≤◌, arith, ℕ, Bool, true, false, List, [], ◌∷◌, Result, Err, IsErrAnd, inl, inr, refl, subst, sym, ap, Refusal, ReadFault, HasFailedAt, NamesFailed, NoneFailed, StayAble, fine_at, one_failed}
 
 pub no_file_failed : {R : Type 0} (failed : R → Bool) (readers : List R) → NoneFailed failed readers → (file : ℕ) → HasFailedAt failed readers file → ⊥
 no_file_failed failed readers none file at =
@@ -24,3 +24,8 @@ named_or_none failed readers result each = elim (one_failed failed readers) [
         let both = sym (each file at) ∙ each other there in
         let same : file ≡ other = cc in
         omega (arith, same)
+
+-- readers that nothing is read from stay what they are
+pub as_able : {R : Type 0} (may_fail has_failed : R → Bool) (readers : List R) → StayAble may_fail has_failed readers readers
+as_able may_fail has_failed [] = tt
+as_able may_fail has_failed (reader ∷ readers) = (λ sound. (sound, refl), as_able may_fail has_failed readers)

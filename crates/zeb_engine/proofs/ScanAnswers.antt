@@ -1,5 +1,5 @@
 -- A scan, step by step: the terms around a start, and that the postings have the terms that the kept records have.
-use Rattle.zeb_engine.proofs.Cited.{◌≡◌, ◌↔◌, ◌∙◌, ℕ, ℤ, ◌+◌, ◌-◌, List, ◌++◌, map, filter, take, Some, Result, Ok, Err, refl, sym, ap, ap₂, subst, subst₂, inr, string_bytes, Trees, Directive, QueryFault, Diagnostic, Memory, Fails, QueryValue, SpellsQuery, IsReadable, ScanValue, scan_of, Occurrence, TermCount, posted, Format, packed_blocks, plain_rows, AreTermsBefore, AreTermsFrom, is_before, is_from, last, AreBeforeCounted, AreFromCounted, register_front, InPacked, TellsBefore, TellsFrom, one_terms, terms_as, Answer, scanned, refused, AreAroundCounted, HidesAround, TellsAround, diagnostic, why_of, occurs, Base, base_named, query_refusal, AreAround, IsScanPlanned, ScanAnswers}
+use Rattle.zeb_engine.proofs.Cited.{◌≡◌, ◌↔◌, ◌∙◌, ℕ, ℤ, ◌+◌, ◌-◌, List, ◌++◌, map, filter, take, Some, Result, Ok, Err, refl, sym, ap, ap₂, subst, subst₂, inl, inr, string_bytes, Trees, Directive, QueryFault, Diagnostic, Memory, Fails, QueryValue, SpellsQuery, IsReadable, ScanValue, scan_of, Occurrence, TermCount, posted, Format, AreTermsBefore, AreTermsFrom, is_before, is_from, last, HidesBefore, HidesFrom, ListsBefore, ListsFrom, one_terms, terms_as, Answer, scanned, refused, HidesAround, TellsAround, diagnostic, why_of, occurs, Base, base_named, query_refusal, AreAround, IsScanPlanned, ScanAnswers}
 use Rattle.zeb_query.specs.Checks.{Refusal}
 use Rattle.zeb_engine.proofs.ReadyQueries.{Ends, said_ends}
 use Rattle.zeb_engine.proofs.DatabasesOfImages.{IsHeld}
@@ -17,40 +17,27 @@ around_lists O plan number position start below from first rest terms is_start i
     after.is ∙ ap (λ (l : List TermCount). take from (filter (is_from start) l)) one ∙ ap₂ (λ (n : ℕ) (s : List ℕ). take n (filter (is_from s) before.all)) is_from_many is_start in
     record { all = before.all; are = before.are; is = is ∙ ap₂ (λ (xs ys : List TermCount). xs ++ ys) front back }
 
--- the same of the terms that the rows tell, the first of them on the tables that a look leaves as they were
+-- the same of the terms that their counts tell, the first of them on the tables that a look leaves as they were
 pub around_told : (format : Format) (trees mid : Trees) (db : ℤ) (plan : ScanValue) (number position : ℕ) (start : List ℕ) (below from : ℕ) (first rest terms : List TermCount)
     → start ≡ plan.start → below ≡ position - 1 → from ≡ number + 1 - position → mid ≡ trees
-    → TellsBefore format trees db plan.index plan.register start below first → TellsFrom format mid db plan.index plan.register start from rest → terms ≡ first ++ rest
+    → ListsBefore format trees db plan.index plan.register start below first → ListsFrom format mid db plan.index plan.register start from rest → terms ≡ first ++ rest
     → TellsAround format trees db plan number position terms
 around_told format trees mid db plan number position start below from first rest terms is_start is_below_many is_from_many same before after is =
-    let front = subst₂ (λ (s : List ℕ) (n : ℕ). TellsBefore format trees db plan.index plan.register s n first) is_start is_below_many before in
-    let back = subst₂ (λ (s : List ℕ) (n : ℕ). TellsFrom format trees db plan.index plan.register s n rest) is_start is_from_many
-    (subst (λ (t : Trees). TellsFrom format t db plan.index plan.register start from rest) same after) in
+    let front = subst₂ (λ (s : List ℕ) (n : ℕ). ListsBefore format trees db plan.index plan.register s n first) is_start is_below_many before in
+    let back = subst₂ (λ (s : List ℕ) (n : ℕ). ListsFrom format trees db plan.index plan.register s n rest) is_start is_from_many
+    (subst (λ (t : Trees). ListsFrom format t db plan.index plan.register start from rest) same after) in
     record { below = first; rest = rest; before = front; from = back; joined = is }
 
--- ---- rows that can't be read
-
--- where less is enough, it is so too
-packed_less : (format : Format) (Enough Less : Type 0) → (Enough → Less) → InPacked format Enough → InPacked format Less
-packed_less plain_rows Enough Less so none = none
-packed_less packed_blocks Enough Less so all = so all
+-- ---- counts that can't be shown
 
 module _ (format : Format) (trees : Trees) (db : ℤ) (plan : ScanValue) (number position : ℕ) (start : List ℕ) (is_start : start ≡ plan.start) where
-  pub before_hides : (below : ℕ) → below ≡ position - 1
-      → (¬ InPacked format (AreBeforeCounted trees (register_front db plan.index plan.register) start below)) → HidesAround format trees db plan number position
-  before_hides below is_many hides all =
-      let front = register_front db plan.index plan.register in
-      let told = subst₂ (λ (s : List ℕ) (n : ℕ). ¬ InPacked format (AreBeforeCounted trees front s n)) is_start is_many hides in
-      told (packed_less format (AreAroundCounted trees db plan number position) (AreBeforeCounted trees front plan.start (position - 1)) (λ both. both.0) all)
+  pub before_hides : (below : ℕ) → below ≡ position - 1 → HidesBefore format trees db plan.index plan.register start below → HidesAround format trees db plan number position
+  before_hides below is_many hides = inl (subst₂ (λ (s : List ℕ) (n : ℕ). HidesBefore format trees db plan.index plan.register s n) is_start is_many hides)
 
   -- on the tables that the first look leaves as they were
-  pub from_hides : (mid : Trees) (from : ℕ) → from ≡ number + 1 - position → mid ≡ trees
-      → (¬ InPacked format (AreFromCounted mid (register_front db plan.index plan.register) start from)) → HidesAround format trees db plan number position
-  from_hides mid from is_many same hides all =
-      let front = register_front db plan.index plan.register in
-      let here = subst (λ (t : Trees). ¬ InPacked format (AreFromCounted t front start from)) same hides in
-      let told = subst₂ (λ (s : List ℕ) (n : ℕ). ¬ InPacked format (AreFromCounted trees front s n)) is_start is_many here in
-      told (packed_less format (AreAroundCounted trees db plan number position) (AreFromCounted trees front plan.start (number + 1 - position)) (λ both. both.1) all)
+  pub from_hides : (mid : Trees) (from : ℕ) → from ≡ number + 1 - position → mid ≡ trees → HidesFrom format mid db plan.index plan.register start from → HidesAround format trees db plan number position
+  from_hides mid from is_many same hides =
+      inr (subst₂ (λ (s : List ℕ) (n : ℕ). HidesFrom format trees db plan.index plan.register s n) is_start is_many (subst (λ (t : Trees). HidesFrom format t db plan.index plan.register start from) same hides))
 
 -- ---- sets of the same occurrences
 

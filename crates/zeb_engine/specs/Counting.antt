@@ -21,8 +21,7 @@ use Rattle.zeb_register.specs.Content.{posted}
 use Rattle.zeb_register.specs.Formats.{Format}
 use Rattle.zeb_register.specs.Kept.{IsRecordCount}
 use Rattle.zeb_register.specs.Occurring.{AreTotals}
-use Rattle.zeb_register.specs.PackedBlocks.{IsRegisterSound}
-use Rattle.zeb_register.specs.Sound.{AreTermsSound, InPacked}
+use Rattle.zeb_register.specs.Terms.{HidesSums, SumsUp}
 
 -- ---- the registers of a profile
 
@@ -85,24 +84,23 @@ abbrev pub StatSays : List Directive → Said
 StatSays profile trees content db last answer =
     (kept : ℕ) × (given : ℕ) × IsRecordCount trees db kept × (last ≡ pos given) × IsCounted (posted content db) profile kept given answer
 
--- the extent stands under the name of its index, and each row of its register counts a term and has a sound list
-pub record IsSoundUnder (format : Format) (profile : List Directive) (trees : Trees) (db : ℤ) (target : Target) (extent : Extent) : Type 0 where
+-- the extent stands under the name of its index, and is what the counts and units of its register sum up to
+pub record IsSummedUp (format : Format) (profile : List Directive) (trees : Trees) (db : ℤ) (target : Target) (extent : Extent) : Type 0 where
   pub under : IsUnder profile target extent
-  pub sound : AreTermsSound format trees db target.0 target.1
+  pub sums : SumsUp format trees db target.0 target.1 (record { terms = extent.terms; occurrences = extent.occurrences })
 
--- the database's records are counted, and its last number is told, with something of each register that the profile names
+-- the database's records are counted, and its last number is told, with the sums of each register that the profile names
 abbrev pub StatTells : Format → List Directive → Trees → OfDatabase
 StatTells format profile trees db last answer =
-    (kept : ℕ) × (given : ℕ) × IsRecordCount trees db kept × (last ≡ pos given) × IsCountedBy profile (IsSoundUnder format profile trees db) kept given answer
+    (kept : ℕ) × (given : ℕ) × IsRecordCount trees db kept × (last ≡ pos given) × IsCountedBy profile (IsSummedUp format profile trees db) kept given answer
 
 abbrev pub StatOver : Format → List Directive → (name : List ℕ) → Trees → Answer → Type 0
 StatOver format profile name trees = IsSaidOrMissed (StatTells format profile trees) name trees
 
--- Of packed blocks a row of `dict` in one of these registers counts no term, or a row of `blocks` of the terms that these show spells no
--- postings. Over plain rows damage is free here too.
+-- the sums of one of these registers can't be shown
 abbrev pub HidesRegister : Format → List Target → Trees → (db : ℤ) → Type 0
 HidesRegister format targets trees db =
-    (target : Target) × Has targets target × (¬ InPacked format (IsRegisterSound trees db target.0 target.1))
+    (target : Target) × Has targets target × HidesSums format trees db target.0 target.1
 
 -- so it is of one of the registers that the profile names
 abbrev pub HidesRegisters : Format → List Directive → (name : List ℕ) → Trees → Type 0
@@ -112,5 +110,5 @@ pub record StatDoes (format : Format) (c : Conditions) (name : List ℕ) (old ne
   pub looks : OnlyLooks old new answer
   pub ready : GoesByTexts c.version c.profile old answer
   pub alone : Alone format (StatSays c.profile) name old answer
-  -- it is refused as damage only where the row of the name or one of the packed registers of its profile can't be read
+  -- it is refused as damage only where the row of the name can't be read, or the sums of one of the registers of its profile can't be shown
   pub told : UnlessHidden c.version c.profile (StatOver format c.profile name) (HidesRegisters format c.profile name) old answer

@@ -12,7 +12,7 @@ use Rattle.zeb_register.specs.Sql.{IsKeyed}
 use Rattle.zeb_register.specs.Store.{IsStore}
 use Rattle.zeb_register.specs.Tables.{no_schema, store_schema}
 use Rattle.zeb_engine.specs.declared.commands.Command.{Command}
-use Rattle.zeb_engine.specs.declared.commands.Command.TheVariants.{Reindex}
+use Rattle.zeb_engine.specs.declared.commands.Command.TheVariants.{Init, Create, Drop, Change, Find, Scan, Check, Reindex, Upgrade, Stat, Dump, Analyse}
 use Rattle.zeb_engine.specs.declared.replies.Reply.{Reply}
 use Rattle.zeb_change.specs.declared.refusals.Refusal.{Refusal}
 use Rattle.zeb_change.specs.declared.refusals.Refusal.TheVariants.{Store}
@@ -72,6 +72,22 @@ CommitsReindex format profile old db = IsStore old →
     IsRemade format profile old.now.trees db
     × ((bases : List Base) → CanBeRemade profile old.now.trees bases → Stands db (under (version_of format) (canonical_text profile) bases))
 
+-- what a command commits: an accepted step of it leaves that; of a reindex also registers of the lists, whatever these held; and a command
+-- that only asks commits nothing, whatever the tables hold
+abbrev pub MayCommit : Format → Conditions → Command → State → Trees → Type 0
+MayCommit format c Init old = CommitsCommand c Init old
+MayCommit format c (Create name) old = CommitsCommand c (Create name) old
+MayCommit format c (Drop name) old = CommitsCommand c (Drop name) old
+MayCommit format c (Change kind name files) old = CommitsCommand c (Change kind name files) old
+MayCommit format c Reindex old = λ db. CommitsCommand c Reindex old db × CommitsReindex format c.profile old db
+MayCommit format c Upgrade old = CommitsCommand c Upgrade old
+MayCommit format c (Find name query first count) old = λ db. ⊥
+MayCommit format c (Scan name query number position) old = λ db. ⊥
+MayCommit format c Check old = λ db. ⊥
+MayCommit format c (Stat name) old = λ db. ⊥
+MayCommit format c (Dump name) old = λ db. ⊥
+MayCommit format c (Analyse files) old = λ db. ⊥
+
 -- what is held after an accepted step of a command: it was answered so, or its store failed
 abbrev pub IsCarriedOut : Conditions → Command → Holdings → Answer → Trees → Type 0
 IsCarriedOut c command before answer db =
@@ -105,10 +121,8 @@ Endures Told old new (Err Store) =
 Endures Told old new (Err refusal) = (before : Holdings) → Leaves old before → Leaves new before
 
 pub record CommandLasts (format : Format) (c : Conditions) (command : Command) (old new : State) (answer : Result Reply Refusal) : Type 0 where
-  -- nothing is committed but what an accepted step of the command leaves
-  pub survives : Survives old new (CommitsCommand c command old)
-  -- a reindex commits nothing but registers of the lists, whatever the registers held
-  pub remade : command ≡ Reindex → Survives old new (CommitsReindex format c.profile old)
+  -- nothing else is committed
+  pub survives : Survives old new (MayCommit format c command old)
   -- so a crash leaves what the command left, or what was there before it
   pub crash : HasCleanDisk new → Endures (Step c command) old new answer
 

@@ -3,7 +3,7 @@ use Rattle.std.specs.Prelude.{◌≡◌, ◌⊎◌, Bool, ℕ, List, map, Option
 use Rattle.sqlite.specs.State.{HasCleanDisk, State, Survives}
 use Rattle.zeb_register.specs.declared.registers.Work.{Work}
 use Rattle.zeb_change.specs.Conditions.{Conditions}
-use Rattle.zeb_change.specs.Reading.{HasFailedAt, NamesFailed, NoneFailed}
+use Rattle.zeb_change.specs.Reading.{HasFailedAt, NamesFailed, NoneFailed, StayAble}
 use Rattle.zeb_change.specs.declared.refusals.Refusal.{Refusal}
 use Rattle.zeb_change.specs.declared.refusals.Refusal.TheVariants.{Damaged, ReadFault}
 use Rattle.zeb_change.specs.declared.settings.Kind.{Kind}
@@ -24,10 +24,12 @@ Tell remaining readers texts = map remaining readers ≡ map Some texts
 abbrev pub Give : {R : Type 0} → (R → Option (List ℕ)) → (R → Bool) → (before after : List R) → (List (List ℕ) → Type 0) → Type 0
 Give remaining has_failed before after Said = (texts : List (List ℕ)) → Tell remaining before texts → NoneFailed has_failed after → Said texts
 
--- A reader that has failed, also before the call, is named, whatever else would be refused; and none is named that hasn't.
-pub record NamesFaults {R T : Type 0} (has_failed : R → Bool) (after : List R) (answer : Result T Refusal) : Type 0 where
+-- A reader that has failed, also before the call, is named, whatever else would be refused; and none is named that hasn't, nor so one
+-- that can't fail.
+pub record NamesFaults {R T : Type 0} (may_fail has_failed : R → Bool) (before after : List R) (answer : Result T Refusal) : Type 0 where
   pub sound : NoneFailed has_failed after ⊎ IsErrAnd answer (NamesFailed has_failed after)
   pub fault : (file : ℕ) → answer ≡ Err (ReadFault file) → HasFailedAt has_failed after file
+  pub able : StayAble may_fail has_failed before after
 
 module _ {R : Type 0} (remaining : R → Option (List ℕ)) (has_failed : R → Bool) (before after : List R) (c : Conditions) (kind : Kind) (name : List ℕ) (old new : State) (answer : Result Reply Refusal) where
   -- what it does on any tables, and whatever the readers tell

@@ -10,10 +10,9 @@ use Rattle.zeb_register.specs.Formats.{Format}
 use Rattle.zeb_change.specs.Conditions.{Conditions}
 use Rattle.zeb_change.specs.declared.refusals.Refusal.{Refusal}
 use Rattle.zeb_engine.specs.declared.commands.Command.{Command}
-use Rattle.zeb_engine.specs.declared.commands.Command.TheVariants.{Reindex}
 use Rattle.zeb_engine.specs.declared.replies.Reply.{Reply}
 use Rattle.zeb_engine.specs.Counts.{CommandCounts}
-use Rattle.zeb_engine.specs.Crashes.{CommitsCommand, CommitsReindex}
+use Rattle.zeb_engine.specs.Crashes.{MayCommit}
 use Rattle.zeb_engine.specs.Does.{AnswersAnyway, Does}
 use Rattle.zeb_engine.specs.Transactions.{CommandedBy}
 use Rattle.zeb_engine.specs.Works.{ServesCommand}
@@ -25,8 +24,7 @@ IsSettled s = IsTrue s.is_open → s.committed ≡ s.now
 pub record CommandDone {S : Type 0} (g : Ghosts S) (format : Format) (row_work : ℕ) (block_rows : List Posting → ℕ) (c : Conditions) (command : Command)
     (old new : Held S) (answer : Result Reply Refusal) (work : Work) : Type 0 where
   pub call : CommandedBy g command old new answer
-  pub survives : Survives (state g old) (state g new) (CommitsCommand c command (state g old))
-  pub remade : command ≡ Reindex → Survives (state g old) (state g new) (CommitsReindex format c.profile (state g old))
+  pub survives : Survives (state g old) (state g new) (MayCommit format c command (state g old))
   pub step : HasCleanDisk (state g new) → ServesCommand c command (state g old) (state g new) answer
   pub does : HasCleanDisk (state g new) → IsSettled (state g new) → Does format c command (state g old) (state g new) answer
   pub answers : AnswersAnyway c command answer

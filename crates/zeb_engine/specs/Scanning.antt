@@ -3,7 +3,7 @@
 -- what it answers by the registers alone.
 use Rattle.sqlite.specs.State.{State}
 use Rattle.sqlite.specs.Tree.{Trees}
-use Rattle.std.specs.Prelude.{◌≡◌, ℕ, ◌+◌, ◌-◌, List, ◌++◌, Result, Ok, Err, map, filter, take, ℤ, ◌≤◌, ◌*◌}
+use Rattle.std.specs.Prelude.{◌≡◌, ◌⊎◌, ℕ, ◌+◌, ◌-◌, List, ◌++◌, Result, Ok, Err, map, filter, take, ℤ, ◌≤◌, ◌*◌}
 use Rattle.zeb_change.specs.Conditions.{Conditions}
 use Rattle.zeb_change.specs.Refused.{diagnostic}
 use Rattle.zeb_change.specs.declared.refusals.Refusal.{Refusal}
@@ -22,10 +22,8 @@ use Rattle.zeb_query.specs.Plans.{ScanValue, scan_of}
 use Rattle.zeb_register.specs.Content.{Content, posted}
 use Rattle.zeb_register.specs.Formats.{Format, holds_in}
 use Rattle.zeb_register.specs.Occurring.{AreTermsOf, is_before, is_from, last}
-use Rattle.zeb_register.specs.PackedBlocks.{AreBeforeCounted, AreFromCounted}
-use Rattle.zeb_register.specs.PlainRows.{register_front}
-use Rattle.zeb_register.specs.Sound.{TellsBefore, TellsFrom, InPacked}
 use Rattle.zeb_register.specs.Store.{IsStore}
+use Rattle.zeb_register.specs.Terms.{HidesBefore, HidesFrom, ListsBefore, ListsFrom}
 use Rattle.zeb_register.specs.declared.registers.TermCount.{TermCount}
 use Rattle.zeb_register.specs.declared.registers.Work.{Work}
 use Rattle.zeb_search.specs.SearchCounts.{CountsAtMost}
@@ -73,13 +71,12 @@ module _ (O : ℕ → Occurrence → Type 0) where
 abbrev pub ScanSays : List Directive → List ℕ → ℕ → ℕ → Said
 ScanSays profile text number position trees content db last = IsScanned (posted content db) profile text number position
 
--- The terms are those that the rows of `dict` around the start tell: the last of the register below it, and the first that aren't. Each of
--- these rows counts a term.
+-- The terms are the last of the register below the start, and the first that aren't, as their counts say.
 pub record TellsAround (format : Format) (trees : Trees) (db : ℤ) (plan : ScanValue) (number position : ℕ) (terms : List TermCount) : Type 0 where
   pub below : List TermCount
   pub rest : List TermCount
-  pub before : TellsBefore format trees db plan.index plan.register plan.start (position - 1) below
-  pub from : TellsFrom format trees db plan.index plan.register plan.start (number + 1 - position) rest
+  pub before : ListsBefore format trees db plan.index plan.register plan.start (position - 1) below
+  pub from : ListsFrom format trees db plan.index plan.register plan.start (number + 1 - position) rest
   pub joined : terms ≡ below ++ rest
 
 -- they are answered as those of the register that the query asks for
@@ -89,22 +86,18 @@ ScanTells format profile text number position trees db last = IsScannedBy (Tells
 abbrev pub ScanOver : Format → List Directive → (name text : List ℕ) → (number position : ℕ) → Trees → Answer → Type 0
 ScanOver format profile name text number position trees = IsAsked (ScanTells format profile text number position trees) name text trees
 
--- Each row of `dict` that a scan reads counts a term: the last of the register below the start, and the first that aren't.
-abbrev pub AreAroundCounted : Trees → (db : ℤ) → ScanValue → (number position : ℕ) → Type 0
-AreAroundCounted trees db plan number position =
-    AreBeforeCounted trees (register_front db plan.index plan.register) plan.start (position - 1)
-    × AreFromCounted trees (register_front db plan.index plan.register) plan.start (number + 1 - position)
-
--- One of these rows of packed blocks doesn't. Over plain rows damage is free: of those it isn't said which can be read.
+-- the count of one of these terms can't be shown
 abbrev pub HidesAround : Format → Trees → (db : ℤ) → ScanValue → (number position : ℕ) → Type 0
-HidesAround format trees db plan number position = ¬ InPacked format (AreAroundCounted trees db plan number position)
+HidesAround format trees db plan number position =
+    HidesBefore format trees db plan.index plan.register plan.start (position - 1)
+    ⊎ HidesFrom format trees db plan.index plan.register plan.start (number + 1 - position)
 
--- the query has a plan for a scan, and so it is of the rows that this reads
+-- the query has a plan for a scan, and so it is of the terms that this asks for
 abbrev pub HidesPlanned : Format → List Directive → (text : List ℕ) → (number position : ℕ) → Trees → (db : ℤ) → Type 0
 HidesPlanned format profile text number position trees db =
     (plan : ScanValue) × IsScanPlanOf profile text plan × HidesAround format trees db plan number position
 
--- the query is read, and then the database or such rows of it can't be
+-- the query is read, and then the database can't be, or such a count of it can't be shown
 abbrev pub HidesTerms : Format → List Directive → (name text : List ℕ) → (number position : ℕ) → Trees → Type 0
 HidesTerms format profile name text number position trees = IsReadable text × HidesOf (HidesPlanned format profile text number position trees) name trees
 
@@ -119,7 +112,7 @@ pub record ScanDoes (format : Format) (c : Conditions) (name query : List ℕ) (
   pub looks : OnlyLooks old new answer
   pub ready : GoesByTexts c.version c.profile old answer
   pub alone : Alone format (ScanSays c.profile query number position) name old answer
-  -- Its terms are those that its rows tell. It is refused as damage only where the row of the name or one of packed registers that it reads
-  -- can't be read.
+  -- Its terms are those that their counts say. It is refused as damage only where the row of the name can't be read, or the count of one of
+  -- the terms that it asks for can't be shown.
   pub told : UnlessHidden c.version c.profile (ScanOver format c.profile name query number position)
       (HidesTerms format c.profile name query number position) old answer

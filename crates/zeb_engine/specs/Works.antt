@@ -52,7 +52,7 @@ module _ {S : Type 0} (g : Ghosts S) (Does : Command → Result Reply Refusal �
   InTurn [] (result ∷ results) old before new after = ⊥
   InTurn (command ∷ commands) [] old before new after = ⊥
 
--- what is said of one of the commands: all that is said of a command alone
+-- what is said of one of the commands: how it is answered, what it does to the tables, and what it has counted, as of a command alone
 pub record CommandTurns (format : Format) (row_work : ℕ) (block_rows : List Posting → ℕ) (c : Conditions) (command : Command)
     (answer : Result Reply Refusal) (old new : State) (work : Work) : Type 0 where
   pub step : ServesCommand c command old new answer

@@ -31,7 +31,8 @@ pub(crate) fn analyse_files(
     limits: Limits,
     files: &[Vec<u8>],
 ) -> Result<Reply, Refusal>
-    ensures told { IsAnalysed profile.now limits.records (map (λ file. file.items) files.now) (answer_of result)
+    ensures told { IsAnalysed profile.now limits.records (map (λ file. file.items) files.now)
+        (answer_of result)
         ⊎ (result ≡ Err Refusal.Memory) }
     ensures unread { NoReadFault result }
 {

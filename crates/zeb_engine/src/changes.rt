@@ -20,7 +20,7 @@ ghost use Rattle.zeb_engine.specs.Costs.{Costs};
 ghost use Rattle.zeb_image.specs.Image.{IsImage, Keeps};
 ghost use Rattle.zeb_image.specs.NameOf.{name_bytes};
 ghost use Rattle.zeb_change.specs.Refused.{NeverUnready, Meets, why_of};
-ghost use Rattle.zeb_change.specs.Reading.{HasFailedAt, NoneFailed, NoReadFault};
+ghost use Rattle.zeb_change.specs.Reading.{HasFailedAt, NoneFailed, NoReadFault, StayAble};
 ghost use Rattle.zeb_engine.specs.Steps.{ready, start_of};
 ghost use Rattle.zeb_engine.specs.Transactions.{Commanded};
 ghost use Rattle.zeb_change.specs.Inside.{StaysInside};
@@ -161,6 +161,7 @@ fn apply<S: Alter, L: Layout, R: Source>(
     ensures failed { NoneFailed R.has_failed readers.old → (file : ℕ) → HasFailedAt R.has_failed readers.new file
         → result ≡ Err (Refusal.ReadFault file) }
     ensures fault { (file : ℕ) → result ≡ Err (Refusal.ReadFault file) → HasFailedAt R.has_failed readers.new file }
+    ensures able { StayAble R.may_fail R.has_failed readers.old readers.new }
     ensures ready { NeverUnready result }
     ensures crash { CommitsNothing S.Store tx.old.conn.now tx.new.conn.now }
     ensures work { HasCleanDisk (state S.Store tx.new.conn.now) → IsTrue (state S.Store tx.old.conn.now).in_transaction
@@ -242,6 +243,7 @@ fn transact<S: Alter, L: Layout, R: Source>(
     ensures failed { NoneFailed R.has_failed readers.old → (file : ℕ) → HasFailedAt R.has_failed readers.new file
         → result ≡ Err (Refusal.ReadFault file) }
     ensures fault { (file : ℕ) → result ≡ Err (Refusal.ReadFault file) → HasFailedAt R.has_failed readers.new file }
+    ensures able { StayAble R.may_fail R.has_failed readers.old readers.new }
     ensures ready { NeverUnready result }
     ensures work { HasCleanDisk (state S.Store connection.new) → IsTrue (state S.Store connection.old).is_open
         → (texts : List (List ℕ)) → map R.remaining readers.old ≡ map Some texts
@@ -345,6 +347,7 @@ pub(crate) fn change_database<S: Alter, L: Layout, R: Source>(
     ensures failed { NoneFailed R.has_failed readers.old → (file : ℕ) → HasFailedAt R.has_failed readers.new file
         → result ≡ Err (Refusal.ReadFault file) }
     ensures fault { (file : ℕ) → result ≡ Err (Refusal.ReadFault file) → HasFailedAt R.has_failed readers.new file }
+    ensures able { StayAble R.may_fail R.has_failed readers.old readers.new }
     ensures ready { NeverUnready result }
     ensures work { HasCleanDisk (state S.Store connection.new) → (texts : List (List ℕ)) → map R.remaining readers.old ≡ map Some texts
         → OnOk result ((before : Holdings) → IsTrue (state S.Store connection.old).is_open

@@ -36,19 +36,25 @@ fn bytes_of<S: Alter>(
     database: DatabaseId,
 ) -> Result<Vec<u8>, RegFault>
     requires idle { connection.old.in_transaction ≡ false }
-    ensures joined { HasCleanDisk (state S.Store connection.new) → (trees : Trees) → ShowsStore (state S.Store connection.old) trees
-        → IsTrue (state S.Store connection.old).is_open → (records : List Kept) → KeepsBase trees database.0 records
+    ensures joined { HasCleanDisk (state S.Store connection.new) → (trees : Trees)
+        → ShowsStore (state S.Store connection.old) trees
+        → IsTrue (state S.Store connection.old).is_open → (records : List Kept)
+        → KeepsBase trees database.0 records
         → IfOk result (λ bytes. bytes.items ≡ flat_map (λ kept. kept.bytes) records) }
     // Whatever the tables hold, they are the bytes of records of the database.
-    ensures read { HasCleanDisk (state S.Store connection.new) → (trees : Trees) → ShowsStore (state S.Store connection.old) trees
-        → IsTrue (state S.Store connection.old).is_open → IfOk result (λ bytes. JoinsRecords trees database.0 bytes.items) }
+    ensures read { HasCleanDisk (state S.Store connection.new) → (trees : Trees)
+        → ShowsStore (state S.Store connection.old) trees
+        → IsTrue (state S.Store connection.old).is_open
+        → IfOk result (λ bytes. JoinsRecords trees database.0 bytes.items) }
     ensures idle { connection.new.in_transaction ≡ false }
     ensures open { LeavesOpen S.Store connection.old connection.new result }
     ensures same { LeavesAsIs S.Store connection.old connection.new }
     ensures crash { CommitsNothing S.Store connection.old connection.new }
     // Damage is told only of records that can't be read.
-    ensures honest { HasCleanDisk (state S.Store connection.new) → (trees : Trees) → ShowsStore (state S.Store connection.old) trees
-        → IsTrue (state S.Store connection.old).is_open → result ≡ Err RegFault.Damaged → ¬ AreReadable trees database.0 }
+    ensures honest { HasCleanDisk (state S.Store connection.new) → (trees : Trees)
+        → ShowsStore (state S.Store connection.old) trees
+        → IsTrue (state S.Store connection.old).is_open → result ≡ Err RegFault.Damaged
+        → ¬ AreReadable trees database.0 }
     ensures caused { IsReasoned (state S.Store connection.old) (state S.Store connection.new) result }
 {
     let mut bytes = Vec::new(alloc);
@@ -72,18 +78,21 @@ pub(crate) fn dump<S: Alter, L: Layout>(
 ) -> Result<Reply, Refusal>
     requires idle { connection.old.in_transaction ≡ false }
     ensures serves { HasCleanDisk (state S.Store connection.new) → (limits : Limits)
-        → Serves Always (dumped_by (conditions (version_of L.format) profile.now limits) (name_bytes name.now))
+        → Serves Always (dumped_by (conditions (version_of L.format) profile.now limits)
+        (name_bytes name.now))
         (state S.Store connection.old) (state S.Store connection.new) result }
     // Whatever the tables hold, it is of records that the database keeps, or refused by the definition, or as damage that they have.
     ensures tables { HasCleanDisk (state S.Store connection.new)
-        → UnlessHidden (version_of L.format) profile.now (DumpOver (name_bytes name.now)) (HidesRecords (name_bytes name.now))
+        → UnlessHidden (version_of L.format) profile.now (DumpOver (name_bytes name.now))
+        (HidesRecords (name_bytes name.now))
         (state S.Store connection.old) result }
     ensures idle { connection.new.in_transaction ≡ false }
     ensures open { FindsOpen S.Store connection.old connection.new result }
     ensures same { LeavesAsIs S.Store connection.old connection.new }
     ensures crash { CommitsNothing S.Store connection.old connection.new }
     ensures unread { NoReadFault result }
-    ensures ready { TellsReady S.Store (version_of L.format) profile.now connection.old connection.new result }
+    ensures ready { TellsReady S.Store (version_of L.format) profile.now connection.old
+        connection.new result }
     // The store fails for a cause.
     ensures caused { FailsForCause S.Store connection.old connection.new result }
 {

@@ -54,19 +54,22 @@ fn show<S: Alter>(
     numbers: &[u64],
 ) -> Result<Vec<Hit>, Refusal>
     requires idle { connection.old.in_transaction ≡ false }
-    ensures shown { HasCleanDisk (state S.Store connection.new) → (trees : Trees) → ShowsStore (state S.Store connection.old) trees
+    ensures shown { HasCleanDisk (state S.Store connection.new) → (trees : Trees)
+        → ShowsStore (state S.Store connection.old) trees
         → IfOk result (λ shown. AreShown (has_ident_in trees database.0) numbers.now (map (λ hit.
         (hit.sysno, string_bytes hit.ident)) shown.items)) }
     ensures idle { connection.new.in_transaction ≡ false }
     ensures open { LeavesOpen S.Store connection.old connection.new result }
     ensures same { LeavesAsIs S.Store connection.old connection.new }
     ensures crash { CommitsNothing S.Store connection.old connection.new }
-    ensures refused { HasCleanDisk (state S.Store connection.new) → (trees : Trees) → ShowsStore (state S.Store connection.old) trees
+    ensures refused { HasCleanDisk (state S.Store connection.new) → (trees : Trees)
+        → ShowsStore (state S.Store connection.old) trees
         → ((n : ℕ) → Has numbers.now n → n < 2 ^ 63)
         → IfErr result (λ refusal. IsFailure (refused (why_of refusal))
         ⊎ ((refusal ≡ Refusal.Damaged) × HidesOne trees database.0 numbers.now)) }
     // Whatever the numbers are, it is refused by a failure or as damage.
-    ensures few { IfErr result (λ refusal. (refusal ≡ Refusal.Damaged) ⊎ IsFailure (refused (why_of refusal))) }
+    ensures few { IfErr result (λ refusal. (refusal ≡ Refusal.Damaged)
+        ⊎ IsFailure (refused (why_of refusal))) }
     ensures unread { NoReadFault result }
     ensures ready { NeverUnready result }
     ensures caused { FailsForCause S.Store connection.old connection.new result }
@@ -90,7 +93,8 @@ fn asked_for<'a>(
     hits: &'a [u64],
     question: &Question<'_>,
 ) -> Result<&'a [u64], Refusal>
-    ensures asked { Meets (λ wanted asked. asked.now ≡ wanted) (asked_of hits.now question.now.first question.now.count) result }
+    ensures asked { Meets (λ wanted asked. asked.now ≡ wanted)
+        (asked_of hits.now question.now.first question.now.count) result }
     ensures unstored { IfErr result (λ refusal. why_of refusal ≢ store_failed) }
     ensures unread { NoReadFault result }
     ensures ready { NeverUnready result }
@@ -118,23 +122,30 @@ pub(crate) fn find<S: Alter, L: Layout>(
     question: Question<'_>,
 ) -> Result<Reply, Refusal>
     requires idle { connection.old.in_transaction ≡ false }
-    ensures found { HasCleanDisk (state S.Store connection.new) → IsTrue (state S.Store connection.old).is_open
+    ensures found { HasCleanDisk (state S.Store connection.new)
+        → IsTrue (state S.Store connection.old).is_open
         → (limits : Limits) (before : Holdings) (bases : List Base)
-        → ready (conditions (version_of L.format) profile.now limits) before ≡ Ok bases → Keeps (state S.Store connection.old) before
-        → AskedAmong (FindAnswers profile.now question.entry.query.now question.entry.first question.entry.count)
+        → ready (conditions (version_of L.format) profile.now limits) before ≡ Ok bases
+        → Keeps (state S.Store connection.old) before
+        → AskedAmong (FindAnswers profile.now question.entry.query.now question.entry.first
+        question.entry.count)
         (name_bytes name.now) question.entry.query.now bases (answer_of result)
         ⊎ IsFailure (answer_of result) }
     // The hits are read from the registers, on any tables that hold a content.
     ensures alone { HasCleanDisk (state S.Store connection.new)
-        → Alone L.format (FindSays profile.now question.entry.query.now question.entry.first question.entry.count) (name_bytes name.now)
+        → Alone L.format (FindSays profile.now question.entry.query.now question.entry.first
+        question.entry.count) (name_bytes name.now)
         (state S.Store connection.old) result }
     // Refused, on such tables, it is refused by the definition, or for damage in a row that it has to read.
     ensures refused { HasCleanDisk (state S.Store connection.new)
-        → RefusedAlone L.format (RefusesFind profile.now (name_bytes name.now) question.entry.query.now question.entry.first
+        → RefusedAlone L.format (RefusesFind profile.now (name_bytes name.now)
+        question.entry.query.now question.entry.first
         question.entry.count) (state S.Store connection.old) result }
     // Whatever the tables hold, each row of an entry that the query asks for is sound, and a hit is shown only as a record that is kept.
-    ensures tables { HasCleanDisk (state S.Store connection.new) → IsStore (state S.Store connection.old)
-        → TellsUnlessHidden (FindOver L.format profile.now (name_bytes name.now) question.entry.query.now question.entry.first
+    ensures tables { HasCleanDisk (state S.Store connection.new)
+        → IsStore (state S.Store connection.old)
+        → TellsUnlessHidden (FindOver L.format profile.now (name_bytes name.now)
+        question.entry.query.now question.entry.first
         question.entry.count) HidesUnsaid (state S.Store connection.old).now.trees result }
     ensures idle { connection.new.in_transaction ≡ false }
     ensures open { FindsOpen S.Store connection.old connection.new result }

@@ -32,7 +32,8 @@ fn kept_version<S: Alter>(connection: &mut Connection<S>) -> Result<String, Refu
     requires idle { connection.old.in_transaction ≡ false }
     ensures idle { connection.new.in_transaction ≡ false }
     ensures look { HasCleanDisk (state S.Store connection.new)
-        → IsLook (λ trees version. KeepsText trees (codes "version") (string_bytes version)) RefusesVersion (state S.Store connection.old)
+        → IsLook (λ trees version. KeepsText trees (codes "version") (string_bytes version))
+        RefusesVersion (state S.Store connection.old)
         (state S.Store connection.new) result }
     ensures unread { NoReadFault result }
     ensures crash { CommitsNothing S.Store connection.old connection.new }
@@ -52,7 +53,8 @@ fn keeps_text<S: Alter>(
     requires idle { connection.old.in_transaction ≡ false }
     ensures idle { connection.new.in_transaction ≡ false }
     ensures look { HasCleanDisk (state S.Store connection.new)
-        → IsLook (TellsText name.now text.now) (RefusesText name.now) (state S.Store connection.old) (state S.Store connection.new) result }
+        → IsLook (TellsText name.now text.now) (RefusesText name.now) (state S.Store connection.old)
+        (state S.Store connection.new) result }
     ensures unread { NoReadFault result }
     ensures crash { CommitsNothing S.Store connection.old connection.new }
 {
@@ -71,7 +73,8 @@ pub(crate) fn check_rule<S: Alter, L: Layout>(
     requires idle { connection.old.in_transaction ≡ false }
     ensures idle { connection.new.in_transaction ≡ false }
     ensures look { HasCleanDisk (state S.Store connection.new)
-        → IsLook (λ trees _. IsReadyToReindex (version_of L.format) profile.now trees) (RefusesReindex (version_of L.format) profile.now)
+        → IsLook (λ trees _. IsReadyToReindex (version_of L.format) profile.now trees)
+        (RefusesReindex (version_of L.format) profile.now)
         (state S.Store connection.old) (state S.Store connection.new) result }
     ensures unread { NoReadFault result }
     ensures crash { CommitsNothing S.Store connection.old connection.new }
@@ -110,7 +113,8 @@ pub(crate) fn check_layout<S: Alter, L: Layout>(
     requires idle { connection.old.in_transaction ≡ false }
     ensures idle { connection.new.in_transaction ≡ false }
     ensures look { HasCleanDisk (state S.Store connection.new)
-        → IsLook (FindsStanding (version_of L.format) profile.now) (RefusesUpgrade (version_of L.format) profile.now)
+        → IsLook (FindsStanding (version_of L.format) profile.now)
+        (RefusesUpgrade (version_of L.format) profile.now)
         (state S.Store connection.old) (state S.Store connection.new) result }
     ensures unread { NoReadFault result }
     ensures crash { CommitsNothing S.Store connection.old connection.new }

@@ -45,19 +45,24 @@ pub(crate) fn check_ready<S: Alter, L: Layout>(
     profile: &Profile,
 ) -> Result<(), Refusal>
     requires idle { connection.old.in_transaction ≡ false }
-    ensures texts { TellsReady S.Store (version_of L.format) profile.now connection.old connection.new result }
-    ensures ready { HasCleanDisk (state S.Store connection.new) → (limits : Limits) (before : Holdings)
+    ensures texts { TellsReady S.Store (version_of L.format) profile.now connection.old
+        connection.new result }
+    ensures ready { HasCleanDisk (state S.Store connection.new)
+        → (limits : Limits) (before : Holdings)
         → Keeps (state S.Store connection.old) before
         → Meets (λ bases _. IsTrue (state S.Store connection.old).is_open
-        × IsTrue (state S.Store connection.new).is_open) (ready (conditions (version_of L.format) profile.now limits) before) result }
+        × IsTrue (state S.Store connection.new).is_open)
+        (ready (conditions (version_of L.format) profile.now limits) before) result }
     ensures idle { connection.new.in_transaction ≡ false }
     ensures open { FindsOpen S.Store connection.old connection.new result }
     ensures same { LeavesAsIs S.Store connection.old connection.new }
     ensures crash { CommitsNothing S.Store connection.old connection.new }
     ensures few { IfErr result IsUnready }
     // The texts of a register that is ready can be read.
-    ensures whole { HasCleanDisk (state S.Store connection.new) → IsStore (state S.Store connection.old)
-        → IsReadyFor (version_of L.format) profile.now (state S.Store connection.old).now.trees → result ≢ Err Refusal.Damaged }
+    ensures whole { HasCleanDisk (state S.Store connection.new)
+        → IsStore (state S.Store connection.old)
+        → IsReadyFor (version_of L.format) profile.now (state S.Store connection.old).now.trees
+        → result ≢ Err Refusal.Damaged }
     ensures unread { NoReadFault result }
     ensures caused { FailsForCause S.Store connection.old connection.new result }
 {
@@ -86,20 +91,27 @@ pub(crate) fn existing_database<S: Alter, L: Layout>(
     name: &DbName,
 ) -> Result<Database, Refusal>
     requires idle { connection.old.in_transaction ≡ false }
-    ensures exists { HasCleanDisk (state S.Store connection.new) → IsTrue (state S.Store connection.old).is_open
-        → (c : Conditions) (before : Holdings) (bases : List Base) → ready c before ≡ Ok bases → Keeps (state S.Store connection.old) before
-        → Meets (λ base found. HasDatabase (state S.Store connection.old).now.trees found.id.0 base.name (pos base.last)
+    ensures exists { HasCleanDisk (state S.Store connection.new)
+        → IsTrue (state S.Store connection.old).is_open
+        → (c : Conditions) (before : Holdings) (bases : List Base) → ready c before ≡ Ok bases
+        → Keeps (state S.Store connection.old) before
+        → Meets (λ base found. HasDatabase (state S.Store connection.old).now.trees found.id.0
+        base.name (pos base.last)
         × (found.last ≡ base.last) × IsTrue (state S.Store connection.new).is_open)
         (existing (name_bytes name.now) bases) result }
-    ensures misses { HasCleanDisk (state S.Store connection.new) → IsStore (state S.Store connection.old)
+    ensures misses { HasCleanDisk (state S.Store connection.new)
+        → IsStore (state S.Store connection.old)
         → IfErr result (λ refusal. IsFailure (refused (why_of refusal))
         ⊎ MissesDatabase (state S.Store connection.old).now.trees (name_bytes name.now) refusal) }
-    ensures row { HasCleanDisk (state S.Store connection.new) → IsStore (state S.Store connection.old)
-        → IfOk result (λ found. HasDatabase (state S.Store connection.old).now.trees found.id.0 (name_bytes name.now) (pos found.last)) }
+    ensures row { HasCleanDisk (state S.Store connection.new)
+        → IsStore (state S.Store connection.old)
+        → IfOk result (λ found. HasDatabase (state S.Store connection.old).now.trees found.id.0
+        (name_bytes name.now) (pos found.last)) }
     ensures idle { connection.new.in_transaction ≡ false }
     ensures found { FindsOpen S.Store connection.old connection.new result }
     ensures opened { HasCleanDisk (state S.Store connection.new)
-        → IfErr result (λ refusal. IsFailure (refused (why_of refusal)) ⊎ IsTrue (state S.Store connection.old).is_open) }
+        → IfErr result (λ refusal. IsFailure (refused (why_of refusal))
+        ⊎ IsTrue (state S.Store connection.old).is_open) }
     ensures same { LeavesAsIs S.Store connection.old connection.new }
     ensures crash { CommitsNothing S.Store connection.old connection.new }
     ensures unread { NoReadFault result }

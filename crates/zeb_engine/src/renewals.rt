@@ -32,14 +32,17 @@ pub(crate) fn reindex<S: Alter, L: Layout>(
     profile: &Profile,
 ) -> Result<Reply, Refusal>
     requires idle { connection.old.in_transaction ≡ false }
-    ensures serves { ServesUnder S.Store reindexed (version_of L.format) profile.now connection.old connection.new result }
+    ensures serves { ServesUnder S.Store reindexed (version_of L.format) profile.now connection.old
+        connection.new result }
     ensures told { HasCleanDisk (state S.Store connection.new)
         → ReindexesTables (version_of L.format) profile.now (state S.Store connection.old) result }
     ensures idle { connection.new.in_transaction ≡ false }
     ensures call { Commanded (state S.Store connection.old) (state S.Store connection.new) result }
-    ensures survives { CommitsUnder S.Store reindexed (version_of L.format) profile.now connection.old connection.new }
+    ensures survives { CommitsUnder S.Store reindexed (version_of L.format) profile.now
+        connection.old connection.new }
     ensures remade { HasCleanDisk (state S.Store connection.new)
-        → OnOk result (HoldsRemade L.format profile.now (state S.Store connection.old) (state S.Store connection.new)) }
+        → OnOk result (HoldsRemade L.format profile.now (state S.Store connection.old)
+        (state S.Store connection.new)) }
     ensures survives_remade { Survives (state S.Store connection.old) (state S.Store connection.new)
         (CommitsReindex L.format profile.now (state S.Store connection.old)) }
     ensures unread { NoReadFault result }
@@ -61,16 +64,19 @@ pub(crate) fn upgrade<S: Alter, L: Layout>(
     profile: &Profile,
 ) -> Result<Reply, Refusal>
     requires idle { connection.old.in_transaction ≡ false }
-    ensures serves { ServesUnder S.Store upgraded (version_of L.format) profile.now connection.old connection.new result }
+    ensures serves { ServesUnder S.Store upgraded (version_of L.format) profile.now connection.old
+        connection.new result }
     ensures told { HasCleanDisk (state S.Store connection.new)
         → UpgradesTables (version_of L.format) profile.now (state S.Store connection.old) result }
     ensures stays { HasCleanDisk (state S.Store connection.new)
-        → StaysUpgraded (version_of L.format) profile.now (state S.Store connection.old) (state S.Store connection.new) result }
+        → StaysUpgraded (version_of L.format) profile.now (state S.Store connection.old)
+        (state S.Store connection.new) result }
     ensures leaves { HasCleanDisk (state S.Store connection.new)
         → OnOk result (UpgradeLeaves (state S.Store connection.old) (state S.Store connection.new)) }
     ensures idle { connection.new.in_transaction ≡ false }
     ensures call { Commanded (state S.Store connection.old) (state S.Store connection.new) result }
-    ensures survives { CommitsUnder S.Store upgraded (version_of L.format) profile.now connection.old connection.new }
+    ensures survives { CommitsUnder S.Store upgraded (version_of L.format) profile.now
+        connection.old connection.new }
     ensures unread { NoReadFault result }
 {
     // What is shown is what was committed.

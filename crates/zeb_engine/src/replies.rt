@@ -90,7 +90,8 @@ fn hit_text(alloc: Global, hit: &Hit) -> Result<String, AllocError>
 }
 
 fn found_lines(alloc: Global, hits: u64, shown: &[Hit]) -> Result<String, AllocError>
-    ensures { IfOk result (λ text. string_bytes text ≡ hits_text hits ++ flat_map hit_line shown.now) }
+    ensures { IfOk result (λ text. string_bytes text ≡ hits_text hits ++ flat_map hit_line
+        shown.now) }
 {
     let mut text = format!(in alloc; "hits {hits}\n")?;
     for hit in shown {
@@ -156,7 +157,8 @@ fn counted_lines(
     last: u64,
     holdings: &[Holding],
 ) -> Result<String, AllocError>
-    ensures { IfOk result (λ text. string_bytes text ≡ records_text records last ++ flat_map holding_line holdings.now) }
+    ensures { IfOk result (λ text. string_bytes text ≡ records_text records last ++ flat_map
+        holding_line holdings.now) }
 {
     let mut text = format!(in alloc; "records {records}\nlast {last}\n")?;
     for holding in holdings {
@@ -170,7 +172,8 @@ fn analysed_lines(
     names: &[String],
     records: &[Analysis],
 ) -> Result<String, AllocError>
-    ensures { IfOk result (λ text. string_bytes text ≡ flat_map (record_lines (map string_bytes names.now)) records.now) }
+    ensures { IfOk result (λ text. string_bytes text ≡ flat_map
+        (record_lines (map string_bytes names.now)) records.now) }
 {
     let mut text = String::new(alloc);
     for record in records {

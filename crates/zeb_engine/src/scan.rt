@@ -61,30 +61,41 @@ fn terms_around<S: Alter, L: Layout>(
     around: &Around<'_>,
 ) -> Result<Vec<TermCount>, Refusal>
     requires idle { connection.old.in_transaction ≡ false }
-    ensures around { HasCleanDisk (state S.Store connection.new) → IsStore (state S.Store connection.old)
-        → IfOk result (λ terms. (content : Content) → holds_in L.format (state S.Store connection.old).now.trees content
-        → AreAround (posted content database.0) (scan_value plan.now) around.now.number around.now.position terms.items) }
+    ensures around { HasCleanDisk (state S.Store connection.new)
+        → IsStore (state S.Store connection.old)
+        → IfOk result (λ terms. (content : Content)
+        → holds_in L.format (state S.Store connection.old).now.trees content
+        → AreAround (posted content database.0) (scan_value plan.now) around.now.number
+        around.now.position terms.items) }
     // They are those that the rows tell, whatever the tables hold.
-    ensures told { HasCleanDisk (state S.Store connection.new) → IsStore (state S.Store connection.old)
-        → IfOk result (λ terms. TellsAround L.format (state S.Store connection.old).now.trees database.0 (scan_value plan.now)
+    ensures told { HasCleanDisk (state S.Store connection.new)
+        → IsStore (state S.Store connection.old)
+        → IfOk result (λ terms. TellsAround L.format (state S.Store connection.old).now.trees
+        database.0 (scan_value plan.now)
         around.now.number around.now.position terms.items) }
     ensures idle { connection.new.in_transaction ≡ false }
     ensures open { FindsOpen S.Store connection.old connection.new result }
     ensures same { LeavesAsIs S.Store connection.old connection.new }
     ensures crash { CommitsNothing S.Store connection.old connection.new }
-    ensures failed { HasCleanDisk (state S.Store connection.new) → IsStore (state S.Store connection.old)
-        → (content : Content) → IsStorable content → holds_in L.format (state S.Store connection.old).now.trees content
+    ensures failed { HasCleanDisk (state S.Store connection.new)
+        → IsStore (state S.Store connection.old)
+        → (content : Content) → IsStorable content
+        → holds_in L.format (state S.Store connection.old).now.trees content
         → IfErr result (λ refusal. IsFailure (refused (why_of refusal))) }
     // Damage is told only of rows that it reads.
-    ensures honest { HasCleanDisk (state S.Store connection.new) → IsStore (state S.Store connection.old)
-        → IfErr result (λ refusal. IsFailure (refused (why_of refusal)) ⊎ ((refusal ≡ Refusal.Damaged)
-        × HidesAround L.format (state S.Store connection.old).now.trees database.0 (scan_value plan.now) around.now.number
+    ensures honest { HasCleanDisk (state S.Store connection.new)
+        → IsStore (state S.Store connection.old)
+        → IfErr result (λ refusal. IsFailure (refused (why_of refusal))
+        ⊎ ((refusal ≡ Refusal.Damaged)
+        × HidesAround L.format (state S.Store connection.old).now.trees database.0
+        (scan_value plan.now) around.now.number
         around.now.position)) }
     ensures unread { NoReadFault result }
     ensures ready { NeverUnready result }
     ensures caused { FailsForCause S.Store connection.old connection.new result }
     ensures work { HasCleanDisk (state S.Store connection.new)
-        → OnOk result (ScanReads L.format L.row_work around.now.number around.now.position (state S.Store connection.old)
+        → OnOk result (ScanReads L.format L.row_work around.now.number around.now.position
+        (state S.Store connection.old)
         work.old work.new) }
     ensures no_work { L.row_work ≡ 0 → work.new ≡ work.old }
 {
@@ -111,21 +122,28 @@ pub(crate) fn scan<S: Alter, L: Layout>(
     around: Around<'_>,
 ) -> Result<Reply, Refusal>
     requires idle { connection.old.in_transaction ≡ false }
-    ensures scanned { HasCleanDisk (state S.Store connection.new) → IsTrue (state S.Store connection.old).is_open
+    ensures scanned { HasCleanDisk (state S.Store connection.new)
+        → IsTrue (state S.Store connection.old).is_open
         → (limits : Limits) (before : Holdings) (bases : List Base)
-        → ready (conditions (version_of L.format) profile.now limits) before ≡ Ok bases → Keeps (state S.Store connection.old) before
-        → AskedAmong (ScanAnswers profile.now around.entry.query.now around.entry.number around.entry.position)
+        → ready (conditions (version_of L.format) profile.now limits) before ≡ Ok bases
+        → Keeps (state S.Store connection.old) before
+        → AskedAmong (ScanAnswers profile.now around.entry.query.now around.entry.number
+        around.entry.position)
         (name_bytes name.now) around.entry.query.now bases (answer_of result)
         ⊎ IsFailure (answer_of result) }
     // The terms are read from the registers, on any tables that hold a content.
     ensures alone { HasCleanDisk (state S.Store connection.new)
-        → Alone L.format (ScanSays profile.now around.entry.query.now around.entry.number around.entry.position) (name_bytes name.now)
+        → Alone L.format (ScanSays profile.now around.entry.query.now around.entry.number
+        around.entry.position) (name_bytes name.now)
         (state S.Store connection.old) result }
     // Whatever the tables hold, the terms are those that the rows around the start tell, or it is refused by the definition, or as damage
     // that these rows or the database's have.
-    ensures tables { HasCleanDisk (state S.Store connection.new) → IsStore (state S.Store connection.old)
-        → TellsUnlessHidden (ScanOver L.format profile.now (name_bytes name.now) around.entry.query.now around.entry.number
-        around.entry.position) (HidesTerms L.format profile.now (name_bytes name.now) around.entry.query.now around.entry.number
+    ensures tables { HasCleanDisk (state S.Store connection.new)
+        → IsStore (state S.Store connection.old)
+        → TellsUnlessHidden (ScanOver L.format profile.now (name_bytes name.now)
+        around.entry.query.now around.entry.number
+        around.entry.position) (HidesTerms L.format profile.now (name_bytes name.now)
+        around.entry.query.now around.entry.number
         around.entry.position) (state S.Store connection.old).now.trees result }
     ensures idle { connection.new.in_transaction ≡ false }
     ensures open { FindsOpen S.Store connection.old connection.new result }
@@ -133,7 +151,8 @@ pub(crate) fn scan<S: Alter, L: Layout>(
     ensures crash { CommitsNothing S.Store connection.old connection.new }
     // The terms that are asked for are read, one more at most, and nothing else.
     ensures work { HasCleanDisk (state S.Store connection.new)
-        → OnOk result (ScanReads L.format L.row_work around.entry.number around.entry.position (state S.Store connection.old)
+        → OnOk result (ScanReads L.format L.row_work around.entry.number around.entry.position
+        (state S.Store connection.old)
         work.old work.new) }
     ensures no_work { L.row_work ≡ 0 → work.new ≡ work.old }
     ensures unread { NoReadFault result }

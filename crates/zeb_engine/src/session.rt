@@ -79,7 +79,8 @@ impl<S: Alter, L: Layout> Session<S, L> {
             (session.profile ≡ profile) × (session.limits ≡ limits) × (session.work ≡ no_work)) }
         ensures refused { IfErr result (λ back. (back.0.in_transaction ≡ false)
             × ((back.1 ≡ Refusal.Store) ⊎ (back.1 ≡ Refusal.Memory))
-            × (HasCleanDisk (state S.Store back.0) → GivesBack (state S.Store connection) (state S.Store back.0) back.1)) }
+            × (HasCleanDisk (state S.Store back.0)
+            → GivesBack (state S.Store connection) (state S.Store back.0) back.1)) }
         // A store of other tables is refused, and nothing is done to it.
         ensures other { HasOtherTables (state S.Store connection)
             → IsErrAnd result (λ back. (back.0 ≡ connection) × (back.1 ≡ Refusal.Store)) }
@@ -131,24 +132,31 @@ impl<S: Alter, L: Layout> Session<S, L> {
     pub fn command(&mut self, command: &Command) -> Result<Reply, Refusal>
         // From tables that keep what a register holds it is answered as a step of a run, and they keep what is held then.
         ensures step { HasCleanDisk (state S.Store self.new.connection)
-            → ServesCommand (conditions (version_of L.format) self.old.profile self.old.limits) command.now
+            → ServesCommand (conditions (version_of L.format) self.old.profile self.old.limits)
+            command.now
             (state S.Store self.old.connection) (state S.Store self.new.connection) result }
         // What it does on any tables, why it is refused there, and that nothing changes then.
         ensures tables { HasCleanDisk (state S.Store self.new.connection)
-            → CommandOverTables L.format (conditions (version_of L.format) self.old.profile self.old.limits) command.now
+            → CommandOverTables L.format (conditions (version_of L.format) self.old.profile
+            self.old.limits) command.now
             (state S.Store self.old.connection) (state S.Store self.new.connection) result }
         // Whatever the store and the disk do: an analysis is answered by its files, and only a failure refuses an init.
-        ensures answers { AnswersAnyway (conditions (version_of L.format) self.old.profile self.old.limits) command.now
+        ensures answers { AnswersAnyway (conditions (version_of L.format) self.old.profile
+            self.old.limits) command.now
             result }
         // What it has done to the connection; the session's profile and limits stay.
-        ensures holds { CommandHolds S.Store command.now self.old.connection self.new.connection result
+        ensures holds { CommandHolds S.Store command.now self.old.connection self.new.connection
+            result
             × ((self.new.profile ≡ self.old.profile) × (self.new.limits ≡ self.old.limits)) }
         // What a crash leaves.
-        ensures lasts { CommandLasts L.format (conditions (version_of L.format) self.old.profile self.old.limits)
-            command.now (state S.Store self.old.connection) (state S.Store self.new.connection) result }
+        ensures lasts { CommandLasts L.format (conditions (version_of L.format) self.old.profile
+            self.old.limits)
+            command.now (state S.Store self.old.connection) (state S.Store self.new.connection)
+            result }
         ensures counts { CommandCounts L.format L.row_work L.block_rows
             (conditions (version_of L.format) self.old.profile self.old.limits) command.now
-            (state S.Store self.old.connection) (state S.Store self.new.connection) result self.new.work }
+            (state S.Store self.old.connection) (state S.Store self.new.connection) result
+            self.new.work }
     {
         let answer = self.carry_out(command);
         // What is shown is what was committed.
@@ -160,7 +168,8 @@ impl<S: Alter, L: Layout> Session<S, L> {
         ensures done { CommandDone S.Store L.format L.row_work L.block_rows
             (conditions (version_of L.format) self.old.profile self.old.limits) command.now
             self.old.connection self.new.connection result self.new.work }
-        ensures under { (self.new.profile ≡ self.old.profile) × (self.new.limits ≡ self.old.limits) }
+        ensures under { (self.new.profile ≡ self.old.profile)
+            × (self.new.limits ≡ self.old.limits) }
     {
         self.work = Work::default();
         match command {
@@ -224,19 +233,25 @@ impl<S: Alter, L: Layout> Session<S, L> {
     pub fn run_all(&mut self, commands: &[Command]) -> Result<Vec<Result<Reply, Refusal>>, Refusal>
         // The headline.
         ensures run { IfOk result (λ answers. Headline
-            (conditions (version_of L.format) self.old.profile self.old.limits) commands.now answers.items
+            (conditions (version_of L.format) self.old.profile self.old.limits) commands.now
+            answers.items
             (state S.Store self.old.connection) (state S.Store self.new.connection)) }
         ensures count { IfOk result (λ answers. length answers.items ≡ length commands.now) }
         // On any tables each command in turn does what is said of one command, on what the one before it left.
-        ensures turns { HasCleanDisk (state S.Store self.new.connection) → IfOk result (λ answers. InTurn S.Store
-            (CommandTurns L.format L.row_work L.block_rows (conditions (version_of L.format) self.old.profile self.old.limits))
-            commands.now answers.items self.old.connection self.old.work self.new.connection self.new.work) }
+        ensures turns { HasCleanDisk (state S.Store self.new.connection)
+            → IfOk result (λ answers. InTurn S.Store
+            (CommandTurns L.format L.row_work L.block_rows
+            (conditions (version_of L.format) self.old.profile self.old.limits))
+            commands.now answers.items self.old.connection self.old.work self.new.connection
+            self.new.work) }
         // What it has done to the connection; the session's profile and limits stay.
-        ensures holds { (HasCleanDisk (state S.Store self.new.connection) → IfOk result (λ answers. RunHolds commands.now
+        ensures holds { (HasCleanDisk (state S.Store self.new.connection)
+            → IfOk result (λ answers. RunHolds commands.now
             answers.items (state S.Store self.old.connection) (state S.Store self.new.connection)))
             × ((self.new.profile ≡ self.old.profile) × (self.new.limits ≡ self.old.limits)) }
         // What a crash leaves.
-        ensures lasts { RunLasts (conditions (version_of L.format) self.old.profile self.old.limits) commands.now
+        ensures lasts { RunLasts (conditions (version_of L.format) self.old.profile self.old.limits)
+            commands.now
             (state S.Store self.old.connection) (state S.Store self.new.connection) result }
         ensures memory { IfErr result (λ refusal.
             (refusal ≡ Refusal.Memory) × (self.new.connection ≡ self.old.connection)) }

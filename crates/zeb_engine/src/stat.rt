@@ -7,7 +7,7 @@ ghost use Rattle.sqlite.specs.Tree.{Trees};
 ghost use Rattle.zeb_register.specs.Formats.{holds_in, version_of};
 ghost use Rattle.zeb_register.specs.Content.{Content, IsStorable, posted};
 ghost use Rattle.zeb_engine.specs.Asking.{Alone};
-ghost use Rattle.zeb_engine.specs.Counting.{StatSays, HidesRegister, HidesRegisters, IsSoundUnder, StatOver, IsExtent, Paired, name_of_index, target_in, target_list};
+ghost use Rattle.zeb_engine.specs.Counting.{StatSays, HidesRegister, HidesRegisters, IsSummedUp, StatOver, IsExtent, Paired, name_of_index, target_in, target_list};
 ghost use Rattle.zeb_engine.specs.Hidden.{UnlessHidden};
 ghost use Rattle.zeb_engine.specs.Answers.{IsFailure, extent_of, refused};
 ghost use Rattle.zeb_change.specs.Refused.{why_of, NeverUnready};
@@ -36,7 +36,8 @@ fn add_target(
     index: u32,
     register: Register,
 ) -> Result<(), AllocError>
-    ensures { OnOk result (targets.new.items ≡ targets.old.items ++ target_in profile.now index register) }
+    ensures { OnOk result (targets.new.items ≡ targets.old.items ++ target_in profile.now index
+        register) }
 {
     if profile.has(index, register) {
         targets.push((index, register))?;
@@ -64,9 +65,11 @@ fn holding_of(
     target: (u32, Register),
     totals: Totals,
 ) -> Result<Holding, AllocError>
-    ensures name { IfOk result (λ holding. string_bytes holding.index ≡ name_of_index profile.now target.0) }
+    ensures name { IfOk result (λ holding. string_bytes holding.index ≡ name_of_index profile.now
+        target.0) }
     ensures register { IfOk result (λ holding. holding.register ≡ target.1) }
-    ensures totals { IfOk result (λ holding. record { terms = holding.terms; occurrences = holding.occurrences } ≡ totals) }
+    ensures totals { IfOk result (λ holding. record
+        { terms = holding.terms; occurrences = holding.occurrences } ≡ totals) }
 {
     let (index, register) = target;
     let name = profile.index_name(index).unwrap_or("");
@@ -88,27 +91,34 @@ fn holdings_of<S: Alter, L: Layout>(
     targets: &[(u32, Register)],
 ) -> Result<Vec<Holding>, Refusal>
     requires idle { connection.old.in_transaction ≡ false }
-    ensures held { HasCleanDisk (state S.Store connection.new) → (trees : Trees) → ShowsStore (state S.Store connection.old) trees
+    ensures held { HasCleanDisk (state S.Store connection.new) → (trees : Trees)
+        → ShowsStore (state S.Store connection.old) trees
         → IsTrue (state S.Store connection.old).is_open
         → (content : Content) → holds_in L.format trees content
-        → IfOk result (λ holdings. Paired (λ target holding. IsExtent (posted content database.0) profile.now target
+        → IfOk result (λ holdings. Paired (λ target holding.
+        IsExtent (posted content database.0) profile.now target
         (extent_of holding)) targets.now holdings.items) }
-    // Whatever the tables hold, each stands under the name of its index, and the rows of its register are sound.
-    ensures sound { HasCleanDisk (state S.Store connection.new) → (trees : Trees) → ShowsStore (state S.Store connection.old) trees
+    // Whatever the tables hold, each stands under the name of its index, and is what its register sums up to.
+    ensures sound { HasCleanDisk (state S.Store connection.new) → (trees : Trees)
+        → ShowsStore (state S.Store connection.old) trees
         → IsTrue (state S.Store connection.old).is_open
-        → IfOk result (λ holdings. Paired (λ target holding. IsSoundUnder L.format profile.now trees database.0 target
+        → IfOk result (λ holdings. Paired (λ target holding.
+        IsSummedUp L.format profile.now trees database.0 target
         (extent_of holding)) targets.now holdings.items) }
     ensures idle { connection.new.in_transaction ≡ false }
     ensures open { LeavesOpen S.Store connection.old connection.new result }
     ensures same { LeavesAsIs S.Store connection.old connection.new }
     ensures crash { CommitsNothing S.Store connection.old connection.new }
-    ensures failed { HasCleanDisk (state S.Store connection.new) → (trees : Trees) → ShowsStore (state S.Store connection.old) trees
+    ensures failed { HasCleanDisk (state S.Store connection.new) → (trees : Trees)
+        → ShowsStore (state S.Store connection.old) trees
         → IsTrue (state S.Store connection.old).is_open
         → (content : Content) → IsStorable content → holds_in L.format trees content
         → IfErr result (λ refusal. IsFailure (refused (why_of refusal))) }
     // Damage is told only of a register that has it.
-    ensures honest { HasCleanDisk (state S.Store connection.new) → (trees : Trees) → ShowsStore (state S.Store connection.old) trees
-        → IsTrue (state S.Store connection.old).is_open → IfErr result (λ refusal. IsFailure (refused (why_of refusal))
+    ensures honest { HasCleanDisk (state S.Store connection.new) → (trees : Trees)
+        → ShowsStore (state S.Store connection.old) trees
+        → IsTrue (state S.Store connection.old).is_open
+        → IfErr result (λ refusal. IsFailure (refused (why_of refusal))
         ⊎ ((refusal ≡ Refusal.Damaged) × HidesRegister L.format targets.now trees database.0)) }
     ensures unread { NoReadFault result }
     ensures ready { NeverUnready result }
@@ -139,7 +149,8 @@ pub(crate) fn stat<S: Alter, L: Layout>(
 ) -> Result<Reply, Refusal>
     requires idle { connection.old.in_transaction ≡ false }
     ensures serves { HasCleanDisk (state S.Store connection.new) → (limits : Limits)
-        → Asks (λ before answer. CountedFrom (conditions (version_of L.format) profile.now limits) (name_bytes name.now)
+        → Asks (λ before answer. CountedFrom (conditions (version_of L.format) profile.now limits)
+        (name_bytes name.now)
         (ready (conditions (version_of L.format) profile.now limits) before) answer)
         (state S.Store connection.old) (state S.Store connection.new) result }
     ensures idle { connection.new.in_transaction ≡ false }
@@ -148,14 +159,18 @@ pub(crate) fn stat<S: Alter, L: Layout>(
     ensures crash { CommitsNothing S.Store connection.old connection.new }
     // The terms and occurrences are counted in the registers, on any tables that hold a content.
     ensures alone { HasCleanDisk (state S.Store connection.new)
-        → Alone L.format (StatSays profile.now) (name_bytes name.now) (state S.Store connection.old) result }
+        → Alone L.format (StatSays profile.now) (name_bytes name.now) (state S.Store connection.old)
+        result }
     // Whatever the tables hold, the records are counted, the last number is told and the rows of the registers are sound, or it is refused by
     // the definition, or as damage that these rows or the database's have.
     ensures tables { HasCleanDisk (state S.Store connection.new)
-        → UnlessHidden (version_of L.format) profile.now (StatOver L.format profile.now (name_bytes name.now))
-        (HidesRegisters L.format profile.now (name_bytes name.now)) (state S.Store connection.old) result }
+        → UnlessHidden (version_of L.format) profile.now
+        (StatOver L.format profile.now (name_bytes name.now))
+        (HidesRegisters L.format profile.now (name_bytes name.now)) (state S.Store connection.old)
+        result }
     ensures unread { NoReadFault result }
-    ensures ready { TellsReady S.Store (version_of L.format) profile.now connection.old connection.new result }
+    ensures ready { TellsReady S.Store (version_of L.format) profile.now connection.old
+        connection.new result }
     // The store fails for a cause.
     ensures caused { FailsForCause S.Store connection.old connection.new result }
     ensures no_work { L.row_work ≡ 0 → work.new ≡ work.old }

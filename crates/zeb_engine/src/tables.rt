@@ -19,7 +19,8 @@ use zeb_register::{is_bare_schema, is_store_schema, make_tables};
 /// views of a schema, and so do tables that can't be read.
 fn check_tables<S: Alter>(connection: &Connection<S>) -> Result<(), Refusal>
     ensures ok { OnOk result (MayBeTaken (state S.Store connection.now)) }
-    ensures other { IfErr result (λ refusal. (refusal ≡ Refusal.Store) × HasOtherTables (state S.Store connection.now)) }
+    ensures other { IfErr result (λ refusal. (refusal ≡ Refusal.Store)
+        × HasOtherTables (state S.Store connection.now)) }
 {
     let schema = connection.schema();
     if is_bare_schema(schema) || is_store_schema(schema) {
@@ -34,9 +35,11 @@ fn check_tables<S: Alter>(connection: &Connection<S>) -> Result<(), Refusal>
 pub(crate) fn make_absent_tables<S: Alter>(connection: &mut Connection<S>) -> Result<(), Refusal>
     requires idle { connection.old.in_transaction ≡ false }
     ensures idle { connection.new.in_transaction ≡ false }
-    ensures made { HasCleanDisk (state S.Store connection.new) → (state S.Store connection.old).now.schema ≡ no_schema
+    ensures made { HasCleanDisk (state S.Store connection.new)
+        → (state S.Store connection.old).now.schema ≡ no_schema
         → OnOk result (HoldsNothing (state S.Store connection.new)) }
-    ensures there { HasCleanDisk (state S.Store connection.new) → (state S.Store connection.old).now.schema ≡ store_schema
+    ensures there { HasCleanDisk (state S.Store connection.new)
+        → (state S.Store connection.old).now.schema ≡ store_schema
         → OnOk result (ChangesNothing (state S.Store connection.old) (state S.Store connection.new)) }
     ensures open { HasCleanDisk (state S.Store connection.new)
         → OnOk result (StaysOpen (state S.Store connection.old) (state S.Store connection.new)) }
@@ -44,12 +47,15 @@ pub(crate) fn make_absent_tables<S: Alter>(connection: &mut Connection<S>) -> Re
         → OnOk result (IsTrue (state S.Store connection.new).is_open
         → KeepsTables (state S.Store connection.old).now (state S.Store connection.new).now) }
     ensures refused { HasCleanDisk (state S.Store connection.new)
-        → OnErr result (ChangesNothing (state S.Store connection.old) (state S.Store connection.new)) }
+        → OnErr result (ChangesNothing (state S.Store connection.old)
+        (state S.Store connection.new)) }
     ensures endures { HasCleanDisk (state S.Store connection.new)
-        → IfErr result (EnduresRefusal (state S.Store connection.old) (state S.Store connection.new)) }
+        → IfErr result (EnduresRefusal (state S.Store connection.old)
+        (state S.Store connection.new)) }
     ensures survives { Survives (state S.Store connection.old) (state S.Store connection.new)
         (CommitsTables (state S.Store connection.old)) }
-    ensures failed { IfErr result (λ refusal. (refusal ≡ Refusal.Store) ⊎ (refusal ≡ Refusal.Memory)) }
+    ensures failed { IfErr result (λ refusal. (refusal ≡ Refusal.Store)
+        ⊎ (refusal ≡ Refusal.Memory)) }
     ensures ours { OnOk result (MayBeTaken (state S.Store connection.old)) }
     ensures other { HasOtherTables (state S.Store connection.old)
         → (result ≡ Err Refusal.Store) × (connection.new ≡ connection.old) }

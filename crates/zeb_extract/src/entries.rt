@@ -47,7 +47,8 @@ pub fn occurrences(
 fn put_in_order<T: Ord + Drop>(elements: &mut Vec<T>) -> Result<(), AllocError>
     requires { TellsApart T.cmp }
     ensures rising { OnOk result (IsStrictlySortedBy T.cmp elements.new.items) }
-    ensures members { OnOk result ((x : T) → Contains elements.new.items x ↔ Contains elements.old.items x) }
+    ensures members { OnOk result
+        ((x : T) → Contains elements.new.items x ↔ Contains elements.old.items x) }
     ensures err { OnErr result (elements.new.items ≡ elements.old.items) }
 {
     elements.sort()?;
@@ -91,7 +92,6 @@ fn terms_for(
     }
 }
 
-/// Each word as a term.
 fn word_terms(alloc: Global, words: &[String]) -> Result<Vec<Term>, AllocError>
     ensures { IfOk result (λ terms. terms.items ≡ map string_bytes words.now) }
 {
@@ -114,7 +114,6 @@ fn phrase_terms(alloc: Global, words: &[String]) -> Result<Vec<Term>, AllocError
     Ok(terms)
 }
 
-/// The key of each number of the text.
 fn number_terms(alloc: Global, text: &str) -> Result<Vec<Term>, AllocError>
     ensures { IfOk result (λ terms. terms.items ≡ map number_key (numbers_of (chars text.now))) }
 {
@@ -133,7 +132,8 @@ fn add_terms(
     seq: u64,
     terms: Vec<Term>,
 ) -> Result<(), AllocError>
-    ensures { OnOk result (found.new.items ≡ found.old.items ++ numbered_terms (index, register) seq terms.items) }
+    ensures { OnOk result (found.new.items
+        ≡ found.old.items ++ numbered_terms (index, register) seq terms.items) }
 {
     let mut pos = 0;
     for term in terms {

@@ -29,12 +29,11 @@ impl fmt::Display for IdentFault {
     ghost output = { λ fault. Some (fault_name fault) };
 
     fn fmt<W: fmt::Write>(&self, f: &mut fmt::Formatter<W>) -> fmt::Result {
-        let name = match self {
+        f.write_str(match self {
             IdentFault::NoIdentifier => "NoIdentifier",
             IdentFault::BadIdentifier => "BadIdentifier",
             IdentFault::Memory => "Memory",
-        };
-        write!(f, "{name}")
+        })
     }
 }
 
@@ -56,7 +55,8 @@ impl From<AllocError> for IdentFault {
 /// have text; `BadIdentifier` where more than 255 bytes of UTF-8 are left or a control character is among them. `Memory` says
 /// that memory was refused; that it comes there alone is tested and not proved.
 pub fn identifier(alloc: Global, marc: &Marc<'_>, profile: &Profile) -> Result<String, IdentFault>
-    ensures ok { IfOk result (λ name. identifier_of profile.now (units_of marc.now) ≡ Ok (string_bytes name)) }
+    ensures ok { IfOk result
+        (λ name. identifier_of profile.now (units_of marc.now) ≡ Ok (string_bytes name)) }
     ensures err { IfErr result (λ fault. (fault ≢ IdentFault.Memory) →
         identifier_of profile.now (units_of marc.now) ≡ Err fault) }
 {
@@ -69,10 +69,10 @@ pub fn identifier(alloc: Global, marc: &Marc<'_>, profile: &Profile) -> Result<S
     Err(IdentFault::NoIdentifier)
 }
 
-/// The identifier that a unit's bytes hold.
 fn identifier_in(alloc: Global, bytes: &[u8]) -> Result<String, IdentFault>
     ensures ok { IfOk result (λ name. identifier_in bytes.now ≡ Ok (string_bytes name)) }
-    ensures err { IfErr result (λ fault. (fault ≢ IdentFault.Memory) → identifier_in bytes.now ≡ Err fault) }
+    ensures err { IfErr result
+        (λ fault. (fault ≢ IdentFault.Memory) → identifier_in bytes.now ≡ Err fault) }
 {
     let text = String::from_utf8_lossy(alloc, bytes)?;
     let name = without_spaces(text.as_str());

@@ -32,12 +32,16 @@ pub fn is_image<S: Alter, L: Layout>(
     connection: &mut Connection<S>,
     profile: &Profile,
 ) -> Result<bool, RegFault>
-    ensures call { Reading (state S.Store connection.old) (state S.Store connection.new) result (λ it. Looks (IsTrue it)) }
-    ensures value { HasCleanDisk (state S.Store connection.new) → IsStore (state S.Store connection.old)
-        → IfOk result (λ it. IsTrue it ↔ ((bases : List Base) × IsImage (state S.Store connection.old).now.trees
+    ensures call { Reading (state S.Store connection.old) (state S.Store connection.new) result
+        (λ it. Looks (IsTrue it)) }
+    ensures value { HasCleanDisk (state S.Store connection.new)
+        → IsStore (state S.Store connection.old)
+        → IfOk result (λ it. IsTrue it ↔ ((bases : List Base)
+        × IsImage (state S.Store connection.old).now.trees
         (under (version_of L.format) (canonical_text profile.now) bases))) }
     ensures honest { result ≢ Err RegFault.Damaged }
-    ensures refused { IsReasoned (state S.Store connection.old) (state S.Store connection.new) result }
+    ensures refused { IsReasoned (state S.Store connection.old) (state S.Store connection.new)
+        result }
 {
     // Its profile is some text's.
     profile.is_of_some_text();
@@ -53,11 +57,15 @@ fn expectation<S: Alter, L: Layout>(
     connection: &mut Connection<S>,
     profile: &Profile,
 ) -> Result<Option<Expected>, RegFault>
-    ensures call { Reading (state S.Store connection.old) (state S.Store connection.new) result (λ found. Looks (IsSome found)) }
-    ensures value { HasCleanDisk (state S.Store connection.new) → IsStore (state S.Store connection.old)
-        → IfOk result (IsExpectationOrNone L.format profile.now (state S.Store connection.old).now.trees) }
+    ensures call { Reading (state S.Store connection.old) (state S.Store connection.new) result
+        (λ found. Looks (IsSome found)) }
+    ensures value { HasCleanDisk (state S.Store connection.new)
+        → IsStore (state S.Store connection.old)
+        → IfOk result (IsExpectationOrNone L.format profile.now
+        (state S.Store connection.old).now.trees) }
     ensures honest { result ≢ Err RegFault.Damaged }
-    ensures refused { IsReasoned (state S.Store connection.old) (state S.Store connection.new) result }
+    ensures refused { IsReasoned (state S.Store connection.old) (state S.Store connection.new)
+        result }
 {
     let Some(databases) = expected_databases(alloc, connection, profile)? else {
         return Ok(None);

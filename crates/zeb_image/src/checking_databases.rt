@@ -23,11 +23,14 @@ pub(crate) fn expected_databases<S: Alter>(
     connection: &mut Connection<S>,
     profile: &Profile,
 ) -> Result<Option<Vec<ExpectedDatabase>>, RegFault>
-    ensures call { Reading (state S.Store connection.old) (state S.Store connection.new) result (λ found. Looks (IsSome found)) }
-    ensures value { HasCleanDisk (state S.Store connection.new) → IsStore (state S.Store connection.old)
+    ensures call { Reading (state S.Store connection.old) (state S.Store connection.new) result
+        (λ found. Looks (IsSome found)) }
+    ensures value { HasCleanDisk (state S.Store connection.new)
+        → IsStore (state S.Store connection.old)
         → IfOk result (AreMadeOrNone profile.now (state S.Store connection.old).now.trees) }
     ensures honest { result ≢ Err RegFault.Damaged }
-    ensures refused { IsReasoned (state S.Store connection.old) (state S.Store connection.new) result }
+    ensures refused { IsReasoned (state S.Store connection.old) (state S.Store connection.new)
+        result }
 {
     let list = match databases(alloc, connection) {
         Ok(list) => list,
@@ -53,10 +56,12 @@ fn expected_database<S: Alter>(
 ) -> Result<Option<ExpectedDatabase>, RegFault>
     ensures call { Reading (state S.Store connection.old) (state S.Store connection.new) result
         (λ found old new. IsSome found → IsUnchanged old new) }
-    ensures value { HasCleanDisk (state S.Store connection.new) → IsStore (state S.Store connection.old)
+    ensures value { HasCleanDisk (state S.Store connection.new)
+        → IsStore (state S.Store connection.old)
         → IfOk result (IsMadeOrNone profile.now (state S.Store connection.old).now.trees listed) }
     ensures honest { result ≢ Err RegFault.Damaged }
-    ensures refused { IsReasoned (state S.Store connection.old) (state S.Store connection.new) result }
+    ensures refused { IsReasoned (state S.Store connection.old) (state S.Store connection.new)
+        result }
 {
     let ListedDatabase { id, name, last } = listed;
     if last > Limits::GREATEST.numbers || DbName::read(name.as_str()).is_none() {

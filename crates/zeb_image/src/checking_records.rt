@@ -70,7 +70,8 @@ fn is_named(
     profile: &Profile,
     ident: &str,
 ) -> Result<bool, AllocError>
-    ensures { IfOk result (λ it. IsTrue it ↔ (identifier_of profile.now (units_of marc.now) ≡ Ok ident.now)) }
+    ensures { IfOk result (λ it. IsTrue it ↔ (identifier_of profile.now (units_of marc.now) ≡ Ok
+        ident.now)) }
 {
     match identifier(alloc, marc, profile) {
         Ok(found) => Ok(found.as_str() == ident),
@@ -82,7 +83,8 @@ fn is_named(
 /// The postings rising by key, system number, unit and place, each once.
 fn in_order(alloc: Global, postings: Vec<Fronted>) -> Result<Vec<KeyPosting>, AllocError>
     ensures rising { IfOk result (λ list. IsStrictlySortedBy key_posting_order list.items) }
-    ensures members { IfOk result (λ list. (it : KeyPosting) → Has list.items it ↔ Has (map bare postings.items) it) }
+    ensures members { IfOk result (λ list. (it : KeyPosting)
+        → Has list.items it ↔ Has (map bare postings.items) it) }
 {
     let mut list = without_fronts(alloc, sorted(postings))?;
     // That the list is in order here isn't proved. Where it is, a sort sees so by one look at each posting.

@@ -29,7 +29,8 @@ pub(crate) fn add_postings(
     sysno: u64,
     found: Vec<Occurrence>,
 ) -> Result<(), AllocError>
-    ensures { OnOk result (map bare postings.new.items ≡ map bare postings.old.items ++ map (posting_of sysno) found.items) }
+    ensures { OnOk result (map bare postings.new.items ≡ map bare postings.old.items ++ map
+        (posting_of sysno) found.items) }
 {
     for occurrence in found {
         let Occurrence { key, seq, pos } = occurrence;

@@ -41,21 +41,29 @@ pub fn rebuild<S: Alter, L: Layout>(
     profile: &Profile,
 ) -> Result<(), RegFault>
     ensures same { tx.new.conn.ghost_name ≡ tx.old.conn.ghost_name }
-    ensures call { Inside (state S.Store tx.old.conn.now) (state S.Store tx.new.conn.now) result (λ _. GoesOn) }
-    ensures built { HasCleanDisk (state S.Store tx.new.conn.now) → IsTrue (state S.Store tx.old.conn.now).in_transaction
+    ensures call { Inside (state S.Store tx.old.conn.now) (state S.Store tx.new.conn.now) result
+        (λ _. GoesOn) }
+    ensures built { HasCleanDisk (state S.Store tx.new.conn.now)
+        → IsTrue (state S.Store tx.old.conn.now).in_transaction
         → IsStore (state S.Store tx.old.conn.now)
         → OnOk result (IsStore (state S.Store tx.new.conn.now)
-        × KeepsLists (state S.Store tx.old.conn.now).now.trees (state S.Store tx.new.conn.now).now.trees
+        × KeepsLists (state S.Store tx.old.conn.now).now.trees
+        (state S.Store tx.new.conn.now).now.trees
         × ((bases : List Base)
         → AreListsOf (state S.Store tx.old.conn.now).now.trees bases → AreBases profile.now bases
         → IsImageOf L.format profile.now (state S.Store tx.new.conn.now).now.trees bases)) }
-    ensures honest { HasCleanDisk (state S.Store tx.new.conn.now) → IsTrue (state S.Store tx.old.conn.now).in_transaction
+    ensures honest { HasCleanDisk (state S.Store tx.new.conn.now)
+        → IsTrue (state S.Store tx.old.conn.now).in_transaction
         → IsStore (state S.Store tx.old.conn.now) → result ≡ Err RegFault.Damaged
         → (bases : List Base)
-        → AreListsOf (state S.Store tx.old.conn.now).now.trees bases → ¬ AreBases profile.now bases }
-    ensures checked { HasCleanDisk (state S.Store tx.new.conn.now) → IsTrue (state S.Store tx.old.conn.now).in_transaction
-        → IsStore (state S.Store tx.old.conn.now) → OnOk result (AreSound profile.now (state S.Store tx.old.conn.now).now.trees) }
-    ensures damaged { HasCleanDisk (state S.Store tx.new.conn.now) → IsTrue (state S.Store tx.old.conn.now).in_transaction
+        → AreListsOf (state S.Store tx.old.conn.now).now.trees bases
+        → ¬ AreBases profile.now bases }
+    ensures checked { HasCleanDisk (state S.Store tx.new.conn.now)
+        → IsTrue (state S.Store tx.old.conn.now).in_transaction
+        → IsStore (state S.Store tx.old.conn.now)
+        → OnOk result (AreSound profile.now (state S.Store tx.old.conn.now).now.trees) }
+    ensures damaged { HasCleanDisk (state S.Store tx.new.conn.now)
+        → IsTrue (state S.Store tx.old.conn.now).in_transaction
         → IsStore (state S.Store tx.old.conn.now) → result ≡ Err RegFault.Damaged
         → AreReadableLists (state S.Store tx.old.conn.now).now.trees
         → ¬ AreSound profile.now (state S.Store tx.old.conn.now).now.trees }
@@ -77,24 +85,33 @@ fn database_post<S: Alter, L: Layout>(
     db: DatabaseId,
 ) -> Result<(), RegFault>
     ensures same { tx.new.conn.ghost_name ≡ tx.old.conn.ghost_name }
-    ensures stays { HasCleanDisk (state S.Store tx.new.conn.now) → IsTrue (state S.Store tx.old.conn.now).in_transaction
+    ensures stays { HasCleanDisk (state S.Store tx.new.conn.now)
+        → IsTrue (state S.Store tx.old.conn.now).in_transaction
         → StaysInside (state S.Store tx.old.conn.now) (state S.Store tx.new.conn.now) result }
-    ensures crash { Survives (state S.Store tx.old.conn.now) (state S.Store tx.new.conn.now) (λ _. ⊥) }
-    ensures kept { HasCleanDisk (state S.Store tx.new.conn.now) → IsTrue (state S.Store tx.old.conn.now).in_transaction
+    ensures crash { Survives (state S.Store tx.old.conn.now) (state S.Store tx.new.conn.now)
+        (λ _. ⊥) }
+    ensures kept { HasCleanDisk (state S.Store tx.new.conn.now)
+        → IsTrue (state S.Store tx.old.conn.now).in_transaction
         → IsStore (state S.Store tx.old.conn.now)
         → OnOk result (IsStore (state S.Store tx.new.conn.now)
-        × KeepsLists (state S.Store tx.old.conn.now).now.trees (state S.Store tx.new.conn.now).now.trees) }
-    ensures checked { HasCleanDisk (state S.Store tx.new.conn.now) → IsTrue (state S.Store tx.old.conn.now).in_transaction
+        × KeepsLists (state S.Store tx.old.conn.now).now.trees
+        (state S.Store tx.new.conn.now).now.trees) }
+    ensures checked { HasCleanDisk (state S.Store tx.new.conn.now)
+        → IsTrue (state S.Store tx.old.conn.now).in_transaction
         → IsStore (state S.Store tx.old.conn.now)
         → OnOk result (AreSoundIn profile.now (state S.Store tx.old.conn.now).now.trees db.0) }
-    ensures posted { HasCleanDisk (state S.Store tx.new.conn.now) → IsTrue (state S.Store tx.old.conn.now).in_transaction
+    ensures posted { HasCleanDisk (state S.Store tx.new.conn.now)
+        → IsTrue (state S.Store tx.old.conn.now).in_transaction
         → IsStore (state S.Store tx.old.conn.now)
-        → OnOk result ((before : Content) → holds_in L.format (state S.Store tx.old.conn.now).now.trees before → IsStorable before
+        → OnOk result ((before : Content) → holds_in L.format
+        (state S.Store tx.old.conn.now).now.trees before → IsStorable before
         → LacksDatabase db.0 before → HoldsSuch L.format (state S.Store tx.new.conn.now).now.trees
         (IsPosted profile.now (state S.Store tx.old.conn.now).now.trees db.0 before)) }
-    ensures damaged { HasCleanDisk (state S.Store tx.new.conn.now) → IsTrue (state S.Store tx.old.conn.now).in_transaction
+    ensures damaged { HasCleanDisk (state S.Store tx.new.conn.now)
+        → IsTrue (state S.Store tx.old.conn.now).in_transaction
         → IsStore (state S.Store tx.old.conn.now) → result ≡ Err RegFault.Damaged
-        → (before : Content) → holds_in L.format (state S.Store tx.old.conn.now).now.trees before → IsStorable before
+        → (before : Content) → holds_in L.format (state S.Store tx.old.conn.now).now.trees before
+        → IsStorable before
         → LacksDatabase db.0 before → AreReadable (state S.Store tx.old.conn.now).now.trees db.0
         → ¬ AreSoundIn profile.now (state S.Store tx.old.conn.now).now.trees db.0 }
 {

@@ -28,7 +28,8 @@ pub(crate) fn record_note(
     ensures number { OnOk result (kept.now.sysno ≤ 999999999) }
     ensures posted { OnOk result ((format : Format) (trees : Trees) (id : ℤ) (before : Content)
         → WillHold format trees id pending.old before
-        → IsStorable before → LacksRecord id kept.now.sysno before → WillHoldSuch format trees id pending.new
+        → IsStorable before → LacksRecord id kept.now.sysno before
+        → WillHoldSuch format trees id pending.new
         (IsRecordPosted id kept.now.sysno (OccursIn profile.now (kept_of kept.now)) before)) }
     ensures damaged { result ≡ Err RegFault.Damaged → ¬ IsSound profile.now (kept_of kept.now) }
 {

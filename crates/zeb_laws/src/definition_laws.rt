@@ -30,16 +30,20 @@ use zeb_engine::Command;
 /// held and whatever is asked. So such an answer always tells of the machine or of the tables, and never of the command:
 /// a register that is what commands left answers no damage.
 pub fn no_definition_answers_damage()
-    ensures damage { (c : Conditions) (command : Command) (before : Holdings) (answer : Answer) (later : Holdings)
+    ensures damage { (c : Conditions) (command : Command) (before : Holdings) (answer : Answer)
+        (later : Holdings)
         → Step c command before answer later
         → answer ≢ refused damaged }
-    ensures store { (c : Conditions) (command : Command) (before : Holdings) (answer : Answer) (later : Holdings)
+    ensures store { (c : Conditions) (command : Command) (before : Holdings) (answer : Answer)
+        (later : Holdings)
         → Step c command before answer later
         → answer ≢ refused store_failed }
-    ensures memory { (c : Conditions) (command : Command) (before : Holdings) (answer : Answer) (later : Holdings)
+    ensures memory { (c : Conditions) (command : Command) (before : Holdings) (answer : Answer)
+        (later : Holdings)
         → Step c command before answer later
         → answer ≢ refused out_of_memory }
-    ensures reader { (c : Conditions) (command : Command) (before : Holdings) (answer : Answer) (later : Holdings)
+    ensures reader { (c : Conditions) (command : Command) (before : Holdings) (answer : Answer)
+        (later : Holdings)
         → Step c command before answer later
         → (file : ℕ) → answer ≢ refused (read_fault file) }
 {}
@@ -48,7 +52,8 @@ pub fn no_definition_answers_damage()
 /// scan and a stat, whose answers are not computed but described by the kept records, and at most one thing that is held then. So an
 /// answer that a reader works out from the definition is the one that the program gives, unless the store or the memory fails.
 pub fn a_command_has_one_answer()
-    ensures { (c : Conditions) (command : Command) (before : Holdings) (one other : Answer) (left right : Holdings)
+    ensures { (c : Conditions) (command : Command) (before : Holdings) (one other : Answer)
+        (left right : Holdings)
         → Step c command before one left
         → Step c command before other right → (one ≡ other) × (left ≡ right) }
 {}
@@ -64,8 +69,10 @@ pub fn a_command_has_an_answer()
 /// A find of one word without stars holds of a record just where the word itself stands in that index of it: what a pattern matches is
 /// then one entry of the register, and so a reader can check a find's answer against the records' texts, without a register in mind.
 pub fn a_word_is_found_where_it_stands()
-    ensures { (profile : List Directive) (records : List Kept) (index : ℕ) (word : List ℕ) (n : ℕ) → IsUtf8 word
-        → TreeHolds (occurs profile records) (IsNamed (occurs profile records) (has_name records)) (word_plan index word) n
+    ensures { (profile : List Directive) (records : List Kept) (index : ℕ) (word : List ℕ) (n : ℕ)
+        → IsUtf8 word
+        → TreeHolds (occurs profile records) (IsNamed (occurs profile records) (has_name records))
+        (word_plan index word) n
         ↔ TermIn (occurs profile records) index Word word n }
 {}
 
@@ -74,19 +81,27 @@ pub fn a_word_is_found_where_it_stands()
 /// inserted and without those deleted; and the last number given has risen by just the number of those inserted, so that no number is
 /// lost or given twice. So a reader can check a reply against the files and against the database.
 pub fn counts_add_up()
-    ensures accepted { (c : Conditions) (kind : Kind) (name : List ℕ) (files : List Split) (before : Holdings)
+    ensures accepted { (c : Conditions) (kind : Kind) (name : List ℕ) (files : List Split)
+        (before : Holdings)
         (inserted updated deleted : ℕ)
-        → (turned c (changed_by_files c kind name files) before).0 ≡ changed inserted updated deleted
+        → (turned c (changed_by_files c kind name files) before).0 ≡ changed inserted updated
+        deleted
         → IsAccepted c kind name files before (turned c (changed_by_files c kind name files) before) }
-    ensures taken { (c : Conditions) (kind : Kind) (files : List Split) (base : Base) (p : Progress) → FoldsTo c kind files base p
+    ensures taken { (c : Conditions) (kind : Kind) (files : List Split) (base : Base) (p : Progress)
+        → FoldsTo c kind files base p
         → p.taken ≡ records_in files }
-    ensures told { (c : Conditions) (kind : Kind) (files : List Split) (base : Base) (p : Progress) → FoldsTo c kind files base p
+    ensures told { (c : Conditions) (kind : Kind) (files : List Split) (base : Base) (p : Progress)
+        → FoldsTo c kind files base p
         → told p ≤ p.taken }
-    ensures each { (c : Conditions) (kind : Kind) (files : List Split) (base : Base) (p : Progress) → FoldsTo c kind files base p
+    ensures each { (c : Conditions) (kind : Kind) (files : List Split) (base : Base) (p : Progress)
+        → FoldsTo c kind files base p
         → kind ≢ Kind.Adelete → told p ≡ p.taken }
-    ensures kept { (c : Conditions) (kind : Kind) (files : List Split) (base : Base) (p : Progress) → FoldsTo c kind files base p
-        → IsBase c.profile base → length p.base.records + p.deleted ≡ length base.records + p.inserted }
-    ensures last { (c : Conditions) (kind : Kind) (files : List Split) (base : Base) (p : Progress) → FoldsTo c kind files base p
+    ensures kept { (c : Conditions) (kind : Kind) (files : List Split) (base : Base) (p : Progress)
+        → FoldsTo c kind files base p
+        → IsBase c.profile base → length p.base.records + p.deleted ≡ length
+        base.records + p.inserted }
+    ensures last { (c : Conditions) (kind : Kind) (files : List Split) (base : Base) (p : Progress)
+        → FoldsTo c kind files base p
         → p.base.last ≡ base.last + p.inserted }
 {}
 
@@ -95,16 +110,20 @@ pub fn counts_add_up()
 /// identifier, or has a number greater than any given before. So a number that a reader has noted never comes to mean
 /// another identifier, until the database is dropped or the register begun anew.
 pub fn numbers_stay()
-    ensures elders { (c : Conditions) (files : List Split) (base : Base) (p : Progress) → FoldsTo c Kind.Update files base p
+    ensures elders { (c : Conditions) (files : List Split) (base : Base) (p : Progress)
+        → FoldsTo c Kind.Update files base p
         → (kept : Kept) → Contains base.records kept → HasNamesake p.base.records kept }
-    ensures others { (c : Conditions) (kind : Kind) (files : List Split) (base : Base) (p : Progress) → FoldsTo c kind files base p
-        → (kept : Kept) → Contains p.base.records kept → HasNamesake base.records kept ⊎ (base.last < kept.sysno) }
+    ensures others { (c : Conditions) (kind : Kind) (files : List Split) (base : Base)
+        (p : Progress) → FoldsTo c kind files base p
+        → (kept : Kept) → Contains p.base.records kept → HasNamesake base.records kept
+        ⊎ (base.last < kept.sysno) }
 {}
 
 /// Two profiles with one canonical text have the same images. So what a register holds doesn't depend on how its profile is
 /// spelled, nor on the `store` line: a session under either profile finds the same held.
 pub fn one_text_one_image()
-    ensures { (one other : List Directive) → ∥ IsProfile other ∥₁ → (trees : Trees) (version text : List ℕ) (bases : List Base)
+    ensures { (one other : List Directive) → ∥ IsProfile other ∥₁
+        → (trees : Trees) (version text : List ℕ) (bases : List Base)
         → text ≡ canonical_text other
         → IsImageUnder one trees version text bases → IsImageUnder other trees version text bases }
 {}
@@ -112,5 +131,6 @@ pub fn one_text_one_image()
 /// Tables are the image of one holding at most. So what a register holds is read off its tables alone: its version, its profile's
 /// canonical text, its databases, their last numbers and their records.
 pub fn an_image_is_of_one_holding()
-    ensures { (trees : Trees) (one other : Holdings) → IsImage trees one → IsImage trees other → one ≡ other }
+    ensures { (trees : Trees) (one other : Holdings) → IsImage trees one → IsImage trees other
+        → one ≡ other }
 {}

@@ -18,11 +18,16 @@ use zeb_change::Kind;
 /// name is gone. Names that rise rise still, so that no name is there twice. So a change of one database is no change of
 /// another, and what a reader finds under a name is what was put there last.
 pub fn a_database_is_in_its_place()
-    ensures members { (base : Base) (bases : List Base) → IsStrictlySortedBy (λ (a b : Base). slice_cmp nat_cmp a.name b.name) bases
-        → (other : Base) → Contains (with_base base bases) other ↔ ((other ≡ base) ⊎ (Contains bases other × (other.name ≢ base.name))) }
-    ensures rising { (base : Base) (bases : List Base) → IsStrictlySortedBy (λ (a b : Base). slice_cmp nat_cmp a.name b.name) bases
-        → IsStrictlySortedBy (λ (a b : Base). slice_cmp nat_cmp a.name b.name) (with_base base bases) }
-    ensures named { (base : Base) (bases : List Base) → IsStrictlySortedBy (λ (a b : Base). slice_cmp nat_cmp a.name b.name) bases
+    ensures members { (base : Base) (bases : List Base)
+        → IsStrictlySortedBy (λ (a b : Base). slice_cmp nat_cmp a.name b.name) bases
+        → (other : Base) → Contains (with_base base bases) other ↔ ((other ≡ base)
+        ⊎ (Contains bases other × (other.name ≢ base.name))) }
+    ensures rising { (base : Base) (bases : List Base)
+        → IsStrictlySortedBy (λ (a b : Base). slice_cmp nat_cmp a.name b.name) bases
+        → IsStrictlySortedBy (λ (a b : Base). slice_cmp nat_cmp a.name b.name)
+        (with_base base bases) }
+    ensures named { (base : Base) (bases : List Base)
+        → IsStrictlySortedBy (λ (a b : Base). slice_cmp nat_cmp a.name b.name) bases
         → base_named base.name (with_base base bases) ≡ Some base }
 {}
 
@@ -31,12 +36,17 @@ pub fn a_database_is_in_its_place()
 /// is one that was kept before, as it was. A delete takes away the records whose identifiers the slices have, and leaves each
 /// other one as it was. So a reader can tell from the files alone what is kept of them.
 pub fn the_last_record_stays()
-    ensures idents { (c : Conditions) (files : List Split) (base : Base) (p : Progress) → FoldsTo c Kind.Update files base p
-        → (ident : List ℕ) → KeepsIdent p.base ident ↔ (KeepsIdent base ident ⊎ SomeHas c.profile ident (slices_in files)) }
-    ensures bytes { (c : Conditions) (files : List Split) (base : Base) (p : Progress) → FoldsTo c Kind.Update files base p
-        → (kept : Kept) → Contains p.base.records kept → IsLastOf c.profile kept.ident (slices_in files) kept.bytes
+    ensures idents { (c : Conditions) (files : List Split) (base : Base) (p : Progress)
+        → FoldsTo c Kind.Update files base p
+        → (ident : List ℕ) → KeepsIdent p.base ident ↔ (KeepsIdent base ident
+        ⊎ SomeHas c.profile ident (slices_in files)) }
+    ensures bytes { (c : Conditions) (files : List Split) (base : Base) (p : Progress)
+        → FoldsTo c Kind.Update files base p
+        → (kept : Kept) → Contains p.base.records kept
+        → IsLastOf c.profile kept.ident (slices_in files) kept.bytes
         ⊎ (NoneHas c.profile kept.ident (slices_in files) × Contains base.records kept) }
-    ensures deleted { (c : Conditions) (kind : Kind) (files : List Split) (base : Base) (p : Progress) → FoldsTo c kind files base p
+    ensures deleted { (c : Conditions) (kind : Kind) (files : List Split) (base : Base)
+        (p : Progress) → FoldsTo c kind files base p
         → kind ≢ Kind.Update → (kept : Kept) → Contains p.base.records kept
         ↔ (Contains base.records kept × NoneHas c.profile kept.ident (slices_in files)) }
 {}

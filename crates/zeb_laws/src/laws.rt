@@ -22,26 +22,40 @@ use zeb_engine::Command;
 pub fn worked_examples()
     ensures begun { (version : List ℕ) (limits : Limits) (before : Holdings)
         → IsJust (Step (book_conditions version limits) Command.Init before) done (no_books version) }
-    ensures kept { (version : List ℕ) (limits : Limits) (command : Command) → IsUpdateBy (worked_record ∷ []) command
-        → IsJust (Step (book_conditions version limits) command (no_books version)) (changed 1 0 0) (one_book version) }
-    ensures again { (version : List ℕ) (limits : Limits) (command : Command) → IsUpdateBy (worked_record ∷ []) command
-        → IsJust (Step (book_conditions version limits) command (one_book version)) (changed 0 1 0) (one_book version) }
-    ensures refused { (version : List ℕ) (limits : Limits) (command : Command) → IsUpdateBy (faulty_file ∷ []) command
-        → IsJust (Step (book_conditions version limits) command (no_books version)) (refused (faulty 1 2 RecordFault.LengthDigits))
+    ensures kept { (version : List ℕ) (limits : Limits) (command : Command)
+        → IsUpdateBy (worked_record ∷ []) command
+        → IsJust (Step (book_conditions version limits) command (no_books version)) (changed 1 0 0)
+        (one_book version) }
+    ensures again { (version : List ℕ) (limits : Limits) (command : Command)
+        → IsUpdateBy (worked_record ∷ []) command
+        → IsJust (Step (book_conditions version limits) command (one_book version)) (changed 0 1 0)
+        (one_book version) }
+    ensures refused { (version : List ℕ) (limits : Limits) (command : Command)
+        → IsUpdateBy (faulty_file ∷ []) command
+        → IsJust (Step (book_conditions version limits) command (no_books version))
+        (refused (faulty 1 2 RecordFault.LengthDigits))
         (no_books version) }
-    ensures refused_again { (version : List ℕ) (limits : Limits) (command : Command) → IsUpdateBy (faulty_file ∷ []) command
-        → IsJust (Step (book_conditions version limits) command (one_book version)) (refused (faulty 1 2 RecordFault.LengthDigits))
+    ensures refused_again { (version : List ℕ) (limits : Limits) (command : Command)
+        → IsUpdateBy (faulty_file ∷ []) command
+        → IsJust (Step (book_conditions version limits) command (one_book version))
+        (refused (faulty 1 2 RecordFault.LengthDigits))
         (one_book version) }
     ensures found { (answer : Answer)
-        → IsFound (occurs title_profile book_base.records) (has_name book_base.records) (title_plan (codes "whale")) 1 20 answer
+        → IsFound (occurs title_profile book_base.records) (has_name book_base.records)
+        (title_plan (codes "whale")) 1 20 answer
         ↔ (answer ≡ found 1 ((1, codes "a1") ∷ [])) }
-    ensures other_word { (n : ℕ) → ¬ HasKey (occurs title_profile book_base.records) (title_word (codes "ahab")) n }
+    ensures other_word { (n : ℕ) → ¬ HasKey (occurs title_profile book_base.records)
+        (title_word (codes "ahab")) n }
     ensures not_found { (answer : Answer)
-        → IsFound (occurs title_profile book_base.records) (has_name book_base.records) (title_plan (codes "ahab")) 1 20 answer
+        → IsFound (occurs title_profile book_base.records) (has_name book_base.records)
+        (title_plan (codes "ahab")) 1 20 answer
         ↔ (answer ≡ found 0 []) }
-    ensures asked { (version : List ℕ) (limits : Limits) (command : Command) → IsFindBy (codes "@attr 1=4 whale") command
-        → IsJust (Step (book_conditions version limits) command (one_book version)) (found 1 ((1, codes "a1") ∷ [])) (one_book version) }
-    ensures run { (version : List ℕ) (limits : Limits) (update ask : Command) → IsUpdateBy (worked_record ∷ []) update
+    ensures asked { (version : List ℕ) (limits : Limits) (command : Command)
+        → IsFindBy (codes "@attr 1=4 whale") command
+        → IsJust (Step (book_conditions version limits) command (one_book version))
+        (found 1 ((1, codes "a1") ∷ [])) (one_book version) }
+    ensures run { (version : List ℕ) (limits : Limits) (update ask : Command)
+        → IsUpdateBy (worked_record ∷ []) update
         → IsFindBy (codes "@attr 1=4 whale") ask
         → Run (book_conditions version limits) nothing_yet (Command.Init ∷ update ∷ ask ∷ [])
         (done ∷ changed 1 0 0 ∷ found 1 ((1, codes "a1") ∷ []) ∷ []) (one_book version) }

@@ -19,26 +19,36 @@ use zeb_engine::Command;
 /// that a register keeps is what it means of profiles: that each kept record has the identifier still that it is kept under.
 pub fn a_text_tells_the_rule()
     ensures { (one other : List Directive) → ∥ IsProfile one ∥₁ → ∥ IsProfile other ∥₁
-        → IsTrue (same_rule (canonical_text one) (canonical_text other)) ↔ (identifier_pattern one ≡ identifier_pattern other) }
+        → IsTrue (same_rule (canonical_text one) (canonical_text other)) ↔
+        (identifier_pattern one ≡ identifier_pattern other) }
 {}
 
 /// An accepted reindex leaves the databases that were held, with their names, numbers, identifiers and bytes, under the session's profile;
 /// an accepted upgrade leaves them under its version. Of a register of the session's version and its profile both are accepted, and leave
 /// all as it was.
 pub fn the_databases_stay()
-    ensures reindexed { (c : Conditions) (before later : Holdings) → Step c Command.Reindex before done later
-        → (text : List ℕ) × (bases : List Base) × (before ≡ under c.version text bases) × (later ≡ holding c bases) }
-    ensures upgraded { (c : Conditions) (before later : Holdings) → Step c Command.Upgrade before done later
-        → (version : List ℕ) × (bases : List Base) × (before ≡ under version (canonical_text c.profile) bases) × (later ≡ holding c bases) }
+    ensures reindexed { (c : Conditions) (before later : Holdings)
+        → Step c Command.Reindex before done later
+        → (text : List ℕ) × (bases : List Base) × (before ≡ under c.version text bases)
+        × (later ≡ holding c bases) }
+    ensures upgraded { (c : Conditions) (before later : Holdings)
+        → Step c Command.Upgrade before done later
+        → (version : List ℕ) × (bases : List Base)
+        × (before ≡ under version (canonical_text c.profile) bases) × (later ≡ holding c bases) }
     ensures again { (c : Conditions) (bases : List Base) (answer : Answer) (later : Holdings)
-        → Step c Command.Upgrade (holding c bases) answer later → (answer ≡ done) × (later ≡ holding c bases) }
-    ensures same { (c : Conditions) (bases : List Base) (answer : Answer) (later : Holdings) → ∥ IsProfile c.profile ∥₁
-        → Step c Command.Reindex (holding c bases) answer later → (answer ≡ done) × (later ≡ holding c bases) }
+        → Step c Command.Upgrade (holding c bases) answer later → (answer ≡ done)
+        × (later ≡ holding c bases) }
+    ensures same { (c : Conditions) (bases : List Base) (answer : Answer) (later : Holdings)
+        → ∥ IsProfile c.profile ∥₁
+        → Step c Command.Reindex (holding c bases) answer later → (answer ≡ done)
+        × (later ≡ holding c bases) }
 {}
 
 /// A check is accepted of what an accepted command that asks the store has left, a reindex and an upgrade among them. So a check that is
 /// refused after one, where neither the store nor the memory failed, tells of a disk that changed, and never of the commands.
 pub fn a_check_accepts_what_commands_leave()
-    ensures { (c : Conditions) (command : Command) (before later : Holdings) (answer : Answer) → AsksStore command
-        → Step c command before answer later → Accepts answer → Step c Command.Check later done later }
+    ensures { (c : Conditions) (command : Command) (before later : Holdings) (answer : Answer)
+        → AsksStore command
+        → Step c command before answer later → Accepts answer
+        → Step c Command.Check later done later }
 {}

@@ -1,6 +1,6 @@
 -- Reading one record from a source (ISO 2709: a record begins with its length): the faults, and what a buffer keeps. This
 -- project's own rules: the separators (see Splits), and which fault is answered.
-use Rattle.std.specs.Prelude.{◌≡◌, ℕ, List, [], length, Option, Some, None, Result, Ok, Err, ⊤}
+use Rattle.std.specs.Prelude.{◌≡◌, ℕ, Bool, false, List, [], length, Option, Some, None, Result, Ok, Err, ⊤}
 use Rattle.zeb_marc.specs.declared.faults.MarcFault.{MarcFault}
 use Rattle.zeb_marc.specs.declared.faults.MarcFault.TheVariants.{LengthDigits, LengthRange, Truncated, TooManySeparators, ReadFault}
 use Rattle.zeb_marc.specs.Splits.{IsSlice}
@@ -19,3 +19,7 @@ abbrev pub Keeps : Result (Option ℕ) MarcFault → List ℕ → Type 0
 Keeps (Ok None) kept = kept ≡ []
 Keeps (Ok (Some n)) kept = IsSlice kept × (n ≡ length kept)
 Keeps (Err fault) kept = IsStreamFault fault × (kept ≡ [])
+
+-- a source that can't fail stays one, and hasn't failed if it hadn't
+abbrev pub StaysAble : {R : Type 0} (may_fail has_failed : R → Bool) (old new : R) → Type 0
+StaysAble may_fail has_failed old new = may_fail old ≡ false → (may_fail new ≡ false) × (has_failed new ≡ has_failed old)

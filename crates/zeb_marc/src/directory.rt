@@ -36,7 +36,6 @@ fn extent_of(entry: &[u8]) -> Option<(usize, usize)>
     Some((start, start + size))
 }
 
-/// Checks one directory entry.
 #[tactic(auto, unfolding(crate::specs::Directory::is_in_area))]
 fn check_entry(entry: &[u8], area: &[u8]) -> Result<(), MarcFault>
     requires { length entry.now ≡ 12 }

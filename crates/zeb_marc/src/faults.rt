@@ -44,7 +44,7 @@ impl fmt::Display for MarcFault {
     ghost output = { λ fault. Some (fault_name fault) };
 
     fn fmt<W: fmt::Write>(&self, f: &mut fmt::Formatter<W>) -> fmt::Result {
-        let name = match self {
+        f.write_str(match self {
             MarcFault::LengthDigits => "LengthDigits",
             MarcFault::LengthRange => "LengthRange",
             MarcFault::Truncated => "Truncated",
@@ -58,7 +58,6 @@ impl fmt::Display for MarcFault {
             MarcFault::FieldEnd => "FieldEnd",
             MarcFault::TooManySeparators => "TooManySeparators",
             MarcFault::ReadFault => "ReadFault",
-        };
-        write!(f, "{name}")
+        })
     }
 }

@@ -23,17 +23,15 @@ pub fn record_laws()
         → ((fields : List FieldText) × IsRecord text fields) ↔ (first_fault text ≡ None) }
     ensures laid_out { (text : List ℕ) (fields : List FieldText)
         → IsRecord text fields ↔ IsLaidOut text fields }
-    ensures field_parts { (text : List ℕ) (fields : List FieldText) → IsRecord text fields
-        → AllByRecursion (λ field. IsPart text field.text) fields }
-    ensures unit_parts { (text : List ℕ) (fields : List FieldText) → IsRecord text fields
-        → AllByRecursion (λ unit. IsPart text unit.text) (units_of fields) }
+    ensures parts { (text : List ℕ) (fields : List FieldText) → IsRecord text fields
+        → AllByRecursion (λ field. IsPart text field.text) fields
+        × AllByRecursion (λ unit. IsPart text unit.text) (units_of fields)
+        × (length (units_of fields) < 2 ^ 64) }
     ensures faults { (text : List ℕ) (fault : MarcFault) → first_fault text ≡ Some fault
         → IsRecordFault fault }
     ensures numbered { (fields : List FieldText) (k : ℕ) (unit : UnitText)
         → slice_get (units_of fields) k ≡ Some unit
         → unit.seq ≡ k + 1 }
-    ensures few { (text : List ℕ) (fields : List FieldText) → IsRecord text fields
-        → length (units_of fields) < 2 ^ 64 }
 {}
 
 /// A stream is split in exactly one way, which reading it from its front on finds: what stands next is its first slice
@@ -54,6 +52,7 @@ pub fn split_laws()
 
 /// Whatever reading the next record answers, it takes no more bytes off a stream than 65,535 separators and a record of
 /// 99,999 bytes have together.
+#[tactic(auto, using(crate::proofs::TakenLaws::few_taken))]
 pub fn few_bytes_are_taken()
     ensures { (answer : Result (Option ℕ) MarcFault) (taken rest : List ℕ) → Takes answer taken rest
         → length taken ≤ 65535 + 99999 }
@@ -63,37 +62,34 @@ pub fn few_bytes_are_taken()
 pub fn worked_examples()
     ensures accepted { IsRecord worked_record worked_fields }
     ensures units { units_of worked_fields ≡ worked_units }
-    ensures cut { first_fault (record_with (codes "00110nam a") 29) ≡ Some MarcFault.Truncated }
-    ensures unended { first_fault (record_with (codes "00109nam a") 30)
-        ≡ Some MarcFault.NoTerminator }
-    ensures empty { first_fault [] ≡ Some MarcFault.Truncated }
+    ensures faulty { (first_fault [] ≡ Some MarcFault.Truncated)
+        × (first_fault (record_with (codes "00110nam a") 29) ≡ Some MarcFault.Truncated)
+        × (first_fault (record_with (codes "00109nam a") 30) ≡ Some MarcFault.NoTerminator) }
     ensures stream { split_of worked_stream
         ≡ record { slices = worked_record ∷ worked_record ∷ []; fault = Some MarcFault.Truncated } }
 {}
 
-/// A text for each further fault of a record. The small record `sound` has no fault, and each other text differs from it in the
-/// place that its fault is about, its lengths following: the digits of its length; a length below 26, or a byte less than is
+/// A text for each further fault of a record. The first small record of `sound` has no fault, and each other text differs from it in
+/// the place that its fault is about, its lengths following: the digits of its length; a length below 26, or a byte less than is
 /// there; each of the five counts in the leader; the base address; a byte too many in the directory; and of its entry the digits, the tag, the
 /// end, and the last byte of its field. For `Truncated` and `NoTerminator` see [`worked_examples`].
-#[tactic(auto, unfolding(crate::specs::Records::first_fault, crate::specs::Leader::are_digits, crate::specs::Leader::number_of, crate::specs::Leader::counts, crate::specs::Leader::has_counts, crate::specs::Leader::ends_directory, crate::specs::Leader::has_base_address, crate::specs::Directory::has_tag_bytes, crate::specs::Directory::has_digits, crate::specs::Directory::is_in_area))]
 pub fn fault_examples()
-    ensures sound { first_fault (with_leader (codes "00041nam a2200037 a 4500")) ≡ None }
-    ensures length_digits { LeaderFault (codes "0004 nam a2200037 a 4500") LengthDigits }
-    ensures length_range { LeaderFault (codes "00025nam a2200037 a 4500") LengthRange }
-    ensures longer { LeaderFault (codes "00040nam a2200037 a 4500") LengthRange }
-    ensures leader_counts { LeaderFault (codes "00041nam a3200037 a 4500") LeaderCounts }
-    ensures code_count { LeaderFault (codes "00041nam a2300037 a 4500") LeaderCounts }
-    ensures length_size { LeaderFault (codes "00041nam a2200037 a 5500") LeaderCounts }
-    ensures start_size { LeaderFault (codes "00041nam a2200037 a 4400") LeaderCounts }
-    ensures own_size { LeaderFault (codes "00041nam a2200037 a 4510") LeaderCounts }
     // A count that is no digit is read as the one that is wanted.
-    ensures no_counts { first_fault (with_leader (codes "00041nam a  00037 a 4500")) ≡ None }
-    ensures no_entry_map { first_fault (with_leader (codes "00041nam a2200037 a |||0")) ≡ None }
-    ensures base_address { LeaderFault (codes "00041nam a2200036 a 4500") BaseAddress }
-    ensures directory_length { first_fault (small_text (codes "00042nam a2200038 a 4500")
-        (codes "0010003000000") (codes "a1" ++ (30 ∷ []))) ≡ Some MarcFault.DirectoryLength }
-    ensures entry_digits { EntryFault (codes "001000 00000") EntryDigits }
-    ensures entry_tag { EntryFault (codes "0-1000300000") EntryTag }
-    ensures entry_range { EntryFault (codes "001000400000") EntryRange }
-    ensures field_end { EntryFault (codes "001000200000") FieldEnd }
+    ensures sound { AllByRecursion (λ leader. first_fault (with_leader leader) ≡ None)
+        (codes "00041nam a2200037 a 4500" ∷ codes "00041nam a  00037 a 4500"
+        ∷ codes "00041nam a2200037 a |||0" ∷ []) }
+    ensures length { LeaderFault (codes "0004 nam a2200037 a 4500") LengthDigits
+        × LeaderFault (codes "00025nam a2200037 a 4500") LengthRange
+        × LeaderFault (codes "00040nam a2200037 a 4500") LengthRange }
+    ensures counts { AllByRecursion (λ leader. LeaderFault leader LeaderCounts)
+        (codes "00041nam a3200037 a 4500" ∷ codes "00041nam a2300037 a 4500"
+        ∷ codes "00041nam a2200037 a 5500" ∷ codes "00041nam a2200037 a 4400"
+        ∷ codes "00041nam a2200037 a 4510" ∷ []) }
+    ensures directory { LeaderFault (codes "00041nam a2200036 a 4500") BaseAddress
+        × (first_fault (small_text (codes "00042nam a2200038 a 4500") (codes "0010003000000")
+        (codes "a1" ++ (30 ∷ []))) ≡ Some MarcFault.DirectoryLength) }
+    ensures entry { EntryFault (codes "001000 00000") EntryDigits
+        × EntryFault (codes "0-1000300000") EntryTag
+        × EntryFault (codes "001000400000") EntryRange
+        × EntryFault (codes "001000200000") FieldEnd }
 {}

@@ -79,11 +79,7 @@ fn read_base_address(bytes: &[u8]) -> Option<usize>
         × (base < length bytes.now)) }
 {
     let base = read_number(&bytes[12..17])?;
-    if is_base_address(bytes, base) {
-        Some(base)
-    } else {
-        None
-    }
+    is_base_address(bytes, base).then_some(base)
 }
 
 /// The base address of data of a record of the right length whose leader and ends are sound.

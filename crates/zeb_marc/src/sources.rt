@@ -1,5 +1,5 @@
 //! Where records are read from.
-ghost use Rattle.std.specs.Prelude.{◌≡◌, List, ℕ, Option, Bool, true, false, Some, Ok, IsErr, is_ok, if◌then◌else◌, MatchResult};
+ghost use Rattle.std.specs.Prelude.{◌≡◌, List, ℕ, Option, Bool, true, false, Some, Ok, IsErr, IsOk, is_ok, if◌then◌else◌, MatchResult};
 ghost use Rattle.std.specs.Io.{ReadsAtMost};
 ghost use Rattle.std.specs.Io.KnownBytes.{ReadConsumes};
 
@@ -18,6 +18,9 @@ pub trait Source {
     /// Whether a read has failed.
     ghost has_failed: { Self → Bool };
 
+    /// Whether a read may fail, now or later.
+    ghost may_fail: { Self → Bool };
+
     /// Reads some bytes into the front of the buffer and says how many; 0 into a buffer with room is the end.
     ///
     /// An error, an interruption too, is for good: the source has failed then, and each later read fails. It takes no byte of
@@ -27,7 +30,8 @@ pub trait Source {
         ensures bytes { ReadConsumes (remaining self.old) (remaining self.new) result buffer.new }
         ensures failed { has_failed self.new
             ≡ (if is_ok result then has_failed self.old else true) }
-        ensures still { has_failed self.old ≡ true → IsErr result };
+        ensures still { has_failed self.old ≡ true → IsErr result }
+        ensures able { may_fail self.old ≡ false → IsOk result × (may_fail self.new ≡ false) };
 
     /// Whether a read has failed.
     fn has_failed(&self) -> bool
@@ -61,6 +65,8 @@ impl<'a> Source for Slice<'a> {
     ghost remaining = { λ s. Some s };
 
     ghost has_failed = { λ _. false };
+
+    ghost may_fail = { λ _. false };
 
     fn read(&mut self, buffer: &mut [u8]) -> Result<usize, ReadFailed> {
         let count = buffer.len().min(self.bytes.len());
@@ -110,6 +116,8 @@ impl<R: Read> Source for FromRead<R> {
     ghost remaining = { λ s. R.remaining s.reader };
 
     ghost has_failed = { λ s. s.failed };
+
+    ghost may_fail = { λ _. true };
 
     fn read(&mut self, buffer: &mut [u8]) -> Result<usize, ReadFailed> {
         if self.failed {

@@ -1,7 +1,7 @@
 //! A stream of records: ISO 2709, where each record begins with its length.
 ghost use Rattle.std.specs.Prelude.{◌≡◌, ◌≤◌, ◌∷◌, ◌↔◌, [], ℕ, List, length, take, vec_len, Some, false, true, IfOk, IfErr, IsErrOf, MatchResult};
 ghost use Rattle.zeb_marc.specs.Splits.{is_separator, next_of, Gives, IsSlice};
-ghost use Rattle.zeb_marc.specs.Reading.{IsStreamFault, Keeps};
+ghost use Rattle.zeb_marc.specs.Reading.{IsStreamFault, Keeps, StaysAble};
 ghost use Rattle.zeb_marc.specs.PrivateReading.{ByteGives, FailsIf, FillGives, IsFillFault, IsSkipFault, SkipGives, SliceGives};
 ghost use Rattle.zeb_marc.specs.Unread.{LeavesUnread};
 
@@ -37,7 +37,6 @@ impl Model for RecordBuf {
     ghost invariant = { λ b. (vec_len b.room ≡ 99999) × (b.len ≤ 99999) };
 }
 
-/// Room for so many bytes.
 fn make_room(alloc: Global, len: usize) -> Result<Vec<u8>, AllocError>
     ensures { IfOk result (λ room. vec_len room ≡ len) }
 {
@@ -71,6 +70,7 @@ fn may_separate(byte: u8) -> bool
 /// Reads one byte, or `None` at the end.
 fn read_byte<R: Source>(source: &mut R) -> Result<Option<u8>, MarcFault>
     ensures fails { FailsIf result (R.has_failed source.old) (R.has_failed source.new) }
+    ensures able { StaysAble R.may_fail R.has_failed source.old source.new }
     ensures told { (text : List ℕ) → R.remaining source.old ≡ Some text
         → ByteGives text result (R.remaining source.new) }
     ensures fault { IfErr result (λ fault. fault ≡ MarcFault.ReadFault) }
@@ -86,6 +86,7 @@ fn read_byte<R: Source>(source: &mut R) -> Result<Option<u8>, MarcFault>
 /// Skips separators, and gives the first byte behind them, or `None` at the end.
 fn skip_separators<R: Source>(source: &mut R) -> Result<Option<u8>, MarcFault>
     ensures fails { FailsIf result (R.has_failed source.old) (R.has_failed source.new) }
+    ensures able { StaysAble R.may_fail R.has_failed source.old source.new }
     ensures told { (text : List ℕ) → R.remaining source.old ≡ Some text
         → SkipGives text result (R.remaining source.new) }
     ensures fault { IfErr result IsSkipFault }
@@ -104,6 +105,7 @@ fn skip_separators<R: Source>(source: &mut R) -> Result<Option<u8>, MarcFault>
 /// Fills a part of a record.
 fn fill<R: Source>(source: &mut R, part: &mut [u8]) -> Result<(), MarcFault>
     ensures fails { FailsIf result (R.has_failed source.old) (R.has_failed source.new) }
+    ensures able { StaysAble R.may_fail R.has_failed source.old source.new }
     ensures told { (text : List ℕ) → R.remaining source.old ≡ Some text
         → FillGives text result part.new (R.remaining source.new) }
     ensures fault { IfErr result IsFillFault }
@@ -123,6 +125,7 @@ fn fill<R: Source>(source: &mut R, part: &mut [u8]) -> Result<(), MarcFault>
 fn read_slice<R: Source>(source: &mut R, room: &mut [u8], first: u8) -> Result<usize, MarcFault>
     requires { length room.old ≡ 99999 }
     ensures fails { FailsIf result (R.has_failed source.old) (R.has_failed source.new) }
+    ensures able { StaysAble R.may_fail R.has_failed source.old source.new }
     ensures told { (text : List ℕ) → R.remaining source.old ≡ Some text
         → SliceGives (first ∷ text) result room.new (R.remaining source.new) }
     ensures sound { MatchResult result
@@ -161,6 +164,7 @@ pub fn next_record<R: Source>(
     ensures unread { (text : List ℕ) → R.remaining reader.old ≡ Some text
         → LeavesUnread text result (R.remaining reader.new) }
     ensures failed { IsErrOf result MarcFault.ReadFault ↔ (R.has_failed reader.new ≡ true) }
+    ensures able { StaysAble R.may_fail R.has_failed reader.old reader.new }
     // The same of any source.
     ensures kept { Keeps result buffer.new }
 {

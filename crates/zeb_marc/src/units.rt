@@ -26,7 +26,6 @@ pub struct Unit<'a> {
     pub bytes: &'a [u8],
 }
 
-/// The place of the first delimiter.
 fn find_delimiter(bytes: &[u8]) -> Option<usize>
     ensures { result ≡ position (λ byte. byte == 31) bytes.now }
 {
@@ -127,7 +126,6 @@ impl<'a> Model for Units<'a> {
 }
 
 impl<'a> Units<'a> {
-    /// The units of these fields.
     pub(crate) fn new(fields: Fields<'a>) -> Units<'a>
         requires { length (flat_map contents_of fields) < 2 ^ 64 }
         ensures { result ≡ units_of fields.entry }

@@ -45,7 +45,7 @@ pub use Rattle.zeb_keys.specs.Registers.{register_code}
 pub use Rattle.zeb_keys.specs.declared.Register.{Register}
 pub use Rattle.zeb_keys.specs.declared.keys.Key.{Key}
 pub use Rattle.zeb_packed.specs.PrivatePackedChanges.{block_columns, IsClearFrom, IfTold, SpellsIn, block_key, dict_columns, PutsBlock, IsParted}
-pub use Rattle.zeb_packed.specs.PrivatePackedRows.{IsFallingListOf}
+pub use Rattle.zeb_packed.specs.PrivatePackedRows.{IsFallingListOf, IsRestBefore, IsRestFrom, count_row}
 pub use Rattle.zeb_packed.specs.PrivateUnitCalls.{AllowsBlocks, TurnsBlocks, AllowsBlock, PutsRun, TurnsBlock}
 pub use Rattle.zeb_register.specs.PrivateUnits.{units_of}
 pub use Rattle.zeb_register.specs.UnitChanges.{IsTold, IsBlockIn, CountsOn, IsBlockCounted, IsStorableChange, KeyUnits, TurnsUnit, TurnsUnits, AllowsChanges, IsTouched, LacksBlock, LacksBlocks, PutsUnits, PutsAny, IsRefusedAs, IsBlockAmong, IsOwnBlock, KeepsBut, PutsCount, AreSame}
@@ -88,7 +88,8 @@ pub use Rattle.zeb_register.specs.Calls.{Alters, OnlyReads, ChangesNothing, Goes
 pub use Rattle.zeb_register.specs.Content.{AreListChanges, ArePlacesOf, IsListChanged, OldsRise, place_cmp, posting_at, posting_cmp, AreChangedAt, Content, HasRisingLists, IsStorable, posted, AreStorablePlaces, IsStorablePlace, places_in}
 pub use Rattle.zeb_register.specs.Formats.{packed_blocks}
 pub use Rattle.zeb_register.specs.Occurring.{IsCount, HasKey, AreTermsBefore, AreTermsFrom, AreTermsOf, TermIn, is_before, is_from, key_in, last, term_cmp, AreSpotsOf, Spot, spot_cmp, capped}
-pub use Rattle.zeb_register.specs.PackedBlocks.{SpellsPart, IsRecordNumber, HoldsBlocks, block_row, part_in, IsDictRow, dict_row, IsRestBefore, IsRestFrom, AreShown, CountsTerm, count_row, first_two, AreAllSpelled, IsBlockRow, blocks_of, IsBlockUnder}
+pub use Rattle.zeb_register.specs.PrivateRowPlaces.{first_two}
+pub use Rattle.zeb_register.specs.PackedBlocks.{SpellsPart, IsRecordNumber, HoldsBlocks, block_row, part_in, IsDictRow, dict_row, CountsTerm, AreAllSpelled, IsBlockRow, blocks_of}
 pub use Rattle.zeb_register.specs.PackedUnits.{BlockReads, CountsAs, HasMalformed, IsBlockMalformed, IsOfBlock, IsOfKey, ReadsAs}
 pub use Rattle.zeb_register.specs.PlainRows.{key_row, register_front}
 pub use Rattle.zeb_register.specs.PrivateBetweenRows.{IsRestBetween, two_behind}
@@ -96,7 +97,7 @@ pub use Rattle.zeb_register.specs.PrivateKeyColumns.{IsBlockOf, IsDictIn, IsOfNu
 pub use Rattle.zeb_register.specs.PrivatePackedRows.{HoldsBlockRows, AreSpelled, IsInBlock}
 pub use Rattle.zeb_register.specs.PrivateRowStatements.{Gains, Renews}
 pub use Rattle.zeb_register.specs.PrivateRowTerms.{IsInRecord}
-pub use Rattle.zeb_register.specs.Sound.{KeepsMalformed, KeepsRowsBeside, TellTerms}
+pub use Rattle.zeb_register.specs.Sound.{KeepsMalformed, KeepsRowsBeside}
 pub use Rattle.zeb_register.specs.Sql.{IsListOf, HasLayout, HasRow, Loses, Replaces}
 pub use Rattle.zeb_register.specs.Store.{IsStore, blocks_tree, IsRest, dict_tree, postings_tree, KeepsLists, Changes, key_of}
 pub use Rattle.zeb_register.specs.Tables.{store_schema}

@@ -2,7 +2,7 @@ pub mod Falling
 pub mod PackedStatements
 pub mod BetweenStatements
 pub mod PackedRowStatements
-pub mod PackedTerms
+pub mod DictTerms
 pub mod PackedReads
 pub mod PackedWrites
 pub mod PackedParts

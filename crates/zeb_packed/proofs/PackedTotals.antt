@@ -1,16 +1,21 @@
--- What a packed register holds in sum: each term has its postings, and they are counted block by block.
-use Rattle.zeb_packed.proofs.Cited.{◌≡◌, ◌∙◌, ◌≤◌, ℕ, ℤ, List, [], ◌∷◌, ◌++◌, length, map, take, refl, sym, ap, ap₂, subst, inl, inr, Less, nat_cmp, arith, length-append, tied_itself, length-map, take_all, sum_by-cons, slice_cmp, nat_list_cmp_total, sum_by, ordering_then, Text, Row, column, Trees, Has, all_has, has_either, has_left, has_right, has_mapped, mapped_has, Posting, Register, TermCount, Content, posted, posting_cmp, AreSpotsOf, AreTermsOf, Spot, key_in, spot_cmp, term_cmp, AreShown, HoldsBlocks, count_row, first_two, key_posted, spot_total, joined_rises, strictly_mapped}
+-- What a packed register holds in sum: the list of each term, read block by block.
+use Rattle.zeb_packed.proofs.Cited.{◌≡◌, ◌↔◌, ◌∙◌, ◌+◌, ◌<◌, ℕ, ℤ, List, [], ◌∷◌, ◌++◌, length, get_or, map, take, refl, sym, ap, ap₂, subst, inl, inr, Less, nat_cmp, arith, length-append, tied_itself, length-map, take_more, sum_by-cons, slice_cmp, nat_list_cmp_total, sum_by, ordering_then, Trees, Has, all_has, has_either, has_left, has_right, has_mapped, mapped_has, Posting, Place, Register, TermCount, packed_blocks, places_in, posting_at, posting_cmp, Spot, spot_cmp, capped, key_in, term_cmp, ListsUnits, ReadsAs, one_reading, place_in, spot_total, joined_rises, strictly_mapped}
 use Rattle.std.specs.List.Sorted.{IsStrictlySortedBy}
+use Rattle.zeb_register.specs.declared.registers.Totals.{Totals}
+use Rattle.zeb_register.specs.Terms.{AreListed, ListsAll, SumsUp}
+use Rattle.zeb_register.proofs.KeyLists.{one_listing}
+use Rattle.zeb_register.proofs.KeyPlaces.{placed_at}
 
 -- ---- the places of all terms, one term after the other
 
 placed : List ℕ → List Posting → List Spot
 placed term list = map (λ (p : Posting). (term, p)) list
 
--- by what each term has
-pub spots_in : (List ℕ → List Posting) → List TermCount → List Spot
-spots_in lists [] = []
-spots_in lists (t ∷ ts) = placed t.term (lists t.term) ++ spots_in lists ts
+-- of these terms and their lists
+spots_in : List TermCount → List (List Posting) → List Spot
+spots_in (t ∷ ts) (l ∷ ls) = placed t.term l ++ spots_in ts ls
+spots_in (t ∷ ts) [] = []
+spots_in [] ls = []
 
 placed_from : (term : List ℕ) (list : List Posting) (s : Spot) → Has (placed term list) s → (s.0 ≡ term) × Has list s.1
 unfolding placed
@@ -31,88 +36,87 @@ unfolding placed
 placed_rises term list up =
     strictly_mapped posting_cmp spot_cmp (λ (q : Posting). (term, q)) list (λ p q here there less. ap (λ o. ordering_then o (posting_cmp p q)) (tied_itself nat_list_cmp_total term) ∙ less) up
 
-module _ (lists : List ℕ → List Posting) where
-  spots_from : (ts : List TermCount) (s : Spot) → Has (spots_in lists ts) s → (t : TermCount) × Has ts t × (s.0 ≡ t.term) × Has (lists t.term) s.1
+pub lists_summed : (f : List Posting → ℕ) (ls : List (List Posting)) (l : List Posting) → sum_by f (ls ++ l ∷ []) ≡ sum_by f ls + f l
+lists_summed f [] l = omega (arith, sum_by-cons f l [])
+lists_summed f (k ∷ ls) l = omega (arith, sum_by-cons f k (ls ++ l ∷ []), sum_by-cons f k ls, lists_summed f ls l)
+
+module _ (trees : Trees) (db : ℤ) (index : ℕ) (register : Register) where
+  abbrev Listed : List TermCount → List (List Posting) → Type 0
+  Listed = AreListed packed_blocks trees db index register
+
+  abbrev IsList : List ℕ → List Posting → Type 0
+  IsList term list = ListsUnits packed_blocks trees db (key_in index register term) list
+
+  -- with one term more
+  listed_more : (ts : List TermCount) (ls : List (List Posting)) (t : TermCount) (l : List Posting) → Listed ts ls → IsList t.term l → Listed (ts ++ t ∷ []) (ls ++ l ∷ [])
+  listed_more [] [] t l are is = (is, tt)
+  listed_more [] (k ∷ ls) t l are is = absurd are
+  listed_more (u ∷ ts) [] t l are is = absurd are
+  listed_more (u ∷ ts) (k ∷ ls) t l are is = (are.0, listed_more ts ls t l are.1 is)
+
+  pub lists_more : (items : List TermCount) (i : ℕ) (item : TermCount) → i < length items → item ≡ get_or items i item → (ls : List (List Posting)) (l : List Posting) → Listed (take i items) ls → IsList item.term l
+      → Listed (take (i + 1) items) (ls ++ l ∷ [])
+  lists_more items i item within is ls l are own =
+      subst (λ ts. Listed ts (ls ++ l ∷ [])) (sym (take_more items i item within ∙ ap (λ t. take i items ++ t ∷ []) (sym is))) (listed_more (take i items) ls item l are own)
+
+  list_there : (ts : List TermCount) (ls : List (List Posting)) → Listed ts ls → (t : TermCount) → Has ts t → (l : List Posting) × IsList t.term l × ((p : Posting) → Has l p → Has (spots_in ts ls) (t.term, p))
   unfolding spots_in
-  spots_from [] s h = absurd h
-  spots_from (t ∷ ts) s h = elim (has_either (placed t.term (lists t.term)) (spots_in lists ts) s h) [
-    | inl first ↦ let it = placed_from t.term (lists t.term) s first in (t, inl refl, it.0, it.1)
-    | inr later ↦ let it = spots_from ts s later in (it.0, inr it.1, it.2, it.3)
+  list_there [] ls are t here = absurd here
+  list_there (u ∷ ts) [] are t here = absurd are
+  list_there (u ∷ ts) (k ∷ ls) are t (inl same) =
+      (k, subst (λ (v : TermCount). IsList v.term k) (sym same) are.0, λ p h. has_left (placed u.term k) (spots_in ts ls) (t.term, p) (subst (λ (v : TermCount). Has (placed v.term k) (t.term, p)) same (placed_has t.term k p h)))
+  list_there (u ∷ ts) (k ∷ ls) are t (inr later) =
+      let it = list_there ts ls are.1 t later in
+      (it.0, it.1, λ p h. has_right (placed u.term k) (spots_in ts ls) (t.term, p) (it.2 p h))
+
+  spots_from : (ts : List TermCount) (ls : List (List Posting)) → Listed ts ls → (s : Spot) → Has (spots_in ts ls) s → (t : TermCount) × (l : List Posting) × Has ts t × (t.term ≡ s.0) × IsList t.term l × Has l s.1
+  unfolding spots_in
+  spots_from [] ls are s h = absurd h
+  spots_from (t ∷ ts) [] are s h = absurd h
+  spots_from (t ∷ ts) (l ∷ ls) are s h = elim (has_either (placed t.term l) (spots_in ts ls) s h) [
+    | inl first ↦ let it = placed_from t.term l s first in (t, l, inl refl, sym it.0, are.0, it.1)
+    | inr later ↦ let it = spots_from ts ls are.1 s later in (it.0, it.1, inr it.2, it.3, it.4, it.5)
   ]
 
-  spots_have : (ts : List TermCount) (t : TermCount) (p : Posting) → Has ts t → Has (lists t.term) p → Has (spots_in lists ts) (t.term, p)
-  unfolding spots_in
-  spots_have [] t p here there = absurd here
-  spots_have (u ∷ ts) t p (inl same) there =
-      has_left (placed u.term (lists u.term)) (spots_in lists ts) (t.term, p) (subst (λ (v : TermCount). Has (placed v.term (lists v.term)) (t.term, p)) same (placed_has t.term (lists t.term) p there))
-  spots_have (u ∷ ts) t p (inr later) there = has_right (placed u.term (lists u.term)) (spots_in lists ts) (t.term, p) (spots_have ts t p later there)
-
-  spots_rise : (ts : List TermCount) → ((t : TermCount) → Has ts t → IsStrictlySortedBy posting_cmp (lists t.term)) → IsStrictlySortedBy term_cmp ts → IsStrictlySortedBy spot_cmp (spots_in lists ts)
+  spots_rise : (ts : List TermCount) (ls : List (List Posting)) → Listed ts ls → IsStrictlySortedBy term_cmp ts → IsStrictlySortedBy spot_cmp (spots_in ts ls)
   unfolding spots_in IsStrictlySortedBy
-  spots_rise [] rise up = tt
-  spots_rise (t ∷ ts) rise up =
-      joined_rises spot_total (placed t.term (lists t.term)) (spots_in lists ts) (placed_rises t.term (lists t.term) (rise t (inl refl))) (spots_rise ts (λ u h. rise u (inr h)) up.1) (λ a b here there.
-      let first = placed_from t.term (lists t.term) a here in
-      let u = spots_from ts b there in
-      let low : slice_cmp nat_cmp t.term u.0.term ≡ Less = all_has (λ v. term_cmp t v ≡ Less) ts u.0 up.0 u.1 in
-      let less : slice_cmp nat_cmp a.0 b.0 ≡ Less = ap₂ (slice_cmp nat_cmp) first.0 u.2 ∙ low in
+  spots_rise [] ls are up = tt
+  spots_rise (t ∷ ts) [] are up = tt
+  spots_rise (t ∷ ts) (l ∷ ls) are up =
+      joined_rises spot_total (placed t.term l) (spots_in ts ls) (placed_rises t.term l are.0.rising) (spots_rise ts ls are.1 up.1) (λ a b here there.
+      let first = placed_from t.term l a here in
+      let u = spots_from ts ls are.1 b there in
+      let low : slice_cmp nat_cmp t.term u.0.term ≡ Less = all_has (λ v. term_cmp t v ≡ Less) ts u.0 up.0 u.2 in
+      let less : slice_cmp nat_cmp a.0 b.0 ≡ Less = ap₂ (slice_cmp nat_cmp) first.0 (sym u.3) ∙ low in
       ap (λ o. ordering_then o (posting_cmp a.1 b.1)) less)
 
-  pub spots_many : (ts : List TermCount) → length (spots_in lists ts) ≡ sum_by (λ (t : TermCount). length (lists t.term)) ts
+  spots_many : (ts : List TermCount) (ls : List (List Posting)) → Listed ts ls → length (spots_in ts ls) ≡ sum_by length ls
   unfolding spots_in
-  spots_many [] = refl
-  spots_many (t ∷ ts) =
-      let more = sum_by-cons (λ (u : TermCount). length (lists u.term)) t ts in
-      let both = length-append (placed t.term (lists t.term)) (spots_in lists ts) in
-      omega (arith, more, both, placed_many t.term (lists t.term), spots_many ts)
+  spots_many [] [] are = refl
+  spots_many [] (l ∷ ls) are = absurd are
+  spots_many (t ∷ ts) [] are = absurd are
+  spots_many (t ∷ ts) (l ∷ ls) are =
+      omega (arith, sum_by-cons (λ (k : List Posting). length k) l ls, length-append (placed t.term l) (spots_in ts ls), placed_many t.term l, spots_many ts ls are.1)
 
-module _ (trees : Trees) (content : Content) (db : ℤ) (index : ℕ) (register : Register) (holds : HoldsBlocks trees content) where
-  abbrev pub list_of : List ℕ → List Posting
-  list_of term = content db (key_in index register term)
-
-  -- the places of the terms that there are are all places of the register
-  pub spots_stand : (all : List TermCount) → AreTermsOf (posted content db) index register all → AreSpotsOf (posted content db) index register (spots_in list_of all)
-  spots_stand all are = record {
-    rising = spots_rise list_of all (λ t h. holds.rising db (key_in index register t.term)) are.rising;
-    each = λ spot. (
-      λ h. let it = spots_from list_of all spot h in subst (λ (term : List ℕ). Has (list_of term) spot.1) (sym it.2) it.3,
-      λ h.
-          let t = are.found spot.0 spot.1.sysno ((key_posted content db (key_in index register spot.0) spot.1.sysno).1 (spot.1, h, refl)) in
-          subst (λ (term : List ℕ). Has (spots_in list_of all) (term, spot.1)) t.2 (spots_have list_of all t.0 spot.1 t.1 (subst (λ (term : List ℕ). Has (list_of term) spot.1) (sym t.2) h)),
+  -- the terms and their lists sum up
+  pub sums_up : (ts : List TermCount) (ls : List (List Posting)) → ListsAll packed_blocks trees db index register ts → Listed ts ls → (totals : Totals) → totals.terms ≡ capped (length ts) → totals.occurrences ≡ capped (sum_by length ls)
+      → SumsUp packed_blocks trees db index register totals
+  sums_up ts ls all are totals many some = record {
+    all = ts;
+    are = all;
+    terms = many;
+    whole = λ t h. (list_there ts ls are t h).1.whole;
+    spots = spots_in ts ls;
+    rising = spots_rise ts ls are all.rising;
+    under = λ spot h. let it = spots_from ts ls are spot h in (it.0, it.2, it.3);
+    told = λ t h sysno places reads place. (
+      λ there.
+          let it = spots_from ts ls are (t.term, posting_at sysno place) there in
+          let own : IsList t.term it.1 = subst (λ u. IsList u it.1) it.3 it.4 in
+          subst (λ l. Has l place) (one_reading trees db (key_in index register t.term) sysno (places_in sysno it.1) places (own.units sysno) reads) (place_in it.1 (posting_at sysno place) it.5),
+      λ there.
+          let it = list_there ts ls are t h in
+          it.2 (posting_at sysno place) (placed_at sysno it.0 place (subst (λ l. Has l place) (one_reading trees db (key_in index register t.term) sysno places (places_in sysno it.0) reads (it.1.units sysno)) there)),
     );
+    occurrences = some ∙ ap capped (sym (spots_many ts ls are));
   }
-
--- ---- terms and the rows that show them
-
-pub term_row : (ts : List TermCount) (rows : List Row) → AreShown ts rows → (t : TermCount) → Has ts t → (row : Row) × Has rows row × (column row 0 ≡ Text t.term)
-term_row [] rows shown t here = absurd here
-term_row (s ∷ ts) [] shown t here = absurd (cc)
-term_row (s ∷ ts) (row ∷ rows) shown t (inl same) =
-    let first : count_row s ≡ first_two row = cc in
-    (row, inl refl, sym (ap (λ (r : Row). column r 0) first) ∙ ap (λ (u : TermCount). Text u.term) (sym same))
-term_row (s ∷ ts) (row ∷ rows) shown t (inr later) =
-    let rest : map count_row ts ≡ map first_two rows = cc in
-    let it = term_row ts rows rest t later in
-    (it.0, inr it.1, it.2)
-
-pub row_term : (ts : List TermCount) (rows : List Row) → AreShown ts rows → (row : Row) → Has rows row → (t : TermCount) × Has ts t × (column row 0 ≡ Text t.term)
-row_term ts [] shown row here = absurd here
-row_term [] (r ∷ rows) shown row here = absurd (cc)
-row_term (s ∷ ts) (r ∷ rows) shown row (inl same) =
-    let first : count_row s ≡ first_two r = cc in
-    (s, inl refl, ap (λ (x : Row). column x 0) same ∙ sym (ap (λ (x : Row). column x 0) first))
-row_term (s ∷ ts) (r ∷ rows) shown row (inr later) =
-    let rest : map count_row ts ≡ map first_two rows = cc in
-    let it = row_term ts rows rest row later in
-    (it.0, inr it.1, it.2)
-
-pub one_text : (row : Row) (one two : List ℕ) → column row 0 ≡ Text one → column row 0 ≡ Text two → one ≡ two
-one_text row one two left right =
-    let e : Text one ≡ Text two = sym left ∙ right in
-    cc
-
--- ---- sums
-
--- what a loop over a list has summed up at its end
-pub sum_of_all : {X : Type 0} (f : X → ℕ) (xs ys : List X) (n : ℕ) → xs ≡ ys → length xs ≤ n → sum_by f (take n xs) ≡ sum_by f ys
-sum_of_all f xs ys n same long = ap (sum_by f) (take_all n xs long ∙ same)

@@ -1,35 +1,10 @@
 -- The rows of a key, which spell a list, as its units.
 use Rattle.zeb_packed.proofs.Cited.{◌≡◌, ◌≢◌, ◌∙◌, ◌<◌, ◌+◌, ◌/◌, ◌==◌, ℕ, ℤ, pos, false, Bool, Result, Ok, Err, IfOk, List, [], ◌∷◌, ◌++◌, map, length, drop, refl, sym, ap, ap₂, subst, inl, inr, Ordering, Less, Equal, Greater, nat_cmp, nat_eq, arith, if◌then◌else◌, eq-eqb, eqb_tells, ordering_then, Value, Int, Null, Row, column, row_cmp, State, Has, all_has, has_left, has_right, has_either, row_cmp_total, value_cmp-Int, Posting, Key, numbers_apart, Work, posting_cmp, SpellsPart, blocks_of, part_in, key_row, AreSpelled, IsListOf, IsRest, IsStore, blocks_tree, Works, posting_total, ints_order, some_posting, is_less, in_part, not_empty, part_in_block, part_in_list, each_spelled, one_part, joined_rises, kept_rises, never_itself, same_list, BlockSpells, RegFault, Damaged, IsBlockMalformed, IsBlockIn, IsTold, SpellsIn, Answers, IfDamaged, BlockReads, IsOfBlock, IsOfKey, ListsUnits, own_part, packed_blocks}
 use Rattle.std.specs.List.Sorted.{IsStrictlySortedBy}
+use Rattle.zeb_register.proofs.BetweenRows.{begins}
+use Rattle.zeb_register.proofs.PackedLists.{one_more_block, posting_lower}
 use Rattle.zeb_packed.proofs.PackedReads.{block_front}
 use Rattle.zeb_packed.proofs.PackedSound.{one_block}
-
--- a row by its first column
-starts : (row : Row) (v : Value) → column row 0 ≡ v → v ≢ Null → row ≡ v ∷ drop 1 row
-starts [] v is some = absurd (some (sym is))
-starts (w ∷ row) v is some = ap (λ (u : Value). u ∷ row) is
-
-posting_lower : (p q : Posting) → p.sysno < q.sysno → posting_cmp p q ≡ Less
-posting_lower p q low = ap (λ o. ordering_then o (ordering_then (nat_cmp p.seq q.seq) (nat_cmp p.pos q.pos))) (let e : nat_cmp p.sysno q.sysno ≡ Less = grind arith in e)
-
-abbrev one_unless : Bool → ℕ
-one_unless b = if b then 0 else 1
-
-same_block : (p q : Posting) → p.sysno / 256 ≡ q.sysno / 256 → one_unless (p.sysno / 256 == q.sysno / 256) ≡ 0
-same_block p q is = ap one_unless (eq-eqb (p.sysno / 256) (q.sysno / 256) is)
-
-other_block : (p q : Posting) → p.sysno / 256 ≢ q.sysno / 256 → one_unless (p.sysno / 256 == q.sysno / 256) ≡ 1
-other_block p q differ = elim (eqb_tells (p.sysno / 256) (q.sysno / 256)) [ inl yes' ↦ absurd (differ yes'.1) | inr no' ↦ ap one_unless no'.0 ]
-
--- the postings of one block before those of others
-one_more_block : (block : ℕ) (part rest : List Posting) → part ≢ [] → ((p : Posting) → Has part p → p.sysno / 256 ≡ block) → ((q : Posting) → Has rest q → q.sysno / 256 ≢ block)
-    → blocks_of (part ++ rest) ≡ blocks_of rest + 1
-one_more_block block [] rest some inside outside = absurd (some refl)
-one_more_block block (p ∷ []) [] some inside outside = refl
-one_more_block block (p ∷ []) (q ∷ rest) some inside outside =
-    omega (arith, other_block p q (λ same. outside q (inl refl) (sym same ∙ inside p (inl refl))))
-one_more_block block (p ∷ q ∷ part) rest some inside outside =
-    omega (arith, same_block p q (inside p (inl refl) ∙ sym (inside q (inr (inl refl)))), one_more_block block (q ∷ part) rest (λ none. not_empty (q ∷ part) q (inl refl) none) (λ r h. inside r (inr h)) outside)
 
 module _ (s : State) (store : IsStore s) (db : ℤ) (key : Key) where
   abbrev Ours : List Row → Type 0
@@ -40,7 +15,7 @@ module _ (s : State) (store : IsStore s) (db : ℤ) (key : Key) where
   lies_in row part spells p here = all_has (λ (q : Posting). q.sysno / 256 ≡ spells.0) part p spells.4.lies.inside here
 
   pub row_is : (row : Row) (block : ℕ) → column row 0 ≡ Int (pos block) → row ≡ Int (pos block) ∷ drop 1 row
-  row_is row block at = starts row (Int (pos block)) at (λ none. cc)
+  row_is row block at = begins row (Int (pos block)) at (λ none. cc)
 
   -- a block has one row
   one_row : (x y : Row) (block : ℕ) → IsOfBlock s.now.trees db key block x → IsOfBlock s.now.trees db key block y → x ≡ y
@@ -149,8 +124,11 @@ module _ (s : State) (store : IsStore s) (db : ℤ) (key : Key) where
     }
 
     -- they are as many as the list has blocks
+    pub rows_many : length rows ≡ blocks_of list
+    rows_many = list_blocks rows list ours listed.rising are
+
     pub blocks_counted : (old new : Work) → Works 0 0 (length rows) 0 old new → Works 0 0 (blocks_of list) 0 old new
-    blocks_counted old new works = subst (λ k. Works 0 0 k 0 old new) (list_blocks rows list ours listed.rising are) works
+    blocks_counted old new works = subst (λ k. Works 0 0 k 0 old new) rows_many works
 
   -- ---- one block, as a look shows it
 

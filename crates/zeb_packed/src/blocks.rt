@@ -1,21 +1,5 @@
 //! The layout of packed blocks.
 
-ghost use Rattle.std.specs.Prelude.{◌*◌, List, length, sum_by, IfOk, OnOk};
-ghost use Rattle.sqlite.specs.Held.{state};
-ghost use Rattle.sqlite.specs.State.{IsUnchanged};
-ghost use Rattle.zeb_register.specs.Calls.{Reading};
-ghost use Rattle.zeb_register.specs.Clauses.{IsHonest};
-ghost use Rattle.zeb_register.specs.Clauses.{IsHonestStorable, IsReasoned, OnStore, Tells, TellsHeld};
-ghost use Rattle.zeb_register.specs.Content.{posted};
-ghost use Rattle.zeb_register.specs.Occurring.{AreTermsBefore, AreTermsFrom, AreTermsOf, AreTotals, key_in};
-ghost use Rattle.zeb_register.specs.Formats.{packed_blocks};
-ghost use Rattle.zeb_register.specs.PackedBlocks.{AreAllCounted, AreBeforeCounted, AreFromCounted};
-ghost use Rattle.zeb_register.specs.PackedBlocks.{CountsRegister, HoldsBlocks, IsRegisterSound, blocks_of};
-ghost use Rattle.zeb_register.specs.PlainRows.{register_front};
-ghost use Rattle.zeb_register.specs.Sound.{TellsBefore, TellsFrom, TellsRegister};
-ghost use Rattle.zeb_register.specs.Tallies.{Works};
-ghost use Rattle.zeb_register.specs.declared.registers.TermCount.{TermCount};
-
 use crate::packed::{counted, counts_in, key_postings, limit_of};
 use crate::packed_between::blocks_between;
 use crate::packed_runs::changes_made;
@@ -96,35 +80,19 @@ impl Layout for Blocks {
         blocks_between(alloc, conn, work, at, first, last)
     }
 
-    /// The terms of a register that have a posting, in the order of their bytes. Never accepted where one of their rows of `dict` shows no
-    /// term of UTF-8 or doesn't say 1 to 999,999,999, and `Damaged` only there.
+    /// `Damaged` just where a row of the register in `dict` shows no term of UTF-8, or doesn't say 1 to 999,999,999.
     fn terms_of<S: Alter>(
         alloc: Global,
         conn: &mut Connection<S>,
         work: &mut Work,
         at: RegisterOf,
-    ) -> Result<Vec<TermCount>, RegFault>
-        ensures call { Reading (state S.Store conn.old) (state S.Store conn.new) result (λ _. IsUnchanged) }
-        ensures value { TellsHeld HoldsBlocks (state S.Store conn.old) (state S.Store conn.new) result
-            (λ content list. AreTermsOf (posted content at.db.0) at.index at.register list.items) }
-        ensures honest { IsHonestStorable HoldsBlocks (state S.Store conn.old) (state S.Store conn.new) result }
-        ensures refused { IsReasoned (state S.Store conn.old) (state S.Store conn.new) result }
-        ensures told { Tells (state S.Store conn.old) (state S.Store conn.new) result (λ trees list.
-            TellsRegister packed_blocks trees at.db.0 at.index at.register list.items) }
-        ensures sound { OnStore (state S.Store conn.old) (state S.Store conn.new) (λ trees. OnOk result
-            (AreAllCounted trees (register_front at.db.0 at.index at.register))) }
-        ensures damaged { IsHonest (state S.Store conn.old) (state S.Store conn.new) result
-            (λ trees. AreAllCounted trees (register_front at.db.0 at.index at.register)) }
-        ensures counted { IfOk result (λ list. Works (length list.items) 0 0 0 work.old work.new) }
-    {
+    ) -> Result<Vec<TermCount>, RegFault> {
         let rows = dict_rows(conn, at)?;
         let counts = counts_in(alloc, &rows)?;
         work.dict_read = counted(work.dict_read, counts.len());
         Ok(counts)
     }
 
-    /// The first `n` of these terms that are not below `start`. Never accepted where one of their rows is so damaged, and `Damaged` only
-    /// there.
     fn terms_from<S: Alter>(
         alloc: Global,
         conn: &mut Connection<S>,
@@ -132,20 +100,7 @@ impl Layout for Blocks {
         at: RegisterOf,
         start: &str,
         n: u64,
-    ) -> Result<Vec<TermCount>, RegFault>
-        ensures call { Reading (state S.Store conn.old) (state S.Store conn.new) result (λ _. IsUnchanged) }
-        ensures value { TellsHeld HoldsBlocks (state S.Store conn.old) (state S.Store conn.new) result
-            (λ content list. AreTermsFrom (posted content at.db.0) at.index at.register start.now n list.items) }
-        ensures honest { IsHonestStorable HoldsBlocks (state S.Store conn.old) (state S.Store conn.new) result }
-        ensures refused { IsReasoned (state S.Store conn.old) (state S.Store conn.new) result }
-        ensures told { Tells (state S.Store conn.old) (state S.Store conn.new) result (λ trees list.
-            TellsFrom packed_blocks trees at.db.0 at.index at.register start.now n list.items) }
-        ensures sound { OnStore (state S.Store conn.old) (state S.Store conn.new) (λ trees. OnOk result
-            (AreFromCounted trees (register_front at.db.0 at.index at.register) start.now n)) }
-        ensures damaged { IsHonest (state S.Store conn.old) (state S.Store conn.new) result
-            (λ trees. AreFromCounted trees (register_front at.db.0 at.index at.register) start.now n) }
-        ensures counted { IfOk result (λ list. Works (length list.items) 0 0 0 work.old work.new) }
-    {
+    ) -> Result<Vec<TermCount>, RegFault> {
         let limit = limit_of(n);
         let rows = dict_rows_from(conn, at, start, limit)?;
         let counts = counts_in(alloc, &rows)?;
@@ -153,7 +108,6 @@ impl Layout for Blocks {
         Ok(counts)
     }
 
-    /// The last `n` of these terms that are below `start`. Never accepted where one of their rows is so damaged, and `Damaged` only there.
     fn terms_before<S: Alter>(
         alloc: Global,
         conn: &mut Connection<S>,
@@ -161,20 +115,7 @@ impl Layout for Blocks {
         at: RegisterOf,
         start: &str,
         n: u64,
-    ) -> Result<Vec<TermCount>, RegFault>
-        ensures call { Reading (state S.Store conn.old) (state S.Store conn.new) result (λ _. IsUnchanged) }
-        ensures value { TellsHeld HoldsBlocks (state S.Store conn.old) (state S.Store conn.new) result
-            (λ content list. AreTermsBefore (posted content at.db.0) at.index at.register start.now n list.items) }
-        ensures honest { IsHonestStorable HoldsBlocks (state S.Store conn.old) (state S.Store conn.new) result }
-        ensures refused { IsReasoned (state S.Store conn.old) (state S.Store conn.new) result }
-        ensures told { Tells (state S.Store conn.old) (state S.Store conn.new) result (λ trees list.
-            TellsBefore packed_blocks trees at.db.0 at.index at.register start.now n list.items) }
-        ensures sound { OnStore (state S.Store conn.old) (state S.Store conn.new) (λ trees. OnOk result
-            (AreBeforeCounted trees (register_front at.db.0 at.index at.register) start.now n)) }
-        ensures damaged { IsHonest (state S.Store conn.old) (state S.Store conn.new) result
-            (λ trees. AreBeforeCounted trees (register_front at.db.0 at.index at.register) start.now n) }
-        ensures counted { IfOk result (λ list. Works (length list.items) 0 0 0 work.old work.new) }
-    {
+    ) -> Result<Vec<TermCount>, RegFault> {
         let limit = limit_of(n);
         let rows = dict_rows_before(conn, at, start, limit)?;
         let mut counts = counts_in(alloc, &rows)?;
@@ -183,30 +124,14 @@ impl Layout for Blocks {
         Ok(counts)
     }
 
-    /// How many terms and postings a register holds. Never accepted where one of its rows of `dict` is so damaged, or one of `blocks` of the
-    /// terms that these show spells none, and `Damaged` only there. The blocks of one term are held at a time, and no list of postings.
+    /// `Damaged` just where a row of the register in `dict` is so, or one of `blocks` of a term that these show spells no postings. The blocks of
+    /// one term are held at a time, and no list of postings.
     fn totals<S: Alter>(
         alloc: Global,
         conn: &mut Connection<S>,
         work: &mut Work,
         at: RegisterOf,
-    ) -> Result<Totals, RegFault>
-        ensures call { Reading (state S.Store conn.old) (state S.Store conn.new) result (λ _. IsUnchanged) }
-        ensures value { TellsHeld HoldsBlocks (state S.Store conn.old) (state S.Store conn.new) result
-            (λ content sums. AreTotals (posted content at.db.0) at.index at.register sums) }
-        ensures honest { IsHonestStorable HoldsBlocks (state S.Store conn.old) (state S.Store conn.new) result }
-        ensures refused { IsReasoned (state S.Store conn.old) (state S.Store conn.new) result }
-        ensures sound { OnStore (state S.Store conn.old) (state S.Store conn.new) (λ trees. OnOk result
-            (IsRegisterSound trees at.db.0 at.index at.register)) }
-        ensures damaged { IsHonest (state S.Store conn.old) (state S.Store conn.new) result
-            (λ trees. IsRegisterSound trees at.db.0 at.index at.register) }
-        ensures work { TellsHeld HoldsBlocks (state S.Store conn.old) (state S.Store conn.new) result
-            (λ content _. (all : List TermCount) → AreTermsOf (posted content at.db.0) at.index at.register all
-            → Works (1 * length all) 0 (sum_by (λ t. blocks_of (content at.db.0 (key_in at.index at.register t.term))) all) 0
-            work.old work.new) }
-        ensures counted { OnStore (state S.Store conn.old) (state S.Store conn.new) (λ trees. OnOk result
-            (CountsRegister trees at.db.0 at.index at.register work.old work.new)) }
-    {
+    ) -> Result<Totals, RegFault> {
         let terms = Self::terms_of(alloc, conn, work, at)?;
         let mut occurrences: u64 = 0;
         for term in &terms {

@@ -4,12 +4,12 @@ ghost use Rattle.std.specs.Prelude.{◌≡◌, ◌≢◌, ◌^◌, ◌<◌, ◌�
 ghost use Rattle.std.specs.Int.{w64};
 ghost use Rattle.sqlite.specs.Order.{Row as Columns, column};
 ghost use Rattle.sqlite.specs.declared.types.Value.TheVariants.{Int};
-ghost use Rattle.sqlite_rules.specs.Lists.{Has};
 ghost use Rattle.sqlite_sql.specs.Query.{as_count, limited};
-ghost use Rattle.zeb_register.specs.PackedBlocks.{AreShown, CountsTerm, IsRecordNumber, SpellsPart, blocks_of, count_row, first_two};
+ghost use Rattle.zeb_register.specs.PackedBlocks.{CountsTerm, IsRecordNumber, SpellsPart, blocks_of};
+ghost use Rattle.zeb_register.specs.PrivateRowPlaces.{first_two};
 ghost use Rattle.zeb_register.specs.PrivatePackedRows.{AreSpelled};
 ghost use Rattle.zeb_blocks.specs.Blocks.{BlockSpells};
-ghost use Rattle.zeb_packed.specs.PrivatePackedRows.{SomeMalformed};
+ghost use Rattle.zeb_packed.specs.PrivatePackedRows.{EndsCounting, SomeMalformed, TellTerms, count_row};
 ghost use Rattle.zeb_register.specs.Answers.{Answers, IfDamaged};
 ghost use Rattle.zeb_register.specs.Formats.{packed_blocks};
 ghost use Rattle.zeb_register.specs.PackedUnits.{HasMalformed};
@@ -81,7 +81,8 @@ fn postings_in(alloc: Global, rows: &[Row]) -> Result<Vec<Posting>, RegFault>
 
 /// Puts the postings that a row's block spells behind those before it.
 fn add_part(postings: &mut Vec<Posting>, row: &Row) -> Result<(), RegFault>
-    ensures ok { OnOk result ((part : List _) × SpellsPart row.now part × (postings.new.items ≡ postings.old.items ++ part)) }
+    ensures ok { OnOk result ((part : List _) × SpellsPart row.now part
+        × (postings.new.items ≡ postings.old.items ++ part)) }
     ensures honest { result ≡ Err RegFault.Damaged → (part : List _) → ¬ SpellsPart row.now part }
     ensures unstored { result ≢ Err RegFault.Store }
 {
@@ -96,8 +97,10 @@ pub(crate) fn add_spelled(
     block: u64,
     bytes: &[u8],
 ) -> Result<(), RegFault>
-    ensures ok { OnOk result ((part : List _) × BlockSpells block part bytes.now × (postings.new.items ≡ postings.old.items ++ part)) }
-    ensures honest { result ≡ Err RegFault.Damaged → (part : List _) → ¬ BlockSpells block part bytes.now }
+    ensures ok { OnOk result ((part : List _) × BlockSpells block part bytes.now
+        × (postings.new.items ≡ postings.old.items ++ part)) }
+    ensures honest { result ≡ Err RegFault.Damaged → (part : List _)
+        → ¬ BlockSpells block part bytes.now }
     ensures unstored { result ≢ Err RegFault.Store }
 {
     match push_block(postings, block, bytes)? {
@@ -109,18 +112,18 @@ pub(crate) fn add_spelled(
 /// How many rows a statement gives at most: a number that no column stores, and no list has, is no limit, as -1 says.
 pub(crate) fn limit_of(n: u64) -> i64
     ensures fits { FitsSigned w64 result }
-    ensures limit { (rows all : List Columns) → rows ≡ limited (as_count (Int result)) all → length rows < 2 ^ 63 → rows ≡ take n all }
+    ensures limit { (rows all : List Columns) → rows ≡ limited (as_count (Int result)) all
+        → length rows < 2 ^ 63 → rows ≡ take n all }
 {
     i64::try_from(n).unwrap_or(-1)
 }
 
 /// The terms that rows show, each with the number of its records.
 pub(crate) fn counts_in(alloc: Global, rows: &[Row]) -> Result<Vec<TermCount>, RegFault>
-    ensures ok { IfOk result (λ list. AreShown list.items rows.now) }
+    ensures tells { Answers (λ fault. (fault ≢ RegFault.Store)
+        × IfDamaged (EndsCounting rows.now) fault)
+        (λ list. TellTerms rows.now list.items) result }
     ensures few { length rows.now < 2 ^ 63 }
-    ensures sound { OnOk result ((row : _) → Has rows.now row → CountsTerm row) }
-    ensures honest { result ≡ Err RegFault.Damaged → ¬ ((row : _) → Has rows.now row → CountsTerm row) }
-    ensures unstored { result ≢ Err RegFault.Store }
 {
     let mut counts = Vec::new(alloc);
     for row in rows {
@@ -147,8 +150,10 @@ fn count_of(row: &Row) -> Result<TermCount, RegFault>
 /// The number of records at this place of a row. It takes no memory: it is refused as `Damaged` alone, where it isn't 1 to 999,999,999, as
 /// every number of records is.
 pub(crate) fn records_at(row: &Row, at: usize) -> Result<u64, RegFault>
-    ensures ok { IfOk result (λ records. (column row.now at ≡ Int (pos records)) × (1 ≤ records) × (records ≤ 999999999)) }
-    ensures refused { IfErr result (λ fault. (fault ≡ RegFault.Damaged) × ¬ IsRecordNumber (column row.now at)) }
+    ensures ok { IfOk result (λ records. (column row.now at ≡ Int (pos records)) × (1 ≤ records)
+        × (records ≤ 999999999)) }
+    ensures refused { IfErr result (λ fault. (fault ≡ RegFault.Damaged)
+        × ¬ IsRecordNumber (column row.now at)) }
 {
     let records = read_number(row, at)?;
     if records == 0 || records > MOST_RECORDS {

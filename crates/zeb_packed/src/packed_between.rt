@@ -32,7 +32,8 @@ pub(crate) fn blocks_between<S: Alter>(
     first: &str,
     last: &str,
 ) -> Result<Vec<Posting>, RegFault>
-    ensures call { Reading (state S.Store conn.old) (state S.Store conn.new) result (λ _. IsUnchanged) }
+    ensures call { Reading (state S.Store conn.old) (state S.Store conn.new) result
+        (λ _. IsUnchanged) }
     ensures lists { OnStore (state S.Store conn.old) (state S.Store conn.new) (λ trees. Answers
         (IfDamaged (HasMalformedBetween packed_blocks trees at first.now last.now))
         (λ list. ListsBetween packed_blocks trees at first.now last.now list.items) result) }
@@ -50,7 +51,8 @@ pub(crate) fn blocks_between<S: Alter>(
 
 /// The postings that blocks spell, one block behind the other, where each row has its term before them.
 fn postings_behind(alloc: Global, rows: &[Row]) -> Result<Vec<Posting>, RegFault>
-    ensures { Answers (λ fault. (fault ≢ RegFault.Store) × IfDamaged (SomeMalformed (map two_behind rows.now)) fault)
+    ensures { Answers (λ fault. (fault ≢ RegFault.Store)
+        × IfDamaged (SomeMalformed (map two_behind rows.now)) fault)
         (λ list. AreSpelled (map two_behind rows.now) list.items) result }
 {
     let mut postings = Vec::new(alloc);
@@ -62,8 +64,10 @@ fn postings_behind(alloc: Global, rows: &[Row]) -> Result<Vec<Posting>, RegFault
 
 /// Puts the postings that a row's block spells behind those before it.
 fn add_behind(postings: &mut Vec<Posting>, row: &Row) -> Result<(), RegFault>
-    ensures ok { OnOk result ((part : List _) × SpellsPart (two_behind row.now) part × (postings.new.items ≡ postings.old.items ++ part)) }
-    ensures honest { result ≡ Err RegFault.Damaged → (part : List _) → ¬ SpellsPart (two_behind row.now) part }
+    ensures ok { OnOk result ((part : List _) × SpellsPart (two_behind row.now) part
+        × (postings.new.items ≡ postings.old.items ++ part)) }
+    ensures honest { result ≡ Err RegFault.Damaged → (part : List _)
+        → ¬ SpellsPart (two_behind row.now) part }
     ensures unstored { result ≢ Err RegFault.Store }
 {
     let block = read_number(row, 1)?;

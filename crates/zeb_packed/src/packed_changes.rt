@@ -38,7 +38,8 @@ pub(crate) fn block_list<S: Alter>(
 ) -> Result<Vec<Posting>, RegFault>
     requires { block < 2 ^ 63 }
     ensures same { tx.new.conn.ghost_name ≡ tx.old.conn.ghost_name }
-    ensures call { Inside (state S.Store tx.old.conn.now) (state S.Store tx.new.conn.now) result (λ _. OnlyReads) }
+    ensures call { Inside (state S.Store tx.old.conn.now) (state S.Store tx.new.conn.now) result
+        (λ _. OnlyReads) }
     ensures reads { InStore (state S.Store tx.old.conn.now) (state S.Store tx.new.conn.now)
         (λ trees. Answers (IfDamaged (IsBlockMalformed trees db.0 key.now block))
         (λ list. BlockReads trees db.0 key.now block list.items) result) }
@@ -56,7 +57,8 @@ pub(crate) fn block_list<S: Alter>(
 /// The postings that the bytes of a row spell in the block.
 fn spelled_list(alloc: Global, row: &Row, block: u64) -> Result<Vec<Posting>, RegFault>
     ensures ok { IfOk result (λ list. SpellsIn block row.now list.items) }
-    ensures honest { result ≡ Err RegFault.Damaged → (list : List _) → ¬ SpellsIn block row.now list }
+    ensures honest { result ≡ Err RegFault.Damaged → (list : List _)
+        → ¬ SpellsIn block row.now list }
 {
     let bytes: Vec<u8> = read(row, 0)?;
     let mut list = Vec::new(alloc);
@@ -100,7 +102,8 @@ pub(crate) fn key_known<S: Alter>(
     key: &Key,
 ) -> Result<Known, RegFault>
     ensures same { tx.new.conn.ghost_name ≡ tx.old.conn.ghost_name }
-    ensures call { Inside (state S.Store tx.old.conn.now) (state S.Store tx.new.conn.now) result (λ _. OnlyReads) }
+    ensures call { Inside (state S.Store tx.old.conn.now) (state S.Store tx.new.conn.now) result
+        (λ _. OnlyReads) }
     ensures text { OnOk result (IsUtf8 key.now.term) }
     ensures knows { InStore (state S.Store tx.old.conn.now) (state S.Store tx.new.conn.now)
         (λ trees. Answers (IfDamaged ((records : ℕ) → ¬ CountsAs trees db.0 key.now records))
@@ -124,7 +127,8 @@ pub(crate) fn key_known<S: Alter>(
 fn known_at(alloc: Global, row: &Row) -> Result<Known, RegFault>
     ensures ok { IfOk result (λ known. (column row.now 0 ≡ Int (pos known.records))
         × (1 ≤ known.records) × (known.records ≤ 999999999) × (2 ^ 56 ≤ known.clear_from)) }
-    ensures refused { IfErr result (λ fault. (fault ≡ RegFault.Damaged) × ¬ IsRecordNumber (column row.now 0)) }
+    ensures refused { IfErr result (λ fault. (fault ≡ RegFault.Damaged)
+        × ¬ IsRecordNumber (column row.now 0)) }
 {
     let records = records_at(row, 0)?;
     Ok(Known {
@@ -147,7 +151,8 @@ pub(crate) fn block_write<S: Alter>(
     requires lies { LiesIn block list.now }
     requires small { block < 2 ^ 63 }
     ensures same { tx.new.conn.ghost_name ≡ tx.old.conn.ghost_name }
-    ensures call { Writes blocks_tree (IfTold is_there (IsBlockIn db.0 key.now block) (PutsBlock db.0 key.now block list.now))
+    ensures call { Writes blocks_tree (IfTold is_there (IsBlockIn db.0 key.now block)
+        (PutsBlock db.0 key.now block list.now))
         (state S.Store tx.old.conn.now) (state S.Store tx.new.conn.now) result }
     ensures honest { result ≢ Err RegFault.Damaged }
 {
@@ -178,11 +183,14 @@ pub(crate) fn block_begin<S: Alter>(
     requires lies { LiesIn block list.now }
     requires small { block < 2 ^ 63 }
     ensures same { tx.new.conn.ghost_name ≡ tx.old.conn.ghost_name }
-    ensures call { Writes blocks_tree (IfTold false (IsBlockIn db.0 key.now block) (PutsBlock db.0 key.now block list.now))
+    ensures call { Writes blocks_tree (IfTold false (IsBlockIn db.0 key.now block)
+        (PutsBlock db.0 key.now block list.now))
         (state S.Store tx.old.conn.now) (state S.Store tx.new.conn.now) result }
-    ensures honest { InStore (state S.Store tx.old.conn.now) (state S.Store tx.new.conn.now) (λ trees. result ≡ Err RegFault.Damaged
+    ensures honest { InStore (state S.Store tx.old.conn.now) (state S.Store tx.new.conn.now)
+        (λ trees. result ≡ Err RegFault.Damaged
         → ¬ IsTold false (IsBlockIn db.0 key.now block) blocks_tree trees) }
-    ensures absent { InStore (state S.Store tx.old.conn.now) (state S.Store tx.new.conn.now) (λ trees. OnOk result
+    ensures absent { InStore (state S.Store tx.old.conn.now) (state S.Store tx.new.conn.now)
+        (λ trees. OnOk result
         (IsTold false (IsBlockIn db.0 key.now block) blocks_tree trees)) }
 {
     let number = stored(block)?;
@@ -205,8 +213,10 @@ pub(crate) fn block_begin<S: Alter>(
 
 /// Whether a rule of the tables refused a statement.
 fn breaks_rule(error: &Error) -> bool
-    ensures broken { result ≡ true → (rule : Constraint) × (error.now ≡ SqliteFailure (ConstraintViolation rule)) }
-    ensures unbroken { result ≡ false → (rule : Constraint) → error.now ≢ SqliteFailure (ConstraintViolation rule) }
+    ensures broken { result ≡ true → (rule : Constraint)
+        × (error.now ≡ SqliteFailure (ConstraintViolation rule)) }
+    ensures unbroken { result ≡ false → (rule : Constraint)
+        → error.now ≢ SqliteFailure (ConstraintViolation rule) }
 {
     match error {
         Error::SqliteFailure(code) => matches!(code, ErrorCode::ConstraintViolation(_)),
@@ -221,10 +231,13 @@ fn block_absent<S: Alter>(
     number: i64,
 ) -> Result<(), RegFault>
     ensures same { tx.new.conn.ghost_name ≡ tx.old.conn.ghost_name }
-    ensures call { Inside (state S.Store tx.old.conn.now) (state S.Store tx.new.conn.now) result (λ _. OnlyReads) }
-    ensures honest { InStore (state S.Store tx.old.conn.now) (state S.Store tx.new.conn.now) (λ trees. result ≡ Err RegFault.Damaged
+    ensures call { Inside (state S.Store tx.old.conn.now) (state S.Store tx.new.conn.now) result
+        (λ _. OnlyReads) }
+    ensures honest { InStore (state S.Store tx.old.conn.now) (state S.Store tx.new.conn.now)
+        (λ trees. result ≡ Err RegFault.Damaged
         → ¬ IsTold false (IsOfNumbered at.entry number) blocks_tree trees) }
-    ensures absent { InStore (state S.Store tx.old.conn.now) (state S.Store tx.new.conn.now) (λ trees. OnOk result
+    ensures absent { InStore (state S.Store tx.old.conn.now) (state S.Store tx.new.conn.now)
+        (λ trees. OnOk result
         (IsTold false (IsOfNumbered at.entry number) blocks_tree trees)) }
 {
     let rows = block_bytes(tx, at, number)?;
@@ -243,7 +256,8 @@ pub(crate) fn dict_write<S: Alter>(
     is_there: bool,
 ) -> Result<(), RegFault>
     ensures same { tx.new.conn.ghost_name ≡ tx.old.conn.ghost_name }
-    ensures call { Writes dict_tree (IfTold is_there (IsDictIn db.0 key.now) (PutsCount db.0 key.now records))
+    ensures call { Writes dict_tree (IfTold is_there (IsDictIn db.0 key.now)
+        (PutsCount db.0 key.now records))
         (state S.Store tx.old.conn.now) (state S.Store tx.new.conn.now) result }
     ensures honest { result ≢ Err RegFault.Damaged }
 {

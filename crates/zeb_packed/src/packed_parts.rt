@@ -60,8 +60,10 @@ impl Held {
         requires few { self.now.records ≤ 999999999 }
         ensures turned { Answers
             (IfDamaged ((are : KeyUnits)
-            → ¬ TurnsUnit packed_blocks change.now (units_of self.now.list.items self.now.records) are))
-            (λ held. TurnsUnit packed_blocks change.now (units_of self.now.list.items self.now.records)
+            → ¬ TurnsUnit packed_blocks change.now (units_of self.now.list.items self.now.records)
+            are))
+            (λ held. TurnsUnit packed_blocks change.now
+            (units_of self.now.list.items self.now.records)
             (units_of held.list.items held.records))
             result }
         ensures lies { IfOk result (λ held. LiesIn self.now.block held.list.items) }
@@ -156,7 +158,8 @@ fn joined(
     places: &[Place],
     behind: &[Posting],
 ) -> Result<Vec<Posting>, RegFault>
-    ensures list { IfOk result (λ list. list.items ≡ before.items ++ (map (posting_at sysno) places.now ++ behind.now)) }
+    ensures list { IfOk result (λ list. list.items ≡ before.items ++ (map (posting_at sysno)
+        places.now ++ behind.now)) }
     ensures honest { result ≢ Err RegFault.Damaged }
 {
     let mut list = before;

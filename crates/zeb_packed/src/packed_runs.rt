@@ -18,12 +18,10 @@ use crate::packed_changes::{Known, block_begin, block_list, block_write, dict_wr
 use crate::packed_parts::Held;
 use sqlite::{Alter, Transaction};
 use std::alloc::Global;
+use zeb_blocks::BLOCK_RECORDS;
 use zeb_keys::Key;
 use zeb_register::for_layouts::{check_changes, nothing_inside};
 use zeb_register::{DatabaseId, RecordChange, RegFault, Work};
-
-/// How many system numbers belong to one block.
-const BLOCK_RECORDS: u64 = 256;
 
 /// Puts changes of a key into its rows, and counts a row of each table, read and written, for each. Without a change no row is read.
 pub(crate) fn changes_made<S: Alter>(
@@ -71,7 +69,8 @@ fn changes_put<S: Alter>(
 ) -> Result<(), RegFault>
     requires stored { AllByRecursion IsStorableChange changes.now }
     ensures same { tx.new.conn.ghost_name ≡ tx.old.conn.ghost_name }
-    ensures call { Inside (state S.Store tx.old.conn.now) (state S.Store tx.new.conn.now) result (λ _. GoesOn) }
+    ensures call { Inside (state S.Store tx.old.conn.now) (state S.Store tx.new.conn.now) result
+        (λ _. GoesOn) }
     ensures units { ChangesUnits db.0 key.now changes.now
         (state S.Store tx.old.conn.now) (state S.Store tx.new.conn.now) result }
 {
@@ -91,7 +90,8 @@ fn runs_put<S: Alter>(
     requires stored { AllByRecursion IsStorableChange changes.now }
     requires few { known.records ≤ 999999999 }
     ensures same { tx.new.conn.ghost_name ≡ tx.old.conn.ghost_name }
-    ensures call { Inside (state S.Store tx.old.conn.now) (state S.Store tx.new.conn.now) result (λ _ a b. IsTrue a.is_open → GoesOn a b) }
+    ensures call { Inside (state S.Store tx.old.conn.now) (state S.Store tx.new.conn.now) result
+        (λ _ a b. IsTrue a.is_open → GoesOn a b) }
     ensures turned { ChangesTable blocks_tree
         (state S.Store tx.old.conn.now) (state S.Store tx.new.conn.now) result
         (λ after _. TurnsBlocks db.0 key.now changes.now (λ block. known.clear_from ≤ block)
@@ -117,7 +117,8 @@ fn runs_put<S: Alter>(
 fn run_length(changes: &[RecordChange<'_>], block: u64) -> usize
     ensures within { result ≤ length changes.now }
     ensures inside { AllByRecursion (IsInBlock block) (take result changes.now) }
-    ensures some { (first : _) (behind : List _) → changes.now ≡ first ∷ behind → IsInBlock block first → 1 ≤ result }
+    ensures some { (first : _) (behind : List _) → changes.now ≡ first ∷ behind
+        → IsInBlock block first → 1 ≤ result }
 {
     for (at, change) in changes.iter().enumerate() {
         if change.sysno / BLOCK_RECORDS != block {

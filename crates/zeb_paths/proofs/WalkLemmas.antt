@@ -1,8 +1,11 @@
 -- What a walk has left, where steps are put behind the others, turned round, and taken off.
-use Rattle.std.proofs.Common.{◌≡◌, ◌≢◌, ℕ, List, [], ◌∷◌, ◌++◌, map, reverse, refl, ap, sym, ◌∙◌}
+use Rattle.std.proofs.Common.{◌≡◌, ◌≢◌, ℕ, List, [], ◌∷◌, ◌++◌, map, reverse, refl, ap, sym, subst, ◌∙◌}
 use Rattle.std.proofs.lemmas.List.{map-append, reverse-append, reverse-reverse}
 use Rattle.zeb_paths.specs.declared.walk.Step.{Step}
-use Rattle.zeb_paths.specs.Walks.{paths_left, step_path}
+use Rattle.std.specs.Prelude.{Contains}
+use Rattle.std.proofs.lemmas.List.{append_assoc}
+use Rattle.zeb_paths.specs.PrivateWalks.{Begins}
+use Rattle.zeb_paths.specs.Walks.{AreUnder, IsUnder, paths_left, step_path}
 
 map_reversed : (steps : List Step) → map step_path (reverse steps) ≡ reverse (map step_path steps)
 map_reversed [] = refl
@@ -39,3 +42,15 @@ left_parts before after last path rest e h =
 pub left_some : (before after : List Step) (last : Step) → before ≡ after ++ last ∷ [] → paths_left before ≢ []
 left_some before after last e h =
     some_is_not_none (step_path last) (paths_left after) (sym (left_last after last) ∙ ap paths_left (sym e) ∙ h)
+
+-- what stands below a path that begins so begins so
+pub under_below : (named : List (List ℕ)) (folder path : List ℕ) → Begins folder path → IsUnder named folder → IsUnder named path
+under_below named folder path below under =
+    (under.0, under.1 ++ below.0, under.2, below.1 ∙ ap (λ front. front ++ below.0) under.3 ∙ append_assoc under.0 under.1 below.0)
+
+-- the last step, and those before it
+pub under_popped : (named : List (List ℕ)) (before after : List Step) (last : Step) → before ≡ after ++ last ∷ [] → AreUnder named (paths_left before) → IsUnder named (step_path last) × AreUnder named (paths_left after)
+under_popped named before after last e all = subst (AreUnder named) (ap paths_left e ∙ left_last after last) all
+
+pub under_pushed : (named : List (List ℕ)) (before after : List Step) (last : Step) → after ≡ before ++ last ∷ [] → IsUnder named (step_path last) → AreUnder named (paths_left before) → AreUnder named (paths_left after)
+under_pushed named before after last e one all = subst (AreUnder named) (sym (ap paths_left e ∙ left_last before last)) (one, all)

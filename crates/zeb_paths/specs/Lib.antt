@@ -1,3 +1,4 @@
+pub mod Causes
 pub mod Told
 pub mod Walks
 pub mod PrivateWalks

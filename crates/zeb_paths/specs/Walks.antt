@@ -1,8 +1,10 @@
 -- What a walk has left, and what it gives (this project's own).
-use Rattle.std.specs.Prelude.{◌≡◌, ℕ, List, Option, Some, Result, Ok, String, map, reverse, string_bytes}
+use Rattle.std.specs.Prelude.{◌≡◌, ◌++◌, ⊤, ℕ, Contains, List, Option, Some, None, Result, Ok, Err, String, map, reverse, string_bytes}
+use Rattle.std.specs.List.{AllByRecursion}
 use Rattle.std.specs.declared.alloc.Global.{Global}
 use Rattle.zeb_paths.specs.declared.walk.Step.{Step}
 use Rattle.zeb_paths.specs.declared.walk.WalkFault.{WalkFault}
+use Rattle.zeb_paths.specs.declared.walk.WalkFault.TheVariants.{Unreadable, Memory}
 
 abbrev pub step_path : Step → List ℕ
 step_path step = string_bytes step.path
@@ -15,3 +17,22 @@ paths_left steps = reverse (map step_path steps)
 abbrev pub GivesFile : List ℕ → Result (Option (String Global)) WalkFault → Type 0
 GivesFile path (Ok (Some given)) = string_bytes given ≡ path
 GivesFile path other = ⊥
+
+-- the path is one of these, or begins with one, as the paths below a folder do
+abbrev pub IsUnder : List (List ℕ) → List ℕ → Type 0
+IsUnder named path = (one : List ℕ) × (behind : List ℕ) × Contains named one × (path ≡ one ++ behind)
+
+-- so it is of each of these paths
+abbrev pub AreUnder : List (List ℕ) → List (List ℕ) → Type 0
+AreUnder named = AllByRecursion (IsUnder named)
+
+-- and of the path that can't be read
+abbrev pub IsFaultUnder : List (List ℕ) → WalkFault → Type 0
+IsFaultUnder named (Unreadable path) = IsUnder named (string_bytes path)
+IsFaultUnder named Memory = ⊤
+
+-- and of the file that a walk gives, or the path that it can't go on at
+abbrev pub GivesUnder : List (List ℕ) → Result (Option (String Global)) WalkFault → Type 0
+GivesUnder named (Ok (Some given)) = IsUnder named (string_bytes given)
+GivesUnder named (Ok None) = ⊤
+GivesUnder named (Err why) = IsFaultUnder named why

@@ -1,8 +1,10 @@
 //! The paths of the file system.
 
-ghost use Rattle.std.specs.Prelude.{◌≡◌, None};
+ghost use Rattle.std.specs.Prelude.{◌≡◌, ⊤, None, true};
 ghost use Rattle.std.specs.Io.{ReadsAtMost};
 
+use crate::causes::{Closed, PathCause, StoreCause};
+use crate::looks::{may_have_store, why_unopened, why_unread};
 use crate::paths::{NamesFault, OpenFailed, PathKind, Paths};
 use crate::tally::Tally;
 use sqlite::{Connection, File, FileStore, Unknown};
@@ -39,6 +41,10 @@ impl<'a> Paths for Disk<'a> {
 
     ghost tells = { λ _ _. None };
 
+    ghost opens = { λ _ _ _. ⊤ };
+
+    ghost lacks = { λ _ _. ⊤ };
+
     fn kind(&self, path: &str) -> Option<PathKind> {
         let found = fs::metadata(self.rt, path).ok()?;
         if found.is_dir() {
@@ -69,11 +75,33 @@ impl<'a> Paths for Disk<'a> {
         }
     }
 
+    fn why_unread(&self, path: &str) -> Option<PathCause> {
+        Some(why_unread(self.rt, path))
+    }
+
+    fn has_store(&self, path: &str) -> bool {
+        may_have_store(self.rt, path)
+    }
+
     fn store(&mut self, path: &str) -> Result<Connection<FileStore<File>>, OpenFailed> {
         match Connection::open_from(self.rt, path, false, Unknown) {
             Ok(connection) => Ok(connection),
-            Err(_) => Err(OpenFailed),
+            Err((error, _)) => {
+                let cause = Some(why_unopened(self.rt, path, error));
+                Err(OpenFailed { cause })
+            }
         }
+    }
+
+    fn close(&self, store: &mut FileStore<File>) -> Closed {
+        let is_whole = store.checkpoint().is_ok();
+        let met = store.tally();
+        let cause = if met.caught > 0 {
+            Some(StoreCause::Damaged)
+        } else {
+            (met.refused > 0).then_some(StoreCause::Full)
+        };
+        Closed { is_whole, cause }
     }
 }
 
@@ -85,14 +113,29 @@ enum Progress {
     Ended,
 }
 
-/// The bytes of a file, which is opened at the first read and closed at its end or where a read fails.
-#[derive(Drop)]
+/// The bytes of a file, which is opened at the first read and closed at its end or where a read fails. The line of its tally ends where
+/// it is dropped, which is before its command is answered.
 pub struct FileReader<'a> {
     rt: &'a HostRuntime,
     tally: Option<&'a Tally<'a>>,
     path: String,
     progress: Progress,
     failed: bool,
+}
+
+impl Drop for FileReader<'_> {
+    fn drop(self) {
+        let FileReader {
+            rt: _,
+            tally,
+            path: _,
+            progress: _,
+            failed: _,
+        } = self;
+        if let Some(tally) = tally {
+            tally.end();
+        }
+    }
 }
 
 impl FileReader<'_> {
@@ -116,6 +159,8 @@ impl Source for FileReader<'_> {
     ghost remaining = { λ _. None };
 
     ghost has_failed = { λ s. s.failed };
+
+    ghost may_fail = { λ _. true };
 
     fn read(&mut self, buffer: &mut [u8]) -> Result<usize, ReadFailed> {
         if self.failed {

@@ -1,7 +1,10 @@
 //! What a program asks of paths.
 
 ghost use Rattle.std.specs.Prelude.{◌≡◌, ℕ, List, Option, Some, false, string_bytes, IfOk};
+ghost use Rattle.sqlite.specs.Held.{Held};
+ghost use Rattle.sqlite_trees.specs.View.{IsQuiet};
 
+use crate::causes::{Closed, PathCause, StoreCause};
 use sqlite::{Alter, Connection};
 use std::alloc::{AllocError, AllocFailed, Global};
 use std::io;
@@ -45,7 +48,10 @@ impl From<io::Error> for NamesFault {
 
 /// A store couldn't be opened.
 #[derive(Clone, Copy, Debug, PartialEq, Eq)]
-pub struct OpenFailed;
+pub struct OpenFailed {
+    /// Why, where that is told.
+    pub cause: Option<StoreCause>,
+}
 
 /// Paths, each of which may lead to a file, to a folder, or nowhere.
 pub trait Paths {
@@ -58,6 +64,12 @@ pub trait Paths {
     /// The bytes of the file at a path, where the paths tell them.
     ghost tells: { Self → List ℕ → Option (List ℕ) };
 
+    /// Which connections the store at a path may be opened by.
+    ghost opens: { Self → List ℕ → Held Self.Store → Type 0 };
+
+    /// At which paths no store may stand, as far as is told.
+    ghost lacks: { Self → List ℕ → Type 0 };
+
     /// What stands at a path: `None` where nothing does, or neither a file nor a folder. Links are followed. Where the paths tell
     /// the bytes of a file, it is a file.
     fn kind(&self, path: &str) -> Option<PathKind>
@@ -67,13 +79,30 @@ pub trait Paths {
     fn names(&self, alloc: Global, path: &str) -> Result<Vec<String>, NamesFault>;
 
     /// The bytes of the file at a path. The file is opened at the first read and closed at its end; where it
-    /// can't be opened, that read fails.
+    /// can't be opened, that read fails. Where the paths tell the bytes, no read fails.
     fn reader(&self, path: String) -> Self::Reader
         ensures bytes { Self.Reader.remaining result ≡ tells self.now (string_bytes path) }
-        ensures sound { Self.Reader.has_failed result ≡ false };
+        ensures sound { Self.Reader.has_failed result ≡ false }
+        ensures able { (bytes : List ℕ) → tells self.now (string_bytes path) ≡ Some bytes
+            → Self.Reader.may_fail result ≡ false };
+
+    /// Why the path isn't read, where the paths tell that: what is met where it is looked at anew.
+    fn why_unread(&self, path: &str) -> Option<PathCause>;
+
+    /// Whether a store may stand at a path: not where nothing stands there and one could be made in its folder.
+    fn has_store(&self, path: &str) -> bool
+        ensures { result ≡ false → lacks self.now path.now };
 
     /// Opens the store at a path, which is made where nothing stands there.
     fn store(&mut self, path: &str) -> Result<Connection<Self::Store>, OpenFailed>
         ensures idle { IfOk result (λ connection. connection.in_transaction ≡ false) }
+        ensures given { IfOk result (opens self.old path.now) }
         ensures told { (text : List ℕ) → tells self.new text ≡ tells self.old text };
+
+    /// Puts what was committed in a store, and stands in its log, into the store's one file, before it is dropped. Where that fails,
+    /// the log keeps it.
+    fn close(&self, store: &mut Self::Store) -> Closed
+        // Whether it fails or not, and also where it is cut short: a crash finds only what it could find before.
+        ensures kept { IsQuiet Self.Store.Store.view Self.Store.Store.faults Self.Store.Store.recovers
+            Self.Store.Store.is_shielded store.old store.new };
 }

@@ -1,9 +1,10 @@
 //! Paths in memory, for tests.
 
-ghost use Rattle.std.specs.Prelude.{◌≡◌};
-ghost use Rattle.std.specs.Option.{option_map};
+ghost use Rattle.std.specs.Prelude.{◌≡◌, ◌||◌, Some};
+ghost use Rattle.std.specs.Option.{is_none, option_map};
 ghost use Rattle.zeb_paths.specs.Told.{first_at, told_at};
 
+use crate::causes::{Closed, PathCause};
 use crate::paths::{NamesFault, OpenFailed, PathKind, Paths};
 use sqlite::{Alter, Connection};
 use std::alloc::{AllocError, Global};
@@ -28,7 +29,9 @@ pub struct Shelf<'a, S: Alter + Drop> {
 impl<'a, S: Alter + Drop> Shelf<'a, S> {
     /// A shelf with these files. Its one store has every path; it can be opened once, and only where no transaction
     /// is open in it.
-    pub fn new(files: &'a [Shelved<'a>], store: Option<Connection<S>>) -> Shelf<'a, S> {
+    pub fn new(files: &'a [Shelved<'a>], store: Option<Connection<S>>) -> Shelf<'a, S>
+        ensures { (result.files ≡ files.entry) × (result.store ≡ store) }
+    {
         Shelf { files, store }
     }
 }
@@ -67,6 +70,10 @@ impl<'a, S: Alter + Drop> Paths for Shelf<'a, S> {
 
     ghost tells = { λ shelf path. told_at shelf.files.now path };
 
+    ghost opens = { λ shelf _ connection. shelf.store ≡ Some connection };
+
+    ghost lacks = { λ _ _. ⊥ };
+
     fn kind(&self, path: &str) -> Option<PathKind> {
         if file_at(self.files, path).is_some() {
             return Some(PathKind::File);
@@ -101,15 +108,27 @@ impl<'a, S: Alter + Drop> Paths for Shelf<'a, S> {
         }
     }
 
+    fn why_unread(&self, _path: &str) -> Option<PathCause> {
+        None
+    }
+
+    fn has_store(&self, _path: &str) -> bool {
+        true
+    }
+
     fn store(&mut self, _path: &str) -> Result<Connection<S>, OpenFailed> {
         let Some(connection) = self.store.take() else {
-            return Err(OpenFailed);
+            return Err(OpenFailed { cause: None });
         };
         if connection.is_autocommit() {
             Ok(connection)
         } else {
-            Err(OpenFailed)
+            Err(OpenFailed { cause: None })
         }
+    }
+
+    fn close(&self, _store: &mut S) -> Closed {
+        Closed::WHOLE
     }
 }
 
@@ -124,6 +143,8 @@ impl Source for ShelfReader<'_> {
     ghost remaining = { λ s. s.bytes };
 
     ghost has_failed = { λ s. s.failed };
+
+    ghost may_fail = { λ s. is_none s.bytes || s.failed };
 
     fn read(&mut self, buffer: &mut [u8]) -> Result<usize, ReadFailed> {
         match &mut self.bytes {

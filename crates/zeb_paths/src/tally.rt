@@ -9,8 +9,8 @@ const RECORD_END: u8 = 0x1d;
 /// After so many records the number is shown again.
 const STEP: u64 = 1_000;
 
-/// Counts records as the bytes of files pass, and shows the number on standard error: one line, which is rewritten, and which
-/// the next line that is written there takes the place of.
+/// Counts records as the bytes of files pass, and shows the number on standard error: one line, which is rewritten until the files are
+/// dropped, and ends then.
 #[derive(Drop)]
 pub struct Tally<'a> {
     rt: &'a HostRuntime,
@@ -51,11 +51,13 @@ impl<'a> Tally<'a> {
         }
     }
 
-    /// Ends the line, where there is one and the answer on standard output doesn't take its place.
+    /// Ends the line, where there is one, with the number as it is, so that what is written next has a line of its own. Then nothing is
+    /// counted.
     pub fn end(&self) {
-        if self.count.get() >= STEP && !self.rt.stdout().is_terminal() {
+        if self.count.get() >= STEP {
             self.show('\n');
         }
+        self.count.set(0);
     }
 
     /// Writes the number. Nothing rests on it, so a write that fails is passed over.

@@ -1,8 +1,9 @@
 //! The files at and below the paths that a user names.
 
-ghost use Rattle.std.specs.Prelude.{◌≡◌, ◌≤◌, ◌∷◌, [], ℕ, List, Some, None, Ok, IfOk, map, string_bytes};
-ghost use Rattle.zeb_paths.specs.Walks.{GivesFile, paths_left};
-ghost use Rattle.zeb_paths.specs.PrivateWalks.{SeesFile};
+ghost use Rattle.std.specs.Prelude.{◌≡◌, ◌≤◌, ◌∷◌, [], ℕ, List, Some, None, Ok, IfErr, IfOk, map, string_bytes};
+ghost use Rattle.zeb_paths.specs.Walks.{AreUnder, GivesFile, GivesUnder, IsFaultUnder, IsUnder, paths_left};
+ghost use Rattle.zeb_paths.specs.declared.walk.WalkFault.TheVariants.{Memory as Starved};
+ghost use Rattle.zeb_paths.specs.PrivateWalks.{Begins, SeesFile, SeesUnder};
 
 use crate::paths::{NamesFault, PathKind, Paths};
 use std::alloc::{AllocError, AllocFailed, Global};
@@ -20,12 +21,16 @@ pub enum WalkFault {
 }
 
 impl From<AllocError> for WalkFault {
+    ghost from_gives = { λ _ fault. fault ≡ Starved };
+
     fn from(_error: AllocError) -> WalkFault {
         WalkFault::Memory
     }
 }
 
 impl<T: Drop> From<AllocFailed<T>> for WalkFault {
+    ghost from_gives = { λ _ fault. fault ≡ Starved };
+
     fn from(_error: AllocFailed<T>) -> WalkFault {
         WalkFault::Memory
     }
@@ -85,6 +90,8 @@ impl<'a, P: Paths> Walk<'a, P> {
         ensures told { (path bytes : List ℕ) (rest : List (List ℕ)) → paths_left self.old.steps.items ≡ path ∷ rest
             → P.tells self.old.paths.now path ≡ Some bytes → GivesFile path result × (paths_left self.new.steps.items ≡ rest) }
         ensures ended { paths_left self.old.steps.items ≡ [] → result ≡ Ok None }
+        ensures under { (named : List (List ℕ)) → AreUnder named (paths_left self.old.steps.items)
+            → GivesUnder named result × AreUnder named (paths_left self.new.steps.items) }
     {
         for _ in 0..u64::MAX {
             match self.look()? {
@@ -103,6 +110,8 @@ impl<'a, P: Paths> Walk<'a, P> {
         ensures told { (path bytes : List ℕ) (rest : List (List ℕ)) → paths_left self.old.steps.items ≡ path ∷ rest
             → P.tells self.old.paths.now path ≡ Some bytes → SeesFile path result × (paths_left self.new.steps.items ≡ rest) }
         ensures ended { paths_left self.old.steps.items ≡ [] → result ≡ Ok Seen.End }
+        ensures under { (named : List (List ℕ)) → AreUnder named (paths_left self.old.steps.items)
+            → SeesUnder named result × AreUnder named (paths_left self.new.steps.items) }
     {
         let Some(step) = self.steps.pop() else {
             return Ok(Seen::End);
@@ -121,6 +130,9 @@ impl<'a, P: Paths> Walk<'a, P> {
     fn enter(&mut self, folder: Step) -> Result<(), WalkFault>
         requires { folder.level ≤ 32 }
         ensures paths { self.new.paths ≡ self.old.paths }
+        ensures under { (named : List (List ℕ)) → IsUnder named (string_bytes folder.path)
+            → AreUnder named (paths_left self.old.steps.items)
+            → IfErr result (IsFaultUnder named) × AreUnder named (paths_left self.new.steps.items) }
     {
         let mut names = match self.paths.names(self.alloc, folder.path.as_str()) {
             Ok(names) => names,
@@ -139,7 +151,9 @@ impl<'a, P: Paths> Walk<'a, P> {
 }
 
 /// The path of a name in a folder.
-fn path_in(alloc: Global, folder: &str, name: &str) -> Result<String, AllocError> {
+fn path_in(alloc: Global, folder: &str, name: &str) -> Result<String, AllocError>
+    ensures { IfOk result (λ path. Begins folder.now (string_bytes path)) }
+{
     let between = if folder.ends_with('/') { "" } else { "/" };
     format!(in alloc; "{folder}{between}{name}")
 }

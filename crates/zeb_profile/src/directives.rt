@@ -7,7 +7,7 @@ ghost use Rattle.std.specs.Char.{is_ascii_digit};
 ghost use Rattle.zeb_profile.specs.PrivateKeys.{target_key};
 ghost use Rattle.zeb_profile.specs.PrivateOutcomes.{Gives};
 ghost use Rattle.zeb_profile.specs.Lines.{words_of, trimmed};
-ghost use Rattle.zeb_profile.specs.Words.{target_of, targets_of as targets_in_word, number_of, is_comma};
+ghost use Rattle.zeb_profile.specs.Words.{target_of, targets_of as targets_in_word, number_of, is_comma, register_of};
 ghost use Rattle.zeb_profile.specs.Directives.{one_word, two_words, store_of, identifier_of, att_of, melm_of, all_of, directive_of};
 ghost use Rattle.zeb_profile.specs.Indexes.{identifier_told, name_told, path_told};
 ghost use Rattle.zeb_profile.specs.PrivateResolved.{is_all as all_test, is_melm_for as melm_for};
@@ -15,12 +15,14 @@ ghost use Rattle.zeb_profile.specs.Profiles.{targets_in};
 
 use crate::lines::{first_word, trim};
 use crate::names::Name;
-use crate::registers::read_register;
 use crate::{ProfileFaultKind, UnitPattern};
 use std::alloc::{AllocError, Global};
 use std::collections::BTreeSet;
 use std::marker::Model;
 use zeb_keys::Register;
+
+/// The most digits of a use attribute's number.
+const MOST_DIGITS: usize = 9;
 
 /// One target of a `melm` or `all` line: an index by its name, and a register.
 #[derive(Debug, Drop)]
@@ -242,11 +244,11 @@ fn only_two_words(text: &str) -> Option<(&str, &str)>
     Some((first, second))
 }
 
-/// Reads a use attribute's number: one to nine digits that do not stand for 0.
+/// Reads a use attribute's number: one to [`MOST_DIGITS`] digits that do not stand for 0.
 fn read_number(word: &str) -> Result<u32, ProfileFaultKind>
     ensures { result ≡ number_of word.now }
 {
-    if !are_digits(word.as_bytes()) || word.is_empty() || word.len() > 9 {
+    if !are_digits(word.as_bytes()) || word.is_empty() || word.len() > MOST_DIGITS {
         return Err(ProfileFaultKind::Directive);
     }
     match word.parse::<u32>() {
@@ -259,6 +261,18 @@ fn are_digits(word: &[u8]) -> bool
     ensures { result ≡ list_all is_ascii_digit word.now }
 {
     word.iter().all(|byte| byte.is_ascii_digit())
+}
+
+/// Reads a register's letter; `ProfileFaultKind::Register` where the word is none.
+fn read_register(word: &str) -> Result<Register, ProfileFaultKind>
+    ensures { result ≡ register_of word.now }
+{
+    match word {
+        "w" => Ok(Register::Word),
+        "p" => Ok(Register::Phrase),
+        "n" => Ok(Register::Number),
+        _ => Err(ProfileFaultKind::Register),
+    }
 }
 
 fn read_store(alloc: Global, rest: &str) -> Result<Directive, ProfileFaultKind>

@@ -22,6 +22,7 @@ pub fn one_text_says_the_same()
 
 /// Comments, empty lines and blanks at the ends of lines say nothing: a text with the telling lines of a profile is that
 /// profile.
+#[tactic(auto, using(crate::proofs::Comments::comments_say_nothing))]
 pub fn comments_say_nothing()
     ensures { CommentsSayNothing }
 {}
@@ -39,6 +40,7 @@ pub fn each_target_once()
 
 /// A word of targets is read as those of its parts, none of which may be there twice, and else has the fault of its first
 /// faulty part.
+#[tactic(auto, using(crate::proofs::TargetsRead::targets_are_read))]
 pub fn targets_are_read()
     ensures { (word : List ℕ) → TargetsAreRead word }
 {}
@@ -46,18 +48,18 @@ pub fn targets_are_read()
 /// Profiles that the definitions alone read: one with a line of each kind, and one with each fault but too many indexes.
 pub fn examples()
     ensures read { EachLineIsRead }
-    ensures directive { IsRefused (codes "store x\nmell 245 T") 2 Directive }
-    ensures few_words { IsRefused (codes "melm 245") 1 Directive }
-    ensures use_zero { IsRefused (codes "att 0 T") 1 Directive }
-    ensures name { IsRefused (codes "att 4 4T") 1 Name }
-    ensures register { IsRefused (codes "melm 245 T:x") 1 Register }
-    ensures pattern { IsRefused (codes "melm 24 T") 1 Pattern }
-    ensures duplicate_target { IsRefused (codes "store x\nall Title,title:w") 2 DuplicateTarget }
-    ensures duplicate_use { IsRefused (codes "att 4 T\nmelm 245 T,U\natt 4 U") 3 DuplicateUse }
-    ensures unknown_index { IsRefused (codes "identifier 001\nstore x\natt 9 T\nmelm 245 U") 3 UnknownIndex }
-    ensures two_identifiers { IsRefused (codes "identifier 001\nidentifier 035$a") 2 TwoIdentifiers }
-    ensures two_alls { IsRefused (codes "all T\n\nall U") 3 TwoAlls }
-    ensures two_stores { IsRefused (codes "store x\nstore x") 2 TwoStores }
-    ensures no_identifier { IsRefused (codes "store x") 0 NoIdentifier }
-    ensures no_store { IsRefused (codes "identifier 001") 0 NoStore }
+    ensures lines { IsRefused (codes "store x\nmell 245 T") 2 Directive
+        × IsRefused (codes "melm 245") 1 Directive
+        × IsRefused (codes "att 0 T") 1 Directive }
+    ensures words { IsRefused (codes "att 4 4T") 1 Name
+        × IsRefused (codes "melm 245 T:x") 1 Register
+        × IsRefused (codes "melm 24 T") 1 Pattern
+        × IsRefused (codes "store x\nall Title,title:w") 2 DuplicateTarget }
+    ensures repeats { IsRefused (codes "att 4 T\nmelm 245 T,U\natt 4 U") 3 DuplicateUse
+        × IsRefused (codes "identifier 001\nidentifier 035$a") 2 TwoIdentifiers
+        × IsRefused (codes "all T\n\nall U") 3 TwoAlls
+        × IsRefused (codes "store x\nstore x") 2 TwoStores }
+    ensures lacks { IsRefused (codes "identifier 001\nstore x\natt 9 T\nmelm 245 U") 3 UnknownIndex
+        × IsRefused (codes "store x") 0 NoIdentifier
+        × IsRefused (codes "identifier 001") 0 NoStore }
 {}

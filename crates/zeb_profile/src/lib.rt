@@ -14,10 +14,8 @@ mod lookups;
 mod names;
 mod patterns;
 mod reading;
-mod registers;
 mod repeats;
 mod resolved;
-mod searches;
 mod unit_targets;
 
 pub use faults::{ProfileFault, ProfileFaultKind};

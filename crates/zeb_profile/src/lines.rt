@@ -11,7 +11,6 @@ fn is_blank(byte: u8) -> bool
     byte == b' ' || byte == b'\t'
 }
 
-/// How many blanks the bytes begin with.
 fn leading_blanks(bytes: &[u8]) -> usize
     ensures { result ≡ position_or_len is_no_blank bytes.now }
 {
@@ -35,7 +34,6 @@ fn length_without_trailing_blanks(bytes: &[u8]) -> usize
     end
 }
 
-/// How many bytes stand before the first blank.
 fn word_length(bytes: &[u8]) -> usize
     ensures { result ≡ position_or_len blank_test bytes.now }
 {

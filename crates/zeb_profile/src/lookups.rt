@@ -13,8 +13,7 @@ use crate::canonical::canonical;
 use crate::indexes::{index_names, position_of};
 use crate::names::Name;
 use crate::reading::{read_lines, settle};
-use crate::resolved::{Line, has_pair, resolve};
-use crate::searches::use_name;
+use crate::resolved::{Line, has_pair, resolve, use_name};
 use crate::unit_targets::Targets;
 use crate::{ProfileFault, UnitPattern};
 use std::alloc::Global;
@@ -47,7 +46,8 @@ impl Model for Profile {
 
     ghost view = { λ profile. map (λ line. line.directive) profile.lines.items };
 
-    ghost invariant = { λ profile. let directives = map (λ line. line.directive) profile.lines.items in
+    ghost invariant = { λ profile.
+        let directives = map (λ line. line.directive) profile.lines.items in
         (profile.names.items ≡ indexes.index_names directives)
         × (length profile.names.items < 2 ^ 32)
         × (map {B = Directive × List (ℕ × Register)}

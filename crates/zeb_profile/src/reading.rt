@@ -4,7 +4,8 @@ ghost use Rattle.std.specs.Prelude.{◌≡◌, ◌∷◌, [], length, map, IfOk,
 ghost use Rattle.std.specs.List.{find};
 ghost use Rattle.std.specs.Str.Lines.{lines as lines_of};
 ghost use Rattle.zeb_profile.specs.declared.directives.Directive.{Directive as Told};
-ghost use Rattle.zeb_profile.specs.Indexes.{index_names};
+ghost use Rattle.std.specs.Option.{option_copied};
+ghost use Rattle.zeb_profile.specs.Indexes.{identifier_pattern as identifier_in, index_names, store_path as path_in};
 ghost use Rattle.zeb_profile.specs.PrivateKeys.{AddsKeys, ties_beside};
 ghost use Rattle.zeb_profile.specs.Lines.{says_something as tells};
 ghost use Rattle.zeb_profile.specs.Outcomes.{FailsPlaced, GivesPlaced};
@@ -17,7 +18,6 @@ use crate::directives::{Directive, Placed, Target};
 use crate::lines::trim;
 use crate::names::Name;
 use crate::repeats::Repeats;
-use crate::searches::{identifier_pattern, store_path};
 use crate::{ProfileFault, ProfileFaultKind, UnitPattern};
 use std::alloc::{AllocError, Global};
 use std::collections::BTreeSet;
@@ -75,6 +75,30 @@ fn read_line(
             Ok(directive)
         }
     }
+}
+
+fn identifier_pattern(placed: &[Placed]) -> Option<&UnitPattern>
+    ensures { option_copied result ≡ identifier_in (directives_in placed.now) }
+{
+    for line in placed {
+        let pattern = line.directive.identifier();
+        if pattern.is_some() {
+            return pattern;
+        }
+    }
+    None
+}
+
+fn store_path(placed: &[Placed]) -> Option<&str>
+    ensures { option_copied result ≡ path_in (directives_in placed.now) }
+{
+    for line in placed {
+        let path = line.directive.store();
+        if path.is_some() {
+            return path;
+        }
+    }
+    None
 }
 
 /// What each profile has once.
@@ -145,7 +169,6 @@ fn ties_unknown(
     }
 }
 
-/// The keys of the names of all targets.
 fn target_keys(alloc: Global, placed: &[Placed]) -> Result<BTreeSet<String>, AllocError>
     ensures { IfOk result (λ keys. (directive : Told)
         → ties_beside keys directive ≡ ties_unknown_index (directives_in placed.now) directive) }

@@ -20,7 +20,6 @@ pub(crate) struct Repeats {
 }
 
 impl Repeats {
-    /// No line is read yet.
     pub(crate) fn new(alloc: Global) -> Repeats
         ensures { NotesClashes result [] }
     {

@@ -2,9 +2,10 @@
 
 ghost use Rattle.std.specs.Prelude.{◌≡◌, ◌<◌, ◌^◌, List, ℕ, length, map, IfOk, OnOk, true, All};
 ghost use Rattle.std.specs.List.{list_any};
-ghost use Rattle.zeb_profile.specs.Indexes.{index_names, pair_of as pair_in, same_pair};
+ghost use Rattle.std.specs.Option.{option_copied};
+ghost use Rattle.zeb_profile.specs.Indexes.{index_names, pair_of as pair_in, same_pair, use_name as name_of_use};
 ghost use Rattle.zeb_profile.specs.PrivateKeys.{NotesNumber, NumbersNames, has_number};
-ghost use Rattle.zeb_profile.specs.PrivateResolved.{any_pair, first_pairs, is_all, is_melm_for, line_value, resolved};
+ghost use Rattle.zeb_profile.specs.PrivateResolved.{any_pair, directives_on, first_pairs, is_all, is_melm_for, line_value, resolved};
 ghost use Rattle.zeb_profile.specs.Profiles.{directives_in};
 
 use crate::directives::{Directive, Placed, Target};
@@ -118,7 +119,6 @@ pub(crate) fn melm_pairs<'a>(
     &[]
 }
 
-/// The targets of the `all` line.
 pub(crate) fn all_pairs(lines: &[Line]) -> &[(u32, Register)]
     ensures { result.now ≡ first_pairs is_all lines.now }
 {
@@ -130,7 +130,18 @@ pub(crate) fn all_pairs(lines: &[Line]) -> &[(u32, Register)]
     &[]
 }
 
-/// Whether a line has this pair as a target.
+pub(crate) fn use_name(lines: &[Line], number: u32) -> Option<&Name>
+    ensures { option_copied result ≡ name_of_use number (directives_on lines.now) }
+{
+    for line in lines {
+        let name = line.directive.tied_to(number);
+        if name.is_some() {
+            return name;
+        }
+    }
+    None
+}
+
 pub(crate) fn has_pair(lines: &[Line], index: u32, register: Register) -> bool
     ensures { result ≡ any_pair (index, register) lines.now }
 {
@@ -139,7 +150,6 @@ pub(crate) fn has_pair(lines: &[Line], index: u32, register: Register) -> bool
         .any(|line| is_among(&line.pairs, index, register))
 }
 
-/// Whether this pair is among others.
 pub(crate) fn is_among(pairs: &[(u32, Register)], index: u32, register: Register) -> bool
     ensures { result ≡ list_any (same_pair (index, register)) pairs.now }
 {

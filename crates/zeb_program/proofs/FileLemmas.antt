@@ -3,7 +3,7 @@ use Rattle.std.proofs.Common.{◌≡◌, ◌≤◌, ◌∙◌, ℕ, List, arith,
 use Rattle.std.specs.Prelude.{Option, Err, IfSome, String, string_bytes, string_len}
 use Rattle.std.specs.declared.alloc.Global.{Global}
 use Rattle.std.proofs.lemmas.Str.{IsUtf8-string_bytes}
-use Rattle.zeb_program.specs.PrivateFiles.{IsProfileText, ReadsProfile}
+use Rattle.zeb_program.specs.ProfileFiles.{IsProfileText, ReadsProfile}
 use Rattle.zeb_program.specs.declared.faults.Fault.{Fault}
 use Rattle.zeb_program.specs.declared.faults.Fault.TheVariants as fault
 use Rattle.zeb_program.specs.declared.input.InputFault.{InputFault}

@@ -1,5 +1,6 @@
 pub mod AnswerLemmas
 pub mod BatchLemmas
+pub mod FailureLemmas
 pub mod FileLemmas
 pub mod LineInputLemmas
 pub mod LineLemmas
@@ -18,5 +19,6 @@ pub mod TaskLemmas
 pub mod WarningLemmas
 pub mod WholeLineLemmas
 pub mod WordAnswerLemmas
+pub mod WordRunLemmas
 pub mod WordLemmas
 pub mod ResultValues

@@ -1,6 +1,6 @@
 -- What is written for a command, a change by a path and a line is their answer on any tables.
 use Rattle.std.proofs.Common.{◌≡◌, ◌∙◌, ◌⊎◌, inl, inr, ℕ, Bool, false, List, [], ◌∷◌, ◌++◌, Vec, ap, length, map, refl, subst, sym}
-use Rattle.std.specs.Prelude.{Option, Some, Result, Ok, Err, IfOk, IsErrAnd, OnErr, String, string_bytes}
+use Rattle.std.specs.Prelude.{Option, Some, Result, Ok, Err, IfOk, OnErr, String, string_bytes}
 use Rattle.std.specs.declared.alloc.AllocError.{AllocError}
 use Rattle.std.specs.declared.alloc.Global.{Global}
 use Rattle.std.specs.Io.KnownBytes.{Appends}
@@ -11,7 +11,7 @@ use Rattle.zeb_profile.specs.declared.directives.Directive.{Directive}
 use Rattle.zeb_register.specs.Calls.{ChangesNothing}
 use Rattle.zeb_register.specs.Formats.{Format, version_of}
 use Rattle.zeb_change.specs.Conditions.{Conditions}
-use Rattle.zeb_change.specs.Reading.{NamesFailed, NoneFailed, NoReadFault}
+use Rattle.zeb_change.specs.Reading.{NoneFailed, NoReadFault}
 use Rattle.zeb_change.specs.declared.refusals.Refusal.{Refusal}
 use Rattle.zeb_change.specs.declared.refusals.Refusal.TheVariants.{Damaged, Memory as OutOfMemory}
 use Rattle.zeb_change.specs.declared.settings.Kind.{Kind}
@@ -39,14 +39,14 @@ use Rattle.zeb_program.specs.declared.lines.Line.{Line}
 use Rattle.zeb_program.specs.declared.path_changes.PathChange.{PathChange}
 use Rattle.zeb_program.specs.declared.tasks.Task.{Task}
 use Rattle.zeb_program.specs.declared.tasks.Task.TheVariants.{Ask, Change, Analyse}
-use Rattle.zeb_program.specs.Answers.{ChangesBy, IsReadFaultOf, Writes}
+use Rattle.zeb_program.specs.Answers.{ChangesBy, Writes}
 use Rattle.zeb_program.specs.FaultLines.{TellsFault}
-use Rattle.zeb_program.specs.PrivateFaults.{GivesAnswer, IsUnread}
+use Rattle.zeb_program.specs.PrivateFaults.{IsUnread}
+use Rattle.zeb_program.specs.FaultAnswers.{GivesAnswer}
 use Rattle.zeb_program.specs.PrivateFiles.{AreShort}
 use Rattle.zeb_program.specs.PrivateOverTables.{AnalysesOver, CommandOver, LineOver, PathOver, PathsLeave, PathsOver, SaysOver, ServesOver, TaskOver}
-use Rattle.zeb_program.specs.PrivateTaskAnswers.{AreTold}
+use Rattle.zeb_program.specs.TaskAnswers.{AreTold}
 use Rattle.zeb_program.specs.Says.{Says}
-use Rattle.zeb_program.proofs.PathLemmas.{as_many, named_fault, served_files}
 
 -- where nothing is done nothing changes
 pub still : (s : State) → ChangesNothing s s
@@ -91,22 +91,16 @@ damaged (Err refusal) is = cc is
 module _ (told : List ℕ → Option (List ℕ)) (format : Format) (profile : List Directive) (kind : Kind) (limits : Limits) (name : List ℕ) (paths : List (List ℕ)) (s : State) where
   -- the readers of the files were given to the register
   pub changed_over : {R : Type 0} (remaining : R → Option (List ℕ)) (has_failed : R → Bool) (before after : List R) (r : Result Reply Refusal)
-      → ((files : List (List ℕ)) → AreTold told paths files → map remaining before ≡ map Some files) → length after ≡ length before
+      → ((files : List (List ℕ)) → AreTold told paths files → (map remaining before ≡ map Some files) × NoneFailed has_failed after)
       → GoesByTexts (version_of format) profile s r
       → ((texts : List (List ℕ)) → map remaining before ≡ map Some texts → NoneFailed has_failed after → ChangesReady (version_of format) profile kind limits name texts s r)
-      → NoneFailed has_failed after ⊎ IsErrAnd r (NamesFailed has_failed after)
       → (r ≡ Err Damaged → (held : Holdings) → ¬ Keeps s held)
       → PathsOver told format profile kind limits name paths s (given r)
-  changed_over remaining has_failed before after r all same ready elder sound honest = record {
+  changed_over remaining has_failed before after r all ready elder honest = record {
     ready = inr (gives (GoesByTexts (version_of format) profile s) r ready);
-    changes = λ files known. gives (λ answer. ChangesReady (version_of format) profile kind limits name files s answer ⊎ IsReadFaultOf (length files) answer) r (which files (all files known) sound);
+    changes = λ files known. let tell = all files known in gives (ChangesReady (version_of format) profile kind limits name files s) r (elder files tell.0 tell.1);
     honest = λ is. honest (damaged r is);
   }
-    where
-      which : (files : List (List ℕ)) → map remaining before ≡ map Some files → NoneFailed has_failed after ⊎ IsErrAnd r (NamesFailed has_failed after)
-          → ChangesReady (version_of format) profile kind limits name files s r ⊎ IsReadFaultOf (length files) r
-      which files met (inl fine) = inl (elder files met fine)
-      which files met (inr failed) = inr (named_fault has_failed after (length files) r (as_many remaining files before after met same) failed)
 
   -- a path couldn't be read, or memory ran out in the program itself
   pub unread_over : (why : Fault) → IsUnread why → ((files : List (List ℕ)) → AreTold told paths files → why ≡ fault.Memory) → PathsOver told format profile kind limits name paths s (Err why)
@@ -119,19 +113,19 @@ module _ (told : List ℕ → Option (List ℕ)) (format : Format) (profile : Li
 module _ (told : List ℕ → Option (List ℕ)) (c : Conditions) (kind : Kind) (name : List ℕ) (paths : List (List ℕ)) (old new : State) where
   -- the readers of the files were given to the register
   pub changed_leaves : {R : Type 0} (remaining : R → Option (List ℕ)) (has_failed : R → Bool) (before after : List R) (r : Result Reply Refusal)
-      → ((files : List (List ℕ)) → AreTold told paths files → map remaining before ≡ map Some files) → length after ≡ length before
-      → NoneFailed has_failed after ⊎ IsErrAnd r (NamesFailed has_failed after)
+      → ((files : List (List ℕ)) → AreTold told paths files → (map remaining before ≡ map Some files) × NoneFailed has_failed after)
       → OnErr r (ChangesNothing old new)
       → ((texts : List (List ℕ)) → map remaining before ≡ map Some texts → NoneFailed has_failed after → ServesBy (TakesFiles c kind name texts) old new r)
       → LeavesWhole c.profile kind name old new r
       → ((texts : List (List ℕ)) → map remaining before ≡ map Some texts → LosesNamed c.profile name texts old new r)
       → PathsLeave told c kind name paths old new (given r)
-  changed_leaves remaining has_failed before after r all same sound nothing serves loses named = record {
+  changed_leaves remaining has_failed before after r all nothing serves loses named = record {
     refused = given_refused (ChangesNothing old new) r nothing;
     loses = inr (gives (LeavesWhole c.profile kind name old new) r loses);
-    serves = λ files known held keeps. gives (λ answer. (later : Holdings) × ChangesBy c kind name files held answer later × Keeps new later) r
-        (served_files remaining has_failed c kind name files old new before after r (all files known) same serves sound nothing held keeps);
-    named = λ files known. gives (LosesNamed c.profile name files old new) r (named files (all files known));
+    serves = λ files known held keeps.
+        let tell = all files known in
+        gives (λ answer. (later : Holdings) × ChangesBy c kind name files held answer later × Keeps new later) r (serves files tell.0 tell.1 held keeps);
+    named = λ files known. gives (LosesNamed c.profile name files old new) r (named files (all files known).0);
   }
 
   -- a path couldn't be read, or memory ran out in the program itself

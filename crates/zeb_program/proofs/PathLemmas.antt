@@ -1,29 +1,19 @@
 -- Changes by a path of which the file's bytes are told.
 use Rattle.std.proofs.Common.{◌≡◌, ◌∙◌, ◌⊎◌, ◌≤◌, inl, inr, ℕ, zero, suc, Bool, false, List, [], ◌∷◌, ◌++◌, length, map, ap, arith, refl, subst, sym}
-use Rattle.std.specs.Prelude.{Option, Some, Result, Ok, Err, IfOk, IsErrAnd, OnErr, string_bytes}
+use Rattle.std.specs.Prelude.{Option, Some, Result, Ok, Err, IfOk, string_bytes}
 use Rattle.std.specs.declared.alloc.AllocError.{AllocError}
 use Rattle.std.specs.Io.KnownBytes.{Appends}
 use Rattle.std.specs.Str.{IsUtf8}
-use Rattle.std.proofs.lemmas.List.{length-map}
 use Rattle.sqlite.specs.State.{State}
-use Rattle.zeb_register.specs.Calls.{ChangesNothing}
 use Rattle.zeb_change.specs.Conditions.{Conditions}
-use Rattle.zeb_change.specs.Reading.{HasFailedAt, NamesFailed, NoneFailed}
-use Rattle.zeb_change.specs.declared.refusals.Refusal.{Refusal}
-use Rattle.zeb_change.specs.declared.settings.Kind.{Kind}
-use Rattle.zeb_image.specs.Holdings.{Holdings}
-use Rattle.zeb_image.specs.Image.{Keeps}
 use Rattle.zeb_image.specs.NameOf.{name_bytes}
 use Rattle.zeb_engine.specs.Replies.{reply_text}
-use Rattle.zeb_engine.specs.Steps.{TakesFiles}
-use Rattle.zeb_engine.specs.Works.{ServesBy}
 use Rattle.zeb_engine.specs.declared.replies.Reply.{Reply}
-use Rattle.zeb_engine.proofs.ServesLemmas.{keeps_still}
 use Rattle.zeb_program.specs.declared.faults.Fault.{Fault}
 use Rattle.zeb_program.specs.declared.faults.Fault.TheVariants as fault
 use Rattle.zeb_program.specs.declared.lines.Line.TheVariants.{Path}
 use Rattle.zeb_program.specs.declared.path_changes.PathChange.{PathChange}
-use Rattle.zeb_program.specs.Answers.{AnswersLine, ChangesBy, IsFileAnswer, IsReadFaultOf, Writes}
+use Rattle.zeb_program.specs.Answers.{AnswersLine, ChangesBy, IsFileAnswer, Writes}
 use Rattle.zeb_program.specs.FaultLines.{TellsFault}
 use Rattle.zeb_program.specs.Lines.{first_line, after_first_line}
 use Rattle.zeb_program.specs.PathChanges.{AreFilesTold, IsLineTold, HasPath, NamesPath}
@@ -43,36 +33,6 @@ told_first told text all = all 0
 
 pub told_rest : (told : List ℕ → Option (List ℕ)) (text : List ℕ) → AreFilesTold told text → AreFilesTold told (after_first_line text)
 told_rest told text all n = subst (λ rest. IsLineTold told (first_line rest)) (after_first n text) (all (suc n))
-
--- ---- the change
-
--- the reader that failed is one of these
-failed_among : {R : Type 0} (has_failed : R → Bool) (readers : List R) (file count : ℕ) → length readers ≡ count → HasFailedAt has_failed readers file → (1 ≤ file) × (file ≤ count)
-failed_among has_failed readers file count many at = (omega (arith, at.numbered), omega (arith, many, at.within, at.numbered))
-
--- a refusal for a reader that failed is the read fault of one of so many files
-pub named_fault : {R : Type 0} (has_failed : R → Bool) (readers : List R) (count : ℕ) (r : Result Reply Refusal) → length readers ≡ count → IsErrAnd r (NamesFailed has_failed readers) → IsReadFaultOf count r
-named_fault has_failed readers count (Ok reply) many failed = absurd failed
-named_fault has_failed readers count (Err refusal) many failed =
-    let among = failed_among has_failed readers failed.0 count many failed.1 in
-    (failed.0, among.0, among.1, ap Err failed.3)
-
--- there are as many readers as files
-pub as_many : {R : Type 0} (remaining : R → Option (List ℕ)) (files : List (List ℕ)) (before after : List R) → map remaining before ≡ map Some files → length after ≡ length before → length after ≡ length files
-as_many remaining files before after all same = same ∙ sym (length-map before remaining) ∙ ap length all ∙ length-map files Some
-
--- what is answered where the readers told the files' bytes
-pub served_files : {R : Type 0} (remaining : R → Option (List ℕ)) (has_failed : R → Bool) (c : Conditions) (kind : Kind) (name : List ℕ) (files : List (List ℕ)) (old new : State) (before after : List R) (r : Result Reply Refusal)
-    → map remaining before ≡ map Some files → length after ≡ length before
-    → ((texts : List (List ℕ)) → map remaining before ≡ map Some texts → NoneFailed has_failed after → ServesBy (TakesFiles c kind name texts) old new r)
-    → NoneFailed has_failed after ⊎ IsErrAnd r (NamesFailed has_failed after) → OnErr r (ChangesNothing old new)
-    → (held : Holdings) → Keeps old held → (later : Holdings) × ChangesBy c kind name files held r later × Keeps new later
-served_files remaining has_failed c kind name files old new before after r all same serves (inl fine) nothing held keeps =
-    let served = serves files all fine held keeps in
-    (served.0, inl served.1, served.2)
-served_files remaining has_failed c kind name files old new before after (Ok reply) all same serves (inr failed) nothing held keeps = absurd failed
-served_files remaining has_failed c kind name files old new before after (Err refusal) all same serves (inr failed) nothing held keeps =
-    (held, inr (named_fault has_failed after (length files) (Err refusal) (as_many remaining files before after all same) failed, refl), keeps_still held old new nothing keeps)
 
 -- ---- what is written
 

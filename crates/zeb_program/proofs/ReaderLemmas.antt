@@ -1,11 +1,18 @@
 -- How far the files at some paths have come, of which readers or contents are made.
-use Rattle.std.proofs.Common.{◌≡◌, ◌≤◌, ◌∙◌, ℕ, List, [], ◌∷◌, ◌++◌, Vec, ap, append_assoc, arith, length, map, refl, subst, sym}
-use Rattle.std.specs.Prelude.{Option, Some, None, Result, Ok, Err, String, string_bytes, vec_len}
+use Rattle.std.proofs.Common.{◌≡◌, ◌≤◌, ◌∙◌, inl, inr, Bool, true, false, ℕ, List, [], ◌∷◌, ◌++◌, Vec, ap, append_assoc, arith, length, map, refl, subst, sym}
+use Rattle.std.specs.Prelude.{◌⊎◌, ◌||◌, Contains, IfErr, Option, Some, None, Result, Ok, Err, String, if◌then◌else◌, string_bytes, vec_len}
 use Rattle.std.specs.declared.alloc.Global.{Global}
 use Rattle.std.proofs.lemmas.List.{append-nil, map-append}
-use Rattle.zeb_program.specs.PrivateFiles.{AreShort}
-use Rattle.zeb_paths.specs.Walks.{GivesFile}
+use Rattle.std.proofs.lemmas.List.Elements.{Contains-append_right}
+use Rattle.zeb_change.specs.Reading.{NoneFailed, StayAble}
+use Rattle.zeb_program.specs.PrivateFiles.{AreShort, sure_bytes}
+use Rattle.zeb_paths.specs.Walks.{AreUnder, GivesFile, IsFaultUnder, IsUnder}
 use Rattle.zeb_paths.specs.declared.walk.WalkFault.{WalkFault}
+use Rattle.zeb_paths.specs.declared.walk.WalkFault.TheVariants as walk
+use Rattle.zeb_program.specs.declared.faults.Fault.{Fault}
+use Rattle.zeb_program.specs.declared.faults.Fault.TheVariants as reason
+use Rattle.zeb_program.specs.FaultAnswers.{NamesUnder}
+use Rattle.zeb_program.specs.PrivateFaults.{IsUnread, fault_of}
 
 -- what has been made has the bytes of the first of these files, and the paths that are left lead to the others
 abbrev pub IsMet : {R : Type 0} → (R → Option (List ℕ)) → (List ℕ → Option (List ℕ)) → List (List ℕ) → List R → List (List ℕ) → Type 0
@@ -60,6 +67,35 @@ met_next bytes tells files made more (path ∷ rest) later given one met next en
     ap (λ front. front ++ map tells later) all ∙ append_assoc (map bytes made) (bytes one ∷ []) (map tells later)
     ∙ ap (λ next. map bytes made ++ next ∷ map tells later) has ∙ ap (λ rest. map bytes made ++ tells path ∷ map tells rest) gives.1 ∙ met
 
+-- ---- readers that can't fail
+
+module _ {R : Type 0} (remaining : R → Option (List ℕ)) (may_fail has_failed : R → Bool) where
+  pub sure_of : (reader : R) (file : List ℕ) → remaining reader ≡ Some file → may_fail reader ≡ false → has_failed reader ≡ false
+      → sure_bytes remaining may_fail has_failed reader ≡ Some file
+  sure_of reader file is able sound = rw (able, sound) is
+
+  one_sure : (may failed : Bool) (told : Option (List ℕ)) (file : List ℕ) → (if may || failed then None else told) ≡ Some file → (may ≡ false) × (failed ≡ false) × (told ≡ Some file)
+  one_sure true failed told file e = absurd cc
+  one_sure false true told file e = absurd cc
+  one_sure false false told file e = (refl, refl, e)
+
+  -- they tell these files, and none has failed at the end
+  pub sure_files : (before after : List R) (files : List (List ℕ)) → map (sure_bytes remaining may_fail has_failed) before ≡ map Some files → StayAble may_fail has_failed before after
+      → (map remaining before ≡ map Some files) × NoneFailed has_failed after
+  sure_files [] [] [] e able = (refl, tt)
+  sure_files [] [] (file ∷ files) e able = absurd cc
+  sure_files [] (y ∷ ys) files e able = absurd able
+  sure_files (x ∷ xs) [] files e able = absurd able
+  sure_files (x ∷ xs) (y ∷ ys) [] e able = absurd cc
+  sure_files (x ∷ xs) (y ∷ ys) (file ∷ files) e able =
+      let first : sure_bytes remaining may_fail has_failed x ≡ Some file = cc in
+      let rest : map (sure_bytes remaining may_fail has_failed) xs ≡ map Some files = cc in
+      let is = one_sure (may_fail x) (has_failed x) (remaining x) file first in
+      let told : remaining x ≡ Some file = is.2 in
+      let more = sure_files xs ys files rest able.1 in
+      let behind : map remaining xs ≡ map Some files = more.0 in
+      (cc, ((able.0 is.0).1 ∙ is.1, more.1))
+
 -- contents that have the bytes of files are these
 pub same_contents : (contents : List (Vec ℕ Global)) (files : List (List ℕ)) → map (λ content. Some content.items) contents ≡ map Some files → map (λ content. content.items) contents ≡ files
 same_contents [] [] e = refl
@@ -84,3 +120,32 @@ short_behind (first ∷ contents) one all short = (all.0, short_behind contents 
 pub more_short : (contents more : List (Vec ℕ Global)) (one : Vec ℕ Global) → AreShort (map (λ content. content.items) contents) → vec_len one ≤ 16777216 → more ≡ contents ++ one ∷ []
     → AreShort (map (λ content. content.items) more)
 more_short contents more one all short grew = subst (λ all. AreShort (map (λ content. content.items) all)) (sym grew) (short_behind contents one all (omega (arith, short, one.ok.0)))
+
+-- ---- paths that can't be read
+
+all_in : (front rest : List (List ℕ)) → AreUnder (front ++ rest) rest
+all_in front [] = tt
+all_in front (path ∷ rest) =
+    let here : Contains (front ++ path ∷ rest) path = Contains-append_right front (path ∷ rest) path (0, omega arith, refl) in
+    ((path, [], here, sym (append-nil path)), subst (λ named. AreUnder named rest) (append_assoc front (path ∷ []) rest) (all_in (front ++ path ∷ []) rest))
+
+-- the paths of a walk that begins
+pub under_start : (named left : List (List ℕ)) → left ≡ named → AreUnder named left
+under_start named left e = subst (AreUnder named) (sym e) (all_in [] named)
+
+-- a walk that can't go on
+pub under_fault : (named : List (List ℕ)) (why : WalkFault) (given : Fault) → given ≡ fault_of why → IsFaultUnder named why → NamesUnder named given
+under_fault named (walk.Unreadable path) given is under = subst (NamesUnder named) (sym is) under
+under_fault named walk.Memory given is under = subst (NamesUnder named) (sym is) tt
+
+-- a file that can't be read
+pub under_file : (named : List (List ℕ)) (path : String Global) (given : Fault) → (given ≡ reason.Unreadable path) ⊎ (given ≡ reason.Memory) → IsUnder named (string_bytes path) → NamesUnder named given
+under_file named path given (inl is) under = subst (NamesUnder named) (sym is) under
+under_file named path given (inr is) under = subst (NamesUnder named) (sym is) tt
+
+pub under_faults : {X : Type 0} (named : List (List ℕ)) (why : WalkFault) (r : Result X Fault) → IfErr r (λ given. IsUnread given × (given ≡ fault_of why)) → IsFaultUnder named why → IfErr r (NamesUnder named)
+under_faults named why (Ok x) is under = tt
+under_faults named why (Err given) is under = under_fault named why given is.1 under
+
+pub under_files : {X : Type 0} (named : List (List ℕ)) (path : String Global) (r : Result X Fault) (why : Fault) → r ≡ Err why → (why ≡ reason.Unreadable path) ⊎ (why ≡ reason.Memory) → IsUnder named (string_bytes path) → IfErr r (NamesUnder named)
+under_files named path r why same is under = subst (λ it. IfErr it (NamesUnder named)) (sym same) (under_file named path why is under)

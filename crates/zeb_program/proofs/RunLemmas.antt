@@ -1,9 +1,8 @@
 -- A batch is one run.
 use Rattle.std.proofs.Common.{◌≡◌, ◌∙◌, ◌<◌, ◌≤◌, ◌+◌, ◌^◌, inl, inr, ℕ, List, [], ◌∷◌, ◌++◌, length, map, ap, arith, refl, subst, sym, Vec}
-use Rattle.std.specs.Prelude.{Option, Result, Err, max, string_bytes}
+use Rattle.std.specs.Prelude.{Option, Result, max, string_bytes}
 use Rattle.zeb_change.specs.Conditions.{Conditions}
 use Rattle.zeb_change.specs.declared.refusals.Refusal.{Refusal}
-use Rattle.zeb_change.specs.declared.refusals.Refusal.TheVariants.{ReadFault}
 use Rattle.zeb_engine.specs.Answers.{Answer, answer_of}
 use Rattle.zeb_engine.specs.Steps.{TellsOrFails, Run, Step, TakesFiles}
 use Rattle.zeb_engine.specs.declared.commands.Command.{Command}
@@ -12,7 +11,7 @@ use Rattle.zeb_engine.specs.declared.replies.Reply.{Reply}
 use Rattle.zeb_image.specs.Holdings.{Holdings}
 use Rattle.zeb_image.specs.NameOf.{name_bytes}
 use Rattle.zeb_program.specs.Answers.{AnswersLine, AnswersLines, ChangesBy, IsAnswerTo, answer_status, answer_text, mark_line, none as no_lines, more}
-use Rattle.zeb_program.specs.BatchRuns.{AreFilesShort, BatchIsOneRun, IsOneRun, TellsLines, MakesChange, NamesCommand, NamesFile, none, remark, mark, bad, command, unread}
+use Rattle.zeb_program.specs.BatchRuns.{AreFilesShort, BatchIsOneRun, IsOneRun, TellsLines, MakesChange, NamesCommand, NamesFile, none, remark, mark, bad, command}
 use Rattle.zeb_program.specs.Lines.{first_line, after_first_line}
 use Rattle.zeb_program.specs.Says.{Says}
 use Rattle.zeb_program.specs.declared.lines.Line.{Line}
@@ -66,14 +65,9 @@ module _ (told : List ℕ → Option (List ℕ)) (c : Conditions) (short : AreFi
       → 0 < length text → NamesFile told (first_line text) change file → here ≡ answer_text answer → status ≡ answer_status answer
       → ChangesBy c change.kind (name_bytes change.database) (file ∷ []) before answer next → IsOneRun told c (n + 1) (after_first_line text) next there greatest last
       → IsOneRun told c n text before (here ++ there) (max status greatest) last
-  run_file n text change file answer before next last here there status greatest some names is has (inl step) rest =
+  run_file n text change file answer before next last here there status greatest some names is has step rest =
       let order = change_by change file (short (string_bytes change.path) file names.1) in
       run_command n text order answer before next last here there status greatest some (inr (change, file, names, (refl, refl, refl))) is has step rest
-  run_file n text change file answer before next last here there status greatest some names is has (inr fault) rest =
-      let first : fault.0.0 ≡ 1 = omega (arith, fault.0.1, fault.0.2) in
-      let why : answer ≡ Err (ReadFault 1) = fault.0.3 ∙ ap (λ n. Err (ReadFault n)) first in
-      run_passed n text before next last (here ++ there) there (max status greatest) greatest
-      (λ commands answers w. rw (is, has, why) (unread change file some names w)) fault.1 rest
 
   run_line : (n : ℕ) (text : List ℕ) (line : Line) (before next last : Holdings) (here there : List ℕ) (status greatest : ℕ) → 0 < length text → Says (first_line text) line
       → IsAnswerTo told c (n + 1) line before here status next → IsOneRun told c (n + 1) (after_first_line text) next there greatest last
@@ -111,7 +105,7 @@ module _ (told : List ℕ → Option (List ℕ)) (c : Conditions) where
       → TellsOrFails (Step c order) before (answer_of answer) next → AnswersLine told c number line before (answer_text answer) (answer_status answer) next
   answers_command number line order answer before next (inl says) step = (Order order, says, (answer, refl, refl, (next, step, refl)))
   answers_command number line order answer before next (inr (change, file, names, makes)) step =
-      (Path change, names.0, (file, names.1, (answer, refl, refl, inl (takes_change c change file order makes before (answer_of answer) next step))))
+      (Path change, names.0, (file, names.1, (answer, refl, refl, takes_change c change file order makes before (answer_of answer) next step)))
 
   answers_lines : (n : ℕ) (text : List ℕ) (commands : List Command) (answers : List (Result Reply Refusal)) (before : Holdings) (bytes : List ℕ) (status : ℕ) (last : Holdings)
       → TellsLines told n text commands answers bytes status → Run c before commands (map answer_of answers) last → AnswersLines told c n text before bytes status [] last
@@ -127,10 +121,6 @@ module _ (told : List ℕ → Option (List ℕ)) (c : Conditions) where
   answers_lines n text commands answers before bytes status last (command {commands = orders} {answers = others} {bytes = there} {status = greatest} order answer some names w) run =
       more some (answers_command (n + 1) (first_line text) order answer before run.0 names run.1)
       (answers_lines (n + 1) (after_first_line text) orders others run.0 there greatest last w run.2)
-  answers_lines n text commands answers before bytes status last (unread {bytes = there} {status = greatest} change file some names w) run =
-      let one : (1 ≤ 1) × (1 ≤ length (file ∷ [])) = (omega arith, omega arith) in
-      more some (Path change, names.0, (file, names.1, (Err (ReadFault 1), refl, refl, inr ((1, one.0, one.1, refl), refl))))
-      (answers_lines (n + 1) (after_first_line text) commands answers before there greatest last w run)
 
 pub batch_is_one_run : BatchIsOneRun
 batch_is_one_run told c n text before bytes status last short = (

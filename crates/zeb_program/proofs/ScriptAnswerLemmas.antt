@@ -18,7 +18,7 @@ use Rattle.zeb_profile.specs.declared.faults.ProfileFault.{ProfileFault}
 use Rattle.zeb_profile.specs.Outcomes.{FailsPlaced}
 use Rattle.zeb_profile.specs.Profiles.{profile_of}
 use Rattle.zeb_program.specs.declared.script.Batch.{Batch}
-use Rattle.zeb_program.specs.PrivateFaults.{IsOpeningFailure}
+use Rattle.zeb_program.specs.FaultAnswers.{IsOpeningFailure}
 use Rattle.zeb_program.specs.Inputs.{IsInput}
 use Rattle.zeb_program.specs.PathChanges.{AreFilesTold}
 use Rattle.zeb_program.specs.Scripts.{DividesAt, HasNoDivider}

@@ -8,7 +8,7 @@ use Rattle.std.proofs.KnownBytes.{Appends-kept, Keeps-refl}
 use Rattle.sqlite.specs.State.{State}
 use Rattle.zeb_change.specs.Conditions.{Conditions}
 use Rattle.zeb_program.specs.Answers.{AnswersBatch, AnswersLine, bad_line}
-use Rattle.zeb_program.specs.PrivateAnswers.{AnswersFirst}
+use Rattle.zeb_program.specs.FirstAnswers.{AnswersFirst}
 use Rattle.zeb_program.specs.Inputs.{TakesAtMost}
 use Rattle.zeb_program.specs.Lines.{first_line, after_first_line}
 use Rattle.zeb_program.specs.PrivateLines.{whole_first_line}

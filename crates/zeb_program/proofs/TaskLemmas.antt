@@ -1,6 +1,6 @@
 -- What a task is answered.
 use Rattle.std.proofs.Common.{◌≡◌, ◌⊎◌, inl, inr, ℕ, List, map, refl, subst, sym, Vec}
-use Rattle.std.specs.Prelude.{Option, Result, Ok, Err, String, string_bytes}
+use Rattle.std.specs.Prelude.{IfErr, Option, Result, Ok, Err, String, string_bytes}
 use Rattle.std.specs.declared.alloc.Global.{Global}
 use Rattle.sqlite.specs.State.{State}
 use Rattle.zeb_change.specs.Conditions.{Conditions}
@@ -17,11 +17,13 @@ use Rattle.zeb_image.specs.Holdings.{Holdings}
 use Rattle.zeb_image.specs.NameOf.{name_bytes}
 use Rattle.zeb_image.specs.declared.names.DbName.{DbName}
 use Rattle.zeb_program.specs.Answers.{ChangesBy}
-use Rattle.zeb_program.specs.PrivateFaults.{IsUnread, IsUnreadable}
-use Rattle.zeb_program.specs.PrivateServing.{AnswersFrom, ServesTask}
-use Rattle.zeb_program.specs.PrivateTaskAnswers.{AnalysesFiles, AnswersCommand, AreTold}
+use Rattle.zeb_program.specs.PrivateFaults.{IsUnread}
+use Rattle.zeb_program.specs.FaultAnswers.{IsUnreadable, NamesUnder}
+use Rattle.zeb_program.specs.PrivateServing.{AnswersFrom, ServesTask, replied}
+use Rattle.zeb_program.specs.TaskAnswers.{AnalysesFiles, AnswersCommand, AreTold, paths_of}
 use Rattle.zeb_program.specs.declared.faults.Fault.{Fault}
 use Rattle.zeb_program.specs.declared.faults.Fault.TheVariants as fault
+use Rattle.zeb_program.specs.declared.tasks.Served.{Served}
 use Rattle.zeb_program.specs.declared.tasks.Task.{Task}
 use Rattle.zeb_program.specs.declared.tasks.Task.TheVariants.{Ask, Change, Analyse}
 
@@ -78,3 +80,30 @@ module _ (told : List ℕ → Option (List ℕ)) (c : Conditions) (task : Task) 
       given : (files : List (List ℕ)) → AnswersFrom old new r (AnalysesFiles c files) ⊎ IsUnreadable r → AnswersFrom old new r (AnalysesFiles c files) ⊎ (Unit {0} × IsUnreadable r)
       given files (inl h) = inl h
       given files (inr h) = inr (tt, h)
+
+-- ---- the path that can't be read
+
+-- a fault that isn't that names none
+under_read : (named : List (List ℕ)) (why : Fault) → ¬ IsUnread why → NamesUnder named why
+under_read named (fault.Unreadable path) not = absurd (not tt)
+under_read named (fault.Profile file why) not = tt
+under_read named (fault.Refused why) not = tt
+under_read named fault.Memory not = tt
+
+pub read_under : (named : List (List ℕ)) (r : Result Reply Fault) → IfErr r (λ why. ¬ IsUnread why) → IfErr r (NamesUnder named)
+read_under named (Ok reply) h = tt
+read_under named (Err why) h = under_read named why h
+
+-- so it is of what is served with that reply
+pub served_under : (named : List (List ℕ)) (r : Result Served Fault) (own : Result Reply Fault) → replied r ≡ own → IfErr own (NamesUnder named) → IfErr r (NamesUnder named)
+served_under named (Ok served) own same h = tt
+served_under named (Err why) own same h = subst (λ it. IfErr it (NamesUnder named)) (sym same) h
+
+-- the paths that a task names
+pub change_under : (task : Task) (kind : Kind) (database : DbName) (paths : Vec (String Global) Global) (named : List (String Global)) (r : Result Reply Fault) → task ≡ Change kind database paths → named ≡ paths.items
+    → IfErr r (NamesUnder (map string_bytes named)) → IfErr r (NamesUnder (paths_of task))
+change_under task kind database paths named r is same h = subst (λ t. IfErr r (NamesUnder (paths_of t))) (sym is) (subst (λ items. IfErr r (NamesUnder (map string_bytes items))) same h)
+
+pub analysis_under : (task : Task) (paths : Vec (String Global) Global) (named : List (String Global)) (r : Result Served Fault) → task ≡ Analyse paths → named ≡ paths.items
+    → IfErr r (NamesUnder (map string_bytes named)) → IfErr r (NamesUnder (paths_of task))
+analysis_under task paths named r is same h = subst (λ t. IfErr r (NamesUnder (paths_of t))) (sym is) (subst (λ items. IfErr r (NamesUnder (map string_bytes items))) same h)

@@ -11,12 +11,17 @@ use Rattle.zeb_change.specs.declared.refusals.Refusal.TheVariants.{NotInitialise
 use Rattle.zeb_engine.specs.Refusals.{status_of}
 use Rattle.zeb_words.specs.declared.words.Usage.{Usage}
 use Rattle.zeb_words.specs.declared.words.Usage.TheVariants as usage
-use Rattle.zeb_program.specs.declared.faults.Fault.{Fault}
 use Rattle.zeb_program.specs.declared.tasks.Task.{Task}
 use Rattle.zeb_program.specs.Answers.{Writes}
-use Rattle.zeb_program.specs.FaultLines.{TellsFault}
 use Rattle.zeb_program.specs.PrivateWarnings.{MayWarn}
-use Rattle.zeb_program.specs.WordAnswers.{AnswersWords, misused, batched, served, named, EndsWords, IsFaultStatus, NamesBatch, NamesLines, NamesShell, NamesTask, StopsWords, TellsApart, TellsUsage, WarnsAtMost}
+use Rattle.zeb_words.specs.Names.{NamesWords}
+use Rattle.zeb_words.specs.declared.words.Act.TheVariants.{Batch, Shell}
+use Rattle.zeb_words.specs.declared.words.Words.{Words}
+use Rattle.zeb_program.specs.Errands.{IsTaskOf}
+use Rattle.zeb_program.specs.Registers.{Places}
+use Rattle.zeb_program.specs.WordAnswers.{AnswersWords, misused, batched, served, named, EndsWords, IsFaultStatus, NamesLines, NamesTask, StopsWords, TellsApart, TellsUsage, WarnsAtMost}
+use Rattle.zeb_program.specs.WordRuns.{RunsBatch, RunsShell}
+use Rattle.zeb_program.proofs.WordRunLemmas.{RunsBatch-kept, RunsShell-kept, TellsApart-kept}
 
 -- a refusal's status is that of a fault
 pub refusal_status : (refusal : Refusal) → IsFaultStatus (status_of refusal)
@@ -47,52 +52,41 @@ TellsUsage-kept (usage.Help text) old mid new fault_old fault_mid fault_new stat
 TellsUsage-kept usage.Memory old mid new fault_old fault_mid fault_new status kept fault_kept t =
     (t.0, Keeps-trans old mid new t.1 kept, Keeps-trans fault_old fault_mid fault_new t.2 fault_kept)
 
-WarnsAtMost-kept : (task : Task) (fault_old fault_mid fault_new : Option (List ℕ)) → Keeps fault_mid fault_new → WarnsAtMost task fault_old fault_mid → WarnsAtMost task fault_old fault_new
-WarnsAtMost-kept task fault_old fault_mid fault_new kept (inl same) = inl (Keeps-trans fault_old fault_mid fault_new same kept)
-WarnsAtMost-kept task fault_old fault_mid fault_new kept (inr warns) =
-    let wrote = warns.1 in
-    inr (warns.0, (wrote.0, wrote.1, Appends-kept fault_old fault_mid fault_new wrote.0 wrote.2 kept))
-
-TellsApart-kept : (task : Task) (old mid new fault_old fault_mid fault_new : Option (List ℕ)) (status : ℕ) → Keeps mid new → Keeps fault_mid fault_new
-    → TellsApart task old mid fault_old fault_mid status → TellsApart task old new fault_old fault_new status
-TellsApart-kept task old mid new fault_old fault_mid fault_new status kept fault_kept (inl t) = inl (t.0, WarnsAtMost-kept task fault_old fault_mid fault_new fault_kept t.1)
-TellsApart-kept task old mid new fault_old fault_mid fault_new status kept fault_kept (inr t) =
-    let wrote = t.2 in
-    inr (t.0, Keeps-trans old mid new t.1 kept, (wrote.0, wrote.1, Appends-kept fault_old fault_mid fault_new wrote.0 wrote.2 fault_kept))
-
-AnswersWords-kept : (words : List (List ℕ)) (left old mid new fault_old fault_mid fault_new : Option (List ℕ)) (status : ℕ) → Keeps mid new → Keeps fault_mid fault_new
-    → AnswersWords words left old mid fault_old fault_mid status → AnswersWords words left old new fault_old fault_new status
-AnswersWords-kept words left old mid new fault_old fault_mid fault_new status kept fault_kept (misused why none is tells) =
+AnswersWords-kept : {S : Type 0} (at : Places S) (words : List (List ℕ)) (given left : Option (List ℕ)) (unread : Bool) (old mid new fault_old fault_mid fault_new : Option (List ℕ)) (status : ℕ) → Keeps mid new → Keeps fault_mid fault_new
+    → AnswersWords at words given left unread old mid fault_old fault_mid status → AnswersWords at words given left unread old new fault_old fault_new status
+AnswersWords-kept at words given left unread old mid new fault_old fault_mid fault_new status kept fault_kept (misused why none is tells) =
     misused why none is (TellsUsage-kept why old mid new fault_old fault_mid fault_new status kept fault_kept tells)
-AnswersWords-kept words left old mid new fault_old fault_mid fault_new status kept fault_kept (batched names) = batched names
-AnswersWords-kept words left old mid new fault_old fault_mid fault_new status kept fault_kept (served names end) = served names (λ less. passed (end less))
+AnswersWords-kept at words given left unread old mid new fault_old fault_mid fault_new status kept fault_kept (batched all names is runs) =
+    batched all names is (RunsBatch-kept at all.config given unread old mid new fault_old fault_mid fault_new status kept fault_kept runs)
+AnswersWords-kept at words given left unread old mid new fault_old fault_mid fault_new status kept fault_kept (served all names is end runs) =
+    served all names is (λ less. passed (end less)) (RunsShell-kept at all.config given left old mid new fault_old fault_mid fault_new status kept fault_kept runs)
   where
     passed : IsAtEnd left ⊎ Keeps old mid → IsAtEnd left ⊎ Keeps old new
-    passed (inl at) = inl at
+    passed (inl there) = inl there
     passed (inr same) = inr (Keeps-trans old mid new same kept)
-AnswersWords-kept words left old mid new fault_old fault_mid fault_new status kept fault_kept (named task names tells) =
-    named task names (TellsApart-kept task old mid new fault_old fault_mid fault_new status kept fault_kept tells)
+AnswersWords-kept at words given left unread old mid new fault_old fault_mid fault_new status kept fault_kept (named all task names is tells) =
+    named all task names is (TellsApart-kept at all.config task old mid new fault_old fault_mid fault_new status kept fault_kept tells)
 
-pub kept_words : (words : List (List ℕ)) (left old mid new fault_old fault_mid fault_new : Option (List ℕ)) (status : ℕ) → Keeps mid new → Keeps fault_mid fault_new
-    → EndsWords words left old mid fault_old fault_mid status → EndsWords words left old new fault_old fault_new status
-kept_words words left old mid new fault_old fault_mid fault_new status kept fault_kept (inl answers) =
-    inl (AnswersWords-kept words left old mid new fault_old fault_mid fault_new status kept fault_kept answers)
-kept_words words left old mid new fault_old fault_mid fault_new status kept fault_kept (inr (inl names, is)) = inr (inl names, is)
-kept_words words left old mid new fault_old fault_mid fault_new status kept fault_kept (inr (inr t, is)) =
+pub kept_words : {S : Type 0} (at : Places S) (words : List (List ℕ)) (given left : Option (List ℕ)) (unread : Bool) (old mid new fault_old fault_mid fault_new : Option (List ℕ)) (status : ℕ) → Keeps mid new → Keeps fault_mid fault_new
+    → EndsWords at words given left unread old mid fault_old fault_mid status → EndsWords at words given left unread old new fault_old fault_new status
+kept_words at words given left unread old mid new fault_old fault_mid fault_new status kept fault_kept (inl answers) =
+    inl (AnswersWords-kept at words given left unread old mid new fault_old fault_mid fault_new status kept fault_kept answers)
+kept_words at words given left unread old mid new fault_old fault_mid fault_new status kept fault_kept (inr (inl names, is)) = inr (inl names, is)
+kept_words at words given left unread old mid new fault_old fault_mid fault_new status kept fault_kept (inr (inr t, is)) =
     inr (inr (t.0, t.1, Keeps-trans old mid new t.2 kept, Keeps-trans fault_old fault_mid fault_new t.3 fault_kept), is)
 
 -- both ways in which words end
-pub ended_words : (words : List (List ℕ)) (left old new fault_old fault_new : Option (List ℕ)) (failed fault_failed : Bool) (r : Result ℕ AllocError)
-    → IfOk r (λ status. failed ≡ false → fault_failed ≡ false → AnswersWords words left old new fault_old fault_new status)
-    → IfOk r (λ status. failed ≡ false → fault_failed ≡ false → EndsWords words left old new fault_old fault_new status)
-ended_words words left old new fault_old fault_new failed fault_failed (Err e) h = h
-ended_words words left old new fault_old fault_new failed fault_failed (Ok status) h = λ sound quiet. inl (h sound quiet)
+pub ended_words : {S : Type 0} (at : Places S) (words : List (List ℕ)) (given left : Option (List ℕ)) (unread : Bool) (old new fault_old fault_new : Option (List ℕ)) (failed fault_failed : Bool) (r : Result ℕ AllocError)
+    → IfOk r (λ status. failed ≡ false → fault_failed ≡ false → AnswersWords at words given left unread old new fault_old fault_new status)
+    → IfOk r (λ status. failed ≡ false → fault_failed ≡ false → EndsWords at words given left unread old new fault_old fault_new status)
+ended_words at words given left unread old new fault_old fault_new failed fault_failed (Err e) h = h
+ended_words at words given left unread old new fault_old fault_new failed fault_failed (Ok status) h = λ sound quiet. inl (h sound quiet)
 
-pub early_words : (words : List (List ℕ)) (left old new fault_old fault_new : Option (List ℕ)) (failed fault_failed : Bool) (r : Result ℕ AllocError)
+pub early_words : {S : Type 0} (at : Places S) (words : List (List ℕ)) (given left : Option (List ℕ)) (unread : Bool) (old new fault_old fault_new : Option (List ℕ)) (failed fault_failed : Bool) (r : Result ℕ AllocError)
     → OnErr r (failed ≡ false → fault_failed ≡ false → StopsWords words old new fault_old fault_new)
-    → OnErr r (failed ≡ false → fault_failed ≡ false → EndsWords words left old new fault_old fault_new 3)
-early_words words left old new fault_old fault_new failed fault_failed (Ok status) h = h
-early_words words left old new fault_old fault_new failed fault_failed (Err e) h = λ sound quiet. inr (h sound quiet, refl)
+    → OnErr r (failed ≡ false → fault_failed ≡ false → EndsWords at words given left unread old new fault_old fault_new 3)
+early_words at words given left unread old new fault_old fault_new failed fault_failed (Ok status) h = h
+early_words at words given left unread old new fault_old fault_new failed fault_failed (Err e) h = λ sound quiet. inr (h sound quiet, refl)
 
 -- a warning's line
 pub warned_once : (task : Task) (warning : Option (String Global)) (line : String Global) (bytes : List ℕ) (fault_old fault_new : Option (List ℕ)) → warning ≡ Some line
@@ -105,25 +99,18 @@ warned_once task warning line bytes fault_old fault_new is may same wrote =
 same_kept : {S : Type 0} (contents : S → Option (List ℕ)) (old new : S) → new ≡ old → Keeps (contents old) (contents new)
 same_kept contents old new same = subst (λ s. Keeps (contents old) (contents s)) (sym same) (Keeps-refl (contents old))
 
--- a task that has no answer: why goes to the fault output alone, or memory ran out and nothing is written
-pub told_apart : (task : Task) (old fault_old fault_new : Option (List ℕ)) (why : Fault) (failed : Bool) (r : Result ℕ AllocError) → IfOk r IsFaultStatus
-    → IfOk r (λ status. failed ≡ false → Writes fault_old fault_new (λ line. TellsFault why line status))
-    → IfOk r (λ status. failed ≡ false → TellsApart task old old fault_old fault_new status)
-told_apart task old fault_old fault_new why failed (Err e) is tells = tt
-told_apart task old fault_old fault_new why failed (Ok status) is tells = λ sound.
-    let wrote = tells sound in
-    inr (is, Keeps-refl old, (wrote.0, (why, wrote.1), wrote.2))
-
+-- memory ran out and nothing is written
 pub untouched : (r : Result ℕ AllocError) (P Q : Type 0) → P → OnErr r Q → OnErr r (P × Q)
 untouched (Ok status) P Q first second = tt
 untouched (Err e) P Q first second = (first, second)
 
 -- a task
-pub task_words : (words : List (List ℕ)) (left old new fault_old fault_new : Option (List ℕ)) (task : Task) (failed fault_failed : Bool) (r : Result ℕ AllocError) → NamesTask words task
-    → IfOk r (λ status. fault_failed ≡ false → TellsApart task old new fault_old fault_new status)
-    → IfOk r (λ status. failed ≡ false → fault_failed ≡ false → AnswersWords words left old new fault_old fault_new status)
-task_words words left old new fault_old fault_new task failed fault_failed (Err e) names h = h
-task_words words left old new fault_old fault_new task failed fault_failed (Ok status) names h = λ _ sound. named task names (h sound)
+pub task_words : {S : Type 0} (at : Places S) (words : List (List ℕ)) (given left : Option (List ℕ)) (unread : Bool) (old new fault_old fault_new : Option (List ℕ)) (all : Words) (task : Task) (failed fault_failed : Bool) (r : Result ℕ AllocError)
+    → NamesWords words all → IsTaskOf all.database all.act task
+    → IfOk r (λ status. failed ≡ false → fault_failed ≡ false → TellsApart at all.config task old new fault_old fault_new status)
+    → IfOk r (λ status. failed ≡ false → fault_failed ≡ false → AnswersWords at words given left unread old new fault_old fault_new status)
+task_words at words given left unread old new fault_old fault_new all task failed fault_failed (Err e) names is h = h
+task_words at words given left unread old new fault_old fault_new all task failed fault_failed (Ok status) names is h = λ sound quiet. named all task names is (h sound quiet)
 
 pub stopped_task_words : {S T : Type 0} (contents : S → Option (List ℕ)) (fault_contents : T → Option (List ℕ)) (words : List (List ℕ)) (old new : S) (fault_old fault_new : T) (task : Task) (failed fault_failed : Bool) (r : Result ℕ AllocError)
     → NamesTask words task → OnErr r ((new ≡ old) × (fault_new ≡ fault_old))
@@ -133,10 +120,12 @@ stopped_task_words contents fault_contents words old new fault_old fault_new tas
     λ _ _. inr (task, names, same_kept contents old new h.0, same_kept fault_contents fault_old fault_new h.1)
 
 -- a batch
-pub batch_words : (words : List (List ℕ)) (left old new fault_old fault_new : Option (List ℕ)) (failed fault_failed : Bool) (r : Result ℕ AllocError) → NamesBatch words
-    → IfOk r (λ status. failed ≡ false → fault_failed ≡ false → AnswersWords words left old new fault_old fault_new status)
-batch_words words left old new fault_old fault_new failed fault_failed (Err e) names = tt
-batch_words words left old new fault_old fault_new failed fault_failed (Ok status) names = λ _ _. batched names
+pub batch_words : {S : Type 0} (at : Places S) (words : List (List ℕ)) (given left : Option (List ℕ)) (unread : Bool) (old new fault_old fault_new : Option (List ℕ)) (all : Words) (failed fault_failed : Bool) (r : Result ℕ AllocError)
+    → NamesWords words all → all.act ≡ Batch
+    → IfOk r (λ status. failed ≡ false → fault_failed ≡ false → RunsBatch at all.config given unread old new fault_old fault_new status)
+    → IfOk r (λ status. failed ≡ false → fault_failed ≡ false → AnswersWords at words given left unread old new fault_old fault_new status)
+batch_words at words given left unread old new fault_old fault_new all failed fault_failed (Err e) names is runs = tt
+batch_words at words given left unread old new fault_old fault_new all failed fault_failed (Ok status) names is runs = λ sound quiet. batched all names is (runs sound quiet)
 
 -- a batch or a shell
 pub stopped_line_words : (words : List (List ℕ)) (old new fault_old fault_new : Option (List ℕ)) (failed fault_failed : Bool) (r : Result ℕ AllocError) → NamesLines words
@@ -145,11 +134,12 @@ stopped_line_words words old new fault_old fault_new failed fault_failed (Ok sta
 stopped_line_words words old new fault_old fault_new failed fault_failed (Err e) names = λ _ _. inl names
 
 -- a shell
-pub shell_words : (words : List (List ℕ)) (left old new fault_old fault_new : Option (List ℕ)) (failed fault_failed : Bool) (r : Result ℕ AllocError) → NamesShell words
-    → IfOk r (λ status. status < 3 → IsAtEnd left ⊎ Keeps old new)
-    → IfOk r (λ status. failed ≡ false → fault_failed ≡ false → AnswersWords words left old new fault_old fault_new status)
-shell_words words left old new fault_old fault_new failed fault_failed (Err e) names end = tt
-shell_words words left old new fault_old fault_new failed fault_failed (Ok status) names end = λ _ _. served names end
+pub shell_words : {S : Type 0} (at : Places S) (words : List (List ℕ)) (given left : Option (List ℕ)) (unread : Bool) (old new fault_old fault_new : Option (List ℕ)) (all : Words) (failed fault_failed : Bool) (r : Result ℕ AllocError)
+    → NamesWords words all → all.act ≡ Shell → IfOk r (λ status. status < 3 → IsAtEnd left ⊎ Keeps old new)
+    → IfOk r (λ status. failed ≡ false → fault_failed ≡ false → RunsShell at all.config given left old new fault_old fault_new status)
+    → IfOk r (λ status. failed ≡ false → fault_failed ≡ false → AnswersWords at words given left unread old new fault_old fault_new status)
+shell_words at words given left unread old new fault_old fault_new all failed fault_failed (Err e) names is end runs = tt
+shell_words at words given left unread old new fault_old fault_new all failed fault_failed (Ok status) names is end runs = λ sound quiet. served all names is end (runs sound quiet)
 
 -- a shell that read, and one that was refused before it read
 pub shell_read : (r : Result ℕ AllocError) (End Same : Type 0) → IfOk r (λ status. status < 3 → End) → IfOk r (λ status. status < 3 → End ⊎ Same)

@@ -2,13 +2,12 @@
 -- them.
 -- Line after line the commands are a run from what the register held before it. `told` gives the bytes of the file at a path, where they
 -- are known.
-use Rattle.std.specs.Prelude.{◌≡◌, ◌⊎◌, ◌<◌, ◌≤◌, ◌+◌, ℕ, max, Option, Some, Result, Ok, Err, List, [], ◌∷◌, ◌++◌, length, codes, string_bytes}
+use Rattle.std.specs.Prelude.{◌≡◌, ◌<◌, ◌+◌, ℕ, max, Option, Some, Result, Ok, Err, List, [], ◌∷◌, ◌++◌, length, codes, string_bytes}
 use Rattle.std.specs.Fmt.{decimal}
 use Rattle.std.specs.Io.KnownBytes.{Appends}
 use Rattle.zeb_engine.specs.declared.commands.Command.{Command}
 use Rattle.zeb_engine.specs.declared.replies.Reply.{Reply}
 use Rattle.zeb_change.specs.declared.refusals.Refusal.{Refusal}
-use Rattle.zeb_change.specs.declared.refusals.Refusal.TheVariants.{ReadFault}
 use Rattle.zeb_change.specs.declared.settings.Kind.{Kind}
 use Rattle.zeb_engine.specs.Answers.{answer_of}
 use Rattle.zeb_change.specs.Conditions.{Conditions}
@@ -41,16 +40,9 @@ abbrev pub IsAnswer : Conditions → Command → Holdings → List ℕ → ℕ �
 IsAnswer c command before bytes status later =
     (answer : Result Reply Refusal) × (bytes ≡ answer_text answer) × (status ≡ answer_status answer) × Run c before (command ∷ []) (answer_of answer ∷ []) later
 
--- the answer is that one of so many files, which are counted from 1, couldn't be read to its end
-abbrev pub IsReadFaultOf : ℕ → Result Reply Refusal → Type 0
-IsReadFaultOf count answer = (file : ℕ) × (1 ≤ file) × (file ≤ count) × (answer ≡ Err (ReadFault file))
-
--- an answer to a change by files of these bytes, and what the register holds then: it is that of the change, or one of the files couldn't be
--- read to its end and nothing changes
+-- an answer to a change by files of these bytes, and what the register holds then
 abbrev pub ChangesBy : Conditions → Kind → List ℕ → List (List ℕ) → Holdings → Result Reply Refusal → Holdings → Type 0
-ChangesBy c kind name files before answer later =
-    TellsOrFails (TakesFiles c kind name files) before (answer_of answer) later
-    ⊎ (IsReadFaultOf (length files) answer × (later ≡ before))
+ChangesBy c kind name files before answer later = TellsOrFails (TakesFiles c kind name files) before (answer_of answer) later
 
 -- what is written for a change by the path of a file of these bytes, its status, and what the register holds then
 abbrev pub IsFileAnswer : Conditions → PathChange → List ℕ → Holdings → List ℕ → ℕ → Holdings → Type 0

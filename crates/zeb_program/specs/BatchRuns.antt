@@ -1,9 +1,8 @@
 -- A batch as one run: the commands that its lines name, in their order, with the answer to each (this program's own).
-use Rattle.std.specs.Prelude.{◌≡◌, ◌⊎◌, ◌↔◌, ◌<◌, ◌+◌, ◌^◌, ℕ, max, map, Option, Some, Result, Err, List, [], ◌∷◌, ◌++◌, length, String, string_bytes}
+use Rattle.std.specs.Prelude.{◌≡◌, ◌⊎◌, ◌↔◌, ◌<◌, ◌+◌, ◌^◌, ℕ, max, map, Option, Some, Result, List, [], ◌∷◌, ◌++◌, length, String, string_bytes}
 use Rattle.std.specs.declared.alloc.Global.{Global}
 use Rattle.zeb_change.specs.Conditions.{Conditions}
 use Rattle.zeb_change.specs.declared.refusals.Refusal.{Refusal}
-use Rattle.zeb_change.specs.declared.refusals.Refusal.TheVariants.{ReadFault}
 use Rattle.zeb_engine.specs.Answers.{answer_of}
 use Rattle.zeb_engine.specs.Steps.{Run}
 use Rattle.zeb_engine.specs.declared.commands.Command.{Command}
@@ -49,11 +48,6 @@ pub data TellsLines : (List ℕ → Option (List ℕ)) → ℕ → List ℕ → 
       → (command : Command) → (answer : Result Reply Refusal) → 0 < length text → NamesCommand told (first_line text) command
       → TellsLines told (n + 1) (after_first_line text) commands answers bytes status
       → TellsLines told n text (command ∷ commands) (answer ∷ answers) (answer_text answer ++ bytes) (max (answer_status answer) status)
-  -- the file at the path couldn't be read to its end, and the line adds nothing to the run
-  unread : {told : List ℕ → Option (List ℕ)} {n : ℕ} {text : List ℕ} {commands : List Command} {answers : List (Result Reply Refusal)} {bytes : List ℕ} {status : ℕ}
-      → (change : PathChange) → (file : List ℕ) → 0 < length text → NamesFile told (first_line text) change file
-      → TellsLines told (n + 1) (after_first_line text) commands answers bytes status
-      → TellsLines told n text commands answers (answer_text (Err (ReadFault 1)) ++ bytes) (max 3 status)
 
 -- what is written for a text's lines is the answers of one run of the commands that they name
 abbrev pub IsOneRun : (List ℕ → Option (List ℕ)) → Conditions → ℕ → List ℕ → Holdings → List ℕ → ℕ → Holdings → Type 0

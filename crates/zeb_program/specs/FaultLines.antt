@@ -1,10 +1,14 @@
 -- What is written where a command that words or a line name isn't answered, and the status that goes with it (this program's own).
-use Rattle.std.specs.Prelude.{◌≡◌, ℕ, List, [], ◌∷◌, ◌++◌, codes, string_bytes}
+use Rattle.std.specs.Prelude.{◌≡◌, ◌⊎◌, ℕ, List, [], ◌∷◌, ◌++◌, codes, string_bytes}
 use Rattle.zeb_engine.specs.Refusals.{status_of}
 use Rattle.zeb_profile.specs.declared.faults.ProfileFault.{ProfileFault}
 use Rattle.zeb_profile.specs.Faults.{fault_text}
 use Rattle.zeb_program.specs.declared.faults.Fault.{Fault}
 use Rattle.zeb_program.specs.declared.faults.Fault.TheVariants.{Profile, Unreadable, Refused, Memory}
+use Rattle.std.specs.Fmt.{decimal}
+use Rattle.zeb_paths.specs.Causes.{path_cause_text, store_cause_text}
+use Rattle.zeb_program.specs.declared.failures.Cause.{Cause}
+use Rattle.zeb_program.specs.declared.failures.Cause.TheVariants.{Path, Store, File}
 use Rattle.zeb_program.specs.ScriptAnswers.{fault_status, refusal_line}
 
 -- of a path that can't be read
@@ -21,3 +25,25 @@ TellsFault (Profile file fault) line status = (line ≡ profile_line (string_byt
 TellsFault (Unreadable path) line status = (line ≡ unreadable_path (string_bytes path)) × (status ≡ 3)
 TellsFault (Refused refusal) line status = (line ≡ refusal_line refusal) × (status ≡ status_of refusal)
 TellsFault Memory line status = ⊥
+
+-- of what is known of why there is a fault
+abbrev pub cause_line : Cause → List ℕ
+cause_line (Path cause) = codes "zebraidx: cause: " ++ path_cause_text cause ++ 10 ∷ []
+cause_line (Store cause) = codes "zebraidx: cause: " ++ store_cause_text cause ++ 10 ∷ []
+cause_line (File number path) = codes "zebraidx: file " ++ decimal number ++ codes " is " ++ string_bytes path ++ 10 ∷ []
+
+-- one such line, or nothing
+abbrev pub IsCause : List ℕ → Type 0
+IsCause bytes = (bytes ≡ []) ⊎ ((cause : Cause) × (bytes ≡ cause_line cause))
+
+-- the line of a fault, with this status, and below it one with the cause, where it is known
+abbrev pub TellsFailure : Fault → List ℕ → ℕ → Type 0
+TellsFailure fault bytes status =
+    (line : List ℕ) × (more : List ℕ) × TellsFault fault line status × IsCause more × (bytes ≡ line ++ more)
+
+abbrev pub unclosed_line : List ℕ
+unclosed_line = codes "zebraidx: done, but the register's file needs its log" ++ 10 ∷ []
+
+-- what is written where a part of what was done stands beside the register's file
+abbrev pub IsUnclosed : List ℕ → Type 0
+IsUnclosed bytes = (more : List ℕ) × IsCause more × (bytes ≡ unclosed_line ++ more)

@@ -1,11 +1,11 @@
 -- What only the contracts of private functions speak of; no public clause reaches it.
 -- Why a command that words or a line name isn't answered: what couldn't be read, and failures to open a register.
-use Rattle.std.specs.Prelude.{◌≡◌, ◌⊎◌, ⊤, Result, Ok, Err}
-use Rattle.zeb_change.specs.declared.refusals.Refusal.{Refusal}
-use Rattle.zeb_change.specs.declared.refusals.Refusal.TheVariants as refusal
-use Rattle.zeb_engine.specs.declared.replies.Reply.{Reply}
+use Rattle.std.specs.Prelude.{⊤}
 use Rattle.zeb_program.specs.declared.faults.Fault.{Fault}
+use Rattle.zeb_paths.specs.declared.walk.WalkFault.{WalkFault}
+use Rattle.zeb_paths.specs.declared.walk.WalkFault.TheVariants as walk
 use Rattle.zeb_program.specs.declared.faults.Fault.TheVariants.{Profile, Unreadable, Refused, Memory}
+use Rattle.zeb_program.specs.FaultAnswers.{IsOpeningFailure}
 
 -- something couldn't be read, or memory ran out in the program itself
 abbrev pub IsUnread : Fault → Type 0
@@ -14,18 +14,6 @@ IsUnread (Unreadable path) = ⊤
 IsUnread (Refused refusal) = ⊥
 IsUnread Memory = ⊤
 
--- something couldn't be read
-abbrev pub IsUnreadable : Result Reply Fault → Type 0
-IsUnreadable (Ok reply) = ⊥
-IsUnreadable (Err (Profile file fault)) = ⊥
-IsUnreadable (Err (Unreadable path)) = ⊤
-IsUnreadable (Err (Refused refusal)) = ⊥
-IsUnreadable (Err Memory) = ⊥
-
--- a failure by which a register isn't opened: of the store or of the memory
-abbrev pub IsOpeningFailure : Refusal → Type 0
-IsOpeningFailure why = (why ≡ refusal.Store) ⊎ (why ≡ refusal.Memory)
-
 -- the register wasn't opened for such a failure
 abbrev pub IsOpeningFault : Fault → Type 0
 IsOpeningFault (Refused why) = IsOpeningFailure why
@@ -33,10 +21,7 @@ IsOpeningFault (Profile file fault) = ⊥
 IsOpeningFault (Unreadable path) = ⊥
 IsOpeningFault Memory = ⊥
 
--- P is so of the answer of a register, unless memory ran out in the program itself; that something couldn't be read is none
-abbrev pub GivesAnswer : (P : Result Reply Refusal → Type 0) → Result Reply Fault → Type 0
-GivesAnswer P (Ok reply) = P (Ok reply)
-GivesAnswer P (Err (Refused refusal)) = P (Err refusal)
-GivesAnswer P (Err Memory) = ⊤
-GivesAnswer P (Err (Profile file fault)) = ⊥
-GivesAnswer P (Err (Unreadable path)) = ⊥
+-- the fault by which a walk ends
+abbrev pub fault_of : WalkFault → Fault
+fault_of (walk.Unreadable path) = Unreadable path
+fault_of walk.Memory = Memory

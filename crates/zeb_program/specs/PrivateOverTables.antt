@@ -31,13 +31,13 @@ use Rattle.zeb_program.specs.declared.lines.Line.TheVariants.{Remark, Command as
 use Rattle.zeb_program.specs.declared.path_changes.PathChange.{PathChange}
 use Rattle.zeb_program.specs.declared.tasks.Task.{Task}
 use Rattle.zeb_program.specs.declared.tasks.Task.TheVariants.{Ask, Change, Analyse}
-use Rattle.zeb_program.specs.Answers.{ChangesBy, EachLine, IsReadFaultOf, Writes, answer_status, answer_text, bad_line, mark_line}
+use Rattle.zeb_program.specs.Answers.{ChangesBy, EachLine, Writes, answer_status, answer_text, bad_line, mark_line}
 use Rattle.zeb_program.specs.Inputs.{TakesAtMost}
 use Rattle.zeb_program.specs.FaultLines.{TellsFault}
-use Rattle.zeb_program.specs.PrivateFaults.{GivesAnswer, IsUnreadable}
+use Rattle.zeb_program.specs.FaultAnswers.{GivesAnswer, IsUnreadable}
 use Rattle.zeb_program.specs.PrivateFiles.{AreShort}
 use Rattle.zeb_program.specs.PrivateServing.{AnswersFrom}
-use Rattle.zeb_program.specs.PrivateTaskAnswers.{AreTold}
+use Rattle.zeb_program.specs.TaskAnswers.{AreTold}
 use Rattle.zeb_program.specs.Says.{Says}
 use Rattle.zeb_program.specs.ScriptAnswers.{unreadable_line}
 use Rattle.zeb_program.specs.TaskAnswers.{ReadsWhole}
@@ -48,10 +48,9 @@ use Rattle.zeb_program.specs.TaskAnswers.{ReadsWhole}
 pub record PathsOver (told : List ℕ → Option (List ℕ)) (format : Format) (profile : List Directive) (kind : Kind) (limits : Limits) (name : List ℕ) (paths : List (List ℕ)) (s : State) (result : Result Reply Fault) : Type 0 where
   -- a path can't be read, or the texts of the store tell whether the register was ready
   pub ready : IsUnreadable result ⊎ GivesAnswer (GoesByTexts (version_of format) profile s) result
-  -- Where the bytes of a file at each path are told: one of the files couldn't be read to its end, or what is kept under the first record's
-  -- identifier is whole, or the change is refused as damage or by a failure; and any other refusal has a reason that the files and the limits give.
+  -- Where the bytes of a file at each path are told: what is kept under the first record's identifier is whole, or the change is refused as damage or by a failure; and any other refusal has a reason that the files and the limits give.
   pub changes : (files : List (List ℕ)) → AreTold told paths files
-      → GivesAnswer (λ answer. ChangesReady (version_of format) profile kind limits name files s answer ⊎ IsReadFaultOf (length files) answer) result
+      → GivesAnswer (ChangesReady (version_of format) profile kind limits name files s) result
   -- damage is told only of the image of nothing that can be held
   pub honest : result ≡ Err (Refused Damaged) → (before : Holdings) → ¬ Keeps s before
 

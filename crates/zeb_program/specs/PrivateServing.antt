@@ -12,11 +12,11 @@ use Rattle.zeb_program.specs.declared.faults.Fault.{Fault}
 use Rattle.zeb_program.specs.declared.tasks.Served.{Served}
 use Rattle.zeb_program.specs.declared.tasks.Task.{Task}
 use Rattle.zeb_program.specs.Answers.{Writes, AnswersBatch}
-use Rattle.zeb_program.specs.PrivateAnswers.{AnswersFirst}
-use Rattle.zeb_program.specs.PrivateFaults.{GivesAnswer, IsUnreadable}
+use Rattle.zeb_program.specs.FirstAnswers.{AnswersFirst}
+use Rattle.zeb_program.specs.FaultAnswers.{GivesAnswer, IsUnreadable}
 use Rattle.zeb_program.specs.ScriptAnswers.{unreadable_line}
 use Rattle.zeb_program.specs.TaskAnswers.{ReadsWhole}
-use Rattle.zeb_program.specs.PrivateTaskAnswers.{AnswersTask, AreTold, paths_of}
+use Rattle.zeb_program.specs.TaskAnswers.{AnswersTask, AreTold, paths_of}
 
 -- From tables that keep what a register holds, they lead to tables that keep what it holds then; P says what is written.
 abbrev pub Leads : State → State → Option (List ℕ) → Option (List ℕ) → (Holdings → List ℕ → Holdings → Type 0) → Type 0

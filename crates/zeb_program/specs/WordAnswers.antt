@@ -1,5 +1,6 @@
--- What is written for words, and the status (this program's own). What an answer is isn't said here, but where it goes.
-use Rattle.std.specs.Prelude.{◌≡◌, ◌<◌, ◌⊎◌, ℕ, Option, List, ◌++◌, string_bytes}
+-- What is written for words, and the status (this program's own).
+use Rattle.std.specs.Prelude.{◌≡◌, ◌<◌, ◌⊎◌, ℕ, Bool, Option, List, ◌++◌, String, string_bytes}
+use Rattle.std.specs.declared.alloc.Global.{Global}
 use Rattle.std.specs.Io.KnownBytes.{Appends, IsAtEnd, Keeps}
 use Rattle.zeb_words.specs.Names.{NamesNone, NamesWords}
 use Rattle.zeb_words.specs.Parses.{IsRefusedAs}
@@ -7,14 +8,15 @@ use Rattle.zeb_words.specs.declared.words.Words.{Words}
 use Rattle.zeb_words.specs.declared.words.Act.TheVariants.{Batch, Shell}
 use Rattle.zeb_words.specs.declared.words.Usage.{Usage}
 use Rattle.zeb_words.specs.declared.words.Usage.TheVariants.{BadUsage, Refused, Help, Memory}
-use Rattle.zeb_program.specs.declared.faults.Fault.{Fault}
 use Rattle.zeb_program.specs.declared.tasks.Task.{Task}
 use Rattle.zeb_program.specs.Answers.{Writes}
 use Rattle.zeb_program.specs.Errands.{IsTaskOf}
-use Rattle.zeb_program.specs.FaultLines.{TellsFault}
+use Rattle.zeb_program.specs.FaultLines.{IsUnclosed}
+use Rattle.zeb_program.specs.Registers.{Places}
 use Rattle.zeb_program.specs.ScriptAnswers.{usage_line}
 use Rattle.zeb_program.specs.TaskAnswers.{ReadsWhole}
 use Rattle.zeb_program.specs.Warnings.{IsWarning}
+use Rattle.zeb_program.specs.WordRuns.{RunsBatch, RunsShell, TellsWhy, WritesReply}
 
 -- words that name this task
 abbrev pub NamesTask : List (List ℕ) → Task → Type 0
@@ -51,27 +53,33 @@ IsFaultStatus status = (status ≡ 1) ⊎ (status ≡ 3)
 abbrev pub WarnsAtMost : Task → Option (List ℕ) → Option (List ℕ) → Type 0
 WarnsAtMost task fault_old fault_new = Keeps fault_old fault_new ⊎ (ReadsWhole task × Writes fault_old fault_new IsWarning)
 
--- the answer to a task goes to the output, and only a warning to the fault output; why there is none goes to the fault output alone, as the
--- line of a fault, with the status of that fault
-abbrev pub TellsApart : Task → Option (List ℕ) → Option (List ℕ) → Option (List ℕ) → Option (List ℕ) → ℕ → Type 0
-TellsApart task old new fault_old fault_new status =
-    ((status ≡ 0) × WarnsAtMost task fault_old fault_new)
-    ⊎ (IsFaultStatus status × Keeps old new × Writes fault_old fault_new (λ line. (fault : Fault) × TellsFault fault line status))
+-- the same, and below it that a part of what was done stands beside the register's file
+abbrev pub WarnsUnclosed : Task → Option (List ℕ) → Option (List ℕ) → Type 0
+WarnsUnclosed task fault_old fault_new = (between : Option (List ℕ)) × WarnsAtMost task fault_old between × Writes between fault_new IsUnclosed
 
--- what is written for words, and the status, where this is left of the input
-pub data AnswersWords : List (List ℕ) → Option (List ℕ) → Option (List ℕ) → Option (List ℕ) → Option (List ℕ) → Option (List ℕ) → ℕ → Type 0 where
+-- the answer to a task, under the profile in this file, goes to the output, and only a warning to the fault output, and, with status 3, that the
+-- register's file needs its log; why there is no answer goes to the fault output alone, as the line of a fault, with the status of that fault, and below
+-- it its cause
+abbrev pub TellsApart : {S : Type 0} → Places S → String Global → Task → Option (List ℕ) → Option (List ℕ) → Option (List ℕ) → Option (List ℕ) → ℕ → Type 0
+TellsApart at config task old new fault_old fault_new status =
+    ((status ≡ 0) × WritesReply at config task old new × WarnsAtMost task fault_old fault_new)
+    ⊎ ((status ≡ 3) × WritesReply at config task old new × WarnsUnclosed task fault_old fault_new)
+    ⊎ (IsFaultStatus status × Keeps old new × Writes fault_old fault_new (TellsWhy at config task status))
+
+-- What is written for words, and the status: of an input that has this before, where it tells that, and this behind, and of which a read failed or didn't.
+pub data AnswersWords {S : Type 0} (at : Places S) (words : List (List ℕ)) (given left : Option (List ℕ)) (failed : Bool) (old new fault_old fault_new : Option (List ℕ)) (status : ℕ) : Type 0 where
   -- words that name no command; which of the ways it is, is the parser's to say
-  misused : {words : List (List ℕ)} {left old new fault_old fault_new : Option (List ℕ)} {status : ℕ} → (usage : Usage) → NamesNone words usage
-      → IsRefusedAs words usage → TellsUsage usage old new fault_old fault_new status → AnswersWords words left old new fault_old fault_new status
+  misused : (usage : Usage) → NamesNone words usage → IsRefusedAs words usage → TellsUsage usage old new fault_old fault_new status
+      → AnswersWords at words given left failed old new fault_old fault_new status
   -- words that name a batch, whose lines' answers and refusals go to the output
-  batched : {words : List (List ℕ)} {left old new fault_old fault_new : Option (List ℕ)} {status : ℕ} → NamesBatch words
-      → AnswersWords words left old new fault_old fault_new status
+  batched : (named : Words) → NamesWords words named → named.act ≡ Batch → RunsBatch at named.config given failed old new fault_old fault_new status
+      → AnswersWords at words given left failed old new fault_old fault_new status
   -- words that name a shell, which does the same, and leaves a part of the input only where something failed, or nothing was answered
-  served : {words : List (List ℕ)} {left old new fault_old fault_new : Option (List ℕ)} {status : ℕ} → NamesShell words
-      → (status < 3 → IsAtEnd left ⊎ Keeps old new) → AnswersWords words left old new fault_old fault_new status
+  served : (named : Words) → NamesWords words named → named.act ≡ Shell → (status < 3 → IsAtEnd left ⊎ Keeps old new)
+      → RunsShell at named.config given left old new fault_old fault_new status → AnswersWords at words given left failed old new fault_old fault_new status
   -- words that name a task, so neither a batch nor a shell
-  named : {words : List (List ℕ)} {left old new fault_old fault_new : Option (List ℕ)} {status : ℕ} → (task : Task) → NamesTask words task
-      → TellsApart task old new fault_old fault_new status → AnswersWords words left old new fault_old fault_new status
+  named : (named : Words) → (task : Task) → NamesWords words named → IsTaskOf named.database named.act task
+      → TellsApart at named.config task old new fault_old fault_new status → AnswersWords at words given left failed old new fault_old fault_new status
 
 -- what is written for them where memory runs out for the program itself: nothing, where they name a task
 abbrev pub StopsWords : List (List ℕ) → Option (List ℕ) → Option (List ℕ) → Option (List ℕ) → Option (List ℕ) → Type 0
@@ -79,6 +87,6 @@ StopsWords words old new fault_old fault_new =
     NamesLines words ⊎ ((task : Task) × NamesTask words task × Keeps old new × Keeps fault_old fault_new)
 
 -- words are answered, or memory runs out for the program itself, with status 3
-abbrev pub EndsWords : List (List ℕ) → Option (List ℕ) → Option (List ℕ) → Option (List ℕ) → Option (List ℕ) → Option (List ℕ) → ℕ → Type 0
-EndsWords words left old new fault_old fault_new status =
-    AnswersWords words left old new fault_old fault_new status ⊎ (StopsWords words old new fault_old fault_new × (status ≡ 3))
+abbrev pub EndsWords : {S : Type 0} → Places S → List (List ℕ) → Option (List ℕ) → Option (List ℕ) → Bool → Option (List ℕ) → Option (List ℕ) → Option (List ℕ) → Option (List ℕ) → ℕ → Type 0
+EndsWords at words given left failed old new fault_old fault_new status =
+    AnswersWords at words given left failed old new fault_old fault_new status ⊎ (StopsWords words old new fault_old fault_new × (status ≡ 3))

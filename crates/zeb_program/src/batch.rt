@@ -80,6 +80,7 @@ pub fn run_lines<S: Alter, L: Layout, P: Paths, W: Write>(
         → Stops (state S.Store session.old.connection) (W.contents output.old.writer) (W.contents output.new.writer)
         (AnswersPart (P.tells paths.now) (conditions
         (version_of L.format) session.old.profile session.old.limits) batch.entry.lines_before batch.entry.text.now)) }
+    ensures clean { HasCleanDisk (state S.Store session.new.connection) → HasCleanDisk (state S.Store session.old.connection) }
     ensures range { IfOk result (λ status. status ≤ FAILED) }
 {
     let mut rest = batch.text;

@@ -1,28 +1,41 @@
 //! The words of a command line: what they ask for is done, and its answer or why there is none is written.
 
-ghost use Rattle.std.specs.Prelude.{◌≡◌, ◌⊎◌, ◌≤◌, ◌<◌, ◌+◌, ◌++◌, false, true, map, string_bytes, IfOk, OnErr, IsErrAnd};
+ghost use Rattle.std.specs.Prelude.{◌≡◌, ◌⊎◌, ◌≤◌, ◌<◌, ◌+◌, ◌++◌, false, true, map, string_bytes, Ok, Err, IfErr, IfOk};
+ghost use Rattle.std.specs.Prelude.{OnErr, IsErrAnd};
+ghost use Rattle.zeb_change.specs.Conditions.{conditions};
+ghost use Rattle.zeb_register.specs.Formats.{packed_blocks, version_of};
+ghost use Rattle.zeb_program.specs.PrivateWordRuns.{OpensUnder, RunsIn, ServesIn, TellsDone};
+ghost use Rattle.zeb_program.specs.ProfileFiles.{ReadsProfile};
+ghost use Rattle.zeb_program.specs.Registers.{places};
+ghost use Rattle.zeb_program.specs.WordRuns.{IsInputFault, IsText, RunsBatch, RunsLines, RunsShell, StopsOpening};
 ghost use Rattle.std.specs.Io.KnownBytes.{Appends, IsAtEnd};
 ghost use Rattle.zeb_program.specs.PrivateFaults.{IsUnread};
 ghost use Rattle.zeb_program.specs.Inputs.{TakesAtMost};
 ghost use Rattle.zeb_program.specs.ScriptAnswers.{usage_line};
-ghost use Rattle.zeb_program.specs.WordAnswers.{AnswersWords, NamesLines, NamesShell, StopsWords, TellsApart, TellsUsage};
+ghost use Rattle.zeb_program.specs.WordAnswers.{AnswersWords, NamesLines, NamesShell, StopsWords, TellsApart, TellsUsage, WarnsAtMost};
+ghost use Rattle.zeb_program.specs.PrivateWarnings.{MayWarn};
+ghost use Rattle.zeb_program.specs.declared.tasks.Task.{Task as Asked};
+ghost use Rattle.std.specs.Option.{option_map};
 
-use crate::batch::run_lines;
-use crate::faults::{Fault, tell};
-use crate::files::{read_profile, unread};
+use crate::batch::{run_batch as run_on_nothing, run_lines};
+use crate::failures::{Failure, tell_closed, tell_failure};
+use crate::files::unread;
 use crate::input::{GREATEST_INPUT, read_text};
 use crate::outputs::Output;
+use crate::performing::{Told, close_register, open_register, perform, profile_at};
 use crate::program::{ANSWERED, FAILED, MISUSED};
 use crate::script::Batch;
 use crate::shell::serve_lines;
 use crate::sinks::Sink;
-use crate::tasks::{Errand, Task, Told, open_register, perform};
+use crate::tasks::{Errand, Task};
+use crate::words::without_blanks;
 use std::alloc::{AllocError, Global};
 use std::io::Write;
 use zeb_engine::Session;
 use zeb_marc::Source;
 use zeb_packed::Blocks;
 use zeb_paths::Paths;
+use zeb_profile::Profile;
 use zeb_words::{Usage, Words, read_words};
 
 /// Does what the words ask for, and answers the status. Memory that runs out in the program itself is no status.
@@ -41,8 +54,9 @@ pub fn run_words<R: Source, W: Output, V: Write, P: Paths>(
     ensures unread { ¬ NamesLines (map string_bytes words.now) → input.new ≡ input.old }
     ensures failed_read { R.has_failed input.new ≡ true → IfOk result (λ status. status ≡ FAILED) }
     ensures answer { IfOk result (λ status. output.new.failed ≡ false → fault_output.new.failed ≡ false →
-        AnswersWords (map string_bytes words.now) (R.remaining input.new) (W.contents output.old.writer) (W.contents output.new.writer)
-        (V.contents fault_output.old.writer) (V.contents fault_output.new.writer) status) }
+        AnswersWords (places P.Store.Store (P.tells paths.old) (P.opens paths.old) (P.lacks paths.old)) (map string_bytes words.now)
+        (R.remaining input.old) (R.remaining input.new) (R.has_failed input.new) (W.contents output.old.writer)
+        (W.contents output.new.writer) (V.contents fault_output.old.writer) (V.contents fault_output.new.writer) status) }
     ensures stopped { OnErr result (output.new.failed ≡ false → fault_output.new.failed ≡ false →
         StopsWords (map string_bytes words.now) (W.contents output.old.writer) (W.contents output.new.writer)
         (V.contents fault_output.old.writer) (V.contents fault_output.new.writer)) }
@@ -105,21 +119,45 @@ fn run_task<W: Write, V: Write, P: Paths>(
     fault_output: &mut Sink<V>,
 ) -> Result<u8, AllocError>
     ensures range { IfOk result (λ status. status ≤ FAILED) }
-    ensures apart { IfOk result (λ status. fault_output.new.failed ≡ false →
-        TellsApart task.now (W.contents output.old.writer) (W.contents output.new.writer)
+    ensures apart { IfOk result (λ status. output.new.failed ≡ false → fault_output.new.failed ≡ false →
+        TellsApart (places P.Store.Store (P.tells paths.old) (P.opens paths.old) (P.lacks paths.old)) config task.now
+        (W.contents output.old.writer) (W.contents output.new.writer)
         (V.contents fault_output.old.writer) (V.contents fault_output.new.writer) status) }
     // Memory that runs out in the program itself is found before anything is written.
     ensures stopped { OnErr result ((output.new ≡ output.old) × (fault_output.new ≡ fault_output.old)) }
 {
     match perform(alloc, config, task, paths) {
-        Ok(Told { text, warning }) => {
-            output.write(text.as_slice());
-            if let Some(line) = &warning {
-                fault_output.write(line.as_bytes());
-            }
-            Ok(ANSWERED)
-        }
-        Err(fault) => tell(alloc, &fault, fault_output),
+        Ok(told) => Ok(tell_answer(&told, output, fault_output)),
+        Err(failure) => tell_failure(alloc, &failure, fault_output),
+    }
+}
+
+/// Writes what is told of a task that is answered, and answers the status.
+fn tell_answer<W: Write, V: Write>(
+    told: &Told,
+    output: &mut Sink<W>,
+    fault_output: &mut Sink<V>,
+) -> u8
+    ensures range { result ≤ FAILED }
+    ensures text { output.new.failed ≡ false →
+        Appends (W.contents output.old.writer) (W.contents output.new.writer) told.now.text.items }
+    ensures told { fault_output.new.failed ≡ false → (task : Asked) → MayWarn task (option_map string_bytes told.now.warning)
+        → TellsDone task (V.contents fault_output.old.writer) (V.contents fault_output.new.writer) result }
+{
+    output.write(told.text.as_slice());
+    warn(&told.warning, fault_output);
+    tell_closed(told.closed, fault_output)
+}
+
+/// Writes a warning, where there is one.
+fn warn<V: Write>(warning: &Option<String>, fault_output: &mut Sink<V>)
+    ensures sound { fault_output.new.failed ≡ false → fault_output.old.failed ≡ false }
+    ensures told { fault_output.new.failed ≡ false → (task : Asked) → MayWarn task (option_map string_bytes warning.now)
+        → WarnsAtMost task (V.contents fault_output.old.writer) (V.contents fault_output.new.writer) }
+{
+    match warning {
+        Some(line) => fault_output.write(line.as_bytes()),
+        None => {}
     }
 }
 
@@ -136,37 +174,101 @@ fn run_batch<R: Source, W: Write, V: Write, P: Paths>(
     ensures range { IfOk result (λ status. status ≤ FAILED) }
     ensures bounded { TakesAtMost (GREATEST_INPUT + 1) (R.remaining input.old) (R.remaining input.new) }
     ensures failed_read { R.has_failed input.new ≡ true → IfOk result (λ status. status ≡ FAILED) }
+    ensures answer { IfOk result (λ status. output.new.failed ≡ false → fault_output.new.failed ≡ false →
+        RunsBatch (places P.Store.Store (P.tells paths.old) (P.opens paths.old) (P.lacks paths.old)) config
+        (R.remaining input.old) (R.has_failed input.new) (W.contents output.old.writer) (W.contents output.new.writer)
+        (V.contents fault_output.old.writer) (V.contents fault_output.new.writer) status) }
 {
     match begin_batch(alloc, config, paths, input) {
-        Ok((mut session, text)) => {
+        Ok((profile, text)) => {
             let batch = Batch {
                 text: text.as_str(),
                 lines_before: 0,
             };
-            run_lines(alloc, &mut session, paths, batch, output)
+            serve_batch(alloc, profile, paths, batch, output, fault_output)
         }
-        Err(fault) => tell(alloc, &fault, fault_output),
+        Err(failure) => tell_failure(alloc, &failure, fault_output),
     }
 }
 
-/// Reads what a batch needs: its profile, its lines, and the register.
+/// Reads what a batch needs: its profile, and its lines.
 fn begin_batch<R: Source, P: Paths>(
     alloc: Global,
     config: String,
-    paths: &mut P,
+    paths: &P,
     input: &mut R,
-) -> Result<(Session<P::Store, Blocks>, String), Fault>
+) -> Result<(Profile, String), Failure>
     requires { R.has_failed input.old ≡ false }
     ensures bounded { TakesAtMost (GREATEST_INPUT + 1) (R.remaining input.old) (R.remaining input.new) }
-    ensures failed_read { R.has_failed input.new ≡ true → IsErrAnd result IsUnread }
+    ensures failed_read { R.has_failed input.new ≡ true → IsErrAnd result (λ failure. IsUnread failure.fault) }
+    ensures begun { IfOk result (λ begun. ReadsProfile (P.tells paths.now (string_bytes config)) config (Ok begun.0)
+        × IsText (R.remaining input.old) (string_bytes begun.1)) }
+    ensures refused { IfErr result (λ failure. ReadsProfile (P.tells paths.now (string_bytes config)) config (Err failure.fault)
+        ⊎ IsInputFault (R.remaining input.old) (R.has_failed input.new) failure.fault) }
 {
-    let profile = read_profile(alloc, paths, config)?;
-    let text = match read_text(alloc, input, GREATEST_INPUT) {
-        Ok(text) => text,
-        Err(fault) => return Err(unread(fault, String::from_str(alloc, "input")?)),
-    };
-    let session = open_register(alloc, paths, profile)?;
-    Ok((session, text))
+    let profile = profile_at(alloc, paths, config)?;
+    match read_text(alloc, input, GREATEST_INPUT) {
+        Ok(text) => Ok((profile, text)),
+        Err(fault) => {
+            let input_path = String::from_str(alloc, "input")?;
+            Err(Failure {
+                fault: unread(fault, input_path),
+                cause: None,
+            })
+        }
+    }
+}
+
+/// Runs the lines of a batch on the register at the profile's path. Where none stands there and no line begins one, they are run on an
+/// empty one in memory, and no file is made.
+fn serve_batch<W: Write, V: Write, P: Paths>(
+    alloc: Global,
+    profile: Profile,
+    paths: &mut P,
+    batch: Batch<'_>,
+    output: &mut Sink<W>,
+    fault_output: &mut Sink<V>,
+) -> Result<u8, AllocError>
+    ensures range { IfOk result (λ status. status ≤ FAILED) }
+    ensures answer { batch.entry.lines_before ≡ 0
+        → IfOk result (λ status. output.new.failed ≡ false → fault_output.new.failed ≡ false →
+        RunsLines (places P.Store.Store (P.tells paths.old) (P.opens paths.old) (P.lacks paths.old)) profile batch.entry.text.now
+        (W.contents output.old.writer) (W.contents output.new.writer)
+        (V.contents fault_output.old.writer) (V.contents fault_output.new.writer) status) }
+{
+    if !begins(batch.text) && !paths.has_store(profile.store_path()) {
+        return run_on_nothing(alloc, profile, paths, batch, output);
+    }
+    match open_register(alloc, paths, profile) {
+        Ok(session) => run_in(alloc, session, paths, batch, output, fault_output),
+        Err(failure) => tell_failure(alloc, &failure, fault_output),
+    }
+}
+
+/// Whether a line of a batch may begin a register.
+fn begins(text: &str) -> bool {
+    text.lines().any(|line| without_blanks(line) == "init")
+}
+
+/// Runs the lines of a batch in a session, and closes its register.
+fn run_in<W: Write, V: Write, P: Paths>(
+    alloc: Global,
+    session: Session<P::Store, Blocks>,
+    paths: &P,
+    batch: Batch<'_>,
+    output: &mut Sink<W>,
+    fault_output: &mut Sink<V>,
+) -> Result<u8, AllocError>
+    ensures range { IfOk result (λ status. status ≤ FAILED) }
+    ensures answer { IfOk result (λ status. output.new.failed ≡ false → fault_output.new.failed ≡ false →
+        RunsIn P.Store.Store (P.tells paths.now) (conditions (version_of packed_blocks) session.profile session.limits)
+        batch.entry.lines_before batch.entry.text.now session.connection (W.contents output.old.writer) (W.contents output.new.writer)
+        (V.contents fault_output.old.writer) (V.contents fault_output.new.writer) status) }
+{
+    let mut session = session;
+    let answered = run_lines(alloc, &mut session, paths, batch, output);
+    let closed = tell_closed(close_register(paths, session), fault_output);
+    Ok(answered?.max(closed))
 }
 
 /// Runs the lines of the input as they come, and answers the greatest status met.
@@ -182,11 +284,39 @@ fn run_shell<R: Source, W: Output, V: Write, P: Paths>(
     ensures range { IfOk result (λ status. status ≤ FAILED) }
     ensures failed_read { R.has_failed input.new ≡ true → IfOk result (λ status. status ≡ FAILED) }
     ensures whole { IfOk result (λ status. status < FAILED → IsAtEnd (R.remaining input.new) ⊎ (output.new ≡ output.old)) }
+    ensures answer { IfOk result (λ status. output.new.failed ≡ false → fault_output.new.failed ≡ false →
+        RunsShell (places P.Store.Store (P.tells paths.old) (P.opens paths.old) (P.lacks paths.old)) config
+        (R.remaining input.old) (R.remaining input.new) (W.contents output.old.writer) (W.contents output.new.writer)
+        (V.contents fault_output.old.writer) (V.contents fault_output.new.writer) status) }
 {
     match open(alloc, config, paths) {
-        Ok(mut session) => serve_lines(alloc, &mut session, paths, input, output, fault_output),
-        Err(fault) => tell(alloc, &fault, fault_output),
+        Ok(session) => serve_in(alloc, session, paths, input, output, fault_output),
+        Err(failure) => tell_failure(alloc, &failure, fault_output),
     }
+}
+
+/// Serves the lines of the input in a session, and closes its register behind the last.
+fn serve_in<R: Source, W: Output, V: Write, P: Paths>(
+    alloc: Global,
+    session: Session<P::Store, Blocks>,
+    paths: &P,
+    input: &mut R,
+    output: &mut Sink<W>,
+    fault_output: &mut Sink<V>,
+) -> Result<u8, AllocError>
+    requires { R.has_failed input.old ≡ false }
+    ensures range { IfOk result (λ status. status ≤ FAILED) }
+    ensures failed_read { R.has_failed input.new ≡ true → IfOk result (λ status. status ≡ FAILED) }
+    ensures whole { IfOk result (λ status. status < FAILED → IsAtEnd (R.remaining input.new)) }
+    ensures answer { IfOk result (λ status. output.new.failed ≡ false → fault_output.new.failed ≡ false →
+        ServesIn P.Store.Store (P.tells paths.now) (conditions (version_of packed_blocks) session.profile session.limits)
+        (R.remaining input.old) (R.remaining input.new) session.connection (W.contents output.old.writer)
+        (W.contents output.new.writer) (V.contents fault_output.old.writer) (V.contents fault_output.new.writer) status) }
+{
+    let mut session = session;
+    let answered = serve_lines(alloc, &mut session, paths, input, output, fault_output);
+    let closed = tell_closed(close_register(paths, session), fault_output);
+    Ok(answered?.max(closed))
 }
 
 /// Opens the register that the profile in this file names.
@@ -194,7 +324,13 @@ fn open<P: Paths>(
     alloc: Global,
     config: String,
     paths: &mut P,
-) -> Result<Session<P::Store, Blocks>, Fault> {
-    let profile = read_profile(alloc, paths, config)?;
+) -> Result<Session<P::Store, Blocks>, Failure>
+    ensures opened { IfOk result (λ session. OpensUnder (places P.Store.Store (P.tells paths.old) (P.opens paths.old) (P.lacks paths.old))
+        config (conditions (version_of packed_blocks) session.profile session.limits) session.connection) }
+    ensures failed { IfErr result (λ failure.
+        StopsOpening (places P.Store.Store (P.tells paths.old) (P.opens paths.old) (P.lacks paths.old)) config failure.fault) }
+    ensures told { P.tells paths.new ≡ P.tells paths.old }
+{
+    let profile = profile_at(alloc, paths, config)?;
     open_register(alloc, paths, profile)
 }

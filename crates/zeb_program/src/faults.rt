@@ -3,7 +3,7 @@
 ghost use Rattle.std.specs.Prelude.{◌≡◌, false, IfOk, IsErr, OnErr};
 ghost use Rattle.zeb_program.specs.Answers.{Writes};
 ghost use Rattle.zeb_program.specs.FaultLines.{TellsFault};
-ghost use Rattle.zeb_program.specs.PrivateFaults.{IsUnread};
+ghost use Rattle.zeb_program.specs.PrivateFaults.{IsUnread, fault_of};
 ghost use Rattle.zeb_program.specs.declared.faults.Fault.TheVariants.{Memory, Refused};
 ghost use Rattle.zeb_program.specs.WordAnswers.{IsFaultStatus};
 
@@ -54,7 +54,7 @@ impl From<Refusal> for Fault {
 }
 
 impl From<WalkFault> for Fault {
-    ghost from_gives = { λ _ fault. IsUnread fault };
+    ghost from_gives = { λ why fault. IsUnread fault × (fault ≡ fault_of why) };
 
     fn from(fault: WalkFault) -> Fault {
         match fault {

@@ -1,10 +1,12 @@
 //! The files at the paths that words or a line name.
 
-ghost use Rattle.std.specs.Prelude.{◌≡◌, ◌≤◌, ℕ, List, Some, map, string_bytes, vec_len, Err, IfErr, IfOk, IfSome, false};
-ghost use Rattle.zeb_program.specs.Inputs.{IsTextWithin};
+ghost use Rattle.std.specs.Prelude.{◌≡◌, ◌⊎◌, ◌≤◌, ◌+◌, ℕ, List, Some, map, string_bytes, vec_len, Err, IfErr, IfOk, IfSome, false};
+ghost use Rattle.zeb_program.specs.Inputs.{IsTextWithin, TakesAtMost};
+ghost use Rattle.zeb_program.specs.FaultAnswers.{NamesUnder};
 ghost use Rattle.zeb_program.specs.PrivateFaults.{IsUnread};
-ghost use Rattle.zeb_program.specs.PrivateFiles.{AreShort, ReadsProfile};
-ghost use Rattle.zeb_program.specs.PrivateTaskAnswers.{AreTold};
+ghost use Rattle.zeb_program.specs.PrivateFiles.{AreShort, sure_bytes};
+ghost use Rattle.zeb_program.specs.ProfileFiles.{ReadsProfile};
+ghost use Rattle.zeb_program.specs.TaskAnswers.{AreTold};
 ghost use Rattle.zeb_program.specs.declared.faults.Fault.TheVariants.{Memory, Unreadable};
 
 use crate::faults::Fault;
@@ -32,6 +34,8 @@ fn profile_from<R: Source>(alloc: Global, source: &mut R, file: String) -> Resul
     // Bytes that are told can't be read only where they are too many or no text, or where a read failed.
     ensures unreadable { result ≡ Err (Unreadable file) → R.has_failed source.new ≡ false
         → IfSome (R.remaining source.old) (λ bytes. ¬ IsTextWithin GREATEST_PROFILE bytes) }
+    // Whatever the answer.
+    ensures taken { TakesAtMost (GREATEST_PROFILE + 1) (R.remaining source.old) (R.remaining source.new) }
 {
     let text = match read_text(alloc, source, GREATEST_PROFILE) {
         Ok(text) => text,
@@ -61,12 +65,15 @@ pub fn readers_of<P: Paths>(
     paths: &P,
     named: &[String],
 ) -> Result<Vec<P::Reader>, Fault>
-    // Where the bytes of a file at each path are told, just the readers of these files are given, or memory runs out.
+    // Where the bytes of a file at each path are told, just the readers of these files are given, of which none can fail, or memory
+    // runs out.
     ensures told { (files : List (List ℕ)) → AreTold (P.tells paths.now) (map string_bytes named.now) files
-        → IfOk result (λ readers. map P.Reader.remaining readers.items ≡ map Some files) }
+        → IfOk result (λ readers.
+        map (sure_bytes P.Reader.remaining P.Reader.may_fail P.Reader.has_failed) readers.items ≡ map Some files) }
     ensures memory { (files : List (List ℕ)) → AreTold (P.tells paths.now) (map string_bytes named.now) files
         → IfErr result (λ fault. fault ≡ Memory) }
     ensures unread { IfErr result IsUnread }
+    ensures under { IfErr result (NamesUnder (map string_bytes named.now)) }
 {
     let mut readers = Vec::new(alloc);
     let mut walk = Walk::new(alloc, paths, named)?;
@@ -78,6 +85,20 @@ pub fn readers_of<P: Paths>(
     }
     // So many readers are none that could be held.
     Err(Fault::Memory)
+}
+
+/// The path of the file that has this number, from 1, among those at and below the paths. `None` where it isn't found, or memory runs out.
+pub fn path_of_file<P: Paths>(
+    alloc: Global,
+    paths: &P,
+    named: &[String],
+    number: u64,
+) -> Option<String> {
+    let mut walk = Walk::new(alloc, paths, named).ok()?;
+    for _ in 1..number {
+        let _passed = walk.next_file().ok()??;
+    }
+    walk.next_file().ok()?
 }
 
 /// The bytes of the files at and below the paths. A file that can't be read, or has too many bytes, is a path
@@ -93,6 +114,7 @@ pub fn contents_of<P: Paths>(
     // So where one of these files has more bytes than a file may have, they are refused.
     ensures short { IfOk result (λ contents. AreShort (map (λ content. content.items) contents.items)) }
     ensures unread { IfErr result IsUnread }
+    ensures under { IfErr result (NamesUnder (map string_bytes named.now)) }
 {
     let mut contents = Vec::new(alloc);
     let mut walk = Walk::new(alloc, paths, named)?;
@@ -111,6 +133,7 @@ fn content_of<P: Paths>(alloc: Global, paths: &P, path: String) -> Result<Vec<u8
         → IfOk result (λ content. content.items ≡ file) }
     ensures short { IfOk result (λ content. vec_len content ≤ GREATEST_INPUT) }
     ensures unread { IfErr result IsUnread }
+    ensures path { IfErr result (λ fault. (fault ≡ Unreadable path) ⊎ (fault ≡ Memory)) }
 {
     let mut source = paths.reader(path.clone()?);
     match read_whole(alloc, &mut source, GREATEST_INPUT) {

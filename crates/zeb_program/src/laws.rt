@@ -3,8 +3,8 @@ ghost use Rattle.zeb_program.specs.BatchRuns.{BatchIsOneRun};
 
 /// A batch is one run. Where the lines of a text are answered, the answers are those of one run of the commands that the lines name, in
 /// their order: so each is the definition's on what the commands before it left. What is written is just the texts of these answers, each
-/// in its line's place, with the lines for what is no command, and the status is the greatest met. A file that couldn't be read to its end
-/// adds nothing. The other way round, what is written for such a run is an answer of the batch.
+/// in its line's place, with the lines for what is no command, and the status is the greatest met. The other way
+/// round, what is written for such a run is an answer of the batch.
 pub fn a_batch_is_one_run()
     ensures { BatchIsOneRun }
 {}

@@ -4,6 +4,7 @@
 mod batch;
 mod command_line;
 mod digits;
+mod failures;
 mod faults;
 mod files;
 mod input;
@@ -15,6 +16,7 @@ mod numbers;
 mod opening;
 mod outputs;
 mod path_changes;
+mod performing;
 mod program;
 mod script;
 mod shell;

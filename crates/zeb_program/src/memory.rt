@@ -7,7 +7,7 @@ ghost use Rattle.sqlite.specs.Steps.{IsEmpty};
 use sqlite::{Connection, FileStore, Files, Options};
 use sqlite_disk::Memory;
 use std::alloc::Global;
-use zeb_paths::OpenFailed;
+use zeb_paths::{OpenFailed, StoreCause};
 
 /// Salts the log, so that frames which an earlier process left aren't taken for new ones. Files in memory have none.
 const SEED: u64 = 1;
@@ -29,6 +29,8 @@ pub fn open_in_memory(alloc: Global) -> Result<Connection<FileStore<Memory>>, Op
     options.spill_pages = SPILL_PAGES;
     match Connection::open_files(alloc, files, options) {
         Ok(connection) => Ok(connection),
-        Err(_) => Err(OpenFailed),
+        Err(_) => Err(OpenFailed {
+            cause: Some(StoreCause::Memory),
+        }),
     }
 }

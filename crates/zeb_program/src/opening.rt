@@ -9,7 +9,7 @@ ghost use Rattle.zeb_engine.specs.Crashes.{Bears};
 ghost use Rattle.zeb_image.specs.Holdings.{Holdings};
 ghost use Rattle.zeb_image.specs.Image.{Keeps};
 ghost use Rattle.zeb_register.specs.Formats.{packed_blocks, version_of};
-ghost use Rattle.zeb_program.specs.PrivateFaults.{IsOpeningFailure};
+ghost use Rattle.zeb_program.specs.FaultAnswers.{IsOpeningFailure};
 ghost use Rattle.zeb_program.specs.ScriptAnswers.{AreScriptConditions};
 
 use sqlite::{Alter, Connection};
@@ -42,7 +42,7 @@ pub fn session_over<S: Alter + Drop>(
         Ok(connection) => {
             taken_over(Session::adopt(alloc, connection, profile, Limits::GREATEST))
         }
-        Err(OpenFailed) => Err(Refusal::Store),
+        Err(_) => Err(Refusal::Store),
     }
 }
 

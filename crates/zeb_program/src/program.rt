@@ -3,6 +3,7 @@
 ghost use Rattle.std.specs.Prelude.{◌≡◌, ◌≢◌, ◌⊎◌, ◌≤◌, ◌+◌, [], true, false, map, string_bytes, IfOk, IfSome, OnErr};
 ghost use Rattle.std.specs.Io.KnownBytes.{Appends, Keeps};
 ghost use Rattle.zeb_program.specs.Inputs.{TakesAtMost};
+ghost use Rattle.zeb_program.specs.Registers.{places};
 ghost use Rattle.zeb_program.specs.ScriptAnswers.{AnswersScript, EndsEarly, EndsScript, fault_line, fault_status};
 ghost use Rattle.zeb_program.specs.WordAnswers.{EndsWords, IsFaultStatus, NamesLines, NamesShell};
 
@@ -80,10 +81,11 @@ pub fn run<R: Source, W: Output, V: Output, P: Paths>(
     ensures quiet { words.now ≡ [] → fault_output.new.failed ≡ false →
         Keeps (V.contents fault_output.old.writer) (V.contents fault_output.new.writer) }
 
-    // With words.
+    // With words: what is told of the register that they have a command carried out on is told where the paths tell what opens it.
     ensures words { words.now ≢ [] → output.new.failed ≡ false → fault_output.new.failed ≡ false →
-        EndsWords (map string_bytes words.now) (R.remaining input.new) (W.contents output.old.writer) (W.contents output.new.writer)
-        (V.contents fault_output.old.writer) (V.contents fault_output.new.writer) result }
+        EndsWords (places P.Store.Store (P.tells paths.old) (P.opens paths.old) (P.lacks paths.old)) (map string_bytes words.now)
+        (R.remaining input.old) (R.remaining input.new) (R.has_failed input.new) (W.contents output.old.writer)
+        (W.contents output.new.writer) (V.contents fault_output.old.writer) (V.contents fault_output.new.writer) result }
     ensures failed_batch { words.now ≢ [] → R.has_failed input.new ≡ true → result ≡ FAILED }
 {
     if words.is_empty() {

@@ -7,7 +7,7 @@ ghost use Rattle.sqlite.specs.State.{HasCleanDisk};
 ghost use Rattle.zeb_change.specs.Conditions.{conditions};
 ghost use Rattle.zeb_register.specs.Formats.{version_of};
 ghost use Rattle.zeb_program.specs.Answers.{AnswersBatch, AnswersLine, Writes};
-ghost use Rattle.zeb_program.specs.PrivateAnswers.{AnswersFirst};
+ghost use Rattle.zeb_program.specs.FirstAnswers.{AnswersFirst};
 ghost use Rattle.zeb_program.specs.Inputs.{TakesAtMost};
 ghost use Rattle.zeb_program.specs.Lines.{first_line, after_first_line};
 ghost use Rattle.zeb_program.specs.PrivateLines.{whole_first_line};
@@ -66,6 +66,7 @@ pub fn serve_lines<R: Source, S: Alter, L: Layout, P: Paths, W: Output, V: Write
         (AnswersFirst (P.tells paths.now) (conditions
         (version_of L.format) session.old.profile session.old.limits) 0 text (R.remaining input.new)))) }
     ensures silent { OnErr result (fault_output.new ≡ fault_output.old) }
+    ensures clean { HasCleanDisk (state S.Store session.new.connection) → HasCleanDisk (state S.Store session.old.connection) }
     ensures range { IfOk result (λ status. status ≤ FAILED) }
     ensures failed_read { R.has_failed input.new ≡ true → IfOk result (λ status. status ≡ FAILED) }
     ensures whole { IfOk result (λ status. status < FAILED → IsAtEnd (R.remaining input.new)) }
@@ -117,6 +118,7 @@ pub fn run_shell_lines<R: Source, S: Alter, L: Layout, P: Paths, W: Output>(
         → IfSome (R.remaining input.old) (λ text. Writes (W.contents output.old.writer) (W.contents output.new.writer) (FirstOver
         S.Store (P.tells paths.now) L.format (conditions (version_of L.format) session.old.profile session.old.limits) text
         (R.remaining input.new) session.old.connection))) }
+    ensures clean { HasCleanDisk (state S.Store session.new.connection) → HasCleanDisk (state S.Store session.old.connection) }
     ensures range { IfOk result (λ status. status ≤ FAILED) }
     ensures failed { R.has_failed input.new ≡ true → result ≡ Err Unreadable }
     // Only where something failed a line may be left.

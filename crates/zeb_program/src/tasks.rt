@@ -1,33 +1,28 @@
 //! The tasks that words name, each carried out on the register that the profile names.
 
-ghost use Rattle.std.specs.Prelude.{◌≡◌, ◌⊎◌, ℕ, [], List, Vec, map, string_bytes, IfErr, IfOk, OnErr};
-ghost use Rattle.std.specs.Option.{option_map};
+ghost use Rattle.std.specs.Prelude.{◌≡◌, ◌⊎◌, false, ℕ, [], List, Vec, map, string_bytes, IfErr, IfOk, OnErr};
 ghost use Rattle.std.specs.declared.alloc.Global.{Global};
 ghost use Rattle.sqlite.specs.Held.{state};
 ghost use Rattle.sqlite.specs.State.{HasCleanDisk};
 ghost use Rattle.zeb_change.specs.Conditions.{conditions};
 ghost use Rattle.zeb_image.specs.NameOf.{name_bytes};
 ghost use Rattle.zeb_register.specs.Calls.{ChangesNothing};
-ghost use Rattle.zeb_register.specs.Formats.{packed_blocks, version_of};
+ghost use Rattle.zeb_register.specs.Formats.{version_of};
 ghost use Rattle.zeb_engine.specs.Does.{AnswersAnyway};
-ghost use Rattle.zeb_program.specs.PrivateFaults.{GivesAnswer, IsOpeningFault, IsUnread, IsUnreadable};
-ghost use Rattle.zeb_program.specs.ScriptAnswers.{AreScriptConditions};
+ghost use Rattle.zeb_program.specs.PrivateFaults.{IsUnread};
+ghost use Rattle.zeb_program.specs.FaultAnswers.{GivesAnswer, IsUnreadable, NamesUnder};
 ghost use Rattle.zeb_program.specs.PrivateOverTables.{AnalysesOver, PathsLeave, PathsOver, ServesOver, TaskOver};
 ghost use Rattle.zeb_program.specs.PrivateServing.{AnswersFrom, ServesTask, replied};
-ghost use Rattle.zeb_program.specs.TaskAnswers.{ReadsWhole};
-ghost use Rattle.zeb_program.specs.PrivateTaskAnswers.{AnalysesFiles, AnswersCommand, AreTold, paths_of};
+ghost use Rattle.zeb_program.specs.TaskAnswers.{AnalysesFiles, AnswersCommand, AreTold, ReadsWhole, paths_of};
 ghost use Rattle.zeb_program.specs.PrivateWarnings as spec;
 
 use crate::faults::Fault;
-use crate::files::{contents_of, read_profile, readers_of};
-use crate::opening::session_over;
-use crate::warnings::{Place, unmarked_of, warning};
+use crate::files::{contents_of, readers_of};
+use crate::warnings::{Place, unmarked_of};
 use sqlite::Alter;
 use std::alloc::Global;
-use zeb_engine::{Command, DbName, Kind, Reply, Session, render};
-use zeb_packed::Blocks;
+use zeb_engine::{Command, DbName, Kind, Reply, Session};
 use zeb_paths::Paths;
-use zeb_profile::Profile;
 use zeb_register::Layout;
 use zeb_words::Act;
 
@@ -44,6 +39,23 @@ pub enum Task {
     },
     /// To show the occurrences of the records in the files at and below these paths.
     Analyse(Vec<String>),
+}
+
+impl Task {
+    /// Whether it may be accepted where there is no register yet.
+    pub fn begins(&self) -> bool
+        ensures { result ≡ false → ¬ (self.now ≡ Task.Ask Command.Init) }
+    {
+        matches!(self, Task::Ask(Command::Init))
+    }
+
+    /// The paths that it names.
+    pub fn named(&self) -> &[String] {
+        match self {
+            Task::Ask(_) => &[],
+            Task::Change { paths, .. } | Task::Analyse(paths) => paths.as_slice(),
+        }
+    }
 }
 
 /// What words ask for.
@@ -131,47 +143,6 @@ pub struct Served {
     pub unmarked: Vec<Place>,
 }
 
-/// What is written for a task that is answered.
-#[derive(Debug, Drop)]
-pub struct Told {
-    /// Its answer.
-    pub text: Vec<u8>,
-    /// A line that warns of records, where there is need.
-    pub warning: Option<String>,
-}
-
-/// Carries a task out under the profile in this file, and gives what is written.
-pub fn perform<P: Paths>(
-    alloc: Global,
-    config: String,
-    task: &Task,
-    paths: &mut P,
-) -> Result<Told, Fault>
-    ensures { IfOk result (λ told. spec.MayWarn task.now (option_map string_bytes told.warning)) }
-{
-    let profile = read_profile(alloc, paths, config)?;
-    let mut session = open_register(alloc, paths, profile)?;
-    let Served { reply, unmarked } = carry_out(alloc, &mut session, paths, task)?;
-    Ok(Told {
-        text: render(alloc, &reply)?,
-        warning: warning(alloc, &unmarked, &reply)?,
-    })
-}
-
-/// Opens the register at the profile's path.
-pub fn open_register<P: Paths>(
-    alloc: Global,
-    paths: &mut P,
-    profile: Profile,
-) -> Result<Session<P::Store, Blocks>, Fault>
-    ensures failed { IfErr result IsOpeningFault }
-    ensures under { IfOk result (λ session. AreScriptConditions profile
-        (conditions (version_of packed_blocks) session.profile session.limits)) }
-{
-    let opened = paths.store(profile.store_path());
-    Ok(session_over(alloc, opened, profile)?)
-}
-
 /// Carries a task out in a session.
 pub fn carry_out<S: Alter, L: Layout, P: Paths>(
     alloc: Global,
@@ -186,10 +157,12 @@ pub fn carry_out<S: Alter, L: Layout, P: Paths>(
     ensures over { HasCleanDisk (state S.Store session.new.connection)
         → TaskOver (P.tells paths.now) L.format (conditions (version_of L.format) session.old.profile session.old.limits) task.now
         (state S.Store session.old.connection) (state S.Store session.new.connection) (replied result) }
+    ensures clean { HasCleanDisk (state S.Store session.new.connection) → HasCleanDisk (state S.Store session.old.connection) }
     // An analysis leaves the connection as it is, whatever it is answered.
     ensures still { ReadsWhole task.now → session.new.connection ≡ session.old.connection }
     // Where something couldn't be read, the register was asked for nothing.
     ensures unread { IfErr result (λ fault. IsUnread fault → session.new ≡ session.old) }
+    ensures names { IfErr result (NamesUnder (paths_of task.now)) }
     // Where the bytes of a file at each path are told; and of another task than an analysis nothing is to be warned of.
     ensures unmarked { (files : List (List ℕ)) → AreTold (P.tells paths.now) (paths_of task.now) files
         → IfOk result (λ served. served.unmarked.items ≡ spec.unmarked_by task.now files) }
@@ -228,6 +201,7 @@ fn ask<S: Alter, L: Layout>(session: &mut Session<S, L>, command: &Command) -> R
     ensures over { HasCleanDisk (state S.Store session.new.connection)
         → GivesAnswer (ServesOver L.format (conditions (version_of L.format) session.old.profile session.old.limits) command.now
         (state S.Store session.old.connection) (state S.Store session.new.connection)) result }
+    ensures clean { HasCleanDisk (state S.Store session.new.connection) → HasCleanDisk (state S.Store session.old.connection) }
     ensures refused { HasCleanDisk (state S.Store session.new.connection)
         → OnErr result (ChangesNothing (state S.Store session.old.connection) (state S.Store session.new.connection)) }
     // An analysis asks the store for nothing.
@@ -264,6 +238,7 @@ pub fn change_by_paths<S: Alter, L: Layout, P: Paths>(
         (name_bytes database.now) (map string_bytes named.now) (state S.Store session.old.connection)
         (state S.Store session.new.connection) result }
     ensures unread { IfErr result (λ fault. IsUnread fault → session.new ≡ session.old) }
+    ensures names { IfErr result (NamesUnder (map string_bytes named.now)) }
 {
     let mut readers = readers_of(alloc, paths, named)?;
     match session.update_from(database, kind, &mut readers) {
@@ -289,6 +264,7 @@ fn analyse_paths<S: Alter, L: Layout, P: Paths>(
         (replied result) }
     ensures still { session.new.connection ≡ session.old.connection }
     ensures unread { IfErr result (λ fault. IsUnread fault → session.new ≡ session.old) }
+    ensures names { IfErr result (NamesUnder (map string_bytes named.now)) }
     ensures unmarked { (files : List (List ℕ)) → AreTold (P.tells paths.now) (map string_bytes named.now) files
         → IfOk result (λ served. served.unmarked.items ≡ spec.unmarked_of 1 files) }
 {

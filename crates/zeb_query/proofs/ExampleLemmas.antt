@@ -1,9 +1,20 @@
 -- Queries' texts and what they spell, word by word.
 use Rattle.zeb_query.proofs.Cited.{◌≡◌, ℕ, true, false, List, [], ◌∷◌, ◌++◌, Some, None, length, codes, refl, subst, Result, list_all, Plain, Quoted, Operator, OperatorWord, Directive, Word, AreWords, words_at, TreeValue, TermValue, NamedValue, PairValue, QueryValue, IsStructure, is_term, is_named, is_attribute, is_attribute_of_set, is_typed, is_pair, IsQuery, is_structure_of_set, keyword_spelled, has_equals, is_good, text_of, parameter_count, under, with_attribute, with_type, no_head, SpellsQuery, PlanValue, ScanValue, plan_of, scan_of, Refusal, sample_profile, PlansUnder, PlansAs, ScansAs, ConnectiveValue, connective_of}
 use Rattle.std.proofs.Common.{map}
-use Rattle.std.specs.Prelude.{chars}
-use Rattle.zeb_query.specs.Grammar.{kind_and_value}
 use Rattle.zeb_query.proofs.WordStretches.{words_are_read}
+-- what the examples unfold
+unfoldable pub use Rattle.std.specs.Str.{chars, is_utf8}
+unfoldable pub use Rattle.std.specs.Fmt.{digits}
+unfoldable pub use lib.Utf8.{encode}
+unfoldable pub use Rattle.ucd_category.proofs.Computing.{ucd_category}
+unfoldable pub use Rattle.caseless.proofs.Computing.{caseless}
+unfoldable pub use Rattle.zeb_text.specs.Folding.{folded}
+unfoldable pub use Rattle.zeb_text.specs.Words.{is_word_character, runs_of}
+unfoldable pub use Rattle.zeb_text.specs.Truncation.{truncated}
+unfoldable pub use Rattle.zeb_text.specs.Numbers.{number_key}
+unfoldable pub use Rattle.zeb_query.specs.Grammar.{kind_and_value}
+unfoldable pub use Rattle.zeb_query.specs.Attributes.{holding_of}
+unfoldable pub use Rattle.zeb_query.specs.Plans.{plan_asked, scan_asked}
 
 abbrev pub plain : ℕ → List ℕ → Word
 plain place text = record { place = place; spelling = Plain; text = text }

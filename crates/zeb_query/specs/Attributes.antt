@@ -103,9 +103,6 @@ abbrev pub numbers_in : {A : Type 0} → List (ℕ × A) → List ℕ
 numbers_in [] = []
 numbers_in (row ∷ rows) = row.0 ∷ numbers_in rows
 
-abbrev pub kept_relations : List ℕ
-kept_relations = numbers_in comparisons ++ always_matches
-
 -- type 3, position: first in field and first in subfield
 abbrev pub first_positions : List ℕ
 first_positions = 1 ∷ 2 ∷ []
@@ -113,9 +110,6 @@ first_positions = 1 ∷ 2 ∷ []
 -- any position
 abbrev pub any_positions : List ℕ
 any_positions = 3 ∷ []
-
-abbrev pub kept_positions : List ℕ
-kept_positions = first_positions ++ any_positions
 
 -- type 4, structure: phrase and word
 abbrev pub phrases : List ℕ
@@ -142,18 +136,12 @@ lists = word_lists ++ free_forms
 abbrev pub one_number : List ℕ
 one_number = local_numbers ++ numeric_strings
 
-abbrev pub kept_structures : List ℕ
-kept_structures = phrases ++ (lists ++ one_number)
-
 -- type 5, truncation
 abbrev pub truncations : List (ℕ × Cut)
 truncations = (1, cut.Right) ∷ (2, cut.Left) ∷ (3, cut.Both) ∷ (100, cut.None) ∷ (101, cut.Hash) ∷ []
 
 abbrev pub no_truncation : List ℕ
 no_truncation = 100 ∷ []
-
-abbrev pub kept_truncations : List ℕ
-kept_truncations = numbers_in truncations
 
 -- type 6, completeness: incomplete subfield
 abbrev pub incomplete_texts : List ℕ
@@ -162,9 +150,6 @@ incomplete_texts = 1 ∷ []
 -- complete subfield and complete field
 abbrev pub whole_texts : List ℕ
 whole_texts = 2 ∷ 3 ∷ []
-
-abbrev pub kept_completenesses : List ℕ
-kept_completenesses = incomplete_texts ++ whole_texts
 
 -- ---- the value that holds
 

@@ -25,7 +25,7 @@ use Rattle.zeb_query.specs.declared.keywords.OperatorWord.{OperatorWord}
 use Rattle.zeb_query.specs.declared.keywords.OperatorWord.TheVariants.{And, Not, Or, Proximity}
 use Rattle.zeb_query.specs.declared.plans.Operator.TheVariants as on_sets
 use Rattle.zeb_query.specs.Grammar.{BooleanOf, ConnectiveValue, HeadValue, NamedValue, PairValue, ParametersValue, ProximityOf, QueryValue, TermValue, TreeValue, few, heads, is_number, many, no_head, operator_word}
-use Rattle.zeb_query.specs.Attributes.{HoldingValue, always_matches, completeness_is, equality, first_positions, holding_of, index_held, index_used, kept_completenesses, kept_positions, kept_relations, kept_structures, kept_truncations, lists, local_numbers, no_truncation, numeric_strings, one_number, ordered_relations, patterns_held, phrases, position_is, register_searched, relation_is, structure_is, truncation_is, whole_texts}
+use Rattle.zeb_query.specs.Attributes.{HoldingValue, always_matches, any_positions, comparisons, completeness_is, equality, first_positions, holding_of, incomplete_texts, index_held, index_used, lists, local_numbers, no_truncation, numbers_in, numeric_strings, one_number, ordered_relations, patterns_held, phrases, position_is, register_searched, relation_is, structure_is, truncation_is, truncations, whole_texts}
 
 -- ---- diagnostics as values
 
@@ -121,11 +121,11 @@ use_checks profile place local use_attribute =
 abbrev pub value_checks : Profile → ℕ → HoldingValue → List Check
 value_checks profile place h =
     use_checks profile place (structure_is h local_numbers) h.use_attribute
-    ++ check place 117 (written h.relation) (not (relation_is h kept_relations))
-    ∷ check place 119 (written h.position) (not (position_is h kept_positions))
-    ∷ check place 118 (written h.structure) (not (structure_is h kept_structures))
-    ∷ check place 120 (written h.truncation) (not (truncation_is h kept_truncations))
-    ∷ check place 122 (written h.completeness) (not (completeness_is h kept_completenesses))
+    ++ check place 117 (written h.relation) (not (relation_is h (numbers_in comparisons ++ always_matches)))
+    ∷ check place 119 (written h.position) (not (position_is h (first_positions ++ any_positions)))
+    ∷ check place 118 (written h.structure) (not (structure_is h (phrases ++ (lists ++ one_number))))
+    ∷ check place 120 (written h.truncation) (not (truncation_is h (numbers_in truncations)))
+    ∷ check place 122 (written h.completeness) (not (completeness_is h (incomplete_texts ++ whole_texts)))
     ∷ []
 
 -- the number of words, where words are compared

@@ -3,7 +3,7 @@
 use Rattle.std.specs.Prelude.{ℕ, List, ◌++◌, map, string_bytes, ◌≡◌, [], ◌∷◌, true, false, Bool, Option, Some, None, length, ◌==◌, if◌then◌else◌}
 use Rattle.std.specs.List.{list_all}
 use Rattle.std.specs.Borrow.{Bor}
-use Rattle.std.specs.Option.{option_map}
+use Rattle.std.specs.Option.{option_copied}
 use Rattle.zeb_query.specs.declared.diagnostics.Condition.{Condition}
 use Rattle.zeb_query.specs.declared.diagnostics.Condition.TheVariants as condition
 use Rattle.zeb_query.specs.declared.faults.QueryFault.{QueryFault}
@@ -179,15 +179,15 @@ pub record Spells (rest after : Rest) (tree : TreeValue) : Type 0 where
 -- what a program keeps of it, without where the texts lie in memory
 abbrev pub holding_value : Holding → HoldingValue
 holding_value holding = record {
-  other_set = option_map (λ text. text.now) holding.other_set;
+  other_set = option_copied holding.other_set;
   other_kind = holding.other_kind;
-  term_type = option_map (λ text. text.now) holding.term_type;
-  use_attribute = option_map (λ text. text.now) holding.use_attribute;
-  relation = option_map (λ text. text.now) holding.relation;
-  position = option_map (λ text. text.now) holding.position;
-  structure = option_map (λ text. text.now) holding.structure;
-  truncation = option_map (λ text. text.now) holding.truncation;
-  completeness = option_map (λ text. text.now) holding.completeness;
+  term_type = option_copied holding.term_type;
+  use_attribute = option_copied holding.use_attribute;
+  relation = option_copied holding.relation;
+  position = option_copied holding.position;
+  structure = option_copied holding.structure;
+  truncation = option_copied holding.truncation;
+  completeness = option_copied holding.completeness;
 }
 
 -- one more attribute inside of all others

@@ -1,12 +1,16 @@
 -- Worked examples: two small profiles of this project's own, each the directives of a text, and what the texts of queries come to under
 -- them.
-use Rattle.std.specs.Prelude.{List, None, Result, Some, [], codes, zero, suc, ℕ, ◌++◌, ◌∷◌, ◌≡◌}
+use Rattle.std.specs.Prelude.{List, None, Ok, Result, Some, [], codes, false, true, zero, suc, ℕ, ◌++◌, ◌∷◌, ◌≡◌}
 use Rattle.zeb_profile.specs.declared.directives.Directive.{Directive}
 use Rattle.zeb_profile.specs.declared.directives.Directive.TheVariants.{All, Att, Identifier, Melm, Store}
 use Rattle.zeb_keys.specs.declared.registers.Register.TheVariants.{Number, Phrase, Word}
 use Rattle.zeb_query.specs.Grammar.{QueryValue, SpellsQuery}
 use Rattle.zeb_query.specs.Checks.{Refusal}
-use Rattle.zeb_query.specs.Plans.{PlanValue, ScanValue, plan_of, scan_of}
+use Rattle.zeb_query.specs.declared.plans.DistanceRelation.{DistanceRelation}
+use Rattle.zeb_query.specs.declared.plans.Order.{Order}
+use Rattle.zeb_query.specs.declared.plans.Relation.{Relation}
+use Rattle.zeb_query.specs.Plans.{NearOf, NumberOf, OrderedOf, PhraseOf, PlanValue, ScanValue, TermOf, plan_of, scan_of}
+use Rattle.zeb_text.specs.Symbols.{literal}
 
 -- words and phrases of titles, numbers of dates, and any words: the indexes Title (0), Date (1) and Any (2); 99 is `c`
 abbrev pub sample_profile : List Directive
@@ -49,3 +53,24 @@ pub record ScansAs (text : List ℕ) (result : Result ScanValue Refusal) : Type 
 abbrev pub times : ℕ → List ℕ → List ℕ
 times zero text = []
 times (suc n) text = text ++ times n text
+
+-- the text between double quotes
+abbrev pub quoted : List ℕ → List ℕ
+quoted text = 34 ∷ (text ++ 34 ∷ [])
+
+-- ---- plans: a word of an index, the same as the first of its unit, an entry of Title by `dick`, a date by 951, and the words a and b
+abbrev pub word_in : ℕ → List ℕ → Result PlanValue Refusal
+word_in index word = Ok (TermOf (PhraseOf index (literal word ∷ []) false))
+
+abbrev pub first_in : ℕ → List ℕ → Result PlanValue Refusal
+first_in index word = Ok (TermOf (PhraseOf index (literal word ∷ []) true))
+
+abbrev pub dick_by : Order → Result PlanValue Refusal
+dick_by order = Ok (TermOf (OrderedOf 0 Word order (Some (codes "dick"))))
+
+abbrev pub date_by : Relation → Result PlanValue Refusal
+date_by relation = Ok (TermOf (NumberOf 1 relation 951))
+
+abbrev pub a_near_b : DistanceRelation → Result PlanValue Refusal
+a_near_b relation =
+    Ok (NearOf 2 (literal (codes "a")) (literal (codes "b")) (record { distance = 1; ordered = false; relation = relation }))

@@ -1,8 +1,8 @@
 //! The values of a term's attributes that are kept, each type an enum of its own.
 ghost use Rattle.std.specs.Prelude.{◌≡◌};
-ghost use Rattle.std.specs.Option.{option_map};
-ghost use Rattle.zeb_query.specs.PrivateValues.{relations, positions, structures, completenesses};
-ghost use Rattle.zeb_query.specs.Attributes.{default_completeness, default_position, default_relation, default_structure, default_truncation, is_among, local_numbers, truncations, number_or, value_of};
+ghost use Rattle.std.specs.Option.{option_copied};
+ghost use Rattle.zeb_query.specs.PrivateValues.{relations, positions, structures, completenesses, asks_number};
+ghost use Rattle.zeb_query.specs.Attributes.{default_completeness, default_position, default_relation, default_structure, default_truncation, is_among, local_numbers, truncations, number_or, value_of, order_of};
 
 use crate::digits::short_number;
 use crate::{Order, Relation};
@@ -18,9 +18,6 @@ pub(crate) enum Asked {
 }
 
 impl Relation {
-    ghost use Rattle.std.specs.Prelude.{◌≡◌};
-    ghost use Rattle.zeb_query.specs.Attributes.{order_of};
-
     /// The order that it is, if it isn't equality.
     pub(crate) fn order(self) -> Option<Order>
         ensures { result ≡ order_of self }
@@ -58,10 +55,6 @@ pub(crate) enum Structure {
 }
 
 impl Structure {
-    ghost use Rattle.std.specs.Prelude.{◌≡◌};
-    ghost use Rattle.zeb_query.specs.PrivateValues.{asks_number};
-
-    /// Whether the term is a number.
     pub(crate) fn is_numeric(self) -> bool
         ensures { result ≡ asks_number self }
     {
@@ -80,7 +73,7 @@ pub(crate) enum Completeness {
 
 /// The number that an attribute's value spells, or the default where there is no attribute of the type.
 fn number_or(value: Option<&str>, default: u32) -> Option<u32>
-    ensures { result ≡ number_or default (option_map (λ text. text.now) value.entry) }
+    ensures { result ≡ number_or default (option_copied value.entry) }
 {
     match value {
         None => Some(default),
@@ -90,7 +83,7 @@ fn number_or(value: Option<&str>, default: u32) -> Option<u32>
 
 /// The relation, equal where there is no attribute; nothing for a value that isn't kept.
 pub(crate) fn relation_of(value: Option<&str>) -> Option<Asked>
-    ensures { result ≡ value_of relations default_relation (option_map (λ text. text.now) value.entry) }
+    ensures { result ≡ value_of relations default_relation (option_copied value.entry) }
 {
     match number_or(value, 3)? {
         1 => Some(Asked::Compared(Relation::Less)),
@@ -105,7 +98,7 @@ pub(crate) fn relation_of(value: Option<&str>) -> Option<Asked>
 
 /// The position, any where there is no attribute; nothing for a value that isn't kept.
 pub(crate) fn position_of(value: Option<&str>) -> Option<Position>
-    ensures { result ≡ value_of positions default_position (option_map (λ text. text.now) value.entry) }
+    ensures { result ≡ value_of positions default_position (option_copied value.entry) }
 {
     match number_or(value, 3)? {
         1 | 2 => Some(Position::First),
@@ -116,7 +109,8 @@ pub(crate) fn position_of(value: Option<&str>) -> Option<Position>
 
 /// Whether the structure is 107, local number, which this project reads as the record's system number, in no index.
 pub(crate) fn is_local_number(value: Option<&str>) -> bool
-    ensures { result ≡ is_among local_numbers (number_or default_structure (option_map (λ text. text.now) value.entry)) }
+    ensures { result ≡ is_among local_numbers
+        (number_or default_structure (option_copied value.entry)) }
 {
     match number_or(value, 1) {
         Some(number) => number == 107,
@@ -126,7 +120,7 @@ pub(crate) fn is_local_number(value: Option<&str>) -> bool
 
 /// Another structure, a phrase where there is no attribute; nothing for a value that isn't kept.
 pub(crate) fn structure_of(value: Option<&str>) -> Option<Structure>
-    ensures { result ≡ value_of structures default_structure (option_map (λ text. text.now) value.entry) }
+    ensures { result ≡ value_of structures default_structure (option_copied value.entry) }
 {
     match number_or(value, 1)? {
         1 | 2 => Some(Structure::Phrase),
@@ -139,7 +133,7 @@ pub(crate) fn structure_of(value: Option<&str>) -> Option<Structure>
 
 /// The truncation (Bib-1, attribute type 5), none where there is no attribute; nothing for a value that isn't kept.
 pub(crate) fn truncation_of(value: Option<&str>) -> Option<Cut>
-    ensures { result ≡ value_of truncations default_truncation (option_map (λ text. text.now) value.entry) }
+    ensures { result ≡ value_of truncations default_truncation (option_copied value.entry) }
 {
     match number_or(value, 100)? {
         1 => Some(Cut::Right),
@@ -153,7 +147,7 @@ pub(crate) fn truncation_of(value: Option<&str>) -> Option<Cut>
 
 /// The completeness, incomplete where there is no attribute; nothing for a value that isn't kept.
 pub(crate) fn completeness_of(value: Option<&str>) -> Option<Completeness>
-    ensures { result ≡ value_of completenesses default_completeness (option_map (λ text. text.now) value.entry) }
+    ensures { result ≡ value_of completenesses default_completeness (option_copied value.entry) }
 {
     match number_or(value, 1)? {
         1 => Some(Completeness::Incomplete),

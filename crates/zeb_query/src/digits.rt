@@ -4,13 +4,11 @@ ghost use Rattle.std.specs.List.{list_all};
 ghost use Rattle.std.specs.Char.{is_ascii_digit};
 ghost use Rattle.zeb_query.specs.Grammar.{is_number, number_of, few, many};
 
+use zeb_text::KEY_DIGITS;
+
 /// The most digits of an attribute's type and value, of a distance and of a system number, a limit of this project's own.
 const FEW: usize = 9;
 
-/// The most digits of another number, a limit of this project's own.
-const MANY: usize = 18;
-
-/// Whether the text has ASCII digits alone.
 fn has_digits_alone(text: &str) -> bool
     ensures { result ≡ list_all is_ascii_digit text.now }
 {
@@ -42,10 +40,8 @@ pub(crate) fn short_number(text: &str) -> Option<u32>
     ensures value { result ≡ number_of few text.now }
     ensures small { IfSome result (λ number. number < 10 ^ few) }
 {
-    match number_within(text, FEW) {
-        Some(number) => Some(number as u32),
-        None => None,
-    }
+    let number = number_within(text, FEW)?;
+    Some(number as u32)
 }
 
 /// The number that a text of 1 to 18 digits spells.
@@ -53,5 +49,5 @@ pub(crate) fn long_number(text: &str) -> Option<u64>
     ensures value { result ≡ number_of many text.now }
     ensures small { IfSome result (λ number. number < 10 ^ many) }
 {
-    number_within(text, MANY)
+    number_within(text, KEY_DIGITS)
 }

@@ -1,4 +1,7 @@
 //! Why a text is no query, or a query has no plan.
+ghost use Rattle.std.specs.Prelude.{◌≡◌};
+ghost use Rattle.zeb_query.specs.declared.faults.QueryFault.TheVariants.{Memory};
+
 use crate::diagnostics::Condition;
 use std::alloc::{AllocError, AllocFailed, Global};
 use std::fmt;
@@ -70,9 +73,6 @@ impl QueryFault {
 }
 
 impl From<AllocError> for QueryFault {
-    ghost use Rattle.std.specs.Prelude.{◌≡◌};
-    ghost use Rattle.zeb_query.specs.declared.faults.QueryFault.TheVariants.{Memory};
-
     ghost from_gives = { λ _ e. e ≡ Memory };
 
     fn from(_error: AllocError) -> QueryFault {
@@ -81,9 +81,6 @@ impl From<AllocError> for QueryFault {
 }
 
 impl<T: Drop> From<AllocFailed<T>> for QueryFault {
-    ghost use Rattle.std.specs.Prelude.{◌≡◌};
-    ghost use Rattle.zeb_query.specs.declared.faults.QueryFault.TheVariants.{Memory};
-
     ghost from_gives = { λ _ e. e ≡ Memory };
 
     fn from(_error: AllocFailed<T>) -> QueryFault {

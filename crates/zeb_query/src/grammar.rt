@@ -46,11 +46,13 @@ impl<'a> Rest<'a> {
 
     /// The first word, whatever it is but a bad one, and what follows it.
     fn word(&self, alloc: Global) -> Result<(&'a Word, Rest<'a>), QueryFault>
-        ensures shorter { IfOk result (λ read. length read.1.words.now < length self.now.words.now) }
+        ensures shorter { IfOk result
+            (λ read. length read.1.words.now < length self.now.words.now) }
         ensures reads { IfOk result (λ read. ReadsWord self.now read.1 (word_of read.0.now)) }
         ensures good { IfOk result (λ read. is_good (word_of read.0.now) ≡ true) }
         ensures fails { IfErr result (λ e. (due : Due) →
-            fault_at_end self.now.end due ≡ Some (108, self.now.end) → IsFault e (fault_of self.now due)) }
+            fault_at_end self.now.end due ≡ Some (108, self.now.end)
+            → IsFault e (fault_of self.now due)) }
     {
         match self.words.split_first() {
             Some((word, words)) if word.spelling != Spelling::Bad => {
@@ -60,7 +62,6 @@ impl<'a> Rest<'a> {
         }
     }
 
-    /// The keyword that the first word is.
     fn keyword(&self) -> Option<Keyword>
         ensures { result ≡ first_keyword (left self.now) }
     {
@@ -79,7 +80,8 @@ impl<'a> Rest<'a> {
 
     /// What follows the keyword, if that is the first word.
     fn after(&self, keyword: Keyword) -> Option<Rest<'a>>
-        ensures shorter { IfSome result (λ rest. length rest.words.now < length self.now.words.now) }
+        ensures shorter { IfSome result
+            (λ rest. length rest.words.now < length self.now.words.now) }
         ensures reads { IfSome result (ReadsFirst self.now) }
         ensures found { IfSome result (λ _. first_keyword (left self.now) ≡ Some keyword) }
         ensures absent { IfNone result (first_keyword (left self.now) ≢ Some keyword) }
@@ -117,8 +119,10 @@ fn attribute_set_of<'a>(
     alloc: Global,
     rest: Rest<'a>,
 ) -> Result<(Option<String>, Rest<'a>), QueryFault>
-    ensures goes { IfOk result (λ read. fault_of rest.entry Start ≡ fault_of read.1 (Structures 1)) }
-    ensures spelled { IfOk result (λ read. SpellsSet rest.entry read.1 (option_map string_bytes read.0)) }
+    ensures goes { IfOk result
+        (λ read. fault_of rest.entry Start ≡ fault_of read.1 (Structures 1)) }
+    ensures spelled { IfOk result
+        (λ read. SpellsSet rest.entry read.1 (option_map string_bytes read.0)) }
     ensures fails { IfErr result (λ e. IsFault e (fault_of rest.entry Start)) }
 {
     let Some(after) = rest.after(Keyword::AttributeSet) else {
@@ -135,7 +139,8 @@ fn structure<'a>(alloc: Global, rest: Rest<'a>) -> Result<(Tree, Rest<'a>), Quer
     ensures goes { IfOk result (λ read. (n : ℕ) →
         fault_of rest.entry (Structures (suc n)) ≡ fault_of read.1 (Structures n)) }
     ensures spelled { IfOk result (λ read. Spells rest.entry read.1 (tree_value read.0)) }
-    ensures fails { IfErr result (λ e. (n : ℕ) → IsFault e (fault_of rest.entry (Structures (suc n)))) }
+    ensures fails { IfErr result (λ e. (n : ℕ)
+        → IsFault e (fault_of rest.entry (Structures (suc n)))) }
 {
     let (head, rest) = head_of(alloc, rest)?;
     match rest.keyword() {
@@ -163,7 +168,6 @@ fn structure<'a>(alloc: Global, rest: Rest<'a>) -> Result<(Tree, Rest<'a>), Quer
     }
 }
 
-/// An operator and its operands.
 fn pair_tree(
     alloc: Global,
     place: usize,
@@ -173,7 +177,8 @@ fn pair_tree(
     right: Tree,
 ) -> Result<Tree, AllocError>
     ensures { IfOk result (λ tree. tree_value tree
-        ≡ PairValue place (head_value head) (connective_value connective) (tree_value left) (tree_value right)) }
+        ≡ PairValue place (head_value head) (connective_value connective)
+        (tree_value left) (tree_value right)) }
 {
     let left = Box::new(alloc, left)?;
     let right = Box::new(alloc, right)?;
@@ -193,9 +198,10 @@ fn head_of<'a>(alloc: Global, rest: Rest<'a>) -> Result<(Head, Rest<'a>), QueryF
     ensures goes { IfOk result (λ read. (n : ℕ) →
         fault_of rest.entry (Structures (suc n)) ≡ fault_of read.1 (Structures (suc n))) }
     ensures spelled { IfOk result (λ read. SpellsHead rest.entry read.1 (head_value read.0)) }
-    ensures no_attribute { IfOk result (λ read. first_keyword (left read.1) ≢ Some AttributeKeyword) }
-    ensures no_type { IfOk result (λ read. first_keyword (left read.1) ≢ Some TermTypeKeyword) }
-    ensures fails { IfErr result (λ e. (n : ℕ) → IsFault e (fault_of rest.entry (Structures (suc n)))) }
+    ensures ended { IfOk result (λ read. (first_keyword (left read.1) ≢ Some AttributeKeyword)
+        × (first_keyword (left read.1) ≢ Some TermTypeKeyword)) }
+    ensures fails { IfErr result (λ e. (n : ℕ)
+        → IsFault e (fault_of rest.entry (Structures (suc n)))) }
 {
     let mut rest = rest;
     let mut head = Head {
@@ -220,7 +226,8 @@ fn head_of<'a>(alloc: Global, rest: Rest<'a>) -> Result<(Head, Rest<'a>), QueryF
 /// Puts an attribute inside of all that stand in the head.
 fn push_attribute(head: &mut Head, attribute: Attribute) -> Result<(), AllocError>
     ensures { OnOk result (head_value head.new
-        ≡ heads (head_value head.old) record { attributes = attribute_value attribute ∷ []; term_type = None }) }
+        ≡ heads (head_value head.old)
+        record { attributes = attribute_value attribute ∷ []; term_type = None }) }
 {
     head.attributes.push(attribute)?;
     Ok(())
@@ -231,7 +238,8 @@ fn attribute_of<'a>(alloc: Global, rest: Rest<'a>) -> Result<(Attribute, Rest<'a
     ensures shorter { IfOk result (λ read. length read.1.words.now < length rest.entry.words.now) }
     ensures goes { IfOk result (λ read. (n : ℕ) → fault_of rest.entry (SetOrSpec n)
         ≡ fault_of read.1 (Structures (suc n))) }
-    ensures spelled { IfOk result (λ read. SpellsAttribute rest.entry read.1 (attribute_value read.0)) }
+    ensures spelled { IfOk result
+        (λ read. SpellsAttribute rest.entry read.1 (attribute_value read.0)) }
     ensures fails { IfErr result (λ e. (n : ℕ) → IsFault e (fault_of rest.entry (SetOrSpec n))) }
 {
     if rest.has_spec() {
@@ -249,8 +257,10 @@ fn spec_of<'a>(
     rest: Rest<'a>,
 ) -> Result<(Attribute, Rest<'a>), QueryFault>
     ensures shorter { IfOk result (λ read. length read.1.words.now < length rest.entry.words.now) }
-    ensures goes { IfOk result (λ read. (n : ℕ) → fault_of rest.entry (Spec n) ≡ fault_of read.1 (Structures (suc n))) }
-    ensures spelled { IfOk result (λ read. SpellsSpec rest.entry read.1 (option_map string_bytes set) (attribute_value read.0)) }
+    ensures goes { IfOk result (λ read. (n : ℕ) → fault_of rest.entry (Spec n)
+        ≡ fault_of read.1 (Structures (suc n))) }
+    ensures spelled { IfOk result (λ read. SpellsSpec rest.entry read.1
+        (option_map string_bytes set) (attribute_value read.0)) }
     ensures fails { IfErr result (λ e. (n : ℕ) → IsFault e (fault_of rest.entry (Spec n))) }
 {
     let (word, after) = rest.word(alloc)?;
@@ -290,8 +300,10 @@ fn connective_of<'a>(
     ensures shorter { IfOk result (λ read. length read.2.words.now < length rest.entry.words.now) }
     ensures goes { IfOk result (λ read. (n : ℕ) →
         fault_of rest.entry (Structures (suc n)) ≡ fault_of read.2 (Structures (suc (suc n)))) }
-    ensures spelled { IfOk result (λ read. SpellsOperator rest.entry read.2 operator read.0 (connective_value read.1)) }
-    ensures fails { IfErr result (λ e. (n : ℕ) → IsFault e (fault_of rest.entry (Structures (suc n)))) }
+    ensures spelled { IfOk result (λ read. SpellsOperator rest.entry read.2 operator read.0
+        (connective_value read.1)) }
+    ensures fails { IfErr result (λ e. (n : ℕ)
+        → IsFault e (fault_of rest.entry (Structures (suc n)))) }
 {
     let (word, after) = rest.word(alloc)?;
     let place = word.place;
@@ -313,11 +325,12 @@ fn connective_of<'a>(
     }
 }
 
-/// The six parameters of `@prox`.
 fn parameters_of<'a>(alloc: Global, rest: Rest<'a>) -> Result<(Parameters, Rest<'a>), QueryFault>
     ensures shorter { IfOk result (λ read. length read.1.words.now ≤ length rest.entry.words.now) }
-    ensures goes { IfOk result (λ read. (n : ℕ) → fault_of rest.entry (words_then 6 n) ≡ fault_of read.1 (Structures n)) }
-    ensures spelled { IfOk result (λ read. SpellsProximity rest.entry read.1 (parameters_value read.0)) }
+    ensures goes { IfOk result (λ read. (n : ℕ) → fault_of rest.entry (words_then 6 n)
+        ≡ fault_of read.1 (Structures n)) }
+    ensures spelled { IfOk result
+        (λ read. SpellsProximity rest.entry read.1 (parameters_value read.0)) }
     ensures fails { IfErr result (λ e. (n : ℕ) → IsFault e (fault_of rest.entry (words_then 6 n))) }
 {
     let (exclusion, rest) = parameter(alloc, rest)?;
@@ -340,9 +353,12 @@ fn parameters_of<'a>(alloc: Global, rest: Rest<'a>) -> Result<(Parameters, Rest<
 /// A word of any kind.
 fn parameter<'a>(alloc: Global, rest: Rest<'a>) -> Result<(String, Rest<'a>), QueryFault>
     ensures shorter { IfOk result (λ read. length read.1.words.now ≤ length rest.entry.words.now) }
-    ensures goes { IfOk result (λ read. (k n : ℕ) → fault_of rest.entry (MoreWords k n) ≡ fault_of read.1 (words_then k n)) }
-    ensures spelled { IfOk result (λ read. SpellsParameters rest.entry read.1 (string_bytes read.0 ∷ [])) }
-    ensures fails { IfErr result (λ e. (k n : ℕ) → IsFault e (fault_of rest.entry (MoreWords k n))) }
+    ensures goes { IfOk result (λ read. (k n : ℕ) → fault_of rest.entry (MoreWords k n)
+        ≡ fault_of read.1 (words_then k n)) }
+    ensures spelled { IfOk result
+        (λ read. SpellsParameters rest.entry read.1 (string_bytes read.0 ∷ [])) }
+    ensures fails { IfErr result (λ e. (k n : ℕ)
+        → IsFault e (fault_of rest.entry (MoreWords k n))) }
 {
     let (word, after) = rest.word(alloc)?;
     Ok((word.text.clone()?, after))

@@ -1,6 +1,8 @@
 //! The attributes and the term type that hold over a term, the innermost of each type.
-ghost use Rattle.std.specs.Prelude.{◌≡◌};
-ghost use Rattle.zeb_query.specs.Attributes.{is_bib1};
+ghost use Rattle.std.specs.Prelude.{◌≡◌, List, ℕ, Option, Some};
+ghost use Rattle.zeb_query.specs.Attributes.{is_bib1, holding_of};
+ghost use Rattle.zeb_query.specs.Grammar.{attribute_value, head_value, query_value, HeadValue, heads, no_head};
+ghost use Rattle.zeb_query.specs.PrivateReading.{holding_value, held_with, first_set};
 
 use crate::{Attribute, Head, Query};
 
@@ -26,11 +28,6 @@ pub(crate) struct Holding<'a> {
 }
 
 impl<'a> Holding<'a> {
-    ghost use Rattle.std.specs.Prelude.{◌≡◌, List, ℕ, Option, Some};
-    ghost use Rattle.zeb_query.specs.Grammar.{attribute_value, head_value, query_value, HeadValue, heads, no_head};
-    ghost use Rattle.zeb_query.specs.PrivateReading.{holding_value, held_with, first_set};
-    ghost use Rattle.zeb_query.specs.Attributes.{holding_of};
-
     /// What holds over the whole of a query.
     pub(crate) fn over(query: &'a Query) -> Holding<'a>
         ensures { holding_value result ≡ holding_of (query_value query.now).attrset no_head }
@@ -54,7 +51,8 @@ impl<'a> Holding<'a> {
 
     /// What holds where also the head stands.
     pub(crate) fn within(self, head: &'a Head) -> Holding<'a>
-        ensures { (set : Option (List ℕ)) (outer : HeadValue) → holding_value self.entry ≡ holding_of set outer
+        ensures { (set : Option (List ℕ)) (outer : HeadValue)
+            → holding_value self.entry ≡ holding_of set outer
             → holding_value result ≡ holding_of set (heads outer (head_value head.now)) }
     {
         let mut holding = self;
@@ -69,14 +67,16 @@ impl<'a> Holding<'a> {
 
     /// Sets a term type inside of all others.
     fn set_type(&mut self, term_type: &'a str)
-        ensures { holding_value self.new ≡ record (holding_value self.old) { term_type = Some term_type.now } }
+        ensures { holding_value self.new
+            ≡ record (holding_value self.old) { term_type = Some term_type.now } }
     {
         self.term_type = Some(term_type);
     }
 
     /// Adds an attribute inside of all others.
     fn add(&mut self, attribute: &'a Attribute)
-        ensures { holding_value self.new ≡ held_with (holding_value self.old) (attribute_value attribute.now) }
+        ensures { holding_value self.new
+            ≡ held_with (holding_value self.old) (attribute_value attribute.now) }
     {
         if let Some(set) = &attribute.set {
             self.name_set(set.as_str());
@@ -97,10 +97,11 @@ impl<'a> Holding<'a> {
         }
     }
 
-    /// Notes the name of an attribute set.
     fn name_set(&mut self, set: &'a str)
         ensures { holding_value self.new
-            ≡ record (holding_value self.old) { other_set = first_set (holding_value self.old).other_set set.now } }
+            ≡ record (holding_value self.old) {
+              other_set = first_set (holding_value self.old).other_set set.now;
+            } }
     {
         if self.other_set.is_none() && !is_bib1(set) {
             self.other_set = Some(set);

@@ -1,6 +1,8 @@
 //! The keywords of the format, as words of a text.
 ghost use Rattle.std.specs.Prelude.{◌≡◌};
-ghost use Rattle.zeb_query.specs.Grammar.{operator_spelled};
+ghost use Rattle.zeb_query.specs.Grammar.{operator_spelled, operator_word, connective_value, keyword_of};
+ghost use Rattle.zeb_query.specs.Checks.{operator_named};
+ghost use Rattle.zeb_query.specs.PrivateReading.{word_of};
 
 use crate::words::{Spelling, Word};
 use crate::{Connective, Operator};
@@ -29,9 +31,6 @@ pub(crate) enum OperatorWord {
 }
 
 impl OperatorWord {
-    ghost use Rattle.std.specs.Prelude.{◌≡◌};
-    ghost use Rattle.zeb_query.specs.Grammar.{operator_word};
-
     pub(crate) fn as_str(self) -> &'static str
         ensures { result.now ≡ operator_word self }
     {
@@ -45,11 +44,6 @@ impl OperatorWord {
 }
 
 impl Connective {
-    ghost use Rattle.std.specs.Prelude.{◌≡◌};
-    ghost use Rattle.zeb_query.specs.Grammar.{connective_value};
-    ghost use Rattle.zeb_query.specs.Checks.{operator_named};
-
-    /// The operator's word.
     pub(crate) fn word(&self) -> OperatorWord
         ensures { result ≡ operator_named (connective_value self.now) }
     {
@@ -63,10 +57,6 @@ impl Connective {
 }
 
 impl Word {
-    ghost use Rattle.std.specs.Prelude.{◌≡◌};
-    ghost use Rattle.zeb_query.specs.PrivateReading.{word_of};
-    ghost use Rattle.zeb_query.specs.Grammar.{keyword_of};
-
     /// The keyword that the word is: unquoted, and in lower case.
     pub(crate) fn keyword(&self) -> Option<Keyword>
         ensures { result ≡ keyword_of (word_of self.now) }
@@ -84,7 +74,6 @@ impl Word {
     }
 }
 
-/// The operator of which the text is the word.
 fn operator_in(text: &str) -> Option<OperatorWord>
     ensures { result ≡ operator_spelled text.now }
 {

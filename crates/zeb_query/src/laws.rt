@@ -24,9 +24,11 @@ pub fn words_at_examples()
         (record { place = 0; spelling = Plain; text = 195 ∷ 169 ∷ [] }
         ∷ record { place = 3; spelling = Plain; text = 97 ∷ [] } ∷ []) }
     ensures brace { AreWords (codes " {a b}")
-        (record { place = 1; spelling = Bad; text = codes "{a" } ∷ record { place = 4; spelling = Plain; text = codes "b}" } ∷ []) }
+        (record { place = 1; spelling = Bad; text = codes "{a" }
+        ∷ record { place = 4; spelling = Plain; text = codes "b}" } ∷ []) }
     ensures endless { AreWords (97 ∷ 32 ∷ 34 ∷ 98 ∷ 32 ∷ 99 ∷ [])
-        (record { place = 0; spelling = Plain; text = codes "a" } ∷ record { place = 2; spelling = Bad; text = codes "b c" } ∷ []) }
+        (record { place = 0; spelling = Plain; text = codes "a" }
+        ∷ record { place = 2; spelling = Bad; text = codes "b c" } ∷ []) }
     ensures unquoted { AreWords (97 ∷ 92 ∷ 34 ∷ 98 ∷ 32 ∷ 34 ∷ 34 ∷ [])
         (record { place = 0; spelling = Plain; text = 97 ∷ 92 ∷ 34 ∷ 98 ∷ [] }
         ∷ record { place = 5; spelling = Quoted; text = [] } ∷ []) }
@@ -39,14 +41,18 @@ pub fn no_text_spells_two_queries()
 
 /// Each text is a query that is read, or has a fault; none is both, and none has two faults.
 pub fn a_text_is_read_or_has_one_fault()
-    ensures some { (text : List ℕ) → IsReadable text ⊎ ((number : ℕ) × (place : ℕ) × IsFaulty text number place) }
-    ensures apart { (text : List ℕ) (number place : ℕ) → IsReadable text → ¬ IsFaulty text number place }
-    ensures once { (text : List ℕ) (m p n q : ℕ) → IsFaulty text m p → IsFaulty text n q → (m ≡ n) × (p ≡ q) }
+    ensures some { (text : List ℕ) → IsReadable text
+        ⊎ ((number : ℕ) × (place : ℕ) × IsFaulty text number place) }
+    ensures apart { (text : List ℕ) (number place : ℕ) → IsReadable text
+        → ¬ IsFaulty text number place }
+    ensures once { (text : List ℕ) (m p n q : ℕ) → IsFaulty text m p → IsFaulty text n q
+        → (m ≡ n) × (p ≡ q) }
 {}
 
 /// Each term of a query's plan looks into the register that its attributes ask for, and its index has a target with that
 /// register; a local number is looked up in no register.
 pub fn a_plan_looks_into_its_register()
-    ensures { (profile : Profile) (query : QueryValue) (plan : PlanValue) → plan_of profile query ≡ Ok plan
+    ensures { (profile : Profile) (query : QueryValue) (plan : PlanValue)
+        → plan_of profile query ≡ Ok plan
         → AllLookInto profile (held_in query.attrset no_head query.tree) (looked_into plan) }
 {}

@@ -1,5 +1,5 @@
 //! The plan of a query, or its first diagnostic.
-ghost use Rattle.std.specs.Prelude.{◌≡◌, List, ℕ, Option, Some, ◌<◌, ◌^◌, IfOk, string_bytes};
+ghost use Rattle.std.specs.Prelude.{◌≡◌, List, ℕ, Option, ◌<◌, ◌^◌, IfOk, string_bytes};
 ghost use Rattle.std.specs.Option.{option_map};
 ghost use Rattle.zeb_query.specs.Grammar.{HeadValue, tree_value, query_value, head_value, heads, few, many};
 ghost use Rattle.zeb_query.specs.Checks.{Gives};
@@ -14,7 +14,7 @@ use crate::diagnostics::Condition;
 use crate::digits::{long_number, short_number};
 use crate::holding::Holding;
 use crate::proximity::plan_near;
-use crate::terms::taken_term;
+use crate::terms::{kept, taken_term};
 use crate::values::{Purpose, Subject, Values};
 use crate::{
     Connective, Leaf, Operator, PairPlan, Plan, Query, QueryFault, Relation, TermPlan, Tree,
@@ -43,7 +43,8 @@ use zeb_text::{Pattern, join, join_patterns, words};
 /// number answers which fault, the order, the limits, what goes together, and that structure 107 asks for the record's
 /// system number, are this project's own rules.
 pub fn plan(alloc: Global, query: &Query, profile: &Profile) -> Result<Plan, QueryFault>
-    ensures planned { Gives plans.plan_value result (plans.plan_of profile.now (query_value query.now)) }
+    ensures planned { Gives plans.plan_value result
+        (plans.plan_of profile.now (query_value query.now)) }
     ensures numbers { IfOk result (λ plan. plans.HasSmallNumbers (plans.plan_value plan)) }
 {
     plan_tree(alloc, &query.tree, Holding::over(query), profile)
@@ -57,8 +58,10 @@ fn plan_tree(
     over: Holding<'_>,
     profile: &Profile,
 ) -> Result<Plan, QueryFault>
-    ensures { (set : Option (List ℕ)) (outer : HeadValue) → holding_value over.entry ≡ holding_of set outer
-        → Gives plans.plan_value result (steps.tree_plan profile.now set outer (tree_value tree.now)) }
+    ensures { (set : Option (List ℕ)) (outer : HeadValue)
+        → holding_value over.entry ≡ holding_of set outer
+        → Gives plans.plan_value result
+        (steps.tree_plan profile.now set outer (tree_value tree.now)) }
 {
     match tree {
         Tree::Term(leaf) => Ok(Plan::Term(plan_leaf(alloc, leaf, over, profile)?)),
@@ -85,7 +88,6 @@ fn plan_tree(
     }
 }
 
-/// The fault of a named result set.
 pub(crate) fn named_set(alloc: Global, leaf: &Leaf) -> QueryFault
     ensures { IsDiagnostic result 18 leaf.now.place (string_bytes leaf.now.text) }
 {
@@ -111,8 +113,10 @@ fn plan_leaf(
     over: Holding<'_>,
     profile: &Profile,
 ) -> Result<TermPlan, QueryFault>
-    ensures { (set : Option (List ℕ)) (outer : HeadValue) → holding_value over.entry ≡ holding_of set outer
-        → Gives plans.term_plan_value result (steps.leaf_plan profile.now set (heads outer (head_value leaf.now.head))
+    ensures { (set : Option (List ℕ)) (outer : HeadValue)
+        → holding_value over.entry ≡ holding_of set outer
+        → Gives plans.term_plan_value result
+        (steps.leaf_plan profile.now set (heads outer (head_value leaf.now.head))
         leaf.now.place (string_bytes leaf.now.text)) }
 {
     let holding = over.within(&leaf.head);
@@ -131,48 +135,42 @@ fn plan_leaf(
     }
 }
 
-/// The number that a term has to be, if it is one.
-fn number_or_fault<T>(alloc: Global, leaf: &Leaf, number: Option<T>) -> Result<T, QueryFault>
-    ensures gives { Gives (λ x. x) result (steps.kept_or 126 leaf.now.place (Some (string_bytes leaf.now.text)) number) }
-    ensures is { IfOk result (λ x. number ≡ Some x) }
-{
-    match number {
-        Some(number) => Ok(number),
-        None => {
-            let text = leaf.text.as_str();
-            Err(QueryFault::about(alloc, Condition::TermValue, leaf.place, text))
-        }
-    }
-}
-
 /// The system number that a term has to be.
 #[tactic(auto, using(crate::proofs::PlanCheckLemmas::number_steps))]
 fn system_number_in(alloc: Global, leaf: &Leaf) -> Result<u64, QueryFault>
-    ensures { Gives (λ x. x) result (steps.number_in few leaf.now.place (string_bytes leaf.now.text)) }
+    ensures { Gives (λ x. x) result
+        (steps.number_in few leaf.now.place (string_bytes leaf.now.text)) }
 {
-    let number = number_or_fault(alloc, leaf, short_number(leaf.text.as_str()))?;
+    let text = leaf.text.as_str();
+    let found = short_number(text);
+    let number = kept(alloc, Condition::TermValue, leaf.place, Some(text), found)?;
     Ok(number as u64)
 }
 
 /// The number that a term has to be, which the register of numbers may have.
 #[tactic(auto, using(crate::proofs::PlanCheckLemmas::number_steps))]
 pub(crate) fn number_in(alloc: Global, leaf: &Leaf) -> Result<u64, QueryFault>
-    ensures gives { Gives (λ x. x) result (steps.number_in many leaf.now.place (string_bytes leaf.now.text)) }
+    ensures gives { Gives (λ x. x) result
+        (steps.number_in many leaf.now.place (string_bytes leaf.now.text)) }
     ensures small { IfOk result (λ number. number < 10 ^ many) }
 {
-    number_or_fault(alloc, leaf, long_number(leaf.text.as_str()))
+    let text = leaf.text.as_str();
+    let number = long_number(text);
+    kept(alloc, Condition::TermValue, leaf.place, Some(text), number)
 }
 
 /// The term's words with a space between.
 pub(crate) fn joined_words(alloc: Global, leaf: &Leaf) -> Result<String, AllocError>
-    ensures { IfOk result (λ joined. string_bytes joined ≡ term_words.joined_words (string_bytes leaf.now.text)) }
+    ensures { IfOk result
+        (λ joined. string_bytes joined ≡ term_words.joined_words (string_bytes leaf.now.text)) }
 {
     join(alloc, &words(alloc, leaf.text.as_str())?)
 }
 
 /// The same, if the term has a word.
 fn joined_words_if_any(alloc: Global, leaf: &Leaf) -> Result<Option<String>, AllocError>
-    ensures { IfOk result (λ joined. option_map string_bytes joined ≡ term_words.joined_words_if_any (string_bytes leaf.now.text)) }
+    ensures { IfOk result (λ joined. option_map string_bytes joined
+        ≡ term_words.joined_words_if_any (string_bytes leaf.now.text)) }
 {
     let words = words(alloc, leaf.text.as_str())?;
     if words.is_empty() {
@@ -194,7 +192,8 @@ fn compared(
     patterns: Vec<Pattern>,
 ) -> Result<TermPlan, QueryFault>
     ensures { Gives plans.term_plan_value result
-        (steps.compared_plan leaf.now.place (string_bytes leaf.now.text) values.now index structure patterns.items relation) }
+        (steps.compared_plan leaf.now.place (string_bytes leaf.now.text) values.now index structure
+        patterns.items relation) }
 {
     if structure.is_numeric() {
         let number = number_in(alloc, leaf)?;
@@ -237,7 +236,8 @@ fn words_plan(
     position: Position,
     patterns: Vec<Pattern>,
 ) -> TermPlan
-    ensures { plans.term_plan_value result ≡ steps.list_plan index structure position patterns.items }
+    ensures { plans.term_plan_value result
+        ≡ steps.list_plan index structure position patterns.items }
 {
     match structure {
         Structure::WordList => TermPlan::AllWords { index, patterns },

@@ -30,9 +30,11 @@ pub(crate) fn plan_near(
     over: Holding<'_>,
     profile: &Profile,
 ) -> Result<Plan, QueryFault>
-    ensures { (set : Option (List ℕ)) (outer : HeadValue) → holding_value over.entry ≡ holding_of set outer
+    ensures { (set : Option (List ℕ)) (outer : HeadValue)
+        → holding_value over.entry ≡ holding_of set outer
         → Gives plan_value result (near_plan profile.now place (parameters_value parameters.now)
-        (operand_of set outer (tree_value left.now)) (operand_of set outer (tree_value right.now))) }
+        (operand_of set outer (tree_value left.now))
+        (operand_of set outer (tree_value right.now))) }
 {
     let separation = separation_of(alloc, place, parameters)?;
     let (Tree::Term(left), Tree::Term(right)) = (left, right) else {
@@ -63,7 +65,8 @@ fn separation_of(
     place: usize,
     parameters: &Parameters,
 ) -> Result<Separation, QueryFault>
-    ensures { Gives (λ x. x) result (checked_by (parameter_checks place (parameters_value parameters.now))
+    ensures { Gives (λ x. x) result
+        (checked_by (parameter_checks place (parameters_value parameters.now))
         (separation_of (parameters_value parameters.now))) }
 {
     let exclusion = parameters.exclusion.as_str();
@@ -138,7 +141,8 @@ fn near_operand(
     over: Holding<'_>,
     profile: &Profile,
 ) -> Result<(u32, Pattern), QueryFault>
-    ensures { (set : Option (List ℕ)) (outer : HeadValue) → holding_value over.entry ≡ holding_of set outer
+    ensures { (set : Option (List ℕ)) (outer : HeadValue)
+        → holding_value over.entry ≡ holding_of set outer
         → Gives (λ x. x) result (word_near profile.now record {
           place = leaf.now.place;
           held = holding_of set (heads outer (head_value leaf.now.head));
@@ -154,7 +158,6 @@ fn near_operand(
     }
 }
 
-/// The one pattern, if there is just one.
 fn only(patterns: Vec<Pattern>) -> Option<Pattern>
     ensures { result ≡ one_of patterns.items }
 {

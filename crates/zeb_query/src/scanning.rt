@@ -22,7 +22,8 @@ use zeb_text::key_of_number;
 /// numeric string. The start is the term's words joined by one space, or the key of its number. What a scan takes is this
 /// project's own rule.
 pub fn plan_scan(alloc: Global, query: &Query, profile: &Profile) -> Result<ScanPlan, QueryFault>
-    ensures planned { Gives scans.scan_value result (scans.scan_of profile.now (query_value query.now)) }
+    ensures planned { Gives scans.scan_value result
+        (scans.scan_of profile.now (query_value query.now)) }
     ensures number { IfOk result (λ plan. scans.BeginsAtKey (scans.scan_value plan)) }
 {
     match &query.tree {
@@ -48,7 +49,8 @@ fn scan_leaf(
     query: &Query,
     profile: &Profile,
 ) -> Result<ScanPlan, QueryFault>
-    ensures { Gives scans.scan_value result (steps.leaf_scan profile.now (query_value query.now).attrset
+    ensures { Gives scans.scan_value result
+        (steps.leaf_scan profile.now (query_value query.now).attrset
         (heads no_head (head_value leaf.now.head)) leaf.now.place (string_bytes leaf.now.text)) }
 {
     let holding = Holding::over(query).within(&leaf.head);

@@ -1,6 +1,6 @@
 //! Reading a term: the values of its attributes and the patterns of its words, or its first diagnostic.
-ghost use Rattle.std.specs.Prelude.{◌∷◌, [], string_bytes};
-ghost use Rattle.std.specs.Option.{is_some, option_map};
+ghost use Rattle.std.specs.Prelude.{◌≡◌, ◌∷◌, [], IfOk, Some, string_bytes};
+ghost use Rattle.std.specs.Option.{is_some, option_copied};
 ghost use Rattle.zeb_query.specs.Checks.{Gives, check, checked_by, is_other_type, numeral, written};
 ghost use Rattle.zeb_query.specs.PrivateReading.{condition_number, holding_value};
 ghost use Rattle.zeb_query.specs.PrivatePlanning.{kept_or, index_used_or, index_read, subject_read, subject_index, values_read, head_read, patterns_read, term_read, term_taken};
@@ -31,8 +31,9 @@ pub(crate) fn kept<T>(
     written: Option<&str>,
     value: Option<T>,
 ) -> Result<T, QueryFault>
-    ensures { Gives (λ x. x) result
-        (kept_or (condition_number condition) place (option_map (λ text. text.now) written.entry) value) }
+    ensures gives { Gives (λ x. x) result
+        (kept_or (condition_number condition) place (option_copied written.entry) value) }
+    ensures is { IfOk result (λ x. value ≡ Some x) }
 {
     match value {
         Some(value) => Ok(value),
@@ -47,7 +48,8 @@ fn index_of(
     written: Option<&str>,
     profile: &Profile,
 ) -> Result<u32, QueryFault>
-    ensures { Gives (λ x. x) result (index_used_or profile.now place (option_map (λ text. text.now) written.entry)) }
+    ensures { Gives (λ x. x) result
+        (index_used_or profile.now place (option_copied written.entry)) }
 {
     let Some(text) = written else {
         let index = profile.index_by_use(ANY);
@@ -69,7 +71,8 @@ fn index_if(
     local: bool,
     profile: &Profile,
 ) -> Result<Option<u32>, QueryFault>
-    ensures { Gives (λ x. x) result (index_read profile.now place local (option_map (λ text. text.now) written.entry)) }
+    ensures { Gives (λ x. x) result
+        (index_read profile.now place local (option_copied written.entry)) }
 {
     if local {
         Ok(None)
@@ -85,7 +88,7 @@ fn subject_of(
     written: Option<&str>,
     index: Option<u32>,
 ) -> Result<Subject, QueryFault>
-    ensures { Gives (λ x. x) result (subject_read place (option_map (λ text. text.now) written.entry) index) }
+    ensures { Gives (λ x. x) result (subject_read place (option_copied written.entry) index) }
 {
     let Some(index) = index else {
         return Ok(Subject::Record);
@@ -149,24 +152,22 @@ fn values_of(
     })
 }
 
-/// The fault of a term's type.
 fn check_type(alloc: Global, place: usize, term_type: Option<&str>) -> Result<(), QueryFault>
-    ensures { Gives (λ x. x) result (checked_by (check place 229 (written (option_map (λ text. text.now) term_type.entry))
-        (is_other_type (option_map (λ text. text.now) term_type.entry)) ∷ []) tt) }
+    ensures { Gives (λ x. x) result
+        (checked_by (check place 229 (written (option_copied term_type.entry))
+        (is_other_type (option_copied term_type.entry)) ∷ []) tt) }
 {
-    let Some(text) = term_type else {
-        return Ok(());
-    };
-    if text == "general" || text == "string" {
-        Ok(())
-    } else {
-        Err(QueryFault::about(alloc, Condition::TermType, place, text))
+    match term_type {
+        Some(text) if text != "general" && text != "string" => {
+            Err(QueryFault::about(alloc, Condition::TermType, place, text))
+        }
+        _ => Ok(()),
     }
 }
 
-/// The fault of the attribute types over a term.
 fn check_kind(alloc: Global, place: usize, kind: Option<u32>) -> Result<(), QueryFault>
-    ensures { Gives (λ x. x) result (checked_by (check place 113 (numeral kind) (is_some kind) ∷ []) tt) }
+    ensures { Gives (λ x. x) result
+        (checked_by (check place 113 (numeral kind) (is_some kind) ∷ []) tt) }
 {
     let Some(kind) = kind else {
         return Ok(());
@@ -222,7 +223,8 @@ fn read_term(
     profile: &Profile,
 ) -> Result<(Values, Vec<Pattern>), QueryFault>
     ensures { Gives (λ read. (read.0, read.1.items)) result
-        (term_read profile.now leaf.now.place (string_bytes leaf.now.text) (holding_value holding.now)) }
+        (term_read profile.now leaf.now.place (string_bytes leaf.now.text)
+        (holding_value holding.now)) }
 {
     check_holding(alloc, leaf.place, holding)?;
     let values = values_of(alloc, leaf.place, holding, profile)?;
@@ -241,7 +243,8 @@ pub(crate) fn taken_term(
     purpose: Purpose,
 ) -> Result<(Values, Vec<Pattern>), QueryFault>
     ensures { Gives (λ read. (read.0, read.1.items)) result
-        (term_taken profile.now purpose leaf.now.place (string_bytes leaf.now.text) (holding_value holding.now)) }
+        (term_taken profile.now purpose leaf.now.place (string_bytes leaf.now.text)
+        (holding_value holding.now)) }
 {
     let (values, patterns) = read_term(alloc, leaf, holding, profile)?;
     if values.clashes(purpose) || values.lacks_register(profile) {

@@ -1,4 +1,7 @@
 //! The values of a term's attributes, and which of them are taken together.
+ghost use Rattle.std.specs.Prelude.{◌≡◌};
+ghost use Rattle.zeb_query.specs.PrivateValues as terms;
+
 use crate::Relation;
 use crate::attributes::{Asked, Completeness, Position, Structure};
 use zeb_keys::Register;
@@ -36,9 +39,6 @@ pub(crate) struct Values {
 }
 
 impl Values {
-    ghost use Rattle.std.specs.Prelude.{◌≡◌};
-    ghost use Rattle.zeb_query.specs.PrivateValues as terms;
-
     /// Whether the words of the term are compared: it is no number, and the relation isn't "always matches".
     pub(crate) fn has_words(&self) -> bool
         ensures { result ≡ terms.has_words self.now }
@@ -49,22 +49,15 @@ impl Values {
     fn is_always(&self) -> bool
         ensures { result ≡ terms.is_always self.now.relation }
     {
-        match self.relation {
-            Asked::Compared(_) => false,
-            Asked::Always => true,
-        }
+        matches!(self.relation, Asked::Always)
     }
 
     fn is_equal(&self) -> bool
         ensures { result ≡ terms.asks_equal self.now.relation }
     {
-        match self.relation {
-            Asked::Compared(relation) => relation == Relation::Equal,
-            Asked::Always => false,
-        }
+        matches!(self.relation, Asked::Compared(Relation::Equal))
     }
 
-    /// Whether the relation is one of order.
     fn is_ordered(&self) -> bool
         ensures { result ≡ terms.is_ordered self.now.relation }
     {
@@ -89,19 +82,13 @@ impl Values {
     fn is_truncated(&self) -> bool
         ensures { result ≡ terms.is_truncated self.now.truncation }
     {
-        match self.truncation {
-            Cut::None => false,
-            Cut::Right | Cut::Left | Cut::Both | Cut::Hash => true,
-        }
+        !matches!(self.truncation, Cut::None)
     }
 
     fn is_local(&self) -> bool
         ensures { result ≡ terms.is_local self.now.subject }
     {
-        match self.subject {
-            Subject::Record => true,
-            Subject::Entries { .. } => false,
-        }
+        matches!(self.subject, Subject::Record)
     }
 
     pub(crate) fn is_numeric(&self) -> bool
@@ -128,7 +115,7 @@ impl Values {
         match self.subject {
             Subject::Record => false,
             Subject::Entries { structure, .. } => {
-                structure == Structure::WordList || structure == Structure::FreeForm
+                matches!(structure, Structure::WordList | Structure::FreeForm)
             }
         }
     }
@@ -166,7 +153,6 @@ impl Values {
         }
     }
 
-    /// The register that is searched.
     pub(crate) fn register(&self) -> Register
         ensures { result ≡ terms.register_of self.now }
     {
@@ -181,7 +167,8 @@ impl Values {
 
     /// Whether the index has no target with the register that is searched; a system number is searched in none.
     pub(crate) fn lacks_register(&self, profile: &Profile) -> bool
-        ensures { result ≡ terms.lacks_register profile.now (terms.register_of self.now) self.now.subject }
+        ensures { result
+            ≡ terms.lacks_register profile.now (terms.register_of self.now) self.now.subject }
     {
         match self.subject {
             Subject::Record => false,

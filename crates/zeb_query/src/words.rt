@@ -3,7 +3,7 @@ ghost use Rattle.std.specs.Prelude.{◌≡◌, ◌+◌, ◌++◌, ◌∷◌, [],
 ghost use Rattle.std.specs.Char.{len_utf8};
 ghost use Rattle.zeb_query.specs.PrivateWalk.{words_at, unquoted};
 ghost use Rattle.zeb_query.specs.Words.{is_blank};
-ghost use Rattle.zeb_query.specs.PrivateReading.{word_of};
+ghost use Rattle.zeb_query.specs.PrivateReading.{word_of, words_with};
 
 use std::alloc::{AllocError, Global};
 
@@ -49,11 +49,6 @@ struct Cutter {
 }
 
 impl Cutter {
-    ghost use Rattle.std.specs.Prelude.{◌≡◌, ◌+◌, ◌++◌, ◌∷◌, [], ℕ, List, IfOk, OnOk, map, string_bytes};
-    ghost use Rattle.std.specs.Char.{len_utf8};
-    ghost use Rattle.zeb_query.specs.PrivateWalk.{unquoted};
-    ghost use Rattle.zeb_query.specs.PrivateReading.{words_with, word_of};
-
     /// Takes one more character, which stands at the place.
     fn take(&mut self, alloc: Global, place: usize, c: char) -> Result<(), AllocError>
         ensures { OnOk result ((cs : List ℕ) →
@@ -63,7 +58,7 @@ impl Cutter {
             Mode::Between => self.begin(place, c),
             Mode::Plain => {
                 if is_blank(c) {
-                    let spelling = self.unquoted();
+                    let spelling = unquoted(self.text.as_str());
                     self.finish(alloc, spelling)
                 } else {
                     self.text.push(c)
@@ -106,18 +101,14 @@ impl Cutter {
         }
     }
 
-    /// How the word that is being read is spelled, if it isn't quoted.
-    fn unquoted(&self) -> Spelling
-        ensures { result ≡ unquoted (string_bytes self.now.text) }
-    {
-        unquoted(self.text.as_str())
-    }
-
-    /// Ends the word that is being read.
     fn finish(&mut self, alloc: Global, spelling: Spelling) -> Result<(), AllocError>
         ensures { OnOk result (
             (map word_of self.new.words.items ≡ map word_of self.old.words.items
-            ++ record { place = self.old.start; spelling = spelling; text = string_bytes self.old.text } ∷ [])
+            ++ record {
+              place = self.old.start;
+              spelling = spelling;
+              text = string_bytes self.old.text;
+            } ∷ [])
             × (self.new.mode ≡ Mode.Between)) }
     {
         let text = std::mem::replace(&mut self.text, String::new(alloc));
@@ -132,12 +123,13 @@ impl Cutter {
 
     /// The words of the text that ends here.
     fn into_words(mut self, alloc: Global) -> Result<Vec<Word>, AllocError>
-        ensures { IfOk result (λ words. (at : ℕ) → map word_of words.items ≡ words_with self at []) }
+        ensures { IfOk result
+            (λ words. (at : ℕ) → map word_of words.items ≡ words_with self at []) }
     {
         match self.mode {
             Mode::Between => {}
             Mode::Plain => {
-                let spelling = self.unquoted();
+                let spelling = unquoted(self.text.as_str());
                 self.finish(alloc, spelling)?;
             },
             Mode::Quoted | Mode::Escaped => self.finish(alloc, Spelling::Bad)?,

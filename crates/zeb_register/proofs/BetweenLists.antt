@@ -1,6 +1,7 @@
 -- The lists of neighbouring terms are told by their units. What a call that lists them says of tables that hold a content.
 use Rattle.zeb_register.proofs.Cited.{Row, State, Trees, Text, has_mapped, mapped_has, Has, ◌≡◌, ◌≢◌, ◌↔◌, ◌∙◌, ℕ, ℤ, List, [], ◌∷◌, ◌++◌, drop, map, refl, sym, ap, ap₂, subst, inl, inr, Result, Ok, Err, OnOk, Vec, Global, Key, Register, Posting, RegFault, Store, RegisterOf, IsBetween, IsRestBetween, three_behind, register_columns, key_in, posting_row, first_three, IsListOf, IsRest, IsStore, postings_tree, Content, Format, plain_rows, holds_in, IsReasoned, term_list}
 use Rattle.zeb_register.specs.Answers.{Answers, IfDamaged}
+use Rattle.zeb_register.specs.Between.{IsPostingBetween}
 use Rattle.zeb_register.specs.Clauses.{IsHonestOfHeld, OnStore, TellsHeld}
 use Rattle.zeb_register.specs.PlainUnits.{ShowsNone}
 use Rattle.zeb_register.specs.PrivateBetweenRows.{SomeShowsNoneBehind}
@@ -11,10 +12,6 @@ use Rattle.zeb_register.proofs.BetweenRows.{has_under, shown_row, under, under_h
 use Rattle.zeb_register.proofs.ContentLemmas.{same_posting}
 use Rattle.zeb_register.proofs.KeyLists.{held_listing, held_whole, one_listing, whole_list, whole_sound}
 use Rattle.zeb_register.proofs.RowUnits.{rows_listed}
-
--- it is a posting of one of the terms between the two
-abbrev pub IsPostingBetween : Content → RegisterOf → (first last : List ℕ) → Posting → Type 0
-IsPostingBetween content at first last p = (term : List ℕ) × IsBetween first last term × Has (term_list content at term) p
 
 -- the list of each of these terms is sound
 abbrev pub AreListsSound : Format → Trees → ℤ → ℕ → Register → (first last : List ℕ) → Type 0

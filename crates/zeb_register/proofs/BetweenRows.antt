@@ -7,7 +7,7 @@ use Rattle.zeb_register.proofs.RowLemmas.{same_bytes}
 use Rattle.zeb_register.proofs.Scans.{strictly_mapped, tied}
 
 -- a row by its first column
-begins : (row : Row) (v : Value) → column row 0 ≡ v → v ≢ Null → row ≡ v ∷ drop 1 row
+pub begins : (row : Row) (v : Value) → column row 0 ≡ v → v ≢ Null → row ≡ v ∷ drop 1 row
 begins [] v is some = absurd (some (sym is))
 begins (w ∷ row) v is some = ap (λ (u : Value). u ∷ row) is
 

@@ -5,7 +5,7 @@ use Rattle.std.proofs.Common.{◌*◌}
 use Rattle.zeb_register.proofs.BlockUnits.{held_units, none_rises, one_block_read}
 use Rattle.zeb_register.proofs.ContentChanges.{posting_total}
 use Rattle.zeb_register.proofs.ContentLemmas.{some_posting, told_apart}
-use Rattle.zeb_register.proofs.CountLemmas.{count_so, count_upto, counted_none, one_count}
+use Rattle.zeb_register.proofs.CountLemmas.{count_none, count_so, count_upto, counted_none, one_count, some_count}
 use Rattle.zeb_register.proofs.KeyPlaces.{in_place, place_in, place_of}
 use Rattle.zeb_register.proofs.OccurringLemmas.{key_posted}
 use Rattle.zeb_register.proofs.PackedLemmas.{block_rows, dict_there, in_part, not_empty, part_in_block, part_in_list}
@@ -15,7 +15,7 @@ use Rattle.zeb_register.specs.Content.{places_in}
 use Rattle.zeb_register.specs.PackedUnits.{BlockReads, CountsAs, IsMiscounted, ReadsAs}
 use Rattle.zeb_register.specs.Units.{HoldsUnits}
 
-some_counted : (P : ℕ → Type 0) (count : ℕ) → IsCount P count → 1 ≤ count → (n : ℕ) × P n
+pub some_counted : (P : ℕ → Type 0) (count : ℕ) → IsCount P count → 1 ≤ count → (n : ℕ) × P n
 some_counted P count it some = from it.numbers refl
   where
     from : (ns : List ℕ) → it.numbers ≡ ns → (n : ℕ) × P n
@@ -44,6 +44,9 @@ module _ (trees : Trees) (content : Content) where
   pub counted_list : (db : ℤ) (key : Key) → IsCount (HasIt db key) (records_of (content db key))
   counted_list db key = count_so (IsInRecord (content db key)) (HasIt db key) _ (λ m. ((key_posted content db key m).1, (key_posted content db key m).0)) (records_count (content db key))
 
+  keys_same : (d e : ℤ) (k l : Key) → d ≡ e → k ≡ l → (n : ℕ) → HasIt d k n ↔ HasIt e l n
+  keys_same d e k l same also n = (λ h. subst (λ x. HasIt x l n) same (subst (λ y. HasIt d y n) also h), λ h. subst (λ x. HasIt x k n) (sym same) (subst (λ y. HasIt e y n) (sym also) h))
+
   pub held_counts : IsStorable content → HoldsBlocks trees content → (db : ℤ) (key : Key) (records : ℕ) → IsCount (HasIt db key) records → CountsAs trees db key records
   held_counts storable holds db key records is = record {
     said = λ row there.
@@ -52,7 +55,7 @@ module _ (trees : Trees) (content : Content) where
         let lists : content it.0 it.1 ≡ content db key = ap₂ content same.0 same.1 in
         let p = some_posting (content it.0 it.1) it.3 in
         let here : Has (content db key) p.0 = subst (λ l. Has l p.0) lists p.1 in
-        let some : 1 ≤ records = more_than_none (λ none. counted_none (HasIt db key) records p.0.sysno is none ((key_posted content db key p.0.sysno).1 (p.0, here, refl))) in
+        let some : 1 ≤ records = some_count (HasIt db key) records p.0.sysno is ((key_posted content db key p.0.sysno).1 (p.0, here, refl)) in
         let number : it.2 ≡ records = one_count (HasIt db key) it.2 records (count_so (HasIt it.0 it.1) (HasIt db key) it.2 (keys_same it.0 db it.1 key same.0 same.1) it.4) is in
         (some, few, ap (λ (r : Row). column r 0) same.2 ∙ ap (λ (n : ℕ). Int (pos n)) number);
     there = λ some.
@@ -63,11 +66,17 @@ module _ (trees : Trees) (content : Content) where
       few : records ≤ 999999999
       few = count_upto (HasIt db key) records 999999999 is (λ m has. let p = found_in db key m has in subst (λ k. (1 ≤ k) × (k ≤ 999999999)) p.2 (storable db key p.0 p.1).sysno)
 
-      more_than_none : records ≢ 0 → 1 ≤ records
-      more_than_none some = omega (arith, some)
-
-      keys_same : (d e : ℤ) (k l : Key) → d ≡ e → k ≡ l → (n : ℕ) → HasIt d k n ↔ HasIt e l n
-      keys_same d e k l same also n = (λ h. subst (λ x. HasIt x l n) same (subst (λ y. HasIt d y n) also h), λ h. subst (λ x. HasIt x k n) (sym same) (subst (λ y. HasIt e y n) (sym also) h))
+  -- a key's count is the content's
+  pub count_of_blocks : HoldsBlocks trees content → (db : ℤ) (key : Key) (records : ℕ) → CountsAs trees db key records → IsCount (HasIt db key) records
+  count_of_blocks holds db key zero counts =
+      count_none (HasIt db key) (λ n has. absurd (omega (arith, (counts.said (Int (pos (records_of (content db key))) ∷ []) (dict_there trees content db key n holds has)).0)))
+  count_of_blocks holds db key (suc more) counts =
+      let row = counts.there (omega arith) in
+      let it = (holds.dict (key_row db key ++ row.0)).0 row.1 in
+      let same = told_apart it.0 db it.1 key row.0 (Int (pos it.2) ∷ []) it.5 in
+      let e : Int (pos it.2) ≡ Int (pos (suc more)) = sym (ap (λ (r : Row). column r 0) same.2) ∙ (counts.said row.0 row.1).2 in
+      let number : it.2 ≡ suc more = cc in
+      subst (IsCount (HasIt db key)) number (count_so (HasIt it.0 it.1) (HasIt db key) it.2 (keys_same it.0 db it.1 key same.0 same.1) it.4)
 
   pub blocks_by_units : IsStorable content → HoldsBlocks trees content → HoldsUnits packed_blocks trees content
   blocks_by_units storable holds = record {

@@ -84,7 +84,7 @@ pub use Rattle.std.proofs.lemmas.Bool.{cases_Bool, cases_eq, and_parts, not-true
 pub use Rattle.std.proofs.lemmas.Bool.Decides.{Decides-int_eq, nat_tests, eqb_tells, Decides-eqb}
 pub use Rattle.std.proofs.lemmas.Cmp.{tied_itself, int_ranked, ranked, eq_by_cmp_equiv}
 pub use Rattle.std.proofs.lemmas.Int.{ints}
-pub use Rattle.std.proofs.lemmas.List.{length-map, map-append, take_more, length-take, length-take-le, take-append-drop, take_rest, reverse-append, length-reverse, take_all}
+pub use Rattle.std.proofs.lemmas.List.{length-map, map-append, take_more, length-take, length-take-le, take-append-drop, take_rest, reverse-append, length-reverse, reverse-reverse, take_all}
 pub use Rattle.std.proofs.lemmas.List.Filters.{length-filter_both}
 pub use Rattle.std.proofs.lemmas.List.Sorted.{sorted_far, ranks_by, length_permutation, IsPermutation-sym}
 pub use Rattle.std.proofs.lemmas.List.Sums.{sum_by-cons}
@@ -123,7 +123,7 @@ pub use Rattle.zeb_register.specs.Faults.{fault_of}
 pub use Rattle.zeb_register.specs.Formats.{packed_blocks, plain_rows, Format, holds_in, version_of}
 pub use Rattle.zeb_register.specs.Kept.{record_shown, AreNumbered, AreReadableIdents, AreReadable, IsFirstFrom, IsNumberOf}
 pub use Rattle.zeb_register.specs.Occurring.{HasKey, key_in, IsCount, AreCounts, term_cmp, AreTermsOf, Spot, spot_cmp, capped, TermIn, AreSpotsOf, AreTotals, is_before, is_from, last, HasSpot}
-pub use Rattle.zeb_register.specs.PackedBlocks.{HoldsBlocks, part_in, SpellsPart, blocks_of, block_row, IsBlockRow, IsDictRow, dict_row, first_two}
+pub use Rattle.zeb_register.specs.PackedBlocks.{HoldsBlocks, part_in, SpellsPart, blocks_of, block_row, IsBlockRow, IsDictRow, dict_row}
 pub use Rattle.zeb_register.specs.PlainRows.{HoldsRows, key_row, posting_row, register_front}
 pub use Rattle.zeb_register.specs.PrivateBetweenRows.{IsRestBetween, three_behind, two_behind}
 pub use Rattle.zeb_register.specs.PrivateCatalog.{listed_row}
@@ -132,10 +132,10 @@ pub use Rattle.zeb_register.specs.PrivateKeyColumns.{register_columns}
 pub use Rattle.zeb_register.specs.PrivatePackedRows.{AreSpelled, IsInBlock, HoldsBlockRows}
 pub use Rattle.zeb_register.specs.PrivateRowExpected.{BelongsTo, HoldsThere, IsBlockRest, IsDictRest, IsThere, ListsAgree, key_shown, list_under, with_key, LacksPacked, posting_shown, AsExpected, BelongsThere, EachAsExpected, EachThere, HasNames, HoldsExpected, IsPair, expected_name, listed_name, tree_of, KeepsExpectedTexts, HoldsUnder, text_rows, TakeAll, Owns, IsListedId, AreBlocks, IsBlockBefore, IsInOrder, AreInOrder, AreBeside, HoldsKeysAlone}
 pub use Rattle.zeb_register.specs.PrivateRowKeys.{BeginsOther, IsFrontOf, IsRunBefore, IsRunFrom, dict_rest}
-pub use Rattle.zeb_register.specs.PrivateRowPlaces.{IsThreeNumbers, first_three, DropsRegisters, IsTwoNumbers, place_row, KeepsBesidePostings, GainsPlaces, Puts, posting_columns, IsPlaceIn}
+pub use Rattle.zeb_register.specs.PrivateRowPlaces.{first_two, first_three, DropsRegisters, IsTwoNumbers, place_row, KeepsBesidePostings, GainsPlaces, Puts, posting_columns, IsPlaceIn}
 pub use Rattle.zeb_register.specs.PrivateRowReads.{rests_text, ShowsFirst, greatest_text, least_text, next_text, AreEnds, Fits, size_of, ReadsRests}
 pub use Rattle.zeb_register.specs.PrivateRowStatements.{Lists, ListsInside, IsMade, IsRestAtLeast, IsDatabaseShown, IsListedRow, AddsDatabase, SetsLast, IsDatabaseRow, IsValueRow, IsElderRow, IsIdentRow, Gains, place_key, whole_posting_row, IsPlaceOf, IsRecordShown, ShowsCount, Empties}
-pub use Rattle.zeb_register.specs.PrivateRowTerms.{IsInRecord, ReadsRows, ReadsInside, IsCountedIn, term_with, IsShown, IsTerm, IsLeastTerm, IsGreatestTerm, HasTerm, ShowsOccurrence, IsOccurrenceRow, ShowsTerm, IsTermRow, ShowsLeast, ShowsGreatest}
+pub use Rattle.zeb_register.specs.PrivateRowTerms.{IsInRecord, ReadsRows, ReadsInside, IsCountedIn, term_with, IsShown, HasTerm, ShowsOccurrence, IsOccurrenceRow, ShowsTerm, IsTermRow, ShowsNearest, FindsNearest, HidesText, SomeIsNoOccurrence}
 pub use Rattle.zeb_register.specs.PrivateStoreTables.{HasEmpty, create_text, schema_after, schema_before, clear_text, tree_at, wipe_text}
 pub use Rattle.zeb_register.specs.Queries.{LooksUp, IsSilent}
 pub use Rattle.zeb_register.specs.Sound.{KeepsBeside, KeepsMalformed, KeepsRowsBeside}

@@ -1,6 +1,8 @@
 -- Counting occurrences that come in the order of their terms and then of their numbers.
-use Rattle.zeb_register.proofs.Cited.{all_has, has_left, has_right, has_either, Has, ◌≡◌, ◌≢◌, ◌↔◌, ◌⊎◌, ◌∙◌, ◌<◌, ◌≤◌, ◌+◌, ℕ, List, [], ◌∷◌, ◌++◌, length, refl, sym, ap, subst, inl, inr, Less, Equal, nat_cmp, arith, length-append, ◌^◌, nat_tests, ranked, tied_itself, sum_by-cons, IsTotalOrder, on_total, nat_cmp_total, slice_cmp, nat_list_cmp_total, sum_by, TermCount, IsCount, AreCounts, term_cmp, IsCountedIn, term_with, Rises}
+use Rattle.zeb_register.proofs.Cited.{all_has, has_left, has_right, has_either, Has, ◌≡◌, ◌≢◌, ◌↔◌, ◌⊎◌, ◌∙◌, ◌<◌, ◌≤◌, ◌+◌, ℕ, List, [], ◌∷◌, ◌++◌, length, refl, sym, ap, subst, inl, inr, Less, Equal, nat_cmp, arith, length-append, ◌^◌, nat_tests, ranked, tied_itself, sum_by-cons, true, false, Ordering, Greater, ordering_reverse, is_lt, IsTotalOrder, on_total, nat_cmp_total, slice_cmp, nat_list_cmp_total, sum_by, TermCount, IsCount, AreCounts, term_cmp, IsCountedIn, term_with, Rises}
 use Rattle.std.specs.List.Sorted.{IsStrictlySortedBy}
+use Rattle.zeb_register.specs.Terms.{Comes}
+use Rattle.zeb_register.proofs.RowLemmas.{same_bytes}
 use Rattle.zeb_register.proofs.RisingLists.{same_list, pushed_rises, before_last, front_rises, snoc_of, same_last}
 
 pub term_total : IsTotalOrder term_cmp
@@ -15,6 +17,32 @@ is_less m n h = ranked m n Less (sym h)
 -- texts that are not in order are not the same
 pub not_same : (s t : List ℕ) → slice_cmp nat_cmp s t ≡ Less → s ≢ t
 not_same s t h same = let e : Less ≡ Equal = sym h ∙ ap (λ u. slice_cmp nat_cmp u t) same ∙ tied_itself nat_list_cmp_total t in cc
+
+-- one text comes before the other
+pub comes_is : (s t : List ℕ) → is_lt (slice_cmp nat_cmp s t) ≡ true → Comes s t
+comes_is s t h = from (slice_cmp nat_cmp s t) h
+  where
+    from : (o : Ordering) → is_lt o ≡ true → o ≡ Less
+    from Less h = refl
+    from Equal h = absurd (cc)
+    from Greater h = absurd (cc)
+
+pub comes_not : (s t : List ℕ) → (is_lt (slice_cmp nat_cmp s t) ≡ false) ↔ ¬ Comes s t
+comes_not s t = (λ h comes. (let e : true ≡ false = sym (ap is_lt comes) ∙ h in cc), λ h. from (slice_cmp nat_cmp s t) refl h)
+  where
+    from : (o : Ordering) → slice_cmp nat_cmp s t ≡ o → ¬ Comes s t → is_lt (slice_cmp nat_cmp s t) ≡ false
+    from Less is h = absurd (h is)
+    from Equal is h = ap is_lt is
+    from Greater is h = ap is_lt is
+
+-- it does, or is the same, or comes behind
+pub comes_or : (s t : List ℕ) → Comes s t ⊎ ((s ≡ t) ⊎ Comes t s)
+comes_or s t = from (slice_cmp nat_cmp s t) refl
+  where
+    from : (o : Ordering) → slice_cmp nat_cmp s t ≡ o → Comes s t ⊎ ((s ≡ t) ⊎ Comes t s)
+    from Less is = inl is
+    from Equal is = inr (inl (same_bytes s t is))
+    from Greater is = inr (inr (nat_list_cmp_total.antisymm t s ∙ ap ordering_reverse is))
 
 pub has_end : {X : Type 0} (xs : List X) (x z : X) → Has (xs ++ x ∷ []) z → Has xs z ⊎ (z ≡ x)
 has_end xs x z h = elim (has_either xs (x ∷ []) z h) [ inl there ↦ inl there | inr last ↦ elim last [ inl same ↦ inr same | inr none ↦ absurd none ] ]
@@ -63,6 +91,10 @@ upto_length (n ∷ ns) low most up between few =
 pub count_upto : (P : ℕ → Type 0) (count most : ℕ) → IsCount P count → ((n : ℕ) → P n → (1 ≤ n) × (n ≤ most)) → count ≤ most
 count_upto P count most it between =
     omega (arith, it.count_is, upto_length it.numbers 0 most it.rising (λ n h. let b = between n ((it.each n).0 h) in (omega (arith, b.0), b.1)) (omega arith))
+
+-- where some number is P, one is counted
+pub some_count : (P : ℕ → Type 0) (count n : ℕ) → IsCount P count → P n → 1 ≤ count
+some_count P count n it here = let some : count ≢ 0 = λ none. counted_none P count n it none here in omega (arith, some)
 
 -- the newest of the numbers, where there is one
 abbrev pub IsNewest : (ℕ → Type 0) → ℕ → Type 0

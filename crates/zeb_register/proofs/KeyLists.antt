@@ -1,18 +1,18 @@
 -- A key's list is told by its units, in either format. What a call that lists them says of tables that hold a content.
-use Rattle.zeb_register.proofs.Cited.{State, Trees, Has, ◌≡◌, ℕ, ℤ, List, subst, Result, Ok, Err, OnOk, Vec, Global, Key, Place, Posting, RegFault, Content, IsStorable, Format, plain_rows, packed_blocks, holds_in, IsReasoned}
+use Rattle.zeb_register.proofs.Cited.{State, Trees, Has, ◌≡◌, ℕ, ℤ, List, subst, Result, Ok, Err, OnOk, Vec, Global, Key, Place, Posting, RegFault, Content, IsStorable, Format, plain_rows, packed_blocks, holds_in, IsReasoned, HasKey, IsCount, posted}
 use Rattle.zeb_register.specs.Clauses.{IsHonestOfHeld, OnStore, TellsHeld}
 use Rattle.zeb_register.specs.Content.{places_in}
 use Rattle.zeb_register.specs.Sound.{IsListSound}
 use Rattle.zeb_register.specs.Units.{HoldsUnits, ListsKey, ListsUnits, counts_as, has_malformed, is_malformed, is_miscounted, is_whole, reads_as}
 use Rattle.zeb_register.proofs.Answered.{or_damaged, or_reasoned}
-use Rattle.zeb_register.proofs.BlockContents.{blocks_by_units, miscounted_none, one_key_count, units_by_blocks}
+use Rattle.zeb_register.proofs.BlockContents.{blocks_by_units, count_of_blocks, miscounted_none, one_key_count, units_by_blocks}
 use Rattle.zeb_register.proofs.BlockUnits.{held_sound, held_units, malformed_unread, one_reading, spelled_sound}
 use Rattle.zeb_register.proofs.ContentChanges.{posting_total}
 use Rattle.zeb_register.proofs.FormatLemmas.{registers_rise}
 use Rattle.zeb_register.proofs.KeyPlaces.{in_place, place_in, place_of}
 use Rattle.zeb_register.proofs.PackedLemmas.{block_rows}
 use Rattle.zeb_register.proofs.RisingLists.{same_list}
-use Rattle.zeb_register.proofs.RowUnits.{held_rows, held_shown, malformed_rows_unread, one_rows_count, one_rows_read, rows_by_units, shown_sound, units_by_rows, unnumbered_none}
+use Rattle.zeb_register.proofs.RowUnits.{count_of_rows, held_rows, held_shown, malformed_rows_unread, one_rows_count, one_rows_read, rows_by_units, shown_sound, units_by_rows, unshown_none}
 
 -- ---- units
 
@@ -48,8 +48,13 @@ one_number packed_blocks = one_key_count
 
 -- and none where it is miscounted
 pub uncounted : (format : Format) (trees : Trees) (db : ℤ) (key : Key) (records : ℕ) → is_miscounted format trees db key → counts_as format trees db key records → ⊥
-uncounted plain_rows = unnumbered_none
+uncounted plain_rows = unshown_none
 uncounted packed_blocks = miscounted_none
+
+-- in tables that hold a content it is the content's
+pub count_held : (format : Format) (trees : Trees) (content : Content) → holds_in format trees content → (db : ℤ) (key : Key) (records : ℕ) → counts_as format trees db key records → IsCount (HasKey (posted content db) key) records
+count_held plain_rows = count_of_rows
+count_held packed_blocks = count_of_blocks
 
 -- tables hold a content just where each unit and each count reads as it says, and no row stands beside
 pub held_by_units : (format : Format) (trees : Trees) (content : Content) → IsStorable content → holds_in format trees content → HoldsUnits format trees content

@@ -63,8 +63,10 @@ pub mod BlockUnits
 pub mod BlockContents
 pub mod RowUnits
 pub mod KeyLists
+pub mod CountLists
 pub mod BetweenRows
 pub mod BetweenLists
+pub mod PlainTerms
 pub mod StorablePlaces
 pub mod RisingPlaces
 pub mod PackedChanges

@@ -75,6 +75,9 @@ gathered : List Posting → List Row → List Posting
 gathered list [] = []
 gathered list (row ∷ rows) = part_in (block_at row) list ++ gathered list rows
 
+pub posting_lower : (p q : Posting) → p.sysno < q.sysno → posting_cmp p q ≡ Less
+posting_lower p q low = ap (λ o. ordering_then o (ordering_then (nat_cmp p.seq q.seq) (nat_cmp p.pos q.pos))) (let e : nat_cmp p.sysno q.sysno ≡ Less = grind arith in e)
+
 module _ (list : List Posting) where
   part_spelled : (row : Row) → IsKeyRow list row → SpellsPart row (part_in (block_at row) list)
   part_spelled row it =
@@ -116,9 +119,6 @@ module _ (list : List Posting) where
           let same : y ≡ x = two.2 ∙ ap₂ (λ (k : ℕ) (d : List ℕ). Int (pos k) ∷ Blob d ∷ []) (sym number) (sym bytes) ∙ sym one.2 in
           absurd (never_itself row_cmp_total x (subst (λ (r : Row). row_cmp x r ≡ Less) same less))
 
-  posting_lower : (p q : Posting) → p.sysno < q.sysno → posting_cmp p q ≡ Less
-  posting_lower p q low = ap (λ o. ordering_then o (ordering_then (nat_cmp p.seq q.seq) (nat_cmp p.pos q.pos))) (let e : nat_cmp p.sysno q.sysno ≡ Less = grind arith in e)
-
   gathered_rises : (rows : List Row) → ((row : Row) → Has rows row → IsKeyRow list row) → IsStrictlySortedBy row_cmp rows → IsStrictlySortedBy posting_cmp (gathered list rows)
   unfolding gathered IsStrictlySortedBy
   gathered_rises [] known up = tt
@@ -144,7 +144,7 @@ other_block : (p q : Posting) → p.sysno / 256 ≢ q.sysno / 256 → one_unless
 other_block p q differ = elim (eqb_tells (p.sysno / 256) (q.sysno / 256)) [ inl yes' ↦ absurd (differ yes'.1) | inr no' ↦ ap one_unless no'.0 ]
 
 -- the postings of one block before those of others
-one_more_block : (block : ℕ) (part rest : List Posting) → part ≢ [] → ((p : Posting) → Has part p → p.sysno / 256 ≡ block) → ((q : Posting) → Has rest q → q.sysno / 256 ≢ block)
+pub one_more_block : (block : ℕ) (part rest : List Posting) → part ≢ [] → ((p : Posting) → Has part p → p.sysno / 256 ≡ block) → ((q : Posting) → Has rest q → q.sysno / 256 ≢ block)
     → blocks_of (part ++ rest) ≡ blocks_of rest + 1
 one_more_block block [] rest some inside outside = absurd (some refl)
 one_more_block block (p ∷ []) [] some inside outside = refl

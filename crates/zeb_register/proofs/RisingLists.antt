@@ -1,6 +1,22 @@
 -- Lists that rise in an order that tells values apart: each is told by its members, and for each list of members there is one.
-use Rattle.zeb_register.proofs.Cited.{all_has, all_from, has_filtered, has_left, has_right, has_either, Has, ◌≡◌, ◌≢◌, ◌↔◌, ◌⊎◌, ◌∙◌, Bool, true, false, cond, suc, length, List, [], ◌∷◌, ◌++◌, refl, sym, ap, ap₂, subst, inl, inr, Ordering, Less, Equal, Greater, filter, tied_itself, IsTotalOrder, ordering_reverse}
+use Rattle.zeb_register.proofs.Cited.{all_has, all_from, has_filtered, has_left, has_right, has_either, Has, ◌≡◌, ◌≢◌, ◌↔◌, ◌⊎◌, ◌∙◌, Bool, true, false, cond, ℕ, zero, suc, ◌<◌, ◌≤◌, arith, length, take, reverse, reverse-append, List, [], ◌∷◌, ◌++◌, refl, sym, ap, ap₂, subst, inl, inr, Ordering, Less, Equal, Greater, filter, tied_itself, IsTotalOrder, ordering_reverse}
 use Rattle.std.specs.List.Sorted.{IsStrictlySortedBy}
+
+-- the other way round a list has the same
+pub has_reversed : {X : Type 0} (xs : List X) (z : X) → Has (reverse xs) z ↔ Has xs z
+has_reversed [] z = (λ h. h, λ h. h)
+has_reversed (x ∷ xs) z =
+    let rest = has_reversed xs z in
+    let is : reverse (x ∷ xs) ≡ reverse xs ++ x ∷ [] = reverse-append (x ∷ []) xs in (
+      λ h. elim (has_either (reverse xs) (x ∷ []) z (subst (λ l. Has l z) is h)) [
+        | inl there ↦ inr (rest.0 there)
+        | inr first ↦ elim first [ inl same ↦ inl same | inr none ↦ absurd none ]
+      ],
+      λ h. subst (λ l. Has l z) (sym is) (elim h [
+        | inl same ↦ has_right (reverse xs) (x ∷ []) z (inl same)
+        | inr there ↦ has_left (reverse xs) (x ∷ []) z (rest.1 there)
+      ]),
+    )
 
 module _ {K : Type 0} {R : K → K → Ordering} (o : IsTotalOrder R) where
   pub never_itself : (x : K) → R x x ≡ Less → ⊥
@@ -161,6 +177,51 @@ module _ {K : Type 0} {R : K → K → Ordering} (o : IsTotalOrder R) where
     unfolding with_all
     all_rise [] ys up = up
     all_rise (x ∷ xs) ys up = one_rises x (with_all xs ys) (all_rise xs ys up)
+
+  -- the first n of a list that rises: those that a list has which rises too, is no longer, and has each that isn't above one of its own
+  pub taken_front : (n : ℕ) (xs ts : List K) → IsStrictlySortedBy R xs → IsStrictlySortedBy R ts → length ts ≤ n → ((t : K) → Has ts t → Has xs t)
+      → ((x : K) → Has xs x → (length ts < n) ⊎ ((t : K) × Has ts t × (R t x ≢ Less)) → Has ts x) → ts ≡ take n xs
+  unfolding IsStrictlySortedBy
+  taken_front zero xs [] up down few there has = refl
+  taken_front zero xs (t ∷ ts) up down few there has = absurd (omega (arith, few))
+  taken_front (suc n) [] [] up down few there has = refl
+  taken_front (suc n) [] (t ∷ ts) up down few there has = absurd (there t (inl refl))
+  taken_front (suc n) (x ∷ xs) [] up down few there has = absurd (has x (inl refl) (inl (omega arith)))
+  taken_front (suc n) (x ∷ xs) (t ∷ ts) up down few there has =
+      let first : t ≡ x = elim (there t (inl refl)) [
+        | inl same ↦ same
+        | inr deep ↦
+            let low : R x t ≡ Less = all_has (λ z. R x z ≡ Less) xs t up.0 deep in
+            elim (has x (inl refl) (inr (t, inl refl, λ back. never_back x t low back))) [ inl same ↦ sym same | inr later ↦ absurd (never_back x t low (all_has (λ z. R t z ≡ Less) ts x down.0 later)) ]
+      ] in
+      ap₂ (λ a as'. a ∷ as') first (taken_front n xs ts up.1 down.1 (omega (arith, few)) (λ u h. elim (there u (inr h)) [
+        | inl same ↦ absurd (never_itself u (subst (λ z. R z u ≡ Less) (first ∙ sym same) (all_has (λ z. R t z ≡ Less) ts u down.0 h)))
+        | inr deep ↦ deep
+      ]) (λ y h reached. elim (has y (inr h) (elim reached [ inl more ↦ inl (omega (arith, more)) | inr it ↦ inr (it.0, inr it.1, it.2) ])) [
+        | inl same ↦ absurd (never_itself y (subst (λ z. R z y ≡ Less) (sym (same ∙ first)) (all_has (λ z. R x z ≡ Less) xs y up.0 h)))
+        | inr later ↦ later
+      ]))
+
+  -- the other way round it falls
+  pub reversed_rises : (xs : List K) → IsStrictlySortedBy (λ x y. R y x) xs → IsStrictlySortedBy R (reverse xs)
+  unfolding IsStrictlySortedBy
+  reversed_rises [] down = tt
+  reversed_rises (x ∷ xs) down =
+      subst (IsStrictlySortedBy R) (sym (reverse-append (x ∷ []) xs)) (pushed_rises (reverse xs) x (reversed_rises xs down.1) (λ z h. all_has (λ y. R y x ≡ Less) xs z down.0 ((has_reversed xs z).0 h)))
+
+-- what stands in front of a cut comes before what stands behind it
+pub cut_rises : {K : Type 0} (R : K → K → Ordering) (xs ys : List K) → IsStrictlySortedBy R (xs ++ ys) → (x y : K) → Has xs x → Has ys y → R x y ≡ Less
+unfolding IsStrictlySortedBy
+cut_rises R [] ys up x y here there = absurd here
+cut_rises R (z ∷ xs) ys up x y (inl same) there = subst (λ w. R w y ≡ Less) (sym same) (all_has (λ w. R z w ≡ Less) (xs ++ ys) y up.0 (has_right xs ys y there))
+cut_rises R (z ∷ xs) ys up x y (inr later) there = cut_rises R xs ys up.1 x y later there
+
+pub flipped_total : {K : Type 0} {R : K → K → Ordering} → IsTotalOrder R → IsTotalOrder (λ x y. R y x)
+flipped_total {K} {R} o = record {
+  antisymm = λ x y. o.antisymm y x;
+  trans = λ x y z low high. o.trans z y x high low;
+  congr = λ x y z same. o.antisymm z x ∙ ap ordering_reverse (o.congr x y z (o.antisymm x y ∙ ap ordering_reverse same)) ∙ sym (o.antisymm z y);
+}
 
 -- ---- the last of a list
 

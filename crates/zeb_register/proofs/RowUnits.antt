@@ -1,8 +1,8 @@
 -- What plain rows say of a key, unit by unit: each has one reading, a malformed one none. What tables hold says each unit.
-use Rattle.zeb_register.proofs.Cited.{Row, column, row_cmp, value_cmp-Int, row_cmp_total, State, Trees, Int, Null, all_from, all_has, has_mapped, mapped_has, Has, ◌≡◌, ◌∙◌, ℕ, ℤ, pos, List, [], ◌∷◌, ◌++◌, drop, map, refl, sym, ap, ap₂, subst, inl, inr, Ordering, Less, Equal, Greater, nat_cmp, ordering_then, Key, Place, Posting, Content, posting_at, posting_cmp, HoldsRows, key_row, posting_row, first_three, HasRow, IsListOf, IsStore, postings_tree, ◌≢◌, Result, Ok, Err, Vec, Global, RegFault, Store, plain_rows, posted, HasKey}
+use Rattle.zeb_register.proofs.Cited.{Row, column, row_cmp, value_cmp-Int, row_cmp_total, State, Trees, Int, Null, all_from, all_has, has_mapped, mapped_has, Has, ◌≡◌, ◌↔◌, ◌∙◌, ℕ, ℤ, pos, List, [], ◌∷◌, ◌++◌, drop, map, refl, sym, ap, ap₂, subst, inl, inr, Ordering, Less, Equal, Greater, nat_cmp, ordering_then, Key, Place, Posting, Content, posting_at, posting_cmp, HoldsRows, key_row, posting_row, first_three, HasRow, IsListOf, IsStore, postings_tree, ◌≢◌, Result, Ok, Err, Vec, Global, RegFault, Store, plain_rows, posted, HasKey, IsCount}
 use Rattle.std.specs.List.Sorted.{IsStrictlySortedBy}
 use Rattle.zeb_register.specs.Content.{places_in}
-use Rattle.zeb_register.specs.PlainUnits.{AreAllShown, HasNoNumber, HasRowIn, HasShownNone, IsRowMalformed, IsUnderKey, RowsCount, RowsRead, ShowsPosting}
+use Rattle.zeb_register.specs.PlainUnits.{AreAllShown, HasRowIn, HasShownNone, IsRowMalformed, IsUnderKey, RowsCount, RowsRead, ShowsPosting}
 use Rattle.zeb_register.specs.Answers.{Answers, IfDamaged}
 use Rattle.zeb_register.specs.PrivateRowPlaces.{SomeShowsNone}
 use Rattle.zeb_register.specs.Units.{HoldsUnits, ListsUnits}
@@ -184,27 +184,35 @@ module _ (trees : Trees) (content : Content) (holds : HoldsRows trees content) (
 pub one_rows_count : (trees : Trees) (db : ℤ) (key : Key) (a b : ℕ) → RowsCount trees db key a → RowsCount trees db key b → a ≡ b
 one_rows_count trees db key a b left right = one_count (HasRowIn trees db key) a b left.count right.count
 
-pub unnumbered_none : (trees : Trees) (db : ℤ) (key : Key) (records : ℕ) → HasNoNumber trees db key → RowsCount trees db key records → ⊥
-unnumbered_none trees db key records bad counts = let it = counts.numbered bad.0 bad.1 in bad.2 it.0 it.1
+pub unshown_none : (trees : Trees) (db : ℤ) (key : Key) (records : ℕ) → HasShownNone trees db key → RowsCount trees db key records → ⊥
+unshown_none trees db key records bad counts = let it = counts.shown bad.0 bad.1 in bad.2 it.0 it.1
 
 -- ---- plain tables hold a content just where each unit reads as it says, and no row stands beside
+
+module _ (trees : Trees) (content : Content) (holds : HoldsRows trees content) (db : ℤ) (key : Key) where
+  has_row_in : (n : ℕ) → HasKey (posted content db) key n ↔ HasRowIn trees db key n
+  has_row_in n = (
+    λ has.
+        let p = (key_posted content db key n).0 has in
+        let row = (held_rows trees content holds db key p.0.sysno).there (place_of p.0) (place_in (content db key) p.0 p.1) in
+        (row.0, (row.1, row.2.0 ∙ ap (λ (m : ℕ). Int (pos m)) p.2)),
+    λ it.
+        let p = held_posting trees content holds db key it.0 it.1.0 in
+        let number : Int (pos p.0.sysno) ≡ Int (pos n) = sym p.2.0 ∙ it.1.1 in
+        (key_posted content db key n).1 (p.0, p.1, (let e : p.0.sysno ≡ n = cc in e)),
+  )
+
+  -- a key's count is the content's
+  pub count_of_rows : (records : ℕ) → RowsCount trees db key records → IsCount (HasKey (posted content db) key) records
+  count_of_rows records counts = count_so (HasRowIn trees db key) (HasKey (posted content db) key) records (λ n. ((has_row_in n).1, (has_row_in n).0)) counts.count
 
 pub rows_by_units : (trees : Trees) (content : Content) → HoldsRows trees content → HoldsUnits plain_rows trees content
 rows_by_units trees content holds = record {
   rising = holds.rising;
   units = held_rows trees content holds;
   counts = λ db key records is. record {
-    count = count_so (HasKey (posted content db) key) (HasRowIn trees db key) records (λ n. (
-      λ has.
-          let p = (key_posted content db key n).0 has in
-          let row = (held_rows trees content holds db key p.0.sysno).there (place_of p.0) (place_in (content db key) p.0 p.1) in
-          (row.0, (row.1, row.2.0 ∙ ap (λ (m : ℕ). Int (pos m)) p.2)),
-      λ it.
-          let p = held_posting trees content holds db key it.0 it.1.0 in
-          let number : Int (pos p.0.sysno) ≡ Int (pos n) = sym p.2.0 ∙ it.1.1 in
-          (key_posted content db key n).1 (p.0, p.1, (let e : p.0.sysno ≡ n = cc in e)),
-    )) is;
-    numbered = λ row there. let p = held_posting trees content holds db key row there in (p.0.sysno, p.2.0);
+    count = count_so (HasKey (posted content db) key) (HasRowIn trees db key) records (has_row_in trees content holds db key) is;
+    shown = held_shown trees content holds db key;
   };
   alone = record {
     postings = λ row there. let it = (holds.each row).0 there in (it.0, it.1, it.2, it.4);

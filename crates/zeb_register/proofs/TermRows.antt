@@ -1,12 +1,14 @@
 -- Rows of a register as the terms of a content.
-use Rattle.zeb_register.proofs.Cited.{Row, column, value_cmp, row_cmp, Trees, Value, Null, Int, Real, Text, Blob, has_left, has_right, has_either, has_mapped, mapped_has, Has, row_cmp_total, value_cmp-Int, value_cmp-Text, ◌≡◌, ◌≢◌, ◌↔◌, ◌⊎◌, ◌∙◌, ◌<◌, ◌≤◌, ◌+◌, ℕ, ℤ, pos, negsuc, zero, suc, true, false, List, [], ◌∷◌, ◌++◌, length, map, take, drop, get_or, refl, sym, ap, ap₂, subst, inl, inr, Ordering, Less, Equal, Greater, nat_cmp, arith, Option, Some, None, String, string_bytes, IsUtf8, take_more, slice_cmp, slice_set, is_lt, ordering_then, Global, Register, Posting, register_code, numbers_apart, TermCount, HasRow, IsListOf, postings_tree, key_of, IsRest, Content, IsStorable, posted, posting_cmp, HoldsRows, posting_row, register_front, IsCount, AreCounts, AreSpotsOf, AreTermsOf, HasSpot, Spot, TermIn, key_in, spot_cmp, IsInRecord, IsTerm, HasTerm, ShowsOccurrence, IsOccurrenceRow, IsShown, ShowsTerm, IsTermRow, ShowsLeast, ShowsGreatest, IsLeastTerm, IsGreatestTerm}
+use Rattle.zeb_register.proofs.Cited.{Row, column, value_cmp, row_cmp, Trees, Value, Null, Int, Real, Text, Blob, has_left, has_right, has_either, has_mapped, mapped_has, Has, row_cmp_total, value_cmp-Int, value_cmp-Text, ◌≡◌, ◌≢◌, ◌↔◌, ◌⊎◌, ◌∙◌, ◌<◌, ◌≤◌, ◌+◌, ℕ, ℤ, pos, negsuc, zero, suc, true, false, List, [], ◌∷◌, ◌++◌, length, map, take, drop, get_or, refl, sym, ap, ap₂, subst, inl, inr, Ordering, Less, Equal, Greater, nat_cmp, arith, Option, Some, None, String, string_bytes, IsUtf8, take_more, slice_cmp, slice_set, is_lt, ordering_then, Global, Register, Posting, register_code, numbers_apart, TermCount, HasRow, IsListOf, postings_tree, key_of, IsRest, Content, IsStorable, posted, posting_cmp, HoldsRows, posting_row, register_front, IsCount, AreCounts, AreSpotsOf, AreTermsOf, HasSpot, Spot, TermIn, key_in, spot_cmp, IsInRecord, HasTerm, ShowsOccurrence, IsOccurrenceRow, IsShown}
 use Rattle.std.specs.List.Sorted.{IsStrictlySortedBy}
+use Rattle.zeb_register.specs.PlainUnits.{ShowsPosting}
 use Rattle.zeb_register.proofs.RisingLists.{front_rises, before_last}
 use Rattle.zeb_register.proofs.RowLemmas.{same_bytes}
 use Rattle.zeb_register.proofs.Scans.{strictly_mapped}
 use Rattle.zeb_register.proofs.ContentLemmas.{ints_order, same_key}
 use Rattle.zeb_register.proofs.CountLemmas.{IsNewest, is_less, counts_so, count_so, count_more, counted_none, newest_is, above_newest, newest_stays}
 use Rattle.zeb_register.proofs.OccurringLemmas.{key_posted}
+use Rattle.zeb_register.proofs.TermLists.{IsTerm}
 use Rattle.zeb_register.proofs.TermsAmong.{terms_among}
 
 -- ---- rows one after the other
@@ -107,7 +109,7 @@ records_whole list n = (λ h. (h.0, subst (λ l. Has l h.0) (take_whole list) h.
 
 -- ---- the rows of one register
 
-abbrev term_of_row : List ℕ → Posting → Row
+abbrev pub term_of_row : List ℕ → Posting → Row
 term_of_row term p = Text term ∷ posting_row p
 
 unfoldable pub text_of : Value → List ℕ
@@ -129,6 +131,10 @@ natural_of (Blob b) = 0
 pub spot_at : Row → Spot
 spot_at row = (text_of (column row 0), record { sysno = natural_of (column row 1); seq = natural_of (column row 2); pos = natural_of (column row 3) })
 
+pub spot_shows : (term : List ℕ) (row : Row) (p : Posting) → ShowsPosting row p → spot_at (Text term ∷ row) ≡ (term, p)
+unfolding spot_at text_of natural_of
+spot_shows term row p shows = λ i. (term, record { sysno = natural_of (shows.0 i); seq = natural_of (shows.1 i); pos = natural_of (shows.2 i) })
+
 then_equal : (a b c : Ordering) → ordering_then a (ordering_then b (ordering_then c Equal)) ≡ ordering_then a (ordering_then b c)
 then_equal Less b c = refl
 then_equal Greater b c = refl
@@ -141,7 +147,7 @@ then_equal Equal Equal Greater = refl
 posting_order : (p q : Posting) → row_cmp (posting_row p) (posting_row q) ≡ posting_cmp p q
 posting_order p q = rw (int_at p.sysno q.sysno, int_at p.seq q.seq, int_at p.pos q.pos) (then_equal (nat_cmp p.sysno q.sysno) (nat_cmp p.seq q.seq) (nat_cmp p.pos q.pos))
 
-spots_order : (s t : List ℕ) (p q : Posting) → row_cmp (term_of_row s p) (term_of_row t q) ≡ Less → spot_cmp (s, p) (t, q) ≡ Less
+pub spots_order : (s t : List ℕ) (p q : Posting) → row_cmp (term_of_row s p) (term_of_row t q) ≡ Less → spot_cmp (s, p) (t, q) ≡ Less
 spots_order s t p q less = ap₂ ordering_then (sym (value_cmp-Text s t)) (sym (posting_order p q)) ∙ less
 
 module _ (trees : Trees) (content : Content) (db : ℤ) (index : ℕ) (register : Register) (holds : HoldsRows trees content) where
@@ -151,72 +157,12 @@ module _ (trees : Trees) (content : Content) (db : ℤ) (index : ℕ) (register 
   abbrev term_in : List ℕ → ℕ → Type 0
   term_in = TermIn (posted content db) index register
 
-  -- a row of the register, by its term and its posting
-  pub register_row : (row : Row) → HasRow trees postings_tree (register_front db index register ++ row) → (term : List ℕ) × (p : Posting) × Has (list_of term) p × (row ≡ term_of_row term p)
-  register_row row there =
-      let p = (holds.each (register_front db index register ++ row)).0 there in
-      let one : Int db ≡ Int p.0 = ap (λ (r : Row). column r 0) p.4 in
-      let two : Int (pos index) ≡ Int (pos p.1.index) = ap (λ (r : Row). column r 1) p.4 in
-      let three : Int (pos (register_code register)) ≡ Int (pos (register_code p.1.register)) = ap (λ (r : Row). column r 2) p.4 in
-      let here : p.0 ≡ db = cc in
-      let same : p.1 ≡ key_in index register p.1.term = same_key p.1 (key_in index register p.1.term) (cc) (cc) refl in
-      (p.1.term, p.2, subst (λ k. Has (content db k) p.2) same (subst (λ d. Has (content d p.1) p.2) here p.3), ap (drop 3) p.4)
-
   pub register_there : (term : List ℕ) (p : Posting) → Has (list_of term) p → HasRow trees postings_tree (register_front db index register ++ term_of_row term p)
   register_there term p here = (holds.each (register_front db index register ++ term_of_row term p)).1 (db, key_in index register term, p, here, refl)
 
   -- a term has a row where it has a posting
   pub term_there : (term : List ℕ) → IsTerm term_in term → HasTerm trees db (pos index) (pos (register_code register)) term
   term_there term some = let p = (key_posted content db (key_in index register term) some.0).0 some.1 in (posting_row p.0, register_there term p.0 p.1)
-
-  pub term_listed : (term : List ℕ) → HasTerm trees db (pos index) (pos (register_code register)) term → IsTerm term_in term
-  term_listed term there =
-      let it = register_row (Text term ∷ there.0) there.1 in
-      let head : Text term ≡ Text it.0 = ap (λ (r : Row). column r 0) it.3 in
-      let same : it.0 ≡ term = cc in
-      (it.1.sysno, (key_posted content db (key_in index register term) it.1.sysno).1 (it.1, subst (λ t. Has (list_of t) it.1) same it.2, refl))
-
-  -- ---- all rows of the register
-  module _ (rows : List Row) (are : IsListOf (IsRest postings_tree (register_front db index register) trees) rows) where
-    pub shown_in : (term : List ℕ) (n : ℕ) → IsShown rows term n ↔ IsInRecord (list_of term) n
-    shown_in term n = (
-      λ h.
-          let it = register_row h.0 ((are.each h.0).0 h.1) in
-          let one : Text it.0 ≡ Text term = sym (ap (λ (r : Row). column r 0) it.3) ∙ h.2.0 in
-          let two : Int (pos it.1.sysno) ≡ Int (pos n) = sym (ap (λ (r : Row). column r 1) it.3) ∙ h.2.1 in
-          let same : it.0 ≡ term = cc in
-          (it.1, subst (λ t. Has (list_of t) it.1) same it.2, (let e : it.1.sysno ≡ n = cc in e)),
-      λ h. (term_of_row term h.0, (are.each (term_of_row term h.0)).1 (register_there term h.0 h.1), (refl, ap (λ (m : ℕ). Int (pos m)) h.2)),
-    )
-
-    pub counts_are : (terms : List TermCount) → AreCounts (IsShown rows) terms → AreTermsOf (posted content db) index register terms
-    counts_are terms it = counts_so (IsShown rows) term_in terms (λ term n. (
-      λ h. (key_posted content db (key_in index register term) n).1 ((shown_in term n).0 h),
-      λ h. (shown_in term n).1 ((key_posted content db (key_in index register term) n).0 h),
-    )) it
-
-    pub rows_readable : IsStorable content → (row : Row) → Has rows row → IsOccurrenceRow row
-    rows_readable storable row here =
-        let it = register_row row ((are.each row).0 here) in
-        (omega (arith, ap length it.3), (it.0, it.1.sysno, (ap (λ (r : Row). column r 0) it.3, ap (λ (r : Row). column r 1) it.3), (storable db (key_in index register it.0) it.1 it.2).text))
-
-    -- the rows as places of terms
-    pub spots_are : AreSpotsOf (posted content db) index register (map spot_at rows)
-    unfolding spot_at text_of natural_of
-    spots_are = record {
-      rising = strictly_mapped row_cmp spot_cmp spot_at rows (λ a b here there less.
-          let p = register_row a ((are.each a).0 here) in
-          let q = register_row b ((are.each b).0 there) in
-          rw (p.3, q.3) (spots_order p.0 q.0 p.1 q.1 (rw (p.3, q.3) at less))) are.rising;
-      each = λ spot. (
-        λ h.
-            let row = has_mapped spot_at rows spot h in
-            let p = register_row row.0 ((are.each row.0).0 row.1) in
-            let is : spot ≡ (p.0, p.1) = row.2 ∙ ap spot_at p.3 in
-            subst (HasSpot (posted content db) index register) (sym is) p.2,
-        λ h. mapped_has spot_at rows (term_of_row spot.0 spot.1) ((are.each (term_of_row spot.0 spot.1)).1 (register_there spot.0 spot.1 h)),
-      );
-    }
 
   -- ---- there is a list of the terms
   text_at : Row → List ℕ
@@ -231,58 +177,6 @@ module _ (trees : Trees) (content : Content) (db : ℤ) (index : ℕ) (register 
       let row = term_there term (n, in_it) in
       let whole = Int row.1.0 ∷ key_of db (pos index) (pos (register_code register)) term ++ row.0 in
       subst (Has (map text_at (trees postings_tree))) (text_is row.1.0 term row.0) (mapped_has text_at (trees postings_tree) whole row.1.1))
-
-  -- ---- the term next to a text
-  abbrev here_has : List ℕ → Type 0
-  here_has = HasTerm trees db (pos index) (pos (register_code register))
-
-  pub least_shown : (start : List ℕ) (rows : List Row) (term : Option (String Global)) → ShowsLeast (λ t. here_has t × (is_lt (slice_cmp nat_cmp t start) ≡ false)) rows → ShowsTerm rows term → IsLeastTerm term_in start term
-  least_shown start rows None least shown = λ term some. elim (Rattle.std.proofs.lemmas.Bool.cases_Bool (is_lt (slice_cmp nat_cmp term start))) [
-    | inl is ↦ is
-    | inr is ↦ absurd (subst (ShowsLeast (λ t. here_has t × (is_lt (slice_cmp nat_cmp t start) ≡ false))) shown least term (term_there term some, is))
-  ]
-  least_shown start rows (Some text) least shown =
-      let it = subst (ShowsLeast (λ t. here_has t × (is_lt (slice_cmp nat_cmp t start) ≡ false))) shown.2 least in
-      let first = it.1 in
-      let head : Text first.0 ≡ Text (string_bytes text) = sym (ap (λ (r : Row). column r 0) first.1) ∙ shown.3 in
-      let same : first.0 ≡ string_bytes text = cc in (
-        subst (IsTerm term_in) same (term_listed first.0 first.2.0),
-        subst (λ t. is_lt (slice_cmp nat_cmp t start) ≡ false) same first.2.1,
-        λ other some low. subst (λ t. is_lt (slice_cmp nat_cmp other t) ≡ false) same (first.3 other (term_there other some, low)),
-      )
-
-  pub greatest_shown : (start : List ℕ) (rows : List Row) (term : Option (String Global)) → ShowsGreatest (λ t. here_has t × (is_lt (slice_cmp nat_cmp t start) ≡ true)) rows → ShowsTerm rows term → IsGreatestTerm term_in start term
-  greatest_shown start rows None greatest shown = λ term some. elim (Rattle.std.proofs.lemmas.Bool.cases_Bool (is_lt (slice_cmp nat_cmp term start))) [
-    | inr is ↦ is
-    | inl is ↦ absurd (subst (ShowsGreatest (λ t. here_has t × (is_lt (slice_cmp nat_cmp t start) ≡ true))) shown greatest term (term_there term some, is))
-  ]
-  greatest_shown start rows (Some text) greatest shown =
-      let it = subst (ShowsGreatest (λ t. here_has t × (is_lt (slice_cmp nat_cmp t start) ≡ true))) shown.2 greatest in
-      let first = it.1 in
-      let head : Text first.0 ≡ Text (string_bytes text) = sym (ap (λ (r : Row). column r 0) first.1) ∙ shown.3 in
-      let same : first.0 ≡ string_bytes text = cc in (
-        subst (IsTerm term_in) same (term_listed first.0 first.2.0),
-        subst (λ t. is_lt (slice_cmp nat_cmp t start) ≡ true) same first.2.1,
-        λ other some low. subst (λ t. is_lt (slice_cmp nat_cmp t other) ≡ false) same (first.3 other (term_there other some, low)),
-      )
-
-  shown_text : IsStorable content → (term : List ℕ) → here_has term → IsUtf8 term
-  shown_text storable term there =
-      let some = term_listed term there in
-      let p = (key_posted content db (key_in index register term) some.0).0 some.1 in
-      (storable db (key_in index register term) p.0 p.1).text
-
-  pub least_readable : IsStorable content → (start : List ℕ) (rows : List Row) → ShowsLeast (λ t. here_has t × (is_lt (slice_cmp nat_cmp t start) ≡ false)) rows → (row : Row) → Has rows row → IsTermRow row
-  least_readable storable start [] least row h = absurd h
-  least_readable storable start (first ∷ rest) least row (inl same) =
-      let it = least.1 in (omega (arith, ap length (same ∙ it.1)), (it.0, ap (λ (r : Row). column r 0) (same ∙ it.1), shown_text storable it.0 it.2.0))
-  least_readable storable start (first ∷ rest) least row (inr later) = absurd (subst (λ l. Has l row) least.0 later)
-
-  pub greatest_readable : IsStorable content → (start : List ℕ) (rows : List Row) → ShowsGreatest (λ t. here_has t × (is_lt (slice_cmp nat_cmp t start) ≡ true)) rows → (row : Row) → Has rows row → IsTermRow row
-  greatest_readable storable start [] greatest row h = absurd h
-  greatest_readable storable start (first ∷ rest) greatest row (inl same) =
-      let it = greatest.1 in (omega (arith, ap length (same ∙ it.1)), (it.0, ap (λ (r : Row). column r 0) (same ∙ it.1), shown_text storable it.0 it.2.0))
-  greatest_readable storable start (first ∷ rest) greatest row (inr later) = absurd (subst (λ l. Has l row) greatest.0 later)
 
 -- ---- the steps of the loops
 

@@ -1,5 +1,5 @@
 -- The statements that find the term next to a text.
-use Rattle.zeb_register.proofs.Cited.{reads_as, Select, Row, column, value_cmp, State, Term, col, lit, Trees, Value, Int, Text, Has, value_cmp-Text, then-Equal, ◌≡◌, ◌↔◌, ◌∙◌, ℕ, ℤ, pos, true, false, List, [], ◌∷◌, codes, refl, sym, ap, ap₂, subst, inl, inr, Equal, map, arith, nat_cmp, slice_cmp, is_lt, ordering_then, NOTHING, TERM_FROM, TERM_BEFORE, store_schema, IsStore, HasTerm, ShowsLeast, ShowsGreatest}
+use Rattle.zeb_register.proofs.Cited.{reads_as, Select, Row, column, value_cmp, State, Term, col, lit, Trees, Value, Int, Text, Has, value_cmp-Text, then-Equal, ◌≡◌, ◌↔◌, ◌∙◌, ℕ, ℤ, pos, true, false, List, [], ◌∷◌, codes, refl, sym, ap, ap₂, subst, inl, inr, Equal, map, arith, nat_cmp, slice_cmp, is_lt, ordering_then, NOTHING, TERM_FROM, TERM_BEFORE, store_schema, IsStore, HasTerm, ShowsNearest}
 use Rattle.sqlite.specs.Listing.{understood}
 use Rattle.sqlite.specs.State.{Shown}
 use Rattle.sqlite_tied.specs.Compute.{everything}
@@ -12,6 +12,8 @@ use Rattle.zeb_register.proofs.FirstRows.{first_shown}
 use Rattle.zeb_register.proofs.Writes.{codes_there, meets_there}
 use Rattle.zeb_register.proofs.Refusals.{IsQuery}
 use Rattle.zeb_register.proofs.PostingStatements.{postings, postings_static}
+use Rattle.zeb_register.specs.Terms.{Comes}
+use Rattle.zeb_register.proofs.CountLemmas.{comes_is, comes_not}
 
 abbrev pub from_text : List ℕ
 from_text = TERM_FROM.now
@@ -76,10 +78,10 @@ module _ (old : State) (store : IsStore old) (db idx reg : ℤ) (start : List �
   term_row term there = Int there.1.0 ∷ Int db ∷ Int idx ∷ Int reg ∷ Text term ∷ there.0
 
   abbrev FromStart : List ℕ → Type 0
-  FromStart term = HasTerm trees db idx reg term × (is_lt (slice_cmp nat_cmp term start) ≡ false)
+  FromStart term = HasTerm trees db idx reg term × ¬ Comes term start
 
   abbrev BelowStart : List ℕ → Type 0
-  BelowStart term = HasTerm trees db idx reg term × (is_lt (slice_cmp nat_cmp term start) ≡ true)
+  BelowStart term = HasTerm trees db idx reg term × Comes term start
 
   meets_from : (r : Row) → Has (trees 7) r → (passes (in_register (at_least 4 3)) params r ≡ true) ↔ MeetsAll params r (in_register (at_least 4 3))
   meets_from r here = meets_there store_schema 3 postings postings_static old params (in_register (at_least 4 3)) store refl r here
@@ -88,55 +90,55 @@ module _ (old : State) (store : IsStore old) (db idx reg : ℤ) (start : List �
   meets_below r here = meets_there store_schema 3 postings postings_static old params (in_register (less_than 4 3)) store refl r here
 
   row_from : (term : List ℕ) (p : FromStart term) → passes (in_register (at_least 4 3)) params (term_row term p.0) ≡ true
-  row_from term p = (meets_from (term_row term p.0) p.0.1.1).1 (refl, (refl, (refl, (ap is_lt (value_cmp-Text term start) ∙ p.1, tt))))
+  row_from term p = (meets_from (term_row term p.0) p.0.1.1).1 (refl, (refl, (refl, (ap is_lt (value_cmp-Text term start) ∙ (comes_not term start).1 p.1, tt))))
 
   row_below : (term : List ℕ) (p : BelowStart term) → passes (in_register (less_than 4 3)) params (term_row term p.0) ≡ true
-  row_below term p = (meets_below (term_row term p.0) p.0.1.1).1 (refl, (refl, (refl, (ap is_lt (value_cmp-Text term start) ∙ p.1, tt))))
+  row_below term p = (meets_below (term_row term p.0) p.0.1.1).1 (refl, (refl, (refl, (ap is_lt (value_cmp-Text term start) ∙ ap is_lt p.1, tt))))
 
-  pub shows_least : (new : State) (rows : List Row) → Shown from_text params old new rows → ShowsLeast FromStart rows
+  pub shows_least : (new : State) (rows : List Row) → Shown from_text params old new rows → ShowsNearest FromStart Comes rows
   shows_least new rows shown =
       let wheres = in_register (at_least 4 3) in
       let read = reads_as from_text params old new store_schema store.is (Select (alone (reading_by 7 wheres (shows (4 ∷ [])) from_keys one_row)) (codes "term" ∷ [])) (from_query db idx reg start).is (from_query db idx reg start).plain (from_query db idx reg start).unlisted rows shown in
       let answer = reads old.now 7 wheres (shows (4 ∷ [])) from_keys one_row params rows read in
       elim (first_shown (trees 7) wheres (shows (4 ∷ [])) from_keys params rows answer) [
-        | inl none ↦ subst (ShowsLeast FromStart) (sym none.0) (λ term p. none.1 (term_row term p.0) p.0.1.1 (row_from term p))
+        | inl none ↦ subst (ShowsNearest FromStart Comes) (sym none.0) (λ term p. none.1 (term_row term p.0) p.0.1.1 (row_from term p))
         | inr first ↦
             let met = (meets_from first.0 first.1.0).0 first.1.1 in
             let it = row_term first.0 first.1.0 met.0 met.1.0 met.1.1.0 in
             let low : is_lt (slice_cmp nat_cmp it.0 start) ≡ false = ap is_lt (sym (value_cmp-Text it.0 start)) ∙ ap (λ v. is_lt (value_cmp v (Text start))) (sym it.2) ∙ met.1.1.1.0 in
-            subst (ShowsLeast FromStart) (sym first.1.2) (
+            subst (ShowsNearest FromStart Comes) (sym first.1.2) (
               refl,
               (
                 it.0,
                 ap (λ v. v ∷ []) it.2,
-                (it.1, low),
+                (it.1, (comes_not it.0 start).0 low),
                 λ other p.
                     let least : is_lt (ordering_then (value_cmp (Text other) (column first.0 4)) Equal) ≡ false = first.1.3 (term_row other p.0) p.0.1.1 (row_from other p) in
-                    ap is_lt (sym (value_cmp-Text other it.0)) ∙ ap (λ v. is_lt (value_cmp (Text other) v)) (sym it.2) ∙ ap is_lt (sym (then-Equal (value_cmp (Text other) (column first.0 4)))) ∙ least,
+                    (comes_not other it.0).0 (ap is_lt (sym (value_cmp-Text other it.0)) ∙ ap (λ v. is_lt (value_cmp (Text other) v)) (sym it.2) ∙ ap is_lt (sym (then-Equal (value_cmp (Text other) (column first.0 4)))) ∙ least),
               ),
             )
       ]
 
-  pub shows_greatest : (new : State) (rows : List Row) → Shown before_text params old new rows → ShowsGreatest BelowStart rows
+  pub shows_greatest : (new : State) (rows : List Row) → Shown before_text params old new rows → ShowsNearest BelowStart (λ one other. Comes other one) rows
   shows_greatest new rows shown =
       let wheres = in_register (less_than 4 3) in
       let read = reads_as before_text params old new store_schema store.is (Select (alone (reading_by 7 wheres (shows (4 ∷ [])) before_keys one_row)) (codes "term" ∷ [])) (before_query db idx reg start).is (before_query db idx reg start).plain (before_query db idx reg start).unlisted rows shown in
       let answer = reads old.now 7 wheres (shows (4 ∷ [])) before_keys one_row params rows read in
       elim (first_shown (trees 7) wheres (shows (4 ∷ [])) before_keys params rows answer) [
-        | inl none ↦ subst (ShowsGreatest BelowStart) (sym none.0) (λ term p. none.1 (term_row term p.0) p.0.1.1 (row_below term p))
+        | inl none ↦ subst (ShowsNearest BelowStart (λ one other. Comes other one)) (sym none.0) (λ term p. none.1 (term_row term p.0) p.0.1.1 (row_below term p))
         | inr first ↦
             let met = (meets_below first.0 first.1.0).0 first.1.1 in
             let it = row_term first.0 first.1.0 met.0 met.1.0 met.1.1.0 in
             let low : is_lt (slice_cmp nat_cmp it.0 start) ≡ true = ap is_lt (sym (value_cmp-Text it.0 start)) ∙ ap (λ v. is_lt (value_cmp v (Text start))) (sym it.2) ∙ met.1.1.1.0 in
-            subst (ShowsGreatest BelowStart) (sym first.1.2) (
+            subst (ShowsNearest BelowStart (λ one other. Comes other one)) (sym first.1.2) (
               refl,
               (
                 it.0,
                 ap (λ v. v ∷ []) it.2,
-                (it.1, low),
+                (it.1, comes_is it.0 start low),
                 λ other p.
                     let greatest : is_lt (ordering_then (value_cmp (column first.0 4) (Text other)) Equal) ≡ false = first.1.3 (term_row other p.0) p.0.1.1 (row_below other p) in
-                    ap is_lt (sym (value_cmp-Text it.0 other)) ∙ ap (λ v. is_lt (value_cmp v (Text other))) (sym it.2) ∙ ap is_lt (sym (then-Equal (value_cmp (column first.0 4) (Text other)))) ∙ greatest,
+                    (comes_not it.0 other).0 (ap is_lt (sym (value_cmp-Text it.0 other)) ∙ ap (λ v. is_lt (value_cmp v (Text other))) (sym it.2) ∙ ap is_lt (sym (then-Equal (value_cmp (column first.0 4) (Text other)))) ∙ greatest),
               ),
             )
       ]

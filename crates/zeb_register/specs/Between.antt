@@ -17,6 +17,10 @@ IsBetween first last text = (is_lt (slice_cmp nat_cmp text first) ≡ false) × 
 abbrev pub term_list : Content → RegisterOf → List ℕ → List Posting
 term_list content at term = content at.db.0 (key_in at.index at.register term)
 
+-- it is a posting of one of the terms between the two
+abbrev pub IsPostingBetween : Content → RegisterOf → (first last : List ℕ) → Posting → Type 0
+IsPostingBetween content at first last p = (term : List ℕ) × IsBetween first last term × Has (term_list content at term) p
+
 -- Keys of the register whose terms stand between the two, rising and each once. Each that has a posting is among them.
 pub record AreKeysBetween (content : Content) (at : RegisterOf) (first last : List ℕ) (keys : List Key) : Type 0 where
   pub rising : IsStrictlySortedBy (slice_cmp nat_cmp) (map (λ (key : Key). key.term) keys)

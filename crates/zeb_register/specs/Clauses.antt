@@ -72,17 +72,12 @@ IsReasonedInside old new result = InStore old new (λ _. result ≡ Err Store �
 abbrev pub IsReasonedErrorInside : {A : Type 0} → State → State → Result A Error → Type 0
 IsReasonedErrorInside old new result = InStore old new (λ _. IfErr result (λ e. fault_of e ≡ Store → MayRefuse old new))
 
--- ---- why a call that writes rows is refused
-
 -- ---- calls on tables that hold a content in some format
 
 module _ (Holds : Trees → Content → Type 0) where
   -- the answer tells this of the content
   abbrev pub TellsHeld : {A E : Type 0} → State → State → Result A E → (Content → A → Type 0) → Type 0
   TellsHeld old new result Told = Tells old new result (λ trees answer. (content : Content) → Holds trees content → Told content answer)
-
-  abbrev pub TellsHeldInside : {A E : Type 0} → State → State → Result A E → (Content → A → Type 0) → Type 0
-  TellsHeldInside old new result Told = TellsInside old new result (λ trees answer. (content : Content) → Holds trees content → Told content answer)
 
   -- Damaged is answered only where no content is held
   abbrev pub IsHonestOfHeld : {A : Type 0} → State → State → Result A RegFault → Type 0
@@ -92,10 +87,6 @@ module _ (Holds : Trees → Content → Type 0) where
   abbrev pub IsHonestStorable : {A : Type 0} → State → State → Result A RegFault → Type 0
   IsHonestStorable old new result = OnStore old new (λ trees. result ≡ Err Damaged
       → (content : Content) → IsStorable content → ¬ Holds trees content)
-
-  -- an accepted call finds that the content is so
-  abbrev pub FindsHeld : {A E : Type 0} → State → State → Result A E → (Content → Type 0) → Type 0
-  FindsHeld old new result Found = InStore old new (λ trees. OnOk result ((content : Content) → Holds trees content → Found content))
 
   -- an accepted call makes this change of the content, and leaves the lists as they were
   abbrev pub ChangesHeld : {A E : Type 0} → State → State → Result A E → (Content → Content → Type 0) → Type 0

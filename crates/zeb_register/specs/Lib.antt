@@ -16,7 +16,6 @@ pub mod Tallies
 pub mod PlainRows
 pub mod PackedBlocks
 pub mod PrivateRowStatements
-pub mod PrivateRowTerms
 pub mod PrivateRowPlaces
 pub mod PrivatePackedRows
 pub mod PlainUnits
@@ -24,6 +23,7 @@ pub mod PackedUnits
 pub mod Formats
 pub mod Between
 pub mod Units
+pub mod Terms
 pub mod Sound
 pub mod Expected
 pub mod PrivateRowExpected
@@ -32,6 +32,7 @@ pub mod PrivateRowReads
 pub mod PrivateKeyColumns
 pub mod PrivateTableForms
 pub mod PrivateBetweenRows
+pub mod PrivateRowTerms
 pub mod PrivateStoreTables
 pub mod UnitChanges
 pub mod PrivateUnits

@@ -53,13 +53,10 @@ AreAllShown trees db key = (row : Row) → IsUnderKey trees db key row → (p : 
 abbrev pub HasRowIn : Trees → ℤ → Key → ℕ → Type 0
 HasRowIn trees db key sysno = (row : Row) × IsUnderNumber trees db key sysno row
 
+-- they are told where each row of the key shows a posting
 pub record RowsCount (trees : Trees) (db : ℤ) (key : Key) (records : ℕ) : Type 0 where
   pub count : IsCount (HasRowIn trees db key) records
-  pub numbered : (row : Row) → IsUnderKey trees db key row → (sysno : ℕ) × (column row 0 ≡ Int (pos sysno))
-
--- a row of the key is of no record
-abbrev pub HasNoNumber : Trees → ℤ → Key → Type 0
-HasNoNumber trees db key = (row : Row) × IsUnderKey trees db key row × ((sysno : ℕ) → ¬ (column row 0 ≡ Int (pos sysno)))
+  pub shown : AreAllShown trees db key
 
 -- ---- each row of the registers is that of a posting
 

@@ -16,16 +16,16 @@ use Rattle.zeb_register.specs.Content.{posting_at}
 use Rattle.zeb_register.specs.PlainRows.{key_row, posting_row}
 use Rattle.zeb_register.specs.PlainUnits.{ShowsNone}
 
+-- the first columns of a row
+abbrev pub first_two : Row → Row
+first_two row = column row 0 ∷ column row 1 ∷ []
+
 abbrev pub first_three : Row → Row
 first_three row = column row 0 ∷ column row 1 ∷ column row 2 ∷ []
 
 -- one of the rows shows no posting
 abbrev pub SomeShowsNone : List Row → Type 0
 SomeShowsNone rows = (row : Row) × Has rows row × ShowsNone row
-
--- a row of three numbers of 0 or more
-abbrev pub IsThreeNumbers : Row → Type 0
-IsThreeNumbers row = (a : ℕ) × (b : ℕ) × (c : ℕ) × (row ≡ Int (pos a) ∷ Int (pos b) ∷ Int (pos c) ∷ [])
 
 -- ---- one record's places
 

@@ -1,9 +1,7 @@
 -- What only the contracts of private functions speak of; no public clause reaches it.
 -- Terms as rows of `postings` show them. zeb_packed speaks of them too.
-use Rattle.std.specs.Prelude.{◌≡◌, ◌≢◌, ◌⊎◌, ◌+◌, ◌<◌, ℕ, ℤ, pos, true, false, List, [], ◌∷◌, ◌++◌, length, IsUtf8, Option, Some, None, String, string_bytes}
+use Rattle.std.specs.Prelude.{◌≡◌, ◌≢◌, ◌⊎◌, ◌+◌, ◌<◌, ℕ, ℤ, pos, List, [], ◌∷◌, ◌++◌, length, IsUtf8, Option, Some, None, String, string_bytes}
 use Rattle.std.specs.declared.alloc.Global.{Global}
-use Rattle.std.specs.Ordering.{nat_cmp, is_lt}
-use Rattle.std.specs.Cmp.Lexicographic.{slice_cmp}
 use Rattle.sqlite.specs.declared.types.Value.TheVariants.{Int, Text}
 use Rattle.sqlite.specs.Order.{Row, column}
 use Rattle.sqlite.specs.Tree.{Trees}
@@ -12,6 +10,8 @@ use Rattle.sqlite_rules.specs.Lists.{Has}
 use Rattle.zeb_blocks.specs.declared.postings.Posting.{Posting}
 use Rattle.zeb_register.specs.declared.registers.TermCount.{TermCount}
 use Rattle.zeb_register.specs.Calls.{OnlyReads}
+use Rattle.zeb_register.specs.PlainUnits.{ShowsPosting}
+use Rattle.zeb_register.specs.PrivateBetweenRows.{three_behind}
 use Rattle.zeb_register.specs.Sql.{HasRow}
 use Rattle.zeb_register.specs.Store.{IsStore, postings_tree, key_of}
 
@@ -23,15 +23,10 @@ IsInRecord list sysno = (p : Posting) × Has list p × (p.sysno ≡ sysno)
 abbrev pub HasTerm : Trees → ℤ → ℤ → ℤ → List ℕ → Type 0
 HasTerm trees db idx reg term = (rest : Row) × HasRow trees postings_tree (key_of db idx reg term ++ rest)
 
--- at most one row, and it shows the least of the terms that are P
-abbrev pub ShowsLeast : (List ℕ → Type 0) → List Row → Type 0
-ShowsLeast P [] = (term : List ℕ) → ¬ P term
-ShowsLeast P (row ∷ rows) = (rows ≡ []) × ((term : List ℕ) × (row ≡ Text term ∷ []) × P term × ((other : List ℕ) → P other → is_lt (slice_cmp nat_cmp other term) ≡ false))
-
--- at most one row, and it shows the greatest of the terms that are P
-abbrev pub ShowsGreatest : (List ℕ → Type 0) → List Row → Type 0
-ShowsGreatest P [] = (term : List ℕ) → ¬ P term
-ShowsGreatest P (row ∷ rows) = (rows ≡ []) × ((term : List ℕ) × (row ≡ Text term ∷ []) × P term × ((other : List ℕ) → P other → is_lt (slice_cmp nat_cmp term other) ≡ false))
+-- at most one row, and it shows that of the terms that are P to which no other is nearer
+abbrev pub ShowsNearest : (P : List ℕ → Type 0) → (IsNearer : List ℕ → List ℕ → Type 0) → List Row → Type 0
+ShowsNearest P IsNearer [] = (term : List ℕ) → ¬ P term
+ShowsNearest P IsNearer (row ∷ rows) = (rows ≡ []) × ((term : List ℕ) × (row ≡ Text term ∷ []) × P term × ((other : List ℕ) → P other → ¬ IsNearer other term))
 
 -- rows are read, and nothing is changed
 abbrev pub ReadsRows : (Trees → List Row → Type 0) → State → State → List Row → Type 0
@@ -47,8 +42,12 @@ ReadsInside P old new rows = OnlyReads old new × (IsStore old → P old.now.tre
 abbrev pub ShowsOccurrence : Row → List ℕ → ℕ → Type 0
 ShowsOccurrence row term sysno = (column row 0 ≡ Text term) × (column row 1 ≡ Int (pos sysno))
 
+-- a row of a term of UTF-8 and a posting
 abbrev pub IsOccurrenceRow : Row → Type 0
-IsOccurrenceRow row = (1 < length row) × ((term : List ℕ) × (sysno : ℕ) × ShowsOccurrence row term sysno × IsUtf8 term)
+IsOccurrenceRow row = (0 < length row) × (term : List ℕ) × (p : Posting) × (column row 0 ≡ Text term) × ShowsPosting (three_behind row) p × IsUtf8 term
+
+abbrev pub SomeIsNoOccurrence : List Row → Type 0
+SomeIsNoOccurrence rows = (row : Row) × Has rows row × ¬ IsOccurrenceRow row
 
 -- one of the rows shows the term in the record of this number
 abbrev pub IsShown : List Row → List ℕ → ℕ → Type 0
@@ -72,22 +71,13 @@ ShowsTerm rows (Some term) = (row : Row) × (rest : List Row) × (rows ≡ row �
 abbrev pub IsTermRow : Row → Type 0
 IsTermRow row = (0 < length row) × ((term : List ℕ) × (column row 0 ≡ Text term) × IsUtf8 term)
 
--- ---- the term next to a text, of those that P has with some number
+-- ---- of the terms that are P the one nearest to a text
 
-abbrev pub IsTerm : (List ℕ → ℕ → Type 0) → List ℕ → Type 0
-IsTerm P term = (n : ℕ) × P term n
+-- it is found, or there is none
+abbrev pub FindsNearest : (P : List ℕ → Type 0) → (IsNearer : List ℕ → List ℕ → Type 0) → Option (String Global) → Type 0
+FindsNearest P IsNearer None = (term : List ℕ) → ¬ P term
+FindsNearest P IsNearer (Some nearest) = P (string_bytes nearest) × ((other : List ℕ) → P other → ¬ IsNearer other (string_bytes nearest))
 
-module _ (P : List ℕ → ℕ → Type 0) (start : List ℕ) where
-  -- the least term that is not below the start, or none where there is none
-  abbrev pub IsLeastTerm : Option (String Global) → Type 0
-  IsLeastTerm None = (term : List ℕ) → IsTerm P term → is_lt (slice_cmp nat_cmp term start) ≡ true
-  IsLeastTerm (Some least) =
-      IsTerm P (string_bytes least) × (is_lt (slice_cmp nat_cmp (string_bytes least) start) ≡ false)
-      × ((term : List ℕ) → IsTerm P term → is_lt (slice_cmp nat_cmp term start) ≡ false → is_lt (slice_cmp nat_cmp term (string_bytes least)) ≡ false)
-
-  -- the greatest term that is below the start, or none where there is none
-  abbrev pub IsGreatestTerm : Option (String Global) → Type 0
-  IsGreatestTerm None = (term : List ℕ) → IsTerm P term → is_lt (slice_cmp nat_cmp term start) ≡ false
-  IsGreatestTerm (Some greatest) =
-      IsTerm P (string_bytes greatest) × (is_lt (slice_cmp nat_cmp (string_bytes greatest) start) ≡ true)
-      × ((term : List ℕ) → IsTerm P term → is_lt (slice_cmp nat_cmp term start) ≡ true → is_lt (slice_cmp nat_cmp (string_bytes greatest) term) ≡ false)
+-- it isn't UTF-8
+abbrev pub HidesText : (P : List ℕ → Type 0) → (IsNearer : List ℕ → List ℕ → Type 0) → Type 0
+HidesText P IsNearer = (term : List ℕ) × P term × ((other : List ℕ) → P other → ¬ IsNearer other term) × ¬ IsUtf8 term

@@ -13,13 +13,13 @@ use Rattle.zeb_register.specs.declared.registers.Place.{Place}
 use Rattle.zeb_register.specs.declared.registers.RegisterOf.{RegisterOf}
 use Rattle.zeb_register.specs.Answers.{TellsOr}
 use Rattle.zeb_register.specs.Between.{IsBetween}
-use Rattle.zeb_register.specs.Content.{Content, HasRisingLists, places_in, posted, posting_cmp}
-use Rattle.zeb_register.specs.Formats.{Format, plain_rows, packed_blocks}
+use Rattle.zeb_register.specs.Content.{Content, HasRisingLists, IsStorable, places_in, posted, posting_cmp}
+use Rattle.zeb_register.specs.Formats.{Format, holds_in, plain_rows, packed_blocks}
 use Rattle.zeb_register.specs.Occurring.{HasKey, IsCount, key_in}
 use Rattle.zeb_register.specs.PackedBlocks.{AreAllSpelled}
 use Rattle.zeb_register.specs.PackedUnits.{AreBlocksAlone, CountsAs, HasMalformed, IsMalformedAt, IsMiscounted, ReadsAs}
 use Rattle.zeb_register.specs.PlainRows.{key_row}
-use Rattle.zeb_register.specs.PlainUnits.{AreAllShown, AreRowsAlone, HasNoNumber, HasShownNone, IsRowMalformed, RowsCount, RowsRead}
+use Rattle.zeb_register.specs.PlainUnits.{AreAllShown, AreRowsAlone, HasShownNone, IsRowMalformed, RowsCount, RowsRead}
 
 -- ---- one unit, one count
 
@@ -36,7 +36,7 @@ counts_as plain_rows = RowsCount
 counts_as packed_blocks = CountsAs
 
 abbrev pub is_miscounted : Format → Trees → ℤ → Key → Type 0
-is_miscounted plain_rows = HasNoNumber
+is_miscounted plain_rows = HasShownNone
 is_miscounted packed_blocks = IsMiscounted
 
 -- ---- all units of a key
@@ -93,3 +93,8 @@ pub record HoldsUnits (format : Format) (trees : Trees) (content : Content) : Ty
   pub units : (db : ℤ) (key : Key) (sysno : ℕ) → reads_as format trees db key sysno (places_in sysno (content db key))
   pub counts : (db : ℤ) (key : Key) (records : ℕ) → IsCount (HasKey (posted content db) key) records → counts_as format trees db key records
   pub alone : are_alone format trees
+
+-- where the tables hold a content, what is told of them by units is told of it, and they are damaged for no content that can be stored
+abbrev pub TellsOfContent : {A : Type 0} → Format → Trees → (Told : A → Type 0) → (Damage : Type 0) → (Content → A → Type 0) → Type 0
+TellsOfContent format trees Told Damage Says =
+    (content : Content) → holds_in format trees content → ((answer : _) → Told answer → Says content answer) × (IsStorable content → ¬ Damage)

@@ -36,11 +36,15 @@ pub(crate) fn lists_beside<S: Alter>(
     conn: &mut Connection<S>,
     expected: &Expected,
 ) -> Result<Option<Vec<ListedDatabase>>, RegFault>
-    ensures call { Reading (state S.Store conn.old) (state S.Store conn.new) result (λ _. IsUnchanged) }
-    ensures value { OnStore (state S.Store conn.old) (state S.Store conn.new) (λ trees. IsOrdered expected.now → IfOk result
-        (λ found. MatchOption found (¬ ListsAgree trees expected.now) (λ listed. AreBeside listed.items expected.now.databases.items trees
+    ensures call { Reading (state S.Store conn.old) (state S.Store conn.new) result
+        (λ _. IsUnchanged) }
+    ensures value { OnStore (state S.Store conn.old) (state S.Store conn.new)
+        (λ trees. IsOrdered expected.now → IfOk result
+        (λ found. MatchOption found (¬ ListsAgree trees expected.now)
+        (λ listed. AreBeside listed.items expected.now.databases.items trees
         × ListsAgree trees expected.now))) }
-    ensures long { IfOk result (λ found. IfSome found (λ listed. length listed.items ≡ length expected.now.databases.items)) }
+    ensures long { IfOk result (λ found. IfSome found
+        (λ listed. length listed.items ≡ length expected.now.databases.items)) }
     ensures honest { result ≢ Err RegFault.Damaged }
     ensures refused { IsReasoned (state S.Store conn.old) (state S.Store conn.new) result }
 {
@@ -56,12 +60,17 @@ fn records_beside<S: Alter>(
     conn: &mut Connection<S>,
     expected: &[ExpectedDatabase],
 ) -> Result<Option<Vec<ListedDatabase>>, RegFault>
-    ensures call { Reading (state S.Store conn.old) (state S.Store conn.new) result (λ _. IsUnchanged) }
-    ensures value { OnStore (state S.Store conn.old) (state S.Store conn.new) (λ trees. IsStrictlySortedBy name_order expected.now
-        → AreInOrder expected.now → IfOk result (λ found. MatchOption found (¬ (HasNames trees expected.now
-        × HoldsThere Table.Records expected.now trees)) (λ listed. AreBeside listed.items expected.now trees
+    ensures call { Reading (state S.Store conn.old) (state S.Store conn.new) result
+        (λ _. IsUnchanged) }
+    ensures value { OnStore (state S.Store conn.old) (state S.Store conn.new)
+        (λ trees. IsStrictlySortedBy name_order expected.now
+        → AreInOrder expected.now → IfOk result (λ found.
+        MatchOption found (¬ (HasNames trees expected.now
+        × HoldsThere Table.Records expected.now trees))
+        (λ listed. AreBeside listed.items expected.now trees
         × HoldsThere Table.Records expected.now trees))) }
-    ensures long { IfOk result (λ found. IfSome found (λ listed. length listed.items ≡ length expected.now)) }
+    ensures long { IfOk result (λ found. IfSome found
+        (λ listed. length listed.items ≡ length expected.now)) }
     ensures honest { result ≢ Err RegFault.Damaged }
     ensures refused { IsReasoned (state S.Store conn.old) (state S.Store conn.new) result }
 {
@@ -79,8 +88,10 @@ pub(crate) fn rows_agree<S: Alter>(
     expected: &[ExpectedDatabase],
 ) -> Result<bool, RegFault>
     requires { length listed.now ≡ length expected.now }
-    ensures call { Reading (state S.Store conn.old) (state S.Store conn.new) result (λ _. IsUnchanged) }
-    ensures value { TellsWhether (λ trees. HoldsExpected Table.Postings listed.now expected.now trees × LacksPacked trees)
+    ensures call { Reading (state S.Store conn.old) (state S.Store conn.new) result
+        (λ _. IsUnchanged) }
+    ensures value { TellsWhether (λ trees. HoldsExpected Table.Postings listed.now expected.now
+        trees × LacksPacked trees)
         (AreInOrder expected.now) (state S.Store conn.old) (state S.Store conn.new) result }
     ensures honest { result ≢ Err RegFault.Damaged }
     ensures refused { IsReasoned (state S.Store conn.old) (state S.Store conn.new) result }
@@ -93,8 +104,10 @@ pub(crate) fn rows_agree<S: Alter>(
 
 /// Whether no packed table has a row.
 fn lacks_packed<S: Alter>(conn: &mut Connection<S>) -> Result<bool, RegFault>
-    ensures call { Reading (state S.Store conn.old) (state S.Store conn.new) result (λ _. IsUnchanged) }
-    ensures value { Tells (state S.Store conn.old) (state S.Store conn.new) result (λ trees agree. IsTrue agree ↔ LacksPacked trees) }
+    ensures call { Reading (state S.Store conn.old) (state S.Store conn.new) result
+        (λ _. IsUnchanged) }
+    ensures value { Tells (state S.Store conn.old) (state S.Store conn.new) result
+        (λ trees agree. IsTrue agree ↔ LacksPacked trees) }
     ensures honest { result ≢ Err RegFault.Damaged }
     ensures refused { IsReasoned (state S.Store conn.old) (state S.Store conn.new) result }
 {
@@ -106,7 +119,8 @@ fn lacks_packed<S: Alter>(conn: &mut Connection<S>) -> Result<bool, RegFault>
 
 /// Whether `meta` has just the expected texts.
 fn texts_agree<S: Alter>(conn: &mut Connection<S>, expected: &Expected) -> Result<bool, RegFault>
-    ensures call { Reading (state S.Store conn.old) (state S.Store conn.new) result (λ _. IsUnchanged) }
+    ensures call { Reading (state S.Store conn.old) (state S.Store conn.new) result
+        (λ _. IsUnchanged) }
     ensures value { Tells (state S.Store conn.old) (state S.Store conn.new) result
         (λ trees agree. IsTrue agree ↔ KeepsExpectedTexts trees expected.now) }
     ensures honest { result ≢ Err RegFault.Damaged }
@@ -122,10 +136,14 @@ fn databases_beside<S: Alter>(
     conn: &mut Connection<S>,
     expected: &[ExpectedDatabase],
 ) -> Result<Option<Vec<ListedDatabase>>, RegFault>
-    ensures call { Reading (state S.Store conn.old) (state S.Store conn.new) result (λ _. IsUnchanged) }
-    ensures value { OnStore (state S.Store conn.old) (state S.Store conn.new) (λ trees. IsStrictlySortedBy name_order expected.now
-        → IfOk result (λ found. MatchOption found (¬ HasNames trees expected.now) (λ listed. AreBeside listed.items expected.now trees))) }
-    ensures long { IfOk result (λ found. IfSome found (λ listed. length listed.items ≡ length expected.now)) }
+    ensures call { Reading (state S.Store conn.old) (state S.Store conn.new) result
+        (λ _. IsUnchanged) }
+    ensures value { OnStore (state S.Store conn.old) (state S.Store conn.new)
+        (λ trees. IsStrictlySortedBy name_order expected.now
+        → IfOk result (λ found. MatchOption found (¬ HasNames trees expected.now)
+        (λ listed. AreBeside listed.items expected.now trees))) }
+    ensures long { IfOk result (λ found. IfSome found
+        (λ listed. length listed.items ≡ length expected.now)) }
     ensures honest { result ≢ Err RegFault.Damaged }
     ensures refused { IsReasoned (state S.Store conn.old) (state S.Store conn.new) result }
 {
@@ -152,8 +170,10 @@ pub(crate) fn table_agrees<S: Alter>(
     expected: &[ExpectedDatabase],
 ) -> Result<bool, RegFault>
     requires { length listed.now ≡ length expected.now }
-    ensures call { Reading (state S.Store conn.old) (state S.Store conn.new) result (λ _. IsUnchanged) }
-    ensures value { TellsWhether (HoldsExpected table listed.now expected.now) (AreInOrder expected.now)
+    ensures call { Reading (state S.Store conn.old) (state S.Store conn.new) result
+        (λ _. IsUnchanged) }
+    ensures value { TellsWhether (HoldsExpected table listed.now expected.now)
+        (AreInOrder expected.now)
         (state S.Store conn.old) (state S.Store conn.new) result }
     ensures honest { result ≢ Err RegFault.Damaged }
     ensures refused { IsReasoned (state S.Store conn.old) (state S.Store conn.new) result }
@@ -172,8 +192,10 @@ fn each_agrees<S: Alter>(
     expected: &[ExpectedDatabase],
 ) -> Result<bool, RegFault>
     requires { length listed.now ≡ length expected.now }
-    ensures call { Reading (state S.Store conn.old) (state S.Store conn.new) result (λ _. IsUnchanged) }
-    ensures value { TellsWhether (EachAsExpected table listed.now expected.now) (AreInOrder expected.now)
+    ensures call { Reading (state S.Store conn.old) (state S.Store conn.new) result
+        (λ _. IsUnchanged) }
+    ensures value { TellsWhether (EachAsExpected table listed.now expected.now)
+        (AreInOrder expected.now)
         (state S.Store conn.old) (state S.Store conn.new) result }
     ensures honest { result ≢ Err RegFault.Damaged }
     ensures refused { IsReasoned (state S.Store conn.old) (state S.Store conn.new) result }
@@ -195,7 +217,8 @@ fn database_agrees<S: Alter>(
     db: DatabaseId,
     database: &ExpectedDatabase,
 ) -> Result<bool, RegFault>
-    ensures call { Reading (state S.Store conn.old) (state S.Store conn.new) result (λ _. IsUnchanged) }
+    ensures call { Reading (state S.Store conn.old) (state S.Store conn.new) result
+        (λ _. IsUnchanged) }
     ensures value { TellsWhether (AsExpected table db.0 database.now) (IsInOrder database.now)
         (state S.Store conn.old) (state S.Store conn.new) result }
     ensures honest { result ≢ Err RegFault.Damaged }

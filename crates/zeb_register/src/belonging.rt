@@ -30,7 +30,8 @@ pub(crate) fn belongs<S: Alter>(
     table: Table,
     listed: &[ListedDatabase],
 ) -> Result<bool, RegFault>
-    ensures call { Reading (state S.Store conn.old) (state S.Store conn.new) result (λ _. IsUnchanged) }
+    ensures call { Reading (state S.Store conn.old) (state S.Store conn.new) result
+        (λ _. IsUnchanged) }
     ensures value { Tells (state S.Store conn.old) (state S.Store conn.new) result
         (λ trees agree. IsTrue agree ↔ BelongsTo (tree_of table) listed.now trees) }
     ensures honest { result ≢ Err RegFault.Damaged }
@@ -59,8 +60,10 @@ pub(crate) fn belongs<S: Alter>(
 
 /// The least and the greatest id, or none where the table has no row.
 fn ends_of<S: Alter>(conn: &mut Connection<S>, table: Table) -> Result<Option<Ends>, RegFault>
-    ensures call { Reading (state S.Store conn.old) (state S.Store conn.new) result (λ _. IsUnchanged) }
-    ensures value { Tells (state S.Store conn.old) (state S.Store conn.new) result (AreEnds (tree_of table)) }
+    ensures call { Reading (state S.Store conn.old) (state S.Store conn.new) result
+        (λ _. IsUnchanged) }
+    ensures value { Tells (state S.Store conn.old) (state S.Store conn.new) result
+        (AreEnds (tree_of table)) }
     ensures honest { result ≢ Err RegFault.Damaged }
     ensures refused { IsReasoned (state S.Store conn.old) (state S.Store conn.new) result }
 {
@@ -78,7 +81,8 @@ fn ends_of<S: Alter>(conn: &mut Connection<S>, table: Table) -> Result<Option<En
 /// The id that the first row shows.
 fn id_of(rows: &[Row]) -> Option<i64>
     ensures none { rows.now ≡ [] → result ≡ None }
-    ensures some { (id : _) (more : List Columns) → rows.now ≡ (Int id ∷ []) ∷ more → result ≡ Some id }
+    ensures some { (id : _) (more : List Columns) → rows.now ≡ (Int id ∷ []) ∷ more
+        → result ≡ Some id }
 {
     match rows.first()?.get_ref(0) {
         Ok(ValueRef::Int(id)) => Some(id),

@@ -63,9 +63,12 @@ pub fn database_of<S: Alter>(
     conn: &mut Connection<S>,
     name: &str,
 ) -> Result<Option<Database>, RegFault>
-    ensures call { Reading (state S.Store conn.old) (state S.Store conn.new) result (λ _. IsUnchanged) }
-    ensures value { Tells (state S.Store conn.old) (state S.Store conn.new) result (λ trees. IsDatabaseOf trees name.now) }
-    ensures honest { IsHonest (state S.Store conn.old) (state S.Store conn.new) result (λ trees. AreCountedDatabases trees name.now) }
+    ensures call { Reading (state S.Store conn.old) (state S.Store conn.new) result
+        (λ _. IsUnchanged) }
+    ensures value { Tells (state S.Store conn.old) (state S.Store conn.new) result
+        (λ trees. IsDatabaseOf trees name.now) }
+    ensures honest { IsHonest (state S.Store conn.old) (state S.Store conn.new) result
+        (λ trees. AreCountedDatabases trees name.now) }
     ensures opened { IsOpenDamage (state S.Store conn.old) (state S.Store conn.new) result }
     ensures refused { IsReasoned (state S.Store conn.old) (state S.Store conn.new) result }
 {
@@ -86,9 +89,12 @@ pub fn databases<S: Alter>(
     alloc: Global,
     conn: &mut Connection<S>,
 ) -> Result<Vec<ListedDatabase>, RegFault>
-    ensures call { Reading (state S.Store conn.old) (state S.Store conn.new) result (λ _. IsUnchanged) }
-    ensures value { Tells (state S.Store conn.old) (state S.Store conn.new) result (λ trees list. AreDatabases trees list.items) }
-    ensures honest { IsHonest (state S.Store conn.old) (state S.Store conn.new) result AreReadableDatabases }
+    ensures call { Reading (state S.Store conn.old) (state S.Store conn.new) result
+        (λ _. IsUnchanged) }
+    ensures value { Tells (state S.Store conn.old) (state S.Store conn.new) result
+        (λ trees list. AreDatabases trees list.items) }
+    ensures honest { IsHonest (state S.Store conn.old) (state S.Store conn.new) result
+        AreReadableDatabases }
     ensures opened { IsOpenDamage (state S.Store conn.old) (state S.Store conn.new) result }
     ensures refused { IsReasoned (state S.Store conn.old) (state S.Store conn.new) result }
 {
@@ -102,12 +108,17 @@ pub fn databases_inside<S: Alter>(
     tx: &mut Transaction<'_, S>,
 ) -> Result<Vec<ListedDatabase>, RegFault>
     ensures same { tx.new.conn.ghost_name ≡ tx.old.conn.ghost_name }
-    ensures call { Inside (state S.Store tx.old.conn.now) (state S.Store tx.new.conn.now) result (λ _. OnlyReads) }
-    ensures value { TellsInside (state S.Store tx.old.conn.now) (state S.Store tx.new.conn.now) result
+    ensures call { Inside (state S.Store tx.old.conn.now) (state S.Store tx.new.conn.now) result
+        (λ _. OnlyReads) }
+    ensures value { TellsInside (state S.Store tx.old.conn.now) (state S.Store tx.new.conn.now)
+        result
         (λ trees list. AreDatabases trees list.items) }
-    ensures honest { IsHonestInside (state S.Store tx.old.conn.now) (state S.Store tx.new.conn.now) result AreReadableDatabases }
-    ensures opened { IsOpenDamageInside (state S.Store tx.old.conn.now) (state S.Store tx.new.conn.now) result }
-    ensures refused { IsReasonedInside (state S.Store tx.old.conn.now) (state S.Store tx.new.conn.now) result }
+    ensures honest { IsHonestInside (state S.Store tx.old.conn.now) (state S.Store tx.new.conn.now)
+        result AreReadableDatabases }
+    ensures opened { IsOpenDamageInside (state S.Store tx.old.conn.now)
+        (state S.Store tx.new.conn.now) result }
+    ensures refused { IsReasonedInside (state S.Store tx.old.conn.now)
+        (state S.Store tx.new.conn.now) result }
 {
     let rows = listed_rows_inside(tx)?;
     databases_in(alloc, &rows)
@@ -116,7 +127,8 @@ pub fn databases_inside<S: Alter>(
 /// The databases that rows show.
 pub(crate) fn databases_in(alloc: Global, rows: &[Row]) -> Result<Vec<ListedDatabase>, RegFault>
     ensures ok { IfOk result (λ list. map listed_row list.items ≡ map first_three rows.now) }
-    ensures honest { result ≡ Err RegFault.Damaged → ¬ ((row : _) → Has rows.now row → IsDatabaseShown row) }
+    ensures honest { result ≡ Err RegFault.Damaged
+        → ¬ ((row : _) → Has rows.now row → IsDatabaseShown row) }
     ensures unstored { result ≢ Err RegFault.Store }
 {
     let mut databases = Vec::new(alloc);
@@ -148,11 +160,15 @@ pub fn database_put<S: Alter>(
     last: u64,
 ) -> Result<DatabaseId, RegFault>
     ensures same { tx.new.conn.ghost_name ≡ tx.old.conn.ghost_name }
-    ensures call { Inside (state S.Store tx.old.conn.now) (state S.Store tx.new.conn.now) result (λ _. GoesOn) }
-    ensures put { ChangesTable databases_tree (state S.Store tx.old.conn.now) (state S.Store tx.new.conn.now) result
+    ensures call { Inside (state S.Store tx.old.conn.now) (state S.Store tx.new.conn.now) result
+        (λ _. GoesOn) }
+    ensures put { ChangesTable databases_tree (state S.Store tx.old.conn.now)
+        (state S.Store tx.new.conn.now) result
         (λ id. PutsDatabase id.0 name.now (pos last)) }
-    ensures honest { InStore (state S.Store tx.old.conn.now) (state S.Store tx.new.conn.now) (λ _. result ≢ Err RegFault.Damaged) }
-    ensures opened { IsOpenDamageInside (state S.Store tx.old.conn.now) (state S.Store tx.new.conn.now) result }
+    ensures honest { InStore (state S.Store tx.old.conn.now) (state S.Store tx.new.conn.now)
+        (λ _. result ≢ Err RegFault.Damaged) }
+    ensures opened { IsOpenDamageInside (state S.Store tx.old.conn.now)
+        (state S.Store tx.new.conn.now) result }
 {
     let last = stored(last)?;
     let rows = database_rows_inside(tx, name)?;
@@ -175,7 +191,8 @@ pub(crate) fn database_drop<S: Alter>(
     db: DatabaseId,
 ) -> Result<(), RegFault>
     ensures same { tx.new.conn.ghost_name ≡ tx.old.conn.ghost_name }
-    ensures call { Writes databases_tree (TakesDatabase db.0) (state S.Store tx.old.conn.now) (state S.Store tx.new.conn.now) result }
+    ensures call { Writes databases_tree (TakesDatabase db.0) (state S.Store tx.old.conn.now)
+        (state S.Store tx.new.conn.now) result }
     ensures honest { result ≢ Err RegFault.Damaged }
 {
     let id = db.column();

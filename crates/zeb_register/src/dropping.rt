@@ -21,10 +21,14 @@ pub fn database_drop_whole<S: Alter>(
     db: DatabaseId,
 ) -> Result<(), RegFault>
     ensures same { tx.new.conn.ghost_name ≡ tx.old.conn.ghost_name }
-    ensures call { Inside (state S.Store tx.old.conn.now) (state S.Store tx.new.conn.now) result (λ _. GoesOn) }
-    ensures taken { InStore (state S.Store tx.old.conn.now) (state S.Store tx.new.conn.now) (λ trees. OnOk result
-        (TakesWhole db.0 (state S.Store tx.old.conn.now) (state S.Store tx.new.conn.now) × ((format : Format) (before after : Content)
-        → holds_in format trees before → IsWithout db.0 before after → holds_in format (state S.Store tx.new.conn.now).now.trees after))) }
+    ensures call { Inside (state S.Store tx.old.conn.now) (state S.Store tx.new.conn.now) result
+        (λ _. GoesOn) }
+    ensures taken { InStore (state S.Store tx.old.conn.now) (state S.Store tx.new.conn.now)
+        (λ trees. OnOk result
+        (TakesWhole db.0 (state S.Store tx.old.conn.now) (state S.Store tx.new.conn.now)
+        × ((format : Format) (before after : Content)
+        → holds_in format trees before → IsWithout db.0 before after
+        → holds_in format (state S.Store tx.new.conn.now).now.trees after))) }
     ensures honest { result ≢ Err RegFault.Damaged }
 {
     registers_drop(tx, db)?;

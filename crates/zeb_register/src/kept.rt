@@ -56,7 +56,8 @@ pub fn record_put<S: Alter>(
 ) -> Result<(), RegFault>
     ensures same { tx.new.conn.ghost_name ≡ tx.old.conn.ghost_name }
     ensures call { Writes records_tree (Replaces (SharesRecord db.0 (pos sysno) ident.now)
-        (record_row db.0 (pos sysno) ident.now bytes.now)) (state S.Store tx.old.conn.now) (state S.Store tx.new.conn.now) result }
+        (record_row db.0 (pos sysno) ident.now bytes.now)) (state S.Store tx.old.conn.now)
+        (state S.Store tx.new.conn.now) result }
     ensures honest { result ≢ Err RegFault.Damaged }
 {
     let sysno = stored(sysno)?;
@@ -91,13 +92,18 @@ pub fn record_of_ident<S: Alter>(
     ident: &str,
 ) -> Result<Option<Elder>, RegFault>
     ensures same { tx.new.conn.ghost_name ≡ tx.old.conn.ghost_name }
-    ensures call { Inside (state S.Store tx.old.conn.now) (state S.Store tx.new.conn.now) result (λ _. OnlyReads) }
-    ensures value { TellsInside (state S.Store tx.old.conn.now) (state S.Store tx.new.conn.now) result
+    ensures call { Inside (state S.Store tx.old.conn.now) (state S.Store tx.new.conn.now) result
+        (λ _. OnlyReads) }
+    ensures value { TellsInside (state S.Store tx.old.conn.now) (state S.Store tx.new.conn.now)
+        result
         (λ trees. IsElderOf trees db.0 ident.now) }
-    ensures honest { IsHonestInside (state S.Store tx.old.conn.now) (state S.Store tx.new.conn.now) result
+    ensures honest { IsHonestInside (state S.Store tx.old.conn.now) (state S.Store tx.new.conn.now)
+        result
         (λ trees. AreNumbered trees db.0 ident.now) }
-    ensures opened { IsOpenDamageInside (state S.Store tx.old.conn.now) (state S.Store tx.new.conn.now) result }
-    ensures refused { IsReasonedInside (state S.Store tx.old.conn.now) (state S.Store tx.new.conn.now) result }
+    ensures opened { IsOpenDamageInside (state S.Store tx.old.conn.now)
+        (state S.Store tx.new.conn.now) result }
+    ensures refused { IsReasonedInside (state S.Store tx.old.conn.now)
+        (state S.Store tx.new.conn.now) result }
 {
     let rows = elder_rows(tx, db.column(), ident)?;
     match rows.first() {
@@ -117,11 +123,14 @@ pub fn ident_of<S: Alter>(
     db: DatabaseId,
     sysno: u64,
 ) -> Result<Option<String>, RegFault>
-    ensures call { Reading (state S.Store conn.old) (state S.Store conn.new) result (λ _. IsUnchanged) }
-    ensures value { OnStore (state S.Store conn.old) (state S.Store conn.new) (λ trees. sysno < 2 ^ 63 → IfOk result
+    ensures call { Reading (state S.Store conn.old) (state S.Store conn.new) result
+        (λ _. IsUnchanged) }
+    ensures value { OnStore (state S.Store conn.old) (state S.Store conn.new)
+        (λ trees. sysno < 2 ^ 63 → IfOk result
         (IsIdentOf trees db.0 (pos sysno))) }
     ensures large { 2 ^ 63 ≤ sysno → IfOk result (λ found. found ≡ None) }
-    ensures honest { IsHonest (state S.Store conn.old) (state S.Store conn.new) result (λ trees. AreReadableIdents trees db.0 (pos sysno)) }
+    ensures honest { IsHonest (state S.Store conn.old) (state S.Store conn.new) result
+        (λ trees. AreReadableIdents trees db.0 (pos sysno)) }
     ensures opened { IsOpenDamage (state S.Store conn.old) (state S.Store conn.new) result }
     ensures refused { IsReasoned (state S.Store conn.old) (state S.Store conn.new) result }
 {
@@ -141,9 +150,12 @@ pub fn ident_of<S: Alter>(
 ///
 /// No record is read for it, and no memory is held. It changes nothing.
 pub fn record_count<S: Alter>(conn: &mut Connection<S>, db: DatabaseId) -> Result<u64, RegFault>
-    ensures call { Reading (state S.Store conn.old) (state S.Store conn.new) result (λ _. IsUnchanged) }
-    ensures value { Tells (state S.Store conn.old) (state S.Store conn.new) result (λ trees. IsRecordCount trees db.0) }
-    ensures honest { OnStore (state S.Store conn.old) (state S.Store conn.new) (λ trees. result ≢ Err RegFault.Damaged) }
+    ensures call { Reading (state S.Store conn.old) (state S.Store conn.new) result
+        (λ _. IsUnchanged) }
+    ensures value { Tells (state S.Store conn.old) (state S.Store conn.new) result
+        (λ trees. IsRecordCount trees db.0) }
+    ensures honest { OnStore (state S.Store conn.old) (state S.Store conn.new)
+        (λ trees. result ≢ Err RegFault.Damaged) }
     ensures opened { IsOpenDamage (state S.Store conn.old) (state S.Store conn.new) result }
     ensures refused { IsReasoned (state S.Store conn.old) (state S.Store conn.new) result }
 {
@@ -164,11 +176,14 @@ pub fn record_from<S: Alter>(
     db: DatabaseId,
     start: u64,
 ) -> Result<Option<Record>, RegFault>
-    ensures call { Reading (state S.Store conn.old) (state S.Store conn.new) result (λ _. IsUnchanged) }
-    ensures value { OnStore (state S.Store conn.old) (state S.Store conn.new) (λ trees. start < 2 ^ 63 → IfOk result
+    ensures call { Reading (state S.Store conn.old) (state S.Store conn.new) result
+        (λ _. IsUnchanged) }
+    ensures value { OnStore (state S.Store conn.old) (state S.Store conn.new)
+        (λ trees. start < 2 ^ 63 → IfOk result
         (IsFirstFrom trees db.0 start)) }
     ensures large { 2 ^ 63 ≤ start → IfOk result (λ found. found ≡ None) }
-    ensures honest { IsHonest (state S.Store conn.old) (state S.Store conn.new) result (λ trees. AreReadable trees db.0) }
+    ensures honest { IsHonest (state S.Store conn.old) (state S.Store conn.new) result
+        (λ trees. AreReadable trees db.0) }
     ensures opened { IsOpenDamage (state S.Store conn.old) (state S.Store conn.new) result }
     ensures refused { IsReasoned (state S.Store conn.old) (state S.Store conn.new) result }
 {
@@ -191,14 +206,19 @@ pub fn record_from_inside<S: Alter>(
     start: u64,
 ) -> Result<Option<Record>, RegFault>
     ensures same { tx.new.conn.ghost_name ≡ tx.old.conn.ghost_name }
-    ensures call { Inside (state S.Store tx.old.conn.now) (state S.Store tx.new.conn.now) result (λ _. OnlyReads) }
-    ensures value { InStore (state S.Store tx.old.conn.now) (state S.Store tx.new.conn.now) (λ trees. start < 2 ^ 63 → IfOk result
+    ensures call { Inside (state S.Store tx.old.conn.now) (state S.Store tx.new.conn.now) result
+        (λ _. OnlyReads) }
+    ensures value { InStore (state S.Store tx.old.conn.now) (state S.Store tx.new.conn.now)
+        (λ trees. start < 2 ^ 63 → IfOk result
         (IsFirstFrom trees db.0 start)) }
     ensures large { 2 ^ 63 ≤ start → IfOk result (λ found. found ≡ None) }
-    ensures honest { IsHonestInside (state S.Store tx.old.conn.now) (state S.Store tx.new.conn.now) result
+    ensures honest { IsHonestInside (state S.Store tx.old.conn.now) (state S.Store tx.new.conn.now)
+        result
         (λ trees. AreReadable trees db.0) }
-    ensures opened { IsOpenDamageInside (state S.Store tx.old.conn.now) (state S.Store tx.new.conn.now) result }
-    ensures refused { IsReasonedInside (state S.Store tx.old.conn.now) (state S.Store tx.new.conn.now) result }
+    ensures opened { IsOpenDamageInside (state S.Store tx.old.conn.now)
+        (state S.Store tx.new.conn.now) result }
+    ensures refused { IsReasonedInside (state S.Store tx.old.conn.now)
+        (state S.Store tx.new.conn.now) result }
 {
     let Ok(start) = stored(start) else {
         // A closed connection is refused for such a number too.
@@ -220,10 +240,13 @@ pub fn records<S: Alter>(
     conn: &mut Connection<S>,
     db: DatabaseId,
 ) -> Result<Vec<Record>, RegFault>
-    ensures call { Reading (state S.Store conn.old) (state S.Store conn.new) result (λ _. IsUnchanged) }
+    ensures call { Reading (state S.Store conn.old) (state S.Store conn.new) result
+        (λ _. IsUnchanged) }
     ensures value { Tells (state S.Store conn.old) (state S.Store conn.new) result
-        (λ trees list. IsListOf (IsRest records_tree (Int db.0 ∷ []) trees) (map record_shown list.items)) }
-    ensures honest { IsHonest (state S.Store conn.old) (state S.Store conn.new) result (λ trees. AreReadable trees db.0) }
+        (λ trees list. IsListOf (IsRest records_tree (Int db.0 ∷ []) trees)
+        (map record_shown list.items)) }
+    ensures honest { IsHonest (state S.Store conn.old) (state S.Store conn.new) result
+        (λ trees. AreReadable trees db.0) }
     ensures opened { IsOpenDamage (state S.Store conn.old) (state S.Store conn.new) result }
     ensures refused { IsReasoned (state S.Store conn.old) (state S.Store conn.new) result }
 {
@@ -234,7 +257,8 @@ pub fn records<S: Alter>(
 /// The records that rows show.
 fn records_of(alloc: Global, rows: &[Row]) -> Result<Vec<Record>, RegFault>
     ensures ok { IfOk result (λ list. map record_shown list.items ≡ map first_three rows.now) }
-    ensures honest { result ≡ Err RegFault.Damaged → ¬ ((row : _) → Has rows.now row → IsRecordShown row) }
+    ensures honest { result ≡ Err RegFault.Damaged
+        → ¬ ((row : _) → Has rows.now row → IsRecordShown row) }
     ensures unstored { result ≢ Err RegFault.Store }
 {
     let mut records = Vec::new(alloc);

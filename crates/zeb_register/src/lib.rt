@@ -16,6 +16,7 @@ mod faults;
 pub mod for_layouts;
 mod kept;
 mod key_runs;
+mod laws;
 mod lists;
 mod meta;
 mod occurring;
@@ -41,6 +42,7 @@ pub use kept::{
     Elder, Record, ident_of, record_count, record_from, record_from_inside, record_of_ident,
     record_put, record_take, records,
 };
+pub use laws::calls_tell_of_the_content;
 pub use lists::rows_are_lists;
 pub use meta::{meta_of, meta_put};
 pub use occurring::{OccurrenceSet, occurrences_have_one_list_of_terms};

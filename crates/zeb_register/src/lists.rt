@@ -17,18 +17,26 @@ pub fn rows_are_lists<S: Alter>(conn: &Connection<S>)
         → HasRow (state S.Store conn.now).now.trees meta_tree (entry name one)
         → HasRow (state S.Store conn.now).now.trees meta_tree (entry name two) → one ≡ two }
     ensures ids { IsStore (state S.Store conn.now) → (id : ℤ) (one two : List ℕ) (last other : ℤ)
-        → HasDatabase (state S.Store conn.now).now.trees id one last → HasDatabase (state S.Store conn.now).now.trees id two other
+        → HasDatabase (state S.Store conn.now).now.trees id one last
+        → HasDatabase (state S.Store conn.now).now.trees id two other
         → (one ≡ two) × (last ≡ other) }
-    ensures names { IsStore (state S.Store conn.now) → (one two : ℤ) (name : List ℕ) (last other : ℤ)
-        → HasDatabase (state S.Store conn.now).now.trees one name last → HasDatabase (state S.Store conn.now).now.trees two name other
+    ensures names { IsStore (state S.Store conn.now)
+        → (one two : ℤ) (name : List ℕ) (last other : ℤ)
+        → HasDatabase (state S.Store conn.now).now.trees one name last
+        → HasDatabase (state S.Store conn.now).now.trees two name other
         → one ≡ two }
-    ensures numbers { IsStore (state S.Store conn.now) → (db sysno : ℤ) (one two bytes other : List ℕ)
+    ensures numbers { IsStore (state S.Store conn.now)
+        → (db sysno : ℤ) (one two bytes other : List ℕ)
         → HasRecord (state S.Store conn.now).now.trees db sysno one bytes
-        → HasRecord (state S.Store conn.now).now.trees db sysno two other → (one ≡ two) × (bytes ≡ other) }
-    ensures idents { IsStore (state S.Store conn.now) → (db one two : ℤ) (ident bytes other : List ℕ)
+        → HasRecord (state S.Store conn.now).now.trees db sysno two other → (one ≡ two)
+        × (bytes ≡ other) }
+    ensures idents { IsStore (state S.Store conn.now)
+        → (db one two : ℤ) (ident bytes other : List ℕ)
         → HasRecord (state S.Store conn.now).now.trees db one ident bytes
-        → HasRecord (state S.Store conn.now).now.trees db two ident other → (one ≡ two) × (bytes ≡ other) }
-    ensures lists { (trees : Trees) (db : ℤ) (one two : List Row) → IsListOf (IsRest records_tree (Int db ∷ []) trees) one
+        → HasRecord (state S.Store conn.now).now.trees db two ident other → (one ≡ two)
+        × (bytes ≡ other) }
+    ensures lists { (trees : Trees) (db : ℤ) (one two : List Row)
+        → IsListOf (IsRest records_tree (Int db ∷ []) trees) one
         → IsListOf (IsRest records_tree (Int db ∷ []) trees) two → one ≡ two }
 {
     let _ = conn;

@@ -21,9 +21,12 @@ const PUT: &str = "INSERT OR REPLACE INTO meta VALUES (?1, ?2)";
 ///
 /// `Damaged` where it is no UTF-8. It changes nothing.
 pub fn meta_of<S: Alter>(conn: &mut Connection<S>, name: &str) -> Result<Option<String>, RegFault>
-    ensures call { Reading (state S.Store conn.old) (state S.Store conn.new) result (λ _. IsUnchanged) }
-    ensures value { Tells (state S.Store conn.old) (state S.Store conn.new) result (λ trees. IsValueOf trees name.now) }
-    ensures honest { IsHonest (state S.Store conn.old) (state S.Store conn.new) result (λ trees. AreReadableTexts trees name.now) }
+    ensures call { Reading (state S.Store conn.old) (state S.Store conn.new) result
+        (λ _. IsUnchanged) }
+    ensures value { Tells (state S.Store conn.old) (state S.Store conn.new) result
+        (λ trees. IsValueOf trees name.now) }
+    ensures honest { IsHonest (state S.Store conn.old) (state S.Store conn.new) result
+        (λ trees. AreReadableTexts trees name.now) }
     ensures opened { IsOpenDamage (state S.Store conn.old) (state S.Store conn.new) result }
     ensures refused { IsReasoned (state S.Store conn.old) (state S.Store conn.new) result }
 {

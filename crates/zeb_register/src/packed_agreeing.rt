@@ -29,8 +29,10 @@ pub fn blocks_agree<S: Alter>(
     conn: &mut Connection<S>,
     expected: &Expected,
 ) -> Result<bool, RegFault>
-    ensures call { Reading (state S.Store conn.old) (state S.Store conn.new) result (λ _. IsUnchanged) }
-    ensures value { TellsWhether (λ trees. AreExpected packed_blocks trees expected.now) (IsOrdered expected.now)
+    ensures call { Reading (state S.Store conn.old) (state S.Store conn.new) result
+        (λ _. IsUnchanged) }
+    ensures value { TellsWhether (λ trees. AreExpected packed_blocks trees expected.now)
+        (IsOrdered expected.now)
         (state S.Store conn.old) (state S.Store conn.new) result }
     ensures honest { result ≢ Err RegFault.Damaged }
     ensures refused { IsReasoned (state S.Store conn.old) (state S.Store conn.new) result }
@@ -48,9 +50,11 @@ fn packed_agree<S: Alter>(
     expected: &[ExpectedDatabase],
 ) -> Result<bool, RegFault>
     requires { length listed.now ≡ length expected.now }
-    ensures call { Reading (state S.Store conn.old) (state S.Store conn.new) result (λ _. IsUnchanged) }
+    ensures call { Reading (state S.Store conn.old) (state S.Store conn.new) result
+        (λ _. IsUnchanged) }
     ensures value { TellsWhether (λ trees. HoldsExpected Table.Blocks listed.now expected.now trees
-        × HoldsKeysAlone listed.now expected.now trees) (AreInOrder expected.now) (state S.Store conn.old) (state S.Store conn.new) result }
+        × HoldsKeysAlone listed.now expected.now trees) (AreInOrder expected.now)
+        (state S.Store conn.old) (state S.Store conn.new) result }
     ensures honest { result ≢ Err RegFault.Damaged }
     ensures refused { IsReasoned (state S.Store conn.old) (state S.Store conn.new) result }
 {
@@ -67,7 +71,8 @@ fn keys_alone<S: Alter>(
     expected: &[ExpectedDatabase],
 ) -> Result<bool, RegFault>
     requires { length listed.now ≡ length expected.now }
-    ensures call { Reading (state S.Store conn.old) (state S.Store conn.new) result (λ _. IsUnchanged) }
+    ensures call { Reading (state S.Store conn.old) (state S.Store conn.new) result
+        (λ _. IsUnchanged) }
     ensures value { TellsWhether (HoldsKeysAlone listed.now expected.now) (AreInOrder expected.now)
         (state S.Store conn.old) (state S.Store conn.new) result }
     ensures honest { result ≢ Err RegFault.Damaged }
@@ -83,7 +88,8 @@ fn keys_alone<S: Alter>(
 pub(crate) fn block_end(row: &Row, postings: &[KeyPosting], at: usize) -> Option<usize>
     requires { at ≤ length postings.now }
     ensures further { IfSome result (λ end. (at < end) × (end ≤ length postings.now)) }
-    ensures fits { MatchOption result ((rest : List KeyPosting) → ¬ IsBlockBefore row.now (drop at postings.now) rest)
+    ensures fits { MatchOption result ((rest : List KeyPosting)
+        → ¬ IsBlockBefore row.now (drop at postings.now) rest)
         (λ end. IsBlockBefore row.now (drop at postings.now) (drop end postings.now)) }
 {
     let first = postings.get(at)?;
@@ -99,7 +105,8 @@ pub(crate) fn block_end(row: &Row, postings: &[KeyPosting], at: usize) -> Option
 
 /// The number at this place of a row, if one of 0 or more stands there.
 fn number_at(row: &Row, at: usize) -> Option<u64>
-    ensures { MatchOption result ((n : ℕ) → column row.now at ≢ Int (pos n)) (λ n. column row.now at ≡ Int (pos n)) }
+    ensures { MatchOption result ((n : ℕ) → column row.now at ≢ Int (pos n))
+        (λ n. column row.now at ≡ Int (pos n)) }
 {
     match row.get_ref(at) {
         Ok(ValueRef::Int(value)) if value >= 0 => Some(value as u64),
@@ -116,9 +123,11 @@ fn spelled_end(
     at: usize,
 ) -> Option<usize>
     requires { at ≤ length postings.now }
-    ensures { MatchOption result ((part : List Posting) (rest : List KeyPosting) → BlockSpells block part bytes.now
+    ensures { MatchOption result ((part : List Posting) (rest : List KeyPosting)
+        → BlockSpells block part bytes.now
         → drop at postings.now ≢ map (with_key key.now) part ++ rest)
-        (λ end. (end ≤ length postings.now) × ((part : List Posting) × BlockSpells block part bytes.now
+        (λ end. (end ≤ length postings.now) × ((part : List Posting)
+        × BlockSpells block part bytes.now
         × (drop at postings.now ≡ map (with_key key.now) part ++ drop end postings.now))) }
 {
     match Postings::read(block, bytes) {
@@ -130,8 +139,10 @@ fn spelled_end(
 /// Where these postings of a key end, if they stand from a place on.
 fn part_end(part: Postings<'_>, key: &Key, postings: &[KeyPosting], at: usize) -> Option<usize>
     requires { at ≤ length postings.now }
-    ensures { MatchOption result ((rest : List KeyPosting) → drop at postings.now ≢ map (with_key key.now) part.entry ++ rest)
-        (λ end. (end ≤ length postings.now) × (drop at postings.now ≡ map (with_key key.now) part.entry ++ drop end postings.now)) }
+    ensures { MatchOption result ((rest : List KeyPosting)
+        → drop at postings.now ≢ map (with_key key.now) part.entry ++ rest)
+        (λ end. (end ≤ length postings.now) × (drop at postings.now ≡ map (with_key key.now)
+        part.entry ++ drop end postings.now)) }
 {
     let mut end = at;
     for posting in part {

@@ -178,10 +178,12 @@ pub(crate) fn postings_under<S: Alter>(
     at: RegisterOf,
     term: &str,
 ) -> Result<Vec<Posting>, RegFault>
-    ensures call { Reading (state S.Store conn.old) (state S.Store conn.new) result (λ _. IsUnchanged) }
+    ensures call { Reading (state S.Store conn.old) (state S.Store conn.new) result
+        (λ _. IsUnchanged) }
     ensures lists { OnStore (state S.Store conn.old) (state S.Store conn.new) (λ trees. Answers
         (IfDamaged (HasShownNone trees at.db.0 (key_in at.index at.register term.now)))
-        (λ list. ListsUnits plain_rows trees at.db.0 (key_in at.index at.register term.now) list.items) result) }
+        (λ list. ListsUnits plain_rows trees at.db.0 (key_in at.index at.register term.now)
+        list.items) result) }
     ensures refused { IsReasoned (state S.Store conn.old) (state S.Store conn.new) result }
 {
     let rows = posting_rows(conn, at, term)?;

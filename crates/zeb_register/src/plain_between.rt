@@ -29,7 +29,8 @@ pub(crate) fn postings_between<S: Alter>(
     first: &str,
     last: &str,
 ) -> Result<Vec<Posting>, RegFault>
-    ensures call { Reading (state S.Store conn.old) (state S.Store conn.new) result (λ _. IsUnchanged) }
+    ensures call { Reading (state S.Store conn.old) (state S.Store conn.new) result
+        (λ _. IsUnchanged) }
     ensures lists { OnStore (state S.Store conn.old) (state S.Store conn.new) (λ trees. Answers
         (IfDamaged (HasMalformedBetween plain_rows trees at first.now last.now))
         (λ list. ListsBetween plain_rows trees at first.now last.now list.items) result) }
@@ -42,7 +43,8 @@ pub(crate) fn postings_between<S: Alter>(
 
 /// The postings that rows show behind their terms.
 fn postings_behind(alloc: Global, rows: &[Row]) -> Result<Vec<Posting>, RegFault>
-    ensures { Answers (λ fault. (fault ≢ RegFault.Store) × IfDamaged (SomeShowsNoneBehind rows.now) fault)
+    ensures { Answers (λ fault. (fault ≢ RegFault.Store)
+        × IfDamaged (SomeShowsNoneBehind rows.now) fault)
         (λ list. map posting_row list.items ≡ map three_behind rows.now) result }
 {
     let mut postings = Vec::new(alloc);
@@ -55,7 +57,8 @@ fn postings_behind(alloc: Global, rows: &[Row]) -> Result<Vec<Posting>, RegFault
 /// The posting that a row shows behind its term.
 fn posting_behind(row: &Row) -> Result<Posting, RegFault>
     ensures ok { IfOk result (λ p. posting_row p ≡ three_behind row.now) }
-    ensures refused { IfErr result (λ fault. (fault ≡ RegFault.Damaged) × ShowsNone (three_behind row.now)) }
+    ensures refused { IfErr result (λ fault. (fault ≡ RegFault.Damaged)
+        × ShowsNone (three_behind row.now)) }
 {
     Ok(Posting {
         sysno: read_number(row, 1)?,

@@ -9,9 +9,8 @@ ghost use Rattle.zeb_register.specs.Calls.{GoesOn, OnlyReads, Inside};
 ghost use Rattle.zeb_register.specs.Clauses.{InStore, Writes};
 ghost use Rattle.zeb_register.specs.Content.{place_cmp};
 ghost use Rattle.zeb_register.specs.Formats.{plain_rows};
-ghost use Rattle.zeb_register.specs.PackedBlocks.{first_two};
 ghost use Rattle.zeb_register.specs.PlainUnits.{RowsRead};
-ghost use Rattle.zeb_register.specs.PrivateRowPlaces.{place_row, IsTwoNumbers, IsPlaceIn, posting_columns, Puts};
+ghost use Rattle.zeb_register.specs.PrivateRowPlaces.{first_two, place_row, IsTwoNumbers, IsPlaceIn, posting_columns, Puts};
 ghost use Rattle.zeb_register.specs.PrivateRowStatements.{Gains};
 ghost use Rattle.zeb_register.specs.PrivateUnits.{ChangesUnit};
 ghost use Rattle.zeb_register.specs.Sql.{Loses};
@@ -42,7 +41,8 @@ pub(crate) fn key_changes_plain<S: Alter>(
     changes: &[RecordChange<'_>],
 ) -> Result<(), RegFault>
     ensures same { tx.new.conn.ghost_name ≡ tx.old.conn.ghost_name }
-    ensures call { Inside (state S.Store tx.old.conn.now) (state S.Store tx.new.conn.now) result (λ _. GoesOn) }
+    ensures call { Inside (state S.Store tx.old.conn.now) (state S.Store tx.new.conn.now) result
+        (λ _. GoesOn) }
     ensures units { ChangesKey plain_rows db.0 key.now changes.now
         (state S.Store tx.old.conn.now) (state S.Store tx.new.conn.now) result }
 {
@@ -66,7 +66,8 @@ fn unit_change<S: Alter>(
 ) -> Result<(), RegFault>
     requires rising { IsStrictlySortedBy place_cmp new.now }
     ensures same { tx.new.conn.ghost_name ≡ tx.old.conn.ghost_name }
-    ensures call { Inside (state S.Store tx.old.conn.now) (state S.Store tx.new.conn.now) result (λ _. GoesOn) }
+    ensures call { Inside (state S.Store tx.old.conn.now) (state S.Store tx.new.conn.now) result
+        (λ _. GoesOn) }
     ensures units { ChangesUnit db.0 key.now sysno old.now new.now
         (state S.Store tx.old.conn.now) (state S.Store tx.new.conn.now) result }
 {
@@ -81,7 +82,8 @@ fn unit_change<S: Alter>(
 fn are_places(rows: &[Row], places: &[Place]) -> Result<bool, RegFault>
     ensures same { result ≡ Ok true → map first_two rows.now ≡ map place_row places.now }
     ensures other { result ≡ Ok false → map first_two rows.now ≢ map place_row places.now }
-    ensures refused { IfErr result (λ fault. (fault ≡ RegFault.Damaged) × ¬ ((row : _) → Has rows.now row → IsTwoNumbers row)) }
+    ensures refused { IfErr result (λ fault. (fault ≡ RegFault.Damaged)
+        × ¬ ((row : _) → Has rows.now row → IsTwoNumbers row)) }
 {
     if rows.len() != places.len() {
         return Ok(false);
@@ -114,8 +116,10 @@ fn holds_places<S: Alter>(
     places: &[Place],
 ) -> Result<bool, RegFault>
     ensures same { tx.new.conn.ghost_name ≡ tx.old.conn.ghost_name }
-    ensures call { Inside (state S.Store tx.old.conn.now) (state S.Store tx.new.conn.now) result (λ _. OnlyReads) }
-    ensures told { InStore (state S.Store tx.old.conn.now) (state S.Store tx.new.conn.now) (λ trees. Answers
+    ensures call { Inside (state S.Store tx.old.conn.now) (state S.Store tx.new.conn.now) result
+        (λ _. OnlyReads) }
+    ensures told { InStore (state S.Store tx.old.conn.now) (state S.Store tx.new.conn.now)
+        (λ trees. Answers
         (IfDamaged (¬ RowsRead trees db.0 key.now sysno places.now))
         (λ same. IsTrue same ↔ RowsRead trees db.0 key.now sysno places.now) result) }
     ensures text { OnOk result (IsUtf8 key.now.term) }
@@ -153,9 +157,12 @@ fn places_put<S: Alter>(
     places: &[Place],
 ) -> Result<(), RegFault>
     ensures same { tx.new.conn.ghost_name ≡ tx.old.conn.ghost_name }
-    ensures call { Inside (state S.Store tx.old.conn.now) (state S.Store tx.new.conn.now) result (λ _ a b. IsTrue a.is_open → GoesOn a b) }
-    ensures put { InStore (state S.Store tx.old.conn.now) (state S.Store tx.new.conn.now) (λ _. OnOk result
-        (Puts db.0 key.now sysno places.now (state S.Store tx.old.conn.now) (state S.Store tx.new.conn.now))) }
+    ensures call { Inside (state S.Store tx.old.conn.now) (state S.Store tx.new.conn.now) result
+        (λ _ a b. IsTrue a.is_open → GoesOn a b) }
+    ensures put { InStore (state S.Store tx.old.conn.now) (state S.Store tx.new.conn.now)
+        (λ _. OnOk result
+        (Puts db.0 key.now sysno places.now (state S.Store tx.old.conn.now)
+        (state S.Store tx.new.conn.now))) }
     ensures honest { result ≢ Err RegFault.Damaged }
 {
     for place in places {

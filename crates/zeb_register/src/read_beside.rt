@@ -34,7 +34,8 @@ pub(crate) fn rests_agree<S: Alter>(
     db: i64,
     database: &ExpectedDatabase,
 ) -> Result<bool, RegFault>
-    ensures call { Reading (state S.Store conn.old) (state S.Store conn.new) result (ReadsRests table db database.now) }
+    ensures call { Reading (state S.Store conn.old) (state S.Store conn.new) result
+        (ReadsRests table db database.now) }
     ensures honest { result ≢ Err RegFault.Damaged }
     ensures refused { IsReasoned (state S.Store conn.old) (state S.Store conn.new) result }
 {
@@ -82,8 +83,10 @@ fn size_of(table: Table, database: &ExpectedDatabase) -> usize
 fn row_end(table: Table, row: &Row, database: &ExpectedDatabase, at: usize) -> Option<usize>
     requires { at ≤ size_of table database.now }
     ensures further { IfSome result (λ end. (at < end) × (end ≤ size_of table database.now)) }
-    ensures fits { IsInOrder database.now → MatchOption result ((more : List Row) → ¬ Fits table database.now (row.now ∷ more) at)
-        (λ end. (more : List Row) → Fits table database.now (row.now ∷ more) at ↔ Fits table database.now more end) }
+    ensures fits { IsInOrder database.now → MatchOption result ((more : List Row)
+        → ¬ Fits table database.now (row.now ∷ more) at)
+        (λ end. (more : List Row) → Fits table database.now (row.now ∷ more) at ↔ Fits table
+        database.now more end) }
 {
     match table {
         Table::Records => record_end(row, &database.records, at),
@@ -96,9 +99,11 @@ fn row_end(table: Table, row: &Row, database: &ExpectedDatabase, at: usize) -> O
 /// Where the records go on behind the one at this place, if the row shows it.
 fn record_end(row: &Row, records: &[Record], at: usize) -> Option<usize>
     ensures further { IfSome result (λ end. (at < end) × (end ≤ length records.now)) }
-    ensures fits { MatchOption result ((more : List Row) → row.now ∷ more ≢ map record_shown (drop at records.now))
+    ensures fits { MatchOption result ((more : List Row)
+        → row.now ∷ more ≢ map record_shown (drop at records.now))
         (λ end. (more : List Row)
-        → (row.now ∷ more ≡ map record_shown (drop at records.now)) ↔ (more ≡ map record_shown (drop end records.now))) }
+        → (row.now ∷ more ≡ map record_shown (drop at records.now)) ↔
+        (more ≡ map record_shown (drop end records.now))) }
 {
     let kept = records.get(at)?;
     if is_record(row, kept) {
@@ -111,9 +116,11 @@ fn record_end(row: &Row, records: &[Record], at: usize) -> Option<usize>
 /// Where the postings go on behind the one at this place, if the row shows it.
 fn posting_end(row: &Row, postings: &[KeyPosting], at: usize) -> Option<usize>
     ensures further { IfSome result (λ end. (at < end) × (end ≤ length postings.now)) }
-    ensures fits { MatchOption result ((more : List Row) → row.now ∷ more ≢ map posting_shown (drop at postings.now))
+    ensures fits { MatchOption result ((more : List Row)
+        → row.now ∷ more ≢ map posting_shown (drop at postings.now))
         (λ end. (more : List Row)
-        → (row.now ∷ more ≡ map posting_shown (drop at postings.now)) ↔ (more ≡ map posting_shown (drop end postings.now))) }
+        → (row.now ∷ more ≡ map posting_shown (drop at postings.now)) ↔
+        (more ≡ map posting_shown (drop end postings.now))) }
 {
     let posting = postings.get(at)?;
     if is_posting(row, posting) {

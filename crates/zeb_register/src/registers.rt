@@ -1,13 +1,13 @@
 //! What a layout of the registers has to do, whatever tables it keeps them in.
 
-ghost use Rattle.std.specs.Prelude.{◌≡◌, ◌≢◌, ◌↔◌, ◌*◌, ℕ, ℤ, List, [], length, OnOk};
+ghost use Rattle.std.specs.Prelude.{◌≡◌, ◌≢◌, ◌↔◌, ◌*◌, ℕ, ℤ, List, [], length, IfOk, OnOk};
 ghost use Rattle.std.specs.List.{AllByRecursion};
 ghost use Rattle.sqlite.specs.Held.{state};
 ghost use Rattle.sqlite.specs.State.{IsUnchanged};
 ghost use Rattle.sqlite_rules.specs.Lists.{Has};
 ghost use Rattle.zeb_register.specs.Calls.{GoesOn, Inside, Reading};
-ghost use Rattle.zeb_register.specs.Clauses.{InStore, IsHonest, IsHonestStorable};
-ghost use Rattle.zeb_register.specs.Clauses.{IsReasoned, OnStore};
+ghost use Rattle.zeb_register.specs.Clauses.{InStore};
+ghost use Rattle.zeb_register.specs.Clauses.{IsReasoned};
 ghost use Rattle.zeb_register.specs.Clauses.{Tells, TellsHeld, TellsWhether};
 ghost use Rattle.sqlite.specs.Tree.{Trees};
 ghost use Rattle.zeb_register.specs.Content.{AreChangedAt, Content, HasRisingLists, IsChangedAt, IsStorable, IsWithout, OldsRise};
@@ -81,18 +81,13 @@ pub trait Layout {
     ghost use Rattle.std.specs.Prelude.{List, ◌∷◌, ℕ, sum_by};
     ghost use Rattle.sqlite.specs.Tree.{Trees};
     ghost use Rattle.zeb_register.specs.Formats.{Format, version_of, holds_in};
-    ghost use Rattle.zeb_register.specs.Content.{Content, posted};
+    ghost use Rattle.zeb_register.specs.Content.{Content};
     ghost use Rattle.zeb_register.specs.Content.{IsWithout, TakesWhole};
-    ghost use Rattle.zeb_register.specs.Occurring.{AreTermsOf, AreTermsFrom, AreTermsBefore, AreTotals, key_in};
     ghost use Rattle.zeb_register.specs.Expected.{IsOrdered, AreExpected};
     ghost use Rattle.zeb_register.specs.Tallies.{Works};
-    ghost use Rattle.zeb_register.specs.declared.registers.TermCount.{TermCount};
     ghost use Rattle.zeb_register.specs.Between.{AreKeysBetween};
-    ghost use Rattle.zeb_register.specs.PackedBlocks.{AreAllCounted, AreBeforeCounted, AreFromCounted, IsRegisterSound};
     ghost use Rattle.zeb_register.specs.Units.{ListsKey, ListsTerms};
-    ghost use Rattle.zeb_register.specs.PlainRows.{register_front};
-    ghost use Rattle.zeb_register.specs.Sound.{AreTermsSound, InPacked};
-    ghost use Rattle.zeb_register.specs.Sound.{TellsBefore, TellsFrom, TellsRegister};
+    ghost use Rattle.zeb_register.specs.Terms.{TellsAll, TellsBefore, TellsFrom, TellsTotals, WorksThrough};
     ghost use Rattle.zeb_register.specs.UnitChanges.{ChangesKey};
     ghost use Rattle.zeb_keys.specs.declared.keys.Key.{Key};
     ghost use Rattle.zeb_blocks.specs.declared.postings.Posting.{Posting};
@@ -121,7 +116,8 @@ pub trait Layout {
         new: &[Place],
     ) -> Result<(), RegFault>
         ensures same { tx.new.conn.ghost_name ≡ tx.old.conn.ghost_name }
-        ensures call { Inside (state S.Store tx.old.conn.now) (state S.Store tx.new.conn.now) result (λ _. GoesOn) }
+        ensures call { Inside (state S.Store tx.old.conn.now) (state S.Store tx.new.conn.now) result
+            (λ _. GoesOn) }
         ensures units { ChangesKey format db.0 key.now
             (record { sysno = sysno; old = old.entry; new = new.entry } ∷ [])
             (state S.Store tx.old.conn.now) (state S.Store tx.new.conn.now) result }
@@ -146,18 +142,22 @@ pub trait Layout {
         changes: &[RecordChange<'_>],
     ) -> Result<(), RegFault>
         ensures same { tx.new.conn.ghost_name ≡ tx.old.conn.ghost_name }
-        ensures call { Inside (state S.Store tx.old.conn.now) (state S.Store tx.new.conn.now) result (λ _. GoesOn) }
+        ensures call { Inside (state S.Store tx.old.conn.now) (state S.Store tx.new.conn.now) result
+            (λ _. GoesOn) }
         ensures units { ChangesKey format db.0 key.now changes.now
             (state S.Store tx.old.conn.now) (state S.Store tx.new.conn.now) result }
-        ensures work { OnOk result (Works (row_work * length changes.now) (row_work * length changes.now)
+        ensures work { OnOk result (Works (row_work * length changes.now)
+            (row_work * length changes.now)
             (row_work * length changes.now) (row_work * length changes.now) work.old work.new) }
         ensures no_work { row_work ≡ 0 → work.new ≡ work.old };
 
     /// Takes a database out, with its records and its rows in every table of the registers.
     fn database_take<S: Alter>(tx: &mut Transaction<'_, S>, db: DatabaseId) -> Result<(), RegFault>
         ensures same { tx.new.conn.ghost_name ≡ tx.old.conn.ghost_name }
-        ensures call { Inside (state S.Store tx.old.conn.now) (state S.Store tx.new.conn.now) result (λ _. GoesOn) }
-        ensures taken { InStore (state S.Store tx.old.conn.now) (state S.Store tx.new.conn.now) (λ trees. OnOk result
+        ensures call { Inside (state S.Store tx.old.conn.now) (state S.Store tx.new.conn.now) result
+            (λ _. GoesOn) }
+        ensures taken { InStore (state S.Store tx.old.conn.now) (state S.Store tx.new.conn.now)
+            (λ trees. OnOk result
             (TakesWhole db.0 (state S.Store tx.old.conn.now) (state S.Store tx.new.conn.now)
             × ((before after : Content) → holds_in format trees before → IsWithout db.0 before after
             → holds_in format (state S.Store tx.new.conn.now).now.trees after))) }
@@ -171,8 +171,10 @@ pub trait Layout {
         db: DatabaseId,
         key: &Key,
     ) -> Result<Vec<Posting>, RegFault>
-        ensures call { Reading (state S.Store conn.old) (state S.Store conn.new) result (λ _. IsUnchanged) }
-        ensures units { ListsKey format db.0 key.now (state S.Store conn.old) (state S.Store conn.new) result }
+        ensures call { Reading (state S.Store conn.old) (state S.Store conn.new) result
+            (λ _. IsUnchanged) }
+        ensures units { ListsKey format db.0 key.now (state S.Store conn.old)
+            (state S.Store conn.new) result }
         ensures work { Tells (state S.Store conn.old) (state S.Store conn.new) result
             (λ _ list. Works 0 0 (block_rows list.items) 0 work.old work.new) }
         ensures no_work { row_work ≡ 0 → work.new ≡ work.old };
@@ -187,34 +189,33 @@ pub trait Layout {
         first: &str,
         last: &str,
     ) -> Result<Vec<Posting>, RegFault>
-        ensures call { Reading (state S.Store conn.old) (state S.Store conn.new) result (λ _. IsUnchanged) }
-        ensures units { ListsTerms format at first.now last.now (state S.Store conn.old) (state S.Store conn.new) result }
-        ensures work { TellsHeld (holds_in format) (state S.Store conn.old) (state S.Store conn.new) result
-            (λ content _. (keys : List Key) → AreKeysBetween content at first.now last.now keys → Works 0 0
+        ensures call { Reading (state S.Store conn.old) (state S.Store conn.new) result
+            (λ _. IsUnchanged) }
+        ensures units { ListsTerms format at first.now last.now (state S.Store conn.old)
+            (state S.Store conn.new) result }
+        ensures work { TellsHeld (holds_in format) (state S.Store conn.old) (state S.Store conn.new)
+            result
+            (λ content _. (keys : List Key) → AreKeysBetween content at first.now last.now keys
+            → Works 0 0
             (sum_by (λ key. block_rows (content at.db.0 key)) keys) 0 work.old work.new) }
         ensures no_work { row_work ≡ 0 → work.new ≡ work.old };
 
-    /// The terms of a register that have a posting, in the order of their bytes.
+    /// The terms of a register that some record has, in the order of their bytes, each with the number of these records. `Damaged` only where
+    /// what is kept of one of them is malformed, or it isn't UTF-8.
     fn terms_of<S: Alter>(
         alloc: Global,
         conn: &mut Connection<S>,
         work: &mut Work,
         at: RegisterOf,
     ) -> Result<Vec<TermCount>, RegFault>
-        ensures call { Reading (state S.Store conn.old) (state S.Store conn.new) result (λ _. IsUnchanged) }
-        ensures value { TellsHeld (holds_in format) (state S.Store conn.old) (state S.Store conn.new) result
-            (λ content list. AreTermsOf (posted content at.db.0) at.index at.register list.items) }
-        ensures honest { IsHonestStorable (holds_in format) (state S.Store conn.old) (state S.Store conn.new) result }
-        ensures refused { IsReasoned (state S.Store conn.old) (state S.Store conn.new) result }
-        ensures told { Tells (state S.Store conn.old) (state S.Store conn.new) result (λ trees list.
-            TellsRegister format trees at.db.0 at.index at.register list.items) }
-        ensures damaged { IsHonest (state S.Store conn.old) (state S.Store conn.new) result (λ trees.
-            InPacked format (AreAllCounted trees (register_front at.db.0 at.index at.register))) }
-        ensures work { TellsHeld (holds_in format) (state S.Store conn.old) (state S.Store conn.new) result
-            (λ _ list. Works (row_work * length list.items) 0 0 0 work.old work.new) }
+        ensures call { Reading (state S.Store conn.old) (state S.Store conn.new) result
+            (λ _. IsUnchanged) }
+        ensures units { TellsAll format at (state S.Store conn.old) (state S.Store conn.new) result }
+        ensures work { IfOk result (λ list. Works (row_work * length list.items) 0 0 0 work.old
+            work.new) }
         ensures no_work { row_work ≡ 0 → work.new ≡ work.old };
 
-    /// The first `n` of these terms that are not below `start`, in the order of their bytes.
+    /// The first `n` of these terms that are not below `start`, in the order of their bytes. `Damaged` only by one of these.
     fn terms_from<S: Alter>(
         alloc: Global,
         conn: &mut Connection<S>,
@@ -223,20 +224,15 @@ pub trait Layout {
         start: &str,
         n: u64,
     ) -> Result<Vec<TermCount>, RegFault>
-        ensures call { Reading (state S.Store conn.old) (state S.Store conn.new) result (λ _. IsUnchanged) }
-        ensures value { TellsHeld (holds_in format) (state S.Store conn.old) (state S.Store conn.new) result
-            (λ content list. AreTermsFrom (posted content at.db.0) at.index at.register start.now n list.items) }
-        ensures honest { IsHonestStorable (holds_in format) (state S.Store conn.old) (state S.Store conn.new) result }
-        ensures refused { IsReasoned (state S.Store conn.old) (state S.Store conn.new) result }
-        ensures told { Tells (state S.Store conn.old) (state S.Store conn.new) result (λ trees list.
-            TellsFrom format trees at.db.0 at.index at.register start.now n list.items) }
-        ensures damaged { IsHonest (state S.Store conn.old) (state S.Store conn.new) result (λ trees.
-            InPacked format (AreFromCounted trees (register_front at.db.0 at.index at.register) start.now n)) }
-        ensures work { TellsHeld (holds_in format) (state S.Store conn.old) (state S.Store conn.new) result
-            (λ _ list. Works (row_work * length list.items) 0 0 0 work.old work.new) }
+        ensures call { Reading (state S.Store conn.old) (state S.Store conn.new) result
+            (λ _. IsUnchanged) }
+        ensures units { TellsFrom format at start.now n (state S.Store conn.old)
+            (state S.Store conn.new) result }
+        ensures work { IfOk result (λ list. Works (row_work * length list.items) 0 0 0 work.old
+            work.new) }
         ensures no_work { row_work ≡ 0 → work.new ≡ work.old };
 
-    /// The last `n` of these terms that are below `start`, in the order of their bytes.
+    /// The last `n` of these terms that are below `start`, in the order of their bytes. `Damaged` only by one of these.
     fn terms_before<S: Alter>(
         alloc: Global,
         conn: &mut Connection<S>,
@@ -245,39 +241,28 @@ pub trait Layout {
         start: &str,
         n: u64,
     ) -> Result<Vec<TermCount>, RegFault>
-        ensures call { Reading (state S.Store conn.old) (state S.Store conn.new) result (λ _. IsUnchanged) }
-        ensures value { TellsHeld (holds_in format) (state S.Store conn.old) (state S.Store conn.new) result
-            (λ content list. AreTermsBefore (posted content at.db.0) at.index at.register start.now n list.items) }
-        ensures honest { IsHonestStorable (holds_in format) (state S.Store conn.old) (state S.Store conn.new) result }
-        ensures refused { IsReasoned (state S.Store conn.old) (state S.Store conn.new) result }
-        ensures told { Tells (state S.Store conn.old) (state S.Store conn.new) result (λ trees list.
-            TellsBefore format trees at.db.0 at.index at.register start.now n list.items) }
-        ensures damaged { IsHonest (state S.Store conn.old) (state S.Store conn.new) result (λ trees.
-            InPacked format (AreBeforeCounted trees (register_front at.db.0 at.index at.register) start.now n)) }
-        ensures work { TellsHeld (holds_in format) (state S.Store conn.old) (state S.Store conn.new) result
-            (λ _ list. Works (row_work * length list.items) 0 0 0 work.old work.new) }
+        ensures call { Reading (state S.Store conn.old) (state S.Store conn.new) result
+            (λ _. IsUnchanged) }
+        ensures units { TellsBefore format at start.now n (state S.Store conn.old)
+            (state S.Store conn.new) result }
+        ensures work { IfOk result (λ list. Works (row_work * length list.items) 0 0 0 work.old
+            work.new) }
         ensures no_work { row_work ≡ 0 → work.new ≡ work.old };
 
-    /// How many terms and postings a register holds. Each row of its terms and of their blocks counts once in `work`.
+    /// How many terms of a register some record has, and how many postings these have. Each row of its terms and of their blocks counts once
+    /// in `work`. `Damaged` only where what is kept of one of these terms is malformed, or it isn't UTF-8.
     fn totals<S: Alter>(
         alloc: Global,
         conn: &mut Connection<S>,
         work: &mut Work,
         at: RegisterOf,
     ) -> Result<Totals, RegFault>
-        ensures call { Reading (state S.Store conn.old) (state S.Store conn.new) result (λ _. IsUnchanged) }
-        ensures value { TellsHeld (holds_in format) (state S.Store conn.old) (state S.Store conn.new) result
-            (λ content sums. AreTotals (posted content at.db.0) at.index at.register sums) }
-        ensures honest { IsHonestStorable (holds_in format) (state S.Store conn.old) (state S.Store conn.new) result }
-        ensures refused { IsReasoned (state S.Store conn.old) (state S.Store conn.new) result }
-        ensures sound { OnStore (state S.Store conn.old) (state S.Store conn.new) (λ trees. OnOk result
-            (AreTermsSound format trees at.db.0 at.index at.register)) }
-        ensures damaged { IsHonest (state S.Store conn.old) (state S.Store conn.new) result (λ trees.
-            InPacked format (IsRegisterSound trees at.db.0 at.index at.register)) }
-        ensures work { TellsHeld (holds_in format) (state S.Store conn.old) (state S.Store conn.new) result
-            (λ content _. (all : List TermCount) → AreTermsOf (posted content at.db.0) at.index at.register all
-            → Works (row_work * length all) 0 (sum_by (λ t. block_rows (content at.db.0 (key_in at.index at.register t.term))) all) 0
-            work.old work.new) }
+        ensures call { Reading (state S.Store conn.old) (state S.Store conn.new) result
+            (λ _. IsUnchanged) }
+        ensures units { TellsTotals format at (state S.Store conn.old) (state S.Store conn.new)
+            result }
+        ensures work { Tells (state S.Store conn.old) (state S.Store conn.new) result
+            (λ trees _. WorksThrough format row_work block_rows at trees work.old work.new) }
         ensures no_work { row_work ≡ 0 → work.new ≡ work.old };
 
     /// Whether the tables hold just what is expected, in this layout. Unreadable rows are not expected. It changes nothing.
@@ -286,8 +271,10 @@ pub trait Layout {
         conn: &mut Connection<S>,
         expected: &Expected,
     ) -> Result<bool, RegFault>
-        ensures call { Reading (state S.Store conn.old) (state S.Store conn.new) result (λ _. IsUnchanged) }
-        ensures value { TellsWhether (λ trees. AreExpected format trees expected.now) (IsOrdered expected.now)
+        ensures call { Reading (state S.Store conn.old) (state S.Store conn.new) result
+            (λ _. IsUnchanged) }
+        ensures value { TellsWhether (λ trees. AreExpected format trees expected.now)
+            (IsOrdered expected.now)
             (state S.Store conn.old) (state S.Store conn.new) result }
         ensures honest { result ≢ Err RegFault.Damaged }
         ensures refused { IsReasoned (state S.Store conn.old) (state S.Store conn.new) result };
@@ -297,26 +284,35 @@ pub trait Layout {
 pub fn contents_change()
     ensures told { (one two : Content) → HasRisingLists one → HasRisingLists two
         → ((db : ℤ) (key : _) (p : _) → Has (one db key) p ↔ Has (two db key) p) → one ≡ two }
-    ensures changed { (db : ℤ) (key : _) (sysno : ℕ) (places : List _) (old : Content) → HasRisingLists old
+    ensures changed { (db : ℤ) (key : _) (sysno : ℕ) (places : List _) (old : Content)
+        → HasRisingLists old
         → ((new : Content) × IsChangedAt db key sysno places old new)
-        × ((one two : Content) → IsChangedAt db key sysno places old one → IsChangedAt db key sysno places old two → one ≡ two) }
+        × ((one two : Content) → IsChangedAt db key sysno places old one
+        → IsChangedAt db key sysno places old two → one ≡ two) }
     ensures without { (db : ℤ) (old : Content) → HasRisingLists old
-        → ((new : Content) × IsWithout db old new) × ((one two : Content) → IsWithout db old one → IsWithout db old two → one ≡ two) }
+        → ((new : Content) × IsWithout db old new)
+        × ((one two : Content) → IsWithout db old one → IsWithout db old two → one ≡ two) }
 {}
 
 /// Units that are changed are those of the changed content. Each row that is malformed is there still, and each that isn't of the key. Where
 /// the changes are those of a content, the rows that hold it allow them.
 pub fn changed_units_are_of_a_content()
-    ensures held { (format : Format) (db : ℤ) (key : _) (changes : List _) (old new : Trees) → PutsAny format db key changes old new
-        → (before after : Content) → holds_in format old before → AreChangedAt db key changes before after → holds_in format new after }
-    ensures found { (format : Format) (db : ℤ) (key : _) (changes : List _) (old new : Trees) → PutsAny format db key changes old new
-        → (content : Content) → holds_in format old content → (after : Content) × AreChangedAt db key changes content after }
+    ensures held { (format : Format) (db : ℤ) (key : _) (changes : List _) (old new : Trees)
+        → PutsAny format db key changes old new
+        → (before after : Content) → holds_in format old before
+        → AreChangedAt db key changes before after → holds_in format new after }
+    ensures found { (format : Format) (db : ℤ) (key : _) (changes : List _) (old new : Trees)
+        → PutsAny format db key changes old new
+        → (content : Content) → holds_in format old content → (after : Content)
+        × AreChangedAt db key changes content after }
     ensures malformed { (format : Format) (db : ℤ) (key : _) (changes : List _) (old new : Trees)
         → PutsAny format db key changes old new → KeepsMalformed old new }
     ensures others { (format : Format) (db : ℤ) (key : _) (changes : List _) (old new : Trees)
         → PutsAny format db key changes old new → KeepsRowsBeside (key_row db key) old new }
-    ensures allowed { (format : Format) (db : ℤ) (key : _) (changes : List _) (trees : Trees) (content : Content)
-        → holds_in format trees content → IsStorable content → AllByRecursion IsStorableChange changes → OldsRise changes
+    ensures allowed { (format : Format) (db : ℤ) (key : _) (changes : List _) (trees : Trees)
+        (content : Content)
+        → holds_in format trees content → IsStorable content
+        → AllByRecursion IsStorableChange changes → OldsRise changes
         → (after : Content) → AreChangedAt db key changes content after
         → (were : KeyUnits) × (are : KeyUnits) × AllowsChanges format db key changes trees were are }
 {}
@@ -324,12 +320,16 @@ pub fn changed_units_are_of_a_content()
 /// What tables hold in a format is one content at most, and each of its lists rises. It is told by the tables of the registers alone, and
 /// where these have no row it has no posting. No two formats have one version.
 pub fn registers_hold_one_content()
-    ensures one { (format : Format) (trees : Trees) (one two : Content) → holds_in format trees one → holds_in format trees two
+    ensures one { (format : Format) (trees : Trees) (one two : Content) → holds_in format trees one
+        → holds_in format trees two
         → one ≡ two }
-    ensures rising { (format : Format) (trees : Trees) (content : Content) → holds_in format trees content → HasRisingLists content }
-    ensures stays { (format : Format) (old new : Trees) (content : Content) → KeepsRegisters old new → holds_in format old content
+    ensures rising { (format : Format) (trees : Trees) (content : Content)
+        → holds_in format trees content → HasRisingLists content }
+    ensures stays { (format : Format) (old new : Trees) (content : Content) → KeepsRegisters old new
+        → holds_in format old content
         → holds_in format new content }
-    ensures empty { (format : Format) (trees : Trees) → LacksRegisters trees → holds_in format trees (λ _ _. []) }
+    ensures empty { (format : Format) (trees : Trees) → LacksRegisters trees
+        → holds_in format trees (λ _ _. []) }
     ensures version { (one two : Format) → version_of one ≡ version_of two → one ≡ two }
 {}
 
@@ -337,9 +337,12 @@ pub fn registers_hold_one_content()
 /// where it is miscounted. Tables hold a content that every layout can store just where each unit and each count reads as the content says,
 /// and no row stands beside.
 pub fn units_tell_the_content()
-    ensures one { (format : Format) (trees : Trees) (db : ℤ) (key : _) (sysno : ℕ) (one two : List _)
-        → reads_as format trees db key sysno one → reads_as format trees db key sysno two → one ≡ two }
-    ensures unread { (format : Format) (trees : Trees) (db : ℤ) (key : _) (sysno : ℕ) (places : List _)
+    ensures one { (format : Format) (trees : Trees) (db : ℤ) (key : _) (sysno : ℕ)
+        (one two : List _)
+        → reads_as format trees db key sysno one → reads_as format trees db key sysno two
+        → one ≡ two }
+    ensures unread { (format : Format) (trees : Trees) (db : ℤ) (key : _) (sysno : ℕ)
+        (places : List _)
         → is_malformed format trees db key sysno → ¬ reads_as format trees db key sysno places }
     ensures counted { (format : Format) (trees : Trees) (db : ℤ) (key : _) (one two : ℕ)
         → counts_as format trees db key one → counts_as format trees db key two → one ≡ two }
@@ -347,6 +350,7 @@ pub fn units_tell_the_content()
         → is_miscounted format trees db key → ¬ counts_as format trees db key records }
     ensures said { (format : Format) (trees : Trees) (content : Content) → IsStorable content
         → holds_in format trees content → HoldsUnits format trees content }
-    ensures held { (format : Format) (trees : Trees) (content : Content) → HoldsUnits format trees content
+    ensures held { (format : Format) (trees : Trees) (content : Content)
+        → HoldsUnits format trees content
         → holds_in format trees content }
 {}

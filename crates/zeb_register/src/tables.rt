@@ -58,12 +58,16 @@ fn create_text(table: StoreTable) -> &'static str
 /// Makes the table where it is absent.
 fn table_make<S: Alter>(tx: &mut Transaction<'_, S>, table: StoreTable) -> Result<(), Error>
     ensures same { tx.new.conn.ghost_name ≡ tx.old.conn.ghost_name }
-    ensures made { HasCleanDisk (state S.Store tx.new.conn.now) → IsTrue (state S.Store tx.old.conn.now).in_transaction
+    ensures made { HasCleanDisk (state S.Store tx.new.conn.now)
+        → IsTrue (state S.Store tx.old.conn.now).in_transaction
         → HasEmpty (schema_before table) (state S.Store tx.old.conn.now)
         → OnOk result (IsMade (schema_after table) (state S.Store tx.new.conn.now)) }
-    ensures there { DoneUnder store_schema (state S.Store tx.old.conn.now) (state S.Store tx.new.conn.now) result IsUnchanged }
-    ensures kept { KeepsAllTables (state S.Store tx.old.conn.now) (state S.Store tx.new.conn.now) result }
-    ensures call { Inside (state S.Store tx.old.conn.now) (state S.Store tx.new.conn.now) result (λ _. GoesOn) }
+    ensures there { DoneUnder store_schema (state S.Store tx.old.conn.now)
+        (state S.Store tx.new.conn.now) result IsUnchanged }
+    ensures kept { KeepsAllTables (state S.Store tx.old.conn.now) (state S.Store tx.new.conn.now)
+        result }
+    ensures call { Inside (state S.Store tx.old.conn.now) (state S.Store tx.new.conn.now) result
+        (λ _. GoesOn) }
 {
     tx.execute(create_text(table), &[])?;
     Ok(())
@@ -72,11 +76,15 @@ fn table_make<S: Alter>(tx: &mut Transaction<'_, S>, table: StoreTable) -> Resul
 /// Makes the tables of the lists.
 fn lists_make<S: Alter>(tx: &mut Transaction<'_, S>) -> Result<(), Error>
     ensures same { tx.new.conn.ghost_name ≡ tx.old.conn.ghost_name }
-    ensures made { DoneUnder no_schema (state S.Store tx.old.conn.now) (state S.Store tx.new.conn.now) result
+    ensures made { DoneUnder no_schema (state S.Store tx.old.conn.now)
+        (state S.Store tx.new.conn.now) result
         (λ _ b. IsMade with_records b) }
-    ensures there { DoneUnder store_schema (state S.Store tx.old.conn.now) (state S.Store tx.new.conn.now) result IsUnchanged }
-    ensures kept { KeepsAllTables (state S.Store tx.old.conn.now) (state S.Store tx.new.conn.now) result }
-    ensures call { Inside (state S.Store tx.old.conn.now) (state S.Store tx.new.conn.now) result (λ _. GoesOn) }
+    ensures there { DoneUnder store_schema (state S.Store tx.old.conn.now)
+        (state S.Store tx.new.conn.now) result IsUnchanged }
+    ensures kept { KeepsAllTables (state S.Store tx.old.conn.now) (state S.Store tx.new.conn.now)
+        result }
+    ensures call { Inside (state S.Store tx.old.conn.now) (state S.Store tx.new.conn.now) result
+        (λ _. GoesOn) }
 {
     table_make(tx, StoreTable::Meta)?;
     table_make(tx, StoreTable::Databases)?;
@@ -86,11 +94,16 @@ fn lists_make<S: Alter>(tx: &mut Transaction<'_, S>) -> Result<(), Error>
 /// Makes the tables of the registers, behind those of the lists.
 fn registers_make<S: Alter>(tx: &mut Transaction<'_, S>) -> Result<(), Error>
     ensures same { tx.new.conn.ghost_name ≡ tx.old.conn.ghost_name }
-    ensures made { HasCleanDisk (state S.Store tx.new.conn.now) → IsTrue (state S.Store tx.old.conn.now).in_transaction
-        → HasEmpty with_records (state S.Store tx.old.conn.now) → OnOk result (IsMade store_schema (state S.Store tx.new.conn.now)) }
-    ensures there { DoneUnder store_schema (state S.Store tx.old.conn.now) (state S.Store tx.new.conn.now) result IsUnchanged }
-    ensures kept { KeepsAllTables (state S.Store tx.old.conn.now) (state S.Store tx.new.conn.now) result }
-    ensures call { Inside (state S.Store tx.old.conn.now) (state S.Store tx.new.conn.now) result (λ _. GoesOn) }
+    ensures made { HasCleanDisk (state S.Store tx.new.conn.now)
+        → IsTrue (state S.Store tx.old.conn.now).in_transaction
+        → HasEmpty with_records (state S.Store tx.old.conn.now)
+        → OnOk result (IsMade store_schema (state S.Store tx.new.conn.now)) }
+    ensures there { DoneUnder store_schema (state S.Store tx.old.conn.now)
+        (state S.Store tx.new.conn.now) result IsUnchanged }
+    ensures kept { KeepsAllTables (state S.Store tx.old.conn.now) (state S.Store tx.new.conn.now)
+        result }
+    ensures call { Inside (state S.Store tx.old.conn.now) (state S.Store tx.new.conn.now) result
+        (λ _. GoesOn) }
 {
     table_make(tx, StoreTable::Postings)?;
     table_make(tx, StoreTable::Blocks)?;
@@ -102,10 +115,14 @@ fn registers_make<S: Alter>(tx: &mut Transaction<'_, S>) -> Result<(), Error>
 /// `Store` also where a table of one of these names is there with other columns that the statement doesn't fit.
 pub fn make_tables<S: Alter>(tx: &mut Transaction<'_, S>) -> Result<(), RegFault>
     ensures same { tx.new.conn.ghost_name ≡ tx.old.conn.ghost_name }
-    ensures made { DoneUnder no_schema (state S.Store tx.old.conn.now) (state S.Store tx.new.conn.now) result (λ _ b. IsEmptyStore b) }
-    ensures there { DoneUnder store_schema (state S.Store tx.old.conn.now) (state S.Store tx.new.conn.now) result IsUnchanged }
-    ensures kept { KeepsAllTables (state S.Store tx.old.conn.now) (state S.Store tx.new.conn.now) result }
-    ensures call { Inside (state S.Store tx.old.conn.now) (state S.Store tx.new.conn.now) result (λ _. GoesOn) }
+    ensures made { DoneUnder no_schema (state S.Store tx.old.conn.now)
+        (state S.Store tx.new.conn.now) result (λ _ b. IsEmptyStore b) }
+    ensures there { DoneUnder store_schema (state S.Store tx.old.conn.now)
+        (state S.Store tx.new.conn.now) result IsUnchanged }
+    ensures kept { KeepsAllTables (state S.Store tx.old.conn.now) (state S.Store tx.new.conn.now)
+        result }
+    ensures call { Inside (state S.Store tx.old.conn.now) (state S.Store tx.new.conn.now) result
+        (λ _. GoesOn) }
     ensures honest { result ≢ Err RegFault.Damaged }
 {
     lists_make(tx)?;

@@ -7,12 +7,15 @@ ghost use Rattle.sqlite.specs.State.{IsUnchanged};
 ghost use Rattle.sqlite.specs.Order.{row_cmp};
 ghost use Rattle.sqlite_rules.specs.Lists.{Has};
 ghost use Rattle.zeb_register.specs.Calls.{Reading};
-ghost use Rattle.zeb_register.specs.Clauses.{IsHonestOfHeld, IsHonestStorable, IsReasoned, TellsHeld};
-ghost use Rattle.zeb_register.specs.Content.{posting_cmp, posted};
-ghost use Rattle.zeb_register.specs.PlainRows.{HoldsRows};
-ghost use Rattle.zeb_register.specs.Occurring.{IsCount, AreCounts, TermIn};
-ghost use Rattle.zeb_register.specs.PrivateRowTerms.{IsInRecord, IsShown, ShowsOccurrence, IsOccurrenceRow, ShowsTerm, IsTermRow};
-ghost use Rattle.zeb_register.specs.PrivateRowTerms.{IsCountedIn, IsLeastTerm, IsGreatestTerm};
+ghost use Rattle.zeb_register.specs.Clauses.{IsReasoned, OnStore};
+ghost use Rattle.zeb_register.specs.Content.{posting_cmp};
+ghost use Rattle.zeb_register.specs.Occurring.{IsCount, AreCounts, key_in};
+ghost use Rattle.zeb_register.specs.PlainUnits.{HasShownNone, RowsCount};
+ghost use Rattle.zeb_register.specs.PrivateKeyColumns.{HasTermOf};
+ghost use Rattle.zeb_register.specs.Terms.{Comes};
+ghost use Rattle.zeb_register.specs.PrivateRowTerms.{IsInRecord, IsShown, ShowsOccurrence, IsOccurrenceRow, SomeIsNoOccurrence, ShowsTerm, IsTermRow};
+ghost use Rattle.zeb_register.specs.Answers.{Answers, IfDamaged};
+ghost use Rattle.zeb_register.specs.PrivateRowTerms.{FindsNearest, HidesText, IsCountedIn};
 
 use crate::RegFault;
 use crate::plain::postings_under;
@@ -26,9 +29,11 @@ use zeb_keys::Term;
 
 /// The terms of rows that rise by term and then by record, each with the number of its records.
 pub(crate) fn count_terms(alloc: Global, rows: &[Row]) -> Result<Vec<TermCount>, RegFault>
-    ensures ok { IfOk result (λ list. IsStrictlySortedBy row_cmp rows.now → AreCounts (IsShown rows.now) list.items) }
-    ensures honest { result ≡ Err RegFault.Damaged → ¬ ((row : _) → Has rows.now row → IsOccurrenceRow row) }
-    ensures unstored { result ≢ Err RegFault.Store }
+    ensures counts { IfOk result (λ list. IsStrictlySortedBy row_cmp rows.now
+        → AreCounts (IsShown rows.now) list.items) }
+    ensures occur { Answers (λ fault. (fault ≢ RegFault.Store)
+        × IfDamaged (SomeIsNoOccurrence rows.now) fault)
+        (λ _. (row : _) → Has rows.now row → IsOccurrenceRow row) result }
 {
     let mut counts: Vec<TermCount> = Vec::new(alloc);
     let mut newest: u64 = 0;
@@ -40,14 +45,17 @@ pub(crate) fn count_terms(alloc: Global, rows: &[Row]) -> Result<Vec<TermCount>,
     Ok(counts)
 }
 
-/// The term and the record's number that a row shows.
+/// The term and the record's number that a row shows, which shows a place in the record too.
 fn occurrence_of(row: &Row) -> Result<(Term, u64), RegFault>
     ensures ok { IfOk result (λ o. ShowsOccurrence row.now o.0 o.1) }
+    ensures occurs { OnOk result (IsOccurrenceRow row.now) }
     ensures honest { result ≡ Err RegFault.Damaged → ¬ IsOccurrenceRow row.now }
     ensures unstored { result ≢ Err RegFault.Store }
 {
     let term: String = read(row, 0)?;
     let sysno = read_number(row, 1)?;
+    read_number(row, 2)?;
+    read_number(row, 3)?;
     Ok((Term::new(term), sysno))
 }
 
@@ -97,11 +105,13 @@ pub(crate) fn term_count<S: Alter>(
     at: RegisterOf,
     term: String,
 ) -> Result<TermCount, RegFault>
-    ensures call { Reading (state S.Store conn.old) (state S.Store conn.new) result (λ _. IsUnchanged) }
-    ensures value { TellsHeld HoldsRows (state S.Store conn.old) (state S.Store conn.new) result
-        (λ content t. (t.term ≡ string_bytes term)
-        × IsCount (TermIn (posted content at.db.0) at.index at.register (string_bytes term)) t.records) }
-    ensures honest { IsHonestOfHeld HoldsRows (state S.Store conn.old) (state S.Store conn.new) result }
+    ensures call { Reading (state S.Store conn.old) (state S.Store conn.new) result
+        (λ _. IsUnchanged) }
+    ensures counts { OnStore (state S.Store conn.old) (state S.Store conn.new) (λ trees. Answers
+        (IfDamaged (HasShownNone trees at.db.0 (key_in at.index at.register (string_bytes term))))
+        (λ t. (t.term ≡ string_bytes term)
+        × RowsCount trees at.db.0 (key_in at.index at.register (string_bytes term)) t.records)
+        result) }
     ensures refused { IsReasoned (state S.Store conn.old) (state S.Store conn.new) result }
 {
     let list = postings_under(alloc, conn, at, term.as_str())?;
@@ -124,7 +134,8 @@ pub fn text_above(alloc: Global, text: &str) -> Result<String, AllocError>
 /// The term that the first of the rows shows.
 fn term_of(rows: &[Row]) -> Result<Option<String>, RegFault>
     ensures ok { IfOk result (ShowsTerm rows.now) }
-    ensures honest { result ≡ Err RegFault.Damaged → ¬ ((row : _) → Has rows.now row → IsTermRow row) }
+    ensures honest { result ≡ Err RegFault.Damaged
+        → ¬ ((row : _) → Has rows.now row → IsTermRow row) }
     ensures unstored { result ≢ Err RegFault.Store }
 {
     match rows.first() {
@@ -139,10 +150,11 @@ pub(crate) fn term_from<S: Alter>(
     at: RegisterOf,
     start: &str,
 ) -> Result<Option<String>, RegFault>
-    ensures call { Reading (state S.Store conn.old) (state S.Store conn.new) result (λ _. IsUnchanged) }
-    ensures value { TellsHeld HoldsRows (state S.Store conn.old) (state S.Store conn.new) result
-        (λ content term. IsLeastTerm (TermIn (posted content at.db.0) at.index at.register) start.now term) }
-    ensures honest { IsHonestStorable HoldsRows (state S.Store conn.old) (state S.Store conn.new) result }
+    ensures call { Reading (state S.Store conn.old) (state S.Store conn.new) result
+        (λ _. IsUnchanged) }
+    ensures finds { OnStore (state S.Store conn.old) (state S.Store conn.new) (λ trees. Answers
+        (IfDamaged (HidesText (λ term. HasTermOf at trees term × ¬ Comes term start.now) Comes))
+        (FindsNearest (λ term. HasTermOf at trees term × ¬ Comes term start.now) Comes) result) }
     ensures refused { IsReasoned (state S.Store conn.old) (state S.Store conn.new) result }
 {
     let rows = rows_from(conn, at, start)?;
@@ -155,10 +167,13 @@ pub(crate) fn term_before<S: Alter>(
     at: RegisterOf,
     start: &str,
 ) -> Result<Option<String>, RegFault>
-    ensures call { Reading (state S.Store conn.old) (state S.Store conn.new) result (λ _. IsUnchanged) }
-    ensures value { TellsHeld HoldsRows (state S.Store conn.old) (state S.Store conn.new) result
-        (λ content term. IsGreatestTerm (TermIn (posted content at.db.0) at.index at.register) start.now term) }
-    ensures honest { IsHonestStorable HoldsRows (state S.Store conn.old) (state S.Store conn.new) result }
+    ensures call { Reading (state S.Store conn.old) (state S.Store conn.new) result
+        (λ _. IsUnchanged) }
+    ensures finds { OnStore (state S.Store conn.old) (state S.Store conn.new) (λ trees. Answers
+        (IfDamaged (HidesText (λ term. HasTermOf at trees term × Comes term start.now)
+        (λ one other. Comes other one)))
+        (FindsNearest (λ term. HasTermOf at trees term × Comes term start.now)
+        (λ one other. Comes other one)) result) }
     ensures refused { IsReasoned (state S.Store conn.old) (state S.Store conn.new) result }
 {
     let rows = rows_before(conn, at, start)?;

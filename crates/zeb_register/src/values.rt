@@ -21,7 +21,8 @@ pub fn stored(number: u64) -> Result<i64, RegFault>
 /// The value at this place of a row, in memory of its own. `Damaged` where it is of another type or no UTF-8.
 pub fn read<T: FromSql>(row: &Row, at: usize) -> Result<T, RegFault>
     ensures ok { IfOk result (T.FromSql.reads_as (column row.now at)) }
-    ensures honest { result ≡ Err RegFault.Damaged → at < length row.now → ¬ T.FromSql.is_readable (column row.now at) }
+    ensures honest { result ≡ Err RegFault.Damaged → at < length row.now
+        → ¬ T.FromSql.is_readable (column row.now at) }
     ensures unstored { result ≢ Err RegFault.Store }
 {
     match row.get(at) {
@@ -34,7 +35,8 @@ pub fn read<T: FromSql>(row: &Row, at: usize) -> Result<T, RegFault>
 /// The number at this place of a row. It takes no memory: it is refused as `Damaged` alone, where it is of another type or below 0.
 pub fn read_number(row: &Row, at: usize) -> Result<u64, RegFault>
     ensures ok { IfOk result (λ n. column row.now at ≡ Int (pos n)) }
-    ensures refused { IfErr result (λ fault. (fault ≡ RegFault.Damaged) × ¬ ((n : ℕ) × (column row.now at ≡ Int (pos n)))) }
+    ensures refused { IfErr result (λ fault. (fault ≡ RegFault.Damaged)
+        × ¬ ((n : ℕ) × (column row.now at ≡ Int (pos n)))) }
 {
     match row.get_ref(at) {
         Ok(ValueRef::Int(value)) => u64::try_from(value).map_err(|_| RegFault::Damaged),
@@ -45,7 +47,8 @@ pub fn read_number(row: &Row, at: usize) -> Result<u64, RegFault>
 /// The integer at this place of a row. It takes no memory: it is refused as `Damaged` alone, where it is of another type.
 pub(crate) fn read_integer(row: &Row, at: usize) -> Result<i64, RegFault>
     ensures ok { IfOk result (λ n. (column row.now at ≡ Int n) × FitsSigned w64 n) }
-    ensures refused { IfErr result (λ fault. (fault ≡ RegFault.Damaged) × ¬ IsInt (column row.now at)) }
+    ensures refused { IfErr result (λ fault. (fault ≡ RegFault.Damaged)
+        × ¬ IsInt (column row.now at)) }
 {
     match row.get_ref(at) {
         Ok(ValueRef::Int(value)) => Ok(value),
@@ -57,7 +60,8 @@ pub(crate) fn read_integer(row: &Row, at: usize) -> Result<i64, RegFault>
 /// type.
 pub fn read_bytes(row: &Row, at: usize) -> Result<&[u8], RegFault>
     ensures ok { IfOk result (λ bytes. column row.now at ≡ Blob bytes.now) }
-    ensures refused { IfErr result (λ fault. (fault ≡ RegFault.Damaged) × ((bytes : List ℕ) → column row.now at ≢ Blob bytes)) }
+    ensures refused { IfErr result (λ fault. (fault ≡ RegFault.Damaged)
+        × ((bytes : List ℕ) → column row.now at ≢ Blob bytes)) }
 {
     match row.get_ref(at) {
         Ok(ValueRef::Blob(bytes)) => Ok(bytes),

@@ -38,7 +38,8 @@ fn lists_wipe<S: Alter>(tx: &mut Transaction<'_, S>) -> Result<(), RegFault>
 pub fn registers_wipe<S: Alter>(tx: &mut Transaction<'_, S>) -> Result<(), RegFault>
     ensures same { tx.new.conn.ghost_name ≡ tx.old.conn.ghost_name }
     ensures call { Inside (state S.Store tx.old.conn.now) (state S.Store tx.new.conn.now) result
-        (λ _ a b. GoesOn a b × (IsStore a → IsStore b × LacksRegisters b.now.trees × KeepsLists a.now.trees b.now.trees)) }
+        (λ _ a b. GoesOn a b × (IsStore a → IsStore b × LacksRegisters b.now.trees
+        × KeepsLists a.now.trees b.now.trees)) }
     ensures honest { result ≢ Err RegFault.Damaged }
 {
     table_wipe(tx, StoreTable::Postings)?;

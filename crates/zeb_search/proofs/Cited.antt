@@ -49,7 +49,7 @@ pub use Rattle.zeb_query.specs.declared.plans.PairPlan.{PairPlan}
 pub use Rattle.zeb_query.specs.declared.plans.Relation.{Relation}
 pub use Rattle.zeb_query.specs.declared.plans.Separation.{Separation}
 pub use Rattle.zeb_query.specs.declared.plans.TermPlan.{TermPlan}
-pub use Rattle.zeb_register.proofs.BetweenLists.{AreListsSound, IsPostingBetween}
+pub use Rattle.zeb_register.proofs.BetweenLists.{AreListsSound}
 pub use Rattle.zeb_register.proofs.Calls.{nothing_still, nothing_then, store_same}
 pub use Rattle.zeb_register.proofs.CallsInTurn.{quiet_still, quiet_then}
 pub use Rattle.zeb_register.proofs.Causes.{may_after}
@@ -62,16 +62,15 @@ pub use Rattle.zeb_register.proofs.RowLemmas.{same_bytes}
 pub use Rattle.zeb_register.proofs.SharedKeys.{single}
 pub use Rattle.zeb_register.proofs.TermLists.{above_least, least_above, has_taken}
 pub use Rattle.zeb_register.proofs.TermRows.{taken_below, taken_more, take_rises, last_view}
-pub use Rattle.zeb_register.specs.Between.{AreKeysBetween}
+pub use Rattle.zeb_register.specs.Between.{IsPostingBetween, AreKeysBetween}
 pub use Rattle.zeb_register.specs.Calls.{ChangesNothing, Reading}
 pub use Rattle.zeb_register.specs.Clauses.{OnStore, TellsHeld, IsReasoned}
 pub use Rattle.zeb_register.specs.Content.{Content, posted, posting_cmp, Posting, IsStorable}
 pub use Rattle.zeb_register.specs.Formats.{Format, holds_in, plain_rows, packed_blocks}
 pub use Rattle.zeb_register.specs.Kept.{IsIdentOf, AreReadableIdents}
 pub use Rattle.zeb_register.specs.Occurring.{AreTermsOf, TermIn, key_in, AreTermsFrom, is_from, term_cmp}
-pub use Rattle.zeb_register.specs.PackedBlocks.{AreShown, CountsTerm, count_row, first_two}
 pub use Rattle.zeb_register.specs.PlainRows.{register_front}
-pub use Rattle.zeb_register.specs.Sound.{TellTerms, IsListSound, TellsFrom, TellsRegister}
+pub use Rattle.zeb_register.specs.Sound.{IsListSound}
 pub use Rattle.zeb_register.specs.Sql.{IsListOf}
 pub use Rattle.zeb_register.specs.Store.{IsStore, HasRecord}
 pub use Rattle.zeb_register.specs.Tallies.{Works, Rises}
@@ -86,7 +85,7 @@ pub use Rattle.zeb_search.specs.Holds.{AreJoined, HasEntry, HasWord, HasWords, H
 pub use Rattle.zeb_search.specs.ListRows.{AreKeysOf, EntryRows, rows_under, WordRows, PlanRows}
 pub use Rattle.zeb_search.specs.Lists.{AreNumbers, AreJust, Rise}
 pub use Rattle.zeb_search.specs.PrivateLists.{ArePostings}
-pub use Rattle.zeb_search.specs.PrivateMet.{HasMetRows, IsTermRest, ShowsWanted, AreKeyListsSound, AreKeysIn, AreMet, HasMet}
+pub use Rattle.zeb_search.specs.PrivateMet.{IsShownWith, AreKeyListsSound, AreKeysIn, AreMet, HasMet}
 pub use Rattle.zeb_search.specs.PrivateSearchCounts.{NoRows}
 pub use Rattle.zeb_search.specs.PrivateTerms.{TermsRise, BeginsAt, IsAmong, LeadsTo, AreTaken, IsWanted, NamesEntry, AreFound, AreNeighbours, AreRun, HasWanted, IsPostingOf, StandTogether, StandsWithin, HasPosting, HasBehind, IsNear, EndsAt}
 pub use Rattle.zeb_search.specs.PrivateWalks.{HasWithin, IsBefore, IsBehind, IsUpTo, IsWithin, IsFollowed, IsNearBy, IsWithinSome}

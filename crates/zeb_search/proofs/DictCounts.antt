@@ -54,14 +54,14 @@ no_more_terms O index register terms all up of are =
 -- the first pages, and one page more
 pub pages_counted : (format : Format) (row_work : ℕ) (terms page all : List TermCount) → all ≡ terms ++ page → (s0 s1 s2 : State) (a b c : Work) → IsRead s0 s1 → Survives s1 s2 (λ _. ⊥)
     → CountsByContent format (λ content n. n ≡ row_work * length terms) NoRows s0 s1 a b
-    → (HasCleanDisk s2 → IsStore s1 → (content : Content) → holds_in format s1.now.trees content → Works (row_work * length page) 0 0 0 b c)
+    → Works (row_work * length page) 0 0 0 b c
     → CountsByContent format (λ content n. n ≡ row_work * length all) NoRows s0 s2 a c
 pages_counted format row_work terms page all joined s0 s1 s2 a b c read crash before works =
     counted_then format (λ content n. n ≡ row_work * length terms) (λ content n. n ≡ row_work * length page) (λ content n. n ≡ row_work * length all) NoRows NoRows NoRows s0 s1 s2 a b c
     (λ content m n first second.
     let long : length all ≡ length terms + length page = ap length joined ∙ length-append terms page in
     omega (arith, first, second, ap (λ k. row_work * k) long, mul-add row_work (length terms) (length page))) no_rows_then read crash before
-    (λ clean store content has. (row_work * length page, 0, refl, refl, terms_count (row_work * length page) b c (works clean store content has)))
+    (λ clean store content has. (row_work * length page, 0, refl, refl, terms_count (row_work * length page) b c works))
 
 module _ (row_work : ℕ) (content : Content) (db : ℤ) where
   -- terms of a register, each once, add no more than all of its terms

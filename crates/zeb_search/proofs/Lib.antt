@@ -14,7 +14,6 @@ pub mod MetRows
 pub mod NeighbourLemmas
 pub mod OneKey
 pub mod OrderedLists
-pub mod PageLemmas
 pub mod PlainWords
 pub mod PlanLemmas
 pub mod PostingLemmas

@@ -95,8 +95,8 @@ no_rows_then content m n one two = omega (arith, one, two)
 -- all terms of a register
 pub if_ok_counted : {E : Type 0} (r : Result (Vec TermCount Global) E) (format : Format) (row_work : ℕ) (db : ℤ) (index : ℕ) (register : Register) (s0 s1 : State) (a b : Work)
     → (HasCleanDisk s1 → IsStore s0 → IfOk r (λ list. (content : Content) → holds_in format s0.now.trees content → AreTermsOf (posted content db) index register list.items))
-    → (HasCleanDisk s1 → IsStore s0 → IfOk r (λ list. (content : Content) → holds_in format s0.now.trees content → Works (row_work * length list.items) 0 0 0 a b))
+    → IfOk r (λ list. Works (row_work * length list.items) 0 0 0 a b)
     → OnOk r (CountsByContent format (λ content. RegisterDict row_work content db index register) NoRows s0 s1 a b)
 if_ok_counted (Ok x) format row_work db index register s0 s1 a b are told =
-    λ clean store content has. (row_work * length x.items, 0, (x.items, are clean store content has, refl), refl, terms_count (row_work * length x.items) a b (told clean store content has))
+    λ clean store content has. (row_work * length x.items, 0, (x.items, are clean store content has, refl), refl, terms_count (row_work * length x.items) a b told)
 if_ok_counted (Err e) format row_work db index register s0 s1 a b are told = tt

@@ -31,13 +31,6 @@ literal_plain pattern text is has =
 -- ---- the keys of the terms that are asked for
 
 module _ (O : ℕ → Occurrence → Type 0) (index : ℕ) (register : Register) (wanted : Wanted) where
-  pub all_has_wanted : (terms : List TermCount) → AreTermsOf O index register terms → HasWanted O index register wanted terms
-  all_has_wanted terms are = record {
-    rising = terms_rise terms are.rising;
-    all = λ term n there asked. are.found term n there;
-    whole = λ s t first last term n there within. are.found term n there;
-  }
-
   pub keys_are : (terms : List TermCount) (keys : List Key) → HasWanted O index register wanted terms → AreTaken index register wanted terms keys → AreKeysOf O index register (IsWanted wanted) keys
   keys_are terms keys has taken = record {
     rising = taken.rising has.rising;

@@ -17,7 +17,8 @@ use zeb_register::Posting;
 /// The numbers of words, from 1 on, that stand in the relation to a distance, in one or two ranges.
 fn ranges(relation: DistanceRelation, distance: u64) -> (Words, Option<Words>)
     requires { distance < 10 ^ 9 }
-    ensures { (words : ℕ) → ((0 < words) × IsDistant relation words distance) ↔ (IsWithin result.0 words ⊎ IsWithinSome result.1 words) }
+    ensures { (words : ℕ) → ((0 < words) × IsDistant relation words distance) ↔
+        (IsWithin result.0 words ⊎ IsWithinSome result.1 words) }
 {
     let below = Words::between(1, distance.saturating_sub(1));
     let above = Words::at_least(distance + 1);
@@ -41,8 +42,10 @@ fn add_followed(
     others: &[Posting],
     words: Words,
 ) -> Result<(), AllocError>
-    ensures { IsStrictlySortedBy posting_cmp postings.now → IsStrictlySortedBy posting_cmp others.now
-        → OnOk result ((n : ℕ) → Has numbers.new.items n ↔ (Has numbers.old.items n ⊎ IsFollowed words postings.now others.now n)) }
+    ensures { IsStrictlySortedBy posting_cmp postings.now
+        → IsStrictlySortedBy posting_cmp others.now
+        → OnOk result ((n : ℕ) → Has numbers.new.items n ↔ (Has numbers.old.items n
+        ⊎ IsFollowed words postings.now others.now n)) }
 {
     let found = with_one_within(alloc, postings, others, words)?;
     let more = numbers_of(alloc, &found)?;
@@ -60,7 +63,8 @@ fn add_near(
     words: Words,
 ) -> Result<(), AllocError>
     ensures { IsStrictlySortedBy posting_cmp left.now → IsStrictlySortedBy posting_cmp right.now
-        → OnOk result ((n : ℕ) → Has numbers.new.items n ↔ (Has numbers.old.items n ⊎ IsNearBy ordered words left.now right.now n)) }
+        → OnOk result ((n : ℕ) → Has numbers.new.items n ↔ (Has numbers.old.items n
+        ⊎ IsNearBy ordered words left.now right.now n)) }
 {
     add_followed(alloc, numbers, left, right, words)?;
     if !ordered {
@@ -78,7 +82,8 @@ pub(crate) fn near(
 ) -> Result<Vec<u64>, AllocError>
     requires { separation.now.distance < 10 ^ 9 }
     ensures { IsStrictlySortedBy posting_cmp left.now → IsStrictlySortedBy posting_cmp right.now
-        → IfOk result (λ numbers. AreNumbers (IsNear separation.now left.now right.now) numbers.items) }
+        → IfOk result (λ numbers. AreNumbers (IsNear separation.now left.now right.now)
+        numbers.items) }
 {
     let ordered = separation.ordered;
     let distance = separation.distance as u64;

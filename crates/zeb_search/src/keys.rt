@@ -11,7 +11,7 @@ ghost use Rattle.zeb_search.specs.PrivateSearchCounts.{NoRows};
 ghost use Rattle.zeb_search.specs.DictRows.{EntryDict, RegisterDict};
 ghost use Rattle.zeb_search.specs.ListRows.{AreKeysOf};
 ghost use Rattle.zeb_search.specs.PrivateMet.{AreMet, HasMet};
-ghost use Rattle.zeb_search.specs.PrivateTerms.{AreFound, AreTaken, HasWanted, IsWanted, LeadsTo, NamesEntry, StandTogether, TermsRise};
+ghost use Rattle.zeb_search.specs.PrivateTerms.{AreFound, AreTaken, IsWanted, LeadsTo, NamesEntry, StandTogether, TermsRise};
 ghost use Rattle.zeb_search.specs.Untouched.{IsUntouched};
 
 use crate::ranges::text_above;
@@ -105,14 +105,16 @@ fn terms_wanted<S: Alter, L: Layout>(
     of: RegisterOf,
     wanted: Wanted<'_>,
 ) -> Result<Vec<TermCount>, RegFault>
-    ensures call { Reading (state S.Store connection.old) (state S.Store connection.new) result (λ _. IsUntouched) }
-    ensures value { TellsHeld (holds_in L.format) (state S.Store connection.old) (state S.Store connection.new) result
-        (λ content terms. HasWanted (posted content of.db.0) of.index of.register wanted.entry terms.items) }
-    ensures honest { IsHonestStorable (holds_in L.format) (state S.Store connection.old) (state S.Store connection.new) result }
-    ensures refused { IsReasoned (state S.Store connection.old) (state S.Store connection.new) result }
+    ensures call { Reading (state S.Store connection.old) (state S.Store connection.new) result
+        (λ _. IsUntouched) }
+    ensures honest { IsHonestStorable (holds_in L.format) (state S.Store connection.old)
+        (state S.Store connection.new) result }
+    ensures refused { IsReasoned (state S.Store connection.old) (state S.Store connection.new)
+        result }
     ensures told { Tells (state S.Store connection.old) (state S.Store connection.new) result
         (λ trees terms. HasMet L.format trees of.db.0 of.index of.register wanted.entry terms.items) }
-    ensures work { OnOk result (CountsByContent L.format (λ content. RegisterDict L.row_work content of.db.0 of.index of.register) NoRows
+    ensures work { OnOk result (CountsByContent L.format
+        (λ content. RegisterDict L.row_work content of.db.0 of.index of.register) NoRows
         (state S.Store connection.old) (state S.Store connection.new) work.old work.new) }
     ensures no_work { L.row_work ≡ 0 → work.new ≡ work.old }
 {
@@ -145,16 +147,22 @@ pub(crate) fn keys_wanted<S: Alter, L: Layout>(
     of: RegisterOf,
     wanted: Wanted<'_>,
 ) -> Result<FoundKeys, RegFault>
-    ensures call { Reading (state S.Store connection.old) (state S.Store connection.new) result (λ _. IsUntouched) }
-    ensures value { TellsHeld (holds_in L.format) (state S.Store connection.old) (state S.Store connection.new) result
-        (λ content found. AreKeysOf (posted content of.db.0) of.index of.register (IsWanted wanted.entry) found.keys.items
+    ensures call { Reading (state S.Store connection.old) (state S.Store connection.new) result
+        (λ _. IsUntouched) }
+    ensures value { TellsHeld (holds_in L.format) (state S.Store connection.old)
+        (state S.Store connection.new) result
+        (λ content found. AreKeysOf (posted content of.db.0) of.index of.register
+        (IsWanted wanted.entry) found.keys.items
         × AreFound content of found) }
-    ensures honest { IsHonestStorable (holds_in L.format) (state S.Store connection.old) (state S.Store connection.new) result }
-    ensures refused { IsReasoned (state S.Store connection.old) (state S.Store connection.new) result }
+    ensures honest { IsHonestStorable (holds_in L.format) (state S.Store connection.old)
+        (state S.Store connection.new) result }
+    ensures refused { IsReasoned (state S.Store connection.old) (state S.Store connection.new)
+        result }
     ensures met { Tells (state S.Store connection.old) (state S.Store connection.new) result
         (λ trees found. AreMet L.format trees of wanted.entry found.keys.items) }
     ensures work { OnOk result (CountsByContent L.format
-        (λ content. EntryDict L.row_work content of.db.0 (NamesEntry wanted.entry) of.index of.register) NoRows
+        (λ content. EntryDict L.row_work content of.db.0 (NamesEntry wanted.entry) of.index
+        of.register) NoRows
         (state S.Store connection.old) (state S.Store connection.new) work.old work.new) }
     ensures no_work { L.row_work ≡ 0 → work.new ≡ work.old }
 {

@@ -17,12 +17,15 @@ ghost use Rattle.zeb_search.specs.Registers.{HoldsIn, is_kept_in};
 /// kept and whatever occurrences they have (`query`); and by the tables each term of any query, by what its attributes ask for
 /// (`tables`). Some row stands for the values of each term that has a plan (`rows`).
 pub fn a_term_holds_by_its_attributes()
-    ensures query { (occurrences : List (ℕ × Occurrence)) (kept : List ℕ) (profile : Profile) (set : Option (List ℕ)) (place : ℕ)
+    ensures query { (occurrences : List (ℕ × Occurrence)) (kept : List ℕ) (profile : Profile)
+        (set : Option (List ℕ)) (place : ℕ)
         (head : HeadValue) (text : List ℕ) (plan : PlanValue)
         → plan_of profile record { attrset = set; tree = TermValue place head text } ≡ Ok plan
-        → HoldsByAttributes (occurs_in occurrences) (Has kept) profile (holding_of set (heads no_head head)) text
+        → HoldsByAttributes (occurs_in occurrences) (Has kept) profile
+        (holding_of set (heads no_head head)) text
         (TreeHolds (occurs_in occurrences) (Has kept) plan) }
-    ensures tables { (trees : Trees) (content : Content) (db : ℤ) (profile : Profile) (h : HoldingValue) (text : List ℕ)
+    ensures tables { (trees : Trees) (content : Content) (db : ℤ) (profile : Profile)
+        (h : HoldingValue) (text : List ℕ)
         → HoldsByAttributes (posted content db) (is_kept_in trees db) profile h text
         (HoldsIn trees content db (TermOf (plan_asked profile h text))) }
     ensures rows { (profile : Profile) (place : ℕ) (h : HoldingValue) (text : List ℕ)

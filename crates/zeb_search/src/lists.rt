@@ -51,7 +51,8 @@ pub(crate) fn postings_joined(
 
 /// The numbers of the records that have a posting, each once; postings rise by number.
 pub(crate) fn numbers_of(alloc: Global, postings: &[Posting]) -> Result<Vec<u64>, AllocError>
-    ensures { IsStrictlySortedBy posting_cmp postings.now → IfOk result (λ numbers. AreNumbers (HasPosting postings.now) numbers.items) }
+    ensures { IsStrictlySortedBy posting_cmp postings.now
+        → IfOk result (λ numbers. AreNumbers (HasPosting postings.now) numbers.items) }
 {
     let mut numbers: Vec<u64> = postings.iter().map(|posting| posting.sysno).collect(alloc)?;
     numbers.dedup();
@@ -82,7 +83,8 @@ fn keeps(operator: Operator, in_left: bool, in_right: bool) -> bool
 /// Whether the number at a place of one list is there, and not above the one at a place of another list.
 fn stands_first(list: &[u64], place: usize, other: &[u64], other_place: usize) -> bool
     ensures { IsTrue result ↔ (place < length list.now)
-        × (other_place < length other.now → slice_index list.now place ≤ slice_index other.now other_place) }
+        × (other_place < length other.now → slice_index list.now place ≤ slice_index other.now
+        other_place) }
 {
     place < list.len() && (other_place >= other.len() || list[place] <= other[other_place])
 }
@@ -95,7 +97,8 @@ pub(crate) fn joined(
     right: &[u64],
 ) -> Result<Vec<u64>, AllocError>
     ensures { IsStrictlySortedBy nat_cmp left.now → IsStrictlySortedBy nat_cmp right.now
-        → IfOk result (λ numbers. AreNumbers (λ n. AreJoined operator (Has left.now n) (Has right.now n)) numbers.items) }
+        → IfOk result (λ numbers. AreNumbers (λ n.
+        AreJoined operator (Has left.now n) (Has right.now n)) numbers.items) }
 {
     let mut numbers = Vec::new(alloc);
     let mut from_left = 0;
@@ -177,8 +180,10 @@ fn stands_behind(other: &Posting, posting: &Posting, words: Words) -> bool
 fn first_from(others: &[Posting], from: usize, posting: &Posting, least: u64) -> usize
     requires { from ≤ length others.now }
     ensures bounds { (from ≤ result) × (result ≤ length others.now) }
-    ensures before { (k : ℕ) (d : Posting) → from ≤ k → k < result → IsBefore least (slice_index_or others.now k d) posting.now }
-    ensures first { (d : Posting) → result < length others.now → ¬ IsBefore least (slice_index_or others.now result d) posting.now }
+    ensures before { (k : ℕ) (d : Posting) → from ≤ k → k < result
+        → IsBefore least (slice_index_or others.now k d) posting.now }
+    ensures first { (d : Posting) → result < length others.now
+        → ¬ IsBefore least (slice_index_or others.now result d) posting.now }
 {
     let mut at = from;
     while at < others.len() && stands_before(&others[at], posting, least) {
@@ -194,8 +199,10 @@ pub(crate) fn with_one_within(
     others: &[Posting],
     words: Words,
 ) -> Result<Vec<Posting>, AllocError>
-    ensures { IsStrictlySortedBy posting_cmp postings.now → IsStrictlySortedBy posting_cmp others.now
-        → IfOk result (λ list. ArePostings (λ p. Has postings.now p × HasWithin words others.now p) list.items) }
+    ensures { IsStrictlySortedBy posting_cmp postings.now
+        → IsStrictlySortedBy posting_cmp others.now
+        → IfOk result (λ list. ArePostings (λ p. Has postings.now p × HasWithin words others.now p)
+        list.items) }
 {
     let mut list = Vec::new(alloc);
     // Since the postings rise, the places that are looked for rise too, and the index into the others only goes forward.
@@ -218,8 +225,10 @@ pub(crate) fn with_one_behind(
     least: u64,
     greatest: u64,
 ) -> Result<Vec<Posting>, AllocError>
-    ensures { IsStrictlySortedBy posting_cmp postings.now → IsStrictlySortedBy posting_cmp others.now
-        → IfOk result (λ list. ArePostings (λ p. Has postings.now p × HasBehind least greatest others.now p) list.items) }
+    ensures { IsStrictlySortedBy posting_cmp postings.now
+        → IsStrictlySortedBy posting_cmp others.now
+        → IfOk result (λ list. ArePostings (λ p. Has postings.now p
+        × HasBehind least greatest others.now p) list.items) }
 {
     with_one_within(alloc, postings, others, Words::between(least, greatest))
 }

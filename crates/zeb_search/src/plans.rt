@@ -42,17 +42,24 @@ pub fn hits<S: Alter, L: Layout>(
     plan: &Plan,
 ) -> Result<Vec<u64>, RegFault>
     requires { HasSmallNumbers (plan_value plan.now) }
-    ensures call { Reading (state S.Store connection.old) (state S.Store connection.new) result (λ _. IsUntouched) }
-    ensures value { TellsHeld (holds_in L.format) (state S.Store connection.old) (state S.Store connection.new) result
-        (λ content hits. AreNumbers (HoldsIn (state S.Store connection.old).now.trees content database.0
+    ensures call { Reading (state S.Store connection.old) (state S.Store connection.new) result
+        (λ _. IsUntouched) }
+    ensures value { TellsHeld (holds_in L.format) (state S.Store connection.old)
+        (state S.Store connection.new) result
+        (λ content hits. AreNumbers (HoldsIn (state S.Store connection.old).now.trees content
+        database.0
         (plan_value plan.now)) hits.items) }
-    ensures honest { OnStore (state S.Store connection.old) (state S.Store connection.new) (λ trees. result ≡ Err RegFault.Damaged
+    ensures honest { OnStore (state S.Store connection.old) (state S.Store connection.new)
+        (λ trees. result ≡ Err RegFault.Damaged
         → NamesReadable trees database.0 (plan_value plan.now)
         → (content : Content) → IsStorable content → ¬ holds_in L.format trees content) }
-    ensures refused { IsReasoned (state S.Store connection.old) (state S.Store connection.new) result }
-    ensures sound { OnStore (state S.Store connection.old) (state S.Store connection.new) (λ trees. OnOk result
+    ensures refused { IsReasoned (state S.Store connection.old) (state S.Store connection.new)
+        result }
+    ensures sound { OnStore (state S.Store connection.old) (state S.Store connection.new)
+        (λ trees. OnOk result
         (ArePlanRowsSound L.format trees database.0 (plan_value plan.now))) }
-    ensures work { OnOk result (CountsByContent L.format (λ content. PlanDict L.row_work content database.0 (plan_value plan.now))
+    ensures work { OnOk result (CountsByContent L.format
+        (λ content. PlanDict L.row_work content database.0 (plan_value plan.now))
         (λ content. PlanRows L.block_rows content database.0 (plan_value plan.now))
         (state S.Store connection.old) (state S.Store connection.new) work.old work.new) }
     ensures no_work { L.row_work ≡ 0 → work.new ≡ work.old }
@@ -77,17 +84,24 @@ fn term_hits<S: Alter, L: Layout>(
     term: &TermPlan,
 ) -> Result<Vec<u64>, RegFault>
     requires { HasSmallNumber (term_plan_value term.now) }
-    ensures call { Reading (state S.Store connection.old) (state S.Store connection.new) result (λ _. IsUntouched) }
-    ensures value { TellsHeld (holds_in L.format) (state S.Store connection.old) (state S.Store connection.new) result
-        (λ content hits. AreNumbers (HoldsIn (state S.Store connection.old).now.trees content database.0
+    ensures call { Reading (state S.Store connection.old) (state S.Store connection.new) result
+        (λ _. IsUntouched) }
+    ensures value { TellsHeld (holds_in L.format) (state S.Store connection.old)
+        (state S.Store connection.new) result
+        (λ content hits. AreNumbers (HoldsIn (state S.Store connection.old).now.trees content
+        database.0
         (TermOf (term_plan_value term.now))) hits.items) }
-    ensures honest { OnStore (state S.Store connection.old) (state S.Store connection.new) (λ trees. result ≡ Err RegFault.Damaged
+    ensures honest { OnStore (state S.Store connection.old) (state S.Store connection.new)
+        (λ trees. result ≡ Err RegFault.Damaged
         → TermNamesReadable trees database.0 (term_plan_value term.now)
         → (content : Content) → IsStorable content → ¬ holds_in L.format trees content) }
-    ensures refused { IsReasoned (state S.Store connection.old) (state S.Store connection.new) result }
-    ensures sound { OnStore (state S.Store connection.old) (state S.Store connection.new) (λ trees. OnOk result
+    ensures refused { IsReasoned (state S.Store connection.old) (state S.Store connection.new)
+        result }
+    ensures sound { OnStore (state S.Store connection.old) (state S.Store connection.new)
+        (λ trees. OnOk result
         (AreTermRowsSound L.format trees database.0 (term_plan_value term.now))) }
-    ensures work { OnOk result (CountsByContent L.format (λ content. TermDict L.row_work content database.0 (term_plan_value term.now))
+    ensures work { OnOk result (CountsByContent L.format
+        (λ content. TermDict L.row_work content database.0 (term_plan_value term.now))
         (λ content. TermRows L.block_rows content database.0 (term_plan_value term.now))
         (state S.Store connection.old) (state S.Store connection.new) work.old work.new) }
     ensures no_work { L.row_work ≡ 0 → work.new ≡ work.old }
@@ -179,12 +193,14 @@ fn record_hits<S: Alter>(
     number: u64,
 ) -> Result<Vec<u64>, RegFault>
     requires { number < 10 ^ 9 }
-    ensures call { Reading (state S.Store connection.old) (state S.Store connection.new) result (λ _. IsUntouched) }
+    ensures call { Reading (state S.Store connection.old) (state S.Store connection.new) result
+        (λ _. IsUntouched) }
     ensures value { Tells (state S.Store connection.old) (state S.Store connection.new) result
         (λ trees hits. AreNumbers (λ n. (n ≡ number) × is_kept_in trees database.0 n) hits.items) }
     ensures honest { IsHonest (state S.Store connection.old) (state S.Store connection.new) result
         (λ trees. AreReadableIdents trees database.0 (pos number)) }
-    ensures refused { IsReasoned (state S.Store connection.old) (state S.Store connection.new) result }
+    ensures refused { IsReasoned (state S.Store connection.old) (state S.Store connection.new)
+        result }
 {
     let Some(_ident) = ident_of(connection, database, number)? else {
         return Ok(Vec::new(alloc));
@@ -201,16 +217,25 @@ fn near_hits<S: Alter, L: Layout>(
     plan: &NearPlan,
 ) -> Result<Vec<u64>, RegFault>
     requires { plan.now.separation.distance < 10 ^ 9 }
-    ensures call { Reading (state S.Store connection.old) (state S.Store connection.new) result (λ _. IsUntouched) }
-    ensures value { TellsHeld (holds_in L.format) (state S.Store connection.old) (state S.Store connection.new) result
-        (λ content hits. AreNumbers (HoldsIn (state S.Store connection.old).now.trees content database.0
+    ensures call { Reading (state S.Store connection.old) (state S.Store connection.new) result
+        (λ _. IsUntouched) }
+    ensures value { TellsHeld (holds_in L.format) (state S.Store connection.old)
+        (state S.Store connection.new) result
+        (λ content hits. AreNumbers (HoldsIn (state S.Store connection.old).now.trees content
+        database.0
         (NearOf plan.now.index plan.now.left plan.now.right plan.now.separation)) hits.items) }
-    ensures honest { IsHonestStorable (holds_in L.format) (state S.Store connection.old) (state S.Store connection.new) result }
-    ensures refused { IsReasoned (state S.Store connection.old) (state S.Store connection.new) result }
-    ensures sound { OnStore (state S.Store connection.old) (state S.Store connection.new) (λ trees. OnOk result
-        (AreWordsSound L.format trees database.0 plan.now.index (plan.now.left ∷ plan.now.right ∷ []))) }
-    ensures work { OnOk result (CountedWords L.format L.row_work L.block_rows database.0 plan.now.index
-        (plan.now.left ∷ plan.now.right ∷ []) (state S.Store connection.old) (state S.Store connection.new) work.old work.new) }
+    ensures honest { IsHonestStorable (holds_in L.format) (state S.Store connection.old)
+        (state S.Store connection.new) result }
+    ensures refused { IsReasoned (state S.Store connection.old) (state S.Store connection.new)
+        result }
+    ensures sound { OnStore (state S.Store connection.old) (state S.Store connection.new)
+        (λ trees. OnOk result
+        (AreWordsSound L.format trees database.0 plan.now.index
+        (plan.now.left ∷ plan.now.right ∷ []))) }
+    ensures work { OnOk result (CountedWords L.format L.row_work L.block_rows database.0
+        plan.now.index
+        (plan.now.left ∷ plan.now.right ∷ []) (state S.Store connection.old)
+        (state S.Store connection.new) work.old work.new) }
     ensures no_work { L.row_work ≡ 0 → work.new ≡ work.old }
 {
     let of = IndexOf {
@@ -224,6 +249,7 @@ fn near_hits<S: Alter, L: Layout>(
 
 /// A search whose plan names its entries, by patterns without a star and by numbers that are asked for as they are, reads no row of `dict`.
 pub fn named_entries_read_no_terms()
-    ensures { (row_work : ℕ) (content : Content) (db : ℤ) (plan : PlanValue) (n : ℕ) → PlanDict row_work content db plan n
+    ensures { (row_work : ℕ) (content : Content) (db : ℤ) (plan : PlanValue) (n : ℕ)
+        → PlanDict row_work content db plan n
         → NamesEntries plan → n ≡ 0 }
 {}

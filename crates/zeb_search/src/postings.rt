@@ -64,14 +64,21 @@ fn list_of_run<S: Alter, L: Layout>(
     run: &[Key],
 ) -> Result<Vec<Posting>, RegFault>
     requires { 1 ≤ length run.now }
-    ensures call { Reading (state S.Store connection.old) (state S.Store connection.new) result (λ _. IsUntouched) }
-    ensures value { TellsHeld (holds_in L.format) (state S.Store connection.old) (state S.Store connection.new) result
-        (λ content list. AreRun content of run.now → (p : Posting) → Has list.items p ↔ IsPostingOf content of.db.0 run.now p) }
-    ensures honest { IsHonestStorable (holds_in L.format) (state S.Store connection.old) (state S.Store connection.new) result }
-    ensures refused { IsReasoned (state S.Store connection.old) (state S.Store connection.new) result }
-    ensures spelled { OnStore (state S.Store connection.old) (state S.Store connection.new) (λ trees. OnOk result
+    ensures call { Reading (state S.Store connection.old) (state S.Store connection.new) result
+        (λ _. IsUntouched) }
+    ensures value { TellsHeld (holds_in L.format) (state S.Store connection.old)
+        (state S.Store connection.new) result
+        (λ content list. AreRun content of run.now → (p : Posting)
+        → Has list.items p ↔ IsPostingOf content of.db.0 run.now p) }
+    ensures honest { IsHonestStorable (holds_in L.format) (state S.Store connection.old)
+        (state S.Store connection.new) result }
+    ensures refused { IsReasoned (state S.Store connection.old) (state S.Store connection.new)
+        result }
+    ensures spelled { OnStore (state S.Store connection.old) (state S.Store connection.new)
+        (λ trees. OnOk result
         (AreKeysIn of run.now → AreKeyListsSound L.format trees of.db.0 run.now)) }
-    ensures work { OnOk result (OnStore (state S.Store connection.old) (state S.Store connection.new) (λ trees.
+    ensures work { OnOk result (OnStore (state S.Store connection.old)
+        (state S.Store connection.new) (λ trees.
         (content : Content) → holds_in L.format trees content → AreRun content of run.now
         → CountsAtMost 0 (rows_under L.block_rows content of.db.0 run.now) work.old work.new)) }
     ensures no_work { L.row_work ≡ 0 → work.new ≡ work.old }
@@ -99,17 +106,25 @@ fn list_found<S: Alter, L: Layout>(
     of: RegisterOf,
     found: &FoundKeys,
 ) -> Result<Vec<Posting>, RegFault>
-    ensures call { Reading (state S.Store connection.old) (state S.Store connection.new) result (λ _. IsUntouched) }
-    ensures value { TellsHeld (holds_in L.format) (state S.Store connection.old) (state S.Store connection.new) result
+    ensures call { Reading (state S.Store connection.old) (state S.Store connection.new) result
+        (λ _. IsUntouched) }
+    ensures value { TellsHeld (holds_in L.format) (state S.Store connection.old)
+        (state S.Store connection.new) result
         (λ content list. AreFound content of found.now
         → (p : Posting) → Has list.items p ↔ IsPostingOf content of.db.0 found.now.keys.items p) }
-    ensures honest { IsHonestStorable (holds_in L.format) (state S.Store connection.old) (state S.Store connection.new) result }
-    ensures refused { IsReasoned (state S.Store connection.old) (state S.Store connection.new) result }
-    ensures spelled { OnStore (state S.Store connection.old) (state S.Store connection.new) (λ trees. OnOk result
-        (AreKeysIn of found.now.keys.items → AreKeyListsSound L.format trees of.db.0 found.now.keys.items)) }
-    ensures work { OnOk result (OnStore (state S.Store connection.old) (state S.Store connection.new) (λ trees.
+    ensures honest { IsHonestStorable (holds_in L.format) (state S.Store connection.old)
+        (state S.Store connection.new) result }
+    ensures refused { IsReasoned (state S.Store connection.old) (state S.Store connection.new)
+        result }
+    ensures spelled { OnStore (state S.Store connection.old) (state S.Store connection.new)
+        (λ trees. OnOk result
+        (AreKeysIn of found.now.keys.items → AreKeyListsSound L.format trees of.db.0
+        found.now.keys.items)) }
+    ensures work { OnOk result (OnStore (state S.Store connection.old)
+        (state S.Store connection.new) (λ trees.
         (content : Content) → holds_in L.format trees content → AreFound content of found.now
-        → CountsAtMost 0 (rows_under L.block_rows content of.db.0 found.now.keys.items) work.old work.new)) }
+        → CountsAtMost 0 (rows_under L.block_rows content of.db.0 found.now.keys.items) work.old
+        work.new)) }
     ensures no_work { L.row_work ≡ 0 → work.new ≡ work.old }
 {
     let most = run_of(found);
@@ -132,16 +147,25 @@ pub(crate) fn numbers_wanted<S: Alter, L: Layout>(
     of: RegisterOf,
     wanted: Wanted<'_>,
 ) -> Result<Vec<u64>, RegFault>
-    ensures call { Reading (state S.Store connection.old) (state S.Store connection.new) result (λ _. IsUntouched) }
-    ensures value { TellsHeld (holds_in L.format) (state S.Store connection.old) (state S.Store connection.new) result
-        (λ content hits. AreNumbers (HasEntry (posted content of.db.0) of.index of.register (IsWanted wanted.entry)) hits.items) }
-    ensures honest { IsHonestStorable (holds_in L.format) (state S.Store connection.old) (state S.Store connection.new) result }
-    ensures refused { IsReasoned (state S.Store connection.old) (state S.Store connection.new) result }
-    ensures sound { OnStore (state S.Store connection.old) (state S.Store connection.new) (λ trees. OnOk result
-        (AreEntriesSound L.format trees of.db.0 (NamesEntry wanted.entry) of.index of.register (IsWanted wanted.entry))) }
+    ensures call { Reading (state S.Store connection.old) (state S.Store connection.new) result
+        (λ _. IsUntouched) }
+    ensures value { TellsHeld (holds_in L.format) (state S.Store connection.old)
+        (state S.Store connection.new) result
+        (λ content hits. AreNumbers (HasEntry (posted content of.db.0) of.index of.register
+        (IsWanted wanted.entry)) hits.items) }
+    ensures honest { IsHonestStorable (holds_in L.format) (state S.Store connection.old)
+        (state S.Store connection.new) result }
+    ensures refused { IsReasoned (state S.Store connection.old) (state S.Store connection.new)
+        result }
+    ensures sound { OnStore (state S.Store connection.old) (state S.Store connection.new)
+        (λ trees. OnOk result
+        (AreEntriesSound L.format trees of.db.0 (NamesEntry wanted.entry) of.index of.register
+        (IsWanted wanted.entry))) }
     ensures work { OnOk result (CountsByContent L.format
-        (λ content. EntryDict L.row_work content of.db.0 (NamesEntry wanted.entry) of.index of.register)
-        (λ content. EntryRows L.block_rows content of.db.0 of.index of.register (IsWanted wanted.entry))
+        (λ content. EntryDict L.row_work content of.db.0 (NamesEntry wanted.entry) of.index
+        of.register)
+        (λ content. EntryRows L.block_rows content of.db.0 of.index of.register
+        (IsWanted wanted.entry))
         (state S.Store connection.old) (state S.Store connection.new) work.old work.new) }
     ensures no_work { L.row_work ≡ 0 → work.new ≡ work.old }
 {
@@ -158,14 +182,22 @@ pub(crate) fn places_of_words<S: Alter, L: Layout>(
     of: IndexOf,
     pattern: &Pattern,
 ) -> Result<Vec<Posting>, RegFault>
-    ensures call { Reading (state S.Store connection.old) (state S.Store connection.new) result (λ _. IsUntouched) }
-    ensures value { TellsHeld (holds_in L.format) (state S.Store connection.old) (state S.Store connection.new) result
-        (λ content list. ArePostings (λ p. HasWord (posted content of.db.0) of.index pattern.now p.sysno p.seq p.pos) list.items) }
-    ensures honest { IsHonestStorable (holds_in L.format) (state S.Store connection.old) (state S.Store connection.new) result }
-    ensures refused { IsReasoned (state S.Store connection.old) (state S.Store connection.new) result }
-    ensures sound { OnStore (state S.Store connection.old) (state S.Store connection.new) (λ trees. OnOk result
-        (AreEntriesSound L.format trees of.db.0 (HasNoStar pattern.now) of.index Register.Word (Fits pattern.now))) }
-    ensures work { OnOk result (CountedMatches L.format L.row_work L.block_rows of.db.0 of.index pattern.now
+    ensures call { Reading (state S.Store connection.old) (state S.Store connection.new) result
+        (λ _. IsUntouched) }
+    ensures value { TellsHeld (holds_in L.format) (state S.Store connection.old)
+        (state S.Store connection.new) result
+        (λ content list. ArePostings (λ p. HasWord (posted content of.db.0) of.index pattern.now
+        p.sysno p.seq p.pos) list.items) }
+    ensures honest { IsHonestStorable (holds_in L.format) (state S.Store connection.old)
+        (state S.Store connection.new) result }
+    ensures refused { IsReasoned (state S.Store connection.old) (state S.Store connection.new)
+        result }
+    ensures sound { OnStore (state S.Store connection.old) (state S.Store connection.new)
+        (λ trees. OnOk result
+        (AreEntriesSound L.format trees of.db.0 (HasNoStar pattern.now) of.index Register.Word
+        (Fits pattern.now))) }
+    ensures work { OnOk result (CountedMatches L.format L.row_work L.block_rows of.db.0 of.index
+        pattern.now
         (state S.Store connection.old) (state S.Store connection.new) work.old work.new) }
     ensures no_work { L.row_work ≡ 0 → work.new ≡ work.old }
 {

@@ -59,7 +59,8 @@ pub(crate) fn text_above(alloc: Global, text: &str) -> Result<String, AllocError
 
 /// A text before which no key stands of a number in the relation to this one.
 fn first_key(alloc: Global, relation: Relation, number: u64) -> Result<String, AllocError>
-    ensures { IfOk result (λ start. (term : List ℕ) → IsNumberAt relation number term → ¬ Precedes term (string_bytes start)) }
+    ensures { IfOk result (λ start. (term : List ℕ) → IsNumberAt relation number term
+        → ¬ Precedes term (string_bytes start)) }
 {
     let least = number.min(KEYS_END - 1);
     match relation {
@@ -71,7 +72,8 @@ fn first_key(alloc: Global, relation: Relation, number: u64) -> Result<String, A
 
 /// A text before which no text stands so to this one.
 fn first_text(alloc: Global, order: Order, text: &str) -> Result<String, AllocError>
-    ensures { IfOk result (λ start. (term : List ℕ) → StandsInOrder order term text.now → ¬ Precedes term (string_bytes start)) }
+    ensures { IfOk result (λ start. (term : List ℕ) → StandsInOrder order term text.now
+        → ¬ Precedes term (string_bytes start)) }
 {
     match order {
         Order::Less | Order::LessOrEqual => Ok(String::new(alloc)),
@@ -99,7 +101,8 @@ fn is_last_number(relation: Relation, value: u64, number: u64) -> bool
 
 /// Whether no text behind the first one stands so to the other.
 fn is_last_text(order: Order, text: &str, other: &str) -> bool
-    ensures { IsTrue result → (behind : List ℕ) → Precedes text.now behind → ¬ StandsInOrder order behind other.now }
+    ensures { IsTrue result → (behind : List ℕ) → Precedes text.now behind
+        → ¬ StandsInOrder order behind other.now }
 {
     match order {
         Order::Less | Order::LessOrEqual => text.cmp(other).is_ge(),

@@ -45,7 +45,8 @@ impl Wanted<'_> {
 
     /// The one text that is asked for, or `None` where it may be another one or several.
     pub(crate) fn only_text(&self, alloc: Global) -> Result<Option<Term>, AllocError>
-        ensures text { IfOk result (λ found. IfSome found (λ text. (term : List ℕ) → IsWanted self.now term ↔ (term ≡ text))) }
+        ensures text { IfOk result (λ found. IfSome found (λ text. (term : List ℕ)
+            → IsWanted self.now term ↔ (term ≡ text))) }
         ensures named { IfOk result (λ found. IfSome found (λ _. NamesEntry self.now)) }
         ensures none { IfOk result (λ found. IfNone found (¬ NamesEntry self.now)) }
     {
@@ -62,7 +63,8 @@ impl Wanted<'_> {
 
 /// The one key of a number in the relation to this one, or `None` where there is none or may be several.
 fn only_key(alloc: Global, relation: Relation, number: u64) -> Result<Option<Term>, AllocError>
-    ensures text { IfOk result (λ found. IfSome found (λ text. (term : List ℕ) → IsNumberAt relation number term ↔ (term ≡ text))) }
+    ensures text { IfOk result (λ found. IfSome found (λ text. (term : List ℕ)
+        → IsNumberAt relation number term ↔ (term ≡ text))) }
     ensures named { IfOk result (λ found. IfSome found (λ _. IsOneKey relation number)) }
     ensures none { IfOk result (λ found. IfNone found (¬ IsOneKey relation number)) }
 {

@@ -35,14 +35,22 @@ fn word_hits<S: Alter, L: Layout>(
     of: IndexOf,
     pattern: &Pattern,
 ) -> Result<Vec<u64>, RegFault>
-    ensures call { Reading (state S.Store connection.old) (state S.Store connection.new) result (λ _. IsUntouched) }
-    ensures value { TellsHeld (holds_in L.format) (state S.Store connection.old) (state S.Store connection.new) result
-        (λ content hits. AreNumbers (HasMatch (posted content of.db.0) of.index pattern.now) hits.items) }
-    ensures honest { IsHonestStorable (holds_in L.format) (state S.Store connection.old) (state S.Store connection.new) result }
-    ensures refused { IsReasoned (state S.Store connection.old) (state S.Store connection.new) result }
-    ensures sound { OnStore (state S.Store connection.old) (state S.Store connection.new) (λ trees. OnOk result
-        (AreEntriesSound L.format trees of.db.0 (HasNoStar pattern.now) of.index Register.Word (Fits pattern.now))) }
-    ensures work { OnOk result (CountedMatches L.format L.row_work L.block_rows of.db.0 of.index pattern.now
+    ensures call { Reading (state S.Store connection.old) (state S.Store connection.new) result
+        (λ _. IsUntouched) }
+    ensures value { TellsHeld (holds_in L.format) (state S.Store connection.old)
+        (state S.Store connection.new) result
+        (λ content hits. AreNumbers (HasMatch (posted content of.db.0) of.index pattern.now)
+        hits.items) }
+    ensures honest { IsHonestStorable (holds_in L.format) (state S.Store connection.old)
+        (state S.Store connection.new) result }
+    ensures refused { IsReasoned (state S.Store connection.old) (state S.Store connection.new)
+        result }
+    ensures sound { OnStore (state S.Store connection.old) (state S.Store connection.new)
+        (λ trees. OnOk result
+        (AreEntriesSound L.format trees of.db.0 (HasNoStar pattern.now) of.index Register.Word
+        (Fits pattern.now))) }
+    ensures work { OnOk result (CountedMatches L.format L.row_work L.block_rows of.db.0 of.index
+        pattern.now
         (state S.Store connection.old) (state S.Store connection.new) work.old work.new) }
     ensures no_work { L.row_work ≡ 0 → work.new ≡ work.old }
 {
@@ -62,15 +70,22 @@ pub(crate) fn any_word_hits<S: Alter, L: Layout>(
     of: IndexOf,
     patterns: &[Pattern],
 ) -> Result<Vec<u64>, RegFault>
-    ensures call { Reading (state S.Store connection.old) (state S.Store connection.new) result (λ _. IsUntouched) }
-    ensures value { TellsHeld (holds_in L.format) (state S.Store connection.old) (state S.Store connection.new) result
-        (λ content hits. AreNumbers (HoldsIn (state S.Store connection.old).now.trees content of.db.0
+    ensures call { Reading (state S.Store connection.old) (state S.Store connection.new) result
+        (λ _. IsUntouched) }
+    ensures value { TellsHeld (holds_in L.format) (state S.Store connection.old)
+        (state S.Store connection.new) result
+        (λ content hits. AreNumbers (HoldsIn (state S.Store connection.old).now.trees content
+        of.db.0
         (TermOf (AnyWordOf of.index patterns.now))) hits.items) }
-    ensures honest { IsHonestStorable (holds_in L.format) (state S.Store connection.old) (state S.Store connection.new) result }
-    ensures refused { IsReasoned (state S.Store connection.old) (state S.Store connection.new) result }
-    ensures sound { OnStore (state S.Store connection.old) (state S.Store connection.new) (λ trees. OnOk result
+    ensures honest { IsHonestStorable (holds_in L.format) (state S.Store connection.old)
+        (state S.Store connection.new) result }
+    ensures refused { IsReasoned (state S.Store connection.old) (state S.Store connection.new)
+        result }
+    ensures sound { OnStore (state S.Store connection.old) (state S.Store connection.new)
+        (λ trees. OnOk result
         (AreWordsSound L.format trees of.db.0 of.index patterns.now)) }
-    ensures work { OnOk result (CountedWords L.format L.row_work L.block_rows of.db.0 of.index patterns.now
+    ensures work { OnOk result (CountedWords L.format L.row_work L.block_rows of.db.0 of.index
+        patterns.now
         (state S.Store connection.old) (state S.Store connection.new) work.old work.new) }
     ensures no_work { L.row_work ≡ 0 → work.new ≡ work.old }
 {
@@ -90,15 +105,22 @@ pub(crate) fn all_words_hits<S: Alter, L: Layout>(
     of: IndexOf,
     patterns: &[Pattern],
 ) -> Result<Vec<u64>, RegFault>
-    ensures call { Reading (state S.Store connection.old) (state S.Store connection.new) result (λ _. IsUntouched) }
-    ensures value { TellsHeld (holds_in L.format) (state S.Store connection.old) (state S.Store connection.new) result
-        (λ content hits. AreNumbers (HoldsIn (state S.Store connection.old).now.trees content of.db.0
+    ensures call { Reading (state S.Store connection.old) (state S.Store connection.new) result
+        (λ _. IsUntouched) }
+    ensures value { TellsHeld (holds_in L.format) (state S.Store connection.old)
+        (state S.Store connection.new) result
+        (λ content hits. AreNumbers (HoldsIn (state S.Store connection.old).now.trees content
+        of.db.0
         (TermOf (AllWordsOf of.index patterns.now))) hits.items) }
-    ensures honest { IsHonestStorable (holds_in L.format) (state S.Store connection.old) (state S.Store connection.new) result }
-    ensures refused { IsReasoned (state S.Store connection.old) (state S.Store connection.new) result }
-    ensures sound { OnStore (state S.Store connection.old) (state S.Store connection.new) (λ trees. OnOk result
+    ensures honest { IsHonestStorable (holds_in L.format) (state S.Store connection.old)
+        (state S.Store connection.new) result }
+    ensures refused { IsReasoned (state S.Store connection.old) (state S.Store connection.new)
+        result }
+    ensures sound { OnStore (state S.Store connection.old) (state S.Store connection.new)
+        (λ trees. OnOk result
         (AreWordsSound L.format trees of.db.0 of.index patterns.now)) }
-    ensures work { OnOk result (CountedWords L.format L.row_work L.block_rows of.db.0 of.index patterns.now
+    ensures work { OnOk result (CountedWords L.format L.row_work L.block_rows of.db.0 of.index
+        patterns.now
         (state S.Store connection.old) (state S.Store connection.new) work.old work.new) }
     ensures no_work { L.row_work ≡ 0 → work.new ≡ work.old }
 {
@@ -123,15 +145,22 @@ pub(crate) fn phrase_hits<S: Alter, L: Layout>(
     patterns: &[Pattern],
     first: bool,
 ) -> Result<Vec<u64>, RegFault>
-    ensures call { Reading (state S.Store connection.old) (state S.Store connection.new) result (λ _. IsUntouched) }
-    ensures value { TellsHeld (holds_in L.format) (state S.Store connection.old) (state S.Store connection.new) result
-        (λ content hits. AreNumbers (HoldsIn (state S.Store connection.old).now.trees content of.db.0
+    ensures call { Reading (state S.Store connection.old) (state S.Store connection.new) result
+        (λ _. IsUntouched) }
+    ensures value { TellsHeld (holds_in L.format) (state S.Store connection.old)
+        (state S.Store connection.new) result
+        (λ content hits. AreNumbers (HoldsIn (state S.Store connection.old).now.trees content
+        of.db.0
         (TermOf (PhraseOf of.index patterns.now first))) hits.items) }
-    ensures honest { IsHonestStorable (holds_in L.format) (state S.Store connection.old) (state S.Store connection.new) result }
-    ensures refused { IsReasoned (state S.Store connection.old) (state S.Store connection.new) result }
-    ensures sound { OnStore (state S.Store connection.old) (state S.Store connection.new) (λ trees. OnOk result
+    ensures honest { IsHonestStorable (holds_in L.format) (state S.Store connection.old)
+        (state S.Store connection.new) result }
+    ensures refused { IsReasoned (state S.Store connection.old) (state S.Store connection.new)
+        result }
+    ensures sound { OnStore (state S.Store connection.old) (state S.Store connection.new)
+        (λ trees. OnOk result
         (AreWordsSound L.format trees of.db.0 of.index patterns.now)) }
-    ensures work { OnOk result (CountedWords L.format L.row_work L.block_rows of.db.0 of.index patterns.now
+    ensures work { OnOk result (CountedWords L.format L.row_work L.block_rows of.db.0 of.index
+        patterns.now
         (state S.Store connection.old) (state S.Store connection.new) work.old work.new) }
     ensures no_work { L.row_work ≡ 0 → work.new ≡ work.old }
 {
@@ -167,15 +196,21 @@ fn places_of_phrase<S: Alter, L: Layout>(
     of: IndexOf,
     patterns: &[Pattern],
 ) -> Result<Vec<Posting>, RegFault>
-    ensures call { Reading (state S.Store connection.old) (state S.Store connection.new) result (λ _. IsUntouched) }
-    ensures value { TellsHeld (holds_in L.format) (state S.Store connection.old) (state S.Store connection.new) result
+    ensures call { Reading (state S.Store connection.old) (state S.Store connection.new) result
+        (λ _. IsUntouched) }
+    ensures value { TellsHeld (holds_in L.format) (state S.Store connection.old)
+        (state S.Store connection.new) result
         (λ content places. ArePostings (λ p. (patterns.now ≢ [])
         × HasWords (posted content of.db.0) of.index patterns.now p.sysno p.seq p.pos) places.items) }
-    ensures honest { IsHonestStorable (holds_in L.format) (state S.Store connection.old) (state S.Store connection.new) result }
-    ensures refused { IsReasoned (state S.Store connection.old) (state S.Store connection.new) result }
-    ensures sound { OnStore (state S.Store connection.old) (state S.Store connection.new) (λ trees. OnOk result
+    ensures honest { IsHonestStorable (holds_in L.format) (state S.Store connection.old)
+        (state S.Store connection.new) result }
+    ensures refused { IsReasoned (state S.Store connection.old) (state S.Store connection.new)
+        result }
+    ensures sound { OnStore (state S.Store connection.old) (state S.Store connection.new)
+        (λ trees. OnOk result
         (AreWordsSound L.format trees of.db.0 of.index patterns.now)) }
-    ensures work { OnOk result (CountedWords L.format L.row_work L.block_rows of.db.0 of.index patterns.now
+    ensures work { OnOk result (CountedWords L.format L.row_work L.block_rows of.db.0 of.index
+        patterns.now
         (state S.Store connection.old) (state S.Store connection.new) work.old work.new) }
     ensures no_work { L.row_work ≡ 0 → work.new ≡ work.old }
 {

@@ -6,8 +6,8 @@ ghost use Rattle.std.specs.Str.Parse.{digits_value};
 ghost use Rattle.zeb_text.specs.Words.{runs_of};
 ghost use Rattle.zeb_text.specs.Numbers.{numbers_of};
 
-/// The longest run of digits that is kept.
-const LONGEST: usize = 18;
+/// The most digits of a number that has a key, and those of each key.
+pub const KEY_DIGITS: usize = 18;
 
 /// The numbers of a text, as [`numbers`](crate::numbers) finds them. It takes no memory.
 #[derive(Drop)]
@@ -40,7 +40,7 @@ impl<'a> Iterator for Numbers<'a> {
     fn next(&mut self) -> Option<u64> {
         while let Some((digits, rest)) = first_run(self.rest) {
             self.rest = rest;
-            if digits.len() <= LONGEST {
+            if digits.len() <= KEY_DIGITS {
                 return Some(value_of(digits));
             }
         }
@@ -82,7 +82,7 @@ fn front_len(text: &[u8], are_digits: bool) -> usize
 }
 
 fn value_of(digits: &[u8]) -> u64
-    requires short { length digits.now ≤ LONGEST }
+    requires short { length digits.now ≤ KEY_DIGITS }
     requires digits { AllPass is_ascii_digit digits.now }
     ensures { result ≡ digits_value 10 digits.now }
 {

@@ -66,6 +66,7 @@ pub fn joined_patterns_match_joined_texts()
 {}
 
 /// Every number of a text is below 10^18, so that it has a key.
+#[tactic(auto, using(crate::proofs::NumberBounds::numbers_below))]
 pub fn numbers_have_keys()
     ensures { (text : List ℕ) → All (λ number. number < 10 ^ 18) (numbers_of text) }
 {}
@@ -81,6 +82,7 @@ pub fn keys_rise_with_numbers()
 
 /// Every text of 18 ASCII digits is the key of a number below 10^18, so that
 /// [`number_of_key`](crate::number_of_key) gives `None` for no such text.
+#[tactic(auto, using(crate::proofs::KeyLemmas::key_of_digits))]
 pub fn eighteen_digits_are_a_key()
     ensures { (text : List ℕ) → length text ≡ 18 → AllPass is_ascii_digit text →
         (number : ℕ) × (number < 10 ^ 18) × (number_key number ≡ text) }
@@ -90,11 +92,11 @@ pub fn eighteen_digits_are_a_key()
 /// what U+034F has parted puts its marks (U+0591, U+05B0) in order, a text is cut into its words, and a run of 19 digits is no
 /// number.
 pub fn definitions_at_examples()
-    ensures fold { folded (67 ∷ 65 ∷ 70 ∷ 201 ∷ []) ≡ codes "cafe" }
-    ensures decomposed { folded (codes "Cafe" ++ 769 ∷ []) ≡ codes "cafe" }
-    ensures sharp_s { folded (codes "Stra" ++ 223 ∷ codes "e") ≡ codes "strasse" }
-    ensures parted { folded (97 ∷ 1425 ∷ 847 ∷ 1456 ∷ []) ≡ 97 ∷ 1425 ∷ 1456 ∷ [] }
-    ensures again { folded (97 ∷ 1425 ∷ 1456 ∷ []) ≡ 97 ∷ 1456 ∷ 1425 ∷ [] }
+    ensures fold { (folded (67 ∷ 65 ∷ 70 ∷ 201 ∷ []) ≡ codes "cafe")
+        × (folded (codes "Cafe" ++ 769 ∷ []) ≡ codes "cafe")
+        × (folded (codes "Stra" ++ 223 ∷ codes "e") ≡ codes "strasse") }
+    ensures twice { (folded (97 ∷ 1425 ∷ 847 ∷ 1456 ∷ []) ≡ 97 ∷ 1425 ∷ 1456 ∷ [])
+        × (folded (97 ∷ 1425 ∷ 1456 ∷ []) ≡ 97 ∷ 1456 ∷ 1425 ∷ []) }
     ensures words { words_of (codes "or, the whale /")
         ≡ codes "or" ∷ codes "the" ∷ codes "whale" ∷ [] }
     ensures numbers { numbers_of (codes "c1851, 007, 1234567890123456789") ≡ 1851 ∷ 7 ∷ [] }
@@ -106,11 +108,11 @@ pub fn definitions_at_examples()
 pub fn patterns_at_examples()
     ensures right { patterns_of Cut.Right Spread.Ends (codes "Moby d")
         ≡ literal (codes "moby") ∷ (literal (codes "d") ++ Star ∷ []) ∷ [] }
-    ensures hash { patterns_of Cut.Hash Spread.Ends (codes "m#y")
-        ≡ (Char 109 ∷ Star ∷ Char 121 ∷ []) ∷ [] }
-    ensures separator { patterns_of Cut.None Spread.Ends (codes "m#y")
-        ≡ literal (codes "m") ∷ literal (codes "y") ∷ [] }
-    ensures star { Matches (Char 109 ∷ Star ∷ Char 121 ∷ []) (codes "moby") }
-    ensures empty { Matches (Char 109 ∷ Star ∷ Char 121 ∷ []) (codes "my") }
+    ensures hash { (patterns_of Cut.Hash Spread.Ends (codes "m#y")
+        ≡ (Char 109 ∷ Star ∷ Char 121 ∷ []) ∷ [])
+        × (patterns_of Cut.None Spread.Ends (codes "m#y")
+        ≡ literal (codes "m") ∷ literal (codes "y") ∷ []) }
+    ensures star { Matches (Char 109 ∷ Star ∷ Char 121 ∷ []) (codes "moby")
+        × Matches (Char 109 ∷ Star ∷ Char 121 ∷ []) (codes "my") }
     ensures other { ¬ (Matches (Char 109 ∷ Star ∷ Char 121 ∷ []) (codes "m")) }
 {}

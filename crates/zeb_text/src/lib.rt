@@ -10,7 +10,7 @@ mod patterns;
 mod truncation;
 
 pub use crate::cutting::{join, words};
-pub use crate::digits::Numbers;
+pub use crate::digits::{KEY_DIGITS, Numbers};
 pub use crate::folding::fold;
 pub use crate::laws::{
     definitions_at_examples, eighteen_digits_are_a_key, folding_joins_matches,

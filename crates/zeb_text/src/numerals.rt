@@ -3,11 +3,8 @@ ghost use Rattle.std.specs.Prelude.{◌≡◌, ◌^◌, ◌<◌, ◌≢◌, ℕ,
 ghost use Rattle.zeb_text.specs.Numbers.{number_key, numbers_of};
 ghost use Rattle.zeb_text.specs.NumbersLeft.{numbers_left};
 
-use crate::digits::Numbers;
+use crate::digits::{KEY_DIGITS, Numbers};
 use std::alloc::{AllocError, Global};
-
-/// How many digits a key has.
-const KEY_DIGITS: usize = 18;
 
 /// The numbers of the text in order: the values of the maximal runs of ASCII digits in the text as it is, not folded. A
 /// run of more than 18 digits is passed over as a whole. No memory is taken.

@@ -91,7 +91,8 @@ fn with_options<'a>(alloc: Global) -> Result<Command<'a>, AllocError>
 
 /// The option of this letter with a value.
 fn option<'a>(alloc: Global, name: &'a str, letter: char, value: &'a str, help: &'a str) -> Arg<'a>
-    ensures rule { rule_of result ≡ record (new_rule name.entry.now) { short = Some letter; value_names = 1 } }
+    ensures rule { rule_of result ≡ record (new_rule name.entry.now)
+        { short = Some letter; value_names = 1 } }
     ensures local { result.global ≡ false }
 {
     Arg::new(alloc, name)
@@ -200,7 +201,12 @@ fn scanning<'a>(alloc: Global) -> Result<Command<'a>, AllocError>
 /// The option `--name` with a whole number.
 fn number<'a>(alloc: Global, name: &'a str, parser: ValueParser<'a>, help: &'a str) -> Arg<'a>
     ensures rule { rule_of result
-        ≡ record (new_rule name.entry.now) { long = Some name.entry.now; value_names = 1; parser = Some parser.entry } }
+        ≡ record (new_rule name.entry.now) {
+          long = Some name.entry.now;
+          value_names = 1;
+          parser =
+              Some parser.entry;
+        } }
     ensures local { result.global ≡ false }
 {
     Arg::new(alloc, name)

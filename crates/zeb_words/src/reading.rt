@@ -22,8 +22,10 @@ const DATABASE: &str = "Default";
 
 /// What the program's options and its command name.
 pub(crate) fn words_of(alloc: Global, matches: &ArgMatches<'_>) -> Result<Words, Usage>
-    ensures value { IfOk result (IsReadFrom (rows_of (found_of matches.now)) (subcommand_rows_of matches.now)) }
-    ensures own { IfErr result (IsOwn (AreBad (rows_of (found_of matches.now)) (subcommand_rows_of matches.now))) }
+    ensures value { IfOk result (IsReadFrom (rows_of (found_of matches.now))
+        (subcommand_rows_of matches.now)) }
+    ensures own { IfErr result (IsOwn (AreBad (rows_of (found_of matches.now))
+        (subcommand_rows_of matches.now))) }
 {
     let config = String::from_str(alloc, text_of(matches, "config", CONFIG))?;
     let database = name_of(text_of(matches, "database", DATABASE))?;
@@ -94,15 +96,18 @@ fn name_of(text: &str) -> Result<DbName, Usage>
 
 /// The name of `create` and `drop`.
 fn named(given: &ArgMatches<'_>) -> Result<DbName, Usage>
-    ensures value { IfOk result (λ name. name_bytes name ≡ text_or (codes "name") [] (rows_of (found_of given.now))) }
-    ensures own { IfErr result (IsOwn (IsDatabaseName (text_or (codes "name") [] (rows_of (found_of given.now))) → ⊥)) }
+    ensures value { IfOk result (λ name. name_bytes name ≡ text_or (codes "name") []
+        (rows_of (found_of given.now))) }
+    ensures own { IfErr result (IsOwn (IsDatabaseName
+        (text_or (codes "name") [] (rows_of (found_of given.now))) → ⊥)) }
 {
     name_of(text_of(given, "name", ""))
 }
 
 /// The paths of `update`, `delete` and `adelete`.
 fn paths_of(alloc: Global, given: &ArgMatches<'_>) -> Result<Vec<String>, AllocError>
-    ensures { IfOk result (λ paths. path_texts paths.items ≡ unwrap_or (all_of (codes "path") (rows_of (found_of given.now))) []) }
+    ensures { IfOk result (λ paths. path_texts paths.items ≡ unwrap_or
+        (all_of (codes "path") (rows_of (found_of given.now))) []) }
 {
     match given.get_strs("path") {
         Some(texts) => texts_of(alloc, texts),
@@ -123,7 +128,8 @@ fn texts_of(alloc: Global, texts: &[&str]) -> Result<Vec<String>, AllocError>
 
 /// The query of `find` and `scan`.
 fn query_of(alloc: Global, given: &ArgMatches<'_>) -> Result<String, AllocError>
-    ensures { IfOk result (λ query. string_bytes query ≡ text_or (codes "query") [] (rows_of (found_of given.now))) }
+    ensures { IfOk result (λ query. string_bytes query ≡ text_or (codes "query") []
+        (rows_of (found_of given.now))) }
 {
     String::from_str(alloc, text_of(given, "query", ""))
 }

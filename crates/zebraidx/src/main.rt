@@ -2,14 +2,32 @@
 #![tactic(auto)]
 
 use std::env;
-use std::io::{self, BufReader, BufWriter};
+use std::io::{self, BufReader, BufWriter, ErrorKind, Write};
 use std::process::ExitCode;
 use zeb_marc::FromRead;
 use zeb_paths::{Disk, Tally};
 use zeb_program::{FAILED, Sink, run};
 
 fn main(rt: HostRuntime) -> ExitCode {
-    ExitCode::from(run_outside(&rt).unwrap_or(FAILED))
+    let status = run_outside(&rt);
+    if let Err(error) = &status {
+        complain(&rt, why_unstarted(error.kind()));
+    }
+    ExitCode::from(status.unwrap_or(FAILED))
+}
+
+/// Why the program doesn't begin.
+fn why_unstarted(kind: ErrorKind) -> &'static str {
+    match kind {
+        ErrorKind::InvalidData => "a word isn't UTF-8",
+        ErrorKind::OutOfMemory => "out of memory",
+        _ => "the system failed a call",
+    }
+}
+
+/// Writes a line on standard error. Nothing rests on it, so a write that fails is passed over.
+fn complain(rt: &HostRuntime, text: &str) {
+    let _written = writeln!(rt.stderr(), "zebraidx: {text}");
 }
 
 /// Runs the program on the process's words, input and outputs.
@@ -31,6 +49,8 @@ fn run_outside(rt: &HostRuntime) -> io::Result<u8> {
         &mut output,
         &mut fault_output,
     );
-    tally.end();
+    if output.has_failed() {
+        complain(rt, "cannot write output");
+    }
     Ok(status)
 }

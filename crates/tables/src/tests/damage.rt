@@ -139,7 +139,9 @@ const PLACE: Script = &[
         ),
         (Step::Read(Read::Last("Default")), "2"),
         (Step::Read(Read::Records), "1 a1 109,2 b2 64,"),
-        (Step::Read(Read::Totals(TITLES)), "6 6"),
+        (Step::Read(Read::Terms(TITLES)), "Damaged"),
+        (Step::Read(Read::Totals(TITLES)), "Damaged"),
+        (Step::Read(Read::Totals((2, Register::Word))), "7 7"),
         (
             Step::Read(Read::List((2, Register::Word, "moby"))),
             "1:2.1,",

@@ -28,7 +28,7 @@ fn indexes(rt: HostRuntime) -> Result<(), Fail> {
 }
 
 /// A unit's targets, in their order and each once.
-pub(super) fn targets_are(
+fn targets_are(
     rt: &(impl Abort + AllocGlobal),
     profile: &Profile,
     tag: &[u8; 3],

@@ -1,37 +1,16 @@
 //! Requests for memory that are refused: to be run with each refused in turn.
 
-use super::combinations::{PAIRS, SCANNED, VALUES};
-use super::diagnostics::{FAULTS, OVER, PLACES, PLANS, PROXIMITY, UNTIED};
-use super::order::{ALONE, NEIGHBOURS, SIDES, UNTIED_NEIGHBOURS};
-use super::plans::{PLANS as PLANNED, STARS};
-use super::scans::{FROM_NO_WORD, SCANS, UNTIED as UNTIED_SCANS};
-use super::texts::{BLANKS, KEYWORDS, KEYWORDS_USED, WORDS};
+use super::one_each::{FOUND, READ, SCANNED, UNTIED};
+use super::plans::{PLANS, STARS};
 use super::{Asked, Table, halves_of, line};
 use std::alloc::Global;
 use std::test::Fail;
 use zeb_profile::Profile;
 
-static TABLES: &[&Table] = &[
-    BLANKS,
-    WORDS,
-    KEYWORDS_USED,
-    FAULTS,
-    PLANS,
-    PROXIMITY,
-    OVER,
-    PLACES,
-    NEIGHBOURS,
-    SCANS,
-    FROM_NO_WORD,
-    UNTIED,
-    UNTIED_NEIGHBOURS,
-];
+static TABLES: &[&Table] = &[READ, FOUND, SCANNED, UNTIED];
 
 /// What plans are, and where their patterns match.
-static PLANS_AND_PATTERNS: &[&Table] = &[KEYWORDS, PLANNED, STARS, UNTIED_SCANS];
-
-/// The values of attributes, and faults on both sides of an operator.
-static ATTRIBUTES: &[&Table] = &[VALUES, PAIRS, SCANNED, ALONE, SIDES];
+static PLANS_AND_PATTERNS: &[&Table] = &[PLANS, STARS];
 
 /// The answer is the one of the row, or want of memory; where the line itself can't be made nothing is asked.
 fn is_ordinary_or_memory(alloc: Global, asked: Asked, profile: &Profile, row: &str) -> bool {
@@ -73,9 +52,4 @@ fn requests_for_memory_may_be_refused(rt: HostRuntime) -> Result<(), Fail> {
 #[test]
 fn requests_of_plans_may_be_refused(rt: HostRuntime) -> Result<(), Fail> {
     all_ordinary_or_memory(rt.alloc(), PLANS_AND_PATTERNS)
-}
-
-#[test]
-fn requests_of_attributes_may_be_refused(rt: HostRuntime) -> Result<(), Fail> {
-    all_ordinary_or_memory(rt.alloc(), ATTRIBUTES)
 }

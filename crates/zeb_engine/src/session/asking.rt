@@ -35,31 +35,41 @@ impl<S: Alter, L: Layout> Session<S, L> {
         database: &DbName,
         question: Question<'_>,
     ) -> Result<Reply, Refusal>
-        ensures call { Commanded (state S.Store self.old.connection) (state S.Store self.new.connection) result }
+        ensures call { Commanded (state S.Store self.old.connection)
+            (state S.Store self.new.connection) result }
         ensures reads { LeavesAsIs S.Store self.old.connection self.new.connection }
         ensures survives { CommitsNothing S.Store self.old.connection self.new.connection }
-        ensures under { (self.new.profile ≡ self.old.profile) × (self.new.limits ≡ self.old.limits) }
+        ensures under { (self.new.profile ≡ self.old.profile)
+            × (self.new.limits ≡ self.old.limits) }
         ensures serves { HasCleanDisk (state S.Store self.new.connection)
             → Finds (conditions (version_of L.format) self.old.profile self.old.limits)
-            (name_bytes database.now) question.entry.query.now question.entry.first question.entry.count
+            (name_bytes database.now) question.entry.query.now question.entry.first
+            question.entry.count
             (state S.Store self.old.connection) (state S.Store self.new.connection) result }
         ensures unread { NoReadFault result }
-        ensures ready { TellsReady S.Store (version_of L.format) self.old.profile self.old.connection self.new.connection result }
+        ensures ready { TellsReady S.Store (version_of L.format) self.old.profile
+            self.old.connection self.new.connection result }
         ensures alone { HasCleanDisk (state S.Store self.new.connection)
-            → Alone L.format (FindSays self.old.profile question.entry.query.now question.entry.first question.entry.count)
+            → Alone L.format (FindSays self.old.profile question.entry.query.now
+            question.entry.first question.entry.count)
             (name_bytes database.now) (state S.Store self.old.connection) result }
         ensures refused { HasCleanDisk (state S.Store self.new.connection)
-            → IsReadyFor (version_of L.format) self.old.profile (state S.Store self.old.connection).now.trees
-            → RefusedAlone L.format (RefusesFind self.old.profile (name_bytes database.now) question.entry.query.now question.entry.first
+            → IsReadyFor (version_of L.format) self.old.profile
+            (state S.Store self.old.connection).now.trees
+            → RefusedAlone L.format (RefusesFind self.old.profile (name_bytes database.now)
+            question.entry.query.now question.entry.first
             question.entry.count) (state S.Store self.old.connection) result }
         ensures tables { HasCleanDisk (state S.Store self.new.connection)
             → OverReady (version_of L.format) self.old.profile
-            (FindOver L.format self.old.profile (name_bytes database.now) question.entry.query.now question.entry.first
+            (FindOver L.format self.old.profile (name_bytes database.now) question.entry.query.now
+            question.entry.first
             question.entry.count) (state S.Store self.old.connection) result }
         ensures caused { FailsForCause S.Store self.old.connection self.new.connection result }
         ensures work { HasCleanDisk (state S.Store self.new.connection)
-            → OnOk result (FindReads L.format L.row_work L.block_rows self.old.profile (name_bytes database.now)
-            question.entry.query.now (state S.Store self.old.connection) self.old.work self.new.work) }
+            → OnOk result (FindReads L.format L.row_work L.block_rows self.old.profile
+            (name_bytes database.now)
+            question.entry.query.now (state S.Store self.old.connection) self.old.work
+            self.new.work) }
         ensures no_work { L.row_work ≡ 0 → self.new.work ≡ self.old.work }
     {
         check_ready::<S, L>(&mut self.connection, &self.profile)?;
@@ -75,23 +85,30 @@ impl<S: Alter, L: Layout> Session<S, L> {
 
     /// Terms around a start, on a register that is ready.
     pub(super) fn scan(&mut self, database: &DbName, around: Around<'_>) -> Result<Reply, Refusal>
-        ensures call { Commanded (state S.Store self.old.connection) (state S.Store self.new.connection) result }
+        ensures call { Commanded (state S.Store self.old.connection)
+            (state S.Store self.new.connection) result }
         ensures reads { LeavesAsIs S.Store self.old.connection self.new.connection }
         ensures survives { CommitsNothing S.Store self.old.connection self.new.connection }
-        ensures under { (self.new.profile ≡ self.old.profile) × (self.new.limits ≡ self.old.limits) }
+        ensures under { (self.new.profile ≡ self.old.profile)
+            × (self.new.limits ≡ self.old.limits) }
         ensures serves { HasCleanDisk (state S.Store self.new.connection)
             → ScansFrom (conditions (version_of L.format) self.old.profile self.old.limits)
-            (name_bytes database.now) around.entry.query.now around.entry.number around.entry.position (state S.Store self.old.connection)
+            (name_bytes database.now) around.entry.query.now around.entry.number
+            around.entry.position (state S.Store self.old.connection)
             (state S.Store self.new.connection) result }
         ensures unread { NoReadFault result }
-        ensures ready { TellsReady S.Store (version_of L.format) self.old.profile self.old.connection self.new.connection result }
+        ensures ready { TellsReady S.Store (version_of L.format) self.old.profile
+            self.old.connection self.new.connection result }
         ensures alone { HasCleanDisk (state S.Store self.new.connection)
-            → Alone L.format (ScanSays self.old.profile around.entry.query.now around.entry.number around.entry.position)
+            → Alone L.format (ScanSays self.old.profile around.entry.query.now around.entry.number
+            around.entry.position)
             (name_bytes database.now) (state S.Store self.old.connection) result }
         ensures tables { HasCleanDisk (state S.Store self.new.connection)
             → UnlessHidden (version_of L.format) self.old.profile
-            (ScanOver L.format self.old.profile (name_bytes database.now) around.entry.query.now around.entry.number
-            around.entry.position) (HidesTerms L.format self.old.profile (name_bytes database.now) around.entry.query.now
+            (ScanOver L.format self.old.profile (name_bytes database.now) around.entry.query.now
+            around.entry.number
+            around.entry.position) (HidesTerms L.format self.old.profile (name_bytes database.now)
+            around.entry.query.now
             around.entry.number around.entry.position) (state S.Store self.old.connection) result }
         ensures caused { FailsForCause S.Store self.old.connection self.new.connection result }
         ensures work { HasCleanDisk (state S.Store self.new.connection)
@@ -112,17 +129,22 @@ impl<S: Alter, L: Layout> Session<S, L> {
 
     /// Whether the tables of a register that is ready are the image of what it holds: `Damaged` where they aren't.
     pub(super) fn check(&mut self) -> Result<Reply, Refusal>
-        ensures call { Commanded (state S.Store self.old.connection) (state S.Store self.new.connection) result }
+        ensures call { Commanded (state S.Store self.old.connection)
+            (state S.Store self.new.connection) result }
         ensures reads { LeavesAsIs S.Store self.old.connection self.new.connection }
         ensures survives { CommitsNothing S.Store self.old.connection self.new.connection }
-        ensures under { (self.new.profile ≡ self.old.profile) × (self.new.limits ≡ self.old.limits) }
+        ensures under { (self.new.profile ≡ self.old.profile)
+            × (self.new.limits ≡ self.old.limits) }
         ensures serves { HasCleanDisk (state S.Store self.new.connection)
-            → Serves Always (checked (conditions (version_of L.format) self.old.profile self.old.limits))
+            → Serves Always (checked (conditions (version_of L.format) self.old.profile
+            self.old.limits))
             (state S.Store self.old.connection) (state S.Store self.new.connection) result }
         ensures unread { NoReadFault result }
-        ensures ready { TellsReady S.Store (version_of L.format) self.old.profile self.old.connection self.new.connection result }
+        ensures ready { TellsReady S.Store (version_of L.format) self.old.profile
+            self.old.connection self.new.connection result }
         ensures checked { HasCleanDisk (state S.Store self.new.connection)
-            → ChecksTables (version_of L.format) self.old.profile (state S.Store self.old.connection) result }
+            → ChecksTables (version_of L.format) self.old.profile
+            (state S.Store self.old.connection) result }
         ensures caused { FailsForCause S.Store self.old.connection self.new.connection result }
         ensures unworked { self.new.work ≡ self.old.work }
     {

@@ -27,22 +27,30 @@ use zeb_register::Layout;
 impl<S: Alter, L: Layout> Session<S, L> {
     /// An empty database, on a register that is ready.
     pub(super) fn create(&mut self, name: &DbName) -> Result<Reply, Refusal>
-        ensures call { Commanded (state S.Store self.old.connection) (state S.Store self.new.connection) result }
-        ensures survives { Survives (state S.Store self.old.connection) (state S.Store self.new.connection)
-            (Commits Always (turned (conditions (version_of L.format) self.old.profile self.old.limits) (created (name_bytes name.now)))
+        ensures call { Commanded (state S.Store self.old.connection)
+            (state S.Store self.new.connection) result }
+        ensures survives { Survives (state S.Store self.old.connection)
+            (state S.Store self.new.connection)
+            (Commits Always (turned (conditions (version_of L.format) self.old.profile
+            self.old.limits) (created (name_bytes name.now)))
             (state S.Store self.old.connection)) }
-        ensures under { (self.new.profile ≡ self.old.profile) × (self.new.limits ≡ self.old.limits) }
+        ensures under { (self.new.profile ≡ self.old.profile)
+            × (self.new.limits ≡ self.old.limits) }
         ensures serves { HasCleanDisk (state S.Store self.new.connection)
-            → Serves Always (turned (conditions (version_of L.format) self.old.profile self.old.limits) (created (name_bytes name.now)))
+            → Serves Always (turned (conditions (version_of L.format) self.old.profile
+            self.old.limits) (created (name_bytes name.now)))
             (state S.Store self.old.connection) (state S.Store self.new.connection) result }
         ensures unread { NoReadFault result }
-        ensures ready { TellsReady S.Store (version_of L.format) self.old.profile self.old.connection self.new.connection result }
+        ensures ready { TellsReady S.Store (version_of L.format) self.old.profile
+            self.old.connection self.new.connection result }
         ensures unworked { self.new.work ≡ self.old.work }
         // Whatever the tables hold, it goes by the row of the name.
         ensures tables { HasCleanDisk (state S.Store self.new.connection)
-            → UnlessHidden (version_of L.format) self.old.profile (CreateOver (name_bytes name.now)) (HidesDatabase (name_bytes name.now))
+            → UnlessHidden (version_of L.format) self.old.profile (CreateOver (name_bytes name.now))
+            (HidesDatabase (name_bytes name.now))
             (state S.Store self.old.connection) result }
-        ensures makes { HasCleanDisk (state S.Store self.new.connection) → OnAccepted (MakesDatabase (name_bytes name.now))
+        ensures makes { HasCleanDisk (state S.Store self.new.connection)
+            → OnAccepted (MakesDatabase (name_bytes name.now))
             (state S.Store self.old.connection) (state S.Store self.new.connection) result }
     {
         check_ready::<S, L>(&mut self.connection, &self.profile)?;
@@ -51,21 +59,29 @@ impl<S: Alter, L: Layout> Session<S, L> {
 
     /// No database of this name any more, on a register that is ready.
     pub(super) fn take(&mut self, name: &DbName) -> Result<Reply, Refusal>
-        ensures call { Commanded (state S.Store self.old.connection) (state S.Store self.new.connection) result }
-        ensures survives { Survives (state S.Store self.old.connection) (state S.Store self.new.connection)
-            (Commits Always (turned (conditions (version_of L.format) self.old.profile self.old.limits) (dropped (name_bytes name.now)))
+        ensures call { Commanded (state S.Store self.old.connection)
+            (state S.Store self.new.connection) result }
+        ensures survives { Survives (state S.Store self.old.connection)
+            (state S.Store self.new.connection)
+            (Commits Always (turned (conditions (version_of L.format) self.old.profile
+            self.old.limits) (dropped (name_bytes name.now)))
             (state S.Store self.old.connection)) }
-        ensures under { (self.new.profile ≡ self.old.profile) × (self.new.limits ≡ self.old.limits) }
+        ensures under { (self.new.profile ≡ self.old.profile)
+            × (self.new.limits ≡ self.old.limits) }
         ensures serves { HasCleanDisk (state S.Store self.new.connection)
-            → Serves Always (turned (conditions (version_of L.format) self.old.profile self.old.limits) (dropped (name_bytes name.now)))
+            → Serves Always (turned (conditions (version_of L.format) self.old.profile
+            self.old.limits) (dropped (name_bytes name.now)))
             (state S.Store self.old.connection) (state S.Store self.new.connection) result }
         ensures unread { NoReadFault result }
-        ensures ready { TellsReady S.Store (version_of L.format) self.old.profile self.old.connection self.new.connection result }
+        ensures ready { TellsReady S.Store (version_of L.format) self.old.profile
+            self.old.connection self.new.connection result }
         ensures unworked { self.new.work ≡ self.old.work }
         ensures tables { HasCleanDisk (state S.Store self.new.connection)
-            → UnlessHidden (version_of L.format) self.old.profile (DropOver (name_bytes name.now)) (HidesDatabase (name_bytes name.now))
+            → UnlessHidden (version_of L.format) self.old.profile (DropOver (name_bytes name.now))
+            (HidesDatabase (name_bytes name.now))
             (state S.Store self.old.connection) result }
-        ensures drops { HasCleanDisk (state S.Store self.new.connection) → OnAccepted (DropsDatabase (name_bytes name.now))
+        ensures drops { HasCleanDisk (state S.Store self.new.connection)
+            → OnAccepted (DropsDatabase (name_bytes name.now))
             (state S.Store self.old.connection) (state S.Store self.new.connection) result }
     {
         check_ready::<S, L>(&mut self.connection, &self.profile)?;

@@ -7,8 +7,7 @@ ghost use Rattle.zeb_register.specs.Store.{blocks_tree, dict_tree, IsRest};
 ghost use Rattle.zeb_register.specs.Calls.{Reading};
 ghost use Rattle.zeb_register.specs.PrivateClauses.{IsReasonedError};
 ghost use Rattle.zeb_register.specs.PrivateKeyColumns.{register_columns};
-ghost use Rattle.zeb_register.specs.PackedBlocks.{IsRestBefore, IsRestFrom};
-ghost use Rattle.zeb_packed.specs.PrivatePackedRows.{ListsFirst, ListsLast};
+ghost use Rattle.zeb_packed.specs.PrivatePackedRows.{IsRestBefore, IsRestFrom, ListsFirst, ListsLast};
 ghost use Rattle.zeb_register.specs.PrivateRowStatements.{Lists};
 
 use sqlite::{Alter, Connection, Error, Row, params};
@@ -21,7 +20,8 @@ pub(crate) fn block_rows<S: Alter>(
     term: &str,
 ) -> Result<Vec<Row>, Error>
     ensures call { Reading (state S.Store conn.old) (state S.Store conn.new) result
-        (λ rows a b. Lists (IsRest blocks_tree (register_columns at ++ Text term.now ∷ [])) a b rows.items) }
+        (λ rows a b. Lists (IsRest blocks_tree (register_columns at ++ Text term.now ∷ [])) a b
+        rows.items) }
     ensures err { IsReasonedError (state S.Store conn.old) (state S.Store conn.new) result }
 {
     // What is seen outside a transaction is what was committed.
@@ -61,7 +61,8 @@ pub(crate) fn dict_rows_from<S: Alter>(
     limit: i64,
 ) -> Result<Vec<Row>, Error>
     ensures call { Reading (state S.Store conn.old) (state S.Store conn.new) result
-        (λ rows a b. ListsFirst limit (IsRestFrom dict_tree (register_columns at) start.now) a b rows.items) }
+        (λ rows a b. ListsFirst limit (IsRestFrom dict_tree (register_columns at) start.now) a b
+        rows.items) }
     ensures err { IsReasonedError (state S.Store conn.old) (state S.Store conn.new) result }
 {
     // What is seen outside a transaction is what was committed.
@@ -83,7 +84,8 @@ pub(crate) fn dict_rows_before<S: Alter>(
     limit: i64,
 ) -> Result<Vec<Row>, Error>
     ensures call { Reading (state S.Store conn.old) (state S.Store conn.new) result
-        (λ rows a b. ListsLast limit (IsRestBefore dict_tree (register_columns at) start.now) a b rows.items) }
+        (λ rows a b. ListsLast limit (IsRestBefore dict_tree (register_columns at) start.now) a b
+        rows.items) }
     ensures err { IsReasonedError (state S.Store conn.old) (state S.Store conn.new) result }
 {
     // What is seen outside a transaction is what was committed.

@@ -23,7 +23,8 @@ pub(crate) fn block_bytes<S: Alter>(
 ) -> Result<Vec<Row>, Error>
     ensures same { tx.new.conn.ghost_name ≡ tx.old.conn.ghost_name }
     ensures call { Inside (state S.Store tx.old.conn.now) (state S.Store tx.new.conn.now) result
-        (λ rows a b. ListsInside (IsRest blocks_tree (numbered_columns at.entry number)) a b rows.items) }
+        (λ rows a b. ListsInside (IsRest blocks_tree (numbered_columns at.entry number)) a b
+        rows.items) }
 {
     let db = at.db.column();
     let reg = u32::from(at.key.register.code());
@@ -61,11 +62,14 @@ pub(crate) fn block_add<S: Alter>(
     bytes: &[u8],
 ) -> Result<usize, Error>
     ensures same { tx.new.conn.ghost_name ≡ tx.old.conn.ghost_name }
-    ensures call { Writes blocks_tree (Gains (numbered_columns at.entry number ++ Blob bytes.now ∷ []))
+    ensures call { Writes blocks_tree (Gains (numbered_columns at.entry number ++ Blob
+        bytes.now ∷ []))
         (state S.Store tx.old.conn.now) (state S.Store tx.new.conn.now) result }
-    ensures alone { InStore (state S.Store tx.old.conn.now) (state S.Store tx.new.conn.now) (λ trees. OnOk result
+    ensures alone { InStore (state S.Store tx.old.conn.now) (state S.Store tx.new.conn.now)
+        (λ trees. OnOk result
         (IsTold false (IsOfNumbered at.entry number) blocks_tree trees)) }
-    ensures violated { IsUnchangedByViolation (state S.Store tx.old.conn.now) (state S.Store tx.new.conn.now) result }
+    ensures violated { IsUnchangedByViolation (state S.Store tx.old.conn.now)
+        (state S.Store tx.new.conn.now) result }
 {
     let db = at.db.column();
     let reg = u32::from(at.key.register.code());
@@ -83,7 +87,8 @@ pub(crate) fn block_set<S: Alter>(
     bytes: &[u8],
 ) -> Result<usize, Error>
     ensures same { tx.new.conn.ghost_name ≡ tx.old.conn.ghost_name }
-    ensures call { Writes blocks_tree (Renews (IsOfNumbered at.entry number) (numbered_columns at.entry number ++ Blob bytes.now ∷ []))
+    ensures call { Writes blocks_tree (Renews (IsOfNumbered at.entry number)
+        (numbered_columns at.entry number ++ Blob bytes.now ∷ []))
         (state S.Store tx.old.conn.now) (state S.Store tx.new.conn.now) result }
 {
     let db = at.db.column();
@@ -138,7 +143,8 @@ pub(crate) fn dict_set<S: Alter>(
     records: i64,
 ) -> Result<usize, Error>
     ensures same { tx.new.conn.ghost_name ≡ tx.old.conn.ghost_name }
-    ensures call { Writes dict_tree (Renews (IsOfKey at.entry) (key_columns at.entry ++ Int records ∷ []))
+    ensures call { Writes dict_tree (Renews (IsOfKey at.entry)
+        (key_columns at.entry ++ Int records ∷ []))
         (state S.Store tx.old.conn.now) (state S.Store tx.new.conn.now) result }
 {
     let db = at.db.column();
@@ -155,7 +161,8 @@ pub(crate) fn dict_remove<S: Alter>(
     at: KeyOf<'_>,
 ) -> Result<usize, Error>
     ensures same { tx.new.conn.ghost_name ≡ tx.old.conn.ghost_name }
-    ensures call { Writes dict_tree (Loses (IsOfKey at.entry)) (state S.Store tx.old.conn.now) (state S.Store tx.new.conn.now) result }
+    ensures call { Writes dict_tree (Loses (IsOfKey at.entry)) (state S.Store tx.old.conn.now)
+        (state S.Store tx.new.conn.now) result }
 {
     let db = at.db.column();
     let reg = u32::from(at.key.register.code());

@@ -23,7 +23,8 @@ pub(crate) fn posting_rows_between<S: Alter>(
     end: &str,
 ) -> Result<Vec<Row>, Error>
     ensures call { Reading (state S.Store conn.old) (state S.Store conn.new) result
-        (λ rows a b. Lists (IsRestBetween postings_tree (register_columns at) first.now end.now) a b rows.items) }
+        (λ rows a b. Lists (IsRestBetween postings_tree (register_columns at) first.now end.now) a b
+        rows.items) }
     ensures err { IsReasonedError (state S.Store conn.old) (state S.Store conn.new) result }
 {
     let db = at.db.column();

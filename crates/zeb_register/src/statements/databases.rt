@@ -46,7 +46,8 @@ pub(crate) fn database_rows_inside<S: Alter>(
 
 /// All databases, rising by the bytes of their names: the name, the id and the last number of each.
 pub(crate) fn listed_rows<S: Alter>(conn: &mut Connection<S>) -> Result<Vec<Row>, Error>
-    ensures call { Reading (state S.Store conn.old) (state S.Store conn.new) result (λ rows a b. Lists IsListedRow a b rows.items) }
+    ensures call { Reading (state S.Store conn.old) (state S.Store conn.new) result
+        (λ rows a b. Lists IsListedRow a b rows.items) }
     ensures err { IsReasonedError (state S.Store conn.old) (state S.Store conn.new) result }
 {
     look_up(conn, LISTED, &[])
@@ -56,7 +57,8 @@ pub(crate) fn listed_rows_inside<S: Alter>(tx: &mut Transaction<'_, S>) -> Resul
     ensures same { tx.new.conn.ghost_name ≡ tx.old.conn.ghost_name }
     ensures call { Inside (state S.Store tx.old.conn.now) (state S.Store tx.new.conn.now) result
         (λ rows a b. ListsInside IsListedRow a b rows.items) }
-    ensures err { IsReasonedErrorInside (state S.Store tx.old.conn.now) (state S.Store tx.new.conn.now) result }
+    ensures err { IsReasonedErrorInside (state S.Store tx.old.conn.now)
+        (state S.Store tx.new.conn.now) result }
 {
     tx.query_all(LISTED, &[])
 }
@@ -80,7 +82,8 @@ pub(crate) fn last_set<S: Alter>(
     last: i64,
 ) -> Result<(), RegFault>
     ensures same { tx.new.conn.ghost_name ≡ tx.old.conn.ghost_name }
-    ensures call { Writes databases_tree (SetsLast id last) (state S.Store tx.old.conn.now) (state S.Store tx.new.conn.now) result }
+    ensures call { Writes databases_tree (SetsLast id last) (state S.Store tx.old.conn.now)
+        (state S.Store tx.new.conn.now) result }
     ensures honest { result ≢ Err RegFault.Damaged }
 {
     write(tx, SET_LAST, params![id, last])

@@ -18,8 +18,10 @@ use sqlite::{Alter, Error, Row, Transaction, params};
 /// Reads nothing. It is refused where the connection is closed.
 pub fn nothing_inside<S: Alter>(tx: &mut Transaction<'_, S>) -> Result<(), Error>
     ensures same { tx.new.conn.ghost_name ≡ tx.old.conn.ghost_name }
-    ensures call { Inside (state S.Store tx.old.conn.now) (state S.Store tx.new.conn.now) result (λ _. OnlyReads) }
-    ensures err { IsReasonedErrorInside (state S.Store tx.old.conn.now) (state S.Store tx.new.conn.now) result }
+    ensures call { Inside (state S.Store tx.old.conn.now) (state S.Store tx.new.conn.now) result
+        (λ _. OnlyReads) }
+    ensures err { IsReasonedErrorInside (state S.Store tx.old.conn.now)
+        (state S.Store tx.new.conn.now) result }
 {
     tx.query_all(NOTHING, &[])?;
     Ok(())
@@ -33,9 +35,11 @@ pub(crate) fn rows_from_inside<S: Alter>(
 ) -> Result<Vec<Row>, Error>
     ensures same { tx.new.conn.ghost_name ≡ tx.old.conn.ghost_name }
     ensures call { Inside (state S.Store tx.old.conn.now) (state S.Store tx.new.conn.now) result
-        (λ rows a b. ReadsInside (λ trees rows. (all : List _) × IsListOf (IsRestAtLeast records_tree (Int db ∷ []) start trees) all
+        (λ rows a b. ReadsInside (λ trees rows. (all : List _)
+        × IsListOf (IsRestAtLeast records_tree (Int db ∷ []) start trees) all
         × (rows ≡ take 1 all)) a b rows.items) }
-    ensures err { IsReasonedErrorInside (state S.Store tx.old.conn.now) (state S.Store tx.new.conn.now) result }
+    ensures err { IsReasonedErrorInside (state S.Store tx.old.conn.now)
+        (state S.Store tx.new.conn.now) result }
 {
     tx.query_all(FIRST_FROM, params![db, start])
 }

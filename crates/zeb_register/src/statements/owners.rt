@@ -42,7 +42,8 @@ pub(crate) fn least_rows<S: Alter>(
     table: Table,
 ) -> Result<Vec<Row>, Error>
     ensures call { Reading (state S.Store conn.old) (state S.Store conn.new) result
-        (λ rows a b. ReadsRows (λ trees. ShowsFirst (λ id other. id ≤ℤ other) (Owns (tree_of table) trees)) a b rows.items) }
+        (λ rows a b. ReadsRows (λ trees. ShowsFirst (λ id other. id ≤ℤ other)
+        (Owns (tree_of table) trees)) a b rows.items) }
     ensures err { IsReasonedError (state S.Store conn.old) (state S.Store conn.new) result }
 {
     look_up(conn, least_text(table), &[])
@@ -54,7 +55,8 @@ pub(crate) fn greatest_rows<S: Alter>(
     table: Table,
 ) -> Result<Vec<Row>, Error>
     ensures call { Reading (state S.Store conn.old) (state S.Store conn.new) result
-        (λ rows a b. ReadsRows (λ trees. ShowsFirst (λ id other. other ≤ℤ id) (Owns (tree_of table) trees)) a b rows.items) }
+        (λ rows a b. ReadsRows (λ trees. ShowsFirst (λ id other. other ≤ℤ id)
+        (Owns (tree_of table) trees)) a b rows.items) }
     ensures err { IsReasonedError (state S.Store conn.old) (state S.Store conn.new) result }
 {
     look_up(conn, greatest_text(table), &[])

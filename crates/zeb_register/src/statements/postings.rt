@@ -1,8 +1,6 @@
 //! Statements on the table `postings`: a row for each posting.
 
-ghost use Rattle.std.specs.Prelude.{IsUtf8, ◌≡◌, true, false, [], ◌∷◌, ◌++◌};
-ghost use Rattle.std.specs.Ordering.{is_lt, nat_cmp};
-ghost use Rattle.std.specs.Cmp.Lexicographic.{slice_cmp};
+ghost use Rattle.std.specs.Prelude.{IsUtf8, ◌≡◌, [], ◌∷◌, ◌++◌};
 ghost use Rattle.sqlite.specs.Held.{state};
 ghost use Rattle.sqlite.specs.State.{IsUnchanged};
 ghost use Rattle.sqlite.specs.declared.types.Value.TheVariants.{Text};
@@ -11,7 +9,8 @@ ghost use Rattle.zeb_register.specs.Store.{postings_tree, IsRest};
 ghost use Rattle.zeb_register.specs.Calls.{Inside, Reading};
 ghost use Rattle.zeb_register.specs.PrivateClauses.{IsReasonedError};
 ghost use Rattle.zeb_register.specs.PrivateKeyColumns.{HasTermOf, numbered_columns, register_columns};
-ghost use Rattle.zeb_register.specs.PrivateRowTerms.{ShowsLeast, ShowsGreatest, ReadsRows};
+ghost use Rattle.zeb_register.specs.PrivateRowTerms.{ShowsNearest, ReadsRows};
+ghost use Rattle.zeb_register.specs.Terms.{Comes};
 
 use crate::statements::keys::KeyOf;
 use crate::statements::queries::look_up;
@@ -37,7 +36,8 @@ const TERM_BEFORE: &str =
 
 /// Reads nothing. It is refused where the connection is closed.
 pub(crate) fn nothing_of<S: Alter>(conn: &mut Connection<S>) -> Result<(), Error>
-    ensures call { Reading (state S.Store conn.old) (state S.Store conn.new) result (λ _. IsUnchanged) }
+    ensures call { Reading (state S.Store conn.old) (state S.Store conn.new) result
+        (λ _. IsUnchanged) }
     ensures err { IsReasonedError (state S.Store conn.old) (state S.Store conn.new) result }
 {
     look_up(conn, NOTHING, &[])?;
@@ -50,7 +50,8 @@ pub(crate) fn posting_rows<S: Alter>(
     term: &str,
 ) -> Result<Vec<Row>, Error>
     ensures call { Reading (state S.Store conn.old) (state S.Store conn.new) result
-        (λ rows a b. Lists (IsRest postings_tree (register_columns at ++ Text term.now ∷ [])) a b rows.items) }
+        (λ rows a b. Lists (IsRest postings_tree (register_columns at ++ Text term.now ∷ [])) a b
+        rows.items) }
     ensures err { IsReasonedError (state S.Store conn.old) (state S.Store conn.new) result }
 {
     let db = at.db.column();
@@ -65,7 +66,8 @@ pub(crate) fn place_rows<S: Alter>(
 ) -> Result<Vec<Row>, Error>
     ensures same { tx.new.conn.ghost_name ≡ tx.old.conn.ghost_name }
     ensures call { Inside (state S.Store tx.old.conn.now) (state S.Store tx.new.conn.now) result
-        (λ rows a b. ListsInside (IsRest postings_tree (numbered_columns at.entry number)) a b rows.items) }
+        (λ rows a b. ListsInside (IsRest postings_tree (numbered_columns at.entry number)) a b
+        rows.items) }
     ensures text { IsUtf8 at.entry.key.now.term }
 {
     let db = at.db.column();
@@ -94,8 +96,9 @@ pub(crate) fn rows_from<S: Alter>(
     start: &str,
 ) -> Result<Vec<Row>, Error>
     ensures call { Reading (state S.Store conn.old) (state S.Store conn.new) result
-        (λ rows a b. ReadsRows (λ trees. ShowsLeast (λ term. HasTermOf at trees term
-        × (is_lt (slice_cmp nat_cmp term start.now) ≡ false))) a b rows.items) }
+        (λ rows a b. ReadsRows (λ trees. ShowsNearest (λ term. HasTermOf at trees term
+        × ¬ Comes term start.now) Comes)
+        a b rows.items) }
     ensures err { IsReasonedError (state S.Store conn.old) (state S.Store conn.new) result }
 {
     let db = at.db.column();
@@ -110,8 +113,9 @@ pub(crate) fn rows_before<S: Alter>(
     start: &str,
 ) -> Result<Vec<Row>, Error>
     ensures call { Reading (state S.Store conn.old) (state S.Store conn.new) result
-        (λ rows a b. ReadsRows (λ trees. ShowsGreatest (λ term. HasTermOf at trees term
-        × (is_lt (slice_cmp nat_cmp term start.now) ≡ true))) a b rows.items) }
+        (λ rows a b. ReadsRows (λ trees. ShowsNearest (λ term. HasTermOf at trees term
+        × Comes term start.now)
+        (λ one other. Comes other one)) a b rows.items) }
     ensures err { IsReasonedError (state S.Store conn.old) (state S.Store conn.new) result }
 {
     let db = at.db.column();

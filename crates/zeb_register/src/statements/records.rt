@@ -34,7 +34,8 @@ pub(crate) fn elder_rows<S: Alter>(
     ensures same { tx.new.conn.ghost_name ≡ tx.old.conn.ghost_name }
     ensures call { Inside (state S.Store tx.old.conn.now) (state S.Store tx.new.conn.now) result
         (λ rows a b. ListsInside (IsElderRow db ident.now) a b rows.items) }
-    ensures err { IsReasonedErrorInside (state S.Store tx.old.conn.now) (state S.Store tx.new.conn.now) result }
+    ensures err { IsReasonedErrorInside (state S.Store tx.old.conn.now)
+        (state S.Store tx.new.conn.now) result }
 {
     tx.query_all(BY_IDENT, params![db, ident])
 }
@@ -75,7 +76,8 @@ pub(crate) fn rows_from<S: Alter>(
     start: i64,
 ) -> Result<Vec<Row>, Error>
     ensures call { Reading (state S.Store conn.old) (state S.Store conn.new) result
-        (λ rows a b. ReadsRows (λ trees rows. (all : List _) × IsListOf (IsRestAtLeast records_tree (Int db ∷ []) start trees) all
+        (λ rows a b. ReadsRows (λ trees rows. (all : List _)
+        × IsListOf (IsRestAtLeast records_tree (Int db ∷ []) start trees) all
         × (rows ≡ take 1 all)) a b rows.items) }
     ensures err { IsReasonedError (state S.Store conn.old) (state S.Store conn.new) result }
 {

@@ -16,7 +16,8 @@ pub(crate) fn write<S: Alter>(
     params: &[ValueRef<'_>],
 ) -> Result<(), RegFault>
     ensures same { tx.new.conn.ghost_name ≡ tx.old.conn.ghost_name }
-    ensures ran { Ran sql.now (bound params.now) (state S.Store tx.old.conn.now) (state S.Store tx.new.conn.now) result }
+    ensures ran { Ran sql.now (bound params.now) (state S.Store tx.old.conn.now)
+        (state S.Store tx.new.conn.now) result }
     ensures honest { result ≢ Err RegFault.Damaged }
 {
     tx.execute(sql, params)?;

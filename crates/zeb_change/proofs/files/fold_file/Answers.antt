@@ -1,4 +1,4 @@
-use Rattle.zeb_change.proofs.Cited.{rules, arith, ◌≡◌, true, false, Ok, Err, refl, sym, ap, subst, subst₂, state, HasCleanDisk, Refusal, as_refusal, fold_refusal, take_refusal, ReadsRecord, TakesReader, TakesRecord, at}
+use Rattle.zeb_change.proofs.Cited.{rules, arith, ◌≡◌, ◌∙◌, true, false, Ok, Err, refl, sym, ap, subst, subst₂, state, HasCleanDisk, Refusal, as_refusal, fold_refusal, take_refusal, ReadsRecord, TakesReader, TakesRecord, at}
 use Rattle.zeb_change.proofs.FoldParts.{advances_then, rest_ends, rest_fault, rest_further, rest_refused, store_of}
 use Rattle.zeb_change.proofs.ReadFaults.{never_reads}
 use Rattle.zeb_change.proofs.TransactionLemmas.{continues_then}
@@ -10,6 +10,7 @@ use Rattle.zeb_change.proofs.files.fold_file.Goals as goal
 pub loop-nth-init : goal.loop-nth-init
 loop-nth-init g c = record {
   same = refl;
+  able = λ sound. (sound, refl);
   crash = search rules;
   stays = search rules;
   steps = record { database = refl; most = λ most below limit. below; work = λ none. refl };
@@ -34,6 +35,10 @@ loop-nth-preserved g c =
     let read = record_read g at_here in
     record {
       same = search rules;
+      able = λ sound.
+          let so_far = c.loop-nth.invariant.able sound in
+          let read_on = c.in-Ok.ensures.able so_far.0 in
+          (read_on.0, read_on.1 ∙ so_far.1);
       crash = search rules;
       stays = λ clean mode.
           let was : HasCleanDisk (state g.S.Store c.loop-nth.tx.conn.now) = omega (arith, c.take_record.ensures.inside.crash.clean) in

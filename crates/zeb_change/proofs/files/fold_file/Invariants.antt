@@ -1,4 +1,4 @@
-use Rattle.zeb_change.proofs.Cited.{◌≡◌, ◌+◌, Bool, IsTrue, Result, state, HasCleanDisk, Survives, IsStore, Refusal, Continues, Advances, At, TakesReader, at}
+use Rattle.zeb_change.proofs.Cited.{◌≡◌, ◌+◌, Bool, IsTrue, Result, state, HasCleanDisk, Survives, IsStore, Refusal, Continues, Advances, At, TakesReader, StaysAble, at}
 use Rattle.zeb_change.proofs.files.fold_file.Given as goal
 
 abbrev pub invariant-loop-nth : goal.invariant-loop-nth
@@ -7,6 +7,7 @@ invariant-loop-nth g l =
     let now = state g.S.Store l.tx.conn.now in
     record {
       same : l.tx.conn.ghost_name ≡ l.fn.tx.conn.ghost_name;
+      able : StaysAble g.R.Source.may_fail g.R.Source.has_failed l.fn.reader l.reader;
       crash : Survives old now (λ _. ⊥);
       stays : HasCleanDisk now → IsTrue old.in_transaction → Continues old now;
       steps : Advances l.setting.limits g.L.Layout.row_work l.fn.fold.progress l.fold.progress;

@@ -1,5 +1,5 @@
-use Rattle.zeb_change.proofs.Cited.{rules, arith, ◌≡◌, ◌≢◌, ◌∙◌, ◌∷◌, ◌+◌, ◌≤◌, ◌<◌, ℕ, false, drop, length, map, get_or, get_or-set_other, get_or-set_same, slice_set, length-set, Ok, Err, refl, sym, ap, subst, subst₂, state, HasCleanDisk, HasFailedAt, NoneFailed, ReadFault, as_refusal, fold_refusal, OfReaders, TakesFiles, TakesReader, TakesReaders, at}
-use Rattle.zeb_change.proofs.FoldAll.{drop_all, failed_here, failed_now, fine_at, fine_more, none_at}
+use Rattle.zeb_change.proofs.Cited.{rules, arith, ◌≡◌, ◌≢◌, ◌∙◌, ◌∷◌, ◌+◌, ◌≤◌, ◌<◌, ℕ, false, drop, length, map, get_or, get_or-set_other, get_or-set_same, slice_set, length-set, Ok, Err, refl, sym, ap, subst, subst₂, state, HasCleanDisk, HasFailedAt, NoneFailed, ReadFault, as_refusal, fold_refusal, OfReaders, TakesFiles, TakesReader, TakesReaders, StayAble, StaysAble, at}
+use Rattle.zeb_change.proofs.FoldAll.{all_same, all_zip_set, drop_all, failed_here, failed_now, fine_at, fine_more, none_at}
 use Rattle.zeb_change.proofs.FoldParts.{advances_then, files_end, files_further, files_refused, next_remains, of_refused, rest_stores, sound, store_of, stores}
 use Rattle.zeb_change.proofs.TransactionLemmas.{continues_then}
 use Rattle.zeb_change.proofs.files.fold_readers.Given as given
@@ -9,6 +9,7 @@ use Rattle.zeb_change.proofs.files.fold_readers.Goals as goal
 pub loop-index-init : goal.loop-index-init
 loop-index-init g c = record {
   same = refl;
+  able = all_same _ (λ reader sound. (sound, refl)) c.args.readers.now;
   crash = search rules;
   stays = search rules;
   steps = record { database = refl; most = λ most below limit. below; work = λ none. refl };
@@ -17,6 +18,12 @@ loop-index-init g c = record {
   store = λ clean mode store. store;
   takes = λ clean mode store failed end result goes. goes;
 }
+
+-- readers that can't fail, once the file of one of them is read
+able_on : (g : given.Over) (c : After-fold_file g) → StayAble g.R.Source.may_fail g.R.Source.has_failed c.args.readers.now (slice_set c.loop-index.readers c.loop-index.index c.fold_file.new.reader)
+able_on g c =
+    all_zip_set (StaysAble g.R.Source.may_fail g.R.Source.has_failed) c.args.readers.now c.loop-index.readers c.loop-index.index c.index-readers-index.result c.fold_file.new.reader c.loop-index.invariant.able
+    (subst (λ r. StaysAble g.R.Source.may_fail g.R.Source.has_failed r c.fold_file.new.reader) (c.loop-index.invariant.unread c.loop-index.index c.index-readers-index.result (omega arith)) c.fold_file.ensures.able)
 
 -- what the readers from here on would tell at first
 here : (g : given.Over) (c : After-fold_file g)
@@ -36,6 +43,7 @@ loop-index-preserved g c =
     let fine : g.R.Source.has_failed c.fold_file.new.reader ≡ false = sound (g.R.Source.has_failed c.fold_file.new.reader) (λ failed. let no = c.in_ok-fold_file.ensures.failed failed in absurd (cc)) in
     record {
       same = search rules;
+      able = able_on g at_here;
       crash = search rules;
       stays = λ clean mode.
           let was : HasCleanDisk (state g.S.Store c.loop-index.tx.conn.now) = omega (arith, c.fold_file.ensures.inside.crash.clean) in
@@ -103,6 +111,9 @@ returns-in_err-fold_file-clause-takes g c clean mode store =
 
 pub returns-in_err-fold_file-clause-steps : goal.returns-in_err-fold_file-clause-steps
 returns-in_err-fold_file-clause-steps g c = advances_then _ _ _ _ _ c.loop-index.invariant.steps c.fold_file.ensures.steps
+
+pub returns-in_err-fold_file-clause-able : goal.returns-in_err-fold_file-clause-able
+returns-in_err-fold_file-clause-able g c = able_on g (goal.at.returns-in_err-fold_file-clause-able g c).After-fold_file
 
 -- ---- readers that fail
 

@@ -1,4 +1,4 @@
-use Rattle.zeb_change.proofs.Cited.{◌≡◌, ◌≤◌, ◌<◌, ◌+◌, Bool, false, ℕ, drop, map, get_or, IsTrue, Result, state, HasCleanDisk, Survives, IsStore, Refusal, Continues, Advances, At, TakesReaders, at}
+use Rattle.zeb_change.proofs.Cited.{◌≡◌, ◌≤◌, ◌<◌, ◌+◌, Bool, false, ℕ, drop, map, get_or, IsTrue, Result, state, HasCleanDisk, Survives, IsStore, Refusal, Continues, Advances, At, TakesReaders, StayAble, at}
 use Rattle.zeb_change.proofs.files.fold_readers.Given as goal
 
 abbrev pub invariant-loop-index : goal.invariant-loop-index
@@ -7,6 +7,7 @@ invariant-loop-index g l =
     let now = state g.S.Store l.tx.conn.now in
     record {
       same : l.tx.conn.ghost_name ≡ l.fn.tx.conn.ghost_name;
+      able : StayAble g.R.Source.may_fail g.R.Source.has_failed l.fn.readers l.readers;
       crash : Survives old now (λ _. ⊥);
       stays : HasCleanDisk now → IsTrue old.in_transaction → Continues old now;
       steps : Advances l.setting.limits g.L.Layout.row_work l.fn.fold.progress l.fold.progress;

@@ -8,6 +8,7 @@ use Rattle.zeb_engine.proofs.ChangeElders.{begins_at, few_elder, put_elder, put_
 use Rattle.zeb_engine.proofs.ChangeReasons.{fault_reasons, put_reasons}
 use Rattle.zeb_engine.proofs.ChangeNumbers.{begins_sound, only_damaged}
 use Rattle.zeb_engine.proofs.OverTables.{fault_few}
+use Rattle.zeb_engine.proofs.Readers.{as_able}
 use Rattle.zeb_engine.proofs.changes.apply.Goals as goal
 
 -- ---- it can't begin
@@ -344,3 +345,6 @@ returns-in_err-database_put-clause-reasons g c clean inside store found texts to
 
 pub returns-clause-reasons : goal.returns-clause-reasons
 returns-clause-reasons g c clean inside store found texts told fine = tt
+
+pub returns-in_err-database-clause-able : goal.returns-in_err-database-clause-able
+returns-in_err-database-clause-able g c = as_able g.R.Source.may_fail g.R.Source.has_failed c.args.readers.now

@@ -4,7 +4,7 @@ use Rattle.zeb_change.specs.declared.refusals.Refusal.TheVariants.{Memory}
 use Rattle.zeb_engine.proofs.ChangeBegins.{begins_still, start_refused}
 use Rattle.zeb_engine.proofs.CommitCrashes.{survives_after}
 use Rattle.zeb_engine.proofs.NoDamageAnswered.{start_honest}
-use Rattle.zeb_engine.proofs.Readers.{no_file_failed}
+use Rattle.zeb_engine.proofs.Readers.{as_able, no_file_failed}
 use Rattle.zeb_engine.proofs.ServesLemmas.{early_serves, opened_so}
 use Rattle.zeb_engine.proofs.ChangeElders.{few_elder, missed_elder, said_after}
 use Rattle.zeb_engine.proofs.ChangeReasons.{few_reasons, missed_reasons}
@@ -176,3 +176,9 @@ returns-clause-reasons g c clean store texts told fine =
     let first : HasCleanDisk mid = omega (arith, c.transact.ensures.survives.clean) in
     said_after (λ trees. BeginsWith c.args.setting.kind trees name c.in_ok-found.found → ReasonsOver profile setting.kind setting.limits name texts trees c.transact.result) old mid (c.found_for.ensures.same first) (c.in_ok-found.ensures.found first)
     (λ there known. c.transact.ensures.reasons clean there known texts told fine) store (c.in_ok-found.ensures.row first store)
+
+pub returns-in_err-found-clause-able : goal.returns-in_err-found-clause-able
+returns-in_err-found-clause-able g c = as_able g.R.Source.may_fail g.R.Source.has_failed c.args.readers.now
+
+pub returns-in_err-buffer-clause-able : goal.returns-in_err-buffer-clause-able
+returns-in_err-buffer-clause-able g c = as_able g.R.Source.may_fail g.R.Source.has_failed c.args.readers.now

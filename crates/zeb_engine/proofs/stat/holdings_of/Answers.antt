@@ -1,4 +1,5 @@
-use Rattle.zeb_engine.proofs.Cited.{rules, ◌≡◌, ◌∙◌, ◌++◌, ◌∷◌, [], ℕ, ℤ, List, Err, arith, ap, get_or, subst, sym, take, state, HasCleanDisk, Trees, Word, Occurrence, Directive, posted, AreTotals, IsRegisterSound, AreTermsSound, InPacked, take_whole, Holding, extent_of, HidesRegister, IsSoundUnder, IsExtent, Paired, Target, register_refusal, has_at, get_or_default, take_more, Format, holds_in}
+use Rattle.zeb_engine.proofs.Cited.{rules, ◌≡◌, ◌∙◌, ◌++◌, ◌∷◌, [], ℕ, ℤ, List, Ok, Err, arith, ap, get_or, subst, sym, take, state, HasCleanDisk, Trees, Word, Occurrence, Directive, posted, AreTotals, HidesSums, SumsUp, take_whole, Holding, extent_of, HidesRegister, IsSummedUp, IsExtent, Paired, Target, register_refusal, has_at, get_or_default, take_more, Format, holds_in}
+use Rattle.zeb_register.proofs.CountLists.{totals_told}
 use Rattle.zeb_engine.proofs.ListedDatabases.{fault_fails, fault_or_damage}
 use Rattle.zeb_engine.proofs.Showing.{still_shows}
 use Rattle.zeb_engine.proofs.StatAnswers.{paired_more}
@@ -8,8 +9,8 @@ use Rattle.zeb_engine.proofs.stat.holdings_of.Goals as goal
 abbrev Fits : (ℕ → Occurrence → Type 0) → List Directive → Target → Holding → Type 0
 Fits O profile target holding = IsExtent O profile target (extent_of holding)
 
-abbrev IsSoundHolding : Format → List Directive → Trees → ℤ → Target → Holding → Type 0
-IsSoundHolding format profile trees db target holding = IsSoundUnder format profile trees db target (extent_of holding)
+abbrev IsSummedHolding : Format → List Directive → Trees → ℤ → Target → Holding → Type 0
+IsSummedHolding format profile trees db target holding = IsSummedUp format profile trees db target (extent_of holding)
 
 pub loop-target-preserved : goal.loop-target-preserved
 loop-target-preserved g c =
@@ -26,8 +27,8 @@ loop-target-preserved g c =
       held = λ clean trees shows was content has.
           let first : HasCleanDisk now = omega (arith, c.totals.ensures.call.crash.clean) in
           let at = still_shows old now trees (c.loop-target.invariant.same first) shows (c.in_ok-totals.ensures.call.ok clean).0.was_open in
-          let value = c.in_ok-totals.ensures.value clean at.0 content (subst (λ (t : Trees). holds_in g.L.Layout.format t content) (sym at.1) has) in
           let target : Target = get_or c.args.targets.now index (0, Word) in
+          let value = (totals_told g.L.Layout.format (record { db = c.args.database; index = target.0; register = target.1 }) now (state g.S.Store c.totals.new.conn) (Ok c.in_ok-totals.totals) c.in_ok-totals.ensures.units).0 clean at.0 content (subst (λ (t : Trees). holds_in g.L.Layout.format t content) (sym at.1) has) in
           let holding = c.in_ok-holding_of.field-0 in
           let is : Fits (posted content c.args.database.0) c.args.profile.now target holding = record {
             under = record { name = c.in_ok-holding_of.ensures.name; register = c.in_ok-holding_of.ensures.register };
@@ -40,14 +41,14 @@ loop-target-preserved g c =
           let first : HasCleanDisk now = omega (arith, c.totals.ensures.call.crash.clean) in
           let at = still_shows old now trees (c.loop-target.invariant.same first) shows (c.in_ok-totals.ensures.call.ok clean).0.was_open in
           let target : Target = get_or c.args.targets.now index (0, Word) in
-          let Sound = IsSoundHolding g.L.Layout.format c.args.profile.now trees c.args.database.0 in
-          let is : Sound target c.in_ok-holding_of.field-0 = record {
+          let Summed = IsSummedHolding g.L.Layout.format c.args.profile.now trees c.args.database.0 in
+          let is : Summed target c.in_ok-holding_of.field-0 = record {
             under = record { name = c.in_ok-holding_of.ensures.name; register = c.in_ok-holding_of.ensures.register };
-            sound = subst (λ (t : Trees). AreTermsSound g.L.Layout.format t c.args.database.0 target.0 target.1) at.1 (c.in_ok-totals.ensures.sound clean at.0);
+            sums = subst (SumsUp g.L.Layout.format trees c.args.database.0 target.0 target.1) (sym c.in_ok-holding_of.ensures.totals) (subst (λ (t : Trees). SumsUp g.L.Layout.format t c.args.database.0 target.0 target.1 c.in_ok-totals.totals) at.1 (c.in_ok-totals.ensures.units clean at.0));
           } in
-          let more = paired_more Sound (take index c.args.targets.now) c.loop-target.holdings.items target c.in_ok-holding_of.field-0 (c.loop-target.invariant.sound first trees shows was) is in
-          subst (λ (l : List Target). Paired Sound l c.push_reserved.new.self.items) (sym (take_more c.args.targets.now index (0, Word) c.loop-target-test.true))
-          (subst (Paired Sound (take index c.args.targets.now ++ target ∷ [])) (sym c.push_reserved.ensures.items) more);
+          let more = paired_more Summed (take index c.args.targets.now) c.loop-target.holdings.items target c.in_ok-holding_of.field-0 (c.loop-target.invariant.sound first trees shows was) is in
+          subst (λ (l : List Target). Paired Summed l c.push_reserved.new.self.items) (sym (take_more c.args.targets.now index (0, Word) c.loop-target-test.true))
+          (subst (Paired Summed (take index c.args.targets.now ++ target ∷ [])) (sym c.push_reserved.ensures.items) more);
       no_work = λ none. c.totals.ensures.no_work none ∙ c.loop-target.invariant.no_work none;
     }
 
@@ -63,8 +64,9 @@ returns-in_err-totals-clause-failed g c clean trees shows was content storable h
     let first : HasCleanDisk now = omega (arith, c.totals.ensures.call.crash.clean) in
     let at = still_shows old now trees (c.loop-target.invariant.same first) shows (c.loop-target.invariant.open_still first was) in
     let fault = c.in_err-totals.field-0.0 in
+    let target : Target = get_or c.args.targets.now c.loop-target.target-index (0, Word) in
     let told : c.from_residual-in_err-totals.result ≡ Err (register_refusal fault) = search rules in
-    rw told (fault_fails fault (λ is. c.in_err-totals.ensures.honest clean at.0 (ap Err is) content storable (subst (λ (t : Trees). holds_in g.L.Layout.format t content) (sym at.1) has)))
+    rw told (fault_fails fault (λ is. (totals_told g.L.Layout.format (record { db = c.args.database; index = target.0; register = target.1 }) now (state g.S.Store c.totals.new.conn) (Err fault) c.in_err-totals.ensures.units).1 clean at.0 (ap Err is) content storable (subst (λ (t : Trees). holds_in g.L.Layout.format t content) (sym at.1) has)))
 
 pub returns-in_err-totals-clause-caused : goal.returns-in_err-totals-clause-caused
 returns-in_err-totals-clause-caused g c clean =
@@ -73,14 +75,15 @@ returns-in_err-totals-clause-caused g c clean =
     let first : HasCleanDisk now = omega (arith, c.totals.ensures.call.crash.clean) in
     let fault = c.in_err-totals.field-0.0 in
     let told : c.from_residual-in_err-totals.result ≡ Err (register_refusal fault) = search rules in
+    let target : Target = get_or c.args.targets.now c.loop-target.target-index (0, Word) in
     let leaves : LeavesAll old now = record { survives = c.loop-target.invariant.crash; opened = c.loop-target.invariant.open_still first; nothing = c.loop-target.invariant.same first } in
-    rw told (fault_after old now (state g.S.Store c.totals.new.conn) leaves fault clean c.in_err-totals.ensures.refused)
+    rw told (fault_after old now (state g.S.Store c.totals.new.conn) leaves fault clean (totals_told g.L.Layout.format (record { db = c.args.database; index = target.0; register = target.1 }) now (state g.S.Store c.totals.new.conn) (Err fault) c.in_err-totals.ensures.units).2)
 
 pub returns-clause-sound : goal.returns-clause-sound
 returns-clause-sound g c clean trees shows was =
     let whole = take_whole c.args.targets.now c.loop-target.target-index (omega (arith, c.loop-target-test.false)) in
-    let Sound = IsSoundHolding g.L.Layout.format c.args.profile.now trees c.args.database.0 in
-    subst (λ (l : List Target). Paired Sound l c.loop-target.holdings.items) whole (c.loop-target.invariant.sound clean trees shows was)
+    let Summed = IsSummedHolding g.L.Layout.format c.args.profile.now trees c.args.database.0 in
+    subst (λ (l : List Target). Paired Summed l c.loop-target.holdings.items) whole (c.loop-target.invariant.sound clean trees shows was)
 
 pub returns-in_err-totals-clause-honest : goal.returns-in_err-totals-clause-honest
 returns-in_err-totals-clause-honest g c clean trees shows was =
@@ -95,4 +98,4 @@ returns-in_err-totals-clause-honest g c clean trees shows was =
     let fault = c.in_err-totals.field-0.0 in
     let told : c.from_residual-in_err-totals.result ≡ Err (register_refusal fault) = search rules in
     rw told (fault_or_damage (HidesRegister g.L.Layout.format targets trees c.args.database.0) fault
-    (λ is. (target, there, subst (λ (t : Trees). ¬ InPacked g.L.Layout.format (IsRegisterSound t c.args.database.0 target.0 target.1)) at.1 (c.in_err-totals.ensures.damaged clean at.0 (ap Err is)))))
+    (λ is. (target, there, subst (λ (t : Trees). HidesSums g.L.Layout.format t c.args.database.0 target.0 target.1) at.1 ((c.in_err-totals.ensures.units clean at.0).0 is))))

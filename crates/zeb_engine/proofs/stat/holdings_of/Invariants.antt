@@ -1,4 +1,4 @@
-use Rattle.zeb_engine.proofs.Cited.{◌≡◌, ◌≤◌, false, length, take, vec_capacity, IsTrue, state, HasCleanDisk, Survives, Trees, ChangesNothing, Content, posted, extent_of, IsSoundUnder, IsExtent, Paired, ShowsStore, holds_in}
+use Rattle.zeb_engine.proofs.Cited.{◌≡◌, ◌≤◌, false, length, take, vec_capacity, IsTrue, state, HasCleanDisk, Survives, Trees, ChangesNothing, Content, posted, extent_of, IsSummedUp, IsExtent, Paired, ShowsStore, holds_in}
 use Rattle.zeb_engine.proofs.stat.holdings_of.Given as goal
 
 abbrev pub invariant-loop-target : goal.invariant-loop-target
@@ -15,6 +15,6 @@ invariant-loop-target g l =
       held : HasCleanDisk now → (trees : Trees) → ShowsStore old trees → IsTrue old.is_open → (content : Content) → holds_in g.L.Layout.format trees content
           → Paired (λ target holding. IsExtent (posted content l.fn.database.0) l.fn.profile target (extent_of holding)) (take l.target-index l.targets) l.holdings.items;
       sound : HasCleanDisk now → (trees : Trees) → ShowsStore old trees → IsTrue old.is_open
-          → Paired (λ target holding. IsSoundUnder g.L.Layout.format l.fn.profile trees l.fn.database.0 target (extent_of holding)) (take l.target-index l.targets) l.holdings.items;
+          → Paired (λ target holding. IsSummedUp g.L.Layout.format l.fn.profile trees l.fn.database.0 target (extent_of holding)) (take l.target-index l.targets) l.holdings.items;
       no_work : g.L.Layout.row_work ≡ 0 → l.work ≡ l.fn.work;
     }

@@ -1,4 +1,4 @@
-use Rattle.zeb_engine.proofs.Cited.{rules, ◌≡◌, ◌∙◌, ◌⊎◌, ℕ, pos, List, map, Err, Ok, IsTrue, arith, refl, sym, ap, ap₂, subst, inl, inr, state, HasCleanDisk, Trees, nothing_then, posted, IsRecordCount, HasDatabase, Reply, Counted, extent_of, refused, IsFailure, HidesRegister, HidesRegisters, IsSoundUnder, StatOver, StatTells, conditions, Damaged, why_of, IsExtent, Paired, Target, target_list, occurs, name_bytes, register_refusal, clean_before, version_of}
+use Rattle.zeb_engine.proofs.Cited.{rules, ◌≡◌, ◌∙◌, ◌⊎◌, ℕ, pos, List, map, Err, Ok, IsTrue, arith, refl, sym, ap, ap₂, subst, inl, inr, state, HasCleanDisk, Trees, nothing_then, posted, IsRecordCount, HasDatabase, Reply, Counted, extent_of, refused, IsFailure, HidesRegister, HidesRegisters, IsSummedUp, StatOver, StatTells, conditions, Damaged, why_of, IsExtent, Paired, Target, target_list, occurs, name_bytes, register_refusal, clean_before, version_of}
 use Rattle.zeb_register.specs.declared.catalog.Database.{Database}
 use Rattle.zeb_engine.specs.Answers.{counted}
 use Rattle.zeb_engine.proofs.DumpAnswers.{as_many}
@@ -256,7 +256,7 @@ returns-clause-tables g c clean store texts =
     let read = (c.in_ok-kept.ensures.call.ok clean3).0 in
     let second = at2 read.was_open in
     let database = c.in_ok-database.database in
-    let Sound = IsSoundUnder g.L.Layout.format profile s0.now.trees database.id.0 in
+    let Sound = IsSummedUp g.L.Layout.format profile s0.now.trees database.id.0 in
     let row = subst (λ (t : Trees). HasDatabase t database.id.0 (name_bytes c.args.name.now) (pos database.last)) first.1 (c.in_ok-database.ensures.row clean2 first.0) in
     let kept = subst (λ (t : Trees). IsRecordCount t database.id.0 c.in_ok-kept.kept) second.1 (c.in_ok-kept.ensures.value clean3 second.0) in
     let holdings = c.in_ok-holdings.holdings in

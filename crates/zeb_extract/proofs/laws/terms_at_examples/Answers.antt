@@ -9,22 +9,6 @@ use Rattle.zeb_text.specs.Words.{is_word_character, runs_of}
 use Rattle.zeb_text.specs.Numbers.{numerals_of}
 use Rattle.zeb_extract.proofs.laws.terms_at_examples.Goals as goal
 
-pub returns-clause-accents : goal.returns-clause-accents
-unfolding utf8_lossy utf8_valid_len chars is_utf8 encode caseless ucd_category folded is_word_character runs_of
-returns-clause-accents c = refl
-
-pub returns-clause-phrase : goal.returns-clause-phrase
-unfolding utf8_lossy utf8_valid_len chars is_utf8 encode caseless ucd_category folded is_word_character runs_of
-returns-clause-phrase c = refl
-
-pub returns-clause-damaged : goal.returns-clause-damaged
-unfolding utf8_error_len utf8_lossy utf8_valid_len chars is_utf8 encode caseless ucd_category folded is_word_character runs_of
-returns-clause-damaged c = refl
-
-pub returns-clause-no_word : goal.returns-clause-no_word
-unfolding utf8_lossy utf8_valid_len chars is_utf8 encode caseless ucd_category folded is_word_character runs_of
-returns-clause-no_word c = refl
-
-pub returns-clause-number : goal.returns-clause-number
-unfolding utf8_lossy utf8_valid_len chars is_utf8 encode runs_of numerals_of
-returns-clause-number c = refl
+pub returns : goal.returns
+unfolding utf8_error_len utf8_lossy utf8_valid_len chars is_utf8 encode caseless ucd_category folded is_word_character runs_of numerals_of
+returns c = record { accents = refl; phrase = refl; damaged = refl; no_word = refl; number = refl }

@@ -5,14 +5,8 @@ use Rattle.zeb_marc.proofs.LayoutChecks.{IsRecord-from_layout}
 use Rattle.zeb_marc.proofs.FaultLaws.{record_faults, numbered}
 use Rattle.zeb_marc.proofs.laws.record_laws.Goals as goal
 
-pub returns-clause-field_parts : goal.returns-clause-field_parts
-returns-clause-field_parts c = field_parts
-
-pub returns-clause-unit_parts : goal.returns-clause-unit_parts
-returns-clause-unit_parts c = unit_parts
-
-pub returns-clause-few : goal.returns-clause-few
-returns-clause-few c = few_units
+pub returns-clause-parts : goal.returns-clause-parts
+returns-clause-parts c = λ text fields is. (field_parts text fields is, unit_parts text fields is, few_units text fields is)
 
 pub returns-clause-laid_out : goal.returns-clause-laid_out
 returns-clause-laid_out c = λ text fields. (laid_out text fields, IsRecord-from_layout text fields)

@@ -12,8 +12,6 @@ unfolding first_fault fields_of are_digits number_of counts has_counts ends_dire
 returns c = record {
   accepted = record { sound = refl; fields_are = refl };
   units = refl;
-  cut = refl;
-  unended = refl;
-  empty = refl;
+  faulty = (refl, refl, refl);
   stream = refl;
 }

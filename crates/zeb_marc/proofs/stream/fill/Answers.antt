@@ -15,6 +15,9 @@ loop-filled-preserved g c =
     let within : n ≤ length bytes = omega (arith, c.in-Ok.ensures.bound.0) in
     record {
       fails = c.in-Ok.ensures.failed ∙ c.loop-filled.invariant.fails;
+      able = λ sound.
+          let inv = c.loop-filled.invariant.able sound in
+          ((c.in-Ok.ensures.able inv.0).1, c.in-Ok.ensures.failed ∙ inv.1);
       within = omega (arith, length-put_mid part bytes a k (omega (arith, parts)) len);
       told = λ text told.
           let inv = c.loop-filled.invariant.told text told in

@@ -21,6 +21,10 @@ returns-then-not-may_separate-clause-told g c = λ text told.
 pub loop-preserved : goal.loop-preserved
 loop-preserved g c = record {
   fails = c.in_ok-byte.ensures.fails ∙ c.loop.invariant.fails;
+  able = λ sound.
+      let inv = c.loop.invariant.able sound in
+      let read = c.in_ok-byte.ensures.able inv.0 in
+      (read.0, read.1 ∙ inv.1);
   told = λ text told.
       let inv = c.loop.invariant.told text told in
       let found = byte_some c.in_ok-byte.field-0 c.in-Some.byte (drop c.loop.counter text) (g.R.Source.remaining c.read_byte.new.source) c.in-Some.is (c.in_ok-byte.ensures.told (drop c.loop.counter text) inv.0) in

@@ -1,4 +1,4 @@
-use Rattle.zeb_packed.proofs.Cited.{rules, ◌≡◌, ◌++◌, Err, arith, length-append, has_at, each_spelled, spelled_more}
+use Rattle.zeb_packed.proofs.Cited.{rules, ◌≡◌, ◌++◌, Err, arith, length-append, has_at, spelled_more}
 use Rattle.zeb_packed.proofs.packed_totals.rows_postings.Goals as goal
 
 pub returns-in_err-row_postings-clause-refused : goal.returns-in_err-row_postings-clause-refused
@@ -6,7 +6,7 @@ returns-in_err-row_postings-clause-refused c =
     let told : c.from_residual.result ≡ Err c.in_err-row_postings.field-0.0 = search rules in
     let fault = c.in_err-row_postings.ensures.refused in
     let here = has_at _ _ _ c.row-item.is c.loop-row-test.true in
-    rw told (fault.0, λ list are. let spells = each_spelled c.args.rows.now list are c.row-item.result here in fault.1 spells.0 spells.1)
+    rw told (fault.0, (c.row-item.result, here, fault.1))
 
 pub loop-row-preserved : goal.loop-row-preserved
 loop-row-preserved c =

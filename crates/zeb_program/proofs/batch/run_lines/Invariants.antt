@@ -21,6 +21,7 @@ invariant-loop-rest g l =
       range : l.greatest ≤ 3;
       sound : l.output.failed ≡ false → l.initial.output.failed ≡ false;
       under : (l.session.profile ≡ before.profile) × (l.session.limits ≡ before.limits);
+      clean : HasCleanDisk (state g.S.Store l.session.connection) → HasCleanDisk (state g.S.Store before.connection);
       told : AreFilesTold (g.P.Paths.tells l.paths) l.batch.text.now → AreFilesTold (g.P.Paths.tells l.paths) l.rest;
       over : l.output.failed ≡ false → HasCleanDisk (state g.S.Store l.session.connection)
           → IsAnswered (LineOver g.S.Store (g.P.Paths.tells l.paths) g.L.Layout.format (conditions (version_of g.L.Layout.format) before.profile before.limits))

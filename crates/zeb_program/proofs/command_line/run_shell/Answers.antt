@@ -1,9 +1,23 @@
 use Rattle.std.proofs.Common.{refl}
+use Rattle.zeb_change.specs.Conditions.{conditions}
+use Rattle.zeb_register.specs.Formats.{packed_blocks, version_of}
+use Rattle.zeb_program.specs.Registers.{places}
 use Rattle.zeb_program.proofs.WordAnswerLemmas.{shell_read, shell_refused}
+use Rattle.zeb_program.proofs.WordRunLemmas.{shell_served, shell_unopened}
 use Rattle.zeb_program.proofs.command_line.run_shell.Goals as goal
 
 pub returns-in-Ok-clause-whole : goal.returns-in-Ok-clause-whole
-returns-in-Ok-clause-whole g c = shell_read c.serve_lines.result _ _ c.serve_lines.ensures.whole
+returns-in-Ok-clause-whole g c = shell_read c.serve_in.result _ _ c.serve_in.ensures.whole
 
 pub returns-in-Err-clause-whole : goal.returns-in-Err-clause-whole
-returns-in-Err-clause-whole g c = shell_refused c.tell.result _ _ refl
+returns-in-Err-clause-whole g c = shell_refused c.tell_failure.result _ _ refl
+
+pub returns-in-Ok-clause-answer : goal.returns-in-Ok-clause-answer
+returns-in-Ok-clause-answer g c =
+    let session = c.in-Ok.session in
+    shell_served (places g.P.Store.Store (g.P.Paths.tells c.args.paths.now) (g.P.Paths.opens c.args.paths.now) (g.P.Paths.lacks c.args.paths.now)) c.args.config (g.P.Paths.tells c.open.new.paths) (conditions (version_of packed_blocks) session.profile session.limits) session.connection
+    _ _ _ _ _ _ _ _ c.serve_in.result c.open.ensures.told c.in-Ok.ensures.opened c.serve_in.ensures.answer
+
+pub returns-in-Err-clause-answer : goal.returns-in-Err-clause-answer
+returns-in-Err-clause-answer g c =
+    shell_unopened (places g.P.Store.Store (g.P.Paths.tells c.args.paths.now) (g.P.Paths.opens c.args.paths.now) (g.P.Paths.lacks c.args.paths.now)) c.args.config _ _ _ _ _ c.in-Err.failure.fault _ _ c.tell_failure.result c.in-Err.ensures.failed c.tell_failure.ensures.told

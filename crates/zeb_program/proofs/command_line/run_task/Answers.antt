@@ -1,22 +1,18 @@
-use Rattle.std.proofs.Common.{◌≡◌, false, inl, refl, subst}
-use Rattle.std.proofs.KnownBytes.{Keeps-refl}
-use Rattle.zeb_program.proofs.WordAnswerLemmas.{told_apart, untouched, warned_once}
+use Rattle.std.proofs.Common.{refl}
+use Rattle.zeb_program.specs.Registers.{places}
+use Rattle.zeb_program.proofs.WordAnswerLemmas.{untouched}
+use Rattle.zeb_program.proofs.WordRunLemmas.{told_done, told_why}
 use Rattle.zeb_program.proofs.command_line.run_task.Goals as goal
-use Rattle.zeb_program.proofs.command_line.run_task.Goals.{in-Some, in_default}
 
-pub returns-after-warning-clause-apart : goal.returns-after-warning-clause-apart
-returns-after-warning-clause-apart g c = λ sound.
-    inl (
-      refl,
-      elim c.match-warning.branch [
-        | in-Some w ↦ rw w.fault_output-is (warned_once c.args.task.now c.in-Ok.field-0.warning w.in-Some.line w.as_bytes.result.now _ _ w.in-Some.is c.in-Ok.ensures w.as_bytes.ensures.value
-            (w.write-in-Some.ensures.bytes (subst (λ sink. sink.failed ≡ false) w.fault_output-is sound)))
-        | in_default w ↦ rw w.fault_output-is (inl (Keeps-refl (g.V.Write.contents c.args.fault_output.now.writer)))
-      ],
-    )
+pub returns-in-Ok-clause-apart : goal.returns-in-Ok-clause-apart
+returns-in-Ok-clause-apart g c = λ sound quiet.
+    told_done (places g.P.Store.Store (g.P.Paths.tells c.args.paths.now) (g.P.Paths.opens c.args.paths.now) (g.P.Paths.lacks c.args.paths.now)) c.args.config c.args.task.now _ _ _ _ c.tell_answer.result c.in-Ok.told
+    c.in-Ok.ensures.performs (c.tell_answer.ensures.text sound) (c.tell_answer.ensures.told quiet c.args.task.now c.in-Ok.ensures.warns)
 
 pub returns-in-Err-clause-apart : goal.returns-in-Err-clause-apart
-returns-in-Err-clause-apart g c = told_apart _ _ _ _ c.in-Err.fault _ c.tell.result c.tell.ensures.status c.tell.ensures.told
+returns-in-Err-clause-apart g c =
+    told_why (places g.P.Store.Store (g.P.Paths.tells c.args.paths.now) (g.P.Paths.opens c.args.paths.now) (g.P.Paths.lacks c.args.paths.now)) c.args.config c.args.task.now _ _ _ c.in-Err.failure.fault _ _ c.tell_failure.result
+    c.in-Err.ensures.performs c.tell_failure.ensures.status c.tell_failure.ensures.told
 
 pub returns-in-Err-clause-stopped : goal.returns-in-Err-clause-stopped
-returns-in-Err-clause-stopped g c = untouched c.tell.result _ _ refl c.tell.ensures.silent
+returns-in-Err-clause-stopped g c = untouched c.tell_failure.result _ _ refl c.tell_failure.ensures.silent

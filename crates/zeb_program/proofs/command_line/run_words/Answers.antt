@@ -1,5 +1,6 @@
 use Rattle.std.proofs.Common.{[], map, string_bytes, inl, inr, arith}
 use Rattle.std.proofs.KnownBytes.{Consumes-nil}
+use Rattle.zeb_program.specs.Registers.{places}
 use Rattle.zeb_program.specs.WordAnswers.{misused}
 use Rattle.zeb_program.proofs.WordAnswerLemmas.{batch_words, shell_kept, shell_words, stopped_line_words, stopped_task_words, task_words}
 use Rattle.zeb_program.proofs.command_line.run_words.Goals as goal
@@ -13,7 +14,8 @@ returns-in-Task-clause-bounded g c = λ other. ([], omega (arith), Consumes-nil 
 
 pub returns-in-Task-clause-answer : goal.returns-in-Task-clause-answer
 returns-in-Task-clause-answer g c =
-    task_words (map string_bytes c.args.words.now) _ _ _ _ _ c.in-Task.task _ _ c.run_task.result (c.in-Ok.words, c.in-Ok.ensures.named, c.in-Task.ensures) c.run_task.ensures.apart
+    task_words (places g.P.Store.Store (g.P.Paths.tells c.args.paths.now) (g.P.Paths.opens c.args.paths.now) (g.P.Paths.lacks c.args.paths.now)) (map string_bytes c.args.words.now) _ _ _ _ _ _ _ c.in-Ok.words c.in-Task.task _ _ c.run_task.result
+    c.in-Ok.ensures.named c.in-Task.ensures c.run_task.ensures.apart
 
 pub returns-in-Task-clause-stopped : goal.returns-in-Task-clause-stopped
 returns-in-Task-clause-stopped g c =
@@ -26,7 +28,8 @@ returns-in-Batch-clause-unread g c = λ other.
 
 pub returns-in-Batch-clause-answer : goal.returns-in-Batch-clause-answer
 returns-in-Batch-clause-answer g c =
-    batch_words (map string_bytes c.args.words.now) _ _ _ _ _ _ _ c.run_batch.result (c.in-Ok.words, c.in-Ok.ensures.named, c.in-Batch.ensures)
+    batch_words (places g.P.Store.Store (g.P.Paths.tells c.args.paths.now) (g.P.Paths.opens c.args.paths.now) (g.P.Paths.lacks c.args.paths.now)) (map string_bytes c.args.words.now) _ _ _ _ _ _ _ c.in-Ok.words _ _ c.run_batch.result
+    c.in-Ok.ensures.named c.in-Batch.ensures c.run_batch.ensures.answer
 
 pub returns-in-Batch-clause-stopped : goal.returns-in-Batch-clause-stopped
 returns-in-Batch-clause-stopped g c =
@@ -42,8 +45,9 @@ returns-in-Shell-clause-unread g c = λ other.
 
 pub returns-in-Shell-clause-answer : goal.returns-in-Shell-clause-answer
 returns-in-Shell-clause-answer g c =
-    shell_words (map string_bytes c.args.words.now) _ _ _ _ _ _ _ c.run_shell.result (c.in-Ok.words, c.in-Ok.ensures.named, c.in-Shell.ensures)
-    (shell_kept (λ sink. g.W.Write.contents sink.writer) c.args.output.now c.run_shell.new.output c.run_shell.result _ c.run_shell.ensures.whole)
+    shell_words (places g.P.Store.Store (g.P.Paths.tells c.args.paths.now) (g.P.Paths.opens c.args.paths.now) (g.P.Paths.lacks c.args.paths.now)) (map string_bytes c.args.words.now) _ _ _ _ _ _ _ c.in-Ok.words _ _ c.run_shell.result
+    c.in-Ok.ensures.named c.in-Shell.ensures
+    (shell_kept (λ sink. g.W.Write.contents sink.writer) c.args.output.now c.run_shell.new.output c.run_shell.result _ c.run_shell.ensures.whole) c.run_shell.ensures.answer
 
 pub returns-in-Shell-clause-stopped : goal.returns-in-Shell-clause-stopped
 returns-in-Shell-clause-stopped g c =

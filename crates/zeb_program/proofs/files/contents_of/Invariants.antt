@@ -1,6 +1,6 @@
 use Rattle.std.proofs.Common.{◌≡◌, List, ℕ, Some, map, string_bytes}
-use Rattle.zeb_paths.specs.Walks.{paths_left}
-use Rattle.zeb_program.specs.PrivateTaskAnswers.{AreTold}
+use Rattle.zeb_paths.specs.Walks.{AreUnder, paths_left}
+use Rattle.zeb_program.specs.TaskAnswers.{AreTold}
 use Rattle.zeb_program.specs.PrivateFiles.{AreShort}
 use Rattle.zeb_program.proofs.ReaderLemmas.{IsMet}
 use Rattle.zeb_program.proofs.files.contents_of.Given as goal
@@ -11,6 +11,7 @@ invariant-loop g l =
     record {
       short : AreShort (map (λ content. content.items) l.contents.items);
       paths : l.walk.paths.now ≡ l.paths;
+      under : AreUnder (map string_bytes l.named) (paths_left l.walk.steps.items);
       met : (files : List (List ℕ)) → AreTold (g.P.Paths.tells l.paths) (map string_bytes l.named) files
           → IsMet (λ content. Some content.items) (g.P.Paths.tells l.paths) files l.contents.items (paths_left l.walk.steps.items);
     }

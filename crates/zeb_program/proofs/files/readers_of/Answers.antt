@@ -1,13 +1,17 @@
-use Rattle.std.proofs.Common.{◌≡◌, ◌∙◌, ap, subst, Err, Ok, map, string_bytes}
+use Rattle.std.proofs.Common.{Err, Ok, ap, map, rules, string_bytes, subst, ◌∙◌, ◌≡◌}
+use Rattle.std.specs.Prelude.{IfErr}
+use Rattle.zeb_program.specs.PrivateFaults.{IsUnread, fault_of}
 use Rattle.zeb_paths.specs.Walks.{paths_left}
-use Rattle.zeb_program.proofs.ReaderLemmas.{GivesNext, Ends, met_start, met_fault, met_end, met_next}
+use Rattle.zeb_program.specs.PrivateFiles.{sure_bytes}
+use Rattle.zeb_program.proofs.ReaderLemmas.{under_faults, under_start, GivesNext, Ends, met_start, met_fault, met_end, met_next, sure_of}
 use Rattle.zeb_program.proofs.files.readers_of.Goals as goal
 
 pub loop-init : goal.loop-init
 loop-init g c =
     record {
       paths = ap (λ p. p.now) c.in_ok-walk.ensures.paths;
-      met = λ files told. met_start g.P.Reader.Source.remaining (g.P.Paths.tells c.args.paths.now) files c.new-readers.result.items _ (map string_bytes c.args.named.now) c.new-readers.ensures.items c.in_ok-walk.ensures.left told;
+      under = under_start (map string_bytes c.args.named.now) _ c.in_ok-walk.ensures.left;
+      met = λ files told. met_start (sure_bytes g.P.Reader.Source.remaining g.P.Reader.Source.may_fail g.P.Reader.Source.has_failed) (g.P.Paths.tells c.args.paths.now) files c.new-readers.result.items _ (map string_bytes c.args.named.now) c.new-readers.ensures.items c.in_ok-walk.ensures.left told;
     }
 
 pub returns-in_err-path-clause-memory : goal.returns-in_err-path-clause-memory
@@ -15,7 +19,7 @@ returns-in_err-path-clause-memory g c files told =
     let left = paths_left c.loop.walk.steps.items in
     let later = paths_left c.next_file.new.self.steps.items in
     let why = c.in_err-path.field-0.0 in
-    absurd (met_fault g.P.Reader.Source.remaining (g.P.Paths.tells c.args.paths.now) files c.loop.readers.items left later why
+    absurd (met_fault (sure_bytes g.P.Reader.Source.remaining g.P.Reader.Source.may_fail g.P.Reader.Source.has_failed) (g.P.Paths.tells c.args.paths.now) files c.loop.readers.items left later why
     (c.loop.invariant.met files told) (subst (λ p. GivesNext (g.P.Paths.tells p) left later (Err why)) c.loop.invariant.paths c.in_err-path.ensures.told) c.in_err-path.ensures.ended)
 
 pub returns-in_default-clause-told : goal.returns-in_default-clause-told
@@ -23,7 +27,7 @@ returns-in_default-clause-told g c files told =
     let left = paths_left c.loop.walk.steps.items in
     let later = paths_left c.next_file.new.self.steps.items in
     let next = subst (λ p. GivesNext (g.P.Paths.tells p) left later (Ok c.in_ok-path.field-0)) c.loop.invariant.paths c.in_ok-path.ensures.told in
-    met_end g.P.Reader.Source.remaining (g.P.Paths.tells c.args.paths.now) files c.loop.readers.items left later
+    met_end (sure_bytes g.P.Reader.Source.remaining g.P.Reader.Source.may_fail g.P.Reader.Source.has_failed) (g.P.Paths.tells c.args.paths.now) files c.loop.readers.items left later
     (c.loop.invariant.met files told) (subst (λ found. GivesNext (g.P.Paths.tells c.args.paths.now) left later (Ok found)) c.in_default.is next)
 
 pub loop-preserved : goal.loop-preserved
@@ -35,8 +39,16 @@ loop-preserved g c =
     let read : g.P.Reader.Source.remaining c.reader.result ≡ tells (string_bytes c.in-Some.path) = c.reader.ensures.bytes in
     record {
       paths = ap (λ p. p.now) c.in_ok-path.ensures.paths ∙ c.loop.invariant.paths;
+      under = (c.in_ok-path.ensures.under (map string_bytes c.args.named.now) c.loop.invariant.under).1;
       met = λ files told.
-          met_next g.P.Reader.Source.remaining tells files c.loop.readers.items c.push.new.self.items left later c.in-Some.path c.reader.result
+          met_next (sure_bytes g.P.Reader.Source.remaining g.P.Reader.Source.may_fail g.P.Reader.Source.has_failed) tells files c.loop.readers.items c.push.new.self.items left later c.in-Some.path c.reader.result
           (c.loop.invariant.met files told) (subst (λ found. GivesNext tells left later (Ok found)) c.in-Some.is next)
-          (subst (λ found. Ends left (Ok found)) c.in-Some.is c.in_ok-path.ensures.ended) (λ file known. read ∙ known) c.in_ok-push.ensures.items;
+          (subst (λ found. Ends left (Ok found)) c.in-Some.is c.in_ok-path.ensures.ended)
+          (λ file known. sure_of g.P.Reader.Source.remaining g.P.Reader.Source.may_fail g.P.Reader.Source.has_failed c.reader.result file (read ∙ known) (c.reader.ensures.able file known) c.reader.ensures.sound) c.in_ok-push.ensures.items;
     }
+
+pub returns-in_err-path-clause-under : goal.returns-in_err-path-clause-under
+returns-in_err-path-clause-under g c =
+    let why = c.in_err-path.field-0.0 in
+    let from : IfErr c.from_residual-in_err-path.result (λ given. IsUnread given × (given ≡ fault_of why)) = search rules in
+    under_faults (map string_bytes c.args.named.now) why c.from_residual-in_err-path.result from (c.in_err-path.ensures.under (map string_bytes c.args.named.now) c.loop.invariant.under).0

@@ -1,6 +1,7 @@
 use Rattle.std.proofs.Common.{◌≡◌, List, ℕ, map, string_bytes}
-use Rattle.zeb_paths.specs.Walks.{paths_left}
-use Rattle.zeb_program.specs.PrivateTaskAnswers.{AreTold}
+use Rattle.zeb_paths.specs.Walks.{AreUnder, paths_left}
+use Rattle.zeb_program.specs.PrivateFiles.{sure_bytes}
+use Rattle.zeb_program.specs.TaskAnswers.{AreTold}
 use Rattle.zeb_program.proofs.ReaderLemmas.{IsMet}
 use Rattle.zeb_program.proofs.files.readers_of.Given as goal
 
@@ -9,6 +10,7 @@ abbrev pub invariant-loop : goal.invariant-loop
 invariant-loop g l =
     record {
       paths : l.walk.paths.now ≡ l.paths;
+      under : AreUnder (map string_bytes l.named) (paths_left l.walk.steps.items);
       met : (files : List (List ℕ)) → AreTold (g.P.Paths.tells l.paths) (map string_bytes l.named) files
-          → IsMet g.P.Reader.Source.remaining (g.P.Paths.tells l.paths) files l.readers.items (paths_left l.walk.steps.items);
+          → IsMet (sure_bytes g.P.Reader.Source.remaining g.P.Reader.Source.may_fail g.P.Reader.Source.has_failed) (g.P.Paths.tells l.paths) files l.readers.items (paths_left l.walk.steps.items);
     }

@@ -1,6 +1,6 @@
 -- What adopting the store says, of what is given on.
 use Rattle.zeb_change.specs.declared.refusals.Refusal.TheVariants.{Store}
-use Rattle.zeb_program.specs.PrivateFaults.{IsOpeningFailure}
+use Rattle.zeb_program.specs.FaultAnswers.{IsOpeningFailure}
 use Rattle.zeb_program.proofs.ResultValues.{holds_of, narrowed_err, narrowed_fault, narrowed_so}
 use Rattle.zeb_program.proofs.opening.session_over.Goals as goal
 

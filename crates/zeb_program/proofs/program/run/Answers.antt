@@ -1,5 +1,6 @@
 use Rattle.std.proofs.Common.{◌≡◌, false, map, string_bytes}
 use Rattle.std.specs.Prelude.{IfSome}
+use Rattle.zeb_program.specs.Registers.{places}
 use Rattle.zeb_program.specs.ScriptAnswers.{EndsScript}
 use Rattle.zeb_program.specs.WordAnswers.{EndsWords}
 use Rattle.zeb_program.proofs.ResultValues.{unwrapped}
@@ -21,16 +22,19 @@ returns-then-is_empty-clause-script g c = λ none read sound quiet.
 
 pub returns-clause-words : goal.returns-clause-words
 returns-clause-words g c = λ some sound quiet.
+    let at = places g.P.Store.Store (g.P.Paths.tells c.args.paths.now) (g.P.Paths.opens c.args.paths.now) (g.P.Paths.lacks c.args.paths.now) in
     let words = map string_bytes c.args.words.now in
+    let given = g.R.Source.remaining c.args.input.now in
     let left = g.R.Source.remaining c.run_words.new.input in
+    let unread = g.R.Source.has_failed c.run_words.new.input in
     let old = g.W.Write.contents c.args.output.now.writer in
     let mid = g.W.Write.contents c.run_words.new.output.writer in
     let fault_old = g.V.Write.contents c.args.fault_output.now.writer in
     let fault_mid = g.V.Write.contents c.run_words.new.fault_output.writer in
     let told = unwrapped c.run_words.result
-    (λ status. c.run_words.new.output.failed ≡ false → c.run_words.new.fault_output.failed ≡ false → EndsWords words left old mid fault_old fault_mid status) 3
-    (ended_words words left old mid fault_old fault_mid _ _ c.run_words.result c.run_words.ensures.answer)
-    (early_words words left old mid fault_old fault_mid _ _ c.run_words.result c.run_words.ensures.stopped) (c.finish-2.ensures.sound sound) (c.finish-2.ensures.sound_fault quiet) in
+    (λ status. c.run_words.new.output.failed ≡ false → c.run_words.new.fault_output.failed ≡ false → EndsWords at words given left unread old mid fault_old fault_mid status) 3
+    (ended_words at words given left unread old mid fault_old fault_mid _ _ c.run_words.result c.run_words.ensures.answer)
+    (early_words at words given left unread old mid fault_old fault_mid _ _ c.run_words.result c.run_words.ensures.stopped) (c.finish-2.ensures.sound sound) (c.finish-2.ensures.sound_fault quiet) in
     rw (c.finish-2.ensures.status sound quiet, c.unwrap_or-status-2.ensures)
-    (kept_words words left old mid (g.W.Write.contents c.finish-2.new.output.writer) fault_old fault_mid (g.V.Write.contents c.finish-2.new.fault_output.writer) _
+    (kept_words at words given left unread old mid (g.W.Write.contents c.finish-2.new.output.writer) fault_old fault_mid (g.V.Write.contents c.finish-2.new.fault_output.writer) _
     (c.finish-2.ensures.bytes sound) (c.finish-2.ensures.bytes_fault quiet) told)

@@ -21,6 +21,7 @@ loop-lines_before-init g c =
       range = omega arith;
       sound = λ sound. sound;
       under = (refl, refl);
+      clean = λ clean. clean;
       over = λ _ _. goes_start (LineOver g.S.Store (g.P.Paths.tells c.args.paths.now) g.L.Layout.format k) (g.W.Write.contents c.args.output.now.writer) (g.R.Source.remaining c.args.input.now) c.args.session.now.connection;
       answers = λ _ _. serves_start (g.P.Paths.tells c.args.paths.now) k old (g.W.Write.contents c.args.output.now.writer) (g.R.Source.remaining c.args.input.now);
     }
@@ -43,6 +44,7 @@ loop-lines_before-preserved g c =
       range = search rules;
       sound = λ sound. c.loop-lines_before.invariant.sound (c.run_next_line.ensures.sound sound);
       under = (c.run_next_line.ensures.under.0 ∙ same.0, c.run_next_line.ensures.under.1 ∙ same.1);
+      clean = λ clean. c.loop-lines_before.invariant.clean (c.run_next_line.ensures.clean clean);
       over = λ sound clean.
           let step = subst₂ (λ p l. IfSome c.in_ok-status.field-0 (λ s. failed ≡ false → HasCleanDisk next → IfSome left (λ text. Writes mid writes (λ bytes. LineOver g.S.Store tells g.L.Layout.format (conditions (version_of g.L.Layout.format) p l)
           (n + 1) (first_line text) c.loop-lines_before.session.connection bytes s c.run_next_line.new.session.connection)))) same.0 same.1 c.in_ok-status.ensures.over in

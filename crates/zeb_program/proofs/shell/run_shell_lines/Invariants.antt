@@ -17,6 +17,7 @@ invariant-loop-lines_before g l =
       range : l.greatest ≤ 3;
       sound : l.output.failed ≡ false → l.initial.output.failed ≡ false;
       under : (l.session.profile ≡ before.profile) × (l.session.limits ≡ before.limits);
+      clean : HasCleanDisk (state g.S.Store l.session.connection) → HasCleanDisk (state g.S.Store before.connection);
       over : l.output.failed ≡ false → HasCleanDisk (state g.S.Store l.session.connection)
           → Goes (LineOver g.S.Store (g.P.Paths.tells l.paths) g.L.Layout.format (conditions (version_of g.L.Layout.format) before.profile before.limits))
           (g.W.Write.contents l.initial.output.writer) (g.W.Write.contents l.output.writer) (g.R.Source.remaining l.initial.input) (g.R.Source.remaining l.input) l.lines_before l.greatest

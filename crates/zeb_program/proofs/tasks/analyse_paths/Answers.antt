@@ -2,13 +2,13 @@ use Rattle.std.proofs.Common.{◌≡◌, ◌⊎◌, Err, inl, map, refl, rules, 
 use Rattle.sqlite.specs.Held.{state}
 use Rattle.zeb_change.specs.Conditions.{conditions}
 use Rattle.zeb_register.specs.Formats.{version_of}
-use Rattle.zeb_program.specs.PrivateFaults.{IsUnreadable}
+use Rattle.zeb_program.specs.FaultAnswers.{IsUnreadable}
 use Rattle.zeb_program.specs.PrivateServing.{AnswersFrom, replied}
-use Rattle.zeb_program.specs.PrivateTaskAnswers.{AnalysesFiles}
+use Rattle.zeb_program.specs.TaskAnswers.{AnalysesFiles}
 use Rattle.zeb_program.specs.declared.faults.Fault.TheVariants.{Memory}
 use Rattle.zeb_program.specs.PrivateOverTables.{AnalysesOver}
 use Rattle.zeb_program.proofs.OverLemmas.{analysed_over, unanalysed_over}
-use Rattle.zeb_program.proofs.TaskLemmas.{analysed_files, unread_files}
+use Rattle.zeb_program.proofs.TaskLemmas.{analysed_files, read_under, served_under, unread_files}
 use Rattle.zeb_program.proofs.tasks.analyse_paths.Goals as goal
 
 pub returns-in_err-files-clause-told : goal.returns-in_err-files-clause-told
@@ -66,3 +66,8 @@ returns-clause-over g c =
 
 pub returns-clause-still : goal.returns-clause-still
 returns-clause-still g c = c.ask.ensures.still c.in_ok-files.files refl
+
+pub returns-clause-names : goal.returns-clause-names
+returns-clause-names g c =
+    let paths = map string_bytes c.args.named.now in
+    served_under paths c.to_serve.result c.ask.result c.to_serve.ensures.reply (read_under paths c.ask.result c.ask.ensures.read)

@@ -3,9 +3,11 @@ use Rattle.sqlite.specs.Held.{state}
 use Rattle.zeb_change.specs.Conditions.{conditions}
 use Rattle.zeb_register.specs.Formats.{version_of}
 use Rattle.zeb_program.specs.PrivateOverTables.{TaskOver}
+use Rattle.sqlite.specs.State.{HasCleanDisk}
 use Rattle.zeb_program.specs.PrivateServing.{ServesTask, replied}
+use Rattle.zeb_program.specs.TaskAnswers.{paths_of}
 use Rattle.zeb_program.proofs.OverLemmas.{analysed_task_over, asked_task_over, changed_task_over}
-use Rattle.zeb_program.proofs.TaskLemmas.{analysed_task, asked_task, changed_task}
+use Rattle.zeb_program.proofs.TaskLemmas.{analysed_task, analysis_under, asked_task, change_under, changed_task, read_under, served_under}
 use Rattle.zeb_program.proofs.tasks.carry_out.Goals as goal
 
 pub returns-in-Ask-clause-answer : goal.returns-in-Ask-clause-answer
@@ -61,3 +63,19 @@ returns-in-Analyse-clause-over g c = λ _.
     let new = state g.S.Store c.analyse_paths.new.session.connection in
     analysed_task_over (g.P.Paths.tells c.args.paths.now) g.L.Layout.format k c.args.task.now old new (replied c.analyse_paths.result) c.in-Analyse.named c.deref-in-Analyse.result.now
     c.in-Analyse.is c.deref-in-Analyse.ensures.value c.analyse_paths.ensures.over (ap (state g.S.Store) c.analyse_paths.ensures.still)
+
+pub returns-in-Ask-clause-names : goal.returns-in-Ask-clause-names
+returns-in-Ask-clause-names g c =
+    served_under (paths_of c.args.task.now) c.to_serve.result c.ask.result c.to_serve.ensures.reply (read_under (paths_of c.args.task.now) c.ask.result c.ask.ensures.read)
+
+pub returns-in-Change-clause-names : goal.returns-in-Change-clause-names
+returns-in-Change-clause-names g c =
+    served_under (paths_of c.args.task.now) c.to_serve-in-Change.result c.change_by_paths-reply.result c.to_serve-in-Change.ensures.reply
+    (change_under c.args.task.now c.in-Change.kind c.in-Change.database c.in-Change.named c.deref.result.now c.change_by_paths-reply.result c.in-Change.is c.deref.ensures.value c.change_by_paths-reply.ensures.names)
+
+pub returns-in-Analyse-clause-names : goal.returns-in-Analyse-clause-names
+returns-in-Analyse-clause-names g c =
+    analysis_under c.args.task.now c.in-Analyse.named c.deref-in-Analyse.result.now c.analyse_paths.result c.in-Analyse.is c.deref-in-Analyse.ensures.value c.analyse_paths.ensures.names
+
+pub returns-in-Analyse-clause-clean : goal.returns-in-Analyse-clause-clean
+returns-in-Analyse-clause-clean g c = subst (λ held. HasCleanDisk (state g.S.Store held)) c.analyse_paths.ensures.still

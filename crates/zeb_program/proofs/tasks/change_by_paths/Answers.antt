@@ -1,10 +1,12 @@
-use Rattle.std.proofs.Common.{◌≡◌, ◌∙◌, Err, Ok, ap, length, map, rules, string_bytes, subst, sym}
+use Rattle.std.proofs.Common.{◌≡◌, ◌∙◌, Err, Ok, ap, map, rules, string_bytes, subst, sym}
 use Rattle.sqlite.specs.Held.{state}
 use Rattle.zeb_change.specs.Conditions.{conditions}
 use Rattle.zeb_image.specs.NameOf.{name_bytes}
 use Rattle.zeb_register.specs.Formats.{version_of}
+use Rattle.zeb_program.specs.PrivateFiles.{sure_bytes}
 use Rattle.zeb_program.specs.PrivateOverTables.{PathsLeave}
 use Rattle.zeb_program.proofs.OverLemmas.{changed_leaves, changed_over, still, unread_leaves}
+use Rattle.zeb_program.proofs.ReaderLemmas.{sure_files}
 use Rattle.zeb_program.proofs.tasks.change_by_paths.Goals as goal
 
 pub returns-in-Ok-clause-leaves : goal.returns-in-Ok-clause-leaves
@@ -12,22 +14,22 @@ returns-in-Ok-clause-leaves g c = λ clean.
     let k = conditions (version_of g.L.Layout.format) c.args.session.now.profile c.args.session.now.limits in
     let old = state g.S.Store c.args.session.now.connection in
     let new = state g.S.Store c.update_from.new.self.connection in
-    let same : length c.update_from.new.readers ≡ length c.deref_mut.result.now = search rules in
     changed_leaves (g.P.Paths.tells c.args.paths.now) k c.args.kind (name_bytes c.args.database.now) (map string_bytes c.args.named.now) old new
     g.P.Reader.Source.remaining g.P.Reader.Source.has_failed c.deref_mut.result.now c.update_from.new.readers (Ok c.in-Ok.reply)
-    (λ files known. ap (map g.P.Reader.Source.remaining) c.deref_mut.ensures.value ∙ c.in_ok-readers.ensures.told files known) same
-    c.in-Ok.ensures.faults.sound (c.in-Ok.ensures.holds.0.call.refused clean) (c.in-Ok.ensures.step clean) (c.in-Ok.ensures.tables clean).leaves (c.in-Ok.ensures.tables clean).loses
+    (λ files known. sure_files g.P.Reader.Source.remaining g.P.Reader.Source.may_fail g.P.Reader.Source.has_failed c.deref_mut.result.now c.update_from.new.readers files
+    (ap (map (sure_bytes g.P.Reader.Source.remaining g.P.Reader.Source.may_fail g.P.Reader.Source.has_failed)) c.deref_mut.ensures.value ∙ c.in_ok-readers.ensures.told files known) c.in-Ok.ensures.faults.able)
+    (c.in-Ok.ensures.holds.0.call.refused clean) (c.in-Ok.ensures.step clean) (c.in-Ok.ensures.tables clean).leaves (c.in-Ok.ensures.tables clean).loses
 
 pub returns-clause-leaves : goal.returns-clause-leaves
 returns-clause-leaves g c = λ clean.
     let k = conditions (version_of g.L.Layout.format) c.args.session.now.profile c.args.session.now.limits in
     let old = state g.S.Store c.args.session.now.connection in
     let new = state g.S.Store c.update_from.new.self.connection in
-    let same : length c.update_from.new.readers ≡ length c.deref_mut.result.now = search rules in
     changed_leaves (g.P.Paths.tells c.args.paths.now) k c.args.kind (name_bytes c.args.database.now) (map string_bytes c.args.named.now) old new
     g.P.Reader.Source.remaining g.P.Reader.Source.has_failed c.deref_mut.result.now c.update_from.new.readers (Err c.in-Err.refusal)
-    (λ files known. ap (map g.P.Reader.Source.remaining) c.deref_mut.ensures.value ∙ c.in_ok-readers.ensures.told files known) same
-    c.in-Err.ensures.faults.sound (c.in-Err.ensures.holds.0.call.refused clean) (c.in-Err.ensures.step clean) (c.in-Err.ensures.tables clean).leaves (c.in-Err.ensures.tables clean).loses
+    (λ files known. sure_files g.P.Reader.Source.remaining g.P.Reader.Source.may_fail g.P.Reader.Source.has_failed c.deref_mut.result.now c.update_from.new.readers files
+    (ap (map (sure_bytes g.P.Reader.Source.remaining g.P.Reader.Source.may_fail g.P.Reader.Source.has_failed)) c.deref_mut.ensures.value ∙ c.in_ok-readers.ensures.told files known) c.in-Err.ensures.faults.able)
+    (c.in-Err.ensures.holds.0.call.refused clean) (c.in-Err.ensures.step clean) (c.in-Err.ensures.tables clean).leaves (c.in-Err.ensures.tables clean).loses
 
 pub returns-in_err-readers-clause-leaves : goal.returns-in_err-readers-clause-leaves
 returns-in_err-readers-clause-leaves g c = λ clean.
@@ -42,16 +44,16 @@ returns-in_err-readers-clause-leaves g c = λ clean.
 
 pub returns-in-Ok-clause-over : goal.returns-in-Ok-clause-over
 returns-in-Ok-clause-over g c = λ clean.
-    let same : length c.update_from.new.readers ≡ length c.deref_mut.result.now = search rules in
     changed_over (g.P.Paths.tells c.args.paths.now) g.L.Layout.format c.args.session.now.profile c.args.kind c.args.session.now.limits (name_bytes c.args.database.now) (map string_bytes c.args.named.now) (state g.S.Store c.args.session.now.connection)
     g.P.Reader.Source.remaining g.P.Reader.Source.has_failed c.deref_mut.result.now c.update_from.new.readers (Ok c.in-Ok.reply)
-    (λ files known. ap (map g.P.Reader.Source.remaining) c.deref_mut.ensures.value ∙ c.in_ok-readers.ensures.told files known) same
-    (c.in-Ok.ensures.tables clean).ready (c.in-Ok.ensures.tables clean).told c.in-Ok.ensures.faults.sound (c.in-Ok.ensures.tables clean).honest
+    (λ files known. sure_files g.P.Reader.Source.remaining g.P.Reader.Source.may_fail g.P.Reader.Source.has_failed c.deref_mut.result.now c.update_from.new.readers files
+    (ap (map (sure_bytes g.P.Reader.Source.remaining g.P.Reader.Source.may_fail g.P.Reader.Source.has_failed)) c.deref_mut.ensures.value ∙ c.in_ok-readers.ensures.told files known) c.in-Ok.ensures.faults.able)
+    (c.in-Ok.ensures.tables clean).ready (c.in-Ok.ensures.tables clean).told (c.in-Ok.ensures.tables clean).honest
 
 pub returns-clause-over : goal.returns-clause-over
 returns-clause-over g c = λ clean.
-    let same : length c.update_from.new.readers ≡ length c.deref_mut.result.now = search rules in
     changed_over (g.P.Paths.tells c.args.paths.now) g.L.Layout.format c.args.session.now.profile c.args.kind c.args.session.now.limits (name_bytes c.args.database.now) (map string_bytes c.args.named.now) (state g.S.Store c.args.session.now.connection)
     g.P.Reader.Source.remaining g.P.Reader.Source.has_failed c.deref_mut.result.now c.update_from.new.readers (Err c.in-Err.refusal)
-    (λ files known. ap (map g.P.Reader.Source.remaining) c.deref_mut.ensures.value ∙ c.in_ok-readers.ensures.told files known) same
-    (c.in-Err.ensures.tables clean).ready (c.in-Err.ensures.tables clean).told c.in-Err.ensures.faults.sound (c.in-Err.ensures.tables clean).honest
+    (λ files known. sure_files g.P.Reader.Source.remaining g.P.Reader.Source.may_fail g.P.Reader.Source.has_failed c.deref_mut.result.now c.update_from.new.readers files
+    (ap (map (sure_bytes g.P.Reader.Source.remaining g.P.Reader.Source.may_fail g.P.Reader.Source.has_failed)) c.deref_mut.ensures.value ∙ c.in_ok-readers.ensures.told files known) c.in-Err.ensures.faults.able)
+    (c.in-Err.ensures.tables clean).ready (c.in-Err.ensures.tables clean).told (c.in-Err.ensures.tables clean).honest

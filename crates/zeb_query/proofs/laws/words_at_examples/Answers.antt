@@ -6,22 +6,12 @@ use Rattle.zeb_query.proofs.laws.words_at_examples.Goals as goal
 as_read : (text : List ℕ) (words : List Word) → words_at 0 text ≡ words → AreWords text words
 as_read text words read = subst (AreWords text) read (words_are_read text)
 
-pub returns-clause-escape : goal.returns-clause-escape
+pub returns : goal.returns
 unfolding encode
-returns-clause-escape c = as_read _ _ refl
-
-pub returns-clause-bytes : goal.returns-clause-bytes
-unfolding encode
-returns-clause-bytes c = as_read _ _ refl
-
-pub returns-clause-brace : goal.returns-clause-brace
-unfolding encode
-returns-clause-brace c = as_read _ _ refl
-
-pub returns-clause-endless : goal.returns-clause-endless
-unfolding encode
-returns-clause-endless c = as_read _ _ refl
-
-pub returns-clause-unquoted : goal.returns-clause-unquoted
-unfolding encode
-returns-clause-unquoted c = as_read _ _ refl
+returns c = record {
+  escape = as_read _ _ refl;
+  bytes = as_read _ _ refl;
+  brace = as_read _ _ refl;
+  endless = as_read _ _ refl;
+  unquoted = as_read _ _ refl;
+}

@@ -1,5 +1,6 @@
 use Rattle.zeb_search.proofs.Cited.{rules, true, false, ◌≡◌, ◌↔◌, ◌∙◌, ◌++◌, ◌∷◌, [], ℕ, List, ap, refl, sym, subst, inl, inr, state, Key, posted, key_in, NoRows, EntryDict, RegisterDict, AreKeysOf, AreMet, IsWanted, NamesEntry, StandTogether, TermsRise}
 use Rattle.zeb_search.proofs.SearchCountLemmas.{counted_for, counted_still}
+use Rattle.zeb_search.proofs.MetPages.{met_held}
 use Rattle.zeb_search.proofs.MetTerms.{keys_met, named_met}
 use Rattle.zeb_search.proofs.NeighbourLemmas.{found_keys, keys_neighbours}
 use Rattle.zeb_search.proofs.TermLemmas.{keys_are, named_key}
@@ -18,7 +19,7 @@ pub returns-clause-value : goal.returns-clause-value
 returns-clause-value g c clean store content has =
     let terms = c.in_ok-terms.terms.items in
     let keys = c.in_ok-keys.keys in
-    let all = c.in_ok-terms.ensures.value clean store content has in
+    let all = met_held g.L.Layout.format (state g.S.Store c.args.connection.now).now.trees c.args.of.db.0 c.args.of.index c.args.of.register c.args.wanted terms (c.in_ok-terms.ensures.told clean store) content has in
     let are = keys_are (posted content c.args.of.db.0) c.args.of.index c.args.of.register c.args.wanted terms keys.items all c.in_ok-keys.ensures in
     found_keys content c.args.of c.args.wanted (record { keys = keys; are_neighbours = c.stand_together-are_neighbours.result }) are (λ is.
     let together = subst (StandTogether c.args.wanted) c.deref.ensures.value (c.stand_together-are_neighbours.ensures (subst TermsRise (sym c.deref.ensures.value) all.rising) is) in

@@ -1,9 +1,11 @@
-use Rattle.zeb_search.proofs.Cited.{rules, ◌≡◌, ◌∙◌, ◌∷◌, ◌+◌, ◌*◌, [], ℕ, List, None, Some, ap, arith, length, length-append, refl, sym, subst, string_bytes, Err, IfOk-weaker, state, Has, TermCount, posted, TermIn, NoRows, RegisterDict, HasMet, HasWanted, LeadsTo, TermsRise}
-use Rattle.zeb_search.proofs.MetTerms.{HasMetUpTo, met_all, met_last, met_next, met_none, page_told}
-use Rattle.zeb_search.proofs.PageLemmas.{HasUpTo, none_so_far, next_page, last_page, more_of, more_rises, pages_told}
-use Rattle.zeb_search.proofs.ReadLemmas.{one_read, read_still, read_then}
+use Rattle.zeb_search.proofs.Cited.{rules, Vec, Global, Trees, holds_in, ◌≡◌, ◌∙◌, ◌∷◌, ◌+◌, ◌*◌, [], ℕ, List, None, Some, ap, arith, length, length-append, refl, sym, subst, string_bytes, Err, IfOk-weaker, state, Has, TermCount, posted, TermIn, NoRows, RegisterDict, HasMet, HasWanted, LeadsTo, TermsRise}
+use Rattle.zeb_register.proofs.Answered.{answers_ok}
+use Rattle.zeb_register.proofs.CountLists.{all_told, from_told}
+use Rattle.zeb_register.proofs.FormatLemmas.{registers_have_terms}
+use Rattle.zeb_search.proofs.MetPages.{MetUpTo, all_met, last_met, met_of, more_of, more_rises, next_met, none_met}
+use Rattle.zeb_search.proofs.MetTerms.{page_told}
+use Rattle.zeb_search.proofs.ReadLemmas.{accepted, clean_before, one_read, read_still, read_then, still_store, still_trees}
 use Rattle.zeb_search.proofs.SearchCountLemmas.{counted_still, counted_within, if_ok_counted}
-use Rattle.zeb_search.proofs.TermLemmas.{all_has_wanted}
 use Rattle.zeb_search.proofs.DictCounts.{pages_counted, within_register}
 use Rattle.zeb_search.proofs.ReasonedFaults.{reasoned_error}
 use Rattle.zeb_search.proofs.keys.terms_wanted.Goals as goal
@@ -11,13 +13,10 @@ use Rattle.zeb_search.proofs.keys.terms_wanted.Goals as goal
 pub pages-init : goal.pages-init
 pages-init g c = record {
   read = read_still (state g.S.Store c.args.connection.now);
-  found = λ clean store content has.
-      subst (λ (l : List TermCount). HasUpTo (posted content c.args.of.db.0) c.args.of.index c.args.of.register c.args.wanted l (string_bytes c.in_ok-start.start)) (sym c.new-terms.ensures.items)
-      (none_so_far (posted content c.args.of.db.0) c.args.of.index c.args.of.register c.args.wanted (string_bytes c.in_ok-start.start) c.in_ok-start.ensures);
   met = λ clean store.
-      subst (λ (l : List TermCount). HasMetUpTo g.L.Layout.format (state g.S.Store c.args.connection.now).now.trees c.args.of.db.0 c.args.of.index c.args.of.register c.args.wanted l (string_bytes c.in_ok-start.start))
+      subst (λ (l : List TermCount). MetUpTo g.L.Layout.format (state g.S.Store c.args.connection.now).now.trees c.args.of.db.0 c.args.of.index c.args.of.register c.args.wanted l (string_bytes c.in_ok-start.start))
       (sym c.new-terms.ensures.items)
-      (met_none g.L.Layout.format (state g.S.Store c.args.connection.now).now.trees c.args.of.db.0 c.args.of.index c.args.of.register c.args.wanted (string_bytes c.in_ok-start.start) c.in_ok-start.ensures);
+      (none_met g.L.Layout.format (state g.S.Store c.args.connection.now).now.trees c.args.of.db.0 c.args.of.index c.args.of.register c.args.wanted (string_bytes c.in_ok-start.start) c.in_ok-start.ensures);
   counted = counted_still g.L.Layout.format (λ content n. n ≡ g.L.Layout.row_work * length c.new-terms.result.items) NoRows (state g.S.Store c.args.connection.now) c.args.work.now
       (λ content. omega (arith, ap (λ (l : List TermCount). g.L.Layout.row_work * length l) c.new-terms.ensures.items)) (λ content. refl);
   no_work = λ _. refl;
@@ -36,17 +35,11 @@ pages-preserved g c =
     subst (LeadsTo c.args.wanted page) c.in-Some.is (subst (λ (l : List TermCount). LeadsTo c.args.wanted l c.in_ok-next.next) c.deref.ensures.value c.in_ok-next.ensures) in
     record {
       read = read_then old now new c.pages.invariant.read (one_read now new c.in_ok-page.page c.in_ok-page.ensures.call);
-      found = λ clean store content has.
-          let O = posted content c.args.of.db.0 in
-          let told = pages_told g.L.Layout.format c.args.of.db.0 c.args.of.index c.args.of.register c.args.wanted old now new c.pages.invariant.read c.terms_from.ensures.call.crash terms _ start c.as_str.ensures.value
-          c.pages.page_terms page c.pages.invariant.found c.in_ok-page.ensures.value clean store content has in
-          subst (λ (l : List TermCount). HasUpTo O c.args.of.index c.args.of.register c.args.wanted l (string_bytes c.in-Some.next)) (sym c.in_ok-append.ensures.items)
-          (next_page O c.args.of.index c.args.of.register c.args.wanted terms start c.pages.page_terms page c.pages.invariant.some told.0 told.1 c.in-Some.next leads);
       met = λ clean store.
           let told = page_told g.L.Layout.format c.args.of.db.0 c.args.of.index c.args.of.register c.args.wanted old now new c.pages.invariant.read c.terms_from.ensures.call.crash terms _ start c.as_str.ensures.value
-          c.pages.page_terms page c.pages.invariant.met c.in_ok-page.ensures.told clean store in
-          subst (λ (l : List TermCount). HasMetUpTo g.L.Layout.format old.now.trees c.args.of.db.0 c.args.of.index c.args.of.register c.args.wanted l (string_bytes c.in-Some.next)) (sym c.in_ok-append.ensures.items)
-          (met_next old store c.args.of.db.0 c.args.of.index c.args.of.register c.args.wanted start c.pages.page_terms c.pages.invariant.some terms page g.L.Layout.format told.0 told.1 c.in-Some.next leads);
+          c.pages.page_terms page c.pages.invariant.met c.in_ok-page.ensures.units clean store in
+          subst (λ (l : List TermCount). MetUpTo g.L.Layout.format old.now.trees c.args.of.db.0 c.args.of.index c.args.of.register c.args.wanted l (string_bytes c.in-Some.next)) (sym c.in_ok-append.ensures.items)
+          (next_met g.L.Layout.format old.now.trees c.args.of.db.0 c.args.of.index c.args.of.register c.args.wanted start c.pages.page_terms c.pages.invariant.some terms page told.0 told.1 c.in-Some.next leads);
       counted = pages_counted g.L.Layout.format g.L.Layout.row_work terms page c.append.new.self.items c.in_ok-append.ensures.items old now new c.args.work.now c.pages.work c.terms_from.new.work
           c.pages.invariant.read c.terms_from.ensures.call.crash c.pages.invariant.counted c.in_ok-page.ensures.work;
       no_work = λ none. c.terms_from.ensures.no_work none ∙ c.pages.invariant.no_work none;
@@ -63,22 +56,6 @@ pages-smaller g c =
     let more : length c.append.new.self.items ≡ length terms.items + length page = ap length c.in_ok-append.ensures.items ∙ length-append terms.items page in
     omega (arith, some, more, terms.ok.0, terms.ok.1, terms.small)
 
-pub returns-in-None-clause-value : goal.returns-in-None-clause-value
-returns-in-None-clause-value g c clean store content has =
-    let old = state g.S.Store c.args.connection.now in
-    let now = state g.S.Store c.pages.connection in
-    let new = state g.S.Store c.terms_from.new.conn in
-    let page = c.in_ok-page.page.items in
-    let terms = c.pages.terms.items in
-    let start = string_bytes c.pages.start in
-    let O = posted content c.args.of.db.0 in
-    let told = pages_told g.L.Layout.format c.args.of.db.0 c.args.of.index c.args.of.register c.args.wanted old now new c.pages.invariant.read c.terms_from.ensures.call.crash terms _ start c.as_str.ensures.value
-    c.pages.page_terms page c.pages.invariant.found c.in_ok-page.ensures.value clean store content has in
-    let ends : LeadsTo c.args.wanted page None =
-    subst (LeadsTo c.args.wanted page) c.in-None.is (subst (λ (l : List TermCount). LeadsTo c.args.wanted l c.in_ok-next.next) c.deref.ensures.value c.in_ok-next.ensures) in
-    subst (HasWanted O c.args.of.index c.args.of.register c.args.wanted) (sym c.in_ok-append.ensures.items)
-    (last_page O c.args.of.index c.args.of.register c.args.wanted terms start c.pages.page_terms page c.pages.invariant.some told.0 told.1 ends)
-
 pub returns-in-None-clause-told : goal.returns-in-None-clause-told
 returns-in-None-clause-told g c clean store =
     let old = state g.S.Store c.args.connection.now in
@@ -88,11 +65,11 @@ returns-in-None-clause-told g c clean store =
     let terms = c.pages.terms.items in
     let start = string_bytes c.pages.start in
     let told = page_told g.L.Layout.format c.args.of.db.0 c.args.of.index c.args.of.register c.args.wanted old now new c.pages.invariant.read c.terms_from.ensures.call.crash terms _ start c.as_str.ensures.value
-    c.pages.page_terms page c.pages.invariant.met c.in_ok-page.ensures.told clean store in
+    c.pages.page_terms page c.pages.invariant.met c.in_ok-page.ensures.units clean store in
     let ends : LeadsTo c.args.wanted page None =
     subst (LeadsTo c.args.wanted page) c.in-None.is (subst (λ (l : List TermCount). LeadsTo c.args.wanted l c.in_ok-next.next) c.deref.ensures.value c.in_ok-next.ensures) in
     subst (HasMet g.L.Layout.format old.now.trees c.args.of.db.0 c.args.of.index c.args.of.register c.args.wanted) (sym c.in_ok-append.ensures.items)
-    (met_last old store c.args.of.db.0 c.args.of.index c.args.of.register c.args.wanted start c.pages.page_terms c.pages.invariant.some terms page g.L.Layout.format told.0 told.1 ends)
+    (last_met g.L.Layout.format old.now.trees c.args.of.db.0 c.args.of.index c.args.of.register c.args.wanted start c.pages.page_terms c.pages.invariant.some terms page told.0 told.1 ends)
 
 pub returns-in-None-clause-work : goal.returns-in-None-clause-work
 returns-in-None-clause-work g c =
@@ -109,15 +86,37 @@ returns-in-None-clause-work g c =
     let register = c.args.of.register in
     counted_within g.L.Layout.format (λ content n. n ≡ row_work * length all) (λ content. RegisterDict row_work content db index register) NoRows old new c.args.work.now c.terms_from.new.work
     (λ clean store content has n is.
-    let O = posted content db in
-    let told = pages_told g.L.Layout.format c.args.of.db.0 c.args.of.index c.args.of.register c.args.wanted old now new c.pages.invariant.read c.terms_from.ensures.call.crash terms _ start c.as_str.ensures.value
-    c.pages.page_terms page c.pages.invariant.found c.in_ok-page.ensures.value clean store content has in
-    within_register row_work content db index register all told.0.all n
-    (subst TermsRise (sym c.in_ok-append.ensures.items) (more_rises O index register c.args.wanted terms start c.pages.page_terms page c.pages.invariant.some told.0 told.1))
-    (subst (λ (l : List TermCount). (t : TermCount) → Has l t → (m : ℕ) × TermIn O index register t.term m) (sym c.in_ok-append.ensures.items) (more_of O index register c.args.wanted terms start c.pages.page_terms page c.pages.invariant.some told.0 told.1))
-    told.0.are is)
+    let told = page_told g.L.Layout.format db index register c.args.wanted old now new c.pages.invariant.read c.terms_from.ensures.call.crash terms _ start c.as_str.ensures.value
+    c.pages.page_terms page c.pages.invariant.met c.in_ok-page.ensures.units clean store in
+    let every = registers_have_terms g.L.Layout.format old.now.trees content db index register has in
+    within_register row_work content db index register all every.0 n
+    (subst TermsRise (sym c.in_ok-append.ensures.items) (more_rises g.L.Layout.format old.now.trees db index register c.args.wanted start c.pages.page_terms c.pages.invariant.some terms page told.0 told.1))
+    (λ t there. met_of g.L.Layout.format old.now.trees db index register c.args.wanted t
+    (more_of g.L.Layout.format old.now.trees db index register c.args.wanted start c.pages.page_terms c.pages.invariant.some terms page told.0 told.1 t (subst (λ (l : List TermCount). Has l t) c.in_ok-append.ensures.items there)) content has)
+    every.1 is)
     (pages_counted g.L.Layout.format row_work terms page all c.in_ok-append.ensures.items old now new c.args.work.now c.pages.work c.terms_from.new.work
     c.pages.invariant.read c.terms_from.ensures.call.crash c.pages.invariant.counted c.in_ok-page.ensures.work)
+
+pub returns-in_err-next-clause-call : goal.returns-in_err-next-clause-call
+returns-in_err-next-clause-call g c =
+    let old = state g.S.Store c.args.connection.now in
+    let now = state g.S.Store c.pages.connection in
+    let new = state g.S.Store c.terms_from.new.conn in
+    accepted old new _ (read_then old now new c.pages.invariant.read (one_read now new c.in_ok-page.page c.in_ok-page.ensures.call))
+
+pub returns-in_err-append-clause-call : goal.returns-in_err-append-clause-call
+returns-in_err-append-clause-call g c =
+    let old = state g.S.Store c.args.connection.now in
+    let now = state g.S.Store c.pages.connection in
+    let new = state g.S.Store c.terms_from.new.conn in
+    accepted old new _ (read_then old now new c.pages.invariant.read (one_read now new c.in_ok-page.page c.in_ok-page.ensures.call))
+
+pub returns-in-None-clause-call : goal.returns-in-None-clause-call
+returns-in-None-clause-call g c =
+    let old = state g.S.Store c.args.connection.now in
+    let now = state g.S.Store c.pages.connection in
+    let new = state g.S.Store c.terms_from.new.conn in
+    accepted old new _ (read_then old now new c.pages.invariant.read (one_read now new c.in_ok-page.page c.in_ok-page.ensures.call))
 
 pub returns-in_err-page-clause-refused : goal.returns-in_err-page-clause-refused
 returns-in_err-page-clause-refused g c =
@@ -126,18 +125,29 @@ returns-in_err-page-clause-refused g c =
     let new = state g.S.Store c.terms_from.new.conn in
     let cause = c.in_err-page.field-0.0 in
     let told : c.from_residual-in_err-page.result ≡ Err cause = search rules in
-    reasoned_error old now new c.pages.invariant.read c.terms_from.ensures.call.crash cause c.from_residual-in_err-page.result told c.in_err-page.ensures.refused
+    reasoned_error old now new c.pages.invariant.read c.terms_from.ensures.call.crash cause c.from_residual-in_err-page.result told (from_told g.L.Layout.format c.args.of c.as_str.result.now c.pages.page_terms now new (Err cause) c.in_err-page.ensures.units).2
 
-pub returns-then-spans_register-clause-value : goal.returns-then-spans_register-clause-value
-returns-then-spans_register-clause-value g c clean store =
-    IfOk-weaker c.terms_of.result _ _ (λ terms are content has. all_has_wanted (posted content c.args.of.db.0) c.args.of.index c.args.of.register c.args.wanted terms.items (are content has)) (c.terms_of.ensures.value clean store)
+pub returns-in_err-page-clause-honest : goal.returns-in_err-page-clause-honest
+returns-in_err-page-clause-honest g c clean store is content storable has =
+    let old = state g.S.Store c.args.connection.now in
+    let now = state g.S.Store c.pages.connection in
+    let new = state g.S.Store c.terms_from.new.conn in
+    let first = clean_before now new c.terms_from.ensures.call.crash clean in
+    let read = c.pages.invariant.read in
+    (from_told g.L.Layout.format c.args.of c.as_str.result.now c.pages.page_terms now new (Err c.in_err-page.field-0.0) c.in_err-page.ensures.units).1 clean (still_store old now read first store) (ap Err (search rules)) content storable
+    (subst (λ (t : Trees). holds_in g.L.Layout.format t content) (sym (still_trees old now read first)) has)
+
+pub returns-then-spans_register-clause-honest : goal.returns-then-spans_register-clause-honest
+returns-then-spans_register-clause-honest g c = (all_told g.L.Layout.format c.args.of (state g.S.Store c.args.connection.now) (state g.S.Store c.terms_of.new.conn) c.terms_of.result c.terms_of.ensures.units).1
+
+pub returns-then-spans_register-clause-refused : goal.returns-then-spans_register-clause-refused
+returns-then-spans_register-clause-refused g c = (all_told g.L.Layout.format c.args.of (state g.S.Store c.args.connection.now) (state g.S.Store c.terms_of.new.conn) c.terms_of.result c.terms_of.ensures.units).2
 
 pub returns-then-spans_register-clause-told : goal.returns-then-spans_register-clause-told
 returns-then-spans_register-clause-told g c clean store =
-    IfOk-weaker c.terms_of.result _ _ (λ terms told. met_all (state g.S.Store c.args.connection.now) store c.args.of.db.0 c.args.of.index c.args.of.register c.args.wanted g.L.Layout.format terms.items told)
-    (c.terms_of.ensures.told clean store)
+    answers_ok c.terms_of.result _ _ _ (λ terms lists. all_met g.L.Layout.format (state g.S.Store c.args.connection.now).now.trees c.args.of.db.0 c.args.of.index c.args.of.register c.args.wanted terms.items lists) (c.terms_of.ensures.units clean store)
 
 pub returns-then-spans_register-clause-work : goal.returns-then-spans_register-clause-work
 returns-then-spans_register-clause-work g c =
     if_ok_counted c.terms_of.result g.L.Layout.format g.L.Layout.row_work c.args.of.db.0 c.args.of.index c.args.of.register (state g.S.Store c.args.connection.now) (state g.S.Store c.terms_of.new.conn)
-    c.args.work.now c.terms_of.new.work c.terms_of.ensures.value c.terms_of.ensures.work
+    c.args.work.now c.terms_of.new.work (all_told g.L.Layout.format c.args.of (state g.S.Store c.args.connection.now) (state g.S.Store c.terms_of.new.conn) c.terms_of.result c.terms_of.ensures.units).0 c.terms_of.ensures.work

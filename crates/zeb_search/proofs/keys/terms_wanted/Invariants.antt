@@ -1,6 +1,5 @@
-use Rattle.zeb_search.proofs.Cited.{◌≡◌, ◌≤◌, ◌*◌, ◌-◌, ◌^◌, length, string_bytes, state, HasCleanDisk, OnStore, Content, posted, holds_in, IsStore, CountsByContent, NoRows}
-use Rattle.zeb_search.proofs.MetTerms.{HasMetUpTo}
-use Rattle.zeb_search.proofs.PageLemmas.{HasUpTo}
+use Rattle.zeb_search.proofs.Cited.{◌≡◌, ◌≤◌, ◌*◌, ◌-◌, ◌^◌, length, string_bytes, state, OnStore, CountsByContent, NoRows}
+use Rattle.zeb_search.proofs.MetPages.{MetUpTo}
 use Rattle.zeb_search.proofs.ReadLemmas.{IsRead}
 use Rattle.zeb_search.proofs.keys.terms_wanted.Given as goal
 
@@ -10,9 +9,7 @@ invariant-pages g l =
     let now = state g.S.Store l.connection in
     record {
       read : IsRead old now;
-      found : HasCleanDisk now → IsStore old → (content : Content) → holds_in g.L.Layout.format old.now.trees content
-          → HasUpTo (posted content l.fn.of.db.0) l.of.index l.of.register l.wanted l.terms.items (string_bytes l.start);
-      met : OnStore old now (λ trees. HasMetUpTo g.L.Layout.format trees l.fn.of.db.0 l.of.index l.of.register l.wanted l.terms.items (string_bytes l.start));
+      met : OnStore old now (λ trees. MetUpTo g.L.Layout.format trees l.fn.of.db.0 l.of.index l.of.register l.wanted l.terms.items (string_bytes l.start));
       counted : CountsByContent g.L.Layout.format (λ content n. n ≡ g.L.Layout.row_work * length l.terms.items) NoRows old now l.fn.work l.work;
       no_work : g.L.Layout.row_work ≡ 0 → l.work ≡ l.fn.work;
       some : 1 ≤ l.page_terms;

@@ -12,14 +12,10 @@ returns-clause-right c = refl
 
 pub returns-clause-hash : goal.returns-clause-hash
 unfolding caseless ucd_category folded is_word_character runs_of truncated
-returns-clause-hash c = refl
-
-pub returns-clause-separator : goal.returns-clause-separator
-unfolding caseless ucd_category folded is_word_character runs_of truncated
-returns-clause-separator c = refl
+returns-clause-hash c = (refl, refl)
 
 pub returns-clause-star : goal.returns-clause-star
-returns-clause-star c = (111 ∷ 98 ∷ 121 ∷ [], refl, (111 ∷ 98 ∷ [], 121 ∷ [], refl, ([], refl, refl)))
-
-pub returns-clause-empty : goal.returns-clause-empty
-returns-clause-empty c = (121 ∷ [], refl, ([], 121 ∷ [], refl, ([], refl, refl)))
+returns-clause-star c = (
+  (111 ∷ 98 ∷ 121 ∷ [], refl, (111 ∷ 98 ∷ [], 121 ∷ [], refl, ([], refl, refl))),
+  (121 ∷ [], refl, ([], 121 ∷ [], refl, ([], refl, refl))),
+)

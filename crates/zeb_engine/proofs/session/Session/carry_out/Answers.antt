@@ -1,8 +1,8 @@
-use Rattle.zeb_engine.proofs.Cited.{◌≡◌, ◌∙◌, ap, map, rules, string_bytes, subst, state, HasCleanDisk, Survives, Create, Drop, name_bytes, conditions, CommitsBy, TakesFiles, checked, dumped_by, CommandDone, ServesBy, ChangeDoes, CostsAlone, no_work, version_of, Step, Check, Stat, Dump, CountedFrom}
+use Rattle.zeb_engine.proofs.Cited.{◌≡◌, ◌∙◌, ap, map, rules, string_bytes, subst, state, HasCleanDisk, Survives, Create, Drop, name_bytes, conditions, CommitsBy, TakesFiles, checked, dumped_by, CommandDone, ServesBy, ChangeDoes, CostsAlone, no_work, version_of, CountedFrom}
 use Rattle.zeb_engine.specs.Steps.{turned, created, dropped, initialised, reindexed, upgraded, ready}
 use Rattle.zeb_engine.proofs.CommandsDone.{analysis_done, begins, find_done, scan_done}
 use Rattle.zeb_engine.proofs.ReadyCommands.{asks_serve, each_so, ends_serve}
-use Rattle.zeb_engine.proofs.CommitCrashes.{ends_commit, none_commits, survives_as}
+use Rattle.zeb_engine.proofs.CommitCrashes.{ends_commit, survives_as, survives_both}
 use Rattle.zeb_engine.proofs.ReindexedTables.{leaves_settled}
 use Rattle.zeb_engine.proofs.CommandedConnections.{reads_command}
 use Rattle.zeb_engine.proofs.session.Session.carry_out.Goals as goal
@@ -18,7 +18,6 @@ returns-in-Init-clause-done g c =
     rw c.in-Init.is (record {
       call = done.call;
       survives = ends_commit (initialised k) old new (survives_as old new _ _ (λ clean db made. made limits) done.survives);
-      remade = λ is. absurd (cc is);
       step = λ clean. ends_serve (initialised k) old new c.init_register.result (done.serves clean limits);
       does = λ clean settled. begins (conditions (version_of g.L.Layout.format) c.args.self.now.profile) limits old new c.init_register.result settled (done.begun clean);
       answers = (done.unread, done.failed);
@@ -37,7 +36,6 @@ returns-in-Create-clause-done g c =
     rw c.in-Create.is (subst (λ name. CommandDone g.S.Store g.L.Layout.format g.L.Layout.row_work g.L.Layout.block_rows k (Create name) c.args.self.now.connection c.create.new.self.connection c.create.result c.create.new.self.work) same (record {
       call = done.call;
       survives = ends_commit (turned k (created (name_bytes named))) old new done.survives;
-      remade = λ is. absurd (cc is);
       step = λ clean. ends_serve (turned k (created (name_bytes named))) old new c.create.result (done.serves clean);
       does = λ clean settled. record { ready = done.ready clean; told = done.tables clean; makes = done.makes clean };
       answers = done.unread;
@@ -56,7 +54,6 @@ returns-in-Drop-clause-done g c =
     rw c.in-Drop.is (subst (λ name. CommandDone g.S.Store g.L.Layout.format g.L.Layout.row_work g.L.Layout.block_rows k (Drop name) c.args.self.now.connection c.take.new.self.connection c.take.result c.take.new.self.work) same (record {
       call = done.call;
       survives = ends_commit (turned k (dropped (name_bytes named))) old new done.survives;
-      remade = λ is. absurd (cc is);
       step = λ clean. ends_serve (turned k (dropped (name_bytes named))) old new c.take.result (done.serves clean);
       does = λ clean settled. record { ready = done.ready clean; told = done.tables clean; drops = done.drops clean };
       answers = done.unread;
@@ -88,7 +85,6 @@ returns-in-Change-clause-done g c =
     rw c.in-Change.is (record {
       call = done.call;
       survives = said.0;
-      remade = λ is. absurd (cc is);
       step = said.1;
       does = λ clean settled. said.2 clean;
       answers = done.unread;
@@ -127,8 +123,7 @@ returns-in-Check-clause-done g c =
     let fresh : c.default-self.result ≡ no_work = search rules in
     rw c.in-Check.is (record {
       call = done.call;
-      survives = none_commits (Step k Check) old new done.survives;
-      remade = λ is. absurd (cc is);
+      survives = done.survives;
       step = λ clean. ends_serve (checked k) old new c.check.result (done.serves clean);
       does = λ clean settled. record { looks = record { nothing = done.reads clean; caused = done.caused clean }; ready = done.ready clean; told = done.checked clean };
       answers = done.unread;
@@ -145,8 +140,7 @@ returns-in-Reindex-clause-done g c =
     let fresh : c.default-self.result ≡ no_work = search rules in
     rw c.in-Reindex.is (record {
       call = done.call;
-      survives = ends_commit (reindexed k) old new (survives_as old new _ _ (λ clean db made. made limits) done.survives);
-      remade = λ is. done.survives_remade;
+      survives = survives_both old new _ _ (ends_commit (reindexed k) old new (survives_as old new _ _ (λ clean db made. made limits) done.survives)) done.survives_remade;
       step = λ clean. ends_serve (reindexed k) old new c.reindex.result (done.serves clean limits);
       does = λ clean settled. record { told = done.told clean; leaves = leaves_settled g.L.Layout.format c.args.self.now.profile c.reindex.result old new settled (done.remade clean) };
       answers = done.unread;
@@ -164,7 +158,6 @@ returns-in-Upgrade-clause-done g c =
     rw c.in-Upgrade.is (record {
       call = done.call;
       survives = ends_commit (upgraded k) old new (survives_as old new _ _ (λ clean db made. made limits) done.survives);
-      remade = λ is. absurd (cc is);
       step = λ clean. ends_serve (upgraded k) old new c.upgrade.result (done.serves clean limits);
       does = λ clean settled. record { told = done.told clean; stays = done.stays clean; leaves = done.leaves clean };
       answers = done.unread;
@@ -180,8 +173,7 @@ returns-in-Stat-clause-done g c =
     let fresh : c.default-self.result ≡ no_work = search rules in
     rw c.in-Stat.is (record {
       call = reads_command old new c.stat.result done.«open» done.same done.crash;
-      survives = none_commits (Step k (Stat c.in-Stat.name)) old new done.crash;
-      remade = λ is. absurd (cc is);
+      survives = done.crash;
       step = λ clean. asks_serve (λ before. CountedFrom k (name_bytes c.in-Stat.name) (ready k before)) old new c.stat.result (done.serves clean c.args.self.now.limits);
       does = λ clean settled. record { looks = record { nothing = done.same clean; caused = done.caused clean }; ready = done.ready clean; alone = done.alone clean; told = done.tables clean };
       answers = done.unread;
@@ -197,8 +189,7 @@ returns-in-Dump-clause-done g c =
     let fresh : c.default-self.result ≡ no_work = search rules in
     rw c.in-Dump.is (record {
       call = reads_command old new c.dump.result done.«open» done.same done.crash;
-      survives = none_commits (Step k (Dump c.in-Dump.name)) old new done.crash;
-      remade = λ is. absurd (cc is);
+      survives = done.crash;
       step = λ clean. ends_serve (dumped_by k (name_bytes c.in-Dump.name)) old new c.dump.result (done.serves clean c.args.self.now.limits);
       does = λ clean settled. record { looks = record { nothing = done.same clean; caused = done.caused clean }; ready = done.ready clean; told = done.tables clean };
       answers = done.unread;

@@ -4,7 +4,7 @@ use Rattle.zeb_engine.proofs.ReadyCommands.{ends_serve, ready_kept, unready_serv
 use Rattle.zeb_engine.proofs.CommitCrashes.{survives_after}
 use Rattle.zeb_engine.proofs.NoDamageAnswered.{start_honest}
 use Rattle.zeb_engine.proofs.TurnedOutcomes.{turn_refused}
-use Rattle.zeb_engine.proofs.Readers.{no_file_failed, named_or_none}
+use Rattle.zeb_engine.proofs.Readers.{as_able, no_file_failed, named_or_none}
 use Rattle.zeb_engine.proofs.ServesLemmas.{on_ok}
 use Rattle.zeb_engine.proofs.ChangeElders.{few_elder, refused_elders, said_after}
 use Rattle.zeb_engine.proofs.ChangeReasons.{few_reasons}
@@ -164,3 +164,9 @@ returns-clause-named g c clean texts told store =
     let first : HasCleanDisk mid = omega (arith, c.change_database.ensures.survives.clean) in
     said_after (λ trees. OnOk c.change_database.result (LosesNamedOver c.args.self.now.profile (name_bytes c.args.database.now) texts trees new.now.trees)) (state g.S.Store c.args.self.now.connection) mid
     (c.check_ready.ensures.same first) (c.in_ok-check_ready.ensures.«open» first) (c.change_database.ensures.named clean texts told) store
+
+pub returns-in_err-check_readers-clause-able : goal.returns-in_err-check_readers-clause-able
+returns-in_err-check_readers-clause-able g c = as_able g.R.Source.may_fail g.R.Source.has_failed c.args.readers.now
+
+pub returns-in_err-check_ready-clause-able : goal.returns-in_err-check_ready-clause-able
+returns-in_err-check_ready-clause-able g c = as_able g.R.Source.may_fail g.R.Source.has_failed c.args.readers.now

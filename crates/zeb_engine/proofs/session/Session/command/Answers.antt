@@ -1,4 +1,5 @@
 use Rattle.zeb_engine.proofs.Cited.{◌∙◌, rules, sym, ap, IsTrue, Database, state, conditions, version_of}
+use Rattle.zeb_engine.proofs.CommitCrashes.{survives_step}
 use Rattle.zeb_engine.proofs.RunCrashes.{did_endures}
 use Rattle.zeb_engine.proofs.CommandedConnections.{did, did_refuse}
 use Rattle.zeb_engine.proofs.NoDamageAnswered.{command_honest}
@@ -43,11 +44,11 @@ returns-clause-lasts g c =
     let done = c.carry_out-answer.ensures.done in
     record {
       survives = done.survives;
-      remade = done.remade;
       crash = λ clean.
           did_endures k c.args.command.now (state g.S.Store c.args.self.now.connection) (state g.S.Store end) c.carry_out-answer.result clean
           (λ is_open db left. g.met.S.Store.settled end.store db is_open left ∙ ap (λ (d : Database). d.trees) (sym (c.is_autocommit-settled.ensures.settled idle is_open)))
-          (did g.S.Store c.args.command.now c.args.self.now.connection end c.carry_out-answer.result done.call) done.survives (done.step clean);
+          (did g.S.Store c.args.command.now c.args.self.now.connection end c.carry_out-answer.result done.call)
+          (survives_step g.L.Layout.format k c.args.command.now (state g.S.Store c.args.self.now.connection) (state g.S.Store end) done.survives) (done.step clean);
     }
 
 pub returns-clause-counts : goal.returns-clause-counts

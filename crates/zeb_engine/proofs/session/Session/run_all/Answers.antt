@@ -1,4 +1,5 @@
 use Rattle.zeb_engine.proofs.Cited.{◌≡◌, ◌∙◌, ◌++◌, ◌∷◌, ◌+◌, [], rules, arith, sym, ap, ap₂, map, take, subst, subst₂, AllByRecursion, IsErr, take_more, map-append, state, HasCleanDisk, Survives, survives_then, take_whole, answer_of, conditions, CommitsCommand, CommitsOne, CommandTurns, EnduresRun, FindOpen, InTurn, Runs, ServesCommand, version_of, Database, IsTrue, true}
+use Rattle.zeb_engine.proofs.CommitCrashes.{survives_step}
 use Rattle.zeb_engine.proofs.RunCommits.{carries, commits_earlier, commits_latest}
 use Rattle.zeb_engine.proofs.RunCrashes.{crash_more}
 use Rattle.zeb_engine.proofs.RunLemmas.{one_turn_more, open_before, open_more, refused_more, runs_more}
@@ -25,7 +26,8 @@ loop-command-preserved g c =
       under = (c.command.ensures.holds.1.0 ∙ same.0, c.command.ensures.holds.1.1 ∙ same.1);
       survives =
           let served = λ (clean : HasCleanDisk next). subst₂ (λ p l. ServesCommand (of p l) item now next c.command.result) same.0 same.1 (c.command.ensures.step clean) in
-          let took = subst₂ (λ p l. Survives now next (CommitsCommand (of p l) item now)) same.0 same.1 c.command.ensures.lasts.survives in
+          let took = subst₂ (λ p l. Survives now next (CommitsCommand (of p l) item now)) same.0 same.1
+          (survives_step g.L.Layout.format (of c.loop-command.self.profile c.loop-command.self.limits) item now next c.command.ensures.lasts.survives) in
           subst₂ (λ commands told. Survives old next (CommitsOne k commands told old)) (sym last) (sym (ap (map answer_of) c.push_reserved.ensures.items ∙ map-append answer_of _ _))
           (survives_then old now next _ _ _ (λ _. commits_earlier k old now (take index all) answers item c.command.result)
           (λ clean db. commits_latest k old now (take index all) answers item c.command.result db (c.loop-command.invariant.run (omega (arith, c.command.ensures.lasts.survives.clean))))
@@ -57,7 +59,8 @@ loop-command-preserved g c =
           let early : HasCleanDisk now = omega (arith, c.command.ensures.lasts.survives.clean) in
           let was = c.loop-command.invariant.run early in
           let served = subst₂ (λ p l. ServesCommand (conditions (version_of g.L.Layout.format) p l) item now next c.command.result) same.0 same.1 (c.command.ensures.step clean) in
-          let survives = subst₂ (λ p l. Survives now next (CommitsCommand (conditions (version_of g.L.Layout.format) p l) item now)) same.0 same.1 c.command.ensures.lasts.survives in
+          let survives = subst₂ (λ p l. Survives now next (CommitsCommand (of p l) item now)) same.0 same.1
+          (survives_step g.L.Layout.format (of c.loop-command.self.profile c.loop-command.self.limits) item now next c.command.ensures.lasts.survives) in
           let more = runs_more k old now next (take index all) answers item c.command.result was served in
           subst₂ (λ commands told. EnduresRun k commands told old next) (sym last) (sym (ap (map answer_of) c.push_reserved.ensures.items ∙ map-append answer_of _ _))
           (crash_more k old now next (take index all) answers item c.command.result was more served clean (c.command.ensures.holds.0.durable clean) it survives

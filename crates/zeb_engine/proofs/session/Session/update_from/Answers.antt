@@ -17,7 +17,7 @@ returns-clause-tables g c clean =
     }
 
 pub returns-clause-faults : goal.returns-clause-faults
-returns-clause-faults g c = record { sound = c.change_from-answer.ensures.sound; fault = c.change_from-answer.ensures.fault }
+returns-clause-faults g c = record { sound = c.change_from-answer.ensures.sound; fault = c.change_from-answer.ensures.fault; able = c.change_from-answer.ensures.able }
 
 pub returns-clause-holds : goal.returns-clause-holds
 returns-clause-holds g c =

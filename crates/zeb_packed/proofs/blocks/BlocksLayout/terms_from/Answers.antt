@@ -1,33 +1,24 @@
-use Rattle.zeb_packed.proofs.Cited.{rules, ◌∙◌, ap, take, subst, sym, state, Has, one_list, has_taken}
-use Rattle.zeb_packed.proofs.PackedTerms.{first_taken, from_read, rows_counted, tell_first}
+use Rattle.zeb_packed.proofs.Cited.{rules, List, ap, subst, sym, take, state, Row, TermCount, packed_blocks, refused_so}
+use Rattle.zeb_packed.specs.PrivatePackedRows.{EndsCounting, TellTerms}
+use Rattle.zeb_packed.proofs.DictTerms.{from_hide, from_listed, first_taken}
 use Rattle.zeb_packed.proofs.blocks.BlocksLayout.terms_from.Goals as goal
 
-pub returns-clause-value : goal.returns-clause-value
-returns-clause-value g c clean store content holds =
+pub returns-clause-units : goal.returns-clause-units
+returns-clause-units g c clean store =
+    let old = state g.S.Store c.args.conn.now in
+    let at = c.args.at in
     let raw = (c.in_ok-rows.ensures.call.ok clean).1 store in
     let first = first_taken c.args.n c.limit_of-limit.result c.in_ok-rows.rows.items c.deref.result.now raw.0 c.limit_of-limit.ensures.fits c.limit_of-limit.ensures.limit raw.2 c.deref.ensures.value c.counts_in.ensures.few in
-    from_read (state g.S.Store c.args.conn.now).now.trees content c.args.at.db.0 c.args.at.index c.args.at.register holds c.args.start.now c.args.n c.deref.result.now raw.0 c.in_ok-counts.counts.items raw.1 first c.in_ok-counts.ensures.ok
+    from_listed old store at.db.0 at.index at.register c.args.start.now c.args.n raw.0 raw.1 c.in_ok-counts.counts.items
+    (subst (λ (rows : List Row). TellTerms rows c.in_ok-counts.counts.items) first c.in_ok-counts.ensures.tells)
 
-pub returns-in_err-counts-clause-honest : goal.returns-in_err-counts-clause-honest
-returns-in_err-counts-clause-honest g c clean store is content texts holds =
+pub returns-in_err-counts-clause-units : goal.returns-in_err-counts-clause-units
+returns-in_err-counts-clause-units g c clean store =
+    let old = state g.S.Store c.args.conn.now in
+    let at = c.args.at in
     let raw = (c.in_ok-rows.ensures.call.ok clean).1 store in
     let first = first_taken c.args.n c.limit_of-limit.result c.in_ok-rows.rows.items c.deref.result.now raw.0 c.limit_of-limit.ensures.fits c.limit_of-limit.ensures.limit raw.2 c.deref.ensures.value c.counts_in.ensures.few in
-    c.in_err-counts.ensures.honest (search rules) (λ row here. rows_counted (state g.S.Store c.args.conn.now).now.trees content c.args.at.db.0 c.args.at.index c.args.at.register holds texts row ((raw.1.each row).0 (has_taken c.args.n raw.0 row (subst (λ l. Has l row) first here))).0)
-
-pub returns-clause-sound : goal.returns-clause-sound
-returns-clause-sound g c clean store every are row here =
-    let raw = (c.in_ok-rows.ensures.call.ok clean).1 store in
-    let first = first_taken c.args.n c.limit_of-limit.result c.in_ok-rows.rows.items c.deref.result.now raw.0 c.limit_of-limit.ensures.fits c.limit_of-limit.ensures.limit raw.2 c.deref.ensures.value c.counts_in.ensures.few in
-    c.in_ok-counts.ensures.sound row (subst (λ l. Has l row) (ap (take c.args.n) (one_list _ every raw.0 are raw.1) ∙ sym first) here)
-
-pub returns-in_err-counts-clause-damaged : goal.returns-in_err-counts-clause-damaged
-returns-in_err-counts-clause-damaged g c clean store is all =
-    let raw = (c.in_ok-rows.ensures.call.ok clean).1 store in
-    let first = first_taken c.args.n c.limit_of-limit.result c.in_ok-rows.rows.items c.deref.result.now raw.0 c.limit_of-limit.ensures.fits c.limit_of-limit.ensures.limit raw.2 c.deref.ensures.value c.counts_in.ensures.few in
-    c.in_err-counts.ensures.honest (search rules) (λ row here. all raw.0 raw.1 row (subst (λ l. Has l row) first here))
-
-pub returns-clause-told : goal.returns-clause-told
-returns-clause-told g c clean store =
-    let raw = (c.in_ok-rows.ensures.call.ok clean).1 store in
-    let first = first_taken c.args.n c.limit_of-limit.result c.in_ok-rows.rows.items c.deref.result.now raw.0 c.limit_of-limit.ensures.fits c.limit_of-limit.ensures.limit raw.2 c.deref.ensures.value c.counts_in.ensures.few in
-    (raw.0, raw.1, tell_first c.args.n c.deref.result.now raw.0 c.in_ok-counts.counts.items first c.in_ok-counts.ensures.ok c.in_ok-counts.ensures.sound)
+    refused_so _ _ c.from_residual-in_err-counts.result c.in_err-counts.field-0.0 (search rules) (
+      λ told. from_hide old store at.db.0 at.index at.register c.args.start.now c.args.n raw.0 raw.1 (subst EndsCounting first (c.in_err-counts.ensures.tells.1 told)),
+      λ is. absurd (c.in_err-counts.ensures.tells.0 is),
+    )

@@ -1,4 +1,5 @@
-use Rattle.zeb_packed.proofs.Cited.{◌≡◌, ◌⊎◌, ◌<◌, ◌^◌, ℕ, List, false, length, take, sum_by, state, Row, HasCleanDisk, IsUnchanged, Survives, Has, TermCount, ChangesNothing, Content, capped, key_in, AreAllSpelled, HoldsBlocks, IsBlockUnder, blocks_of, key_row, IsListOf, IsStore, Rises}
+use Rattle.zeb_packed.proofs.Cited.{◌≡◌, ◌⊎◌, ◌<◌, ◌^◌, List, false, length, take, sum_by, state, HasCleanDisk, IsUnchanged, Survives, Posting, ChangesNothing, capped, blocks_of, packed_blocks, IsStore, Rises}
+use Rattle.zeb_register.specs.Terms.{AreListed}
 use Rattle.zeb_packed.proofs.blocks.BlocksLayout.totals.Given as goal
 
 abbrev pub invariant-loop-term : goal.invariant-loop-term
@@ -11,14 +12,8 @@ invariant-loop-term g l =
       ok : HasCleanDisk now → IsUnchanged old now;
       same : HasCleanDisk now → l.fn.conn.in_transaction ≡ false → ChangesNothing old now;
       crash : Survives old now (λ _. ⊥);
-      counted : HasCleanDisk now → IsStore old → (content : Content) → HoldsBlocks old.now.trees content
-          → l.occurrences ≡ capped (sum_by (λ (t : TermCount). length (content l.at.db.0 (key_in l.at.index l.at.register t.term))) (take l.term-index l.term-items));
-      sound : HasCleanDisk now → IsStore old → (t : TermCount) → Has (take l.term-index l.term-items) t → AreAllSpelled old.now.trees (key_row l.at.db.0 (key_in l.at.index l.at.register t.term));
-      read : HasCleanDisk now → IsStore old → (blocks : List ℕ → List Row)
-          → ((t : TermCount) → Has l.term-items t → IsListOf (IsBlockUnder old.now.trees l.at.db.0 l.at.index l.at.register t.term) (blocks t.term))
-          → Rises (sum_by (λ (t : TermCount). length (blocks t.term)) (take l.term-index l.term-items)) l.initial.work.block_read l.work.block_read;
+      lists : HasCleanDisk now → IsStore old → (lists : List (List Posting)) × AreListed packed_blocks old.now.trees l.at.db.0 l.at.index l.at.register (take l.term-index l.term-items) lists
+          × (l.occurrences ≡ capped (sum_by length lists)) × Rises (sum_by blocks_of lists) l.initial.work.block_read l.work.block_read;
       others : l.work ≡ record l.initial.work { block_read = l.work.block_read };
       fits : (l.work.block_read ≡ l.initial.work.block_read) ⊎ (l.work.block_read < 2 ^ 64);
-      blocks : HasCleanDisk now → IsStore old → (content : Content) → HoldsBlocks old.now.trees content
-          → Rises (sum_by (λ (t : TermCount). blocks_of (content l.at.db.0 (key_in l.at.index l.at.register t.term))) (take l.term-index l.term-items)) l.initial.work.block_read l.work.block_read;
     }

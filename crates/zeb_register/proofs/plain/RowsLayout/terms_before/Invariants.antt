@@ -1,4 +1,5 @@
-use Rattle.zeb_register.proofs.Cited.{state, HasCleanDisk, IsUnchanged, ◌≡◌, ◌++◌, List, Ok, true, length, filter, reverse, string_bytes, RegFault, Reading, TermCount, IsStore, Content, posted, HoldsRows, AreTermsOf, is_before}
+use Rattle.zeb_register.proofs.Cited.{state, HasCleanDisk, IsUnchanged, ◌≡◌, Ok, true, length, reverse, string_bytes, RegFault, Reading, IsStore, plain_rows}
+use Rattle.zeb_register.specs.Terms.{Comes, ListsCounts}
 use Rattle.zeb_register.proofs.plain.RowsLayout.terms_before.Given as goal
 
 abbrev pub invariant-loop-done : goal.invariant-loop-done
@@ -6,8 +7,7 @@ invariant-loop-done g l =
     let old = state g.S.Store l.fn.conn in
     let now = state g.S.Store l.conn in
     record {
-      call : Reading {E = RegFault} old now (Ok true) (λ _. IsUnchanged);
       long : length l.counts.items ≡ l._done;
-      rest : HasCleanDisk now → IsStore old → (content : Content) → HoldsRows old.now.trees content → (all : List TermCount) → AreTermsOf (posted content l.at.db.0) l.at.index l.at.register all
-          → filter (is_before l.start) all ≡ filter (is_before (string_bytes l.above)) all ++ reverse l.counts.items;
+      call : Reading {E = RegFault} old now (Ok true) (λ _. IsUnchanged);
+      told : HasCleanDisk now → IsStore old → (¬ Comes l.start (string_bytes l.above)) × ListsCounts plain_rows old.now.trees l.at.db.0 l.at.index l.at.register (λ u. Comes u l.start × ¬ Comes u (string_bytes l.above)) (reverse l.counts.items);
     }

@@ -1,4 +1,5 @@
-use Rattle.zeb_register.proofs.Cited.{state, HasCleanDisk, IsUnchanged, ◌≡◌, ◌++◌, List, Ok, true, length, filter, string_bytes, RegFault, Reading, TermCount, IsStore, Content, posted, HoldsRows, AreTermsOf, is_from}
+use Rattle.zeb_register.proofs.Cited.{state, HasCleanDisk, IsUnchanged, ◌≡◌, Ok, true, length, string_bytes, RegFault, Reading, IsStore, plain_rows}
+use Rattle.zeb_register.specs.Terms.{Comes, ListsCounts}
 use Rattle.zeb_register.proofs.plain.RowsLayout.terms_from.Given as goal
 
 abbrev pub invariant-loop-done : goal.invariant-loop-done
@@ -8,6 +9,5 @@ invariant-loop-done g l =
     record {
       long : length l.counts.items ≡ l._done;
       call : Reading {E = RegFault} old now (Ok true) (λ _. IsUnchanged);
-      rest : HasCleanDisk now → IsStore old → (content : Content) → HoldsRows old.now.trees content → (all : List TermCount) → AreTermsOf (posted content l.at.db.0) l.at.index l.at.register all
-          → filter (is_from l.start) all ≡ l.counts.items ++ filter (is_from (string_bytes l.next)) all;
+      told : HasCleanDisk now → IsStore old → (¬ Comes (string_bytes l.next) l.start) × ListsCounts plain_rows old.now.trees l.at.db.0 l.at.index l.at.register (λ u. (¬ Comes u l.start) × Comes u (string_bytes l.next)) l.counts.items;
     }

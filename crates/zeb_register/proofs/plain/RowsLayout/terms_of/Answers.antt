@@ -1,21 +1,17 @@
-use Rattle.zeb_register.proofs.Cited.{state, row_cmp, Has, sym, subst, IfOk-weaker, IsListOf, IsRest, postings_tree, AreCounts, IsShown, register_front}
+use Rattle.zeb_register.proofs.Cited.{state, row_cmp, List, Row, Has, Trees, Vec, Global, sym, subst, IfOk-weaker, IsListOf, IsRest, postings_tree, TermCount, AreCounts, IsOccurrenceRow, IsShown, plain_rows, register_front}
 use Rattle.std.specs.List.Sorted.{IsStrictlySortedBy}
-use Rattle.zeb_register.proofs.TermRows.{counts_are, rows_readable}
+use Rattle.zeb_register.specs.Terms.{HidesSome, ListsAll}
+use Rattle.zeb_register.proofs.Answered.{never_stored, told_or}
+use Rattle.zeb_register.proofs.PlainTerms.{rows_tell}
 use Rattle.zeb_register.proofs.plain.RowsLayout.terms_of.Goals as goal
 
-pub returns-clause-value : goal.returns-clause-value
-returns-clause-value g c clean store =
-    let trees = (state g.S.Store c.args.conn.now).now.trees in
-    let items = c.in_ok-rows.rows.items in
-    let raw = (c.in_ok-rows.ensures.call.ok clean).1 store in
-    let held : IsListOf (IsRest postings_tree (register_front c.args.at.db.0 c.args.at.index c.args.at.register) trees) items = raw in
-    let rising : IsStrictlySortedBy row_cmp c.deref.result.now = subst (IsStrictlySortedBy row_cmp) (sym c.deref.ensures.value) held.rising in
-    IfOk-weaker c.count_terms.result _ _ (λ list counted content holds. counts_are trees content c.args.at.db.0 c.args.at.index c.args.at.register holds items held list.items (subst (λ l. AreCounts (IsShown l) list.items) c.deref.ensures.value (counted rising))) c.count_terms.ensures.ok
-
-pub returns-clause-honest : goal.returns-clause-honest
-returns-clause-honest g c clean store is content texts holds =
-    let trees = (state g.S.Store c.args.conn.now).now.trees in
-    let items = c.in_ok-rows.rows.items in
-    let raw = (c.in_ok-rows.ensures.call.ok clean).1 store in
-    let held : IsListOf (IsRest postings_tree (register_front c.args.at.db.0 c.args.at.index c.args.at.register) trees) items = raw in
-    c.count_terms.ensures.honest is (λ row here. rows_readable trees content c.args.at.db.0 c.args.at.index c.args.at.register holds items held texts row (subst (λ l. Has l row) c.deref.ensures.value here))
+pub returns-clause-units : goal.returns-clause-units
+returns-clause-units g c =
+    let old = state g.S.Store c.args.conn.now in
+    let new = state g.S.Store c.register_rows.new.conn in
+    let at = c.args.at in
+    told_or (λ trees. HidesSome plain_rows trees at.db.0 at.index at.register) (λ (trees : Trees) (list : Vec TermCount Global). ListsAll plain_rows trees at.db.0 at.index at.register list.items) old new c.count_terms.result (λ clean store.
+    let rows = c.deref.result.now in
+    let held : IsListOf (IsRest postings_tree (register_front at.db.0 at.index at.register) old.now.trees) rows =
+    subst (IsListOf (IsRest postings_tree (register_front at.db.0 at.index at.register) old.now.trees)) (sym c.deref.ensures.value) ((c.in_ok-rows.ensures.call.ok clean).1 store) in
+    rows_tell old store at.db.0 at.index at.register rows held c.count_terms.result (IfOk-weaker c.count_terms.result _ _ (λ list counts. counts held.rising) c.count_terms.ensures.counts) c.count_terms.ensures.occur) (λ clean store is. absurd (never_stored _ _ c.count_terms.result c.count_terms.ensures.occur is))

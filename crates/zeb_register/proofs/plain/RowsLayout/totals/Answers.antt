@@ -1,39 +1,35 @@
-use Rattle.zeb_register.proofs.Cited.{state, row_cmp, Has, rules, inl, map, sym, subst, arith, length-map, IsListOf, IsRest, postings_tree, AreCounts, IsShown, register_front}
+use Rattle.zeb_register.proofs.Cited.{state, row_cmp, List, Row, rules, ap, inl, sym, subst, arith, Err, IsListOf, IsRest, postings_tree, AreCounts, IsShown, register_front}
 use Rattle.std.specs.List.Sorted.{IsStrictlySortedBy}
+use Rattle.zeb_register.proofs.Answered.{refused_so}
 use Rattle.zeb_register.proofs.CountLemmas.{none_in_sum}
-use Rattle.zeb_register.proofs.TermRows.{counts_are, rows_readable, spot_at, spots_are}
+use Rattle.zeb_register.proofs.PlainTerms.{rows_hide, rows_sum_up}
 use Rattle.zeb_register.proofs.plain.RowsLayout.totals.Goals as goal
 
-pub returns-in_err-counts-clause-honest : goal.returns-in_err-counts-clause-honest
-returns-in_err-counts-clause-honest g c clean store is content texts holds =
-    let trees = (state g.S.Store c.args.conn.now).now.trees in
-    let items = c.in_ok-rows.rows.items in
-    let raw = (c.in_ok-rows.ensures.call.ok clean).1 store in
-    let held : IsListOf (IsRest postings_tree (register_front c.args.at.db.0 c.args.at.index c.args.at.register) trees) items = raw in
-    c.in_err-counts.ensures.honest (search rules) (λ row here. rows_readable trees content c.args.at.db.0 c.args.at.index c.args.at.register holds items held texts row (subst (λ l. Has l row) c.deref.ensures.value here))
+pub returns-in_err-counts-clause-units : goal.returns-in_err-counts-clause-units
+returns-in_err-counts-clause-units g c clean store =
+    let old = state g.S.Store c.args.conn.now in
+    let at = c.args.at in
+    let held : IsListOf (IsRest postings_tree (register_front at.db.0 at.index at.register) old.now.trees) c.deref.result.now =
+    subst (IsListOf (IsRest postings_tree (register_front at.db.0 at.index at.register) old.now.trees)) (sym c.deref.ensures.value) ((c.in_ok-rows.ensures.call.ok clean).1 store) in
+    refused_so _ _ c.from_residual-in_err-counts.result c.in_err-counts.field-0.0 (search rules) (
+      λ told. let it = rows_hide old store at.db.0 at.index at.register c.deref.result.now held (c.in_err-counts.ensures.occur.1 told) in (it.0, inl it.1),
+      λ is. absurd (c.in_err-counts.ensures.occur.0 is),
+    )
 
-pub returns-clause-value : goal.returns-clause-value
-returns-clause-value g c clean store content holds =
-    let trees = (state g.S.Store c.args.conn.now).now.trees in
+pub returns-clause-units : goal.returns-clause-units
+returns-clause-units g c clean store =
+    let old = state g.S.Store c.args.conn.now in
+    let at = c.args.at in
     let items = c.in_ok-rows.rows.items in
-    let raw = (c.in_ok-rows.ensures.call.ok clean).1 store in
-    let held : IsListOf (IsRest postings_tree (register_front c.args.at.db.0 c.args.at.index c.args.at.register) trees) items = raw in
-    let rising : IsStrictlySortedBy row_cmp c.deref.result.now = subst (IsStrictlySortedBy row_cmp) (sym c.deref.ensures.value) held.rising in
+    let held : IsListOf (IsRest postings_tree (register_front at.db.0 at.index at.register) old.now.trees) items = (c.in_ok-rows.ensures.call.ok clean).1 store in
     let terms = c.in_ok-counts.counts.items in
-    let are = counts_are trees content c.args.at.db.0 c.args.at.index c.args.at.register holds items held terms (subst (λ l. AreCounts (IsShown l) terms) c.deref.ensures.value (c.in_ok-counts.ensures.ok rising)) in
-    let spots = spots_are trees content c.args.at.db.0 c.args.at.index c.args.at.register holds items held in
-    record {
-      all = terms;
-      are = are;
-      terms = omega (arith, c.len.ensures, c.in_ok-counts.counts.ok.0);
-      spots = map spot_at items;
-      stand = spots;
-      occurrences = omega (arith, c.len-2.ensures, c.in_ok-rows.rows.ok.0, length-map items spot_at);
-    }
+    let counts : AreCounts (IsShown items) terms = subst (λ (l : List Row). AreCounts (IsShown l) terms) c.deref.ensures.value (c.in_ok-counts.ensures.counts (subst (IsStrictlySortedBy row_cmp) (sym c.deref.ensures.value) held.rising)) in
+    rows_sum_up old store at.db.0 at.index at.register items held terms counts (λ row h. c.in_ok-counts.ensures.occur row (subst (λ (l : List Row). Rattle.sqlite_rules.specs.Lists.Has l row) (sym c.deref.ensures.value) h))
+    _ (omega (arith, c.len.ensures, c.in_ok-counts.counts.ok.0)) (omega (arith, c.len-2.ensures, c.in_ok-rows.rows.ok.0))
 
 pub returns-clause-work : goal.returns-clause-work
-returns-clause-work g c clean store content holds all are =
-    let none = none_in_sum all in
+returns-clause-work g c clean store terms lists all listed =
+    let none = none_in_sum lists in
     record {
       reads_terms = inl (omega arith);
       writes_terms = inl (omega arith);

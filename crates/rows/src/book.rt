@@ -1,0 +1,243 @@
+//! A file of cases, line by line.
+
+use crate::faults::Fault;
+use crate::folder::Folder;
+use crate::outcomes::{Outcome, shown};
+use crate::records::Fields;
+use crate::rows::{Row, script_of};
+use crate::runs::{run_input, run_words};
+use crate::texts::{bytes_of, expanded};
+use std::alloc::Global;
+use std::{mem, slice};
+
+/// A line below a head, without the two spaces that it begins with.
+#[derive(Drop)]
+struct Line<'a> {
+    number: usize,
+    text: &'a str,
+}
+
+/// A head, what stands behind it, and the lines below it.
+#[derive(Drop)]
+struct Part<'a> {
+    head: &'a str,
+    name: &'a str,
+    lines: Vec<Line<'a>>,
+}
+
+/// What was read of a file of cases.
+#[derive(Drop)]
+pub struct Book<'a> {
+    alloc: Global,
+    folder: Folder,
+    part: Part<'a>,
+    /// How many lines were read, or the number of the line that is at fault.
+    pub number: usize,
+    /// How many rows were run.
+    pub rows: usize,
+    /// A line for each row that differs.
+    pub differing: Vec<String>,
+}
+
+impl<'a> Book<'a> {
+    /// A file of which nothing is read yet.
+    pub fn new(alloc: Global) -> Book<'a> {
+        Book {
+            alloc,
+            folder: Folder::new(alloc),
+            part: Part {
+                head: "folder",
+                name: "",
+                lines: Vec::new(alloc),
+            },
+            number: 0,
+            rows: 0,
+            differing: Vec::new(alloc),
+        }
+    }
+
+    /// Reads a whole file. Its last part is a line `end`, so that a file that was cut isn't passed over.
+    pub fn read(&mut self, text: &'a str) -> Result<(), Fault> {
+        for line in text.split_terminator('\n') {
+            self.number = self.number.saturating_add(1);
+            self.read_line(line)?;
+        }
+        if self.part.head == "end" && self.part.lines.is_empty() {
+            return Ok(());
+        }
+        Err(Fault::Line("the last line isn't `end`"))
+    }
+
+    /// Reads a line: a remark, a line of the part, or the head of the next one.
+    fn read_line(&mut self, line: &'a str) -> Result<(), Fault> {
+        if line.is_empty() || line.starts_with('#') {
+            return Ok(());
+        }
+        if let Some(text) = line.strip_prefix("  ") {
+            let number = self.number;
+            self.part.lines.push(Line { number, text })?;
+            return Ok(());
+        }
+        let (head, name) = line.split_once(' ').unwrap_or((line, ""));
+        let next = Part {
+            head,
+            name,
+            lines: Vec::new(self.alloc),
+        };
+        let part = mem::replace(&mut self.part, next);
+        self.carry_out(&part)
+    }
+
+    fn carry_out(&mut self, part: &Part<'_>) -> Result<(), Fault> {
+        match part.head {
+            "text" => self.put_text(part),
+            "bytes" => self.add_bytes(part),
+            "record" => self.add_record(part),
+            "sql" => self.set_statements(part),
+            "script" => self.run_script(part),
+            "inputs" => self.run_inputs(part),
+            "words" => self.run_words(part),
+            _ => self.set(part),
+        }
+    }
+
+    /// Carries out a head that has no lines below it.
+    fn set(&mut self, part: &Part<'_>) -> Result<(), Fault> {
+        if !part.lines.is_empty() {
+            return Err(Fault::Line("lines below a head that has none"));
+        }
+        match part.head {
+            "folder" => {
+                self.folder = Folder::new(self.alloc);
+                Ok(())
+            }
+            "register" => self.folder.set_register(self.alloc, part.name),
+            "lost" => self.folder.put(self.alloc, part.name, None),
+            _ => Err(Fault::Line("no such head")),
+        }
+    }
+
+    /// Puts a file of these lines there.
+    fn put_text(&mut self, part: &Part<'_>) -> Result<(), Fault> {
+        let bytes = self.bytes_of_lines(part, b"\n")?;
+        self.folder.put(self.alloc, part.name, Some(bytes))
+    }
+
+    /// Adds the bytes of these lines to a file.
+    fn add_bytes(&mut self, part: &Part<'_>) -> Result<(), Fault> {
+        let bytes = self.bytes_of_lines(part, b"")?;
+        self.folder.add(self.alloc, part.name, &bytes)
+    }
+
+    /// What the lines of a part stand for, with these bytes behind each.
+    fn bytes_of_lines(&mut self, part: &Part<'_>, behind: &[u8]) -> Result<Vec<u8>, Fault> {
+        let mut bytes = Vec::new(self.alloc);
+        for line in &part.lines {
+            self.number = line.number;
+            let text = expanded(self.alloc, &self.folder, line.text)?;
+            bytes.extend_from_slice(&bytes_of(self.alloc, &text)?)?;
+            bytes.extend_from_slice(behind)?;
+        }
+        Ok(bytes)
+    }
+
+    /// Adds the record of these fields to a file.
+    fn add_record(&mut self, part: &Part<'_>) -> Result<(), Fault> {
+        let mut fields = Fields::new(self.alloc);
+        for line in &part.lines {
+            self.number = line.number;
+            let text = expanded(self.alloc, &self.folder, line.text)?;
+            fields.add(self.alloc, &text)?;
+        }
+        let record = fields.record(self.alloc)?;
+        self.folder.add(self.alloc, part.name, &record)
+    }
+
+    /// Has these lines alter the register, a statement each.
+    fn set_statements(&mut self, part: &Part<'_>) -> Result<(), Fault> {
+        let mut statements = Vec::new(self.alloc);
+        for line in &part.lines {
+            statements.push(String::from_str(self.alloc, line.text)?)?;
+        }
+        self.folder.set_statements(statements);
+        Ok(())
+    }
+
+    /// The rows of a part.
+    fn rows_of(&mut self, part: &Part<'_>, is_words: bool) -> Result<Vec<Row>, Fault> {
+        let mut rows = Vec::new(self.alloc);
+        for line in &part.lines {
+            self.number = line.number;
+            if !line.text.starts_with('#') {
+                rows.push(Row::read(self.alloc, &self.folder, line.number, line.text, is_words)?)?;
+            }
+        }
+        self.rows = self.rows.saturating_add(rows.len());
+        Ok(rows)
+    }
+
+    /// Runs each row by words.
+    fn run_words(&mut self, part: &Part<'_>) -> Result<(), Fault> {
+        let rows = self.rows_of(part, true)?;
+        for row in &rows {
+            let found = run_words(self.alloc, &self.folder, &row.input)?;
+            self.compare(part.name, slice::from_ref(row), &found)?;
+        }
+        Ok(())
+    }
+
+    /// Runs each row as a whole input.
+    fn run_inputs(&mut self, part: &Part<'_>) -> Result<(), Fault> {
+        let rows = self.rows_of(part, false)?;
+        for row in &rows {
+            let input = bytes_of(self.alloc, &row.input)?;
+            let found = run_input(self.alloc, &self.folder, &input)?;
+            self.compare(part.name, slice::from_ref(row), &found)?;
+        }
+        Ok(())
+    }
+
+    /// Runs all rows as the lines of one script.
+    fn run_script(&mut self, part: &Part<'_>) -> Result<(), Fault> {
+        let rows = self.rows_of(part, false)?;
+        let script = script_of(self.alloc, self.folder.profile()?, &rows)?;
+        let found = run_input(self.alloc, &self.folder, &script)?;
+        self.compare(part.name, &rows, &found)
+    }
+
+    /// Finds each row's answer behind that of the one before it. The first that isn't there is told, and nothing of those behind it.
+    fn compare(&mut self, name: &str, rows: &[Row], found: &Outcome) -> Result<(), Fault> {
+        let mut output = found.output.as_slice();
+        let mut faults = found.faults.as_slice();
+        for row in rows {
+            let output_left = output.strip_prefix(row.wanted.output.as_slice());
+            let faults_left = faults.strip_prefix(row.wanted.faults.as_slice());
+            let (Some(behind), Some(faults_behind)) = (output_left, faults_left) else {
+                return self.tell(name, row, found, output);
+            };
+            output = behind;
+            faults = faults_behind;
+        }
+        let Some(last) = rows.last() else {
+            return Ok(());
+        };
+        let status = rows.iter().map(|row| row.wanted.status).max();
+        if status == Some(found.status) && last.wanted.may_go_on(output, faults) {
+            return Ok(());
+        }
+        self.tell(name, last, found, output)
+    }
+
+    /// Notes that a row differs, with what came in place of its answer.
+    fn tell(&mut self, name: &str, row: &Row, found: &Outcome, output: &[u8]) -> Result<(), Fault> {
+        let came = shown(self.alloc, found.status, output, &found.faults)?;
+        let wanted = &row.wanted;
+        let wanted = shown(self.alloc, wanted.status, &wanted.output, &wanted.faults)?;
+        let (number, input) = (row.number, row.input.get(..200).unwrap_or(&row.input));
+        let line = format!(in self.alloc;
+            "{number}: {name}: {input}: {came} in place of {wanted}"
+        )?;
+        self.differing.push(line)?;
+        Ok(())
+    }
+}

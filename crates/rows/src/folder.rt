@@ -1,0 +1,178 @@
+//! The files that cases run over, and the register that words find at their profile's path.
+
+use crate::faults::Fault;
+use sqlite::{Connection, MemStore};
+use std::alloc::Global;
+use std::str;
+use zeb_engine::{Command, DbName, Kind, Limits, Session};
+use zeb_packed::Blocks;
+use zeb_paths::Shelved;
+use zeb_profile::Profile;
+
+/// The profile of scripts, and of words that name no other.
+const PROFILE: &str = "zebra.cfg";
+
+/// A file; without bytes where each read fails.
+#[derive(Drop)]
+struct Filed {
+    path: String,
+    bytes: Option<Vec<u8>>,
+}
+
+/// Files in memory.
+#[derive(Drop)]
+pub struct Folder {
+    files: Vec<Filed>,
+    /// Empty where there is none, `new` without tables, `begun` without a record, or the file whose records are kept.
+    register: String,
+    /// What alters the register before words find it.
+    statements: Vec<String>,
+}
+
+impl Folder {
+    /// An empty folder, where no register can be opened.
+    pub fn new(alloc: Global) -> Folder {
+        Folder {
+            files: Vec::new(alloc),
+            register: String::new(alloc),
+            statements: Vec::new(alloc),
+        }
+    }
+
+    /// Has words find this register, not altered.
+    pub fn set_register(&mut self, alloc: Global, register: &str) -> Result<(), Fault> {
+        self.register = String::from_str(alloc, register)?;
+        self.set_statements(Vec::new(alloc));
+        Ok(())
+    }
+
+    /// Has these statements alter the register before words find it.
+    pub fn set_statements(&mut self, statements: Vec<String>) {
+        self.statements = statements;
+    }
+
+    /// Adds bytes to a file, which is made where it is absent.
+    pub fn add(&mut self, alloc: Global, path: &str, bytes: &[u8]) -> Result<(), Fault> {
+        let mut whole = Vec::from_slice(alloc, self.bytes(path).unwrap_or(&[]))?;
+        whole.extend_from_slice(bytes)?;
+        self.put(alloc, path, Some(whole))
+    }
+
+    /// Puts a file there, in the place of one of this path; without bytes each read of it fails.
+    pub fn put(&mut self, alloc: Global, path: &str, bytes: Option<Vec<u8>>) -> Result<(), Fault> {
+        self.files.retain(|file| file.path.as_str() != path);
+        let path = String::from_str(alloc, path)?;
+        self.files.push(Filed { path, bytes })?;
+        Ok(())
+    }
+
+    /// The bytes of a file.
+    pub fn bytes(&self, path: &str) -> Result<&[u8], Fault> {
+        for file in &self.files {
+            if let (true, Some(bytes)) = (file.path.as_str() == path, &file.bytes) {
+                return Ok(bytes.as_slice());
+            }
+        }
+        Err(Fault::Line("no such file"))
+    }
+
+    /// The input of words: the file `input`, or nothing.
+    pub fn input(&self) -> &[u8] {
+        self.bytes("input").unwrap_or(&[])
+    }
+
+    /// The text of the profile.
+    pub fn profile(&self) -> Result<&str, Fault> {
+        match str::from_utf8(self.bytes(PROFILE)?) {
+            Ok(text) => Ok(text),
+            Err(_) => Err(Fault::Line("the profile is no text")),
+        }
+    }
+
+    /// The files as paths have them.
+    pub fn shelved(&self, alloc: Global) -> Result<Vec<Shelved<'_>>, Fault> {
+        let mut shelved = Vec::new(alloc);
+        for file in &self.files {
+            let path = file.path.as_str();
+            let bytes = file.bytes.as_ref().map(|bytes| bytes.as_slice());
+            shelved.push(Shelved { path, bytes })?;
+        }
+        Ok(shelved)
+    }
+
+    /// A new store with the folder's register in it, altered, or `None` where no store can be opened.
+    pub fn store(&self, alloc: Global) -> Result<Option<Connection<MemStore>>, Fault> {
+        let Some(mut connection) = self.register(alloc)? else {
+            return Ok(None);
+        };
+        for statement in &self.statements {
+            alter(&mut connection, statement)?;
+        }
+        Ok(Some(connection))
+    }
+
+    /// The same, as it was before it was altered.
+    fn register(&self, alloc: Global) -> Result<Option<Connection<MemStore>>, Fault> {
+        if self.register.is_empty() {
+            return Ok(None);
+        }
+        let Ok(connection) = Connection::open_in_memory(alloc) else {
+            return Err(Fault::Line("no store could be opened"));
+        };
+        match self.register.as_str() {
+            "new" => Ok(Some(connection)),
+            "begun" => Ok(Some(filled(alloc, connection, self.profile()?, None)?)),
+            path => {
+                let change = update(alloc, self.bytes(path)?)?;
+                Ok(Some(filled(alloc, connection, self.profile()?, Some(change))?))
+            }
+        }
+    }
+}
+
+/// An update of the database `Default` by a file of these bytes.
+fn update(alloc: Global, bytes: &[u8]) -> Result<Command, Fault> {
+    let Some(database) = DbName::read("Default") else {
+        return Err(Fault::Line("no name"));
+    };
+    let file = Vec::from_slice(alloc, bytes)?;
+    Ok(Command::Change {
+        kind: Kind::Update,
+        database,
+        files: vec![in alloc; file]?,
+    })
+}
+
+/// The store with a register that is begun under a profile, and then changed so.
+fn filled(
+    alloc: Global,
+    connection: Connection<MemStore>,
+    profile: &str,
+    change: Option<Command>,
+) -> Result<Connection<MemStore>, Fault> {
+    if !connection.is_autocommit() {
+        return Err(Fault::Line("the store is in use"));
+    }
+    let Ok(profile) = Profile::read(alloc, profile) else {
+        return Err(Fault::Line("the profile is refused"));
+    };
+    let Ok(mut session) = Session::<_, Blocks>::adopt(alloc, connection, profile, Limits::GREATEST)
+    else {
+        return Err(Fault::Line("the store is refused"));
+    };
+    let begun = session.command(&Command::Init).is_ok();
+    let changed = change.map_or(true, |change| session.command(&change).is_ok());
+    if begun && changed {
+        Ok(session.release())
+    } else {
+        Err(Fault::Line("the register is refused"))
+    }
+}
+
+/// Runs a statement, which has to change some row.
+fn alter(connection: &mut Connection<MemStore>, statement: &str) -> Result<(), Fault> {
+    match connection.execute(statement, &[]) {
+        Ok(count) if count > 0 => Ok(()),
+        _ => Err(Fault::Line("a statement that changes nothing")),
+    }
+}

@@ -1,0 +1,65 @@
+//! Runs of the program.
+
+use crate::faults::Fault;
+use crate::folder::Folder;
+use crate::outcomes::Outcome;
+use crate::texts::bytes_of;
+use sqlite::{Alter, Connection, MemStore};
+use std::alloc::Global;
+use zeb_marc::Slice;
+use zeb_paths::{Paths, Shelf};
+use zeb_program::{Sink, run};
+
+/// Runs the program without words on an input.
+pub fn run_input(alloc: Global, folder: &Folder, input: &[u8]) -> Result<Outcome, Fault> {
+    run_over::<MemStore>(alloc, folder, None, &[], input)
+}
+
+/// Runs the program on words, with blanks between, over the folder's register. Its input is the folder's file `input`, if there is one.
+pub fn run_words(alloc: Global, folder: &Folder, line: &str) -> Result<Outcome, Fault> {
+    let mut words = Vec::new(alloc);
+    for word in line.split(' ') {
+        words.push(word_of(alloc, word)?)?;
+    }
+    let store = folder.store(alloc)?;
+    run_over(alloc, folder, store, &words, folder.input())
+}
+
+fn word_of(alloc: Global, text: &str) -> Result<String, Fault> {
+    match String::from_utf8(bytes_of(alloc, text)?) {
+        Ok(word) => Ok(word),
+        Err(_) => Err(Fault::Line("a word is no text")),
+    }
+}
+
+/// Runs the program over the folder's files and a store.
+fn run_over<S: Alter + Drop>(
+    alloc: Global,
+    folder: &Folder,
+    store: Option<Connection<S>>,
+    words: &[String],
+    input: &[u8],
+) -> Result<Outcome, Fault> {
+    let files = folder.shelved(alloc)?;
+    let mut shelf = Shelf::new(&files, store);
+    Ok(run_on(alloc, words, &mut shelf, input))
+}
+
+fn run_on<P: Paths>(alloc: Global, words: &[String], paths: &mut P, input: &[u8]) -> Outcome {
+    let mut output = Vec::new(alloc);
+    let mut faults = Vec::new(alloc);
+    let status = run(
+        alloc,
+        words,
+        paths,
+        &mut Slice::new(input),
+        &mut Sink::new(&mut output),
+        &mut Sink::new(&mut faults),
+    );
+    Outcome {
+        status,
+        output,
+        faults,
+        is_open: false,
+    }
+}

@@ -1,0 +1,29 @@
+-- The words for why a path isn't read, and why a register's store fails (this program's own).
+use Rattle.std.specs.Prelude.{ℕ, List, codes}
+use Rattle.zeb_paths.specs.declared.causes.PathCause.{PathCause}
+use Rattle.zeb_paths.specs.declared.causes.PathCause.TheVariants as path
+use Rattle.zeb_paths.specs.declared.causes.StoreCause.{StoreCause}
+use Rattle.zeb_paths.specs.declared.causes.StoreCause.TheVariants as store
+
+abbrev pub path_cause_text : PathCause → List ℕ
+path_cause_text path.Absent = codes "nothing stands there"
+path_cause_text path.Forbidden = codes "no right to read it"
+path_cause_text path.Neither = codes "neither a file nor a folder"
+path_cause_text path.Folder = codes "a folder, where a file is asked for or no folder so deep is read"
+path_cause_text path.Content = codes "no UTF-8, or too long"
+path_cause_text path.Name = codes "a name that isn't UTF-8 or is too long"
+path_cause_text path.Failed = codes "the system failed a call"
+path_cause_text path.Memory = codes "out of memory"
+
+abbrev pub store_cause_text : StoreCause → List ℕ
+store_cause_text store.Held = codes "held by another program"
+store_cause_text store.NoFolder = codes "no such folder"
+store_cause_text store.Forbidden = codes "no right to write the file, or in its folder"
+store_cause_text store.NoFile = codes "no file stands there"
+store_cause_text store.TwoNames = codes "a file with a second name"
+store_cause_text store.Journal = codes "a journal of SQLite stands beside it"
+store_cause_text store.Foreign = codes "no register of this program"
+store_cause_text store.Full = codes "disk full"
+store_cause_text store.Damaged = codes "damaged page"
+store_cause_text store.Failed = codes "the system failed a call"
+store_cause_text store.Memory = codes "out of memory"

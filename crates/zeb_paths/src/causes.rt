@@ -1,0 +1,149 @@
+//! Why a path isn't read, and why a register's store fails, as far as the system tells.
+
+use sqlite::{Error, ErrorCode};
+use std::{fmt, io};
+
+/// Why a path isn't read.
+#[derive(Clone, Copy, Debug, PartialEq, Eq)]
+pub enum PathCause {
+    /// Nothing stands there.
+    Absent,
+    /// This process has no right to read it, or to go through its folders.
+    Forbidden,
+    /// Neither a file nor a folder stands there.
+    Neither,
+    /// A folder stands there that can be read: a file is asked for, or no folder so deep is read.
+    Folder,
+    /// A file stands there that can be read: what it holds isn't taken.
+    Content,
+    /// A name in the folder isn't UTF-8, or the path has a name that is too long.
+    Name,
+    /// The system failed a call, for no cause of these.
+    Failed,
+    Memory,
+}
+
+impl fmt::Display for PathCause {
+    ghost use Rattle.std.specs.Prelude.{Some};
+    ghost use Rattle.zeb_paths.specs.Causes.{path_cause_text};
+
+    ghost output = { λ cause. Some (path_cause_text cause) };
+
+    fn fmt<W: fmt::Write>(&self, f: &mut fmt::Formatter<W>) -> fmt::Result {
+        f.write_str(match self {
+            PathCause::Absent => "nothing stands there",
+            PathCause::Forbidden => "no right to read it",
+            PathCause::Neither => "neither a file nor a folder",
+            PathCause::Folder => "a folder, where a file is asked for or no folder so deep is read",
+            PathCause::Content => "no UTF-8, or too long",
+            PathCause::Name => "a name that isn't UTF-8 or is too long",
+            PathCause::Failed => "the system failed a call",
+            PathCause::Memory => "out of memory",
+        })
+    }
+}
+
+impl From<io::Error> for PathCause {
+    fn from(error: io::Error) -> PathCause {
+        match error.kind() {
+            io::ErrorKind::NotFound | io::ErrorKind::NotADirectory => PathCause::Absent,
+            io::ErrorKind::PermissionDenied => PathCause::Forbidden,
+            io::ErrorKind::InvalidFilename => PathCause::Name,
+            io::ErrorKind::OutOfMemory => PathCause::Memory,
+            _ => PathCause::Failed,
+        }
+    }
+}
+
+/// Why a register's store fails.
+#[derive(Clone, Copy, Debug, PartialEq, Eq)]
+pub enum StoreCause {
+    /// Another program has it open.
+    Held,
+    /// The folder that it is to stand in isn't there.
+    NoFolder,
+    /// This process may not read and write it, or make a file in its folder.
+    Forbidden,
+    /// Something else than a file stands there.
+    NoFile,
+    /// The file has a second name.
+    TwoNames,
+    /// A journal stands beside it, which only SQLite can play back.
+    Journal,
+    /// It is no file of SQLite, or one with other tables than a register's.
+    Foreign,
+    /// There is no room on the disk.
+    Full,
+    /// A page isn't as it was written.
+    Damaged,
+    /// The system failed a call, for no cause of these.
+    Failed,
+    Memory,
+}
+
+impl fmt::Display for StoreCause {
+    ghost use Rattle.std.specs.Prelude.{Some};
+    ghost use Rattle.zeb_paths.specs.Causes.{store_cause_text};
+
+    ghost output = { λ cause. Some (store_cause_text cause) };
+
+    fn fmt<W: fmt::Write>(&self, f: &mut fmt::Formatter<W>) -> fmt::Result {
+        f.write_str(match self {
+            StoreCause::Held => "held by another program",
+            StoreCause::NoFolder => "no such folder",
+            StoreCause::Forbidden => "no right to write the file, or in its folder",
+            StoreCause::NoFile => "no file stands there",
+            StoreCause::TwoNames => "a file with a second name",
+            StoreCause::Journal => "a journal of SQLite stands beside it",
+            StoreCause::Foreign => "no register of this program",
+            StoreCause::Full => "disk full",
+            StoreCause::Damaged => "damaged page",
+            StoreCause::Failed => "the system failed a call",
+            StoreCause::Memory => "out of memory",
+        })
+    }
+}
+
+impl From<Error> for StoreCause {
+    /// What SQLite's kit tells; of a file that can't be opened it tells no more than that.
+    fn from(error: Error) -> StoreCause {
+        match error {
+            Error::SqliteFailure(ErrorCode::DatabaseBusy) => StoreCause::Held,
+            Error::SqliteFailure(ErrorCode::NotADatabase) => StoreCause::Foreign,
+            Error::SqliteFailure(ErrorCode::DatabaseCorrupt) => StoreCause::Damaged,
+            Error::SqliteFailure(ErrorCode::DiskFull) => StoreCause::Full,
+            Error::SqliteFailure(ErrorCode::OutOfMemory) => StoreCause::Memory,
+            _ => StoreCause::Failed,
+        }
+    }
+}
+
+impl From<io::Error> for StoreCause {
+    fn from(error: io::Error) -> StoreCause {
+        match error.kind() {
+            io::ErrorKind::PermissionDenied | io::ErrorKind::ReadOnlyFilesystem => {
+                StoreCause::Forbidden
+            }
+            io::ErrorKind::StorageFull | io::ErrorKind::QuotaExceeded => StoreCause::Full,
+            io::ErrorKind::OutOfMemory => StoreCause::Memory,
+            _ => StoreCause::Failed,
+        }
+    }
+}
+
+/// How a store was closed.
+#[derive(Clone, Copy, Debug, PartialEq, Eq)]
+pub struct Closed {
+    /// Whether all that was committed stands in the one file. Else a part of it stands in the log beside it, as a crash leaves it.
+    pub is_whole: bool,
+    /// What the store met since it was opened, where that is told.
+    pub cause: Option<StoreCause>,
+}
+
+impl Closed {
+    /// It stands in one file, and nothing failed.
+    pub const WHOLE: Closed = Closed {
+        is_whole: true,
+        cause: None,
+    };
+}

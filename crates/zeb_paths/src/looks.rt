@@ -1,0 +1,117 @@
+//! Looks at what stands at a path once more, to tell why it wasn't read or opened. Between the two others may have changed it.
+
+use crate::causes::{PathCause, StoreCause};
+use sqlite::{Error, ErrorCode};
+use std::fs::{self, Metadata, OpenOptions};
+use std::io::{self, Read};
+use std::os::unix::fs::MetadataExt;
+
+/// Why the path isn't read.
+pub fn why_unread(rt: &HostRuntime, path: &str) -> PathCause {
+    match read_anew(rt, path) {
+        Ok(cause) => cause,
+        Err(error) => PathCause::from(error),
+    }
+}
+
+/// Looks at a path, and reads what stands there: what it can be, where nothing fails.
+fn read_anew(rt: &HostRuntime, path: &str) -> io::Result<PathCause> {
+    let found = fs::metadata(rt, path)?;
+    if found.is_dir() {
+        for entry in fs::read_dir(rt, path)? {
+            let _named = entry?;
+        }
+        return Ok(PathCause::Folder);
+    }
+    if !found.is_file() {
+        return Ok(PathCause::Neither);
+    }
+    let mut file = fs::open(rt, path)?;
+    let _count = file.read(&mut [0u8])?;
+    Ok(PathCause::Content)
+}
+
+/// The folder that a path stands in.
+fn folder_of(path: &str) -> &str {
+    match path.rsplit_once('/') {
+        Some(("", _)) => "/",
+        Some((folder, _)) => folder,
+        None => ".",
+    }
+}
+
+fn is_missing(error: io::Error) -> bool {
+    error.kind() == io::ErrorKind::NotFound
+}
+
+/// Whether a folder stands there.
+fn is_folder(rt: &HostRuntime, path: &str) -> bool {
+    match fs::metadata(rt, path) {
+        Ok(found) => found.is_dir(),
+        Err(_) => false,
+    }
+}
+
+/// Whether a store may stand at a path: not where nothing does, in a folder that is there.
+pub fn may_have_store(rt: &HostRuntime, path: &str) -> bool {
+    match fs::metadata(rt, path) {
+        Ok(_) => true,
+        Err(error) => !is_missing(error) || !is_folder(rt, folder_of(path)),
+    }
+}
+
+/// Why the store at a path isn't opened, where this is what SQLite's kit says of it.
+pub fn why_unopened(rt: &HostRuntime, path: &str, error: Error) -> StoreCause {
+    if error != Error::SqliteFailure(ErrorCode::CannotOpen) {
+        return StoreCause::from(error);
+    }
+    match open_anew(rt, path) {
+        Ok(()) => StoreCause::Failed,
+        Err(cause) => cause,
+    }
+}
+
+/// Looks at what a store needs, in the kit's order, and makes nothing.
+fn open_anew(rt: &HostRuntime, path: &str) -> Result<(), StoreCause> {
+    match fs::metadata(rt, path) {
+        Ok(found) => use_file(rt, path, found),
+        Err(error) if is_missing(error) => Err(why_unmade(rt, path)),
+        Err(error) => Err(StoreCause::from(error)),
+    }
+}
+
+/// Why no file can be made at a path where nothing stands.
+fn why_unmade(rt: &HostRuntime, path: &str) -> StoreCause {
+    if is_folder(rt, folder_of(path)) {
+        StoreCause::Forbidden
+    } else {
+        StoreCause::NoFolder
+    }
+}
+
+/// Looks at what a store needs whose file is there.
+fn use_file(rt: &HostRuntime, path: &str, found: Metadata) -> Result<(), StoreCause> {
+    if !found.is_file() {
+        return Err(StoreCause::NoFile);
+    }
+    if found.nlink() != 1 {
+        return Err(StoreCause::TwoNames);
+    }
+    open_to_write(rt, path)?;
+    let journal = format!(in rt.alloc(); "{path}-journal").map_err(|_| StoreCause::Memory)?;
+    if fs::symlink_metadata(rt, journal.as_str()).is_ok() {
+        return Err(StoreCause::Journal);
+    }
+    let log = format!(in rt.alloc(); "{path}-wal").map_err(|_| StoreCause::Memory)?;
+    match open_to_write(rt, log.as_str()) {
+        Err(error) if is_missing(error) => Err(StoreCause::Forbidden),
+        Err(error) => Err(StoreCause::from(error)),
+        Ok(()) => Ok(()),
+    }
+}
+
+/// Opens a file that is there for reading and writing, and closes it.
+fn open_to_write(rt: &HostRuntime, path: &str) -> io::Result<()> {
+    let _file = OpenOptions::new().read(true).write(true).open(rt, path)?;
+    Ok(())
+}

@@ -1,6 +1,0 @@
-use Rattle.zeb_profile.proofs.Cited.{◌≡◌, drop, directives_in}
-use Rattle.zeb_profile.specs.Indexes as indexes
-use Rattle.zeb_profile.proofs.searches.identifier_pattern.Given as goal
-
-abbrev pub invariant-loop-line : goal.invariant-loop-line
-invariant-loop-line l = indexes.identifier_pattern (directives_in (drop l.line-index l.placed)) ≡ indexes.identifier_pattern (directives_in l.placed)

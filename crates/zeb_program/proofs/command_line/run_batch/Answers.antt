@@ -1,0 +1,15 @@
+use Rattle.std.proofs.Common.{refl, subst, sym}
+use Rattle.zeb_program.specs.Registers.{places}
+use Rattle.zeb_program.specs.WordRuns.{IsText}
+use Rattle.zeb_program.proofs.WordRunLemmas.{batch_refused, batch_run}
+use Rattle.zeb_program.proofs.command_line.run_batch.Goals as goal
+
+pub returns-in-Ok-clause-answer : goal.returns-in-Ok-clause-answer
+returns-in-Ok-clause-answer g c =
+    batch_run (places g.P.Store.Store (g.P.Paths.tells c.args.paths.now) (g.P.Paths.opens c.args.paths.now) (g.P.Paths.lacks c.args.paths.now)) c.args.config (g.R.Source.remaining c.args.input.now) _ c.in-Ok.profile c.as_str.result.now _ _ _ _ _ _ c.serve_batch.result
+    c.in-Ok.ensures.begun.0 (subst (IsText (g.R.Source.remaining c.args.input.now)) (sym c.as_str.ensures.value) c.in-Ok.ensures.begun.1) (c.serve_batch.ensures.answer refl)
+
+pub returns-in-Err-clause-answer : goal.returns-in-Err-clause-answer
+returns-in-Err-clause-answer g c =
+    batch_refused (places g.P.Store.Store (g.P.Paths.tells c.args.paths.now) (g.P.Paths.opens c.args.paths.now) (g.P.Paths.lacks c.args.paths.now)) c.args.config (g.R.Source.remaining c.args.input.now) _ _ _ _ c.in-Err.failure.fault _ _ c.tell_failure.result
+    c.in-Err.ensures.refused c.tell_failure.ensures.told

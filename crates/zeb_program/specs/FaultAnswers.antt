@@ -1,0 +1,35 @@
+-- Why a command that words or a line name has no answer of a register (this program's own).
+use Rattle.std.specs.Prelude.{◌≡◌, ◌⊎◌, ⊤, ℕ, List, Result, Ok, Err, string_bytes}
+use Rattle.zeb_change.specs.declared.refusals.Refusal.{Refusal}
+use Rattle.zeb_change.specs.declared.refusals.Refusal.TheVariants as refusal
+use Rattle.zeb_engine.specs.declared.replies.Reply.{Reply}
+use Rattle.zeb_paths.specs.Walks.{IsUnder}
+use Rattle.zeb_program.specs.declared.faults.Fault.{Fault}
+use Rattle.zeb_program.specs.declared.faults.Fault.TheVariants.{Profile, Unreadable, Refused, Memory}
+
+-- something couldn't be read
+abbrev pub IsUnreadable : Result Reply Fault → Type 0
+IsUnreadable (Ok reply) = ⊥
+IsUnreadable (Err (Profile file fault)) = ⊥
+IsUnreadable (Err (Unreadable path)) = ⊤
+IsUnreadable (Err (Refused refusal)) = ⊥
+IsUnreadable (Err Memory) = ⊥
+
+-- a failure by which a register isn't opened: of the store or of the memory
+abbrev pub IsOpeningFailure : Refusal → Type 0
+IsOpeningFailure why = (why ≡ refusal.Store) ⊎ (why ≡ refusal.Memory)
+
+-- P is so of the answer of a register, unless memory ran out in the program itself; that something couldn't be read is none
+abbrev pub GivesAnswer : (P : Result Reply Refusal → Type 0) → Result Reply Fault → Type 0
+GivesAnswer P (Ok reply) = P (Ok reply)
+GivesAnswer P (Err (Refused refusal)) = P (Err refusal)
+GivesAnswer P (Err Memory) = ⊤
+GivesAnswer P (Err (Profile file fault)) = ⊥
+GivesAnswer P (Err (Unreadable path)) = ⊥
+
+-- a path that can't be read is one of these, or stands below one
+abbrev pub NamesUnder : List (List ℕ) → Fault → Type 0
+NamesUnder named (Unreadable path) = IsUnder named (string_bytes path)
+NamesUnder named (Profile file fault) = ⊤
+NamesUnder named (Refused refusal) = ⊤
+NamesUnder named Memory = ⊤

@@ -1,0 +1,111 @@
+-- What comes of words that name a task, a batch or a shell (this program's own): under the profile in the file that they name, and on the register
+-- that it names.
+use Rattle.std.specs.Prelude.{◌≡◌, ◌⊎◌, ◌++◌, ℕ, max, Bool, false, codes, Option, IfSome, IfErr, Result, Ok, Err, List, String, string_bytes}
+use Rattle.std.specs.declared.alloc.Global.{Global}
+use Rattle.std.specs.Io.KnownBytes.{Appends, Keeps}
+use Rattle.sqlite.specs.Held.{Held}
+use Rattle.zeb_change.specs.Conditions.{Conditions}
+use Rattle.zeb_change.specs.declared.refusals.Refusal.{Refusal}
+use Rattle.zeb_engine.specs.declared.commands.Command.TheVariants.{Init}
+use Rattle.zeb_engine.specs.declared.replies.Reply.{Reply}
+use Rattle.zeb_engine.specs.Replies.{reply_text}
+use Rattle.zeb_image.specs.Holdings.{Holdings}
+use Rattle.zeb_profile.specs.declared.directives.Directive.{Directive}
+use Rattle.zeb_program.specs.declared.faults.Fault.{Fault}
+use Rattle.zeb_program.specs.declared.faults.Fault.TheVariants.{Unreadable, Refused}
+use Rattle.zeb_program.specs.declared.tasks.Task.{Task}
+use Rattle.zeb_program.specs.declared.tasks.Task.TheVariants.{Ask}
+use Rattle.zeb_program.specs.Answers.{AnswersBatch, Writes}
+use Rattle.zeb_program.specs.FaultAnswers.{IsOpeningFailure, NamesUnder}
+use Rattle.zeb_program.specs.FaultLines.{IsUnclosed, TellsFailure}
+use Rattle.zeb_program.specs.FirstAnswers.{AnswersFirst}
+use Rattle.zeb_program.specs.Inputs.{IsInput}
+use Rattle.zeb_program.specs.PathChanges.{AreFilesTold}
+use Rattle.zeb_program.specs.ProfileFiles.{ReadsProfile}
+use Rattle.zeb_program.specs.Registers.{FromStore, LacksStore, OnRegister, OpensStore, Places}
+use Rattle.zeb_program.specs.ScriptAnswers.{AnswersOpened, AreScriptConditions, unreadable_line}
+use Rattle.zeb_program.specs.TaskAnswers.{AnswersOn, paths_of}
+
+-- this is read of the profile's file
+abbrev pub ReadsAt : {S : Type 0} → Places S → String Global → Result (List Directive) Fault → Type 0
+ReadsAt at config read = ReadsProfile (at.tells (string_bytes config)) config read
+
+-- ---- a task
+
+-- what comes of a task under a profile
+pub data ServesUnder {S : Type 0} (at : Places S) (profile : List Directive) (task : Task) : Result Reply Fault → Type 0 where
+  -- the answer of the register, or that one of the task's paths can't be read, or one below them
+  answered : {result : Result Reply Fault} → (c : Conditions) → AreScriptConditions profile c → IfErr result (NamesUnder (paths_of task))
+      → OnRegister at profile (task ≡ Ask Init) (AnswersOn at.tells c task result) → ServesUnder at profile task result
+  -- or why none is opened
+  unopened : {why : Refusal} → IsOpeningFailure why → ServesUnder at profile task (Err (Refused why))
+
+-- what comes of a task by the profile in this file: no more than its fault, where it isn't read
+pub data Performs {S : Type 0} (at : Places S) (config : String Global) (task : Task) : Result Reply Fault → Type 0 where
+  unread : {fault : Fault} → ReadsAt at config (Err fault) → Performs at config task (Err fault)
+  performed : {result : Result Reply Fault} → (profile : List Directive) → ReadsAt at config (Ok profile) → ServesUnder at profile task result
+      → Performs at config task result
+
+-- the text of a reply that comes of the task is written
+abbrev pub WritesReply : {S : Type 0} → Places S → String Global → Task → Option (List ℕ) → Option (List ℕ) → Type 0
+WritesReply at config task old new = (reply : Reply) × Performs at config task (Ok reply) × Appends old new (reply_text reply)
+
+-- the lines of a fault that comes of the task
+abbrev pub TellsWhy : {S : Type 0} → Places S → String Global → Task → ℕ → List ℕ → Type 0
+TellsWhy at config task status bytes = (fault : Fault) × Performs at config task (Err fault) × TellsFailure fault bytes status
+
+-- ---- the lines of the input
+
+-- This is told of how the register was closed, and its status: nothing, or that its file needs its log.
+abbrev pub TellsClosed : Option (List ℕ) → Option (List ℕ) → ℕ → Type 0
+TellsClosed old new status = ((status ≡ 0) × Keeps old new) ⊎ ((status ≡ 3) × Writes old new IsUnclosed)
+
+-- why no line is run: the profile isn't read, or no register is opened
+pub data StopsOpening {S : Type 0} (at : Places S) (config : String Global) : Fault → Type 0 where
+  not_read : {fault : Fault} → ReadsAt at config (Err fault) → StopsOpening at config fault
+  not_opened : {why : Refusal} → (profile : List Directive) → ReadsAt at config (Ok profile) → IsOpeningFailure why → StopsOpening at config (Refused why)
+
+-- the fault of an input that can't be read: it is too long or no text, where it tells its bytes and no read failed
+abbrev pub IsInputFault : Option (List ℕ) → Bool → Fault → Type 0
+IsInputFault given failed fault =
+    (path : String Global) × (fault ≡ Unreadable path) × (string_bytes path ≡ codes "input") × (failed ≡ false → IfSome given (λ bytes. ¬ IsInput bytes))
+
+-- the lines of an input, which are these where it tells its bytes
+abbrev pub IsText : Option (List ℕ) → List ℕ → Type 0
+IsText given text = IsInput text × IfSome given (λ bytes. text ≡ bytes)
+
+-- The lines of a text are run as a batch, numbered from 1: on the register in the store, or, where none stands there, on one in memory as those of a
+-- script. This is the greatest status met.
+pub data RunsLines {S : Type 0} (at : Places S) (profile : List Directive) (text : List ℕ) (old new fault_old fault_new : Option (List ℕ)) : ℕ → Type 0 where
+  on_store : (c : Conditions) → (opened : Held S) → (last : Held S) → (answered : ℕ) → (closed : ℕ) → AreScriptConditions profile c → OpensStore at profile opened
+      → FromStore at opened last (λ before. AreFilesTold at.tells text
+      → Writes old new (λ bytes. (later : Holdings) × AnswersBatch at.tells c 0 text before bytes answered later))
+      → TellsClosed fault_old fault_new closed → RunsLines at profile text old new fault_old fault_new (max answered closed)
+  in_memory : {status : ℕ} → LacksStore at profile → Keeps fault_old fault_new
+      → (AreFilesTold at.tells text → AnswersOpened at.tells profile 0 text old new status) → RunsLines at profile text old new fault_old fault_new status
+  no_register : {why : Refusal} → {status : ℕ} → IsOpeningFailure why → Keeps old new → Writes fault_old fault_new (λ bytes. TellsFailure (Refused why) bytes status)
+      → RunsLines at profile text old new fault_old fault_new status
+
+-- what is written for a batch, and its status, where `failed` says whether a read of the input failed
+pub data RunsBatch {S : Type 0} (at : Places S) (config : String Global) (given : Option (List ℕ)) (failed : Bool) (old new fault_old fault_new : Option (List ℕ)) (status : ℕ) : Type 0 where
+  batch_stopped : (fault : Fault) → ReadsAt at config (Err fault) ⊎ IsInputFault given failed fault → Keeps old new
+      → Writes fault_old fault_new (λ bytes. TellsFailure fault bytes status) → RunsBatch at config given failed old new fault_old fault_new status
+  batch_ran : (profile : List Directive) → (text : List ℕ) → ReadsAt at config (Ok profile) → IsText given text
+      → RunsLines at profile text old new fault_old fault_new status → RunsBatch at config given failed old new fault_old fault_new status
+
+-- The lines of a shell are answered, and nothing goes to the fault output; or one can't be read, which is told there, and those before it are answered,
+-- where this is left of the input.
+abbrev pub AnswersShell : (List ℕ → Option (List ℕ)) → Conditions → List ℕ → Option (List ℕ) → Option (List ℕ) → Option (List ℕ) → Option (List ℕ) → Option (List ℕ) → ℕ → Holdings → Type 0
+AnswersShell told c text left old new fault_old fault_new status before =
+    (Writes old new (λ bytes. (later : Holdings) × AnswersBatch told c 0 text before bytes status later) × Keeps fault_old fault_new)
+    ⊎ (Writes old new (AnswersFirst told c 0 text left before) × (status ≡ 3) × Appends fault_old fault_new unreadable_line)
+
+-- what is written for a shell, and its status, where this is left of the input
+pub data RunsShell {S : Type 0} (at : Places S) (config : String Global) (given left old new fault_old fault_new : Option (List ℕ)) : ℕ → Type 0 where
+  shell_stopped : {status : ℕ} → (fault : Fault) → StopsOpening at config fault → Keeps old new
+      → Writes fault_old fault_new (λ bytes. TellsFailure fault bytes status) → RunsShell at config given left old new fault_old fault_new status
+  shell_ran : (profile : List Directive) → (c : Conditions) → (opened : Held S) → (last : Held S) → (between : Option (List ℕ)) → (answered : ℕ) → (closed : ℕ)
+      → ReadsAt at config (Ok profile) → AreScriptConditions profile c → OpensStore at profile opened
+      → FromStore at opened last (λ before. IfSome given (λ text. AreFilesTold at.tells text
+      → AnswersShell at.tells c text left old new fault_old between answered before))
+      → TellsClosed between fault_new closed → RunsShell at config given left old new fault_old fault_new (max answered closed)

@@ -1,0 +1,151 @@
+//! Why a command that words name isn't answered, with its cause, and what is written of both.
+
+ghost use Rattle.std.specs.Prelude.{◌≡◌, ◌⊎◌, false, IfOk, OnErr};
+ghost use Rattle.zeb_program.specs.Answers.{Writes};
+ghost use Rattle.zeb_program.specs.FaultLines.{IsCause, IsUnclosed, TellsFailure, cause_line};
+ghost use Rattle.zeb_program.specs.PrivateFaults.{IsUnread};
+ghost use Rattle.zeb_program.specs.WordAnswers.{IsFaultStatus};
+ghost use Rattle.zeb_program.specs.declared.faults.Fault.TheVariants.{Memory, Refused};
+ghost use Rattle.std.specs.Io.KnownBytes.{Appends};
+
+use crate::faults::{Fault, tell};
+use crate::program::{ANSWERED, FAILED};
+use crate::sinks::Sink;
+use std::alloc::{AllocError, Global};
+use std::io::Write;
+use zeb_engine::Refusal;
+use zeb_paths::{Closed, PathCause, Paths, StoreCause};
+
+/// What is known of why there is a fault.
+#[derive(Debug, Drop)]
+pub enum Cause {
+    /// Why a path isn't read.
+    Path(PathCause),
+    /// Why the store fails.
+    Store(StoreCause),
+    /// The path of the file that has this number.
+    File { number: u64, path: String },
+}
+
+/// Why a command isn't answered, and the cause, where it is known.
+#[derive(Debug, Drop)]
+pub struct Failure {
+    pub fault: Fault,
+    pub cause: Option<Cause>,
+}
+
+impl From<AllocError> for Failure {
+    ghost from_gives = { λ _ failure. failure.fault ≡ Memory };
+
+    fn from(_error: AllocError) -> Failure {
+        Failure {
+            fault: Fault::Memory,
+            cause: None,
+        }
+    }
+}
+
+impl From<Refusal> for Failure {
+    ghost from_gives = { λ refusal failure. failure.fault ≡ Refused refusal };
+
+    fn from(refusal: Refusal) -> Failure {
+        Failure {
+            fault: Fault::Refused(refusal),
+            cause: None,
+        }
+    }
+}
+
+/// A fault, with what its path is met with where it is looked at anew.
+pub fn of_path<P: Paths>(paths: &P, fault: Fault) -> Failure
+    ensures { result.fault ≡ fault }
+{
+    let cause = match &fault {
+        Fault::Unreadable(path) => paths.why_unread(path.as_str()).map(Cause::Path),
+        _ => None,
+    };
+    Failure { fault, cause }
+}
+
+/// A refusal; of a failed store the cause is this one.
+pub fn of_store(refusal: Refusal, cause: Option<StoreCause>) -> Failure
+    ensures { result.fault ≡ Refused refusal }
+{
+    let cause = match refusal {
+        Refusal::Store => cause.map(Cause::Store),
+        _ => None,
+    };
+    Failure {
+        fault: Fault::Refused(refusal),
+        cause,
+    }
+}
+
+/// Writes a failure's lines, and answers its status. For want of memory nothing is written.
+pub fn tell_failure<W: Write>(
+    alloc: Global,
+    failure: &Failure,
+    output: &mut Sink<W>,
+) -> Result<u8, AllocError>
+    ensures told { IfOk result (λ status. output.new.failed ≡ false →
+        Writes (W.contents output.old.writer) (W.contents output.new.writer)
+        (λ bytes. TellsFailure failure.now.fault bytes status)) }
+    ensures sound { output.new.failed ≡ false → output.old.failed ≡ false }
+    ensures status { IfOk result IsFaultStatus }
+    ensures unread { IsUnread failure.now.fault → IfOk result (λ status. status ≡ FAILED) }
+    ensures silent { OnErr result (output.new ≡ output.old) }
+{
+    let status = tell(alloc, &failure.fault, output)?;
+    tell_cause(&failure.cause, output);
+    Ok(status)
+}
+
+/// Writes the line of a cause, where one is known.
+fn tell_cause<W: Write>(cause: &Option<Cause>, output: &mut Sink<W>)
+    ensures told { output.new.failed ≡ false →
+        Writes (W.contents output.old.writer) (W.contents output.new.writer) IsCause }
+    ensures sound { output.new.failed ≡ false → output.old.failed ≡ false }
+{
+    match cause {
+        Some(cause) => write_cause(cause, output),
+        None => {}
+    }
+}
+
+fn write_cause<W: Write>(cause: &Cause, output: &mut Sink<W>)
+    ensures line { output.new.failed ≡ false →
+        Appends (W.contents output.old.writer) (W.contents output.new.writer) (cause_line cause.now) }
+    ensures sound { output.new.failed ≡ false → output.old.failed ≡ false }
+{
+    match cause {
+        Cause::Path(cause) => output.write_line(format_args!("zebraidx: cause: {cause}")),
+        Cause::Store(cause) => output.write_line(format_args!("zebraidx: cause: {cause}")),
+        Cause::File { number, path } => {
+            output.write_line(format_args!("zebraidx: file {number} is {path}"));
+        }
+    }
+}
+
+/// Writes that a part of what was done stands beside the register's file, where it does, and answers the status.
+pub fn tell_closed<W: Write>(closed: Closed, output: &mut Sink<W>) -> u8
+    ensures whole { result ≡ ANSWERED → output.new ≡ output.old }
+    ensures unclosed { result ≡ FAILED → output.new.failed ≡ false →
+        Writes (W.contents output.old.writer) (W.contents output.new.writer) IsUnclosed }
+    ensures sound { output.new.failed ≡ false → output.old.failed ≡ false }
+    ensures status { (result ≡ ANSWERED) ⊎ (result ≡ FAILED) }
+{
+    if closed.is_whole {
+        return ANSWERED;
+    }
+    tell_unclosed(&closed.cause.map(Cause::Store), output);
+    FAILED
+}
+
+fn tell_unclosed<W: Write>(cause: &Option<Cause>, output: &mut Sink<W>)
+    ensures told { output.new.failed ≡ false →
+        Writes (W.contents output.old.writer) (W.contents output.new.writer) IsUnclosed }
+    ensures sound { output.new.failed ≡ false → output.old.failed ≡ false }
+{
+    output.write_line("zebraidx: done, but the register's file needs its log");
+    tell_cause(cause, output);
+}

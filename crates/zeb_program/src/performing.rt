@@ -1,0 +1,197 @@
+//! A task from the words to what is told of it: the register is opened, the task is carried out, and the register is closed.
+
+ghost use Rattle.std.specs.Prelude.{◌≡◌, [], IfErr, IfOk, string_bytes};
+ghost use Rattle.zeb_program.specs.PrivateServing.{replied};
+ghost use Rattle.zeb_program.specs.PrivateWordRuns.{GivesFor, IsOwnOr, ServesOnNothing, TakesStore, fault_given};
+ghost use Rattle.zeb_program.specs.ProfileFiles.{ReadsProfile};
+ghost use Rattle.zeb_program.specs.Registers.{places};
+ghost use Rattle.zeb_program.specs.WordRuns.{Performs, ServesUnder};
+ghost use Rattle.std.specs.Option.{option_map};
+ghost use Rattle.zeb_change.specs.Conditions.{conditions};
+ghost use Rattle.zeb_register.specs.Formats.{packed_blocks, version_of};
+ghost use Rattle.zeb_program.specs.PrivateFaults.{IsOpeningFault};
+ghost use Rattle.zeb_program.specs.ScriptAnswers.{AreScriptConditions};
+ghost use Rattle.zeb_program.specs.TaskAnswers.{ReadsWhole};
+ghost use Rattle.zeb_program.specs.PrivateWarnings as spec;
+
+use crate::failures::{Cause, Failure, of_path, of_store};
+use crate::faults::Fault;
+use crate::files::{path_of_file, read_profile};
+use crate::memory::open_in_memory;
+use crate::opening::session_over;
+use crate::tasks::{Served, Task, carry_out};
+use crate::warnings::warning;
+use sqlite::{Alter, Connection};
+use std::alloc::Global;
+use zeb_engine::{Refusal, Session, render};
+use zeb_packed::Blocks;
+use zeb_paths::{Closed, OpenFailed, Paths, StoreCause};
+use zeb_profile::Profile;
+
+/// What is written for a task that is answered.
+#[derive(Debug, Drop)]
+pub struct Told {
+    /// Its answer.
+    pub text: Vec<u8>,
+    /// A line that warns of records, where there is need.
+    pub warning: Option<String>,
+    /// How the register was closed behind it.
+    pub closed: Closed,
+}
+
+/// Carries a task out under the profile in this file, and gives what is written. Where no register stands at the profile's path,
+/// a task that can't begin one is carried out on an empty one in memory, and no file is made.
+pub fn perform<P: Paths>(
+    alloc: Global,
+    config: String,
+    task: &Task,
+    paths: &mut P,
+) -> Result<Told, Failure>
+    ensures warns { IfOk result (λ told. spec.MayWarn task.now (option_map string_bytes told.warning)) }
+    ensures performs { GivesFor result (Performs (places P.Store.Store (P.tells paths.old) (P.opens paths.old) (P.lacks paths.old))
+        config task.now) }
+{
+    let profile = profile_at(alloc, paths, config)?;
+    if !task.begins() && !paths.has_store(profile.store_path()) {
+        return perform_on_nothing(alloc, profile, task, paths);
+    }
+    perform_in_register(alloc, profile, task, paths)
+}
+
+/// Carries a task out on the register at the profile's path, and closes the register, also where the task is refused.
+fn perform_in_register<P: Paths>(
+    alloc: Global,
+    profile: Profile,
+    task: &Task,
+    paths: &mut P,
+) -> Result<Told, Failure>
+    ensures warns { IfOk result (λ told. spec.MayWarn task.now (option_map string_bytes told.warning)) }
+    ensures serves { GivesFor result (ServesUnder (places P.Store.Store (P.tells paths.old) (P.opens paths.old) (P.lacks paths.old))
+        profile task.now) }
+{
+    let mut session = open_register(alloc, paths, profile)?;
+    let served = carry_out(alloc, &mut session, paths, task);
+    let closed = close_register(paths, session);
+    told_of(alloc, paths, task, served, closed)
+}
+
+/// Carries a task out on a register in memory that holds nothing and isn't initialised.
+fn perform_on_nothing<P: Paths>(
+    alloc: Global,
+    profile: Profile,
+    task: &Task,
+    paths: &P,
+) -> Result<Told, Failure>
+    ensures warns { IfOk result (λ told. spec.MayWarn task.now (option_map string_bytes told.warning)) }
+    ensures serves { GivesFor result (ServesOnNothing (P.tells paths.now) profile task.now) }
+{
+    let mut session = session_over(alloc, open_in_memory(alloc), profile)?;
+    let served = carry_out(alloc, &mut session, paths, task);
+    told_of(alloc, paths, task, served, Closed::WHOLE)
+}
+
+/// What is told of a task that was served so, behind which the register was closed so.
+fn told_of<P: Paths>(
+    alloc: Global,
+    paths: &P,
+    task: &Task,
+    served: Result<Served, Fault>,
+    closed: Closed,
+) -> Result<Told, Failure>
+    requires quiet { ¬ ReadsWhole task.now → IfOk served (λ served. served.unmarked.items ≡ []) }
+    ensures warns { IfOk result (λ told. spec.MayWarn task.now (option_map string_bytes told.warning)) }
+    ensures gives { GivesFor result (λ answer. IsOwnOr answer (replied served)) }
+{
+    match served {
+        Ok(Served { reply, unmarked }) => Ok(Told {
+            text: render(alloc, &reply)?,
+            warning: warning(alloc, &unmarked, &reply)?,
+            closed,
+        }),
+        Err(fault) => Err(explained(alloc, paths, task, fault, closed)),
+    }
+}
+
+/// A task's fault, with its cause, where it is known.
+fn explained<P: Paths>(
+    alloc: Global,
+    paths: &P,
+    task: &Task,
+    fault: Fault,
+    closed: Closed,
+) -> Failure
+    ensures { result.fault ≡ fault }
+{
+    match fault {
+        Fault::Refused(refusal) => match file_of(&refusal) {
+            Some(number) => Failure {
+                cause: file_cause(alloc, paths, task, number),
+                fault: Fault::Refused(refusal),
+            },
+            None => of_store(refusal, closed.cause),
+        },
+        other => of_path(paths, other),
+    }
+}
+
+/// The number of the file that a refusal is about.
+fn file_of(refusal: &Refusal) -> Option<u64> {
+    match refusal {
+        Refusal::Record { file, .. }
+        | Refusal::Unknown { file, .. }
+        | Refusal::ReadFault { file } => Some(*file),
+        _ => None,
+    }
+}
+
+/// The path of a task's file of this number, where it is found again.
+fn file_cause<P: Paths>(alloc: Global, paths: &P, task: &Task, number: u64) -> Option<Cause> {
+    let path = path_of_file(alloc, paths, task.named(), number)?;
+    Some(Cause::File { number, path })
+}
+
+/// Reads a profile's file.
+pub fn profile_at<P: Paths>(alloc: Global, paths: &P, file: String) -> Result<Profile, Failure>
+    ensures { ReadsProfile (P.tells paths.now (string_bytes file)) file (fault_given result) }
+{
+    match read_profile(alloc, paths, file) {
+        Ok(profile) => Ok(profile),
+        Err(fault) => Err(of_path(paths, fault)),
+    }
+}
+
+/// Opens the register at the profile's path.
+pub fn open_register<P: Paths>(
+    alloc: Global,
+    paths: &mut P,
+    profile: Profile,
+) -> Result<Session<P::Store, Blocks>, Failure>
+    ensures failed { IfErr result (λ failure. IsOpeningFault failure.fault) }
+    ensures under { IfOk result (λ session. AreScriptConditions profile
+        (conditions (version_of packed_blocks) session.profile session.limits)) }
+    ensures opened { IfOk result (λ session.
+        TakesStore (places P.Store.Store (P.tells paths.old) (P.opens paths.old) (P.lacks paths.old)) profile session.connection) }
+    ensures told { P.tells paths.new ≡ P.tells paths.old }
+{
+    let opened = paths.store(profile.store_path());
+    let cause = opening_cause(&opened);
+    match session_over(alloc, opened, profile) {
+        Ok(session) => Ok(session),
+        Err(refusal) => Err(of_store(refusal, cause)),
+    }
+}
+
+/// Why there would be no register over what was opened: it wasn't, or it has other tables.
+fn opening_cause<S: Alter>(opened: &Result<Connection<S>, OpenFailed>) -> Option<StoreCause> {
+    match opened {
+        Ok(connection) if connection.schema().tables.is_empty() => None,
+        Ok(_) => Some(StoreCause::Foreign),
+        Err(failed) => failed.cause,
+    }
+}
+
+/// Ends a session, and closes its register: what was committed is put into the one file.
+pub fn close_register<P: Paths>(paths: &P, session: Session<P::Store, Blocks>) -> Closed {
+    let mut store = session.release().into_store();
+    paths.close(&mut store)
+}
