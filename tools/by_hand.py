@@ -13,7 +13,7 @@ import re
 
 # What a failure is called, and of what it is one: variants of the crates' and the kit's faults, and the values without a path.
 VARIANTS = {"Memory": "memory", "OutOfMemory": "memory", "Store": "store"}
-VALUES = {"AllocError": "memory", "AllocFailed": "memory", "OpenFailed": "store", "ReadFailed": "read", "FAILED": "status"}
+VALUES = {"AllocError": "memory", "AllocFailed": "memory", "OpenFailed": "store", "ReadFailed": "read", "Status::Failed": "status"}
 # What only a call that failed gives, by what its conversion may make of it.
 OF_CALLS = {"AllocError": "memory", "AllocFailed<T>": "memory", "Error": "store", "sqlite::Error": "store"}
 # What is called so and is no failure: a line of a profile.
@@ -21,10 +21,10 @@ NO_FAILURE = "Directive::Store"
 # Where one is made by hand, by file: in which functions and constants, each once for each time, and why. Behind each name stands what its
 # text without clauses and spaces adds up to. Where that differs, look again at what it fails for, and write the new sum.
 MADE_BY_HAND = {
-    "crates/zeb_marc/src/sources.rt": (["passed_on d701f525", "read ef4cb589"], "a read that failed for a reader, and each later one, as clauses say"),
+    "crates/zeb_marc/src/sources.rt": (["passed_on d701f525", "read a600243e"], "a read that failed for a reader, and each later one, as clauses say"),
     "crates/zeb_marc/src/stream.rt": (["make_room 044e00c2"], "no failure: as many bytes as the longest record has"),
     "crates/zeb_profile/src/faults.rt": (["MEMORY 1437066d"], "the one value that all conversions give"),
-    "crates/zeb_query/src/faults.rt": (["about 03da6485"], "an addinfo that there is no memory for"),
+    "crates/zeb_query/src/diagnostics.rt": (["about 67ee6bdb"], "an addinfo that there is no memory for"),
     "crates/zeb_register/src/values.rt": (["stored aaab8d06"], "a number that no column stores"),
     "crates/zeb_register/src/checked_changes.rt": (["check_numbers b9ddc21a", "check_place 773bf948"], "a number or a place that no row has"),
     "crates/zeb_change/src/key_notes.rt": (["note 96b8ec5b"], "more changes of a key than a number counts"),
@@ -32,29 +32,28 @@ MADE_BY_HAND = {
     "crates/zeb_engine/src/session.rt": (["run_all 8bd74e81"], "no room for the answers"),
     "crates/zeb_engine/src/tables.rt": (["check_tables 9fb18e69"], "a store with other tables, and no other store, as a clause says"),
     "crates/zeb_words/src/words.rt": (["usage_of c0e9217c", "usage_of c0e9217c"], "the want of memory that the parser names, and of its text"),
-    "crates/zeb_paths/src/walk.rt": (["next_file e0a517fc"], "more folders than could be held"),
     "crates/zeb_paths/src/disk.rt": (["store 82d8eb71", "read b7b8174b"], "whatever fails as a store is opened, and a read behind one that failed"),
-    "crates/zeb_paths/src/looks.rt": (["use_file 2944a786", "use_file 2944a786"], "no memory for the name of a file beside the store"),
+    "crates/zeb_paths/src/looks.rt": (["use_file 3c271fc1", "use_file 3c271fc1"], "no memory for the name of a file beside the store"),
     "crates/zeb_paths/src/shelf.rt": (["read 47e3c23b", "store 6bbb2170", "store 6bbb2170"], "a file that fails when it is read, and a shelf without a store under the path, or one that fails"),
-    "crates/zeb_program/src/command_line.rt": (["refuse_words 14383364"], "the status of words that memory ran out for"),
-    "crates/zeb_program/src/faults.rt": (["tell 1777e2de"], "the status of a path that can't be read, as a clause says"),
+    "crates/zeb_program/src/command_line.rt": (["refuse_words c10a8481"], "the status of words that memory ran out for"),
+    "crates/zeb_program/src/faults.rt": (["tell 440384c5"], "the status of a path that can't be read, as a clause says"),
     "crates/zeb_program/src/failures.rt": (
-        ["of_store e6fac76b", "tell_closed 869849cb", "tell_closed 869849cb"],
+        ["of_store e6fac76b", "tell_closed 94adb760", "tell_closed 94adb760"],
         "no failure, a cause; and the status of a register that wasn't closed, as a clause says",
     ),
-    "crates/zeb_program/src/files.rt": (["readers_of 4729b173", "contents_of 89790e8e"], "more files than could be held"),
     "crates/zeb_program/src/memory.rt": (["open_in_memory ce0a36a4", "open_in_memory ce0a36a4"], "whatever fails as a store is opened"),
     "crates/zeb_program/src/opening.rt": (["session_over 8bfe0300"], "an open that failed, as a clause says"),
-    "crates/zeb_program/src/program.rt": (["run fbf1216e", "run fbf1216e", "finish 3c11e3e9", "run_script ec467c47", "profile_status 103311da"], "the status of want of memory, of a failed write, of an input that is no text"),
-    "crates/zeb_program/src/shell.rt": (["serve_lines 58d0081f", "run_shell_lines 2ed6cca4"], "the status of a failed read and of a failed write, as clauses say"),
-    "crates/zebraidx/src/main.rt": (["main d09e0e02"], "an outside that failed"),
+    "crates/zeb_program/src/program.rt": (["run 51ed80bc", "run 51ed80bc", "finish c2331064", "run_script 99a2903b"], "the status of want of memory, of a failed write, of an input that is no text"),
+    "crates/zeb_program/src/shell.rt": (["serve_lines dbc56f68", "run_shell_lines ce339861"], "the status of a failed read and of a failed write, as clauses say"),
+    "crates/zeb_program/src/statuses.rt": (["code 347a2f2f", "of_refusal 38553881", "of_profile 90a15a5f"], "the numbers of the statuses, and the statuses of a refusal and of a profile's fault"),
+    "crates/zebraidx/src/main.rt": (["main b220bb15"], "an outside that failed"),
     "crates/small_catalogue/src/lib.rt": (["open cb1c9c16"], "an open that failed"),
 }
 
 GHOST = re.compile(r"\bghost\s+use\b[^;]*;|\b(?:requires|ensures)\b\*?\s*(?:\w+\s*)?(?=\{)|\bghost\s+\w+\s*[:=]\s*(?=\{)")
 USE = re.compile(r"\buse\b[^;]*;")
 # A failure under another name, or what an enum has under none.
-HIDING_USE = re.compile(rf"\b[A-Z]\w*\s*::|\b(?:{'|'.join([*VARIANTS, *VALUES])}|Error)\s+as\b|\bas\s+(?:Directive|{'|'.join(VALUES)})\b")
+HIDING_USE = re.compile(rf"\b[A-Z]\w*\s*::|\b(?:{'|'.join([*VARIANTS, *VALUES])}|Error|Status)\s+as\b|\bas\s+(?:Directive|{'|'.join(VALUES)})\b")
 # What would make one unseen: a macro, an attribute that makes it of something else, and code that only calls itself a test.
 HIDING = re.compile(r"\bmacro_rules\b|#\[from\]|#\[default\]\s*\w+|(?:#\[cfg\(test\)\]\s*)?\bmod\s+tests\b")
 CONVERSION = re.compile(r"^impl(?:<[^{}]*?>)? From<([^{}]*)> for .*?^\}", re.M | re.S)

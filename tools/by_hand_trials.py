@@ -61,7 +61,7 @@ MADE = [
     ("by asking for what a function says", "fn f(list: &mut Vec<u8>) -> Result<(), RegFault> { list.try_reserve_exact(most())?; Ok(()) }"),
     ("by asking for more than a length", "fn f(list: &mut Vec<u8>) -> Result<(), RegFault> { list.reserve(list.len() * 99_999)?; Ok(()) }"),
     ("by asking for one that is too great", "fn f(alloc: Global) -> Result<(), RegFault> { Vec::<[u8; 99_999_999_999]>::with_capacity(alloc, 1)?; Ok(()) }"),
-    ("by the program's status", "fn f() -> Result<u8, AllocError> { if late() { return Ok(FAILED); } Ok(ANSWERED) }"),
+    ("by the program's status", "fn f() -> Result<Status, AllocError> { if late() { return Ok(Status::Failed); } Ok(Status::Answered) }"),
     ("in what isn't read", "mod tests;"),
     ("behind a clause that has it", "fn f() -> R\n    ensures kept { result ≡ Err RegFault.Store }\n{\n    Err(RegFault::Store)\n}"),
     ("beside a pattern", "fn f(x: &R) -> R { if matches!(x, Err(RegFault::Store)) { return Err(RegFault::Store); } Ok(()) }"),

@@ -5,7 +5,7 @@ ghost use Rattle.std.specs.Prelude.{◌≡◌, false};
 
 use crate::fakes::{Endless, Narrow, Torn};
 use crate::records::{Unmade, with_records};
-use crate::runs::{Outcome, run_script};
+use crate::runs::{FAILED, Outcome, run_script};
 use crate::words::{contents, loaded, shelved};
 use std::alloc::{AllocError, AllocGlobal, Global};
 use std::io::BufWriter;
@@ -14,7 +14,7 @@ use std::test::Fail;
 use std::{io, str};
 use zeb_marc::{FromRead, Slice, Source};
 use zeb_paths::Shelf;
-use zeb_program::{FAILED, Output, Sink, run};
+use zeb_program::{Output, Sink, run};
 
 /// A line of an input, and its answer.
 type Line = (&'static str, &'static str);
@@ -127,7 +127,7 @@ fn status_of<R: Source, W: Output, V: Output>(
     let contents = contents(alloc)?;
     let files = shelved(alloc, &contents)?;
     let mut shelf = Shelf::new(&files, Some(loaded(alloc)?));
-    Ok(run(alloc, &given, &mut shelf, input, output, fault_output))
+    Ok(run(alloc, &given, input, output, fault_output, &mut shelf))
 }
 
 /// Runs the program on an input that gives at most so many bytes at a time, and then fails.

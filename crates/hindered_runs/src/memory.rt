@@ -2,13 +2,12 @@
 //! turn), a run writes its ordinary answer, or ends in status 3; and run again it writes its ordinary answer.
 
 use crate::records::{Unmade, with_records};
-use crate::runs::Outcome;
+use crate::runs::{FAILED, Outcome};
 use crate::words::{expect, loaded, run_words};
 use std::alloc::Global;
 use std::str;
 use std::test::Fail;
 use worked_samples::MOBY_LINES;
-use zeb_program::FAILED;
 
 /// Words, the lines of the input, and what goes to the output.
 type Given = (&'static [&'static str], &'static str, &'static str);

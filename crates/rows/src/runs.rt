@@ -45,16 +45,16 @@ fn run_over<S: Alter + Drop>(
     Ok(run_on(alloc, words, &mut shelf, input))
 }
 
-fn run_on<P: Paths>(alloc: Global, words: &[String], paths: &mut P, input: &[u8]) -> Outcome {
+fn run_on<P: Paths>(alloc: Global, words: &[String], files: &mut P, input: &[u8]) -> Outcome {
     let mut output = Vec::new(alloc);
     let mut faults = Vec::new(alloc);
     let status = run(
         alloc,
         words,
-        paths,
         &mut Slice::new(input),
         &mut Sink::new(&mut output),
         &mut Sink::new(&mut faults),
+        files,
     );
     Outcome {
         status,

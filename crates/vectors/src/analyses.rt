@@ -3,7 +3,7 @@
 use std::alloc::{AllocError, Global};
 use std::test::Fail;
 use worked_samples::{BARE, BOOKS, CUT, MOBY, MOBY_LINES};
-use zeb_analysis::{AnalysisFault, analyse, analysis_lines};
+use zeb_analysis::{AnalysisFault, Place, analyse, analysis_lines};
 use zeb_marc::MarcFault;
 use zeb_profile::Profile;
 
@@ -42,8 +42,7 @@ struct Refused<'a> {
 #[test]
 fn the_first_that_refuses_ends_it(rt: HostRuntime) -> Result<(), Fail> {
     let cut = AnalysisFault::Marc {
-        file: 1,
-        nth: 2,
+        place: Place { file: 1, nth: 2 },
         fault: MarcFault::Truncated,
     };
     let rows = [
@@ -74,8 +73,7 @@ fn the_first_that_refuses_ends_it(rt: HostRuntime) -> Result<(), Fail> {
 #[test]
 fn faults_have_their_texts(rt: HostRuntime) -> Result<(), Fail> {
     let fault = AnalysisFault::Marc {
-        file: 1,
-        nth: 2,
+        place: Place { file: 1, nth: 2 },
         fault: MarcFault::Truncated,
     };
     let text = format!(in rt.alloc(); "{fault}")?;

@@ -9,6 +9,8 @@ mod blocks;
 #[cfg(test)]
 mod extraction;
 #[cfg(test)]
+mod leaves;
+#[cfg(test)]
 mod profiles;
 #[cfg(test)]
 mod queries;

@@ -11,7 +11,7 @@ pub use Rattle.std.specs.Option.{option_or, option_and_then}
 pub use Rattle.std.specs.Prelude.{slice_get, ⊤}
 pub use Rattle.std.specs.Str.Lossy.{utf8_lossy}
 pub use Rattle.std.specs.Str.Parse.{digits_value}
-pub use Rattle.zeb_analysis.specs.Analysing.{Analysed, AnalysesTo, Standing, first_refusal, refused_content, refused_record, standing_from, standing_in_all, IsAnalysisOf, at_place, AreAnalysesOf, refused_name, units_in, analysed}
+pub use Rattle.zeb_analysis.specs.Analysing.{Analysed, AnalysesTo, Standing, first_refusal, refused_content, refused_record, standing_from, standing_in_all, IsAnalysisOf, at_place, place_at, AreAnalysesOf, refused_name, units_in, analysed}
 pub use Rattle.zeb_analysis.specs.Laws.{slices_of, IsWhole, IsFirstRefused, IsRefusal}
 pub use Rattle.zeb_analysis.specs.Printing.{printed_number, occurrence_line, record_line}
 pub use Rattle.zeb_analysis.specs.PrivateRefusals.{ident_fault}
@@ -30,7 +30,7 @@ pub use Rattle.zeb_marc.specs.Leader.{Check, first_failing, slice_checks}
 pub use Rattle.zeb_marc.specs.Records.{first_fault, IsRecordFault}
 pub use Rattle.zeb_marc.specs.Splits.{split_of, Next, at_end, a_slice, a_fault, next_of, IsNoSlice, IsSplit, IsTooLong}
 pub use Rattle.zeb_marc.specs.declared.faults.MarcFault.{MarcFault}
-pub use Rattle.zeb_marc.specs.declared.faults.MarcFault.TheVariants.{LengthDigits, LengthRange, Truncated, NoTerminator, LeaderCounts, BaseAddress, DirectoryLength, EntryDigits, EntryTag, EntryRange, FieldEnd, TooManySeparators, ReadFault}
+pub use Rattle.zeb_marc.specs.declared.faults.MarcFault.TheVariants.{ReadFault}
 pub use Rattle.zeb_profile.specs.Indexes.{identifier_pattern, unit_targets}
 pub use Rattle.zeb_profile.specs.declared.directives.Directive.{Directive}
 pub use Rattle.zeb_text.proofs.KeyLemmas.{value_of_key, digits_of_key, length_of_key, digits_from_all, all_from_digits, is_key}

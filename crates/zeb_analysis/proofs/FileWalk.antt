@@ -1,22 +1,22 @@
 -- A file that is read record by record: what stands in what is left of it.
-use Rattle.zeb_analysis.proofs.Cited.{◌≡◌, ◌∙◌, ℕ, ◌+◌, ◌≤◌, List, [], ◌∷◌, ◌++◌, length, length-append, true, false, Option, Some, None, Ok, Err, append_assoc, refl, sym, ap, subst, subst₂, arith, option_or, append-nil, Directive, MarcFault, Next, at_end, a_slice, a_fault, next_of, split_of, NextIs, next_view, split_of-next, SoundSlice-from_checks, AnalysisFault, Marc, Analysed, IsAnalysisOf, Standing, at_place, first_refusal, standing_from, Extends, ReadsPlace}
+use Rattle.zeb_analysis.proofs.Cited.{◌≡◌, ◌∙◌, ℕ, ◌+◌, ◌≤◌, List, [], ◌∷◌, ◌++◌, length, length-append, true, false, Option, Some, None, Ok, Err, append_assoc, refl, sym, ap, subst, subst₂, arith, option_or, append-nil, Directive, MarcFault, Next, at_end, a_slice, a_fault, next_of, split_of, NextIs, next_view, split_of-next, SoundSlice-from_checks, AnalysisFault, Marc, Analysed, IsAnalysisOf, Standing, at_place, first_refusal, standing_from, Extends, ReadsPlace, place_at}
 use Rattle.zeb_analysis.specs.Analysing.{refusal_at, standing_in}
 use Rattle.zeb_analysis.proofs.SoFar.{SoFar, at_first, at_last, more_done, refused_here}
 
 -- ---- what was read tells what stood next
 
-pub told_end : (file nth : ℕ) (n : Next) (kept left : List ℕ) → ReadsPlace file nth n (Ok false) kept left → n ≡ at_end
+pub told_end : (file nth : ℕ) (n : Next) (kept left : List ℕ) → ReadsPlace (place_at file nth) n (Ok false) kept left → n ≡ at_end
 told_end file nth at_end kept left h = refl
 told_end file nth (a_slice slice rest) kept left h = let no = h.0 in absurd (cc)
 told_end file nth (a_fault fault) kept left h = absurd (cc)
 
-pub told_slice : (file nth : ℕ) (n : Next) (kept left : List ℕ) → ReadsPlace file nth n (Ok true) kept left → n ≡ a_slice kept left
+pub told_slice : (file nth : ℕ) (n : Next) (kept left : List ℕ) → ReadsPlace (place_at file nth) n (Ok true) kept left → n ≡ a_slice kept left
 told_slice file nth at_end kept left h = absurd (cc)
 told_slice file nth (a_slice slice rest) kept left h = let one = h.1 in let two = h.2 in cc
 told_slice file nth (a_fault fault) kept left h = absurd (cc)
 
-pub told_fault : (file nth : ℕ) (n : Next) (refused : AnalysisFault) (kept left : List ℕ) → ReadsPlace file nth n (Err refused) kept left
-    → (fault : MarcFault) × (n ≡ a_fault fault) × (refused ≡ Marc file nth fault)
+pub told_fault : (file nth : ℕ) (n : Next) (refused : AnalysisFault) (kept left : List ℕ) → ReadsPlace (place_at file nth) n (Err refused) kept left
+    → (fault : MarcFault) × (n ≡ a_fault fault) × (refused ≡ Marc (place_at file nth) fault)
 told_fault file nth at_end refused kept left h = absurd (cc)
 told_fault file nth (a_slice slice rest) refused kept left h = let no = h.0 in absurd (cc)
 told_fault file nth (a_fault fault) refused kept left h = (fault, refl, cc)
@@ -44,7 +44,7 @@ module _ (file nth : ℕ) (left : List ℕ) where
   rest_at_slice : (slice rest : List ℕ) → next_of left ≡ a_slice slice rest → rest_of file nth left ≡ at_place file nth (Ok slice) ∷ rest_of file (nth + 1) rest
   rest_at_slice slice rest is = rw (split_of-next left, is) refl
 
-fault_refused : (profile : List Directive) (limit before file nth : ℕ) (fault : MarcFault) → refusal_at profile limit before (at_place file nth (Err fault)) ≡ Some (Marc file nth fault)
+fault_refused : (profile : List Directive) (limit before file nth : ℕ) (fault : MarcFault) → refusal_at profile limit before (at_place file nth (Err fault)) ≡ Some (Marc (place_at file nth) fault)
 unfolding refusal_at
 fault_refused profile limit before file nth fault = refl
 
@@ -69,10 +69,10 @@ module _ (profile : List Directive) (limit file : ℕ) (text : List ℕ) (old : 
         let all = at_last profile limit (length old) (standing_in file text) under.more far in
         record { more = under.more; longer = under.longer; none_refused = all.0; are = all.1 }
 
-    pub fault_stands : (fault : MarcFault) → next_of left ≡ a_fault fault → first_refusal profile limit (length old) (standing_in file text) ≡ Some (Marc file nth fault)
+    pub fault_stands : (fault : MarcFault) → next_of left ≡ a_fault fault → first_refusal profile limit (length old) (standing_in file text) ≡ Some (Marc (place_at file nth) fault)
     fault_stands fault is =
         let far = subst (λ rest. SoFar profile limit (length old) (standing_in file text) rest under.more) (rest_at_fault file nth left fault is) under.far in
-        refused_here profile limit (length old) (standing_in file text) under.more (at_place file nth (Err fault) ∷ []) [] far (Marc file nth fault)
+        refused_here profile limit (length old) (standing_in file text) under.more (at_place file nth (Err fault) ∷ []) [] far (Marc (place_at file nth) fault)
         (ap (λ first. option_or first None) (fault_refused profile limit (length old + length under.more) file nth fault))
 
     module _ (slice rest : List ℕ) (is : next_of left ≡ a_slice slice rest) where
@@ -98,20 +98,20 @@ module _ (profile : List Directive) (limit file : ℕ) (text : List ℕ) (old : 
 
 -- ---- the same, of what reading answers
 
-pub left_is_shorter : (file nth : ℕ) (left kept after : List ℕ) → ReadsPlace file nth (next_of left) (Ok true) kept after → 26 + length after ≤ length left
+pub left_is_shorter : (file nth : ℕ) (left kept after : List ℕ) → ReadsPlace (place_at file nth) (next_of left) (Ok true) kept after → 26 + length after ≤ length left
 left_is_shorter file nth left kept after read = slice_is_long left kept after (told_slice file nth (next_of left) kept after read)
 
 module _ (profile : List Directive) (limit file nth : ℕ) (text left : List ℕ) (old now : List Analysed) (under : Under profile limit file nth text left old now) (kept after : List ℕ) where
-  pub walk_ends : ReadsPlace file nth (next_of left) (Ok false) kept after → Extends profile limit (standing_in file text) old now
+  pub walk_ends : ReadsPlace (place_at file nth) (next_of left) (Ok false) kept after → Extends profile limit (standing_in file text) old now
   walk_ends read = ended profile limit file text old nth left now under (told_end file nth (next_of left) kept after read)
 
-  pub walk_is_refused : (refused : AnalysisFault) → ReadsPlace file nth (next_of left) (Err refused) kept after
+  pub walk_is_refused : (refused : AnalysisFault) → ReadsPlace (place_at file nth) (next_of left) (Err refused) kept after
       → first_refusal profile limit (length old) (standing_in file text) ≡ Some refused
   walk_is_refused refused read =
       let it = told_fault file nth (next_of left) refused kept after read in
       fault_stands profile limit file text old nth left now under it.0 it.1 ∙ ap Some (sym it.2)
 
-  module _ (read : ReadsPlace file nth (next_of left) (Ok true) kept after) (before : ℕ) (bytes : List ℕ) (many : before ≡ length now) (same : bytes ≡ kept) where
+  module _ (read : ReadsPlace (place_at file nth) (next_of left) (Ok true) kept after) (before : ℕ) (bytes : List ℕ) (many : before ≡ length now) (same : bytes ≡ kept) where
     here : (o : Option AnalysisFault) → refusal_at profile limit before (at_place file nth (Ok bytes)) ≡ o → refusal_at profile limit (length now) (at_place file nth (Ok kept)) ≡ o
     here o is = subst₂ (λ n these. refusal_at profile limit n (at_place file nth (Ok these)) ≡ o) many same is
 

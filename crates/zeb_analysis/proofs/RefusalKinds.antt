@@ -1,5 +1,5 @@
 -- Which refusals there are.
-use Rattle.zeb_analysis.proofs.Cited.{◌≡◌, ◌≢◌, ◌⊎◌, ℕ, ◌+◌, zero, suc, true, false, cond, leb, ◌==◌, length, List, [], ◌∷◌, ◌++◌, Option, Some, None, Result, Ok, Err, inl, inr, refl, sym, ap, subst, slice_get, ⊤, AllByRecursion, option_and_then, utf8_lossy, Directive, identifier_pattern, MarcFault, LengthDigits, LengthRange, Truncated, NoTerminator, LeaderCounts, BaseAddress, DirectoryLength, EntryDigits, EntryTag, EntryRange, FieldEnd, TooManySeparators, ReadFault, UnitText, Check, first_failing, slice_checks, first_fault, IsRecordFault, IsNoSlice, IsSplit, IsTooLong, split_of, record_faults, IsSplit-split_of, IdentFault, checked, first_fitting, held_in, identifier_of, is_bad, without_spaces, AnalysisFault, Marc, Ident, TooManyRecords, Standing, refused_content, refused_name, refused_record, standing_from, standing_in_all, units_in, IsRefusal}
+use Rattle.zeb_analysis.proofs.Cited.{◌≡◌, ◌≢◌, ◌⊎◌, ℕ, ◌+◌, zero, suc, true, false, cond, leb, ◌==◌, length, List, [], ◌∷◌, ◌++◌, Option, Some, None, Result, Ok, Err, inl, inr, refl, sym, ap, subst, slice_get, ⊤, AllByRecursion, option_and_then, utf8_lossy, Directive, identifier_pattern, MarcFault, ReadFault, UnitText, Check, first_failing, slice_checks, first_fault, IsRecordFault, IsNoSlice, IsSplit, IsTooLong, split_of, record_faults, IsSplit-split_of, IdentFault, checked, first_fitting, held_in, identifier_of, is_bad, without_spaces, AnalysisFault, Marc, Ident, TooManyRecords, Standing, refused_content, refused_name, refused_record, standing_from, standing_in_all, units_in, IsRefusal, place_at}
 use Rattle.zeb_extract.specs.declared.naming.IdentFault.TheVariants as ident
 use Rattle.zeb_analysis.specs.Analysing.{refusal_at, standing_in}
 
@@ -7,38 +7,10 @@ use Rattle.zeb_analysis.specs.Analysing.{refusal_at, standing_in}
 
 -- no reader failed
 abbrev IsOfBytes : MarcFault → Type 0
-IsOfBytes ReadFault = ⊥
-IsOfBytes fault = ⊤
+IsOfBytes fault = fault ≢ ReadFault
 
 of_record : (fault : MarcFault) → IsRecordFault fault → IsOfBytes fault
-of_record LengthDigits is = tt
-of_record LengthRange is = tt
-of_record Truncated is = tt
-of_record NoTerminator is = tt
-of_record LeaderCounts is = tt
-of_record BaseAddress is = tt
-of_record DirectoryLength is = tt
-of_record EntryDigits is = tt
-of_record EntryTag is = tt
-of_record EntryRange is = tt
-of_record FieldEnd is = tt
-of_record TooManySeparators is = absurd is
-of_record ReadFault is = absurd is
-
-refusal_of_bytes : (file nth : ℕ) (fault : MarcFault) → IsOfBytes fault → IsRefusal (Marc file nth fault)
-refusal_of_bytes file nth LengthDigits is = tt
-refusal_of_bytes file nth LengthRange is = tt
-refusal_of_bytes file nth Truncated is = tt
-refusal_of_bytes file nth NoTerminator is = tt
-refusal_of_bytes file nth LeaderCounts is = tt
-refusal_of_bytes file nth BaseAddress is = tt
-refusal_of_bytes file nth DirectoryLength is = tt
-refusal_of_bytes file nth EntryDigits is = tt
-refusal_of_bytes file nth EntryTag is = tt
-refusal_of_bytes file nth EntryRange is = tt
-refusal_of_bytes file nth FieldEnd is = tt
-refusal_of_bytes file nth TooManySeparators is = tt
-refusal_of_bytes file nth ReadFault is = absurd is
+of_record fault is e = subst IsRecordFault e is
 
 first_is_one : (checks : List Check) (fault : MarcFault) → AllByRecursion (λ (c : Check). IsOfBytes c.fault) checks → first_failing checks ≡ Some fault → IsOfBytes fault
 first_is_one [] fault all e = absurd (cc)
@@ -49,8 +21,8 @@ first_is_one (c ∷ checks) fault all e =
     ] e
 
 behind : (run rest : List ℕ) (fault : MarcFault) → IsTooLong run fault ⊎ IsNoSlice run rest fault → IsOfBytes fault
-behind run rest fault (inl long) = subst IsOfBytes (sym long.is) tt
-behind run rest fault (inr none) = first_is_one (slice_checks rest) fault (tt, (tt, (tt, (tt, tt)))) none.is
+behind run rest fault (inl long) = subst IsOfBytes (sym long.is) (λ e. cc)
+behind run rest fault (inr none) = first_is_one (slice_checks rest) fault (λ e. cc, (λ e. cc, (λ e. cc, (λ e. cc, tt)))) none.is
 
 -- what stands behind the last slice of a file
 fault_behind : (file : List ℕ) (slices : List (List ℕ)) (fault : MarcFault) → IsSplit file slices (Some fault) → IsOfBytes fault
@@ -81,19 +53,16 @@ IsSoundPlace standing = (fault : MarcFault) → standing.content ≡ Err fault �
 
 name_refusal : (file nth : ℕ) (r : Result (List ℕ) IdentFault) (fault : AnalysisFault) → r ≢ Err ident.Memory → refused_name file nth r ≡ Some fault → IsRefusal fault
 name_refusal file nth (Ok ident) fault other e = absurd (cc)
-name_refusal file nth (Err ident.NoIdentifier) fault other e = let same : Ident file nth ident.NoIdentifier ≡ fault = cc in subst IsRefusal same tt
-name_refusal file nth (Err ident.BadIdentifier) fault other e = let same : Ident file nth ident.BadIdentifier ≡ fault = cc in subst IsRefusal same tt
-name_refusal file nth (Err ident.Memory) fault other e = absurd (other refl)
+name_refusal file nth (Err found) fault other e = let same : Ident (place_at file nth) found ≡ fault = cc in subst IsRefusal same (λ is. other (ap Err is))
 
 record_refusal : (profile : List Directive) (file nth : ℕ) (bytes : List ℕ) (o : Option MarcFault) (fault : AnalysisFault) → first_fault bytes ≡ o → refused_record profile file nth bytes o ≡ Some fault → IsRefusal fault
 record_refusal profile file nth bytes (Some found) fault is e =
-    let same : Marc file nth found ≡ fault = cc in
-    subst IsRefusal same (refusal_of_bytes file nth found (of_record found (record_faults bytes found is)))
+    let same : Marc (place_at file nth) found ≡ fault = cc in subst IsRefusal same (of_record found (record_faults bytes found is))
 record_refusal profile file nth bytes None fault is e = name_refusal file nth (identifier_of profile (units_in bytes)) fault (no_memory profile (units_in bytes)) e
 
 content_refusal : (profile : List Directive) (limit before file nth : ℕ) (content : Result (List ℕ) MarcFault) (fault : AnalysisFault)
     → ((found : MarcFault) → content ≡ Err found → IsOfBytes found) → refused_content profile limit before file nth content ≡ Some fault → IsRefusal fault
-content_refusal profile limit before file nth (Err found) fault sound e = let same : Marc file nth found ≡ fault = cc in subst IsRefusal same (refusal_of_bytes file nth found (sound found refl))
+content_refusal profile limit before file nth (Err found) fault sound e = let same : Marc (place_at file nth) found ≡ fault = cc in subst IsRefusal same (sound found refl)
 content_refusal profile limit before file nth (Ok bytes) fault sound e =
     elim (leb limit before) as (λ b. cond b (Some TooManyRecords) (refused_record profile file nth bytes (first_fault bytes)) ≡ Some fault → IsRefusal fault) [
       | true ↦ λ e'. let same : TooManyRecords ≡ fault = cc in subst IsRefusal same tt

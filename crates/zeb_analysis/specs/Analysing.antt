@@ -15,6 +15,7 @@ use Rattle.zeb_extract.specs.Identifier.{identifier_of}
 use Rattle.zeb_extract.specs.Occurrences.{IsOccurrence}
 use Rattle.zeb_keys.specs.Order.{IsRising}
 use Rattle.zeb_analysis.specs.declared.analysing.Analysis.{Analysis}
+use Rattle.zeb_analysis.specs.declared.faults.Place.{Place}
 use Rattle.zeb_analysis.specs.declared.faults.AnalysisFault.{AnalysisFault}
 use Rattle.zeb_analysis.specs.declared.faults.AnalysisFault.TheVariants.{Marc, Ident, TooManyRecords}
 
@@ -49,18 +50,21 @@ standing_in_all file (text ∷ texts) = standing_in file text ++ standing_in_all
 abbrev pub units_in : List ℕ → List UnitText
 units_in bytes = units_of (fields_of bytes)
 
+abbrev pub place_at : ℕ → ℕ → Place
+place_at file nth = record { file = file; nth = nth }
+
 abbrev pub refused_name : ℕ → ℕ → Result (List ℕ) IdentFault → Option AnalysisFault
 refused_name file nth (Ok ident) = None
-refused_name file nth (Err fault) = Some (Ident file nth fault)
+refused_name file nth (Err fault) = Some (Ident (place_at file nth) fault)
 
 -- a record with a fault is refused by it, and then one without a sound identifier
 abbrev pub refused_record : List Directive → ℕ → ℕ → List ℕ → Option MarcFault → Option AnalysisFault
-refused_record profile file nth bytes (Some fault) = Some (Marc file nth fault)
+refused_record profile file nth bytes (Some fault) = Some (Marc (place_at file nth) fault)
 refused_record profile file nth bytes None = refused_name file nth (identifier_of profile (units_in bytes))
 
 -- one more record than the limit allows is refused before it is looked at
 abbrev pub refused_content : List Directive → ℕ → ℕ → ℕ → ℕ → Result (List ℕ) MarcFault → Option AnalysisFault
-refused_content profile limit before file nth (Err fault) = Some (Marc file nth fault)
+refused_content profile limit before file nth (Err fault) = Some (Marc (place_at file nth) fault)
 refused_content profile limit before file nth (Ok bytes) =
     if nat_le limit before then Some TooManyRecords else refused_record profile file nth bytes (first_fault bytes)
 
@@ -84,7 +88,7 @@ pub record Analysed : Type 0 where
   pub occurrences : List Occurrence
 
 abbrev pub analysed : Analysis → Analysed
-analysed a = record { file = a.file; nth = a.nth; ident = string_bytes a.ident; occurrences = a.occurrences.items }
+analysed a = record { file = a.place.file; nth = a.place.nth; ident = string_bytes a.ident; occurrences = a.occurrences.items }
 
 -- the analysis of the record that stands there: its identifier, and its occurrences, just these, in rising order
 pub record IsAnalysisOf (profile : List Directive) (standing : Standing) (analysis : Analysed) : Type 0 where

@@ -1,12 +1,12 @@
 -- What the laws of an analysis speak of.
-use Rattle.std.specs.Prelude.{◌≡◌, ℕ, ◌<◌, ◌≤◌, List, Some, None, length, slice_get, ⊤}
+use Rattle.std.specs.Prelude.{◌≡◌, ◌≢◌, ℕ, ◌<◌, ◌≤◌, List, Some, None, length, slice_get, ⊤}
 use Rattle.std.specs.List.{AllByRecursion, flat_map}
 use Rattle.zeb_profile.specs.declared.directives.Directive.{Directive}
 use Rattle.zeb_marc.specs.Splits.{split_of}
-use Rattle.zeb_marc.specs.declared.faults.MarcFault.TheVariants as marc
+use Rattle.zeb_marc.specs.declared.faults.MarcFault.TheVariants.{ReadFault}
 use Rattle.zeb_extract.specs.declared.naming.IdentFault.TheVariants as ident
 use Rattle.zeb_analysis.specs.declared.faults.AnalysisFault.{AnalysisFault}
-use Rattle.zeb_analysis.specs.declared.faults.AnalysisFault.TheVariants.{Marc, Ident, Memory}
+use Rattle.zeb_analysis.specs.declared.faults.AnalysisFault.TheVariants.{Marc, Ident, TooManyRecords, Memory}
 use Rattle.zeb_analysis.specs.Analysing.{Analysed, Standing, refusal_at}
 
 -- one of what stands there is refused so, and none before it is refused
@@ -20,10 +20,10 @@ pub record IsFirstRefused (profile : List Directive) (limit : ℕ) (standings : 
 
 -- a refusal by what files hold, and not by a reader or by want of memory
 abbrev pub IsRefusal : AnalysisFault → Type 0
-IsRefusal (Marc file nth marc.ReadFault) = ⊥
-IsRefusal (Ident file nth ident.Memory) = ⊥
+IsRefusal (Marc place fault) = fault ≢ ReadFault
+IsRefusal (Ident place fault) = fault ≢ ident.Memory
+IsRefusal TooManyRecords = ⊤
 IsRefusal Memory = ⊥
-IsRefusal fault = ⊤
 
 -- the bytes of the records in a file
 abbrev pub slices_of : List ℕ → List (List ℕ)

@@ -14,10 +14,8 @@ use zeb_profile::Profile;
 /// One record's analysis.
 #[derive(Debug, Drop)]
 pub struct Analysis {
-    /// The file that the record stands in, from 1.
-    pub file: u64,
-    /// The record's place in its file, from 1.
-    pub nth: u64,
+    /// Where the record stands.
+    pub place: Place,
     /// Its identifier.
     pub ident: String,
     /// What it is found by, in rising order.
@@ -45,11 +43,11 @@ fn read_record(
     buffer: &mut RecordBuf,
     place: Place,
 ) -> Result<bool, AnalysisFault>
-    ensures { ReadsPlace place.file place.nth (next_of left.old) result buffer.new left.new }
+    ensures { ReadsPlace place (next_of left.old) result buffer.new left.new }
 {
     match next_record(left, buffer) {
         Ok(found) => Ok(found.is_some()),
-        Err(fault) => Err(place.of_marc(fault)),
+        Err(fault) => Err(AnalysisFault::Marc { place, fault }),
     }
 }
 
@@ -71,15 +69,14 @@ fn analyse_record(
     }
     let marc = match Marc::read(bytes) {
         Ok(marc) => marc,
-        Err(fault) => return Err(place.of_marc(fault)),
+        Err(fault) => return Err(AnalysisFault::Marc { place, fault }),
     };
     let ident = match identifier(setting.alloc, &marc, setting.profile) {
         Ok(ident) => ident,
-        Err(fault) => return Err(place.of_identifier(fault)),
+        Err(fault) => return Err(AnalysisFault::of_identifier(place, fault)),
     };
     Ok(Analysis {
-        file: place.file,
-        nth: place.nth,
+        place,
         ident,
         occurrences: occurrences(setting.alloc, &marc, setting.profile)?,
     })

@@ -8,7 +8,7 @@ mod laws;
 mod printing;
 
 pub use analysing::{Analysis, analyse};
-pub use faults::AnalysisFault;
+pub use faults::{AnalysisFault, Place};
 pub use laws::{
     an_analysis_is_told_once, each_record_has_one_analysis, refusals_are_of_records,
     the_first_refusal_counts,

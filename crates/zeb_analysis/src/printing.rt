@@ -56,7 +56,7 @@ fn occurrence_text(
 fn record_text(alloc: Global, analysis: &Analysis) -> Result<String, AllocError>
     ensures { IfOk result (λ text. string_bytes text ≡ record_line (analysed analysis.now)) }
 {
-    let (file, nth) = (analysis.file, analysis.nth);
+    let (file, nth) = (analysis.place.file, analysis.place.nth);
     let ident = analysis.ident.as_str();
     format!(in alloc; "record {file} {nth} {ident}\n")
 }

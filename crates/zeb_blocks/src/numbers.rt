@@ -17,7 +17,7 @@ fn with_group(value: u64, scale: u64, byte: u8) -> Option<u64>
 }
 
 /// The number in its shortest form at the front of the bytes, and the bytes behind it; `None` where no number below 2^64 stands there.
-pub(crate) fn read_number<'a>(bytes: &'a [u8]) -> Option<(u64, &'a [u8])>
+pub fn read_number<'a>(bytes: &'a [u8]) -> Option<(u64, &'a [u8])>
     ensures { MatchOption result ((n : ℕ) (rest : List ℕ) → n < 2 ^ 64 → bytes.now ≢ uleb n ++ rest)
         (λ found. (found.0 < 2 ^ 64) × (bytes.now ≡ uleb found.0 ++ found.1.now)) }
 {
@@ -40,7 +40,7 @@ pub(crate) fn read_number<'a>(bytes: &'a [u8]) -> Option<(u64, &'a [u8])>
 }
 
 /// Puts the shortest form of a number at the end. Where memory ran out, a part of it may have been put there.
-pub(crate) fn write_number(out: &mut Vec<u8>, number: u64) -> Result<(), AllocError>
+pub fn write_number(out: &mut Vec<u8>, number: u64) -> Result<(), AllocError>
     ensures ok { OnOk result (out.new.items ≡ out.old.items ++ uleb number) }
     ensures err { OnErr result ((part : List ℕ) × (out.new.items ≡ out.old.items ++ part)) }
 {

@@ -64,7 +64,7 @@ pub use Rattle.zeb_change.specs.PrivateReading.{ReadsRecord}
 pub use Rattle.zeb_change.specs.PrivateReasons.{TakesNamed, IsDamageOrFailure, IsFullOrFails, IsRecordRefused, LosesJustNamed}
 pub use Rattle.zeb_change.specs.PrivateRecords.{IsElderAs, elder_bytes, GoesBy, IsWholeElder, IsNewer}
 pub use Rattle.zeb_change.specs.PrivateStanding.{WillBe, standing, WillBeFolded, WillBeTaken, Standing}
-pub use Rattle.zeb_change.specs.PrivateTallies.{AreInRange, IsTallied}
+pub use Rattle.zeb_change.specs.PrivateTallies.{IsTallied}
 pub use Rattle.zeb_change.specs.Reading.{HasFailedAt, NoneFailed, StayAble}
 pub use Rattle.zeb_marc.specs.Reading.{StaysAble}
 pub use Rattle.zeb_change.specs.Reasons.{IsRefusedFor, LosesNamedAlone, AreNamed, HasReasonAt, IsAllowed, IsAtFault, IsNamed, IsNewAt, NamesAny, IsRefusedAt}
@@ -130,7 +130,7 @@ pub use Rattle.zeb_register.specs.Sound.{KeepsMalformed, KeepsRowsBeside}
 pub use Rattle.zeb_register.specs.Sql.{KeepsOthers, Loses, Replaces}
 pub use Rattle.zeb_register.specs.Store.{IsStore, KeepsLists, Changes, HasNumber, HasRecord, SharesRecord, databases_tree, meta_tree, record_row, records_tree, KeepsRegisters}
 pub use Rattle.zeb_register.specs.Tables.{store_schema}
-pub use Rattle.zeb_register.specs.Tallies.{Rises}
+pub use Rattle.zeb_register.specs.Tallies.{AreInRange, Rises}
 pub use Rattle.zeb_register.specs.declared.faults.RegFault.{RegFault}
 pub use Rattle.zeb_register.specs.declared.faults.RegFault.TheVariants.{Store}
 pub use Rattle.zeb_register.specs.declared.kept.Elder.{Elder}

@@ -56,8 +56,8 @@ identifier_refusal file nth ident.Memory = Memory
 
 -- an analysis ends by the fault of a record, or of its identifier, as a change does
 abbrev pub analysis_refusal : AnalysisFault → Refusal
-analysis_refusal (analysis.Marc file nth fault) = marc_refusal file nth fault
-analysis_refusal (analysis.Ident file nth fault) = identifier_refusal file nth fault
+analysis_refusal (analysis.Marc place fault) = marc_refusal place.file place.nth fault
+analysis_refusal (analysis.Ident place fault) = identifier_refusal place.file place.nth fault
 analysis_refusal analysis.TooManyRecords = TooManyRecords
 analysis_refusal analysis.Memory = Memory
 

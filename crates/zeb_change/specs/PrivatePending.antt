@@ -1,7 +1,7 @@
 -- What only the contracts of private functions speak of; no public clause reaches it.
 -- A change is noted; a key's changes are taken out, and written.
 use Rattle.std.specs.Prelude.{◌≡◌, ◌≢◌, ◌+◌, ℕ, ℤ, List, [], ◌∷◌, ◌++◌, length, None, Some}
-use Rattle.std.specs.List.Sorted.{IsNonDecreasingBy, IsStableByKey}
+use Rattle.std.specs.List.Sorted.{IsStableByKey}
 use Rattle.std.specs.Ordering.{nat_cmp}
 use Rattle.zeb_keys.specs.declared.keys.Key.{Key}
 use Rattle.zeb_register.specs.declared.registers.RecordChange.{RecordChange}
@@ -45,11 +45,10 @@ AreGivenAs (change ∷ changes) (first ∷ given) =
 abbrev pub number_in : RecordChange → ℕ
 number_in change = change.sysno
 
--- the changes as a layout takes them, by the numbers of their records; those of one record stand in the order in which they were noted
+-- the changes as a layout takes them; those of one record stand in the order in which they were noted
 pub record AreGivenInOrder (changes : List KeyChange) (given : List RecordChange) : Type 0 where
   pub noted : List RecordChange
   pub same : AreGivenAs changes noted
-  pub rising : IsNonDecreasingBy number_in given
   pub stable : IsStableByKey number_in nat_cmp noted given
 
 -- one list is changed so, and no other

@@ -21,7 +21,8 @@ use Rattle.zeb_change.specs.declared.tally.Fate.{Fate}
 use Rattle.zeb_change.specs.Folding.{splits_of}
 use Rattle.zeb_change.specs.Noted.{IsDueFor, WillHold}
 use Rattle.zeb_change.specs.Outcomes.{marc_refusal}
-use Rattle.zeb_change.specs.PrivateTallies.{AreInRange, IsTallied}
+use Rattle.zeb_register.specs.Tallies.{AreInRange}
+use Rattle.zeb_change.specs.PrivateTallies.{IsTallied}
 use Rattle.zeb_change.specs.PrivateRecordChanges.{Accepts, AreStores, ChangesRecord, Point}
 use Rattle.zeb_change.specs.Refused.{IsFailing, why_of}
 

@@ -26,7 +26,6 @@ ghost use Rattle.zeb_change.specs.PrivateInside.{WorksInside};
 ghost use Rattle.zeb_change.specs.Holding.{HoldsSome};
 ghost use Rattle.zeb_change.specs.UnderWay.{IsFolded, IsUnderWay, StandsFor, conditions_of};
 
-use crate::counts::counts_are_numbers;
 use crate::part_faults::{FoldFault, TakeFault};
 use crate::pending::Pending;
 use crate::records::{Incoming, Progress, change_record};
@@ -37,6 +36,7 @@ use crate::writing::{write_pending, write_where_full};
 use sqlite::{Alter, Transaction};
 use zeb_marc::{MarcFault, RecordBuf, Source, next_record};
 use zeb_register::Layout;
+use zeb_register::for_layouts::counts_are_numbers;
 
 /// How many bytes of memory what is noted of keys takes before it is written: 80 MB.
 const MOST_NOTED: usize = 80_000_000;

@@ -2,7 +2,6 @@
 #![tactic(auto)]
 
 mod changed_keys;
-mod counts;
 mod faults;
 mod files;
 mod kept;

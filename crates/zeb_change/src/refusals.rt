@@ -120,9 +120,11 @@ impl From<AnalysisFault> for Refusal {
 
     fn from(fault: AnalysisFault) -> Refusal {
         match fault {
-            AnalysisFault::Marc { file, nth, fault } => FoldFault::of_marc(file, nth, fault).into(),
-            AnalysisFault::Ident { file, nth, fault } => {
-                IncomingFault::of_identifier(file, nth, fault).into()
+            AnalysisFault::Marc { place, fault } => {
+                FoldFault::of_marc(place.file, place.nth, fault).into()
+            }
+            AnalysisFault::Ident { place, fault } => {
+                IncomingFault::of_identifier(place.file, place.nth, fault).into()
             }
             AnalysisFault::TooManyRecords => Refusal::TooManyRecords,
             AnalysisFault::Memory => Refusal::Memory,

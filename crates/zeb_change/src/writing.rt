@@ -10,18 +10,19 @@ ghost use Rattle.zeb_register.specs.Content.{Content, IsStorable};
 ghost use Rattle.zeb_register.specs.Formats.{holds_in};
 ghost use Rattle.zeb_register.specs.Sound.{KeepsMalformed, KeepsRowsBeside};
 ghost use Rattle.zeb_register.specs.Store.{IsStore, KeepsLists};
+ghost use Rattle.zeb_register.specs.UnitChanges.{NumbersRise};
 ghost use Rattle.zeb_change.specs.Costs.{IsWorkFor};
 ghost use Rattle.zeb_change.specs.NoteWords.{KeyChange};
 ghost use Rattle.zeb_change.specs.Noted.{IsNothingNoted, Settles};
 ghost use Rattle.zeb_change.specs.PrivateNoteWords.{IsCutOff, counts_in, places_in};
 ghost use Rattle.zeb_change.specs.PrivatePending.{AreGivenInOrder, ArePutAt};
 
-use crate::counts::counts_are_numbers;
 use crate::key_notes::{KeyNotes, PlaceCounts};
 use crate::pending::Pending;
 use sqlite::{Alter, Transaction};
 use std::alloc::{AllocError, Global};
 use zeb_keys::Key;
+use zeb_register::for_layouts::counts_are_numbers;
 use zeb_register::{DatabaseId, Layout, Place, RecordChange, RegFault, Work};
 
 /// So many places at the front, and those behind them; all where there are fewer.
@@ -39,6 +40,7 @@ fn given<'a>(
     places: &'a [Place],
 ) -> Result<Vec<RecordChange<'a>>, AllocError>
     ensures many { IfOk result (λ given. length given.items ≡ length counts.now) }
+    ensures rising { IfOk result (λ given. NumbersRise given.items) }
     ensures told { IfOk result (λ given. (changes : List KeyChange)
         → counts.now ≡ map counts_in changes → places.now ≡ places_in changes
         → AreGivenInOrder changes given.items) }

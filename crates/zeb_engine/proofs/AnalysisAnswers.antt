@@ -1,5 +1,5 @@
 -- The refusals of an analysis are of the files' texts.
-use Rattle.zeb_engine.proofs.Cited.{ℕ, List, Some, Err, Directive, MarcFault, AnalysisFault, Marc, AnalysesTo, standing_in_all, IsRefusal, first_counts, refusal_at_place}
+use Rattle.zeb_engine.proofs.Cited.{◌≢◌, ℕ, List, Some, Err, refl, Directive, MarcFault, AnalysisFault, AnalysesTo, standing_in_all, IsRefusal, first_counts, refusal_at_place}
 use Rattle.zeb_marc.specs.declared.faults.MarcFault.TheVariants as marc
 use Rattle.zeb_engine.proofs.FaultAnswers.{IsOfText}
 
@@ -8,17 +8,17 @@ refusal_of_texts profile limit texts fault is =
     let it = (first_counts profile limit (standing_in_all 1 texts) fault).0 is in
     refusal_at_place profile limit texts it.before it.standing fault it.there it.refused
 
-pub fault_of_text : (file nth : ℕ) (fault : MarcFault) → IsRefusal (Marc file nth fault) → IsOfText (Some fault)
-fault_of_text file nth marc.LengthDigits is = tt
-fault_of_text file nth marc.LengthRange is = tt
-fault_of_text file nth marc.Truncated is = tt
-fault_of_text file nth marc.NoTerminator is = tt
-fault_of_text file nth marc.LeaderCounts is = tt
-fault_of_text file nth marc.BaseAddress is = tt
-fault_of_text file nth marc.DirectoryLength is = tt
-fault_of_text file nth marc.EntryDigits is = tt
-fault_of_text file nth marc.EntryTag is = tt
-fault_of_text file nth marc.EntryRange is = tt
-fault_of_text file nth marc.FieldEnd is = tt
-fault_of_text file nth marc.TooManySeparators is = tt
-fault_of_text file nth marc.ReadFault is = absurd is
+pub fault_of_text : (fault : MarcFault) → fault ≢ marc.ReadFault → IsOfText (Some fault)
+fault_of_text marc.LengthDigits is = tt
+fault_of_text marc.LengthRange is = tt
+fault_of_text marc.Truncated is = tt
+fault_of_text marc.NoTerminator is = tt
+fault_of_text marc.LeaderCounts is = tt
+fault_of_text marc.BaseAddress is = tt
+fault_of_text marc.DirectoryLength is = tt
+fault_of_text marc.EntryDigits is = tt
+fault_of_text marc.EntryTag is = tt
+fault_of_text marc.EntryRange is = tt
+fault_of_text marc.FieldEnd is = tt
+fault_of_text marc.TooManySeparators is = tt
+fault_of_text marc.ReadFault is = absurd (is refl)

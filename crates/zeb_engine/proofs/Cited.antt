@@ -46,7 +46,6 @@ pub use Rattle.zeb_analysis.proofs.ToldOnce.{told_once as analyses_once}
 pub use Rattle.zeb_analysis.specs.Analysing.{AnalysesTo, standing_in_all, Analysed}
 pub use Rattle.zeb_analysis.specs.Laws.{IsRefusal}
 pub use Rattle.zeb_analysis.specs.declared.faults.AnalysisFault.{AnalysisFault}
-pub use Rattle.zeb_analysis.specs.declared.faults.AnalysisFault.TheVariants.{Marc}
 pub use Rattle.zeb_change.proofs.BaseLemmas.{base_numbered}
 pub use Rattle.zeb_change.proofs.ElderSteps.{files_find}
 pub use Rattle.zeb_change.proofs.Elders.{passed_error}
@@ -79,14 +78,14 @@ pub use Rattle.zeb_change.specs.declared.settings.Setting.{Setting}
 pub use Rattle.zeb_change.specs.declared.tally.Fate.{Fate}
 pub use Rattle.zeb_change.specs.declared.tally.Fate.TheVariants.{Inserted, Updated, Deleted, PassedOver}
 pub use Rattle.zeb_engine.specs.Adopting.{StaysOpen, HasOwnTables}
-pub use Rattle.zeb_engine.specs.Finding.{FindSays, HidesHit, HidesOne, MeetsDamage, RefusesFind, FindAlone, RefusedAlone, CanBeShown, FindOver, FindTells, SoundHits, FindDoes, has_name, AreShown, IsAnswered, IsNamed, IsPlanned, IsShown, asked_of, IsFound, IsAnsweredBy, IsPlannedBy, FindReads, IsPlanOf, PlanReads}
+pub use Rattle.zeb_engine.specs.Finding.{FindSays, HidesHit, HidesOne, MeetsDamage, RefusesFind, FindAlone, RefusedAlone, CanBeShown, FindOver, FindTells, FindDoes, HidesFind, HidesFound, HidesPlan, has_name, AreShown, IsAnswered, IsNamed, IsPlanned, IsShown, asked_of, IsFound, IsAnsweredBy, IsPlannedBy, FindReads, IsPlanOf, PlanReads}
 pub use Rattle.zeb_engine.specs.Asking.{IsSaidOrMissed, OfDatabase, IsAsked, Alone, IsSaid, Said}
 pub use Rattle.zeb_engine.specs.Scanning.{ScanSays, HidesAround, HidesPlanned, HidesTerms, ScanOver, TellsAround, ScanTells, ScanDoes, ScanReads, IsScanned, IsScanPlanned, around, IsScannedBy, IsScanPlannedBy, AreAround}
 pub use Rattle.zeb_engine.specs.Counting.{StatSays, HidesRegisters, HidesRegister, StatOver, IsSummedUp, StatTells, IsCounted, IsExtent, Paired, Target, target_list, targets_below}
 pub use Rattle.zeb_engine.specs.Analysed.{IsAnalysed, analysis_answer, IsAnalysis}
 pub use Rattle.zeb_engine.specs.Answers.{refused, IsFailure, changed, reply_answer, Answer, answer_of, found, scanned, Extent, done, extent_of, analysed, dumped, no_database}
 pub use Rattle.zeb_engine.specs.Making.{DropsDatabase, OnAccepted, MakesDatabase, CreateOver, DropOver, CountedAnswers, CreateDoes, DropDoes}
-pub use Rattle.zeb_engine.specs.Hidden.{HidesDatabase, HidesOf, TellsUnlessHidden, UnlessHidden, HidesUnsaid, OverReady}
+pub use Rattle.zeb_engine.specs.Hidden.{HidesDatabase, HidesOf, TellsUnlessHidden, UnlessHidden}
 pub use Rattle.zeb_engine.specs.Dumping.{HidesRecords, JoinsRecords, DumpOver, DumpTells}
 pub use Rattle.zeb_engine.specs.Changing.{AreFewRecords, EachFindsWhole, ElderOver, EldersOver, HasNumbersTo, IsOrBecomes, LeavesRows, LosesNamedOver, LosesWhole, ReasonsOver, ChangesReady, LeavesWhole, LosesNamed, ChangeDoes}
 pub use Rattle.zeb_engine.specs.Causes.{HasStoreCause}
@@ -195,16 +194,17 @@ pub use Rattle.zeb_register.specs.declared.RegFault.{RegFault}
 pub use Rattle.zeb_register.specs.declared.kept.Record.{Record}
 pub use Rattle.zeb_register.specs.declared.registers.TermCount.{TermCount}
 pub use Rattle.zeb_register.specs.declared.registers.Work.{Work}
+pub use Rattle.zeb_search.proofs.FindCalls.{hits_honest, hits_reasoned, hits_told}
 pub use Rattle.zeb_search.proofs.HoldsAlike.{tree_alike}
 pub use Rattle.zeb_search.proofs.KnownHolders.{holder_known}
 pub use Rattle.zeb_search.proofs.ReadLemmas.{clean_before}
 pub use Rattle.zeb_search.proofs.ReadableNames.{names_readable}
 pub use Rattle.zeb_search.proofs.SearchCountLemmas.{counts_then, counts_within, terms_count}
+pub use Rattle.zeb_search.specs.Finds.{PlanFinds, PlanHides}
 pub use Rattle.zeb_search.specs.Holds.{TreeHolds, TermHolds}
 pub use Rattle.zeb_search.specs.Lists.{AreNumbers}
 pub use Rattle.zeb_search.specs.Registers.{has_ident_in, HoldsIn, is_kept_in, NamesReadable}
 pub use Rattle.zeb_search.specs.SearchCounts.{CountsAtMost}
-pub use Rattle.zeb_search.specs.SearchRows.{ArePlanRowsSound}
 pub use Rattle.zeb_text.proofs.KeyLemmas.{value_of_key, digits_of_key, length_of_key, digits_from_all, all_from_digits, is_key}
 pub use Rattle.zeb_text.specs.Numbers.{number_key}
 pub use base.Stored.{Coded-set}

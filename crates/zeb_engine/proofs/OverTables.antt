@@ -1,5 +1,5 @@
 -- A find, a scan and a stat on any tables of a store, step by step.
-use Rattle.zeb_engine.proofs.Cited.{◌≡◌, ◌⊎◌, ℕ, ℤ, List, length, map, Result, Ok, Err, string_bytes, refl, sym, ap, subst, inl, inr, Trees, Directive, QueryFault, Diagnostic, Memory, Fails, QueryValue, SpellsQuery, IsFaultOf, IsReadable, PlanValue, ScanValue, plan_of, scan_of, RegFault, TermCount, Format, HasDatabase, Refusal, query_refusal, register_refusal, Why, diagnostic, why_of, Meets, Reply, IsAsked, IsSaidOrMissed, OfDatabase, Answer, found, refused, scanned, IsFailure, HidesAround, HidesPlanned, TellsUnlessHidden, HidesUnsaid, AreShown, IsAnsweredBy, IsPlannedBy, IsShown, asked_of, IsScannedBy, IsScanPlannedBy}
+use Rattle.zeb_engine.proofs.Cited.{◌≡◌, ◌⊎◌, ℕ, ℤ, List, length, map, Result, Ok, Err, string_bytes, refl, sym, ap, subst, inl, inr, Trees, Directive, QueryFault, Diagnostic, Memory, Fails, QueryValue, SpellsQuery, IsFaultOf, IsReadable, PlanValue, ScanValue, plan_of, scan_of, RegFault, TermCount, Format, HasDatabase, Refusal, query_refusal, register_refusal, Why, diagnostic, why_of, Meets, Reply, IsAsked, IsSaidOrMissed, OfDatabase, Answer, found, refused, scanned, IsFailure, HidesAround, HidesPlanned, TellsUnlessHidden, AreShown, IsAnsweredBy, IsPlannedBy, IsShown, asked_of, IsScannedBy, IsScanPlannedBy}
 use Rattle.zeb_register.specs.declared.RegFault.TheVariants as register
 use Rattle.zeb_change.specs.declared.refusals.Refusal.TheVariants as refusal
 
@@ -14,9 +14,21 @@ fault_few register.Damaged = inl refl
 fault_few register.Store = inr (inl refl)
 fault_few register.Memory = inr (inr refl)
 
-pub few_over : (Over : Trees → Answer → Type 0) (trees : Trees) (why : Refusal) → IsFew why → TellsUnlessHidden Over HidesUnsaid trees (Err why)
-few_over Over trees why (inl is) = inr (inl (ap Err is, tt))
-few_over Over trees why (inr failed) = inr (inr failed)
+-- refused as damage, it is so for a cause that is told where numbers are small
+pub few_hidden : (why : Refusal) (Small Hides : Type 0) → IsFew why → (Small → IsFailure (refused (why_of why)) ⊎ ((why ≡ refusal.Damaged) × Hides))
+    → IsFailure (refused (why_of why)) ⊎ ((why ≡ refusal.Damaged) × (Small → Hides))
+few_hidden why Small Hides (inr failed) hides = inl failed
+few_hidden why Small Hides (inl is) hides = inr (
+  is,
+  λ small. elim (hides small) [
+    | inl failed ↦ absurd (subst (λ (r : Refusal). IsFailure (refused (why_of r)) → ⊥) (sym is) never failed)
+    | inr damaged ↦ damaged.1
+  ],
+)
+  where
+    never : IsFailure (refused (why_of refusal.Damaged)) → ⊥
+    never (inl e) = cc
+    never (inr e) = cc
 
 -- it is said so, or it failed
 abbrev pub IsOrFails : (Answer → Type 0) → Refusal → Type 0

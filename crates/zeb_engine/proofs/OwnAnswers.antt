@@ -1,5 +1,5 @@
 -- What the definition answers is never damage, nor a failure of the store, of the memory or of a reader.
-use Rattle.zeb_engine.proofs.Cited.{◌+◌, ◌-◌, ℕ, Bool, true, false, cond, inl, inr, List, [], ◌∷◌, Option, Some, None, Result, Ok, Err, map, length, take, drop, nat_le, nat_lt, sym, subst, string_bytes, ◌||◌, ⊤, bytes_eq, decimal, MarcFault, first_fault, fields_of, units_of, canonical_text, plain_rows, version_of, PlanValue, ScanValue, plan_of, scan_of, Occurrence, IdentFault, AnalysisFault, Analysed, AnalysesTo, IsRefusal, Command, Init, Check, Reindex, Upgrade, Create, Drop, Stat, Dump, Change, Find, Scan, Analyse, Kind, Update, Delete, Adelete, Inserted, PassedOver, name_bytes, Answer, refused, Why, old_format, profile_changed, rule_changed, diagnostic, unknown, database_full, too_many_records, damaged, read_fault, store_failed, out_of_memory, why_of, Conditions, IsPlanned, IsShown, asked_of, has_name, occurs, IsScanPlanned, Changed, Progress, at_end, at_first, changed_by, counted, deleted, files_folded, ident_in, slices_folded, updated, with_ident, with_record, ◌then◌, splits_of, Base, Kept, kept_as, with_new, Holdings, nothing_yet, under, base_named, IsAnalysed, analysis_answer, same_rule, analysis_refusal, marc_refusal, AskedAmong, AskedFrom, AskedIn, CountedFrom, CountedIn, FindAnswers, ScanAnswers, Turn, change_ends, change_from, created_in, dropped_in, dumped_from, dumped_in, ends, start_of, turned_from, checked_from, all_stay}
+use Rattle.zeb_engine.proofs.Cited.{refl, ◌+◌, ◌-◌, ℕ, Bool, true, false, cond, inl, inr, List, [], ◌∷◌, Option, Some, None, Result, Ok, Err, map, length, take, drop, nat_le, nat_lt, sym, subst, string_bytes, ◌||◌, ⊤, bytes_eq, decimal, MarcFault, first_fault, fields_of, units_of, canonical_text, plain_rows, version_of, PlanValue, ScanValue, plan_of, scan_of, Occurrence, IdentFault, AnalysisFault, Analysed, AnalysesTo, IsRefusal, Command, Init, Check, Reindex, Upgrade, Create, Drop, Stat, Dump, Change, Find, Scan, Analyse, Kind, Update, Delete, Adelete, Inserted, PassedOver, name_bytes, Answer, refused, Why, old_format, profile_changed, rule_changed, diagnostic, unknown, database_full, too_many_records, damaged, read_fault, store_failed, out_of_memory, why_of, Conditions, IsPlanned, IsShown, asked_of, has_name, occurs, IsScanPlanned, Changed, Progress, at_end, at_first, changed_by, counted, deleted, files_folded, ident_in, slices_folded, updated, with_ident, with_record, ◌then◌, splits_of, Base, Kept, kept_as, with_new, Holdings, nothing_yet, under, base_named, IsAnalysed, analysis_answer, same_rule, analysis_refusal, marc_refusal, AskedAmong, AskedFrom, AskedIn, CountedFrom, CountedIn, FindAnswers, ScanAnswers, Turn, change_ends, change_from, created_in, dropped_in, dumped_from, dumped_in, ends, start_of, turned_from, checked_from, all_stay}
 use Rattle.std.specs.Prelude.{◌&&◌}
 use Rattle.zeb_marc.specs.declared.faults.MarcFault.TheVariants as marc
 use Rattle.zeb_marc.specs.Splits.{split_of}
@@ -260,10 +260,10 @@ dumped_own name (Ok bases) own = go (base_named name bases)
 -- ---- an analysis
 
 pub analysis_own : (fault : AnalysisFault) → IsRefusal fault → IsOwn (why_of (analysis_refusal fault))
-analysis_own (analysis.Marc file nth fault) is = marc_own file nth fault (fault_of_text file nth fault is)
-analysis_own (analysis.Ident file nth ident.NoIdentifier) is = tt
-analysis_own (analysis.Ident file nth ident.BadIdentifier) is = tt
-analysis_own (analysis.Ident file nth ident.Memory) is = absurd is
+analysis_own (analysis.Marc place fault) is = marc_own place.file place.nth fault (fault_of_text fault is)
+analysis_own (analysis.Ident place ident.NoIdentifier) is = tt
+analysis_own (analysis.Ident place ident.BadIdentifier) is = tt
+analysis_own (analysis.Ident place ident.Memory) is = absurd (is refl)
 analysis_own analysis.TooManyRecords is = tt
 analysis_own analysis.Memory is = absurd is
 

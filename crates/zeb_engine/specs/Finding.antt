@@ -6,7 +6,7 @@ use Rattle.sqlite.specs.Tree.{Trees}
 use Rattle.sqlite_rules.specs.Lists.{Has}
 use Rattle.std.specs.Fmt.{decimal}
 use Rattle.std.specs.Option.{option_map}
-use Rattle.std.specs.Prelude.{◌≡◌, ℕ, ◌-◌, List, Some, Result, Ok, Err, length, map, find, take, drop, nat_eq, nat_lt, ◌&&◌, if◌then◌else◌, ◌⊎◌, ℤ, pos, IfErr}
+use Rattle.std.specs.Prelude.{◌≡◌, ℕ, ◌-◌, List, Some, Result, Ok, Err, length, map, find, take, drop, nat_eq, nat_lt, ◌&&◌, if◌then◌else◌, ◌⊎◌, ℤ, pos, IfErr, ◌<◌, ◌^◌}
 use Rattle.zeb_change.specs.Base.{Kept}
 use Rattle.zeb_change.specs.Conditions.{Conditions}
 use Rattle.zeb_change.specs.Refused.{Why, diagnostic, why_of}
@@ -15,7 +15,7 @@ use Rattle.zeb_change.specs.declared.refusals.Refusal.TheVariants.{Damaged}
 use Rattle.zeb_engine.specs.Answers.{Answer, found, refused, IsFailure}
 use Rattle.zeb_engine.specs.Asking.{OfDatabase, Alone, Said, IsAsked}
 use Rattle.zeb_engine.specs.Causes.{OnlyLooks}
-use Rattle.zeb_engine.specs.Hidden.{OverReady}
+use Rattle.zeb_engine.specs.Hidden.{HidesOf, UnlessHidden}
 use Rattle.zeb_engine.specs.Readiness.{IsReadyFor, GoesByTexts}
 use Rattle.zeb_engine.specs.declared.replies.Reply.{Reply}
 use Rattle.zeb_keys.specs.declared.keys.Occurrence.{Occurrence}
@@ -31,12 +31,12 @@ use Rattle.zeb_register.specs.Kept.{AreReadableIdents}
 use Rattle.zeb_register.specs.Store.{IsStore, HasDatabase}
 use Rattle.zeb_register.specs.declared.registers.Work.{Work}
 use Rattle.zeb_search.specs.DictRows.{PlanDict}
+use Rattle.zeb_search.specs.Finds.{PlanFinds, PlanHides}
 use Rattle.zeb_search.specs.Holds.{TreeHolds}
 use Rattle.zeb_search.specs.ListRows.{PlanRows}
 use Rattle.zeb_search.specs.Lists.{AreNumbers}
 use Rattle.zeb_search.specs.Registers.{has_ident_in, is_kept_in, HoldsIn, NamesReadable}
 use Rattle.zeb_search.specs.SearchCounts.{CountsAtMost}
-use Rattle.zeb_search.specs.SearchRows.{ArePlanRowsSound}
 
 -- ---- kept records
 
@@ -146,16 +146,28 @@ FindAlone format profile name text first count s result =
     Alone format (FindSays profile text first count) name s result
     × (IsReadyFor (version_of format) profile s.now.trees → RefusedAlone format (RefusesFind profile name text first count) s result)
 
--- the hits are some numbers, and each row of an entry that the search asks for is sound
-abbrev pub SoundHits : Format → Trees → ℤ → PlanValue → List ℕ → Type 0
-SoundHits format trees db plan hits = ArePlanRowsSound format trees db plan
-
--- The hits that are asked for are shown, each the number and the identifier of a record that the database keeps.
+-- The hits are those that the units and counts tell which the plan asks for. Those that are wanted are shown, each the number and the
+-- identifier of a record that the database keeps.
 abbrev pub FindTells : Format → List Directive → (text : List ℕ) → (first count : ℕ) → Trees → OfDatabase
-FindTells format profile text first count trees db last = IsAnsweredBy (has_ident_in trees db) (SoundHits format trees db) profile text first count
+FindTells format profile text first count trees db last = IsAnsweredBy (has_ident_in trees db) (PlanFinds format trees db) profile text first count
 
 abbrev pub FindOver : Format → List Directive → (name text : List ℕ) → (first count : ℕ) → Trees → Answer → Type 0
 FindOver format profile name text first count trees = IsAsked (FindTells format profile text first count trees) name text trees
+
+-- Where a column can hold the number of each hit that is wanted, the record of one of them can't be shown.
+abbrev pub HidesFound : Format → Trees → ℤ → PlanValue → (first count : ℕ) → Type 0
+HidesFound format trees db plan first count =
+    (hits : List ℕ) × (asked : List ℕ) × PlanFinds format trees db plan hits × (asked_of hits first count ≡ Ok asked)
+    × (((n : ℕ) → Has asked n → n < 2 ^ 63) → HidesOne trees db asked)
+
+-- something that the plan of the query asks for is malformed, or a hit can't be shown
+abbrev pub HidesPlan : Format → List Directive → (text : List ℕ) → (first count : ℕ) → Trees → ℤ → Type 0
+HidesPlan format profile text first count trees id =
+    (plan : PlanValue) × IsPlanOf profile text plan × (PlanHides format trees id plan ⊎ HidesFound format trees id plan first count)
+
+-- over any tables a find is refused as damage only where that is so, or the database's last number is below 0
+abbrev pub HidesFind : Format → List Directive → (name text : List ℕ) → (first count : ℕ) → Trees → Type 0
+HidesFind format profile name text first count trees = IsReadable text × HidesOf (HidesPlan format profile text first count trees) name trees
 
 -- Over the plan of a query no row is written. Read are, of `dict`, no more rows than the searched registers have distinct terms, once for
 -- each pattern with a star and for each term of the query that asks for entries which it doesn't name; and of `blocks` no more than the
@@ -179,6 +191,7 @@ pub record FindDoes (format : Format) (c : Conditions) (name query : List ℕ) (
   -- Where the tables hold a content it is answered by the registers. Of a ready register it is refused by the definition, read so, or for
   -- damage in a row that it has to read, as where a hit has no record to show.
   pub alone : FindAlone format c.profile name query first count old answer
-  -- Also where they hold none, it is refused by the definition, as damage or by a failure; and answered, it has met sound rows where it asked,
-  -- and shows each hit that is asked for as a record that is kept under it.
-  pub told : OverReady c.version c.profile (FindOver format c.profile name query first count) old answer
+  -- Also where they hold none, it is refused by the definition, for damage in a row that it has to read, or by a failure; and answered, it
+  -- counts the hits that the units and counts tell, and shows each that is wanted as a record that is kept under it.
+  pub told : UnlessHidden c.version c.profile (FindOver format c.profile name query first count)
+      (HidesFind format c.profile name query first count) old answer

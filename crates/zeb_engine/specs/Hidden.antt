@@ -28,11 +28,3 @@ abbrev pub UnlessHidden : (version : List ℕ) → List Directive → (Over : Tr
     → Result Reply Refusal → Type 0
 UnlessHidden version profile Over Hides s result =
     IsStore s → IsReadyFor version profile s.now.trees → TellsUnlessHidden Over Hides s.now.trees result
-
--- over any tables: which rows it is that can't be read isn't said
-abbrev pub HidesUnsaid : Trees → Type 0
-HidesUnsaid trees = Unit {0}
-
--- on the tables of a store that keep the session's version and profile
-abbrev pub OverReady : (version : List ℕ) → List Directive → (Trees → Answer → Type 0) → State → Result Reply Refusal → Type 0
-OverReady version profile Over = UnlessHidden version profile Over HidesUnsaid

@@ -13,8 +13,8 @@ ghost use Rattle.zeb_engine.specs.Answers.{answer_of, refused, IsFailure};
 ghost use Rattle.zeb_change.specs.Refused.{why_of, store_failed, NeverUnready, Meets};
 ghost use Rattle.zeb_change.specs.Conditions.{conditions};
 ghost use Rattle.zeb_engine.specs.Asking.{Alone};
-ghost use Rattle.zeb_engine.specs.Finding.{FindSays, HidesOne, RefusedAlone, RefusesFind, FindOver, AreShown, asked_of, FindReads};
-ghost use Rattle.zeb_engine.specs.Hidden.{TellsUnlessHidden, HidesUnsaid};
+ghost use Rattle.zeb_engine.specs.Finding.{FindSays, HidesOne, RefusedAlone, RefusesFind, FindOver, HidesFind, AreShown, asked_of, FindReads};
+ghost use Rattle.zeb_engine.specs.Hidden.{TellsUnlessHidden};
 ghost use Rattle.zeb_image.specs.Holdings.{Holdings};
 ghost use Rattle.zeb_change.specs.Base.{Base};
 ghost use Rattle.zeb_image.specs.Image.{Keeps};
@@ -141,12 +141,16 @@ pub(crate) fn find<S: Alter, L: Layout>(
         → RefusedAlone L.format (RefusesFind profile.now (name_bytes name.now)
         question.entry.query.now question.entry.first
         question.entry.count) (state S.Store connection.old) result }
-    // Whatever the tables hold, each row of an entry that the query asks for is sound, and a hit is shown only as a record that is kept.
+    // Whatever the tables hold, the hits are those that the units tell, a hit is shown only as a record that is kept, and damage is told for a
+    // row that the query asks for.
     ensures tables { HasCleanDisk (state S.Store connection.new)
         → IsStore (state S.Store connection.old)
         → TellsUnlessHidden (FindOver L.format profile.now (name_bytes name.now)
         question.entry.query.now question.entry.first
-        question.entry.count) HidesUnsaid (state S.Store connection.old).now.trees result }
+        question.entry.count)
+        (HidesFind L.format profile.now (name_bytes name.now) question.entry.query.now
+        question.entry.first question.entry.count)
+        (state S.Store connection.old).now.trees result }
     ensures idle { connection.new.in_transaction ≡ false }
     ensures open { FindsOpen S.Store connection.old connection.new result }
     ensures same { LeavesAsIs S.Store connection.old connection.new }

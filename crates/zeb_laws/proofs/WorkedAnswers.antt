@@ -4,7 +4,7 @@ use lib.Utf8.{encode}
 use Rattle.std.specs.List.Sorted.{IsStrictlySortedBy}
 use Rattle.zeb_marc.specs.Contents.{units_of}
 use Rattle.zeb_marc.specs.Leader.{are_digits, number_of, counts, has_counts, ends_directory, has_base_address}
-use Rattle.zeb_marc.specs.Directory.{has_tag_bytes, has_digits, is_in_area}
+use Rattle.zeb_marc.specs.Directory.{has_digits, is_in_area}
 use Rattle.zeb_marc.specs.Records.{first_fault, fields_of}
 use Rattle.zeb_marc.specs.Splits.{split_of, next_of}
 use Rattle.zeb_change.specs.declared.faults.RecordFault.TheVariants as fault
@@ -16,11 +16,11 @@ use Rattle.zeb_laws.proofs.WorkedLemmas.{new_folded, old_folded, whole_file, fau
 -- ---- the record
 
 whole : first_fault worked_record ≡ None
-unfolding first_fault are_digits number_of counts has_counts ends_directory has_base_address has_tag_bytes has_digits is_in_area
+unfolding first_fault are_digits number_of counts has_counts ends_directory has_base_address has_digits is_in_area
 whole = refl
 
 fields_are : fields_of worked_record ≡ worked_fields
-unfolding fields_of are_digits number_of counts has_counts ends_directory has_base_address has_tag_bytes has_digits is_in_area
+unfolding fields_of are_digits number_of counts has_counts ends_directory has_base_address has_digits is_in_area
 fields_are = refl
 
 fields_units : units_of worked_fields ≡ moby_dick

@@ -34,7 +34,7 @@ pub record FieldText : Type 0 where
 abbrev pub field_of : List ℕ → Entry → FieldText
 field_of area entry = record { tag = entry.tag; text = slice_range area (number_of entry.start) (end_of entry - 1) }
 
-unfoldable pub has_tag_bytes : List ℕ → Bool
+abbrev pub has_tag_bytes : List ℕ → Bool
 has_tag_bytes tag = list_all is_ascii_alphanumeric tag
 
 unfoldable pub has_digits : Entry → Bool

@@ -1,4 +1,5 @@
 pub mod Names
+pub mod Asking
 pub mod Leader
 pub mod PrivateLeader
 pub mod Directory

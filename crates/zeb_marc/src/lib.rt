@@ -16,7 +16,7 @@ pub use directory::{Field, Fields};
 pub use faults::MarcFault;
 pub use laws::{fault_examples, few_bytes_are_taken, record_laws, split_laws, worked_examples};
 pub use records::Marc;
-pub use sources::{FromRead, ReadFailed, Slice, Source, passed_on};
+pub use sources::{Ask, FromRead, ReadFailed, Slice, Source, passed_on};
 pub use stream::{RecordBuf, next_record};
 pub use tags::{is_control_tag, is_tag};
 pub use units::{Unit, Units};

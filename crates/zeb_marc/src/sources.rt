@@ -1,7 +1,9 @@
 //! Where records are read from.
-ghost use Rattle.std.specs.Prelude.{◌≡◌, List, ℕ, Option, Bool, true, false, Some, Ok, IsErr, IsOk, is_ok, if◌then◌else◌, MatchResult};
+ghost use Rattle.std.specs.Prelude.{◌≡◌, List, ℕ, Option, Bool, Result, true, false, Some, Ok, IsErr, IsOk, is_ok, if◌then◌else◌, MatchResult};
 ghost use Rattle.std.specs.Io.{ReadsAtMost};
 ghost use Rattle.std.specs.Io.KnownBytes.{ReadConsumes};
+ghost use Rattle.zeb_marc.specs.declared.sources.ReadFailed.{ReadFailed};
+ghost use Rattle.zeb_marc.specs.Asking.{AsksOnce};
 
 use std::io::{self, Read};
 use std::marker::Model;
@@ -92,14 +94,39 @@ pub fn passed_on(answer: io::Result<usize>) -> Result<usize, ReadFailed>
     }
 }
 
+/// A reader that is asked for bytes, one question at a time. Every reader of std is one.
+///
+/// What std says of one read is true of two reads too, of which the first failed. So a source asks its reader here, where `asks`
+/// tells one question from two.
+pub trait Ask: Read {
+    /// What the reader was, what it answers where it is asked once, the buffer's bytes behind that, and what the reader is then.
+    ghost asks: { Self → Result ℕ ReadFailed → List ℕ → Self → Type 0 };
+
+    /// Asks the reader once, as [`Read::read`] does, and passes on what it answers ([`passed_on`]).
+    fn ask(&mut self, buffer: &mut [u8]) -> Result<usize, ReadFailed>
+        ensures bound { ReadsAtMost result buffer.new }
+        ensures bytes { ReadConsumes (Self.remaining self.old) (Self.remaining self.new) result
+            buffer.new }
+        ensures once { asks self.old result buffer.new self.new };
+}
+
+impl<R: Read> Ask for R {
+    ghost asks = { λ old answer bytes new.
+        ReadConsumes (R.remaining old) (R.remaining new) answer bytes };
+
+    fn ask(&mut self, buffer: &mut [u8]) -> Result<usize, ReadFailed> {
+        passed_on(self.read(buffer))
+    }
+}
+
 /// A reader, as a source: its bytes are the reader's. The source has failed once a read has, and the reader isn't asked again.
 #[derive(Drop)]
-pub struct FromRead<R: Read> {
+pub struct FromRead<R: Ask> {
     reader: R,
     failed: bool,
 }
 
-impl<R: Read> FromRead<R> {
+impl<R: Ask> FromRead<R> {
     /// A source of what a reader gives.
     pub fn new(reader: R) -> FromRead<R>
         ensures bytes { ⟦<FromRead<R> as Source>⟧.remaining result ≡ R.remaining reader }
@@ -112,18 +139,26 @@ impl<R: Read> FromRead<R> {
     }
 }
 
-impl<R: Read> Source for FromRead<R> {
+impl<R: Ask> Source for FromRead<R> {
     ghost remaining = { λ s. R.remaining s.reader };
 
     ghost has_failed = { λ s. s.failed };
 
     ghost may_fail = { λ _. true };
 
-    fn read(&mut self, buffer: &mut [u8]) -> Result<usize, ReadFailed> {
+    /// The reader is asked once, whatever it answers, and its failure is passed on; it isn't asked any more once it has failed.
+    fn read(&mut self, buffer: &mut [u8]) -> Result<usize, ReadFailed>
+        ensures bound { ReadsAtMost result buffer.new }
+        ensures bytes { ReadConsumes (R.remaining self.old.reader) (R.remaining self.new.reader) result
+            buffer.new }
+        ensures failed { self.new.failed ≡ (if is_ok result then self.old.failed else true) }
+        ensures asked { AsksOnce R.asks self.old.failed self.old.reader result buffer.new
+            self.new.reader }
+    {
         if self.failed {
             return Err(ReadFailed);
         }
-        let answer = passed_on(self.reader.read(buffer));
+        let answer = self.reader.ask(buffer);
         self.failed = answer.is_err();
         answer
     }

@@ -4,7 +4,6 @@ ghost use Rattle.zeb_marc.specs.Contents.{is_control};
 ghost use Rattle.zeb_marc.specs.Directory.{has_tag_bytes};
 
 /// Whether each byte may stand in a tag: an ASCII letter or digit. A tag has three.
-#[tactic(auto, unfolding(crate::specs::Directory::has_tag_bytes))]
 pub fn is_tag(tag: &[u8]) -> bool
     ensures { result ≡ has_tag_bytes tag.now }
 {

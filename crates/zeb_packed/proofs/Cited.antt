@@ -38,6 +38,7 @@ pub use Rattle.std.specs.List.{AllByRecursion, list_any, range_with_len, sum_by}
 pub use Rattle.std.specs.Option.{option_copied}
 pub use Rattle.std.specs.Ordering.{is_eq, ordering_then, ordering_reverse, is_lt}
 pub use Rattle.std.specs.Prelude.{if◌then◌else◌}
+pub use Rattle.std.proofs.lemmas.List.Sorted.{IsNonDecreasingBy-drop}
 pub use Rattle.zeb_blocks.specs.Blocks.{BlockSpells, LiesIn, IsNumbered, spelled_from, start_of}
 pub use Rattle.zeb_blocks.specs.declared.postings.Posting.{Posting}
 pub use Rattle.zeb_keys.proofs.Rising.{numbers_apart}
@@ -46,9 +47,9 @@ pub use Rattle.zeb_keys.specs.declared.Register.{Register}
 pub use Rattle.zeb_keys.specs.declared.keys.Key.{Key}
 pub use Rattle.zeb_packed.specs.PrivatePackedChanges.{block_columns, IsClearFrom, IfTold, SpellsIn, block_key, dict_columns, PutsBlock, IsParted}
 pub use Rattle.zeb_packed.specs.PrivatePackedRows.{IsFallingListOf, IsRestBefore, IsRestFrom, count_row}
-pub use Rattle.zeb_packed.specs.PrivateUnitCalls.{AllowsBlocks, TurnsBlocks, AllowsBlock, PutsRun, TurnsBlock}
+pub use Rattle.zeb_packed.specs.PrivateUnitCalls.{LacksNewBlocks, AllowsBlocks, TurnsBlocks, AllowsBlock, PutsRun, TurnsBlock}
 pub use Rattle.zeb_register.specs.PrivateUnits.{units_of}
-pub use Rattle.zeb_register.specs.UnitChanges.{IsTold, IsBlockIn, CountsOn, IsBlockCounted, IsStorableChange, KeyUnits, TurnsUnit, TurnsUnits, AllowsChanges, IsTouched, LacksBlock, LacksBlocks, PutsUnits, PutsAny, IsRefusedAs, IsBlockAmong, IsOwnBlock, KeepsBut, PutsCount, AreSame}
+pub use Rattle.zeb_register.specs.UnitChanges.{IsTold, IsBlockIn, CountsOn, IsBlockCounted, IsStorableChange, KeyUnits, TurnsUnit, TurnsUnits, AllowsChanges, IsTouched, LacksBlock, LacksBlocks, NumbersRise, PutsUnits, PutsAny, IsRefusedAs, IsBlockAmong, IsOwnBlock, KeepsBut, PutsCount, AreSame}
 pub use Rattle.zeb_packed.specs.declared.packed_changes.Known.{Known}
 pub use Rattle.zeb_register.proofs.Answered.{refused_so, told_or}
 pub use Rattle.zeb_register.proofs.BlockUnits.{held_block, held_units, malformed_block, none_rises, one_block_read, one_reading, read_rises}

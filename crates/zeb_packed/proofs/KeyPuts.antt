@@ -1,9 +1,9 @@
 -- Rows of `blocks` and that of `dict`, written one after the other, as a change of the key's units.
-use Rattle.zeb_packed.proofs.Cited.{IsUtf8, packed_blocks, ◌≡◌, ◌≢◌, ◌∙◌, ◌≤◌, ◌/◌, ◌==◌, ℕ, zero, suc, ℤ, not, Result, Ok, Err, IfOk, List, [], ◌∷◌, refl, ap, subst, inl, inr, arith, AllByRecursion, State, Trees, Posting, Key, RegFault, Damaged, RecordChange, Alters, IsDictIn, Changes, IsStore, blocks_tree, dict_tree, Known, AllowsBlocks, TurnsBlocks, Answers, IfTold, IsClearFrom, BlockReads, CountsAs, AllowsChanges, IsBlockAmong, IsOwnBlock, IsRefusedAs, IsStorableChange, KeepsBut, KeyUnits, LacksBlocks, PutsAny, PutsCount, PutsUnits, TurnsUnits}
+use Rattle.zeb_packed.proofs.Cited.{IsUtf8, packed_blocks, ◌≡◌, ◌≢◌, ◌∙◌, ◌≤◌, ◌/◌, ◌==◌, ℕ, zero, suc, ℤ, not, Result, Ok, Err, IfOk, List, [], ◌∷◌, refl, ap, subst, inl, inr, arith, AllByRecursion, State, Trees, Posting, Key, RegFault, Damaged, RecordChange, Alters, IsDictIn, Changes, IsStore, blocks_tree, dict_tree, Known, AllowsBlocks, TurnsBlocks, Answers, IfTold, IsClearFrom, BlockReads, CountsAs, AllowsChanges, IsBlockAmong, IsOwnBlock, IsRefusedAs, IsStorableChange, KeepsBut, KeyUnits, LacksNewBlocks, NumbersRise, PutsAny, PutsCount, PutsUnits, TurnsUnits}
 use Rattle.zeb_packed.proofs.KeyCounts.{count_told}
 use Rattle.zeb_packed.proofs.PackedWrites.{has_as, told_as}
 use Rattle.zeb_register.proofs.BlockContents.{one_key_count}
-use Rattle.zeb_packed.proofs.UnitRuns.{lacks_far, lacks_fewer}
+use Rattle.zeb_packed.proofs.UnitRuns.{lacks_each, lacks_far, lacks_new}
 
 -- rows that allow the changes of a key allow those of its blocks
 pub blocks_allowed : (db : ℤ) (key : Key) (changes : List RecordChange) (known : Known) (trees : Trees) (were are : KeyUnits) → IsClearFrom known → CountsAs trees db key known.records → AllByRecursion IsStorableChange changes
@@ -19,8 +19,8 @@ blocks_allowed db key changes known trees were are clear counts stored allows = 
     same : were.records ≡ known.records
     same = one_key_count trees db key were.records known.records allows.count.is counts
 
-    by : (n : ℕ) → known.records ≡ n → LacksBlocks (λ block. known.clear_from ≤ block) db key changes trees
-    by zero none = lacks_fewer db key (λ block. Unit {0}) (λ block. known.clear_from ≤ block) changes trees (λ block is. tt) (allows.count.lacks (same ∙ none))
+    by : (n : ℕ) → known.records ≡ n → LacksNewBlocks (λ block. known.clear_from ≤ block) db key changes trees
+    by zero none = lacks_new db key (λ block. known.clear_from ≤ block) changes trees (allows.count.lacks (same ∙ none))
     by (suc n) some = lacks_far db key (λ block. known.clear_from ≤ block) known.clear_from changes trees (clear.some (omega (arith, some))) (λ block is. is) stored
 
 -- ---- tables of which one is written
@@ -32,7 +32,7 @@ reads_same old new db key block part same reads = record {
 }
 
 module _ (db : ℤ) (key : Key) (changes : List RecordChange) (known : Known) (after : ℕ) (s mid t : State) (counts : CountsAs s.now.trees db key known.records) (clear : IsClearFrom known)
-    (text : IsUtf8 key.term) (one : Changes blocks_tree (λ tree. TurnsBlocks db key changes (λ block. known.clear_from ≤ block) known.records after) s mid) (two : Changes dict_tree (IfTold (not (known.records == 0)) (IsDictIn db key) (PutsCount db key after)) mid t) where
+    (text : IsUtf8 key.term) (stored : AllByRecursion IsStorableChange changes) (rise : NumbersRise changes) (one : Changes blocks_tree (λ tree. TurnsBlocks db key changes (λ block. known.clear_from ≤ block) known.records after) s mid) (two : Changes dict_tree (IfTold (not (known.records == 0)) (IsDictIn db key) (PutsCount db key after)) mid t) where
   blocks_same : t.now.trees blocks_tree ≡ mid.now.trees blocks_tree
   blocks_same = two.others.1.1.1.1.0 (λ e. absurd (omega (arith, e)))
 
@@ -56,12 +56,13 @@ module _ (db : ℤ) (key : Key) (changes : List RecordChange) (known : Known) (a
   pub units_put : PutsUnits packed_blocks db key changes s.now.trees t.now.trees
   units_put = record {
     text = text;
+    stored = stored;
     were = record { places = one.rows.were; records = known.records };
     are = record { places = one.rows.are; records = after };
     allowed = record {
       count = record {
         is = counts;
-        lacks = λ none. lacks_fewer db key (λ block. known.clear_from ≤ block) (λ block. Unit {0}) changes s.now.trees (λ block always. omega (arith, clear.none none)) one.rows.lacks;
+        lacks = λ none block touch. lacks_each db key (λ b. known.clear_from ≤ b) changes s.now.trees rise one.rows.lacks block touch (omega (arith, clear.none none));
       };
       found = one.rows.found;
       turns = one.rows.turns;
@@ -79,11 +80,12 @@ module _ (db : ℤ) (key : Key) (changes : List RecordChange) (known : Known) (a
     );
   }
 
-pub key_answers : {A : Type 0} (db : ℤ) (key : Key) (changes : List RecordChange) (known : Known) (after : ℕ) (s mid t : State) (result : Result A RegFault) → CountsAs s.now.trees db key known.records → IsClearFrom known → IsUtf8 key.term
+pub key_answers : {A : Type 0} (db : ℤ) (key : Key) (changes : List RecordChange) (known : Known) (after : ℕ) (s mid t : State) (result : Result A RegFault) → CountsAs s.now.trees db key known.records → IsClearFrom known → IsUtf8 key.term → AllByRecursion IsStorableChange changes → NumbersRise changes
     → Changes blocks_tree (λ tree. TurnsBlocks db key changes (λ block. known.clear_from ≤ block) known.records after) s mid → IfOk result (λ done. Alters dict_tree (IfTold (not (known.records == 0)) (IsDictIn db key) (PutsCount db key after)) mid t)
     → result ≢ Err Damaged → Answers (IsRefusedAs packed_blocks db key changes s.now.trees) (λ done. IsStore t × PutsUnits packed_blocks db key changes s.now.trees t.now.trees) result
-key_answers db key changes known after s mid t (Ok done) counts clear text one two honest = let put = two.rows one.layout in (put.layout, units_put db key changes known after s mid t counts clear text one put)
-key_answers db key changes known after s mid t (Err fault) counts clear text one two honest = λ told. absurd (honest (ap Err told))
+key_answers db key changes known after s mid t (Ok done) counts clear text stored rise one two honest =
+    let put = two.rows one.layout in (put.layout, units_put db key changes known after s mid t counts clear text stored rise one put)
+key_answers db key changes known after s mid t (Err fault) counts clear text stored rise one two honest = (λ none. absurd (none stored), λ told. absurd (honest (ap Err told)))
 
 pub puts_any : (db : ℤ) (key : Key) (changes : List RecordChange) (old new : Trees) → changes ≢ [] → PutsUnits packed_blocks db key changes old new → PutsAny packed_blocks db key changes old new
 puts_any db key [] old new some puts = absurd (some refl)

@@ -1,5 +1,5 @@
 -- Rows of a key's blocks, written run by run, as its units.
-use Rattle.zeb_packed.proofs.Cited.{packed_blocks, ◌≡◌, ◌≢◌, ◌↔◌, ◌⊎◌, ◌∙◌, ◌/◌, ◌<◌, ◌≤◌, ◌^◌, ℕ, ℤ, pos, Result, List, [], ◌∷◌, ◌++◌, drop, refl, sym, ap, subst, inl, inr, arith, eqb_tells, AllByRecursion, Int, Blob, Row, column, State, Trees, Has, BlockSpells, LiesIn, spelled_from, start_of, Posting, Key, RegFault, Place, RecordChange, SpellsPart, block_row, key_row, blocks_tree, Alters, alters_so, inside_so, told_apart, Known, PutsBlock, AllowsBlock, AllowsBlocks, PutsRun, TurnsBlock, TurnsBlocks, units_of, BlockReads, IsOfBlock, ReadsAs, places_in, IsBlockAmong, IsBlockIn, IsOwnBlock, IsStorableChange, IsTouched, KeepsBut, KeyUnits, LacksBlock, LacksBlocks, TurnsUnits, one_reading}
+use Rattle.zeb_packed.proofs.Cited.{packed_blocks, ◌≡◌, ◌≢◌, ◌↔◌, ◌⊎◌, ◌∙◌, ◌/◌, ◌<◌, ◌≤◌, ◌^◌, ℕ, ℤ, pos, Result, List, [], ◌∷◌, ◌++◌, drop, refl, sym, ap, subst, inl, inr, arith, eqb_tells, AllByRecursion, Int, Blob, Row, column, State, Trees, Has, BlockSpells, LiesIn, spelled_from, start_of, Posting, Key, RegFault, Place, RecordChange, SpellsPart, block_row, key_row, blocks_tree, Alters, alters_so, inside_so, told_apart, Known, PutsBlock, AllowsBlock, AllowsBlocks, PutsRun, TurnsBlock, TurnsBlocks, units_of, BlockReads, IsOfBlock, ReadsAs, places_in, IsBlockAmong, IsBlockIn, IsOwnBlock, IsStorableChange, IsTouched, KeepsBut, KeyUnits, LacksBlock, LacksNewBlocks, NumbersRise, IsNonDecreasingBy-drop, TurnsUnits, one_reading}
 use Rattle.zeb_register.proofs.ContentTurns.{touched, turns_kept}
 use Rattle.zeb_register.proofs.PackedKeyLaws.{keeps_reads}
 use Rattle.zeb_packed.proofs.UnitTurns.{over, over_in, over_out, touched_either, touched_left, touched_right, turns_agree, turns_beside, turns_from, turns_over, turns_parted, turns_then}
@@ -62,15 +62,15 @@ module _ (db : ℤ) (key : Key) (block : ℕ) (list : List Posting) (old new : T
 
 -- ---- rows that are lacking
 
-pub lacks_fewer : (db : ℤ) (key : Key) (These Those : ℕ → Type 0) (changes : List RecordChange) (trees : Trees) → ((block : ℕ) → Those block → These block) → LacksBlocks These db key changes trees → LacksBlocks Those db key changes trees
+pub lacks_fewer : (db : ℤ) (key : Key) (These Those : ℕ → Type 0) (changes : List RecordChange) (trees : Trees) → ((block : ℕ) → Those block → These block) → LacksNewBlocks These db key changes trees → LacksNewBlocks Those db key changes trees
 lacks_fewer db key These Those [] trees fewer lacks = tt
 lacks_fewer db key These Those (change ∷ changes) trees fewer lacks = (
   λ is. lacks.0 (fewer (change.sysno / 256) is),
   lacks_fewer db key (λ b. These b × (change.sysno / 256 < b)) (λ b. Those b × (change.sysno / 256 < b)) changes trees (λ b is. (fewer b is.0, is.1)) lacks.1,
 )
 
-lacks_so : (db : ℤ) (key : Key) (These : ℕ → Type 0) (changes : List RecordChange) (old new : Trees) → ((block : ℕ) → These block → LacksBlock db key block old → LacksBlock db key block new) → LacksBlocks These db key changes old
-    → LacksBlocks These db key changes new
+lacks_so : (db : ℤ) (key : Key) (These : ℕ → Type 0) (changes : List RecordChange) (old new : Trees) → ((block : ℕ) → These block → LacksBlock db key block old → LacksBlock db key block new) → LacksNewBlocks These db key changes old
+    → LacksNewBlocks These db key changes new
 lacks_so db key These [] old new so lacks = tt
 lacks_so db key These (change ∷ changes) old new so lacks = (
   λ is. so (change.sysno / 256) is (lacks.0 is),
@@ -83,7 +83,7 @@ module _ (db : ℤ) (key : Key) (block : ℕ) (rest : List RecordChange) (trees 
   Above These b = These b × (block < b)
 
   lacks_first : (These : ℕ → Type 0) (x : RecordChange) (run : List RecordChange) → x.sysno / 256 ≡ block → ((change : RecordChange) → Has run change → change.sysno / 256 ≡ block) → (These block → LacksBlock db key block trees)
-      → LacksBlocks (Above These) db key rest trees → LacksBlocks These db key (x ∷ run ++ rest) trees
+      → LacksNewBlocks (Above These) db key rest trees → LacksNewBlocks These db key (x ∷ run ++ rest) trees
   lacks_first These x [] at inside here later = (
     λ is. subst (λ b. LacksBlock db key b trees) (sym at) (here (subst These at is)),
     lacks_fewer db key (Above These) (λ b. These b × (x.sysno / 256 < b)) rest trees (λ b is. (is.0, subst (λ m. m < b) at is.1)) later,
@@ -95,12 +95,12 @@ module _ (db : ℤ) (key : Key) (block : ℕ) (rest : List RecordChange) (trees 
   )
 
   pub lacks_run : (These : ℕ → Type 0) (run : List RecordChange) → run ≢ [] → ((change : RecordChange) → Has run change → change.sysno / 256 ≡ block) → (These block → LacksBlock db key block trees)
-      → LacksBlocks (Above These) db key rest trees → LacksBlocks These db key (run ++ rest) trees
+      → LacksNewBlocks (Above These) db key rest trees → LacksNewBlocks These db key (run ++ rest) trees
   lacks_run These [] some inside here later = absurd (some refl)
   lacks_run These (x ∷ run) some inside here later = lacks_first These x run (inside x (inl refl)) (λ c h. inside c (inr h)) here later
 
-  lacking_first : (These : ℕ → Type 0) (x : RecordChange) (run : List RecordChange) → x.sysno / 256 ≡ block → ((change : RecordChange) → Has run change → change.sysno / 256 ≡ block) → LacksBlocks These db key (x ∷ run ++ rest) trees
-      → (These block → LacksBlock db key block trees) × LacksBlocks (Above These) db key rest trees
+  lacking_first : (These : ℕ → Type 0) (x : RecordChange) (run : List RecordChange) → x.sysno / 256 ≡ block → ((change : RecordChange) → Has run change → change.sysno / 256 ≡ block) → LacksNewBlocks These db key (x ∷ run ++ rest) trees
+      → (These block → LacksBlock db key block trees) × LacksNewBlocks (Above These) db key rest trees
   lacking_first These x [] at inside lacks = (
     λ is. subst (λ b. LacksBlock db key b trees) at (lacks.0 (subst These (sym at) is)),
     lacks_fewer db key (λ b. These b × (x.sysno / 256 < b)) (Above These) rest trees (λ b is. (is.0, subst (λ m. m < b) (sym at) is.1)) lacks.1,
@@ -111,13 +111,44 @@ module _ (db : ℤ) (key : Key) (block : ℕ) (rest : List RecordChange) (trees 
         lacks_fewer db key (Above (λ b. These b × (x.sysno / 256 < b))) (Above These) rest trees (λ b is. ((is.0, subst (λ m. m < b) (sym at) is.1), is.1)) later.1,
       )
 
-  pub lacking_run : (These : ℕ → Type 0) (run : List RecordChange) → run ≢ [] → ((change : RecordChange) → Has run change → change.sysno / 256 ≡ block) → LacksBlocks These db key (run ++ rest) trees
-      → (These block → LacksBlock db key block trees) × LacksBlocks (Above These) db key rest trees
+  pub lacking_run : (These : ℕ → Type 0) (run : List RecordChange) → run ≢ [] → ((change : RecordChange) → Has run change → change.sysno / 256 ≡ block) → LacksNewBlocks These db key (run ++ rest) trees
+      → (These block → LacksBlock db key block trees) × LacksNewBlocks (Above These) db key rest trees
   lacking_run These [] some inside lacks = absurd (some refl)
   lacking_run These (x ∷ run) some inside lacks = lacking_first These x run (inside x (inl refl)) (λ c h. inside c (inr h)) lacks
 
+-- ---- changes by rising numbers of records
+
+first_least : (x : RecordChange) (xs : List RecordChange) → NumbersRise (x ∷ xs) → (c : RecordChange) → Has xs c → x.sysno ≤ c.sysno
+first_least x [] rise c here = absurd here
+first_least x (y ∷ xs) rise c (inl same) = subst (λ (z : RecordChange). x.sysno ≤ z.sysno) (sym same) (rise 0 1 x (omega arith) (omega arith))
+first_least x (y ∷ xs) rise c (inr later) =
+    let next : x.sysno ≤ y.sysno = rise 0 1 x (omega arith) (omega arith) in
+    omega (arith, next, first_least y xs (IsNonDecreasingBy-drop (λ (z : RecordChange). z.sysno) 1 (x ∷ y ∷ xs) rise) c later)
+
+-- each block in which a change lies is above those of the changes before it, or one of them
+pub lacks_each : (db : ℤ) (key : Key) (These : ℕ → Type 0) (changes : List RecordChange) (trees : Trees) → NumbersRise changes → LacksNewBlocks These db key changes trees
+    → (block : ℕ) → IsTouched changes block → These block → LacksBlock db key block trees
+lacks_each db key These [] trees rise lacks block touch is = absurd touch.1
+lacks_each db key These (x ∷ xs) trees rise lacks block touch is = elim (eqb_tells (x.sysno / 256) block) [
+  | inl same ↦ subst (λ b. LacksBlock db key b trees) same.1 (lacks.0 (subst These (sym same.1) is))
+  | inr other ↦ elim touch.1 [
+    | inl first ↦ absurd (other.1 (ap (λ (y : RecordChange). y.sysno / 256) (sym first) ∙ touch.2))
+    | inr later ↦
+        let least = first_least x xs rise touch.0 later in
+        lacks_each db key (λ b. These b × (x.sysno / 256 < b)) xs trees (IsNonDecreasingBy-drop (λ (z : RecordChange). z.sysno) 1 (x ∷ xs) rise) lacks.1 block (touch.0, later, touch.2)
+        (is, omega (arith, least, touch.2, other.1))
+  ]
+]
+
+pub lacks_new : (db : ℤ) (key : Key) (These : ℕ → Type 0) (changes : List RecordChange) (trees : Trees) → ((block : ℕ) → IsTouched changes block → LacksBlock db key block trees) → LacksNewBlocks These db key changes trees
+lacks_new db key These [] trees none = tt
+lacks_new db key These (x ∷ xs) trees none = (
+  λ is. none (x.sysno / 256) (x, inl refl, refl),
+  lacks_new db key (λ b. These b × (x.sysno / 256 < b)) xs trees (λ b touch. none b (touch.0, inr touch.1, touch.2)),
+)
+
 -- where the key is known to have rows in any block, nothing is said
-pub lacks_far : (db : ℤ) (key : Key) (These : ℕ → Type 0) (limit : ℕ) (changes : List RecordChange) (trees : Trees) → 2 ^ 56 ≤ limit → ((block : ℕ) → These block → limit ≤ block) → AllByRecursion IsStorableChange changes → LacksBlocks These db key changes trees
+pub lacks_far : (db : ℤ) (key : Key) (These : ℕ → Type 0) (limit : ℕ) (changes : List RecordChange) (trees : Trees) → 2 ^ 56 ≤ limit → ((block : ℕ) → These block → limit ≤ block) → AllByRecursion IsStorableChange changes → LacksNewBlocks These db key changes trees
 lacks_far db key These limit [] trees high from stored = tt
 lacks_far db key These limit (change ∷ changes) trees high from stored = (
   λ is. absurd (omega (arith, high, from (change.sysno / 256) is, stored.0.sysno.1)),
@@ -194,7 +225,7 @@ module _ (db : ℤ) (key : Key) (block : ℕ) (run rest : List RecordChange) (in
       ];
     }
 
-    lacking : LacksBlocks These db key (run ++ rest) old
+    lacking : LacksNewBlocks These db key (run ++ rest) old
     lacking =
         lacks_run db key block rest old These run some inside lacks
         (lacks_so db key (λ b. These b × (block < b)) rest mid old (λ b is none. lacks_before db key block turned.next old mid turned.row b (λ same. omega (arith, is.1, same)) none) later.lacks)

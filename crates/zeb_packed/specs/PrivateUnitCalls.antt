@@ -1,6 +1,6 @@
 -- What only the contracts of private functions speak of; no public clause reaches it.
 -- Calls that put changes of one block into its row.
-use Rattle.std.specs.Prelude.{◌≡◌, ◌/◌, ℕ, ℤ, List, Result, Err}
+use Rattle.std.specs.Prelude.{◌≡◌, ◌/◌, ◌<◌, ℕ, ℤ, List, [], ◌∷◌, Result, Err}
 use Rattle.sqlite.specs.State.{State}
 use Rattle.zeb_keys.specs.declared.keys.Key.{Key}
 use Rattle.zeb_register.specs.declared.faults.RegFault.{RegFault}
@@ -20,7 +20,7 @@ use Rattle.zeb_packed.specs.PrivatePackedChanges.{PutsBlock}
 use Rattle.zeb_register.specs.PackedUnits.{BlockReads, ReadsAs}
 use Rattle.zeb_register.specs.Formats.{packed_blocks}
 use Rattle.zeb_register.specs.PrivateUnits.{units_of}
-use Rattle.zeb_register.specs.UnitChanges.{IsBlockAmong, IsOwnBlock, IsRefusedAs, IsTouched, KeepsBut, KeyUnits, LacksBlock, LacksBlocks, PutsUnits, TurnsUnits}
+use Rattle.zeb_register.specs.UnitChanges.{IsBlockAmong, IsOwnBlock, IsRefusedAs, IsTouched, KeepsBut, KeyUnits, LacksBlock, PutsUnits, TurnsUnits}
 
 -- ---- units of one block
 
@@ -40,6 +40,13 @@ AllowsBlock db key block run records trees =
 
 -- ---- all blocks
 
+-- There is no row of a block in which a change lies, where it is one of these blocks and above those of all changes before it.
+abbrev pub LacksNewBlocks : (ℕ → Type 0) → ℤ → Key → List RecordChange → Trees → Type 0
+LacksNewBlocks These db key [] trees = Unit {0}
+LacksNewBlocks These db key (change ∷ changes) trees =
+    (These (change.sysno / 256) → LacksBlock db key (change.sysno / 256) trees)
+    × LacksNewBlocks (λ block. These block × (change.sysno / 256 < block)) db key changes trees
+
 -- the rows of `blocks`, where so many records have the key before and after, and the key is known to have no row of these blocks
 pub record TurnsBlocks (db : ℤ) (key : Key) (changes : List RecordChange) (These : ℕ → Type 0) (records after : ℕ) (old new : Trees) : Type 0 where
   pub were : ℕ → List Place
@@ -47,7 +54,7 @@ pub record TurnsBlocks (db : ℤ) (key : Key) (changes : List RecordChange) (The
   pub found : (sysno : ℕ) → IsTouched changes (sysno / 256) → ReadsAs old db key sysno (were sysno)
   pub put : (sysno : ℕ) → IsTouched changes (sysno / 256) → ReadsAs new db key sysno (are sysno)
   pub turns : TurnsUnits packed_blocks changes (record { places = were; records = records }) (record { places = are; records = after })
-  pub lacks : LacksBlocks These db key changes old
+  pub lacks : LacksNewBlocks These db key changes old
   pub rows : KeepsBut (IsBlockAmong db key changes) (IsOwnBlock db key changes) blocks_tree old new
 
 -- these rows allow the changes, where so many records have the key
@@ -56,7 +63,7 @@ pub record AllowsBlocks (db : ℤ) (key : Key) (changes : List RecordChange) (Th
   pub are : KeyUnits
   pub found : (sysno : ℕ) → IsTouched changes (sysno / 256) → ReadsAs trees db key sysno (were sysno)
   pub turns : TurnsUnits packed_blocks changes (record { places = were; records = records }) are
-  pub lacks : LacksBlocks These db key changes trees
+  pub lacks : LacksNewBlocks These db key changes trees
 
 -- a call inside a transaction puts the changes, with the row of `dict`
 abbrev pub ChangesUnits : {A : Type 0} → ℤ → Key → List RecordChange → (old new : State) → Result A RegFault → Type 0

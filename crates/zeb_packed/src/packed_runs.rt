@@ -11,7 +11,7 @@ ghost use Rattle.zeb_register.specs.PrivatePackedRows.{IsInBlock};
 ghost use Rattle.zeb_register.specs.Store.{blocks_tree};
 ghost use Rattle.zeb_register.specs.Tallies.{Works};
 ghost use Rattle.zeb_packed.specs.PrivateUnitCalls.{AllowsBlocks, ChangesUnits, IsHonestRun, PutsRun, TurnsBlocks};
-ghost use Rattle.zeb_register.specs.UnitChanges.{ChangesKey, IsStorableChange};
+ghost use Rattle.zeb_register.specs.UnitChanges.{ChangesKey, IsStorableChange, NumbersRise};
 
 use crate::packed::counted;
 use crate::packed_changes::{Known, block_begin, block_list, block_write, dict_write, key_known};
@@ -31,6 +31,7 @@ pub(crate) fn changes_made<S: Alter>(
     key: &Key,
     changes: &[RecordChange<'_>],
 ) -> Result<(), RegFault>
+    requires rising { NumbersRise changes.now }
     ensures same { tx.new.conn.ghost_name ≡ tx.old.conn.ghost_name }
     ensures call { Inside (state S.Store tx.old.conn.now) (state S.Store tx.new.conn.now) result
         (λ _. GoesOn) }
@@ -68,6 +69,7 @@ fn changes_put<S: Alter>(
     changes: &[RecordChange<'_>],
 ) -> Result<(), RegFault>
     requires stored { AllByRecursion IsStorableChange changes.now }
+    requires rising { NumbersRise changes.now }
     ensures same { tx.new.conn.ghost_name ≡ tx.old.conn.ghost_name }
     ensures call { Inside (state S.Store tx.old.conn.now) (state S.Store tx.new.conn.now) result
         (λ _. GoesOn) }

@@ -1,5 +1,7 @@
--- The words for why a path isn't read, and why a register's store fails (this program's own).
+-- The words for why a path isn't read, and why a register's store fails, and what the system says of each (this program's own).
 use Rattle.std.specs.Prelude.{ℕ, List, codes}
+use Rattle.std.specs.declared.io.ErrorKind.{ErrorKind}
+use Rattle.std.specs.declared.io.ErrorKind.TheVariants as system
 use Rattle.zeb_paths.specs.declared.causes.PathCause.{PathCause}
 use Rattle.zeb_paths.specs.declared.causes.PathCause.TheVariants as path
 use Rattle.zeb_paths.specs.declared.causes.StoreCause.{StoreCause}
@@ -27,3 +29,22 @@ store_cause_text store.Full = codes "disk full"
 store_cause_text store.Damaged = codes "damaged page"
 store_cause_text store.Failed = codes "the system failed a call"
 store_cause_text store.Memory = codes "out of memory"
+
+-- why a path isn't read, where the system says this
+abbrev pub path_cause_of : ErrorKind → PathCause
+path_cause_of system.NotFound = path.Absent
+path_cause_of system.NotADirectory = path.Absent
+path_cause_of system.PermissionDenied = path.Forbidden
+path_cause_of system.InvalidFilename = path.Name
+path_cause_of system.OutOfMemory = path.Memory
+path_cause_of _ = path.Failed
+
+-- why a store fails, where the system says this of its file, which is there
+abbrev pub store_cause_of : ErrorKind → StoreCause
+store_cause_of system.NotADirectory = store.NoFolder
+store_cause_of system.PermissionDenied = store.Forbidden
+store_cause_of system.ReadOnlyFilesystem = store.Forbidden
+store_cause_of system.StorageFull = store.Full
+store_cause_of system.QuotaExceeded = store.Full
+store_cause_of system.OutOfMemory = store.Memory
+store_cause_of _ = store.Failed

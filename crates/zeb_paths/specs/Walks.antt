@@ -1,6 +1,6 @@
 -- What a walk has left, and what it gives (this project's own).
-use Rattle.std.specs.Prelude.{◌≡◌, ◌++◌, ⊤, ℕ, Contains, List, Option, Some, None, Result, Ok, Err, String, map, reverse, string_bytes}
-use Rattle.std.specs.List.{AllByRecursion}
+use Rattle.std.specs.Prelude.{◌≡◌, ◌≢◌, ◌++◌, ◌-◌, ◌^◌, ⊤, ℕ, Contains, List, Option, Some, None, Result, Ok, Err, String, map, reverse, string_bytes}
+use Rattle.std.specs.List.{AllByRecursion, sum_by}
 use Rattle.std.specs.declared.alloc.Global.{Global}
 use Rattle.zeb_paths.specs.declared.walk.Step.{Step}
 use Rattle.zeb_paths.specs.declared.walk.WalkFault.{WalkFault}
@@ -36,3 +36,23 @@ abbrev pub GivesUnder : List (List ℕ) → Result (Option (String Global)) Walk
 GivesUnder named (Ok (Some given)) = IsUnder named (string_bytes given)
 GivesUnder named (Ok None) = ⊤
 GivesUnder named (Err why) = IsFaultUnder named why
+
+-- the paths tell no bytes of a file there
+abbrev pub IsUntold : (List ℕ → Option (List ℕ)) → List ℕ → Type 0
+IsUntold tells path = (bytes : List ℕ) → tells path ≢ Some bytes
+
+-- and so it is of the path that a walk can't go on at
+abbrev pub IsFaultUntold : (List ℕ → Option (List ℕ)) → WalkFault → Type 0
+IsFaultUntold tells (Unreadable path) = IsUntold tells (string_bytes path)
+IsFaultUntold tells Memory = ⊤
+
+-- A walk ends because it gets lighter with each path that it looks at: a folder weighs more than all that may stand in it, since no folder
+-- has 2^64 names.
+abbrev pub level_weight : ℕ → ℕ
+level_weight level = 18446744073709551616 ^ (33 - level)
+
+abbrev pub step_weight : Step → ℕ
+step_weight step = level_weight step.level
+
+abbrev pub walk_weight : List Step → ℕ
+walk_weight steps = sum_by step_weight steps

@@ -1,6 +1,12 @@
 //! Why a path isn't read, and why a register's store fails, as far as the system tells.
 
+ghost use Rattle.std.specs.Prelude.{◌≡◌};
+ghost use Rattle.std.specs.IoError.{error_kind};
+ghost use Rattle.zeb_paths.specs.Causes.{path_cause_of, store_cause_of};
+ghost use Rattle.zeb_paths.specs.declared.causes.PathCause.TheVariants.{Memory as Starved};
+
 use sqlite::{Error, ErrorCode};
+use std::alloc::{AllocError, AllocFailed};
 use std::{fmt, io};
 
 /// Why a path isn't read.
@@ -43,7 +49,25 @@ impl fmt::Display for PathCause {
     }
 }
 
+impl From<AllocError> for PathCause {
+    ghost from_gives = { λ _ cause. cause ≡ Starved };
+
+    fn from(_error: AllocError) -> PathCause {
+        PathCause::Memory
+    }
+}
+
+impl<T: Drop> From<AllocFailed<T>> for PathCause {
+    ghost from_gives = { λ _ cause. cause ≡ Starved };
+
+    fn from(_error: AllocFailed<T>) -> PathCause {
+        PathCause::Memory
+    }
+}
+
 impl From<io::Error> for PathCause {
+    ghost from_gives = { λ error cause. cause ≡ path_cause_of (error_kind error) };
+
     fn from(error: io::Error) -> PathCause {
         match error.kind() {
             io::ErrorKind::NotFound | io::ErrorKind::NotADirectory => PathCause::Absent,
@@ -119,8 +143,11 @@ impl From<Error> for StoreCause {
 }
 
 impl From<io::Error> for StoreCause {
+    ghost from_gives = { λ error cause. cause ≡ store_cause_of (error_kind error) };
+
     fn from(error: io::Error) -> StoreCause {
         match error.kind() {
+            io::ErrorKind::NotADirectory => StoreCause::NoFolder,
             io::ErrorKind::PermissionDenied | io::ErrorKind::ReadOnlyFilesystem => {
                 StoreCause::Forbidden
             }

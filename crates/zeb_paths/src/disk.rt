@@ -1,15 +1,18 @@
 //! The paths of the file system.
 
-ghost use Rattle.std.specs.Prelude.{◌≡◌, ⊤, None, true};
+ghost use Rattle.std.specs.Prelude.{◌≡◌, ◌↔◌, ⊤, Err, None, Ok, Some, IfErr, IfOk, true};
+ghost use Rattle.std.specs.Fs.{IsDir, IsFile, file_type};
+ghost use Rattle.std.specs.IoError.{error_kind};
 ghost use Rattle.std.specs.Io.{ReadsAtMost};
+ghost use Rattle.zeb_paths.specs.Causes.{path_cause_of};
 
 use crate::causes::{Closed, PathCause, StoreCause};
 use crate::looks::{may_have_store, why_unopened, why_unread};
-use crate::paths::{NamesFault, OpenFailed, PathKind, Paths};
+use crate::paths::{OpenFailed, PathKind, Paths};
 use crate::tally::Tally;
 use sqlite::{Connection, File, FileStore, Unknown};
 use std::alloc::Global;
-use std::fs;
+use std::fs::{self, Metadata};
 use std::io::{self, BufReader, Read};
 use zeb_marc::{ReadFailed, Source, passed_on};
 
@@ -22,15 +25,35 @@ pub struct Disk<'a> {
 
 impl<'a> Disk<'a> {
     /// The file system of this process.
-    pub fn new(rt: &'a HostRuntime) -> Disk<'a> {
+    pub fn new(rt: &'a HostRuntime) -> Disk<'a>
+        ensures { (result.rt ≡ rt.entry) × (result.tally ≡ None) }
+    {
         Disk { rt, tally: None }
     }
 
-    /// The same, where a tally counts the records that are read. It begins anew with each reader. Those of a change are all made
-    /// before the first is read, so it counts through all its files; those of an analysis one by one, so it counts each file's.
-    pub fn counted(rt: &'a HostRuntime, tally: &'a Tally<'a>) -> Disk<'a> {
+    /// The same, where a tally counts the records that are read. It begins anew where a reader is dropped. Those of a change are
+    /// dropped together, so it counts through all its files; those of an analysis one by one, so it counts each file's.
+    pub fn counted(rt: &'a HostRuntime, tally: &'a Tally<'a>) -> Disk<'a>
+        ensures { (result.rt ≡ rt.entry) × (result.tally ≡ Some tally.entry) }
+    {
         let tally = Some(tally);
         Disk { rt, tally }
+    }
+}
+
+/// What stands where these metadata are found, or why neither a file nor a folder is.
+fn kind_of(found: io::Result<Metadata>) -> Result<PathKind, PathCause>
+    ensures folder { IfOk found (λ metadata. IsDir (file_type metadata) ↔ (result ≡ Ok PathKind.Folder)) }
+    ensures file { IfOk found (λ metadata. IsFile (file_type metadata) ↔ (result ≡ Ok PathKind.File)) }
+    ensures fault { IfErr found (λ error. result ≡ Err (path_cause_of (error_kind error))) }
+{
+    let found = found?;
+    if found.is_dir() {
+        Ok(PathKind::Folder)
+    } else if found.is_file() {
+        Ok(PathKind::File)
+    } else {
+        Err(PathCause::Neither)
     }
 }
 
@@ -41,20 +64,19 @@ impl<'a> Paths for Disk<'a> {
 
     ghost tells = { λ _ _. None };
 
+    ghost stands = { λ _ _. None };
+
+    ghost lists = { λ _ _. None };
+
     ghost opens = { λ _ _ _. ⊤ };
 
     ghost lacks = { λ _ _. ⊤ };
 
-    fn kind(&self, path: &str) -> Option<PathKind> {
-        let found = fs::metadata(self.rt, path).ok()?;
-        if found.is_dir() {
-            Some(PathKind::Folder)
-        } else {
-            found.is_file().then_some(PathKind::File)
-        }
+    fn kind(&self, path: &str) -> Result<PathKind, PathCause> {
+        kind_of(fs::metadata(self.rt, path))
     }
 
-    fn names(&self, alloc: Global, path: &str) -> Result<Vec<String>, NamesFault> {
+    fn names(&self, alloc: Global, path: &str) -> Result<Vec<String>, PathCause> {
         let mut names = Vec::new(alloc);
         for entry in fs::read_dir(self.rt, path)? {
             names.push(String::from_str(alloc, entry?.file_name())?)?;
@@ -63,9 +85,6 @@ impl<'a> Paths for Disk<'a> {
     }
 
     fn reader(&self, path: String) -> FileReader<'a> {
-        if let Some(tally) = self.tally {
-            tally.begin();
-        }
         FileReader {
             rt: self.rt,
             tally: self.tally,

@@ -11,7 +11,7 @@ mod walk;
 
 pub use causes::{Closed, PathCause, StoreCause};
 pub use disk::{Disk, FileReader};
-pub use paths::{NamesFault, OpenFailed, PathKind, Paths};
+pub use paths::{OpenFailed, PathKind, Paths};
 pub use shelf::{Shelf, ShelfReader, Shelved};
 pub use tally::Tally;
 pub use walk::{Walk, WalkFault};

@@ -1,5 +1,9 @@
 //! Looks at what stands at a path once more, to tell why it wasn't read or opened. Between the two others may have changed it.
 
+ghost use Rattle.std.specs.Prelude.{◌≡◌, ◌↔◌, IsTrue};
+ghost use Rattle.std.specs.IoError.{error_kind};
+ghost use Rattle.std.specs.declared.io.ErrorKind.TheVariants as system;
+
 use crate::causes::{PathCause, StoreCause};
 use sqlite::{Error, ErrorCode};
 use std::fs::{self, Metadata, OpenOptions};
@@ -40,11 +44,14 @@ fn folder_of(path: &str) -> &str {
     }
 }
 
-fn is_missing(error: io::Error) -> bool {
+/// Whether the system says that nothing stands there, and no other thing.
+fn is_missing(error: io::Error) -> bool
+    ensures { IsTrue result ↔ (error_kind error ≡ system.NotFound) }
+{
     error.kind() == io::ErrorKind::NotFound
 }
 
-/// Whether a folder stands there.
+/// Whether it is known that a folder stands there.
 fn is_folder(rt: &HostRuntime, path: &str) -> bool {
     match fs::metadata(rt, path) {
         Ok(found) => found.is_dir(),
@@ -82,10 +89,11 @@ fn open_anew(rt: &HostRuntime, path: &str) -> Result<(), StoreCause> {
 
 /// Why no file can be made at a path where nothing stands.
 fn why_unmade(rt: &HostRuntime, path: &str) -> StoreCause {
-    if is_folder(rt, folder_of(path)) {
-        StoreCause::Forbidden
-    } else {
-        StoreCause::NoFolder
+    match fs::metadata(rt, folder_of(path)) {
+        Ok(found) if found.is_dir() => StoreCause::Forbidden,
+        Ok(_) => StoreCause::NoFolder,
+        Err(error) if is_missing(error) => StoreCause::NoFolder,
+        Err(error) => StoreCause::from(error),
     }
 }
 
@@ -99,7 +107,7 @@ fn use_file(rt: &HostRuntime, path: &str, found: Metadata) -> Result<(), StoreCa
     }
     open_to_write(rt, path)?;
     let journal = format!(in rt.alloc(); "{path}-journal").map_err(|_| StoreCause::Memory)?;
-    if fs::symlink_metadata(rt, journal.as_str()).is_ok() {
+    if is_there(rt, journal.as_str())? {
         return Err(StoreCause::Journal);
     }
     let log = format!(in rt.alloc(); "{path}-wal").map_err(|_| StoreCause::Memory)?;
@@ -107,6 +115,15 @@ fn use_file(rt: &HostRuntime, path: &str, found: Metadata) -> Result<(), StoreCa
         Err(error) if is_missing(error) => Err(StoreCause::Forbidden),
         Err(error) => Err(StoreCause::from(error)),
         Ok(()) => Ok(()),
+    }
+}
+
+/// Whether something stands at a path, a link too that leads nowhere.
+fn is_there(rt: &HostRuntime, path: &str) -> io::Result<bool> {
+    match fs::symlink_metadata(rt, path) {
+        Ok(_) => Ok(true),
+        Err(error) if is_missing(error) => Ok(false),
+        Err(error) => Err(error),
     }
 }
 

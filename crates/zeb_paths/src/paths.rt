@@ -1,13 +1,17 @@
 //! What a program asks of paths.
 
-ghost use Rattle.std.specs.Prelude.{◌≡◌, ℕ, List, Option, Some, false, string_bytes, IfOk};
+ghost use Rattle.std.specs.Prelude.{◌≡◌, ◌⊎◌, [], ℕ, Contains, List, Option, Some, Ok, Result, false, map, string_bytes};
+ghost use Rattle.std.specs.Prelude.{IfErr, IfOk, IfSome};
 ghost use Rattle.sqlite.specs.Held.{Held};
 ghost use Rattle.sqlite_trees.specs.View.{IsQuiet};
+ghost use Rattle.zeb_paths.specs.Told.{AreNames};
+ghost use Rattle.zeb_paths.specs.declared.causes.PathCause.{PathCause};
+ghost use Rattle.zeb_paths.specs.declared.causes.PathCause.TheVariants.{Memory as Starved};
+ghost use Rattle.zeb_paths.specs.declared.paths.PathKind.{PathKind};
 
 use crate::causes::{Closed, PathCause, StoreCause};
 use sqlite::{Alter, Connection};
-use std::alloc::{AllocError, AllocFailed, Global};
-use std::io;
+use std::alloc::Global;
 use zeb_marc::Source;
 
 /// What stands at a path.
@@ -15,35 +19,6 @@ use zeb_marc::Source;
 pub enum PathKind {
     File,
     Folder,
-}
-
-/// Why a folder's names aren't given.
-#[derive(Clone, Copy, Debug, PartialEq, Eq)]
-pub enum NamesFault {
-    /// The folder can't be read, or has a name that isn't UTF-8.
-    Unreadable,
-    Memory,
-}
-
-impl From<AllocError> for NamesFault {
-    fn from(_error: AllocError) -> NamesFault {
-        NamesFault::Memory
-    }
-}
-
-impl<T: Drop> From<AllocFailed<T>> for NamesFault {
-    fn from(_error: AllocFailed<T>) -> NamesFault {
-        NamesFault::Memory
-    }
-}
-
-impl From<io::Error> for NamesFault {
-    fn from(error: io::Error) -> NamesFault {
-        match error.kind() {
-            io::ErrorKind::OutOfMemory => NamesFault::Memory,
-            _ => NamesFault::Unreadable,
-        }
-    }
 }
 
 /// A store couldn't be opened.
@@ -64,19 +39,28 @@ pub trait Paths {
     /// The bytes of the file at a path, where the paths tell them.
     ghost tells: { Self → List ℕ → Option (List ℕ) };
 
+    /// What stands at a path, or why neither a file nor a folder is found there, where the paths tell it.
+    ghost stands: { Self → List ℕ → Option (Result PathKind PathCause) };
+
+    /// The names in the folder at a path, where the paths tell them: in any order, a name perhaps twice. One that is empty can't be given.
+    ghost lists: { Self → List ℕ → Option (List (List ℕ)) };
+
     /// Which connections the store at a path may be opened by.
     ghost opens: { Self → List ℕ → Held Self.Store → Type 0 };
 
     /// At which paths no store may stand, as far as is told.
     ghost lacks: { Self → List ℕ → Type 0 };
 
-    /// What stands at a path: `None` where nothing does, or neither a file nor a folder. Links are followed. Where the paths tell
-    /// the bytes of a file, it is a file.
-    fn kind(&self, path: &str) -> Option<PathKind>
-        ensures file { (bytes : List ℕ) → tells self.now path.now ≡ Some bytes → result ≡ Some PathKind.File };
+    /// What stands at a path, or why neither a file nor a folder is found there. Links are followed. Where the paths tell the bytes
+    /// of a file, it is a file.
+    fn kind(&self, path: &str) -> Result<PathKind, PathCause>
+        ensures file { (bytes : List ℕ) → tells self.now path.now ≡ Some bytes → result ≡ Ok PathKind.File }
+        ensures stands { IfSome (stands self.now path.now) (λ told. result ≡ told) };
 
-    /// The names in a folder, in any order.
-    fn names(&self, alloc: Global, path: &str) -> Result<Vec<String>, NamesFault>;
+    /// The names in a folder, in any order and each once, or why they aren't given: also where one of them isn't UTF-8.
+    fn names(&self, alloc: Global, path: &str) -> Result<Vec<String>, PathCause>
+        ensures given { IfOk result (λ names. IfSome (lists self.now path.now) (λ told. AreNames told (map string_bytes names.items))) }
+        ensures refused { IfErr result (λ cause. IfSome (lists self.now path.now) (λ told. (cause ≡ Starved) ⊎ Contains told [])) };
 
     /// The bytes of the file at a path. The file is opened at the first read and closed at its end; where it
     /// can't be opened, that read fails. Where the paths tell the bytes, no read fails.

@@ -1,11 +1,15 @@
 //! Paths in memory, for tests.
 
-ghost use Rattle.std.specs.Prelude.{◌≡◌, ◌||◌, Some};
-ghost use Rattle.std.specs.Option.{is_none, option_map};
-ghost use Rattle.zeb_paths.specs.Told.{first_at, told_at};
+ghost use Rattle.std.specs.Prelude.{◌≡◌, ◌⊎◌, ◌||◌, [], Some, IfErr, IfOk, map, string_bytes};
+ghost use Rattle.std.specs.List.{before_first, list_any};
+ghost use Rattle.std.specs.Option.{is_none, is_some, option_map};
+ghost use Rattle.std.specs.Str.{bytes_eq};
+ghost use Rattle.zeb_paths.specs.PrivateNames.{Adds, AddsAny};
+ghost use Rattle.zeb_paths.specs.Told.{below, first_at, is_slash, name_below, names_in, stands_at, told_at};
+ghost use Rattle.zeb_paths.specs.declared.causes.PathCause.TheVariants.{Memory as Starved};
 
 use crate::causes::{Closed, PathCause};
-use crate::paths::{NamesFault, OpenFailed, PathKind, Paths};
+use crate::paths::{OpenFailed, PathKind, Paths};
 use sqlite::{Alter, Connection};
 use std::alloc::{AllocError, Global};
 use zeb_marc::{ReadFailed, Slice, Source};
@@ -38,8 +42,27 @@ impl<'a, S: Alter + Drop> Shelf<'a, S> {
 
 impl<'a> Shelved<'a> {
     /// What stands behind a folder's path and a slash in this file's path.
-    fn below(&self, folder: &str) -> Option<&'a str> {
+    fn below(&self, folder: &str) -> Option<&'a str>
+        ensures { option_map (λ rest. rest.now) result ≡ below folder.now self.now.path.now }
+    {
         self.path.strip_prefix(folder)?.strip_prefix('/')
+    }
+
+    /// The name in a folder that this file's path goes through or ends in.
+    fn name_below(&self, folder: &str) -> Option<&'a str>
+        ensures { option_map (λ name. name.now) result ≡ name_below folder.now self.now.path.now }
+    {
+        self.below(folder).map(first_name)
+    }
+}
+
+/// What stands before the first slash.
+fn first_name(path: &str) -> &str
+    ensures { result.now ≡ before_first is_slash path.now }
+{
+    match path.split_once('/') {
+        Some((name, _)) => name,
+        None => path,
     }
 }
 
@@ -55,12 +78,49 @@ fn file_at<'a>(files: &'a [Shelved<'a>], path: &str) -> Option<&'a Shelved<'a>>
     None
 }
 
+/// Whether a file stands below a folder.
+fn has_below(files: &[Shelved<'_>], folder: &str) -> bool
+    ensures { result ≡ list_any (λ file. is_some (below folder.now file.path.now)) files.now }
+{
+    files.iter().any(|file| file.below(folder).is_some())
+}
+
+/// Whether a name is among these.
+fn is_known(names: &[String], name: &str) -> bool
+    ensures { result ≡ list_any (λ known. bytes_eq (string_bytes known) name.now) names.now }
+{
+    names.iter().any(|known| known.as_str() == name)
+}
+
 /// Adds a name, unless it is there.
-fn add_name(alloc: Global, names: &mut Vec<String>, name: &str) -> Result<(), AllocError> {
-    if !names.iter().any(|known| known.as_str() == name) {
+fn add_name(alloc: Global, names: &mut Vec<String>, name: &str) -> Result<(), AllocError>
+    ensures { IfOk result (λ _. Adds name.now (map string_bytes names.old.items) (map string_bytes names.new.items)) }
+{
+    if !is_known(names, name) {
         names.push(String::from_str(alloc, name)?)?;
     }
     Ok(())
+}
+
+/// Adds the name in a folder that a file's path has, where it has one.
+fn add_name_of(
+    alloc: Global,
+    names: &mut Vec<String>,
+    file: &Shelved<'_>,
+    folder: &str,
+) -> Result<(), PathCause>
+    ensures added { IfOk result (λ _. AddsAny (name_below folder.now file.now.path.now)
+        (map string_bytes names.old.items) (map string_bytes names.new.items)) }
+    ensures refused { IfErr result (λ cause. (cause ≡ Starved) ⊎ (name_below folder.now file.now.path.now ≡ Some [])) }
+{
+    match file.name_below(folder) {
+        Some(name) if name.is_empty() => Err(PathCause::Forbidden),
+        Some(name) => {
+            add_name(alloc, names, name)?;
+            Ok(())
+        }
+        None => Ok(()),
+    }
 }
 
 impl<'a, S: Alter + Drop> Paths for Shelf<'a, S> {
@@ -70,29 +130,28 @@ impl<'a, S: Alter + Drop> Paths for Shelf<'a, S> {
 
     ghost tells = { λ shelf path. told_at shelf.files.now path };
 
+    ghost stands = { λ shelf path. Some (stands_at shelf.files.now path) };
+
+    ghost lists = { λ shelf path. Some (names_in shelf.files.now path) };
+
     ghost opens = { λ shelf _ connection. shelf.store ≡ Some connection };
 
     ghost lacks = { λ _ _. ⊥ };
 
-    fn kind(&self, path: &str) -> Option<PathKind> {
+    fn kind(&self, path: &str) -> Result<PathKind, PathCause> {
         if file_at(self.files, path).is_some() {
-            return Some(PathKind::File);
+            Ok(PathKind::File)
+        } else if has_below(self.files, path) {
+            Ok(PathKind::Folder)
+        } else {
+            Err(PathCause::Absent)
         }
-        let is_folder = self.files.iter().any(|file| file.below(path).is_some());
-        is_folder.then_some(PathKind::Folder)
     }
 
-    fn names(&self, alloc: Global, path: &str) -> Result<Vec<String>, NamesFault> {
+    fn names(&self, alloc: Global, path: &str) -> Result<Vec<String>, PathCause> {
         let mut names = Vec::new(alloc);
         for file in self.files {
-            let Some(rest) = file.below(path) else {
-                continue;
-            };
-            let name = rest.split_once('/').map_or(rest, |(name, _)| name);
-            if name.is_empty() {
-                return Err(NamesFault::Unreadable);
-            }
-            add_name(alloc, &mut names, name)?;
+            add_name_of(alloc, &mut names, file, path)?;
         }
         Ok(names)
     }

@@ -1,5 +1,7 @@
 //! How many records have been read, for whoever waits at a terminal.
 
+ghost use Rattle.std.specs.Prelude.{◌≡◌};
+
 use std::cell::Cell;
 use std::io::{IsTerminal, Write};
 
@@ -20,17 +22,14 @@ pub struct Tally<'a> {
 
 impl<'a> Tally<'a> {
     /// A tally of no record yet. It counts and shows nothing where standard error is no terminal.
-    pub fn new(rt: &'a HostRuntime) -> Tally<'a> {
+    pub fn new(rt: &'a HostRuntime) -> Tally<'a>
+        ensures { result.rt ≡ rt.entry }
+    {
         Tally {
             rt,
             shows: rt.stderr().is_terminal(),
             count: Cell::new(0),
         }
-    }
-
-    /// Counts from 0 again.
-    pub fn begin(&self) {
-        self.count.set(0);
     }
 
     /// Counts the records that end in these bytes.
@@ -51,8 +50,8 @@ impl<'a> Tally<'a> {
         }
     }
 
-    /// Ends the line, where there is one, with the number as it is, so that what is written next has a line of its own. Then nothing is
-    /// counted.
+    /// Ends the line, where there is one, with the number as it is, so that what is written next has a line of its own. Then it counts
+    /// from 0 again.
     pub fn end(&self) {
         if self.count.get() >= STEP {
             self.show('\n');

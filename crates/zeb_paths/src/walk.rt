@@ -1,11 +1,13 @@
 //! The files at and below the paths that a user names.
 
-ghost use Rattle.std.specs.Prelude.{◌≡◌, ◌≤◌, ◌∷◌, [], ℕ, List, Some, None, Ok, IfErr, IfOk, map, string_bytes};
-ghost use Rattle.zeb_paths.specs.Walks.{AreUnder, GivesFile, GivesUnder, IsFaultUnder, IsUnder, paths_left};
+ghost use Rattle.std.specs.Prelude.{◌≡◌, ◌≤◌, ◌<◌, ◌+◌, ◌∷◌, [], ℕ, List, Some, None, Ok, IfErr, IfOk, IfSome, map, string_bytes};
+ghost use Rattle.zeb_paths.specs.Walks.{AreUnder, GivesFile, GivesUnder, IsFaultUnder, IsFaultUntold, IsUnder, paths_left};
+ghost use Rattle.zeb_paths.specs.Walks.{step_weight, walk_weight};
 ghost use Rattle.zeb_paths.specs.declared.walk.WalkFault.TheVariants.{Memory as Starved};
-ghost use Rattle.zeb_paths.specs.PrivateWalks.{Begins, SeesFile, SeesUnder};
+ghost use Rattle.zeb_paths.specs.PrivateWalks.{Begins, IsFaultAt, IsLighter, Sees, SeesUnder, fault_at};
 
-use crate::paths::{NamesFault, PathKind, Paths};
+use crate::causes::PathCause;
+use crate::paths::{PathKind, Paths};
 use std::alloc::{AllocError, AllocFailed, Global};
 
 /// The greatest level that is read: a folder that is named has level 1, and each folder in it the next.
@@ -18,6 +20,16 @@ pub enum WalkFault {
     /// stands below the 32nd level.
     Unreadable(String),
     Memory,
+}
+
+/// Why a walk can't go on at a path, for this cause: it is want of memory, or the path can't be read.
+fn unread(path: String, cause: PathCause) -> WalkFault
+    ensures { result ≡ fault_at path cause }
+{
+    match cause {
+        PathCause::Memory => WalkFault::Memory,
+        _ => WalkFault::Unreadable(path),
+    }
 }
 
 impl From<AllocError> for WalkFault {
@@ -84,7 +96,7 @@ impl<'a, P: Paths> Walk<'a, P> {
     }
 
     /// The path of the next file, or `None` behind the last. After a fault the walk is of no use. A file of which the paths
-    /// tell the bytes is given by its own path.
+    /// tell the bytes is given by its own path, and is never a path that can't be read.
     pub fn next_file(&mut self) -> Result<Option<String>, WalkFault>
         ensures paths { self.new.paths ≡ self.old.paths }
         ensures told { (path bytes : List ℕ) (rest : List (List ℕ)) → paths_left self.old.steps.items ≡ path ∷ rest
@@ -92,37 +104,39 @@ impl<'a, P: Paths> Walk<'a, P> {
         ensures ended { paths_left self.old.steps.items ≡ [] → result ≡ Ok None }
         ensures under { (named : List (List ℕ)) → AreUnder named (paths_left self.old.steps.items)
             → GivesUnder named result × AreUnder named (paths_left self.new.steps.items) }
+        ensures untold { IfErr result (IsFaultUntold (P.tells self.old.paths.now)) }
+        // So a loop over a walk ends.
+        ensures lighter { IfOk result (λ found. IfSome found (λ _.
+            walk_weight self.new.steps.items < walk_weight self.old.steps.items)) }
     {
-        for _ in 0..u64::MAX {
+        loop {
             match self.look()? {
                 Seen::File(path) => return Ok(Some(path)),
                 Seen::End => return Ok(None),
                 Seen::Folder => {}
             }
         }
-        // So many folders without a file are none that could be held.
-        Err(WalkFault::Memory)
     }
 
     /// Looks at the next path.
     fn look(&mut self) -> Result<Seen, WalkFault>
         ensures paths { self.new.paths ≡ self.old.paths }
-        ensures told { (path bytes : List ℕ) (rest : List (List ℕ)) → paths_left self.old.steps.items ≡ path ∷ rest
-            → P.tells self.old.paths.now path ≡ Some bytes → SeesFile path result × (paths_left self.new.steps.items ≡ rest) }
-        ensures ended { paths_left self.old.steps.items ≡ [] → result ≡ Ok Seen.End }
+        ensures sees { Sees (P.tells self.old.paths.now) (paths_left self.old.steps.items) (paths_left self.new.steps.items) result }
         ensures under { (named : List (List ℕ)) → AreUnder named (paths_left self.old.steps.items)
             → SeesUnder named result × AreUnder named (paths_left self.new.steps.items) }
+        ensures lighter { IfOk result (IsLighter self.old.steps.items self.new.steps.items) }
     {
         let Some(step) = self.steps.pop() else {
             return Ok(Seen::End);
         };
         match self.paths.kind(step.path.as_str()) {
-            Some(PathKind::File) => Ok(Seen::File(step.path)),
-            Some(PathKind::Folder) if step.level <= GREATEST_LEVEL => {
+            Ok(PathKind::File) => Ok(Seen::File(step.path)),
+            Ok(PathKind::Folder) if step.level <= GREATEST_LEVEL => {
                 self.enter(step)?;
                 Ok(Seen::Folder)
             }
-            _ => Err(WalkFault::Unreadable(step.path)),
+            Ok(PathKind::Folder) => Err(WalkFault::Unreadable(step.path)),
+            Err(cause) => Err(unread(step.path, cause)),
         }
     }
 
@@ -133,14 +147,16 @@ impl<'a, P: Paths> Walk<'a, P> {
         ensures under { (named : List (List ℕ)) → IsUnder named (string_bytes folder.path)
             → AreUnder named (paths_left self.old.steps.items)
             → IfErr result (IsFaultUnder named) × AreUnder named (paths_left self.new.steps.items) }
+        ensures at { IfErr result (IsFaultAt folder.path) }
+        ensures lighter { IfOk result (λ _. walk_weight self.new.steps.items < walk_weight self.old.steps.items + step_weight folder) }
     {
         let mut names = match self.paths.names(self.alloc, folder.path.as_str()) {
             Ok(names) => names,
-            Err(NamesFault::Unreadable) => return Err(WalkFault::Unreadable(folder.path)),
-            Err(NamesFault::Memory) => return Err(WalkFault::Memory),
+            Err(cause) => return Err(unread(folder.path, cause)),
         };
         names.sort_unstable();
-        for name in names.iter().rev() {
+        // The first name is pushed last, so that it is the next.
+        while let Some(name) = names.pop() {
             self.steps.push(Step {
                 path: path_in(self.alloc, folder.path.as_str(), name.as_str())?,
                 level: folder.level + 1,

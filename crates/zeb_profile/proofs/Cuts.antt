@@ -1,5 +1,5 @@
 -- Where a text is cut at blanks.
-use Rattle.zeb_profile.proofs.Cited.{◌≡◌, ℕ, ◌+◌, ◌-◌, ◌<◌, ◌≤◌, List, [], ◌∷◌, length, take, drop, get_or, Bool, true, false, not, nat_lt, nat_eq, arith, refl, ap, sym, ◌∙◌, suc, subst, inl, inr, position_or_len, prefix_len, slice_split, filter, IsUtf8, IsCharBoundary, IsCharBoundary-start, IsCharBoundary-after_ascii, fails_before_first, passes_at_first, prefix_len-le-length, position_or_len_is, cases_eq, lt-ltb, cases_Bool, eqb-true, or_cases, not-false, not-true, is_blank, is_no_blank, without_leading_blanks, words_of}
+use Rattle.zeb_profile.proofs.Cited.{◌≡◌, ℕ, ◌+◌, ◌<◌, ◌≤◌, List, [], ◌∷◌, length, take, drop, get_or, Bool, true, false, not, nat_lt, nat_eq, arith, refl, ap, sym, ◌∙◌, suc, subst, inl, inr, position_or_len, prefix_len, slice_split, filter, IsUtf8, IsCharBoundary, passes_at_first, prefix_len-le-length, lt-ltb, cases_Bool, eqb-true, or_cases, not-true, is_blank, is_no_blank, without_leading_blanks, words_of}
 
 -- a blank is an ASCII byte
 pub blank_is_ascii : (byte : ℕ) → is_blank byte ≡ true → byte < 128
@@ -8,24 +8,6 @@ blank_is_ascii byte h =
       | inl e ↦ omega (arith, eqb-true byte 32 e)
       | inr e ↦ omega (arith, eqb-true byte 9 e)
     ]
-
--- a place behind an ASCII byte is a place where a text may be cut
-behind_ascii : (text : List ℕ) → IsUtf8 text → (n : ℕ) → n ≤ length text → (0 < n → get_or text (n - 1) 0 < 128) → IsCharBoundary text n
-behind_ascii text u n within ascii =
-    elim (cases_eq n 0) [
-      | inl e ↦ rw e (IsCharBoundary-start text u)
-      | inr ne ↦
-          let above : 0 < n = omega (arith, ne) in
-          let back : n ≡ (n - 1) + 1 = omega arith in
-          rw back (IsCharBoundary-after_ascii text (n - 1) u (omega arith) (ascii above))
-    ]
-
--- a text may be cut behind its leading blanks
-pub boundary_after_blanks : (text : List ℕ) → IsUtf8 text → IsCharBoundary text (position_or_len is_no_blank text)
-boundary_after_blanks text u =
-    let n : ℕ = position_or_len is_no_blank text in
-    behind_ascii text u n (prefix_len-le-length (λ b. not (is_no_blank b)) text)
-    (λ above. blank_is_ascii _ (not-false _ (fails_before_first is_no_blank text (n - 1) 0 (omega arith))))
 
 -- a text may be cut before a blank
 pub boundary_at_blank : (text : List ℕ) (n : ℕ) → n ≤ length text → (n < length text → is_blank (get_or text n 0) ≡ true) → IsCharBoundary text n
@@ -102,9 +84,6 @@ words_by-first p x xs h =
 pub words_of-first : (byte : ℕ) (others : List ℕ) → is_blank byte ≡ false
     → words_of (byte ∷ others) ≡ take (position_or_len is_blank (byte ∷ others)) (byte ∷ others) ∷ words_of (drop (position_or_len is_blank (byte ∷ others)) (byte ∷ others))
 words_of-first byte others h = words_by-first is_blank byte others h
-
-pub first_place_is : (p : ℕ → Bool) (xs : List ℕ) (i : ℕ) → i ≤ length xs → ((k : ℕ) → k < i → p (get_or xs k 0) ≡ false) → (i < length xs → p (get_or xs i 0) ≡ true) → i ≡ position_or_len p xs
-first_place_is p xs i within before at = sym (position_or_len_is p xs i 0 within before at)
 
 pub words_of-blank : (text start : List ℕ) → start ≡ without_leading_blanks text → length start ≡ 0 → words_of text ≡ []
 words_of-blank text [] e z = sym (words_of-without_leading_blanks text) ∙ ap words_of (sym e)

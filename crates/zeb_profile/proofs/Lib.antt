@@ -1,4 +1,5 @@
 pub mod Cuts
+pub mod Trims
 pub mod WordReads
 pub mod TellingLines
 pub mod CanonicalTexts

@@ -1,5 +1,5 @@
 -- The numbers of names, each at its key.
-use Rattle.zeb_profile.proofs.Cited.{◌≡◌, ℕ, ◌+◌, ◌<◌, List, [], ◌∷◌, ◌++◌, true, false, cond, String, Option, Some, None, length, drop, get_or, suc, zero, add-one, drop-cons, refl, sym, ◌∙◌, ap, subst, inl, inr, Bool, Bor, IsSome, arith, if◌then◌else◌, BTreeMap, get_by_text, AllByRecursion, All, list_any, position, position_from, position_or_len, is_some, option_copied, option_or, bytes_eq, string_cmp, cases_Bool, cases_lt, lt-ltb, le-ltb, position_from-zero, btree_map_updates_text, bytes_eq-Decides, Placed, Target, index_names, pair_of, NotesNumber, NumbersNames, has_number, name_key, all_targets, directives_in, targets_in, same_name}
+use Rattle.zeb_profile.proofs.Cited.{◌≡◌, ℕ, ◌+◌, ◌<◌, List, [], ◌∷◌, ◌++◌, true, false, cond, String, Option, Some, None, length, drop, get_or, suc, zero, add-one, drop-cons, refl, sym, ◌∙◌, ap, subst, inl, inr, Bool, arith, if◌then◌else◌, BTreeMap, get_by_text, AllByRecursion, All, list_any, position, position_from, position_or_len, is_some, option_or, bytes_eq, string_cmp, cases_Bool, cases_lt, lt-ltb, le-ltb, position_from-zero, btree_map_updates_text, bytes_eq-Decides, Placed, Target, index_names, pair_of, NotesNumber, NumbersNames, has_number, name_key, all_targets, directives_in, targets_in, same_name}
 use Rattle.std.specs.BTreeMap.{Updates}
 use Rattle.std.specs.String.{string_bytes}
 use Rattle.zeb_profile.proofs.KnownKeys.{bytes_eq-sym}
@@ -8,10 +8,6 @@ use Rattle.zeb_profile.proofs.TargetsOnce.{all_back, all_front, all_known}
 option_or-none : {X : Type 0} (a : Option X) → option_or a None ≡ a
 option_or-none None = refl
 option_or-none (Some x) = refl
-
-pub copied_some : (o : Option (Bor ℕ)) → is_some (option_copied o) ≡ true → IsSome o
-copied_some None h = absurd (cc)
-copied_some (Some x) h = refl
 
 known_first : {X : Type 0} (a b : Option X) → is_some a ≡ true → a ≡ option_or a b
 known_first None b h = absurd (cc)

@@ -179,7 +179,7 @@ or_true : (b : Bool) → (b || true) ≡ true
 or_true true = refl
 or_true false = refl
 
-any_distinct : (n : List ℕ) (names : List (List ℕ)) → list_any (same_name n) (distinct_names names) ≡ list_any (same_name n) names
+pub any_distinct : (n : List ℕ) (names : List (List ℕ)) → list_any (same_name n) (distinct_names names) ≡ list_any (same_name n) names
 any_distinct n [] = refl
 any_distinct n (m ∷ names) =
     elim (cases_Bool (same_name n m)) [
@@ -190,7 +190,7 @@ any_distinct n (m ∷ names) =
           rw e (any-filter_same (same_name n) (λ o. not (same_name m o)) true other (distinct_names names) ∙ any_distinct n names)
     ]
 
-any_spelled : (spell : List ℕ → List ℕ) → ((n : List ℕ) → same_name (spell n) n ≡ true) → (n : List ℕ) (names : List (List ℕ)) → list_any (same_name n) (map spell names) ≡ list_any (same_name n) names
+pub any_spelled : (spell : List ℕ → List ℕ) → ((n : List ℕ) → same_name (spell n) n ≡ true) → (n : List ℕ) (names : List (List ℕ)) → list_any (same_name n) (map spell names) ≡ list_any (same_name n) names
 any_spelled spell same n [] = refl
 any_spelled spell same n (m ∷ names) = rw (same_name-along (spell m) m n (same m)) (ap (λ rest. same_name n m || rest) (any_spelled spell same n names))
 

@@ -1,5 +1,5 @@
 -- What a word was read as, written and read again.
-use Rattle.zeb_profile.proofs.Cited.{◌≡◌, ℕ, ◌==◌, codes, subst, inl, inr, ◌<◌, ◌≤◌, ◌^◌, List, [], ◌∷◌, ◌++◌, length, Bool, true, ◌&&◌, ◌||◌, Some, None, Ok, arith, refl, ap, ◌∙◌, list_all, is_ascii_alphabetic, is_ascii_alphanumeric, is_ascii_digit, is_ascii_graphic, is_in_range, decimal, encode_utf8_all, digits_value, and_from, and_parts, cases_Bool, eqb-true, le-leb, leb-true, lt-ltb, ltb-true, or_cases, decimal_nonempty, digits_decimal, digits_value-decimal, length-decimal-le, All-weaker, AllPass-from_list_all, list_all-from_AllPass, encode_ascii, digits_value_short, UnitPattern, pattern_text, is_name, is_name_byte, is_tag, is_use_number, name_of, number_of, pattern_of}
+use Rattle.zeb_profile.proofs.Cited.{◌≡◌, ℕ, ◌==◌, codes, subst, inl, inr, ◌<◌, ◌≤◌, ◌^◌, List, [], ◌∷◌, ◌++◌, length, Bool, true, ◌&&◌, ◌||◌, Some, None, Ok, arith, refl, ap, ◌∙◌, list_all, is_ascii_alphabetic, is_ascii_alphanumeric, is_ascii_digit, is_ascii_graphic, is_in_range, decimal, encode_utf8_all, digits_value, and_from, and_parts, cases_Bool, eqb-true, le-leb, leb-true, lt-ltb, ltb-true, or_cases, decimal_nonempty, digits_decimal, digits_value-decimal, length-decimal-le, All-weaker, AllPass-from_list_all, list_all-from_AllPass, encode_ascii, digits_value_short, UnitPattern, pattern_text, is_name, is_name_byte, has_tag_bytes, is_use_number, name_of, number_of, pattern_of}
 use Rattle.zeb_profile.proofs.PlainWords.{IsPlain, graphic_range}
 use Rattle.zeb_profile.proofs.WordReads.{numerals}
 
@@ -45,7 +45,7 @@ pub all_weaker : (p q : ℕ → Bool) → ((b : ℕ) → p b ≡ true → q b �
 all_weaker p q weaker word h = list_all-from_AllPass q word (All-weaker (λ b. p b ≡ true) (λ b. q b ≡ true) weaker word (AllPass-from_list_all p word h))
 
 -- ---- PATTERN
-tag_graphic : (a b c : ℕ) → is_tag (a ∷ b ∷ c ∷ []) ≡ true → list_all is_ascii_graphic (a ∷ b ∷ c ∷ []) ≡ true
+tag_graphic : (a b c : ℕ) → has_tag_bytes (a ∷ b ∷ c ∷ []) ≡ true → list_all is_ascii_graphic (a ∷ b ∷ c ∷ []) ≡ true
 tag_graphic a b c h = all_weaker is_ascii_alphanumeric is_ascii_graphic alphanumeric_graphic (a ∷ b ∷ c ∷ []) h
 
 encoded : (b : ℕ) (rest : List ℕ) → is_ascii_graphic b ≡ true → encode_utf8_all (b ∷ rest) ≡ b ∷ encode_utf8_all rest
@@ -72,7 +72,7 @@ coded_graphic a b c sign code tag dollar coded =
 -- the patterns of a tag alone, and of a tag and a code
 back_alone : (a b c : ℕ) (pattern : UnitPattern) → pattern_of (a ∷ b ∷ c ∷ []) ≡ Ok pattern → (pattern_text pattern ≡ a ∷ b ∷ c ∷ []) × IsPlain (a ∷ b ∷ c ∷ [])
 back_alone a b c pattern h =
-    elim (cases_Bool (is_tag (a ∷ b ∷ c ∷ []))) [
+    elim (cases_Bool (has_tag_bytes (a ∷ b ∷ c ∷ []))) [
       | inl e ↦
           let graphic = tag_graphic a b c e in
           let is = rw e at h in
@@ -84,9 +84,9 @@ back_alone a b c pattern h =
 back_coded : (a b c sign code : ℕ) (pattern : UnitPattern) → pattern_of (a ∷ b ∷ c ∷ sign ∷ code ∷ []) ≡ Ok pattern
     → (pattern_text pattern ≡ a ∷ b ∷ c ∷ sign ∷ code ∷ []) × IsPlain (a ∷ b ∷ c ∷ sign ∷ code ∷ [])
 back_coded a b c sign code pattern h =
-    elim (cases_Bool (is_tag (a ∷ b ∷ c ∷ []) && ((sign == 36) && is_ascii_graphic code))) [
+    elim (cases_Bool (has_tag_bytes (a ∷ b ∷ c ∷ []) && ((sign == 36) && is_ascii_graphic code))) [
       | inl e ↦
-          let both = and_parts (is_tag (a ∷ b ∷ c ∷ [])) _ e in
+          let both = and_parts (has_tag_bytes (a ∷ b ∷ c ∷ [])) _ e in
           let behind = and_parts (sign == 36) _ both.1 in
           let dollar : sign ≡ 36 = eqb-true sign 36 behind.0 in
           let graphic = tag_graphic a b c both.0 in

@@ -1,7 +1,7 @@
 -- What only the contracts of private functions speak of; no public clause reaches it.
 -- The keys by which names and targets are looked up while a profile is read: a name in lower case, and a target as its
 -- register's letter with the key of its name behind it. And the numbers of names, each at its key.
-use Rattle.std.specs.Prelude.{◌≡◌, ℕ, Bool, false, not, ◌||◌, List, ◌++◌, Option, Some, None, option_map, unwrap_or, String, if◌then◌else◌}
+use Rattle.std.specs.Prelude.{◌≡◌, ℕ, Bool, false, not, List, ◌++◌, Option, Some, None, option_map, unwrap_or, String, if◌then◌else◌}
 use Rattle.std.specs.Borrow.{Bor}
 use Rattle.std.specs.BTreeMap.{BTreeMap, get_by_text}
 use Rattle.std.specs.BTreeSet.{BTreeSet, contains_text}
@@ -12,6 +12,7 @@ use Rattle.zeb_keys.specs.Registers.{register_text}
 use Rattle.zeb_profile.specs.declared.directives.Directive.{Directive}
 use Rattle.zeb_profile.specs.declared.directives.Directive.TheVariants.{Att}
 use Rattle.zeb_profile.specs.declared.directives.Target.{Target}
+use Rattle.zeb_profile.specs.Profiles.{ties_unknown}
 
 abbrev pub name_key : List ℕ → List ℕ
 name_key name = str_to_ascii_lowercase name
@@ -24,18 +25,14 @@ module _ {Y : Type 0} where
   abbrev pub HoldsKeys : BTreeSet (String Y) → List (List ℕ) → Type 0
   HoldsKeys set keys = (key : List ℕ) → contains_text set key ≡ list_any (bytes_eq key) keys
 
-  -- whether a key is in the set or that of one of these names
-  abbrev pub held_with : BTreeSet (String Y) → List (List ℕ) → List ℕ → Bool
-  held_with set names key = contains_text set key || list_any (λ name. bytes_eq key (name_key name)) names
-
-  -- the keys of these names are put into the set
-  abbrev pub AddsKeys : BTreeSet (String Y) → BTreeSet (String Y) → List (List ℕ) → Type 0
-  AddsKeys old new names = (key : List ℕ) → contains_text new key ≡ held_with old names key
-
   -- whether a directive ties a use attribute to a name whose key is not in the set
   abbrev pub ties_beside : BTreeSet (String Y) → Directive → Bool
   ties_beside set (Att number name) = not (contains_text set (name_key name))
   ties_beside set _ = false
+
+  -- the set has the keys of the names of these directives' indexes: a use attribute is tied to none of them just where its name's key is missing
+  abbrev pub HasIndexKeys : BTreeSet (String Y) → List Directive → Type 0
+  HasIndexKeys set directives = (directive : Directive) → ties_beside set directive ≡ ties_unknown directives directive
 
   -- the spelling that is noted at a key
   abbrev pub spelled_at : BTreeMap (String Y) (Bor (List ℕ)) → List ℕ → Option (List ℕ)

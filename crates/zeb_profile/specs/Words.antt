@@ -7,6 +7,7 @@ use Rattle.std.specs.List.{list_all, list_any, slice_split, before_first, after_
 use Rattle.std.specs.Char.{is_ascii_alphabetic, is_ascii_alphanumeric, is_ascii_digit, is_ascii_graphic}
 use Rattle.std.specs.Str.{bytes_eq, str_eq_ignore_ascii_case}
 use Rattle.std.specs.Str.Parse.{digits_value}
+use Rattle.zeb_marc.specs.Directory.{has_tag_bytes}
 use Rattle.zeb_profile.specs.declared.directives.Target.{Target}
 use Rattle.zeb_profile.specs.declared.faults.ProfileFaultKind.{ProfileFaultKind}
 use Rattle.zeb_profile.specs.declared.faults.ProfileFaultKind.TheVariants.{Directive as FaultyDirective, Name, Register as FaultyRegister, Pattern, DuplicateTarget}
@@ -17,20 +18,20 @@ use Rattle.zeb_profile.specs.Outcomes.{◌>>=◌}
 
 -- PATTERN: a tag of three ASCII letters or digits, or a tag, the dollar sign (36) and a code, which is a printable
 -- ASCII character but the space
-abbrev pub is_tag : List ℕ → Bool
-is_tag tag = list_all is_ascii_alphanumeric tag
-
 abbrev pub pattern_of : List ℕ → Result UnitPattern ProfileFaultKind
 pattern_of (a ∷ b ∷ c ∷ []) =
-    if is_tag (a ∷ b ∷ c ∷ []) then Ok (record { tag = a ∷ b ∷ c ∷ []; code = None }) else Err Pattern
+    if has_tag_bytes (a ∷ b ∷ c ∷ []) then Ok (record { tag = a ∷ b ∷ c ∷ []; code = None }) else Err Pattern
 pattern_of (a ∷ b ∷ c ∷ sign ∷ code ∷ []) =
-    if is_tag (a ∷ b ∷ c ∷ []) && ((sign == 36) && is_ascii_graphic code)
+    if has_tag_bytes (a ∷ b ∷ c ∷ []) && ((sign == 36) && is_ascii_graphic code)
     then Ok (record { tag = a ∷ b ∷ c ∷ []; code = Some code }) else Err Pattern
 pattern_of _ = Err Pattern
 
 -- NUMBER: one to nine ASCII digits that do not stand for 0
+abbrev pub most_digits : ℕ
+most_digits = 9
+
 abbrev pub is_use_number : List ℕ → Bool
-is_use_number word = ((list_all is_ascii_digit word && nat_lt 0 (length word)) && nat_le (length word) 9) && nat_lt 0 (digits_value 10 word)
+is_use_number word = ((list_all is_ascii_digit word && nat_lt 0 (length word)) && nat_le (length word) most_digits) && nat_lt 0 (digits_value 10 word)
 
 abbrev pub number_of : List ℕ → Result ℕ ProfileFaultKind
 number_of word = if is_use_number word then Ok (digits_value 10 word) else Err FaultyDirective

@@ -4,7 +4,7 @@ ghost use Rattle.std.specs.Prelude.{◌≡◌, ◌<◌, ◌^◌, ◌∷◌, [], 
 ghost use Rattle.std.specs.List.{position};
 ghost use Rattle.zeb_profile.specs.Indexes.{index_names as index_names_of, first_spelling as first_spelling_of, names_in};
 ghost use Rattle.zeb_profile.specs.PrivateIndexes.{numbered};
-ghost use Rattle.zeb_profile.specs.PrivateKeys.{HoldsKeys, NotesSpellings, name_key, spelled, spelled_at};
+ghost use Rattle.zeb_profile.specs.PrivateKeys.{HasIndexKeys, HoldsKeys, NotesSpellings, name_key, spelled, spelled_at};
 ghost use Rattle.zeb_profile.specs.Profiles.{directives_in};
 ghost use Rattle.zeb_profile.specs.Words.{same_name};
 
@@ -13,10 +13,18 @@ use crate::names::Name;
 use std::alloc::{AllocError, Global};
 use std::collections::{BTreeMap, BTreeSet};
 
-/// The names of the indexes by number. Names are looked up by their keys, so that the time grows little faster than the
-/// profile.
-pub(crate) fn index_names(alloc: Global, placed: &[Placed]) -> Result<Vec<Name>, AllocError>
-    ensures { IfOk result (λ names. names.items ≡ index_names_of (directives_in placed.now)) }
+/// The indexes of a profile: their names by number, and the keys of the names.
+#[derive(Drop)]
+pub(crate) struct Indexes {
+    pub names: Vec<Name>,
+    pub keys: BTreeSet<String>,
+}
+
+/// The indexes that lines have as targets. Names are looked up by their keys, so that the time grows little faster than the profile.
+pub(crate) fn index_names(alloc: Global, placed: &[Placed]) -> Result<Indexes, AllocError>
+    ensures names { IfOk result
+        (λ indexes. indexes.names.items ≡ index_names_of (directives_in placed.now)) }
+    ensures keys { IfOk result (λ indexes. HasIndexKeys indexes.keys (directives_in placed.now)) }
 {
     let spellings = first_spellings(alloc, placed)?;
     let mut keys: BTreeSet<String> = BTreeSet::new(alloc);
@@ -26,7 +34,7 @@ pub(crate) fn index_names(alloc: Global, placed: &[Placed]) -> Result<Vec<Name>,
             number_name(alloc, &mut names, &mut keys, &spellings, &target.name)?;
         }
     }
-    Ok(names)
+    Ok(Indexes { names, keys })
 }
 
 /// Gives a name the next number, unless its key is among the keys of the names that have one.

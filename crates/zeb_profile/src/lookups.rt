@@ -69,11 +69,12 @@ impl Profile {
         ensures { GivesPlaced (λ profile. profile) result (profile_of text.now) }
     {
         let placed = read_lines(alloc, text)?;
-        let names = index_names(alloc, &placed)?;
-        let settled = settle(alloc, &placed, names.len())?;
+        let indexes = index_names(alloc, &placed)?;
+        let settled = settle(alloc, &placed, indexes.names.len(), &indexes.keys)?;
         let identifier = settled.identifier;
         let store = String::from_str(alloc, settled.store)?;
         let text = canonical(alloc, &placed)?;
+        let names = indexes.names;
         let lines = resolve(alloc, placed, &names)?;
         Ok(Profile {
             lines,

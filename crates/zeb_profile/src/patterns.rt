@@ -27,7 +27,6 @@ impl UnitPattern {
     }
 
     /// Reads a pattern as a profile spells it, `245` or `245$a`; `Pattern` where the word is none.
-    #[tactic(auto, unfolding(zeb_marc::specs::Directory::has_tag_bytes))]
     pub(crate) fn read(word: &str) -> Result<UnitPattern, ProfileFaultKind>
         ensures { result ≡ pattern_of word.now }
     {

@@ -1,12 +1,11 @@
 //! Reading a profile line by line, and what its lines lack together.
 
-ghost use Rattle.std.specs.Prelude.{◌≡◌, ◌∷◌, [], length, map, IfOk, IfErr, OnOk, option_map};
+ghost use Rattle.std.specs.Prelude.{◌≡◌, length, map, IfOk, IfErr, option_map};
 ghost use Rattle.std.specs.List.{find};
 ghost use Rattle.std.specs.Str.Lines.{lines as lines_of};
-ghost use Rattle.zeb_profile.specs.declared.directives.Directive.{Directive as Told};
 ghost use Rattle.std.specs.Option.{option_copied};
 ghost use Rattle.zeb_profile.specs.Indexes.{identifier_pattern as identifier_in, index_names, store_path as path_in};
-ghost use Rattle.zeb_profile.specs.PrivateKeys.{AddsKeys, ties_beside};
+ghost use Rattle.zeb_profile.specs.PrivateKeys.{HasIndexKeys, ties_beside};
 ghost use Rattle.zeb_profile.specs.Lines.{says_something as tells};
 ghost use Rattle.zeb_profile.specs.Outcomes.{FailsPlaced, GivesPlaced};
 ghost use Rattle.zeb_profile.specs.PrivateOutcomes.{Gives};
@@ -14,9 +13,8 @@ ghost use Rattle.zeb_profile.specs.Profiles.{directives_in, placed_lines, ties_u
 ghost use Rattle.zeb_profile.specs.PrivateSettled.{Settles};
 ghost use Rattle.zeb_profile.specs.PrivateRepeats.{NotesAlso, directive_beside};
 
-use crate::directives::{Directive, Placed, Target};
+use crate::directives::{Directive, Placed};
 use crate::lines::trim;
-use crate::names::Name;
 use crate::repeats::Repeats;
 use crate::{ProfileFault, ProfileFaultKind, UnitPattern};
 use std::alloc::{AllocError, Global};
@@ -109,18 +107,20 @@ pub(crate) struct Settled<'a> {
 }
 
 /// What the lines of a profile settle together, or the fault of what they lack: the index of a use attribute, the
-/// identifier, the store, and room for their indexes, of which the caller has the number.
+/// identifier, the store, and room for their indexes, of which the caller has the number and the keys of the names.
 pub(crate) fn settle<'a>(
     alloc: Global,
     placed: &'a [Placed],
     index_count: usize,
+    keys: &BTreeSet<String>,
 ) -> Result<Settled<'a>, ProfileFault>
-    requires { index_count ≡ length (index_names (directives_in placed.now)) }
+    requires count { index_count ≡ length (index_names (directives_in placed.now)) }
+    requires keys { HasIndexKeys keys.now (directives_in placed.now) }
     ensures settled { IfOk result (λ settled. Settles placed.now settled) }
     ensures lacks { IfErr result
         (λ fault. FailsPlaced fault (unless (lack_of placed.now) placed.now)) }
 {
-    if let Some(line) = unknown_use(alloc, placed)? {
+    if let Some(line) = unknown_use(alloc, placed, keys)? {
         return Err(ProfileFault::at_line(line, ProfileFaultKind::UnknownIndex));
     }
     let Some(identifier) = identifier_pattern(placed) else {
@@ -138,15 +138,19 @@ pub(crate) fn settle<'a>(
     })
 }
 
-/// The first line that ties a use attribute to an index that no line has as a target. The targets' names are looked up
-/// by their keys, so that the time grows little faster than the profile.
-fn unknown_use(alloc: Global, placed: &[Placed]) -> Result<Option<u64>, AllocError>
+/// The first line that ties a use attribute to an index that no line has as a target. Names are looked up by their keys, so that the
+/// time grows little faster than the profile.
+fn unknown_use(
+    alloc: Global,
+    placed: &[Placed],
+    keys: &BTreeSet<String>,
+) -> Result<Option<u64>, AllocError>
+    requires { HasIndexKeys keys.now (directives_in placed.now) }
     ensures { IfOk result (λ found. found ≡ option_map (λ line. line.line)
         (find (λ line. ties_unknown_index (directives_in placed.now) line.directive) placed.now)) }
 {
-    let keys = target_keys(alloc, placed)?;
     for line in placed {
-        if ties_unknown(alloc, &keys, &line.directive)? {
+        if ties_unknown(alloc, keys, &line.directive)? {
             return Ok(Some(line.line));
         }
     }
@@ -167,35 +171,4 @@ fn ties_unknown(
         }
         _ => Ok(false),
     }
-}
-
-fn target_keys(alloc: Global, placed: &[Placed]) -> Result<BTreeSet<String>, AllocError>
-    ensures { IfOk result (λ keys. (directive : Told)
-        → ties_beside keys directive ≡ ties_unknown_index (directives_in placed.now) directive) }
-{
-    let mut keys: BTreeSet<String> = BTreeSet::new(alloc);
-    for line in placed {
-        add_target_keys(alloc, &mut keys, line.directive.targets())?;
-    }
-    Ok(keys)
-}
-
-fn add_target_keys(
-    alloc: Global,
-    keys: &mut BTreeSet<String>,
-    targets: &[Target],
-) -> Result<(), AllocError>
-    ensures { OnOk result (AddsKeys keys.old keys.new (map (λ target. target.name) targets.now)) }
-{
-    for target in targets {
-        add_key(alloc, keys, &target.name)?;
-    }
-    Ok(())
-}
-
-fn add_key(alloc: Global, keys: &mut BTreeSet<String>, name: &Name) -> Result<(), AllocError>
-    ensures { OnOk result (AddsKeys keys.old keys.new (name.now ∷ [])) }
-{
-    keys.insert(name.key(alloc)?)?;
-    Ok(())
 }

@@ -1,10 +1,11 @@
 //! The lines of a profile with their targets resolved: each index by its number.
 
 ghost use Rattle.std.specs.Prelude.{◌≡◌, ◌<◌, ◌^◌, List, ℕ, length, map, IfOk, OnOk, true, All};
+ghost use Rattle.std.specs.BTreeMap.{get_by_text};
 ghost use Rattle.std.specs.List.{list_any};
 ghost use Rattle.std.specs.Option.{option_copied};
 ghost use Rattle.zeb_profile.specs.Indexes.{index_names, pair_of as pair_in, same_pair, use_name as name_of_use};
-ghost use Rattle.zeb_profile.specs.PrivateKeys.{NotesNumber, NumbersNames, has_number};
+ghost use Rattle.zeb_profile.specs.PrivateKeys.{NotesNumber, NumbersNames, has_number, name_key};
 ghost use Rattle.zeb_profile.specs.PrivateResolved.{any_pair, directives_on, first_pairs, is_all, is_melm_for, line_value, resolved};
 ghost use Rattle.zeb_profile.specs.Profiles.{directives_in};
 
@@ -14,11 +15,14 @@ use std::alloc::{AllocError, Global};
 use std::collections::BTreeMap;
 use zeb_keys::Register;
 
-/// A directive, and the pairs of an index's number and a register that are its targets.
+/// A target: an index by its number, and a register.
+pub(crate) type Pair = (u32, Register);
+
+/// A directive, and the pairs that are its targets.
 #[derive(Debug, Drop)]
 pub struct Line {
     pub directive: Directive,
-    pub pairs: Vec<(u32, Register)>,
+    pub pairs: Vec<Pair>,
 }
 
 /// Each line with its targets resolved. An index is looked up by the key of its name, so that the time grows little
@@ -72,43 +76,38 @@ fn note_number(
     Ok(())
 }
 
+/// The pairs of a line's targets, each of whose names has a number.
 fn pairs_of(
     alloc: Global,
     numbers: &BTreeMap<String, u32>,
     targets: &[Target],
-) -> Result<Vec<(u32, Register)>, AllocError>
+) -> Result<Vec<Pair>, AllocError>
     requires { All (λ target. has_number numbers.now target.name ≡ true) targets.now }
     ensures { IfOk result (λ pairs. (names : List (List ℕ)) → NumbersNames numbers.now names
         → pairs.items ≡ map (pair_in names) targets.now) }
 {
-    let mut pairs: Vec<(u32, Register)> = Vec::new(alloc);
+    let mut pairs: Vec<Pair> = Vec::new(alloc);
     for target in targets {
-        pairs.push(pair_of(alloc, numbers, target)?)?;
+        if let Some(number) = number_of(alloc, numbers, &target.name)? {
+            pairs.push((number, target.register))?;
+        }
     }
     Ok(pairs)
 }
 
-fn pair_of(
+fn number_of(
     alloc: Global,
     numbers: &BTreeMap<String, u32>,
-    target: &Target,
-) -> Result<(u32, Register), AllocError>
-    requires { has_number numbers.now target.now.name ≡ true }
-    ensures { IfOk result
-        (λ pair. (names : List (List ℕ)) → NumbersNames numbers.now names
-        → pair ≡ pair_in names target.now) }
+    name: &Name,
+) -> Result<Option<u32>, AllocError>
+    ensures { IfOk result (λ number. number ≡ get_by_text numbers.now (name_key name.now)) }
 {
-    let key = target.name.key(alloc)?;
-    let number = *numbers.get(key.as_str()).unwrap();
-    Ok((number, target.register))
+    let key = name.key(alloc)?;
+    Ok(numbers.get(key.as_str()).copied())
 }
 
 /// The targets of the first `melm` line that fits a unit.
-pub(crate) fn melm_pairs<'a>(
-    lines: &'a [Line],
-    tag: &[u8; 3],
-    code: Option<u8>,
-) -> &'a [(u32, Register)]
+pub(crate) fn melm_pairs<'a>(lines: &'a [Line], tag: &[u8; 3], code: Option<u8>) -> &'a [Pair]
     ensures { result.now ≡ first_pairs (is_melm_for tag.now code) lines.now }
 {
     for line in lines {
@@ -119,7 +118,7 @@ pub(crate) fn melm_pairs<'a>(
     &[]
 }
 
-pub(crate) fn all_pairs(lines: &[Line]) -> &[(u32, Register)]
+pub(crate) fn all_pairs(lines: &[Line]) -> &[Pair]
     ensures { result.now ≡ first_pairs is_all lines.now }
 {
     for line in lines {
@@ -150,7 +149,7 @@ pub(crate) fn has_pair(lines: &[Line], index: u32, register: Register) -> bool
         .any(|line| is_among(&line.pairs, index, register))
 }
 
-pub(crate) fn is_among(pairs: &[(u32, Register)], index: u32, register: Register) -> bool
+pub(crate) fn is_among(pairs: &[Pair], index: u32, register: Register) -> bool
     ensures { result ≡ list_any (same_pair (index, register)) pairs.now }
 {
     pairs

@@ -4,7 +4,7 @@ ghost use Rattle.std.specs.Prelude.{◌≡◌, ◌∷◌, [], IfSome, IfNone};
 ghost use Rattle.zeb_profile.specs.Indexes.{further_pairs};
 ghost use Rattle.zeb_profile.specs.PrivateResolved.{unit_pairs};
 
-use crate::resolved::{Line, all_pairs, is_among, melm_pairs};
+use crate::resolved::{Line, Pair, all_pairs, is_among, melm_pairs};
 use zeb_keys::Register;
 use zeb_marc::is_control_tag;
 
@@ -12,10 +12,10 @@ use zeb_marc::is_control_tag;
 #[derive(Drop)]
 pub struct Targets<'a> {
     /// Those of the `melm` line, and which of them are left.
-    first: &'a [(u32, Register)],
-    left: &'a [(u32, Register)],
+    first: &'a [Pair],
+    left: &'a [Pair],
     /// Those of the `all` line that are left.
-    all: &'a [(u32, Register)],
+    all: &'a [Pair],
 }
 
 impl<'a> Targets<'a> {
@@ -50,7 +50,7 @@ impl<'a> Iterator for Targets<'a> {
 
     ghost remaining = { item_count targets_left };
 
-    fn next(&mut self) -> Option<(u32, Register)> {
+    fn next(&mut self) -> Option<Pair> {
         match self.left.split_first() {
             Some((pair, others)) => {
                 self.left = others;
@@ -66,10 +66,7 @@ impl<'a> Iterator for Targets<'a> {
 }
 
 /// The first of all pairs that is not among the first ones, and the pairs behind it.
-fn next_further<'a>(
-    first: &[(u32, Register)],
-    all: &'a [(u32, Register)],
-) -> Option<((u32, Register), &'a [(u32, Register)])>
+fn next_further<'a>(first: &[Pair], all: &'a [Pair]) -> Option<(Pair, &'a [Pair])>
     ensures some { IfSome result (λ next.
         further_pairs first.now all.now ≡ next.0 ∷ further_pairs first.now next.1.now) }
     ensures none { IfNone result (further_pairs first.now all.now ≡ []) }

@@ -1,10 +1,14 @@
 -- How far the answers of a batch have come.
-use Rattle.std.proofs.Common.{◌≡◌, ◌<◌, ◌+◌, ℕ, List, [], ◌++◌, length, sym, ap, subst, ◌∙◌, append_assoc, arith}
-use Rattle.std.specs.Prelude.{Option, Some, None, max}
+use Rattle.std.proofs.Common.{◌≡◌, ◌<◌, ◌+◌, ℕ, List, [], ◌++◌, length, sym, ap, subst, ◌∙◌, append_assoc}
+use Rattle.std.specs.Prelude.{Option, Some, None}
 use Rattle.std.specs.Io.KnownBytes.{Appends}
 use Rattle.std.proofs.lemmas.List.{append-nil}
 use Rattle.zeb_program.specs.Lines.{first_line, after_first_line}
 use Rattle.zeb_program.specs.Answers.{EachLine, none, more, Writes}
+use Rattle.zeb_program.specs.declared.statuses.Status.{Status}
+use Rattle.zeb_program.specs.Statuses.{greater}
+use Rattle.zeb_program.specs.declared.statuses.Status.TheVariants.{Answered}
+use Rattle.zeb_program.proofs.StatusLemmas.{greater_least, greater_regroup}
 
 pub Appends-nil : (old : Option (List ℕ)) → Appends old old []
 Appends-nil None = tt
@@ -18,62 +22,53 @@ Appends-append (Some bs) (Some cs) (Some ds) xs ys h g = g ∙ ap (λ z. z ++ ys
 
 -- the answers so far, where `Answers` says of each line what is written: with those of lines of the rest they are the answers of as many
 -- lines of the whole
-pub record IsAnswered {X : Type 0} (Answers : ℕ → List ℕ → X → List ℕ → ℕ → X → Type 0) (old new : Option (List ℕ)) (before : ℕ) (text : List ℕ) (first : X) (n : ℕ) (rest : List ℕ) (greatest : ℕ) (held : X) : Type 0 where
+pub record IsAnswered {X : Type 0} (Answers : ℕ → List ℕ → X → List ℕ → Status → X → Type 0) (old new : Option (List ℕ)) (before : ℕ) (text : List ℕ) (first : X) (n : ℕ) (rest : List ℕ) (greatest : Status) (held : X) : Type 0 where
   pub bytes : List ℕ
   pub written : Appends old new bytes
-  pub whole : (later : List ℕ) (status : ℕ) (left : List ℕ) (last : X) → EachLine Answers n rest held later status left last
-      → EachLine Answers before text first (bytes ++ later) (max greatest status) left last
+  pub whole : (later : List ℕ) (status : Status) (left : List ℕ) (last : X) → EachLine Answers n rest held later status left last
+      → EachLine Answers before text first (bytes ++ later) (greater greatest status) left last
 
-module _ {X : Type 0} (Answers : ℕ → List ℕ → X → List ℕ → ℕ → X → Type 0) where
-  pub answered_start : (old : Option (List ℕ)) (n : ℕ) (text : List ℕ) (first : X) → IsAnswered Answers old old n text first n text 0 first
+module _ {X : Type 0} (Answers : ℕ → List ℕ → X → List ℕ → Status → X → Type 0) where
+  pub answered_start : (old : Option (List ℕ)) (n : ℕ) (text : List ℕ) (first : X) → IsAnswered Answers old old n text first n text Answered first
   answered_start old n text first = record {
     bytes = [];
     written = Appends-nil old;
-    whole = λ later status left last h. subst (λ greatest. EachLine Answers n text first later greatest left last) (zero_max status) h;
+    whole = λ later status left last h. h;
   }
-    where
-      zero_max : (status : ℕ) → status ≡ max 0 status
-      zero_max status = omega arith
 
-  answered_next : (old mid new : Option (List ℕ)) (before : ℕ) (text : List ℕ) (first : X) (n : ℕ) (rest : List ℕ) (greatest status : ℕ) (held then : X) → 0 < length rest
+  answered_next : (old mid new : Option (List ℕ)) (before : ℕ) (text : List ℕ) (first : X) (n : ℕ) (rest : List ℕ) (greatest status : Status) (held then : X) → 0 < length rest
       → IsAnswered Answers old mid before text first n rest greatest held
       → Writes mid new (λ bytes. Answers (n + 1) (first_line rest) held bytes status then)
-      → IsAnswered Answers old new before text first (n + 1) (after_first_line rest) (max greatest status) then
+      → IsAnswered Answers old new before text first (n + 1) (after_first_line rest) (greater greatest status) then
   answered_next old mid new before text first n rest greatest status held then some h (here, answer, grew) = record {
     bytes = h.bytes ++ here;
     written = Appends-append old mid new h.bytes here h.written grew;
     whole = λ later top left last g.
-        let all : EachLine Answers before text first (h.bytes ++ (here ++ later)) (max greatest (max status top)) left last = h.whole (here ++ later) (max status top) left last (more some answer g) in
-        let split : EachLine Answers before text first ((h.bytes ++ here) ++ later) (max greatest (max status top)) left last =
-        subst (λ xs. EachLine Answers before text first xs (max greatest (max status top)) left last) (sym (append_assoc h.bytes here later)) all in
-        subst (λ m. EachLine Answers before text first ((h.bytes ++ here) ++ later) m left last) (max_regroup greatest status top) split;
+        let all : EachLine Answers before text first (h.bytes ++ (here ++ later)) (greater greatest (greater status top)) left last = h.whole (here ++ later) (greater status top) left last (more some answer g) in
+        let split : EachLine Answers before text first ((h.bytes ++ here) ++ later) (greater greatest (greater status top)) left last =
+        subst (λ xs. EachLine Answers before text first xs (greater greatest (greater status top)) left last) (sym (append_assoc h.bytes here later)) all in
+        subst (λ m. EachLine Answers before text first ((h.bytes ++ here) ++ later) m left last) (greater_regroup greatest status top) split;
   }
-    where
-      max_regroup : (a b c : ℕ) → max a (max b c) ≡ max (max a b) c
-      max_regroup a b c = omega arith
 
   -- the lines so far, alone
-  pub answered_lines : (old new : Option (List ℕ)) (before : ℕ) (text : List ℕ) (first : X) (n : ℕ) (rest : List ℕ) (greatest : ℕ) (held : X)
+  pub answered_lines : (old new : Option (List ℕ)) (before : ℕ) (text : List ℕ) (first : X) (n : ℕ) (rest : List ℕ) (greatest : Status) (held : X)
       → IsAnswered Answers old new before text first n rest greatest held
       → Writes old new (λ bytes. EachLine Answers before text first bytes greatest rest held)
   answered_lines old new before text first n rest greatest held h =
-      let all : EachLine Answers before text first (h.bytes ++ []) (max greatest 0) rest held = h.whole [] 0 rest held none in
-      let bare : EachLine Answers before text first h.bytes (max greatest 0) rest held = subst (λ xs. EachLine Answers before text first xs (max greatest 0) rest held) (append-nil h.bytes) all in
-      (h.bytes, subst (λ m. EachLine Answers before text first h.bytes m rest held) (max_zero greatest) bare, h.written)
-    where
-      max_zero : (a : ℕ) → max a 0 ≡ a
-      max_zero a = omega arith
+      let all : EachLine Answers before text first (h.bytes ++ []) (greater greatest Answered) rest held = h.whole [] Answered rest held none in
+      let bare : EachLine Answers before text first h.bytes (greater greatest Answered) rest held = subst (λ xs. EachLine Answers before text first xs (greater greatest Answered) rest held) (append-nil h.bytes) all in
+      (h.bytes, subst (λ m. EachLine Answers before text first h.bytes m rest held) (greater_least greatest) bare, h.written)
 
   -- the same where nothing is left
-  pub answered_all : (old new : Option (List ℕ)) (before : ℕ) (text : List ℕ) (first : X) (n : ℕ) (rest : List ℕ) (greatest : ℕ) (held : X) → rest ≡ []
+  pub answered_all : (old new : Option (List ℕ)) (before : ℕ) (text : List ℕ) (first : X) (n : ℕ) (rest : List ℕ) (greatest : Status) (held : X) → rest ≡ []
       → IsAnswered Answers old new before text first n rest greatest held
       → Writes old new (λ bytes. EachLine Answers before text first bytes greatest [] held)
   answered_all old new before text first n rest greatest held ended h =
       subst (λ left. Writes old new (λ bytes. EachLine Answers before text first bytes greatest left held)) ended (answered_lines old new before text first n rest greatest held h)
 
   -- a line more, where it and the rest are known by an equation
-  pub answered_line : (old mid new : Option (List ℕ)) (before : ℕ) (text : List ℕ) (first : X) (n : ℕ) (rest line after : List ℕ) (greatest status now : ℕ) (held then : X) → 0 < length rest
-      → line ≡ first_line rest → after ≡ after_first_line rest → now ≡ max greatest status
+  pub answered_line : (old mid new : Option (List ℕ)) (before : ℕ) (text : List ℕ) (first : X) (n : ℕ) (rest line after : List ℕ) (greatest status now : Status) (held then : X) → 0 < length rest
+      → line ≡ first_line rest → after ≡ after_first_line rest → now ≡ greater greatest status
       → IsAnswered Answers old mid before text first n rest greatest held
       → Writes mid new (λ bytes. Answers (n + 1) line held bytes status then)
       → IsAnswered Answers old new before text first (n + 1) after now then

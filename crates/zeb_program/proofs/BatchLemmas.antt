@@ -9,8 +9,11 @@ use Rattle.zeb_engine.specs.declared.commands.Command.TheVariants.{Init, Check, 
 use Rattle.zeb_change.specs.declared.settings.Kind.{Kind}
 use Rattle.zeb_change.specs.declared.settings.Kind.TheVariants.{Update, Delete, Adelete}
 use Rattle.zeb_program.specs.Batches.{Names, HasChange, HasFind, HasPage, HasScan, kind_word}
-use Rattle.zeb_program.specs.PrivateBatches.{IsChange, IsFind, IsPage, IsScan}
-use Rattle.zeb_program.specs.Words.{first_word, after_first_word}
+use Rattle.zeb_program.specs.PrivateBatches.{IsChange, IsFind, IsPage, IsScan, SaysChange}
+use Rattle.zeb_program.specs.Says.{IsRemark, SaysText}
+use Rattle.zeb_program.specs.declared.lines.Line.{Line}
+use Rattle.zeb_program.specs.declared.lines.Line.TheVariants.{Remark, Command as Order, Path, Mark, Bad}
+use Rattle.zeb_program.specs.Words.{first_word, after_first_word, without_blanks}
 
 -- two texts that begin otherwise differ
 apart : (xs ys : List ℕ) → get_or xs 0 0 ≢ get_or ys 0 0 → xs ≡ ys → ⊥
@@ -105,10 +108,31 @@ named : (k : Kind) (t : List ℕ) → first_word t ≡ kind_word k → (c : Comm
 named k t word (Change kind database files) (same, h) = (word ∙ ap kind_word (sym same), h)
 named k t word _ h = absurd h
 
-pub names_change : (k : Kind) (t rest : List ℕ) (r : Result (Option Command) AllocError) → first_word t ≡ kind_word k → rest ≡ after_first_word t
-    → IfOk r (λ found. MatchOption found (¬ HasChange rest) (IsChange k rest))
-    → IfOk r (λ found. MatchOption found ((c : Command) → ¬ Names t c) (Names t))
-names_change k t rest r word same h = named_by HasChange (IsChange k) t rest r same (unnamed k t word) (named k t word) h
+-- what is said of the rest of a line behind the word of a change, said of the line
+pub says_change : (k : Kind) (text t rest : List ℕ) (r : Result Line AllocError) → t ≡ without_blanks text → ¬ IsRemark (without_blanks text) → first_word t ≡ kind_word k → rest ≡ after_first_word t
+    → IfOk r (SaysChange k rest) → IfOk r (SaysText text)
+says_change k text t rest r whole other word same h =
+    says k text r other (ap first_word (sym whole) ∙ word) (subst (λ x. IfOk r (SaysChange k x)) (same ∙ ap after_first_word whole) h)
+  where
+    no_mark : (j : Kind) → kind_word j ≡ codes "mark" → ⊥
+    no_mark Update e = apart (codes "update") (codes "mark") (λ l. omega (arith, l)) e
+    no_mark Delete e = apart (codes "delete") (codes "mark") (λ l. omega (arith, l)) e
+    no_mark Adelete e = apart (codes "adelete") (codes "mark") (λ l. omega (arith, l)) e
+
+    says : (j : Kind) (s : List ℕ) (it : Result Line AllocError) → ¬ IsRemark (without_blanks s) → first_word (without_blanks s) ≡ kind_word j
+        → IfOk it (SaysChange j (after_first_word (without_blanks s))) → IfOk it (SaysText s)
+    says j s (Err e) unmarked first said = tt
+    says j s (Ok Remark) unmarked first said = absurd said
+    says j s (Ok (Order command)) unmarked first said = (unmarked, named j (without_blanks s) first command said)
+    says j s (Ok (Path change)) unmarked first said =
+        (unmarked, record { word = first ∙ ap kind_word (sym said.same); name = said.name; rest = said.rest; some = said.some; other = said.other })
+    says j s (Ok (Mark marked)) unmarked first said = absurd said
+    says j s (Ok Bad) unmarked first said = (
+      unmarked,
+      unnamed j (without_blanks s) first said.0,
+      λ path. said.1 record { name = path.name; some = path.some; other = path.other },
+      λ mark. no_mark j (sym first ∙ mark.0),
+    )
 
 -- ---- a find
 

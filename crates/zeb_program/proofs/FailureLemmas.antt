@@ -1,5 +1,5 @@
 -- The lines of a failure and of a register that wasn't closed, one below the other.
-use Rattle.std.proofs.Common.{◌≡◌, ℕ, List, [], ◌++◌, inl, inr, refl}
+use Rattle.std.proofs.Common.{ℕ, List, [], ◌++◌, inl, inr, refl}
 use Rattle.std.specs.Prelude.{Option}
 use Rattle.std.specs.Io.KnownBytes.{Appends}
 use Rattle.std.proofs.KnownBytes.{Appends-nil, Appends-trans}
@@ -7,8 +7,9 @@ use Rattle.zeb_program.specs.declared.failures.Cause.{Cause}
 use Rattle.zeb_program.specs.declared.faults.Fault.{Fault}
 use Rattle.zeb_program.specs.Answers.{Writes}
 use Rattle.zeb_program.specs.FaultLines.{IsCause, IsUnclosed, TellsFailure, TellsFault, cause_line, unclosed_line}
+use Rattle.zeb_program.specs.declared.statuses.Status.{Status}
 
-pub failure_lines : (old mid new : Option (List ℕ)) (why : Fault) (status : ℕ) → Writes old mid (λ line. TellsFault why line status) → Writes mid new IsCause
+pub failure_lines : (old mid new : Option (List ℕ)) (why : Fault) (status : Status) → Writes old mid (λ line. TellsFault why line status) → Writes mid new IsCause
     → Writes old new (λ bytes. TellsFailure why bytes status)
 failure_lines old mid new why status wrote more =
     (wrote.0 ++ more.0, (wrote.0, more.0, wrote.1, more.1, refl), Appends-trans old mid new wrote.0 more.0 wrote.2 more.2)

@@ -13,8 +13,11 @@ pub mod RunLemmas
 pub mod ScriptAnswerLemmas
 pub mod ScriptLemmas
 pub mod ServingLemmas
+pub mod SessionLemmas
 pub mod ShellLemmas
 pub mod ShellOverLemmas
+pub mod StatusLemmas
+pub mod StopLemmas
 pub mod TaskLemmas
 pub mod WarningLemmas
 pub mod WholeLineLemmas

@@ -1,11 +1,11 @@
 -- What is written for a command, a change by a path and a line is their answer on any tables.
-use Rattle.std.proofs.Common.{◌≡◌, ◌∙◌, ◌⊎◌, inl, inr, ℕ, Bool, false, List, [], ◌∷◌, ◌++◌, Vec, ap, length, map, refl, subst, sym}
+use Rattle.std.proofs.Common.{◌≡◌, ◌⊎◌, inl, inr, ℕ, Bool, false, List, [], ◌∷◌, ◌++◌, Vec, ap, map, refl, subst, sym}
 use Rattle.std.specs.Prelude.{Option, Some, Result, Ok, Err, IfOk, OnErr, String, string_bytes}
 use Rattle.std.specs.declared.alloc.AllocError.{AllocError}
 use Rattle.std.specs.declared.alloc.Global.{Global}
 use Rattle.std.specs.Io.KnownBytes.{Appends}
 use Rattle.sqlite.specs.Held.{Held, state}
-use Rattle.sqlite.specs.State.{State, HasCleanDisk}
+use Rattle.sqlite.specs.State.{State}
 use Rattle.sqlite.specs.Store.{Ghosts}
 use Rattle.zeb_profile.specs.declared.directives.Directive.{Directive}
 use Rattle.zeb_register.specs.Calls.{ChangesNothing}
@@ -25,7 +25,7 @@ use Rattle.zeb_engine.specs.Changing.{ChangesReady, LeavesWhole, LosesNamed}
 use Rattle.zeb_engine.specs.Answers.{answer_of}
 use Rattle.zeb_engine.specs.Does.{CommandOverTables}
 use Rattle.zeb_engine.specs.Readiness.{GoesByTexts}
-use Rattle.zeb_engine.specs.Refusals.{refusal_text, status_of}
+use Rattle.zeb_engine.specs.Refusals.{refusal_text}
 use Rattle.zeb_engine.specs.Replies.{reply_text}
 use Rattle.zeb_engine.specs.Steps.{TakesFiles}
 use Rattle.zeb_engine.specs.Transactions.{CommandedBy}
@@ -47,6 +47,9 @@ use Rattle.zeb_program.specs.PrivateFiles.{AreShort}
 use Rattle.zeb_program.specs.PrivateOverTables.{AnalysesOver, CommandOver, LineOver, PathOver, PathsLeave, PathsOver, SaysOver, ServesOver, TaskOver}
 use Rattle.zeb_program.specs.TaskAnswers.{AreTold}
 use Rattle.zeb_program.specs.Says.{Says}
+use Rattle.zeb_program.specs.declared.statuses.Status.{Status}
+use Rattle.zeb_program.specs.declared.statuses.Status.TheVariants.{Answered}
+use Rattle.zeb_program.specs.Statuses.{refusal_status}
 
 -- where nothing is done nothing changes
 pub still : (s : State) → ChangesNothing s s
@@ -55,9 +58,9 @@ still s = λ is_open. (is_open, refl, refl)
 -- ---- a command
 
 module _ (format : Format) (c : Conditions) (command : Command) (old new : State) (wrote writes : Option (List ℕ)) (failed : Bool) (Clean : Type 0) where
-  pub refused_over : (refusal : Refusal) (r : Result ℕ AllocError) → (Clean → ServesCommand c command old new (Err refusal))
+  pub refused_over : (refusal : Refusal) (r : Result Status AllocError) → (Clean → ServesCommand c command old new (Err refusal))
       → (Clean → CommandOverTables format c command old new (Err refusal))
-      → IfOk r (λ status. failed ≡ false → Writes wrote writes (λ bytes. (bytes ≡ refusal_text refusal ++ 10 ∷ []) × (status ≡ status_of refusal)))
+      → IfOk r (λ status. failed ≡ false → Writes wrote writes (λ bytes. (bytes ≡ refusal_text refusal ++ 10 ∷ []) × (status ≡ refusal_status refusal)))
       → IfOk r (λ status. failed ≡ false → Clean → Writes wrote writes (λ bytes. CommandOver format c command old bytes status new))
   refused_over refusal (Err e) serves over h = h
   refused_over refusal (Ok status) serves over h = λ sound clean.
@@ -66,7 +69,7 @@ module _ (format : Format) (c : Conditions) (command : Command) (old new : State
 
   pub replied_over : (reply : Reply) (bytes : List ℕ) → (Clean → ServesCommand c command old new (Ok reply)) → (Clean → CommandOverTables format c command old new (Ok reply))
       → bytes ≡ reply_text reply → (failed ≡ false → Appends wrote writes bytes)
-      → failed ≡ false → Clean → Writes wrote writes (λ given. CommandOver format c command old given 0 new)
+      → failed ≡ false → Clean → Writes wrote writes (λ given. CommandOver format c command old given Answered new)
   replied_over reply bytes serves over is grew sound clean = (bytes, (Ok reply, is, refl, (serves clean, over clean)), grew sound)
 
 -- ---- a change by paths
@@ -219,10 +222,10 @@ module _ (told : List ℕ → Option (List ℕ)) (format : Format) (c : Conditio
   pub replied_path : (reply : Reply) (bytes : List ℕ) → named ≡ change.path ∷ [] → (Clean → PathsOver told format c.profile change.kind c.limits (name_bytes change.database) (map string_bytes named) old (Ok reply))
       → (Clean → PathsLeave told c change.kind (name_bytes change.database) (map string_bytes named) old new (Ok reply))
       → bytes ≡ reply_text reply → (failed ≡ false → Appends wrote writes bytes)
-      → failed ≡ false → Clean → Writes wrote writes (λ given. PathOver told format c change old given 0 new)
+      → failed ≡ false → Clean → Writes wrote writes (λ given. PathOver told format c change old given Answered new)
   replied_path reply bytes one over leaves is grew sound clean = (bytes, (Ok reply, (is, refl), named_over (Ok reply) one (over clean), leaves_path (Ok reply) one (leaves clean)), grew sound)
 
-  pub refused_path : (why : Fault) (r : Result ℕ AllocError) → named ≡ change.path ∷ [] → (Clean → PathsOver told format c.profile change.kind c.limits (name_bytes change.database) (map string_bytes named) old (Err why))
+  pub refused_path : (why : Fault) (r : Result Status AllocError) → named ≡ change.path ∷ [] → (Clean → PathsOver told format c.profile change.kind c.limits (name_bytes change.database) (map string_bytes named) old (Err why))
       → (Clean → PathsLeave told c change.kind (name_bytes change.database) (map string_bytes named) old new (Err why))
       → IfOk r (λ status. failed ≡ false → Writes wrote writes (λ line. TellsFault why line status))
       → IfOk r (λ status. failed ≡ false → Clean → Writes wrote writes (λ bytes. PathOver told format c change old bytes status new))
@@ -235,7 +238,7 @@ module _ (told : List ℕ → Option (List ℕ)) (format : Format) (c : Conditio
 -- ---- a line
 
 -- what is said of a line that says this
-pub said_over : {S : Type 0} (g : Ghosts S) (told : List ℕ → Option (List ℕ)) (format : Format) (c : Conditions) (number : ℕ) (text : List ℕ) (line : Line) (old new : Held S) (wrote writes : Option (List ℕ)) (failed : Bool) (Clean : Type 0) (r : Result ℕ AllocError)
+pub said_over : {S : Type 0} (g : Ghosts S) (told : List ℕ → Option (List ℕ)) (format : Format) (c : Conditions) (number : ℕ) (text : List ℕ) (line : Line) (old new : Held S) (wrote writes : Option (List ℕ)) (failed : Bool) (Clean : Type 0) (r : Result Status AllocError)
     → Says text line
     → IfOk r (λ status. failed ≡ false → Clean → Writes wrote writes (λ bytes. SaysOver told format c number line (state g old) bytes status (state g new)))
     → IfOk r (λ status. failed ≡ false → Clean → Writes wrote writes (λ bytes. LineOver g told format c number text old bytes status new))

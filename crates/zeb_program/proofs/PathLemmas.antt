@@ -1,6 +1,6 @@
 -- Changes by a path of which the file's bytes are told.
-use Rattle.std.proofs.Common.{◌≡◌, ◌∙◌, ◌⊎◌, ◌≤◌, inl, inr, ℕ, zero, suc, Bool, false, List, [], ◌∷◌, ◌++◌, length, map, ap, arith, refl, subst, sym}
-use Rattle.std.specs.Prelude.{Option, Some, Result, Ok, Err, IfOk, string_bytes}
+use Rattle.std.proofs.Common.{◌≡◌, ◌∙◌, inl, ℕ, zero, suc, Bool, false, List, [], ◌∷◌, ap, refl, subst}
+use Rattle.std.specs.Prelude.{Option, Some, Result, Ok, Err, IfOk, codes, string_bytes}
 use Rattle.std.specs.declared.alloc.AllocError.{AllocError}
 use Rattle.std.specs.Io.KnownBytes.{Appends}
 use Rattle.std.specs.Str.{IsUtf8}
@@ -18,9 +18,11 @@ use Rattle.zeb_program.specs.FaultLines.{TellsFault}
 use Rattle.zeb_program.specs.Lines.{first_line, after_first_line}
 use Rattle.zeb_program.specs.PathChanges.{AreFilesTold, IsLineTold, HasPath, NamesPath}
 use Rattle.zeb_program.specs.Says.{SaysText}
-use Rattle.zeb_program.specs.Scripts.{after_lines}
+use Rattle.zeb_program.specs.Scripts.{BeginsRegister, after_lines}
 use Rattle.zeb_program.specs.PrivateServing.{AnswersFrom, Leads}
 use Rattle.zeb_program.specs.Words.{without_blanks}
+use Rattle.zeb_program.specs.declared.statuses.Status.{Status}
+use Rattle.zeb_program.specs.declared.statuses.Status.TheVariants.{Answered}
 
 -- ---- the lines of a text
 
@@ -34,6 +36,21 @@ told_first told text all = all 0
 pub told_rest : (told : List ℕ → Option (List ℕ)) (text : List ℕ) → AreFilesTold told text → AreFilesTold told (after_first_line text)
 told_rest told text all n = subst (λ rest. IsLineTold told (first_line rest)) (after_first n text) (all (suc n))
 
+-- which of them begin a register
+pub begins_rest : (text : List ℕ) → ¬ (without_blanks (first_line text) ≡ codes "init") → ¬ BeginsRegister (after_first_line text) → ¬ BeginsRegister text
+begins_rest text first rest (zero, is) = first is
+begins_rest text first rest (suc n, is) = rest (n, subst (λ r. without_blanks (first_line r) ≡ codes "init") (after_first n text) is)
+
+after_none : (n : ℕ) → after_lines n [] ≡ []
+after_none zero = refl
+after_none (suc n) = ap after_first_line (after_none n)
+
+pub begins_none : ¬ BeginsRegister []
+begins_none (n, is) = empty (subst (λ rest. without_blanks (first_line rest) ≡ codes "init") (after_none n) is)
+  where
+    empty : without_blanks (first_line []) ≡ codes "init" → ⊥
+    empty e = cc
+
 -- ---- what is written
 
 -- what is said of a file at a path that is told
@@ -45,13 +62,13 @@ pub replied_file : (told : List ℕ → Option (List ℕ)) (c : Conditions) (cha
     → (Clean → OfFile told change (λ file. AnswersFrom old new (Ok reply) (ChangesBy c change.kind (name_bytes change.database) (file ∷ []))))
     → bytes ≡ reply_text reply
     → (failed ≡ false → Appends wrote writes bytes)
-    → failed ≡ false → Clean → OfFile told change (λ file. Leads old new wrote writes (λ before bytes later. IsFileAnswer c change file before bytes 0 later))
+    → failed ≡ false → Clean → OfFile told change (λ file. Leads old new wrote writes (λ before bytes later. IsFileAnswer c change file before bytes Answered later))
 replied_file told c change old new wrote writes reply bytes failed Clean serves is grew sound clean file known before keeps =
     let served = serves clean file known before keeps in
     (served.0, served.2, (bytes, (Ok reply, is, refl, served.1), grew sound))
 
 -- a fault that is written is the change's refusal
-pub refused_file : (told : List ℕ → Option (List ℕ)) (c : Conditions) (change : PathChange) (old new : State) (wrote writes : Option (List ℕ)) (why : Fault) (failed : Bool) (Clean : Type 0) (r : Result ℕ AllocError)
+pub refused_file : (told : List ℕ → Option (List ℕ)) (c : Conditions) (change : PathChange) (old new : State) (wrote writes : Option (List ℕ)) (why : Fault) (failed : Bool) (Clean : Type 0) (r : Result Status AllocError)
     → (Clean → OfFile told change (λ file. AnswersFrom old new (Err why) (ChangesBy c change.kind (name_bytes change.database) (file ∷ []))))
     → IfOk r (λ status. failed ≡ false → Writes wrote writes (λ line. TellsFault why line status))
     → IfOk r (λ status. failed ≡ false → Clean → OfFile told change (λ file. Leads old new wrote writes (λ before bytes later. IsFileAnswer c change file before bytes status later)))
@@ -71,7 +88,7 @@ has_path : (text : List ℕ) (change : PathChange) → NamesPath text change →
 has_path text change named = record { kind = change.kind; word = named.word; name = named.name.0; some = named.some; other = named.other }
 
 -- what is said of a line that names a change by a path
-pub path_line : (told : List ℕ → Option (List ℕ)) (c : Conditions) (change : PathChange) (number : ℕ) (text : List ℕ) (old new : State) (wrote writes : Option (List ℕ)) (failed : Bool) (Clean : Type 0) (r : Result ℕ AllocError)
+pub path_line : (told : List ℕ → Option (List ℕ)) (c : Conditions) (change : PathChange) (number : ℕ) (text : List ℕ) (old new : State) (wrote writes : Option (List ℕ)) (failed : Bool) (Clean : Type 0) (r : Result Status AllocError)
     → IsUtf8 text → SaysText text (Path change)
     → IfOk r (λ status. failed ≡ false → Clean → OfFile told change (λ file. Leads old new wrote writes (λ before bytes later. IsFileAnswer c change file before bytes status later)))
     → IfOk r (λ status. failed ≡ false → Clean → IsLineTold told text → Leads old new wrote writes (λ before bytes later. AnswersLine told c number text before bytes status later))

@@ -1,11 +1,11 @@
 -- How far the files at some paths have come, of which readers or contents are made.
 use Rattle.std.proofs.Common.{◌≡◌, ◌≤◌, ◌∙◌, inl, inr, Bool, true, false, ℕ, List, [], ◌∷◌, ◌++◌, Vec, ap, append_assoc, arith, length, map, refl, subst, sym}
-use Rattle.std.specs.Prelude.{◌⊎◌, ◌||◌, Contains, IfErr, Option, Some, None, Result, Ok, Err, String, if◌then◌else◌, string_bytes, vec_len}
+use Rattle.std.specs.Prelude.{◌⊎◌, ◌||◌, Contains, IfErr, IfSome, Option, Some, None, Result, Ok, Err, String, if◌then◌else◌, string_bytes}
 use Rattle.std.specs.declared.alloc.Global.{Global}
 use Rattle.std.proofs.lemmas.List.{append-nil, map-append}
 use Rattle.std.proofs.lemmas.List.Elements.{Contains-append_right}
 use Rattle.zeb_change.specs.Reading.{NoneFailed, StayAble}
-use Rattle.zeb_program.specs.PrivateFiles.{AreShort, sure_bytes}
+use Rattle.zeb_program.specs.PrivateFiles.{AreShort, IsShort, ReadsContent, sure_bytes}
 use Rattle.zeb_paths.specs.Walks.{AreUnder, GivesFile, IsFaultUnder, IsUnder}
 use Rattle.zeb_paths.specs.declared.walk.WalkFault.{WalkFault}
 use Rattle.zeb_paths.specs.declared.walk.WalkFault.TheVariants as walk
@@ -117,9 +117,43 @@ short_behind [] one all short = (short, tt)
 short_behind (first ∷ contents) one all short = (all.0, short_behind contents one all.1 short)
 
 -- a short one is put behind the others
-pub more_short : (contents more : List (Vec ℕ Global)) (one : Vec ℕ Global) → AreShort (map (λ content. content.items) contents) → vec_len one ≤ 16777216 → more ≡ contents ++ one ∷ []
+pub more_short : (contents more : List (Vec ℕ Global)) (one : Vec ℕ Global) → AreShort (map (λ content. content.items) contents) → IsShort one.items → more ≡ contents ++ one ∷ []
     → AreShort (map (λ content. content.items) more)
-more_short contents more one all short grew = subst (λ all. AreShort (map (λ content. content.items) all)) (sym grew) (short_behind contents one all (omega (arith, short, one.ok.0)))
+more_short contents more one all short grew = subst (λ all. AreShort (map (λ content. content.items) all)) (sym grew) (short_behind contents one all short)
+
+-- one of files that are told is short where they all are
+short_next : (front : List (Option (List ℕ))) (file : List ℕ) (behind : List (Option (List ℕ))) (files : List (List ℕ)) → front ++ Some file ∷ behind ≡ map Some files → AreShort files → IsShort file
+short_next [] file behind [] e short = absurd cc
+short_next [] file behind (one ∷ files) e short = let same : one ≡ file = cc in subst IsShort same short.0
+short_next (one ∷ front) file behind [] e short = absurd cc
+short_next (one ∷ front) file behind (other ∷ files) e short = let rest : front ++ Some file ∷ behind ≡ map Some files = cc in short_next front file behind files rest short.1
+
+refused_content : (path : String Global) (file : List ℕ) (told : Option (List ℕ)) (files : List (List ℕ)) (why : Fault) → told ≡ Some file → (AreShort files → IsShort file)
+    → ReadsContent told path (Err why) → (why ≡ reason.Memory) ⊎ ¬ AreShort files
+refused_content path file told files (reason.Profile at fault) is within reads = absurd reads
+refused_content path file told files (reason.Unreadable at) is within reads =
+    let long : ¬ IsShort file = subst (λ given. IfSome given (λ bytes. ¬ IsShort bytes)) is reads.1 in
+    inr (λ short. long (within short))
+refused_content path file told files (reason.Refused refusal) is within reads = absurd reads
+refused_content path file told files reason.Memory is within reads = inl refl
+
+-- where the next of the files can't be read, one is too long
+pub met_refused : {R : Type 0} (bytes : R → Option (List ℕ)) (tells : List ℕ → Option (List ℕ)) (files : List (List ℕ)) (made : List R) (left later : List (List ℕ)) (given : String Global) (why : Fault)
+    → IsMet bytes tells files made left → GivesNext tells left later (Ok (Some given)) → Ends left (Ok (Some given)) → ReadsContent (tells (string_bytes given)) given (Err why)
+    → (why ≡ reason.Memory) ⊎ ¬ AreShort files
+met_refused bytes tells files made [] later given why met next ended reads = let same : Ok (Some given) ≡ Ok None = ended refl in absurd cc
+met_refused bytes tells files made (path ∷ rest) later given why met next ended reads =
+    let told = told_next (map bytes made) (tells path) (map tells rest) files met in
+    let gives = next path told.0 rest refl told.1 in
+    let whole : map bytes made ++ Some told.0 ∷ map tells rest ≡ map Some files = subst (λ one. map bytes made ++ one ∷ map tells rest ≡ map Some files) told.1 met in
+    refused_content given told.0 (tells (string_bytes given)) files why (ap tells gives.0 ∙ told.1) (short_next (map bytes made) told.0 (map tells rest) files whole) reads
+
+-- what can't be read whole is told by its path
+pub content_fault : (path : String Global) (told : Option (List ℕ)) (why : Fault) → ReadsContent told path (Err why) → ((why ≡ reason.Unreadable path) ⊎ (why ≡ reason.Memory)) × IsUnread why
+content_fault path told (reason.Profile at fault) reads = absurd reads
+content_fault path told (reason.Unreadable at) reads = (inl (ap reason.Unreadable reads.0), tt)
+content_fault path told (reason.Refused refusal) reads = absurd reads
+content_fault path told reason.Memory reads = (inr refl, tt)
 
 -- ---- paths that can't be read
 

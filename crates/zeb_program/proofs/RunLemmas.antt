@@ -1,6 +1,6 @@
 -- A batch is one run.
-use Rattle.std.proofs.Common.{◌≡◌, ◌∙◌, ◌<◌, ◌≤◌, ◌+◌, ◌^◌, inl, inr, ℕ, List, [], ◌∷◌, ◌++◌, length, map, ap, arith, refl, subst, sym, Vec}
-use Rattle.std.specs.Prelude.{Option, Result, max, string_bytes}
+use Rattle.std.proofs.Common.{◌≡◌, ◌<◌, ◌+◌, ◌^◌, inl, inr, ℕ, List, [], ◌∷◌, ◌++◌, length, map, ap, arith, refl, subst, sym, Vec}
+use Rattle.std.specs.Prelude.{Option, Result, string_bytes}
 use Rattle.zeb_change.specs.Conditions.{Conditions}
 use Rattle.zeb_change.specs.declared.refusals.Refusal.{Refusal}
 use Rattle.zeb_engine.specs.Answers.{Answer, answer_of}
@@ -10,13 +10,16 @@ use Rattle.zeb_engine.specs.declared.commands.Command.TheVariants.{Change}
 use Rattle.zeb_engine.specs.declared.replies.Reply.{Reply}
 use Rattle.zeb_image.specs.Holdings.{Holdings}
 use Rattle.zeb_image.specs.NameOf.{name_bytes}
-use Rattle.zeb_program.specs.Answers.{AnswersLine, AnswersLines, ChangesBy, IsAnswerTo, answer_status, answer_text, mark_line, none as no_lines, more}
+use Rattle.zeb_program.specs.Answers.{AnswersLine, AnswersLines, ChangesBy, IsAnswerTo, answer_status, answer_text, none as no_lines, more}
 use Rattle.zeb_program.specs.BatchRuns.{AreFilesShort, BatchIsOneRun, IsOneRun, TellsLines, MakesChange, NamesCommand, NamesFile, none, remark, mark, bad, command}
 use Rattle.zeb_program.specs.Lines.{first_line, after_first_line}
 use Rattle.zeb_program.specs.Says.{Says}
 use Rattle.zeb_program.specs.declared.lines.Line.{Line}
 use Rattle.zeb_program.specs.declared.lines.Line.TheVariants.{Remark, Command as Order, Path, Mark, Bad}
 use Rattle.zeb_program.specs.declared.path_changes.PathChange.{PathChange}
+use Rattle.zeb_program.specs.declared.statuses.Status.{Status}
+use Rattle.zeb_program.specs.declared.statuses.Status.TheVariants.{Answered}
+use Rattle.zeb_program.specs.Statuses.{greater}
 
 -- ---- a change by the bytes of a file, as a command
 
@@ -44,37 +47,37 @@ takes_change c change file _ makes before answer later h = absurd makes
 
 module _ (told : List ℕ → Option (List ℕ)) (c : Conditions) (short : AreFilesShort told) where
   -- a line is answered by a command of the run
-  run_command : (n : ℕ) (text : List ℕ) (order : Command) (answer : Result Reply Refusal) (before next last : Holdings) (here there : List ℕ) (status greatest : ℕ)
+  run_command : (n : ℕ) (text : List ℕ) (order : Command) (answer : Result Reply Refusal) (before next last : Holdings) (here there : List ℕ) (status greatest : Status)
       → 0 < length text → NamesCommand told (first_line text) order → here ≡ answer_text answer → status ≡ answer_status answer
       → TellsOrFails (Step c order) before (answer_of answer) next → IsOneRun told c (n + 1) (after_first_line text) next there greatest last
-      → IsOneRun told c n text before (here ++ there) (max status greatest) last
+      → IsOneRun told c n text before (here ++ there) (greater status greatest) last
   run_command n text order answer before next last here there status greatest some names is has step rest =
-      let written : TellsLines told n text (order ∷ rest.0) (answer ∷ rest.1) (answer_text answer ++ there) (max (answer_status answer) greatest) =
+      let written : TellsLines told n text (order ∷ rest.0) (answer ∷ rest.1) (answer_text answer ++ there) (greater (answer_status answer) greatest) =
       command order answer some names rest.2 in
       (order ∷ rest.0, answer ∷ rest.1, rw (is, has) written, (next, step, rest.3))
 
   -- a line adds nothing to the run
-  run_passed : (n : ℕ) (text : List ℕ) (before next last : Holdings) (bytes there : List ℕ) (status greatest : ℕ)
+  run_passed : (n : ℕ) (text : List ℕ) (before next last : Holdings) (bytes there : List ℕ) (status greatest : Status)
       → ((commands : List Command) (answers : List (Result Reply Refusal)) → TellsLines told (n + 1) (after_first_line text) commands answers there greatest
       → TellsLines told n text commands answers bytes status)
       → next ≡ before → IsOneRun told c (n + 1) (after_first_line text) next there greatest last → IsOneRun told c n text before bytes status last
   run_passed n text before next last bytes there status greatest passes same rest =
       (rest.0, rest.1, passes rest.0 rest.1 rest.2, subst (λ held. Run c held rest.0 (map answer_of rest.1) last) same rest.3)
 
-  run_file : (n : ℕ) (text : List ℕ) (change : PathChange) (file : List ℕ) (answer : Result Reply Refusal) (before next last : Holdings) (here there : List ℕ) (status greatest : ℕ)
+  run_file : (n : ℕ) (text : List ℕ) (change : PathChange) (file : List ℕ) (answer : Result Reply Refusal) (before next last : Holdings) (here there : List ℕ) (status greatest : Status)
       → 0 < length text → NamesFile told (first_line text) change file → here ≡ answer_text answer → status ≡ answer_status answer
       → ChangesBy c change.kind (name_bytes change.database) (file ∷ []) before answer next → IsOneRun told c (n + 1) (after_first_line text) next there greatest last
-      → IsOneRun told c n text before (here ++ there) (max status greatest) last
+      → IsOneRun told c n text before (here ++ there) (greater status greatest) last
   run_file n text change file answer before next last here there status greatest some names is has step rest =
       let order = change_by change file (short (string_bytes change.path) file names.1) in
       run_command n text order answer before next last here there status greatest some (inr (change, file, names, (refl, refl, refl))) is has step rest
 
-  run_line : (n : ℕ) (text : List ℕ) (line : Line) (before next last : Holdings) (here there : List ℕ) (status greatest : ℕ) → 0 < length text → Says (first_line text) line
+  run_line : (n : ℕ) (text : List ℕ) (line : Line) (before next last : Holdings) (here there : List ℕ) (status greatest : Status) → 0 < length text → Says (first_line text) line
       → IsAnswerTo told c (n + 1) line before here status next → IsOneRun told c (n + 1) (after_first_line text) next there greatest last
-      → IsOneRun told c n text before (here ++ there) (max status greatest) last
+      → IsOneRun told c n text before (here ++ there) (greater status greatest) last
   run_line n text Remark before next last here there status greatest some says answer rest =
-      let same : greatest ≡ max status greatest = omega (arith, answer.1) in
-      run_passed n text before next last (here ++ there) there (max status greatest) greatest
+      let same : greatest ≡ greater status greatest = ap (λ (s : Status). greater s greatest) (sym answer.1) in
+      run_passed n text before next last (here ++ there) there (greater status greatest) greatest
       (λ commands answers w. subst (λ s. TellsLines told n text commands answers (here ++ there) s) same (rw answer.0 (remark some says w))) answer.2 rest
   run_line n text (Order order) before next last here there status greatest some says answer rest =
       let step = subst (λ held. TellsOrFails (Step c order) before (answer_of answer.0) held) (sym answer.3.2) answer.3.1 in
@@ -82,23 +85,20 @@ module _ (told : List ℕ → Option (List ℕ)) (c : Conditions) (short : AreFi
   run_line n text (Path change) before next last here there status greatest some says answer rest =
       run_file n text change answer.0 answer.2.0 before next last here there status greatest some (says, answer.1) answer.2.1 answer.2.2 answer.2.3 rest
   run_line n text (Mark marked) before next last here there status greatest some says answer rest =
-      let same : greatest ≡ max status greatest = omega (arith, answer.1) in
-      run_passed n text before next last (here ++ there) there (max status greatest) greatest
+      let same : greatest ≡ greater status greatest = ap (λ (s : Status). greater s greatest) (sym answer.1) in
+      run_passed n text before next last (here ++ there) there (greater status greatest) greatest
       (λ commands answers w. subst (λ s. TellsLines told n text commands answers (here ++ there) s) same (rw answer.0 (mark marked some says w))) answer.2 rest
   run_line n text Bad before next last here there status greatest some says answer rest =
-      run_passed n text before next last (here ++ there) there (max status greatest) greatest
+      run_passed n text before next last (here ++ there) there (greater status greatest) greatest
       (λ commands answers w. rw (answer.0, answer.1) (bad some says w)) answer.2 rest
 
-  run_lines : (n : ℕ) (text : List ℕ) (before : Holdings) (bytes : List ℕ) (status : ℕ) (rest : List ℕ) (last : Holdings) → AnswersLines told c n text before bytes status rest last
+  run_lines : (n : ℕ) (text : List ℕ) (before : Holdings) (bytes : List ℕ) (status : Status) (rest : List ℕ) (last : Holdings) → AnswersLines told c n text before bytes status rest last
       → rest ≡ [] → IsOneRun told c n text before bytes status last
-  run_lines n text before bytes status rest last no_lines ended = ([], [], subst (λ t. TellsLines told n t [] [] [] 0) (sym ended) none, refl)
+  run_lines n text before bytes status rest last no_lines ended = ([], [], subst (λ t. TellsLines told n t [] [] [] Answered) (sym ended) none, refl)
   run_lines n text before bytes status rest last (more {here = here} {there = there} {status = top} {greatest = greatest} {next = next} some (line, says, answer) later) ended =
       run_line n text line before next last here there top greatest some says answer (run_lines (n + 1) (after_first_line text) next there greatest rest last later ended)
 
 -- ---- from a run to the answers of lines
-
-zero_max : (s : ℕ) → max 0 s ≡ s
-zero_max s = omega arith
 
 module _ (told : List ℕ → Option (List ℕ)) (c : Conditions) where
   answers_command : (number : ℕ) (line : List ℕ) (order : Command) (answer : Result Reply Refusal) (before next : Holdings) → NamesCommand told line order
@@ -107,15 +107,13 @@ module _ (told : List ℕ → Option (List ℕ)) (c : Conditions) where
   answers_command number line order answer before next (inr (change, file, names, makes)) step =
       (Path change, names.0, (file, names.1, (answer, refl, refl, takes_change c change file order makes before (answer_of answer) next step)))
 
-  answers_lines : (n : ℕ) (text : List ℕ) (commands : List Command) (answers : List (Result Reply Refusal)) (before : Holdings) (bytes : List ℕ) (status : ℕ) (last : Holdings)
+  answers_lines : (n : ℕ) (text : List ℕ) (commands : List Command) (answers : List (Result Reply Refusal)) (before : Holdings) (bytes : List ℕ) (status : Status) (last : Holdings)
       → TellsLines told n text commands answers bytes status → Run c before commands (map answer_of answers) last → AnswersLines told c n text before bytes status [] last
-  answers_lines n text commands answers before bytes status last none run = subst (λ held. AnswersLines told c n [] before [] 0 [] held) (sym run) no_lines
+  answers_lines n text commands answers before bytes status last none run = subst (λ held. AnswersLines told c n [] before [] Answered [] held) (sym run) no_lines
   answers_lines n text commands answers before bytes status last (remark some says w) run =
-      subst (λ s. AnswersLines told c n text before bytes s [] last) (zero_max status)
-      (more some (Remark, says, (refl, refl, refl)) (answers_lines (n + 1) (after_first_line text) commands answers before bytes status last w run))
+      more some (Remark, says, (refl, refl, refl)) (answers_lines (n + 1) (after_first_line text) commands answers before bytes status last w run)
   answers_lines n text commands answers before bytes status last (mark {bytes = there} marked some says w) run =
-      subst (λ s. AnswersLines told c n text before (mark_line (string_bytes marked) ++ there) s [] last) (zero_max status)
-      (more some (Mark marked, says, (refl, refl, refl)) (answers_lines (n + 1) (after_first_line text) commands answers before there status last w run))
+      more some (Mark marked, says, (refl, refl, refl)) (answers_lines (n + 1) (after_first_line text) commands answers before there status last w run)
   answers_lines n text commands answers before bytes status last (bad {bytes = there} {status = greatest} some says w) run =
       more some (Bad, says, (refl, refl, refl)) (answers_lines (n + 1) (after_first_line text) commands answers before there greatest last w run)
   answers_lines n text commands answers before bytes status last (command {commands = orders} {answers = others} {bytes = there} {status = greatest} order answer some names w) run =

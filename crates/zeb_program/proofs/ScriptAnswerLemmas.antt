@@ -1,5 +1,5 @@
 -- The answers of a script, at each of its ends.
-use Rattle.std.proofs.Common.{◌≡◌, ◌≤◌, ℕ, Bool, false, List, [], ◌∷◌, ◌++◌, ◌⊎◌, inl, inr, refl, sym, ap, subst, ◌∙◌, arith}
+use Rattle.std.proofs.Common.{◌≡◌, ◌≤◌, ℕ, Bool, false, List, [], ◌∷◌, ◌++◌, inl, inr, refl, sym, ap, subst, ◌∙◌, arith}
 use Rattle.std.specs.Prelude.{Option, Some, None, Result, Ok, Err, IfOk, IfNone, IfSome, IsOk, OnErr, codes, string_bytes, string_len}
 use Rattle.std.specs.declared.string.String.{String}
 use Rattle.std.proofs.lemmas.Str.{IsUtf8-string_bytes}
@@ -12,7 +12,7 @@ use Rattle.zeb_change.specs.declared.settings.Limits.{Limits}
 use Rattle.zeb_image.specs.Holdings.{nothing_yet}
 use Rattle.zeb_image.specs.Image.{Keeps as Holding}
 use Rattle.zeb_change.specs.declared.refusals.Refusal.{Refusal}
-use Rattle.zeb_engine.specs.Refusals.{refusal_text, status_of}
+use Rattle.zeb_engine.specs.Refusals.{refusal_text}
 use Rattle.zeb_profile.specs.declared.directives.Directive.{Directive}
 use Rattle.zeb_profile.specs.declared.faults.ProfileFault.{ProfileFault}
 use Rattle.zeb_profile.specs.Outcomes.{FailsPlaced}
@@ -24,15 +24,18 @@ use Rattle.zeb_program.specs.PathChanges.{AreFilesTold}
 use Rattle.zeb_program.specs.Scripts.{DividesAt, HasNoDivider}
 use Rattle.zeb_program.specs.Answers.{Writes, AnswersBatch, AnswersPart}
 use Rattle.zeb_program.specs.PrivateServing.{Leads, Stops}
-use Rattle.zeb_program.specs.ScriptAnswers.{AnswersScript, EndsEarly, EndsScript, unreadable, faulty, alone, ran, stopped, silent, AreScriptConditions, AnswersOpened, AnswersStopped, IsUnopened, IsProfileOf, unreadable_line, refusal_line, fault_line, fault_status}
+use Rattle.zeb_program.specs.ScriptAnswers.{AnswersScript, EndsEarly, EndsScript, unreadable, faulty, alone, ran, stopped, silent, AreScriptConditions, AnswersOpened, AnswersStopped, IsUnopened, IsProfileOf, unreadable_line, refusal_line, fault_line}
 use Rattle.zeb_program.proofs.AnswerLemmas.{Appends-nil}
+use Rattle.zeb_program.specs.declared.statuses.Status.{Status}
+use Rattle.zeb_program.specs.Statuses.{EndsWith, fault_status, refusal_status, status_code}
+use Rattle.zeb_program.specs.declared.statuses.Status.TheVariants.{Answered, Failed}
 
-unopened : (refusal : Refusal) (bytes : List ℕ) (status : ℕ) → IsOpeningFailure refusal → (bytes ≡ refusal_line refusal) × (status ≡ status_of refusal) → IsUnopened bytes status
-unopened refusal bytes status (inl is) said = (inl (said.0 ∙ ap refusal_line is), said.1 ∙ ap status_of is)
-unopened refusal bytes status (inr is) said = (inr (said.0 ∙ ap refusal_line is), said.1 ∙ ap status_of is)
+unopened : (refusal : Refusal) (bytes : List ℕ) (status : Status) → IsOpeningFailure refusal → (bytes ≡ refusal_line refusal) × (status ≡ refusal_status refusal) → IsUnopened bytes status
+unopened refusal bytes status (inl is) said = (inl (said.0 ∙ ap refusal_line is), said.1 ∙ ap refusal_status is)
+unopened refusal bytes status (inr is) said = (inr (said.0 ∙ ap refusal_line is), said.1 ∙ ap refusal_status is)
 
-pub refused_opening : (tells : List ℕ → Option (List ℕ)) (failed : Bool) (old new : Option (List ℕ)) (directives : List Directive) (n : ℕ) (batch : List ℕ) (refusal : Refusal) (r : Result ℕ AllocError) → IsOpeningFailure refusal
-    → IfOk r (λ status. failed ≡ false → Writes old new (λ bytes. (bytes ≡ refusal_text refusal ++ 10 ∷ []) × (status ≡ status_of refusal)))
+pub refused_opening : (tells : List ℕ → Option (List ℕ)) (failed : Bool) (old new : Option (List ℕ)) (directives : List Directive) (n : ℕ) (batch : List ℕ) (refusal : Refusal) (r : Result Status AllocError) → IsOpeningFailure refusal
+    → IfOk r (λ status. failed ≡ false → Writes old new (λ bytes. (bytes ≡ refusal_text refusal ++ 10 ∷ []) × (status ≡ refusal_status refusal)))
     → IfOk r (λ status. failed ≡ false → AreFilesTold tells batch → AnswersOpened tells directives n batch old new status)
 refused_opening tells failed old new directives n batch refusal (Err e) is h = h
 refused_opening tells failed old new directives n batch refusal (Ok status) is h = λ sound _. let w = h sound in inr (w.0, unopened refusal w.0 status is w.1, w.2)
@@ -41,7 +44,7 @@ pub script_conditions : (directives profile : List Directive) (limits : Limits) 
 script_conditions directives profile limits same records numbers = record { version = refl; profile = same; records = records; numbers = numbers }
 
 -- a register that holds nothing yet answers the lines
-pub opened_batch : (tells : List ℕ → Option (List ℕ)) (c : Conditions) (directives : List Directive) (old new : State) (wrote writes : Option (List ℕ)) (n : ℕ) (batch : List ℕ) (failed : Bool) (Clean : Type 0) (r : Result ℕ AllocError)
+pub opened_batch : (tells : List ℕ → Option (List ℕ)) (c : Conditions) (directives : List Directive) (old new : State) (wrote writes : Option (List ℕ)) (n : ℕ) (batch : List ℕ) (failed : Bool) (Clean : Type 0) (r : Result Status AllocError)
     → AreScriptConditions directives c → Holding old nothing_yet → Clean
     → IfOk r (λ status. failed ≡ false → Clean → AreFilesTold tells batch → Leads old new wrote writes (λ before bytes last. AnswersBatch tells c n batch before bytes status last))
     → IfOk r (λ status. failed ≡ false → AreFilesTold tells batch → AnswersOpened tells directives n batch wrote writes status)
@@ -50,7 +53,7 @@ opened_batch tells c directives old new wrote writes n batch failed Clean (Ok st
     let w = h sound clean known nothing_yet keeps in
     inl (w.2.0, (c, under, w.0, w.2.1), w.2.2)
 
-pub stopped_batch : (tells : List ℕ → Option (List ℕ)) (c : Conditions) (directives : List Directive) (old : State) (wrote writes : Option (List ℕ)) (n : ℕ) (batch : List ℕ) (failed : Bool) (Clean : Type 0) (r : Result ℕ AllocError)
+pub stopped_batch : (tells : List ℕ → Option (List ℕ)) (c : Conditions) (directives : List Directive) (old : State) (wrote writes : Option (List ℕ)) (n : ℕ) (batch : List ℕ) (failed : Bool) (Clean : Type 0) (r : Result Status AllocError)
     → AreScriptConditions directives c → Holding old nothing_yet → Clean
     → OnErr r (failed ≡ false → Clean → AreFilesTold tells batch → Stops old wrote writes (AnswersPart tells c n batch))
     → OnErr r (failed ≡ false → AreFilesTold tells batch → AnswersStopped tells directives n batch wrote writes)
@@ -64,12 +67,12 @@ pub silent_batch : (tells : List ℕ → Option (List ℕ)) (directives : List D
 silent_batch tells directives n batch old = inr ([], refl, Appends-nil old)
 
 -- the same where what writes is as it was
-pub silent_refusal : {A : Type 0} (tells : List ℕ → Option (List ℕ)) (shows : A → Option (List ℕ)) (failed : Bool) (old new : A) (directives : List Directive) (n : ℕ) (batch : List ℕ) (r : Result ℕ AllocError) → OnErr r (new ≡ old)
+pub silent_refusal : {A : Type 0} (tells : List ℕ → Option (List ℕ)) (shows : A → Option (List ℕ)) (failed : Bool) (old new : A) (directives : List Directive) (n : ℕ) (batch : List ℕ) (r : Result Status AllocError) → OnErr r (new ≡ old)
     → OnErr r (failed ≡ false → AreFilesTold tells batch → AnswersStopped tells directives n batch (shows old) (shows new))
 silent_refusal tells shows failed old new directives n batch (Ok status) same = tt
 silent_refusal tells shows failed old new directives n batch (Err e) same = λ _ _. subst (λ it. AnswersStopped tells directives n batch (shows old) (shows it)) (sym same) (silent_batch tells directives n batch (shows old))
 
-pub unreadable_script : (tells : List ℕ → Option (List ℕ)) (told old new : Option (List ℕ)) → IfSome told (λ text. ¬ IsInput text) → Appends old new unreadable_line → IfSome told (λ text. AnswersScript tells text old new 3)
+pub unreadable_script : (tells : List ℕ → Option (List ℕ)) (told old new : Option (List ℕ)) → IfSome told (λ text. ¬ IsInput text) → Appends old new unreadable_line → IfSome told (λ text. AnswersScript tells text old new Failed)
 unreadable_script tells None old new h grew = h
 unreadable_script tells (Some text) old new h grew = unreadable h (unreadable_line, refl, grew)
 
@@ -77,7 +80,7 @@ unreadable_script tells (Some text) old new h grew = unreadable h (unreadable_li
 pub text_input : {Z : Type 0} (text : String Z) → string_len text ≤ GREATEST_INPUT → IsInput (string_bytes text)
 text_input text short = (omega (arith, short, text.bytes.ok.0), IsUtf8-string_bytes text)
 
-pub faulty_script : (tells : List ℕ → Option (List ℕ)) (told old new : Option (List ℕ)) (read profile : List ℕ) (fault : ProfileFault) (status : ℕ) → IfSome told (λ text. read ≡ text) → IsInput read → IsProfileOf read profile
+pub faulty_script : (tells : List ℕ → Option (List ℕ)) (told old new : Option (List ℕ)) (read profile : List ℕ) (fault : ProfileFault) (status : Status) → IfSome told (λ text. read ≡ text) → IsInput read → IsProfileOf read profile
     → FailsPlaced fault (profile_of profile) → status ≡ fault_status fault.kind → Appends old new (fault_line fault) → IfSome told (λ text. AnswersScript tells text old new status)
 faulty_script tells None old new read profile fault status h input is fails e grew = tt
 faulty_script tells (Some text) old new read profile fault status h input is fails e grew =
@@ -92,11 +95,11 @@ pub cut_profile : (cut : Option Batch) (text profile : List ℕ) → IfNone cut 
 cut_profile None text profile uncut divides = inl uncut
 cut_profile (Some batch) text profile uncut divides = inr (batch.lines_before, batch.text.now, divides)
 
-pub alone_script : (tells : List ℕ → Option (List ℕ)) (told old : Option (List ℕ)) (read : List ℕ) → IfSome told (λ text. read ≡ text) → IsInput read → HasNoDivider read → IsOk (profile_of read) → IfSome told (λ text. AnswersScript tells text old old 0)
+pub alone_script : (tells : List ℕ → Option (List ℕ)) (told old : Option (List ℕ)) (read : List ℕ) → IfSome told (λ text. read ≡ text) → IsInput read → HasNoDivider read → IsOk (profile_of read) → IfSome told (λ text. AnswersScript tells text old old Answered)
 alone_script tells None old read h input none sound = tt
 alone_script tells (Some text) old read h input none sound = alone (subst IsInput h input) (subst HasNoDivider h none) (subst (λ t. IsOk (profile_of t)) h sound) ([], refl, Appends-nil old)
 
-pub ran_script : (tells : List ℕ → Option (List ℕ)) (told old new : Option (List ℕ)) (read profile batch : List ℕ) (directives : List Directive) (n : ℕ) (unread failed : Bool) (r : Result ℕ AllocError)
+pub ran_script : (tells : List ℕ → Option (List ℕ)) (told old new : Option (List ℕ)) (read profile batch : List ℕ) (directives : List Directive) (n : ℕ) (unread failed : Bool) (r : Result Status AllocError)
     → IfSome told (λ text. read ≡ text) → IsInput read → DividesAt n read profile batch → profile_of profile ≡ Ok directives
     → IfOk r (λ status. failed ≡ false → AreFilesTold tells batch → AnswersOpened tells directives n batch old new status)
     → IfOk r (λ status. unread ≡ false → failed ≡ false → IfSome told (λ text. AnswersScript tells text old new status))
@@ -104,7 +107,7 @@ ran_script tells told old new read profile batch directives n unread failed (Err
 ran_script tells None old new read profile batch directives n unread failed (Ok status) h input divides given answer = λ _ _. tt
 ran_script tells (Some text) old new read profile batch directives n unread failed (Ok status) h input divides given answer = λ _ sound. ran (subst IsInput h input) (subst (λ t. DividesAt n t profile batch) h divides) given (answer sound)
 
-pub stopped_script : (tells : List ℕ → Option (List ℕ)) (told old new : Option (List ℕ)) (read profile batch : List ℕ) (directives : List Directive) (n : ℕ) (unread failed : Bool) (r : Result ℕ AllocError)
+pub stopped_script : (tells : List ℕ → Option (List ℕ)) (told old new : Option (List ℕ)) (read profile batch : List ℕ) (directives : List Directive) (n : ℕ) (unread failed : Bool) (r : Result Status AllocError)
     → IfSome told (λ text. read ≡ text) → IsInput read → DividesAt n read profile batch → profile_of profile ≡ Ok directives
     → OnErr r (failed ≡ false → AreFilesTold tells batch → AnswersStopped tells directives n batch old new)
     → OnErr r (unread ≡ false → failed ≡ false → IfSome told (λ text. EndsEarly tells text old new))
@@ -123,18 +126,18 @@ Appends-kept (Some xs) None new bytes h kept = absurd h
 Appends-kept (Some xs) (Some ys) None bytes h kept = absurd kept
 Appends-kept (Some xs) (Some ys) (Some zs) bytes h kept = kept ∙ h
 
-Writes-kept : (old mid new : Option (List ℕ)) (P : List ℕ → Type 0) → Keeps mid new → Writes old mid P → Writes old new P
+pub Writes-kept : (old mid new : Option (List ℕ)) (P : List ℕ → Type 0) → Keeps mid new → Writes old mid P → Writes old new P
 Writes-kept old mid new P kept w = (w.0, w.1, Appends-kept old mid new w.0 w.2 kept)
 
-AnswersOpened-kept : (tells : List ℕ → Option (List ℕ)) (directives : List Directive) (n : ℕ) (batch : List ℕ) (old mid new : Option (List ℕ)) (status : ℕ) → Keeps mid new → AnswersOpened tells directives n batch old mid status → AnswersOpened tells directives n batch old new status
+pub AnswersOpened-kept : (tells : List ℕ → Option (List ℕ)) (directives : List Directive) (n : ℕ) (batch : List ℕ) (old mid new : Option (List ℕ)) (status : Status) → Keeps mid new → AnswersOpened tells directives n batch old mid status → AnswersOpened tells directives n batch old new status
 AnswersOpened-kept tells directives n batch old mid new status kept (inl w) = inl (w.0, w.1, Appends-kept old mid new w.0 w.2 kept)
 AnswersOpened-kept tells directives n batch old mid new status kept (inr w) = inr (w.0, w.1, Appends-kept old mid new w.0 w.2 kept)
 
-AnswersStopped-kept : (tells : List ℕ → Option (List ℕ)) (directives : List Directive) (n : ℕ) (batch : List ℕ) (old mid new : Option (List ℕ)) → Keeps mid new → AnswersStopped tells directives n batch old mid → AnswersStopped tells directives n batch old new
+pub AnswersStopped-kept : (tells : List ℕ → Option (List ℕ)) (directives : List Directive) (n : ℕ) (batch : List ℕ) (old mid new : Option (List ℕ)) → Keeps mid new → AnswersStopped tells directives n batch old mid → AnswersStopped tells directives n batch old new
 AnswersStopped-kept tells directives n batch old mid new kept (inl w) = inl (w.0, w.1, Appends-kept old mid new w.0 w.2 kept)
 AnswersStopped-kept tells directives n batch old mid new kept (inr w) = inr (w.0, w.1, Appends-kept old mid new w.0 w.2 kept)
 
-AnswersScript-kept : (tells : List ℕ → Option (List ℕ)) (text : List ℕ) (old mid new : Option (List ℕ)) (status : ℕ) → Keeps mid new → AnswersScript tells text old mid status → AnswersScript tells text old new status
+AnswersScript-kept : (tells : List ℕ → Option (List ℕ)) (text : List ℕ) (old mid new : Option (List ℕ)) (status : Status) → Keeps mid new → AnswersScript tells text old mid status → AnswersScript tells text old new status
 AnswersScript-kept tells text old mid new _ kept (unreadable long w) = unreadable long (Writes-kept old mid new (λ bytes. bytes ≡ unreadable_line) kept w)
 AnswersScript-kept tells text old mid new _ kept (faulty fault input is fails w) = faulty fault input is fails (Writes-kept old mid new (λ bytes. bytes ≡ fault_line fault) kept w)
 AnswersScript-kept tells text old mid new _ kept (alone input none sound w) = alone input none sound (Writes-kept old mid new (λ bytes. bytes ≡ []) kept w)
@@ -144,26 +147,31 @@ EndsEarly-kept : (tells : List ℕ → Option (List ℕ)) (text : List ℕ) (old
 EndsEarly-kept tells text old mid new kept (stopped {batch = batch} {directives = directives} {n = n} input divides given w) = stopped input divides given (λ known. AnswersStopped-kept tells directives n batch old mid new kept (w known))
 EndsEarly-kept tells text old mid new kept (silent w) = silent (Writes-kept old mid new (λ bytes. bytes ≡ []) kept w)
 
-EndsScript-kept : (tells : List ℕ → Option (List ℕ)) (text : List ℕ) (old mid new : Option (List ℕ)) (status : ℕ) → Keeps mid new → EndsScript tells text old mid status → EndsScript tells text old new status
+EndsScript-kept : (tells : List ℕ → Option (List ℕ)) (text : List ℕ) (old mid new : Option (List ℕ)) (status : Status) → Keeps mid new → EndsScript tells text old mid status → EndsScript tells text old new status
 EndsScript-kept tells text old mid new status kept (inl answers) = inl (AnswersScript-kept tells text old mid new status kept answers)
 EndsScript-kept tells text old mid new status kept (inr ends) = inr (EndsEarly-kept tells text old mid new kept ends.0, ends.1)
 
 -- a script is answered where the program has an answer, and ends early where it has none
-pub ended_script : (tells : List ℕ → Option (List ℕ)) (told old new : Option (List ℕ)) (unread failed : Bool) (r : Result ℕ AllocError)
+pub ended_script : (tells : List ℕ → Option (List ℕ)) (told old new : Option (List ℕ)) (unread failed : Bool) (r : Result Status AllocError)
     → IfOk r (λ status. unread ≡ false → failed ≡ false → IfSome told (λ text. AnswersScript tells text old new status))
     → IfOk r (λ status. unread ≡ false → failed ≡ false → IfSome told (λ text. EndsScript tells text old new status))
 ended_script tells told old new unread failed (Err e) h = h
 ended_script tells None old new unread failed (Ok status) h = λ _ _. tt
 ended_script tells (Some text) old new unread failed (Ok status) h = λ read sound. inl (h read sound)
 
-pub early_script : (tells : List ℕ → Option (List ℕ)) (told old new : Option (List ℕ)) (unread failed : Bool) (r : Result ℕ AllocError)
+pub early_script : (tells : List ℕ → Option (List ℕ)) (told old new : Option (List ℕ)) (unread failed : Bool) (r : Result Status AllocError)
     → OnErr r (unread ≡ false → failed ≡ false → IfSome told (λ text. EndsEarly tells text old new))
-    → OnErr r (unread ≡ false → failed ≡ false → IfSome told (λ text. EndsScript tells text old new 3))
+    → OnErr r (unread ≡ false → failed ≡ false → IfSome told (λ text. EndsScript tells text old new Failed))
 early_script tells told old new unread failed (Ok status) h = h
 early_script tells None old new unread failed (Err e) h = λ _ _. tt
 early_script tells (Some text) old new unread failed (Err e) h = λ read sound. inr (h read sound, refl)
 
 -- what is passed on stays what it was
-pub kept_script : (tells : List ℕ → Option (List ℕ)) (told old mid new : Option (List ℕ)) (status : ℕ) → Keeps mid new → IfSome told (λ text. EndsScript tells text old mid status) → IfSome told (λ text. EndsScript tells text old new status)
+pub kept_script : (tells : List ℕ → Option (List ℕ)) (told old mid new : Option (List ℕ)) (status : Status) → Keeps mid new → IfSome told (λ text. EndsScript tells text old mid status) → IfSome told (λ text. EndsScript tells text old new status)
 kept_script tells None old mid new status kept h = tt
 kept_script tells (Some text) old mid new status kept h = EndsScript-kept tells text old mid new status kept h
+
+-- the number that a process ends with is that of the status
+pub ends_with : (told : Option (List ℕ)) (P : List ℕ → Status → Type 0) (code : ℕ) (status : Status) → code ≡ status_code status → IfSome told (λ text. P text status) → IfSome told (λ text. EndsWith code (P text))
+ends_with None P code status is h = tt
+ends_with (Some text) P code status is h = (status, is, h)

@@ -1,6 +1,6 @@
 -- How far the lines of a batch have come over a connection.
 use Rattle.std.proofs.Common.{◌≡◌, ◌<◌, ◌+◌, ℕ, Bool, false, List, [], ◌∷◌, ◌++◌, length, refl}
-use Rattle.std.specs.Prelude.{Option, Result, Ok, Err, IfOk, OnErr, String, max, string_bytes}
+use Rattle.std.specs.Prelude.{Option, Result, Ok, Err, IfOk, OnErr, String, string_bytes}
 use Rattle.std.specs.declared.alloc.Global.{Global}
 use Rattle.std.specs.declared.alloc.AllocError.{AllocError}
 use Rattle.std.specs.Io.KnownBytes.{Appends}
@@ -11,7 +11,7 @@ use Rattle.zeb_engine.specs.declared.replies.Reply.{Reply}
 use Rattle.zeb_change.specs.Conditions.{Conditions}
 use Rattle.zeb_image.specs.Holdings.{Holdings}
 use Rattle.zeb_image.specs.Image.{Keeps}
-use Rattle.zeb_engine.specs.Refusals.{refusal_text, status_of}
+use Rattle.zeb_engine.specs.Refusals.{refusal_text}
 use Rattle.zeb_engine.specs.Replies.{reply_text}
 use Rattle.zeb_engine.specs.Works.{ServesCommand}
 use Rattle.zeb_program.specs.declared.lines.Line.TheVariants.{Remark, Command as Order, Mark, Bad}
@@ -20,11 +20,14 @@ use Rattle.zeb_program.specs.Lines.{first_line, after_first_line}
 use Rattle.zeb_program.specs.Answers.{Writes, bad_line, mark_line, IsAnswer, AnswersLine, AnswersBatch, AnswersPart}
 use Rattle.zeb_program.specs.PrivateServing.{Leads, Stops}
 use Rattle.zeb_program.proofs.AnswerLemmas.{Appends-nil, IsAnswered, answered_all, answered_start, answered_line, answered_lines}
+use Rattle.zeb_program.specs.declared.statuses.Status.{Status}
+use Rattle.zeb_program.specs.Statuses.{greater, refusal_status}
+use Rattle.zeb_program.specs.declared.statuses.Status.TheVariants.{Answered, Misused}
 
 -- a refusal that is written is the command's answer
-pub refused_command : (c : Conditions) (command : Command) (old new : State) (wrote writes : Option (List ℕ)) (refusal : Refusal) (failed : Bool) (Clean : Type 0) (r : Result ℕ AllocError)
+pub refused_command : (c : Conditions) (command : Command) (old new : State) (wrote writes : Option (List ℕ)) (refusal : Refusal) (failed : Bool) (Clean : Type 0) (r : Result Status AllocError)
     → (Clean → ServesCommand c command old new (Err refusal))
-    → IfOk r (λ status. failed ≡ false → Writes wrote writes (λ bytes. (bytes ≡ refusal_text refusal ++ 10 ∷ []) × (status ≡ status_of refusal)))
+    → IfOk r (λ status. failed ≡ false → Writes wrote writes (λ bytes. (bytes ≡ refusal_text refusal ++ 10 ∷ []) × (status ≡ refusal_status refusal)))
     → IfOk r (λ status. failed ≡ false → Clean → Leads old new wrote writes (λ before bytes later. IsAnswer c command before bytes status later))
 refused_command c command old new wrote writes refusal failed Clean (Err e) serves h = h
 refused_command c command old new wrote writes refusal failed Clean (Ok status) serves h = λ sound clean before keeps.
@@ -37,13 +40,13 @@ pub replied_command : (c : Conditions) (command : Command) (old new : State) (wr
     → (Clean → ServesCommand c command old new (Ok reply))
     → bytes ≡ reply_text reply
     → (failed ≡ false → Appends wrote writes bytes)
-    → failed ≡ false → Clean → Leads old new wrote writes (λ before bytes later. IsAnswer c command before bytes 0 later)
+    → failed ≡ false → Clean → Leads old new wrote writes (λ before bytes later. IsAnswer c command before bytes Answered later)
 replied_command c command old new wrote writes reply bytes failed Clean serves is grew sound clean before keeps =
     let served = serves clean before keeps in
     (served.0, served.2, (bytes, (Ok reply, is, refl, (served.0, served.1, refl)), grew sound))
 
 -- what is said of a line that names a command
-pub ordered_line : (told : List ℕ → Option (List ℕ)) (c : Conditions) (command : Command) (number : ℕ) (text : List ℕ) (old new : State) (wrote writes : Option (List ℕ)) (failed : Bool) (Clean Told : Type 0) (r : Result ℕ AllocError)
+pub ordered_line : (told : List ℕ → Option (List ℕ)) (c : Conditions) (command : Command) (number : ℕ) (text : List ℕ) (old new : State) (wrote writes : Option (List ℕ)) (failed : Bool) (Clean Told : Type 0) (r : Result Status AllocError)
     → Says text (Order command)
     → IfOk r (λ status. failed ≡ false → Clean → Leads old new wrote writes (λ before bytes later. IsAnswer c command before bytes status later))
     → IfOk r (λ status. failed ≡ false → Clean → Told → Leads old new wrote writes (λ before bytes later. AnswersLine told c number text before bytes status later))
@@ -53,30 +56,30 @@ ordered_line told c command number text old new wrote writes failed Clean Told (
     (w.0, w.1, (w.2.0, (Order command, says, w.2.1), w.2.2))
 
 -- a line that is no command
-pub bad_line_answer : (told : List ℕ → Option (List ℕ)) (c : Conditions) (number : ℕ) (text : List ℕ) (old : State) (wrote writes : Option (List ℕ)) (status : ℕ) → Says text Bad → status ≡ 2
+pub bad_line_answer : (told : List ℕ → Option (List ℕ)) (c : Conditions) (number : ℕ) (text : List ℕ) (old : State) (wrote writes : Option (List ℕ)) (status : Status) → Says text Bad → status ≡ Misused
     → Appends wrote writes (bad_line number) → Leads old old wrote writes (λ before bytes later. AnswersLine told c number text before bytes status later)
 bad_line_answer told c number text old wrote writes status says misused grew before keeps = (before, keeps, (bad_line number, (Bad, says, (refl, misused, refl)), grew))
 
 -- a line that has a text written
-pub mark_answer : (told : List ℕ → Option (List ℕ)) (c : Conditions) (number : ℕ) (text : List ℕ) (old : State) (wrote writes : Option (List ℕ)) (marked : String Global) (status : ℕ) → Says text (Mark marked) → status ≡ 0
+pub mark_answer : (told : List ℕ → Option (List ℕ)) (c : Conditions) (number : ℕ) (text : List ℕ) (old : State) (wrote writes : Option (List ℕ)) (marked : String Global) (status : Status) → Says text (Mark marked) → status ≡ Answered
     → Appends wrote writes (mark_line (string_bytes marked)) → Leads old old wrote writes (λ before bytes later. AnswersLine told c number text before bytes status later)
 mark_answer told c number text old wrote writes marked status says fine grew before keeps = (before, keeps, (mark_line (string_bytes marked), (Mark marked, says, (refl, fine, refl)), grew))
 
 -- a line that says nothing
 pub remark_line : (told : List ℕ → Option (List ℕ)) (c : Conditions) (number : ℕ) (text : List ℕ) (old : State) (wrote : Option (List ℕ)) → Says text Remark
-    → Leads old old wrote wrote (λ before bytes later. AnswersLine told c number text before bytes 0 later)
+    → Leads old old wrote wrote (λ before bytes later. AnswersLine told c number text before bytes Answered later)
 remark_line told c number text old wrote says before keeps = (before, keeps, ([], (Remark, says, (refl, refl, refl)), Appends-nil wrote))
 
 -- from tables that keep what a register holds: the lines up to the rest are answered, and the tables keep what it holds then
-abbrev pub Reaches : (List ℕ → Option (List ℕ)) → Conditions → State → State → Option (List ℕ) → Option (List ℕ) → ℕ → List ℕ → ℕ → List ℕ → ℕ → Type 0
+abbrev pub Reaches : (List ℕ → Option (List ℕ)) → Conditions → State → State → Option (List ℕ) → Option (List ℕ) → ℕ → List ℕ → ℕ → List ℕ → Status → Type 0
 Reaches told c old now wrote writes before text n rest greatest =
     (first : Holdings) → Keeps old first → (held : Holdings) × Keeps now held × IsAnswered (AnswersLine told c) wrote writes before text first n rest greatest held
 
-pub reaches_start : (told : List ℕ → Option (List ℕ)) (c : Conditions) (old : State) (wrote : Option (List ℕ)) (n : ℕ) (text : List ℕ) → Reaches told c old old wrote wrote n text n text 0
+pub reaches_start : (told : List ℕ → Option (List ℕ)) (c : Conditions) (old : State) (wrote : Option (List ℕ)) (n : ℕ) (text : List ℕ) → Reaches told c old old wrote wrote n text n text Answered
 reaches_start told c old wrote n text first keeps = (first, keeps, answered_start (AnswersLine told c) wrote n text first)
 
-pub reaches_line : (told : List ℕ → Option (List ℕ)) (c : Conditions) (old now next : State) (wrote mid writes : Option (List ℕ)) (before : ℕ) (text : List ℕ) (n : ℕ) (rest line later : List ℕ) (greatest status top : ℕ) → 0 < length rest
-    → line ≡ first_line rest → later ≡ after_first_line rest → top ≡ max greatest status
+pub reaches_line : (told : List ℕ → Option (List ℕ)) (c : Conditions) (old now next : State) (wrote mid writes : Option (List ℕ)) (before : ℕ) (text : List ℕ) (n : ℕ) (rest line later : List ℕ) (greatest status top : Status) → 0 < length rest
+    → line ≡ first_line rest → later ≡ after_first_line rest → top ≡ greater greatest status
     → Reaches told c old now wrote mid before text n rest greatest
     → Leads now next mid writes (λ held bytes then. AnswersLine told c (n + 1) line held bytes status then)
     → Reaches told c old next wrote writes before text (n + 1) later top
@@ -85,14 +88,14 @@ reaches_line told c old now next wrote mid writes before text n rest line later 
     let there = step here.0 here.1 in
     (there.0, there.1, answered_line (AnswersLine told c) wrote mid writes before text first n rest line later greatest status top here.0 there.0 some is_line is_rest is_max here.2 there.2)
 
-pub reaches_end : (told : List ℕ → Option (List ℕ)) (c : Conditions) (old now : State) (wrote writes : Option (List ℕ)) (before : ℕ) (text : List ℕ) (n : ℕ) (rest : List ℕ) (greatest : ℕ) → rest ≡ []
+pub reaches_end : (told : List ℕ → Option (List ℕ)) (c : Conditions) (old now : State) (wrote writes : Option (List ℕ)) (before : ℕ) (text : List ℕ) (n : ℕ) (rest : List ℕ) (greatest : Status) → rest ≡ []
     → Reaches told c old now wrote writes before text n rest greatest
     → Leads old now wrote writes (λ first bytes last. AnswersBatch told c before text first bytes greatest last)
 reaches_end told c old now wrote writes before text n rest greatest none far first keeps =
     let here = far first keeps in
     (here.0, here.1, answered_all (AnswersLine told c) wrote writes before text first n rest greatest here.0 none here.2)
 
-pub reaches_stop : (told : List ℕ → Option (List ℕ)) (c : Conditions) (old now : State) (wrote writes : Option (List ℕ)) (before : ℕ) (text : List ℕ) (n : ℕ) (rest : List ℕ) (greatest : ℕ) → 0 < length rest
+pub reaches_stop : (told : List ℕ → Option (List ℕ)) (c : Conditions) (old now : State) (wrote writes : Option (List ℕ)) (before : ℕ) (text : List ℕ) (n : ℕ) (rest : List ℕ) (greatest : Status) → 0 < length rest
     → Reaches told c old now wrote writes before text n rest greatest
     → Stops old wrote writes (AnswersPart told c before text)
 reaches_stop told c old now wrote writes before text n rest greatest some far first keeps =
@@ -101,7 +104,7 @@ reaches_stop told c old now wrote writes before text n rest greatest some far fi
     (w.0, (greatest, rest, here.0, some, w.1), w.2)
 
 -- where memory runs out at a line, nothing is written for it
-pub reaches_failure : {T E : Type 0} (told : List ℕ → Option (List ℕ)) (c : Conditions) (old now : State) (wrote writes : Option (List ℕ)) (before : ℕ) (text : List ℕ) (n : ℕ) (rest : List ℕ) (greatest : ℕ) (r : Result T E) (failed : Bool) (Clean Told : Type 0) → 0 < length rest
+pub reaches_failure : {T E : Type 0} (told : List ℕ → Option (List ℕ)) (c : Conditions) (old now : State) (wrote writes : Option (List ℕ)) (before : ℕ) (text : List ℕ) (n : ℕ) (rest : List ℕ) (greatest : Status) (r : Result T E) (failed : Bool) (Clean Told : Type 0) → 0 < length rest
     → (failed ≡ false → Clean → Told → Reaches told c old now wrote writes before text n rest greatest)
     → OnErr r (failed ≡ false → Clean → Told → Stops old wrote writes (AnswersPart told c before text))
 reaches_failure told c old now wrote writes before text n rest greatest (Ok x) failed Clean Told some far = tt

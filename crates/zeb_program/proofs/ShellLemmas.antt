@@ -1,6 +1,6 @@
 -- How far the answers of a shell have come, of an input that tells its bytes.
 use Rattle.std.proofs.Common.{◌≡◌, ◌<◌, ◌+◌, ◌∙◌, inl, inr, ℕ, Bool, false, List, [], ◌∷◌, length, ap, arith, eqb, refl, subst, sym}
-use Rattle.std.specs.Prelude.{⊤, Option, Some, None, Result, Ok, Err, IfNone, IfOk, IfSome, OnErr, max}
+use Rattle.std.specs.Prelude.{⊤, Option, Some, None, Result, Ok, Err, IfNone, IfOk, IfSome, OnErr}
 use Rattle.std.specs.declared.alloc.AllocError.{AllocError}
 use Rattle.std.specs.Io.KnownBytes.{Appends, Consumes, IsAtEnd, Keeps}
 use Rattle.std.specs.Str.{IsUtf8}
@@ -20,22 +20,25 @@ use Rattle.zeb_program.proofs.PathLemmas.{told_first, told_rest}
 use Rattle.zeb_program.proofs.ScriptLemmas.{not_empty}
 use Rattle.zeb_program.proofs.ServingLemmas.{Reaches, bad_line_answer, reaches_start, reaches_line, reaches_end}
 use Rattle.zeb_program.proofs.WholeLineLemmas.{after_whole, first_of_whole, left_after_line, line_is_text, no_line_no_text}
+use Rattle.zeb_program.specs.declared.statuses.Status.{Status}
+use Rattle.zeb_program.specs.Statuses.{greater}
+use Rattle.zeb_program.specs.declared.statuses.Status.TheVariants.{Answered, Misused, Failed}
 
 -- ---- one line
 
 -- what is said of the first line of what is left of an input
-abbrev pub AnswersNext : (List ℕ → Option (List ℕ)) → Conditions → State → State → Option (List ℕ) → Option (List ℕ) → ℕ → ℕ → List ℕ → Type 0
+abbrev pub AnswersNext : (List ℕ → Option (List ℕ)) → Conditions → State → State → Option (List ℕ) → Option (List ℕ) → ℕ → Status → List ℕ → Type 0
 AnswersNext told c old new wrote writes number status left =
     IsLineTold told (first_line left) → Leads old new wrote writes (λ before bytes later. AnswersLine told c number (first_line left) before bytes status later)
 
 -- bytes that aren't text are no command
-pub no_text_answer : (told : List ℕ → Option (List ℕ)) (c : Conditions) (number : ℕ) (bytes : List ℕ) (old : State) (wrote writes : Option (List ℕ)) (status : ℕ)
-    → ¬ IsUtf8 bytes → status ≡ 2 → Appends wrote writes (bad_line number) → after_first_line bytes ≡ [] → AnswersNext told c old old wrote writes number status bytes
+pub no_text_answer : (told : List ℕ → Option (List ℕ)) (c : Conditions) (number : ℕ) (bytes : List ℕ) (old : State) (wrote writes : Option (List ℕ)) (status : Status)
+    → ¬ IsUtf8 bytes → status ≡ Misused → Appends wrote writes (bad_line number) → after_first_line bytes ≡ [] → AnswersNext told c old old wrote writes number status bytes
 no_text_answer told c number bytes old wrote writes status other misused grew alone _ =
     bad_line_answer told c number (first_line bytes) old wrote writes status (inr (λ text. other (line_is_text bytes alone text), refl)) misused grew
 
 -- text is answered as its line
-pub text_answer : (told : List ℕ → Option (List ℕ)) (c : Conditions) (number : ℕ) (line bytes : List ℕ) (old new : State) (wrote writes : Option (List ℕ)) (failed : Bool) (Clean : Type 0) (r : Result ℕ AllocError) → line ≡ first_line bytes
+pub text_answer : (told : List ℕ → Option (List ℕ)) (c : Conditions) (number : ℕ) (line bytes : List ℕ) (old new : State) (wrote writes : Option (List ℕ)) (failed : Bool) (Clean : Type 0) (r : Result Status AllocError) → line ≡ first_line bytes
     → IfOk r (λ status. failed ≡ false → Clean → IsLineTold told line → Leads old new wrote writes (λ before written later. AnswersLine told c number line before written status later))
     → IfOk r (λ status. failed ≡ false → Clean → after_first_line bytes ≡ [] → AnswersNext told c old new wrote writes number status bytes)
 text_answer told c number line bytes old new wrote writes failed Clean (Err e) is h = h
@@ -43,7 +46,7 @@ text_answer told c number line bytes old new wrote writes failed Clean (Ok statu
     subst (λ l. IsLineTold told l → Leads old new wrote writes (λ before written later. AnswersLine told c number l before written status later)) is (h sound clean)
 
 -- a line that was read is the first of what was left, and what is passed on stays what it was
-pub next_answer : (told : List ℕ → Option (List ℕ)) (c : Conditions) (number status : ℕ) (bytes : List ℕ) (left : Option (List ℕ)) (old new : State) (wrote mid writes : Option (List ℕ))
+pub next_answer : (told : List ℕ → Option (List ℕ)) (c : Conditions) (number : ℕ) (status : Status) (bytes : List ℕ) (left : Option (List ℕ)) (old new : State) (wrote mid writes : Option (List ℕ))
     → IfSome left (λ l. bytes ≡ whole_first_line l) → (after_first_line bytes ≡ [] → AnswersNext told c old new wrote mid number status bytes) → Keeps mid writes
     → IfSome left (AnswersNext told c old new wrote writes number status)
 next_answer told c number status bytes None old new wrote mid writes is answer kept = tt
@@ -67,18 +70,18 @@ next_none bytes (Some l) is none = no_line_no_text l (sym is ∙ none)
 -- ---- the lines so far
 
 -- Of an input that told its bytes first, and has these left: the lines up to these are answered, and each file that one of them names is told.
-abbrev pub Serves : (List ℕ → Option (List ℕ)) → Conditions → State → State → Option (List ℕ) → Option (List ℕ) → Option (List ℕ) → Option (List ℕ) → ℕ → ℕ → Type 0
+abbrev pub Serves : (List ℕ → Option (List ℕ)) → Conditions → State → State → Option (List ℕ) → Option (List ℕ) → Option (List ℕ) → Option (List ℕ) → ℕ → Status → Type 0
 Serves told c old now wrote writes None left n greatest = ⊤
 Serves told c old now wrote writes (Some text) None n greatest = ⊥
 Serves told c old now wrote writes (Some text) (Some rest) n greatest =
     AreFilesTold told text → AreFilesTold told rest × Reaches told c old now wrote writes 0 text n rest greatest
 
-pub serves_start : (told : List ℕ → Option (List ℕ)) (c : Conditions) (old : State) (wrote : Option (List ℕ)) (first : Option (List ℕ)) → Serves told c old old wrote wrote first first 0 0
+pub serves_start : (told : List ℕ → Option (List ℕ)) (c : Conditions) (old : State) (wrote : Option (List ℕ)) (first : Option (List ℕ)) → Serves told c old old wrote wrote first first 0 Answered
 serves_start told c old wrote None = tt
 serves_start told c old wrote (Some text) = λ known. (known, reaches_start told c old wrote 0 text)
 
-pub serves_line : (told : List ℕ → Option (List ℕ)) (c : Conditions) (old now next : State) (wrote mid writes : Option (List ℕ)) (first left later : Option (List ℕ)) (n greatest status top : ℕ)
-    → top ≡ max greatest status → IfSome left (λ l. 0 < length l) → IfSome left (λ l. Consumes (Some l) later (whole_first_line l))
+pub serves_line : (told : List ℕ → Option (List ℕ)) (c : Conditions) (old now next : State) (wrote mid writes : Option (List ℕ)) (first left later : Option (List ℕ)) (n : ℕ) (greatest status top : Status)
+    → top ≡ greater greatest status → IfSome left (λ l. 0 < length l) → IfSome left (λ l. Consumes (Some l) later (whole_first_line l))
     → IfSome left (AnswersNext told c now next mid writes (n + 1) status) → Serves told c old now wrote mid first left n greatest → Serves told c old next wrote writes first later (n + 1) top
 serves_line told c old now next wrote mid writes None left later n greatest status top is_max some taken step far = tt
 serves_line told c old now next wrote mid writes (Some text) None later n greatest status top is_max some taken step far = absurd far
@@ -91,8 +94,8 @@ serves_line told c old now next wrote mid writes (Some text) (Some l) (Some rest
     )
 
 -- the same, of what was found
-pub serves_found : (told : List ℕ → Option (List ℕ)) (c : Conditions) (old now next : State) (wrote mid writes : Option (List ℕ)) (first left later : Option (List ℕ)) (n greatest status top : ℕ) (failed : Bool) (Clean : Type 0) (found : Option ℕ)
-    → found ≡ Some status → top ≡ max greatest status → IfSome found (λ _. IfSome left (λ l. 0 < length l)) → IfSome left (λ l. Consumes (Some l) later (whole_first_line l))
+pub serves_found : (told : List ℕ → Option (List ℕ)) (c : Conditions) (old now next : State) (wrote mid writes : Option (List ℕ)) (first left later : Option (List ℕ)) (n : ℕ) (greatest status top : Status) (failed : Bool) (Clean : Type 0) (found : Option Status)
+    → found ≡ Some status → top ≡ greater greatest status → IfSome found (λ _. IfSome left (λ l. 0 < length l)) → IfSome left (λ l. Consumes (Some l) later (whole_first_line l))
     → IfSome found (λ s. failed ≡ false → Clean → IfSome left (AnswersNext told c now next mid writes (n + 1) s)) → failed ≡ false → Clean
     → Serves told c old now wrote mid first left n greatest → Serves told c old next wrote writes first later (n + 1) top
 serves_found told c old now next wrote mid writes first left later n greatest status top failed Clean found is is_max some taken answer sound clean =
@@ -100,7 +103,7 @@ serves_found told c old now next wrote mid writes first left later n greatest st
     serves_line told c old now next wrote mid writes first left later n greatest status top is_max
     (subst (λ f. IfSome f (λ _. IfSome left (λ l. 0 < length l))) is some) taken (step sound clean)
 
-pub serves_end : (told : List ℕ → Option (List ℕ)) (c : Conditions) (old now : State) (wrote writes : Option (List ℕ)) (first left : Option (List ℕ)) (n greatest : ℕ)
+pub serves_end : (told : List ℕ → Option (List ℕ)) (c : Conditions) (old now : State) (wrote writes : Option (List ℕ)) (first left : Option (List ℕ)) (n : ℕ) (greatest : Status)
     → IsAtEnd left → Serves told c old now wrote writes first left n greatest
     → IfSome first (λ text. AreFilesTold told text → Leads old now wrote writes (λ before bytes last. AnswersBatch told c 0 text before bytes greatest last))
 serves_end told c old now wrote writes None left n greatest end far = tt
@@ -108,7 +111,7 @@ serves_end told c old now wrote writes (Some text) None n greatest end far = abs
 serves_end told c old now wrote writes (Some text) (Some rest) n greatest end far = λ known. reaches_end told c old now wrote writes 0 text n rest greatest end (far known).1
 
 -- where it ends before, no more is gone of the lines that aren't answered than one line may take
-pub serves_stop : (told : List ℕ → Option (List ℕ)) (c : Conditions) (old now : State) (wrote writes : Option (List ℕ)) (first left later : Option (List ℕ)) (n greatest : ℕ)
+pub serves_stop : (told : List ℕ → Option (List ℕ)) (c : Conditions) (old now : State) (wrote writes : Option (List ℕ)) (first left later : Option (List ℕ)) (n : ℕ) (greatest : Status)
     → TakesAtMost 16777217 left later → Serves told c old now wrote writes first left n greatest
     → IfSome first (λ text. AreFilesTold told text → Stops old wrote writes (AnswersFirst told c 0 text later))
 serves_stop told c old now wrote writes None left later n greatest taken far = tt
@@ -119,20 +122,20 @@ serves_stop told c old now wrote writes (Some text) (Some rest) later n greatest
     (w.0, (greatest, rest, here.0, w.1, taken), w.2)
 
 -- where a line isn't answered
-pub serves_failure : {T E : Type 0} (told : List ℕ → Option (List ℕ)) (c : Conditions) (old now : State) (wrote writes : Option (List ℕ)) (first left later : Option (List ℕ)) (n greatest : ℕ) (r : Result T E) (failed : Bool) (Clean : Type 0)
+pub serves_failure : {T E : Type 0} (told : List ℕ → Option (List ℕ)) (c : Conditions) (old now : State) (wrote writes : Option (List ℕ)) (first left later : Option (List ℕ)) (n : ℕ) (greatest : Status) (r : Result T E) (failed : Bool) (Clean : Type 0)
     → TakesAtMost 16777217 left later → (failed ≡ false → Clean → Serves told c old now wrote writes first left n greatest)
     → OnErr r (failed ≡ false → Clean → IfSome first (λ text. AreFilesTold told text → Stops old wrote writes (AnswersFirst told c 0 text later)))
 serves_failure told c old now wrote writes first left later n greatest (Ok x) failed Clean taken far = tt
 serves_failure told c old now wrote writes first left later n greatest (Err e) failed Clean taken far = λ sound clean. serves_stop told c old now wrote writes first left later n greatest taken (far sound clean)
 
 -- what is said where nothing was found
-pub found_none : (found : Option ℕ) (P : Type 0) → found ≡ None → IfNone found P → P
+pub found_none : (found : Option Status) (P : Type 0) → found ≡ None → IfNone found P → P
 found_none None P is h = h
 found_none (Some status) P is h = absurd cc
 
 -- ---- the whole
 
-pub served_all : (told : List ℕ → Option (List ℕ)) (c : Conditions) (first left : Option (List ℕ)) (old new : State) (wrote writes fault : Option (List ℕ)) (status : ℕ)
+pub served_all : (told : List ℕ → Option (List ℕ)) (c : Conditions) (first left : Option (List ℕ)) (old new : State) (wrote writes fault : Option (List ℕ)) (status : Status)
     → IfSome first (λ text. AreFilesTold told text → Leads old new wrote writes (λ before bytes last. AnswersBatch told c 0 text before bytes status last))
     → IfSome first (λ text. AreFilesTold told text → ServesLines told c text left old new wrote writes fault fault status)
 served_all told c None left old new wrote writes fault status led = tt
@@ -140,6 +143,6 @@ served_all told c (Some text) left old new wrote writes fault status led = λ kn
 
 pub served_part : (told : List ℕ → Option (List ℕ)) (c : Conditions) (first left : Option (List ℕ)) (old new : State) (wrote writes fault_old fault_new : Option (List ℕ))
     → IfSome first (λ text. AreFilesTold told text → Stops old wrote writes (AnswersFirst told c 0 text left)) → Appends fault_old fault_new unreadable_line
-    → IfSome first (λ text. AreFilesTold told text → ServesLines told c text left old new wrote writes fault_old fault_new 3)
+    → IfSome first (λ text. AreFilesTold told text → ServesLines told c text left old new wrote writes fault_old fault_new Failed)
 served_part told c None left old new wrote writes fault_old fault_new stops grew = tt
 served_part told c (Some text) left old new wrote writes fault_old fault_new stops grew = λ known. inr (stops known, refl, grew)

@@ -1,6 +1,6 @@
 -- How far the answers of a shell have come on any tables, of an input that tells its bytes.
 use Rattle.std.proofs.Common.{◌≡◌, ◌<◌, ◌+◌, ◌∙◌, inl, inr, ℕ, Bool, false, List, [], length, ap, refl, subst}
-use Rattle.std.specs.Prelude.{⊤, Option, Some, None, Result, Ok, Err, IfOk, IfSome, OnErr, max}
+use Rattle.std.specs.Prelude.{⊤, Option, Some, None, Result, Ok, Err, IfOk, IfSome, OnErr}
 use Rattle.std.specs.declared.alloc.AllocError.{AllocError}
 use Rattle.std.specs.Io.KnownBytes.{Appends, Consumes, IsAtEnd, Keeps}
 use Rattle.std.specs.Str.{IsUtf8}
@@ -19,17 +19,20 @@ use Rattle.zeb_program.specs.declared.lines.Line.TheVariants.{Bad}
 use Rattle.zeb_program.proofs.AnswerLemmas.{IsAnswered, answered_all, answered_line, answered_lines, answered_start}
 use Rattle.zeb_program.proofs.OverLemmas.{still}
 use Rattle.zeb_program.proofs.WholeLineLemmas.{after_whole, first_of_whole, left_after_line, line_is_text}
+use Rattle.zeb_program.specs.declared.statuses.Status.{Status}
+use Rattle.zeb_program.specs.Statuses.{greater}
+use Rattle.zeb_program.specs.declared.statuses.Status.TheVariants.{Answered, Misused, Failed}
 
 -- bytes that aren't text are no command
-pub no_text_over : {S : Type 0} (g : Ghosts S) (told : List ℕ → Option (List ℕ)) (format : Format) (c : Conditions) (number : ℕ) (bytes : List ℕ) (old : Held S) (wrote writes : Option (List ℕ)) (status : ℕ)
-    → ¬ IsUtf8 bytes → status ≡ 2 → Appends wrote writes (bad_line number) → after_first_line bytes ≡ []
+pub no_text_over : {S : Type 0} (g : Ghosts S) (told : List ℕ → Option (List ℕ)) (format : Format) (c : Conditions) (number : ℕ) (bytes : List ℕ) (old : Held S) (wrote writes : Option (List ℕ)) (status : Status)
+    → ¬ IsUtf8 bytes → status ≡ Misused → Appends wrote writes (bad_line number) → after_first_line bytes ≡ []
     → Writes wrote writes (λ written. LineOver g told format c number (first_line bytes) old written status old)
 no_text_over g told format c number bytes old wrote writes status other misused grew alone =
     (bad_line number, (Bad, inr (λ text. other (line_is_text bytes alone text), refl), (refl, misused, still (state g old))), grew)
 
-module _ {X : Type 0} (Answers : ℕ → List ℕ → X → List ℕ → ℕ → X → Type 0) where
+module _ {X : Type 0} (Answers : ℕ → List ℕ → X → List ℕ → Status → X → Type 0) where
   -- text is answered as its line
-  pub text_over : (number : ℕ) (line bytes : List ℕ) (old new : X) (wrote writes : Option (List ℕ)) (failed : Bool) (Clean : Type 0) (r : Result ℕ AllocError) → line ≡ first_line bytes
+  pub text_over : (number : ℕ) (line bytes : List ℕ) (old new : X) (wrote writes : Option (List ℕ)) (failed : Bool) (Clean : Type 0) (r : Result Status AllocError) → line ≡ first_line bytes
       → IfOk r (λ status. failed ≡ false → Clean → Writes wrote writes (λ written. Answers number line old written status new))
       → IfOk r (λ status. failed ≡ false → Clean → after_first_line bytes ≡ [] → Writes wrote writes (λ written. Answers number (first_line bytes) old written status new))
   text_over number line bytes old new wrote writes failed Clean (Err e) is h = h
@@ -37,7 +40,7 @@ module _ {X : Type 0} (Answers : ℕ → List ℕ → X → List ℕ → ℕ →
       subst (λ l. Writes wrote writes (λ written. Answers number l old written status new)) is (h sound clean)
 
   -- a line that was read is the first of what was left, and what is passed on stays what it was
-  pub next_over : (number status : ℕ) (bytes : List ℕ) (left : Option (List ℕ)) (old new : X) (wrote mid writes : Option (List ℕ))
+  pub next_over : (number : ℕ) (status : Status) (bytes : List ℕ) (left : Option (List ℕ)) (old new : X) (wrote mid writes : Option (List ℕ))
       → IfSome left (λ l. bytes ≡ whole_first_line l) → (after_first_line bytes ≡ [] → Writes wrote mid (λ written. Answers number (first_line bytes) old written status new)) → Keeps mid writes
       → IfSome left (λ l. Writes wrote writes (λ written. Answers number (first_line l) old written status new))
   next_over number status bytes None old new wrote mid writes is answer kept = tt
@@ -47,17 +50,17 @@ module _ {X : Type 0} (Answers : ℕ → List ℕ → X → List ℕ → ℕ →
       (w.0, subst (λ line. Answers number line old w.0 status new) same w.1, Appends-kept wrote mid writes w.0 w.2 kept)
 
   -- of an input that told its bytes first, and has these left: the lines up to these are answered
-  abbrev pub Goes : Option (List ℕ) → Option (List ℕ) → Option (List ℕ) → Option (List ℕ) → ℕ → ℕ → X → X → Type 0
+  abbrev pub Goes : Option (List ℕ) → Option (List ℕ) → Option (List ℕ) → Option (List ℕ) → ℕ → Status → X → X → Type 0
   Goes wrote writes None left n greatest old now = ⊤
   Goes wrote writes (Some text) None n greatest old now = ⊥
   Goes wrote writes (Some text) (Some rest) n greatest old now = IsAnswered Answers wrote writes 0 text old n rest greatest now
 
-  pub goes_start : (wrote first : Option (List ℕ)) (old : X) → Goes wrote wrote first first 0 0 old old
+  pub goes_start : (wrote first : Option (List ℕ)) (old : X) → Goes wrote wrote first first 0 Answered old old
   goes_start wrote None old = tt
   goes_start wrote (Some text) old = answered_start Answers wrote 0 text old
 
-  goes_line : (wrote mid writes first left later : Option (List ℕ)) (n greatest status top : ℕ) (old now next : X)
-      → top ≡ max greatest status → IfSome left (λ l. 0 < length l) → IfSome left (λ l. Consumes (Some l) later (whole_first_line l))
+  goes_line : (wrote mid writes first left later : Option (List ℕ)) (n : ℕ) (greatest status top : Status) (old now next : X)
+      → top ≡ greater greatest status → IfSome left (λ l. 0 < length l) → IfSome left (λ l. Consumes (Some l) later (whole_first_line l))
       → IfSome left (λ l. Writes mid writes (λ bytes. Answers (n + 1) (first_line l) now bytes status next))
       → Goes wrote mid first left n greatest old now → Goes wrote writes first later (n + 1) top old next
   goes_line wrote mid writes None left later n greatest status top old now next is_max some taken step far = tt
@@ -67,8 +70,8 @@ module _ {X : Type 0} (Answers : ℕ → List ℕ → X → List ℕ → ℕ →
       answered_line Answers wrote mid writes 0 text old n l (first_line l) rest greatest status top now next some refl (left_after_line l rest taken) is_max far step
 
   -- the same, of what was found
-  pub goes_found : (wrote mid writes first left later : Option (List ℕ)) (n greatest status top : ℕ) (old now next : X) (failed : Bool) (Clean : Type 0) (found : Option ℕ)
-      → found ≡ Some status → top ≡ max greatest status → IfSome found (λ _. IfSome left (λ l. 0 < length l)) → IfSome left (λ l. Consumes (Some l) later (whole_first_line l))
+  pub goes_found : (wrote mid writes first left later : Option (List ℕ)) (n : ℕ) (greatest status top : Status) (old now next : X) (failed : Bool) (Clean : Type 0) (found : Option Status)
+      → found ≡ Some status → top ≡ greater greatest status → IfSome found (λ _. IfSome left (λ l. 0 < length l)) → IfSome left (λ l. Consumes (Some l) later (whole_first_line l))
       → IfSome found (λ s. failed ≡ false → Clean → IfSome left (λ l. Writes mid writes (λ bytes. Answers (n + 1) (first_line l) now bytes s next))) → failed ≡ false → Clean
       → Goes wrote mid first left n greatest old now → Goes wrote writes first later (n + 1) top old next
   goes_found wrote mid writes first left later n greatest status top old now next failed Clean found is is_max some taken answer sound clean =
@@ -76,7 +79,7 @@ module _ {X : Type 0} (Answers : ℕ → List ℕ → X → List ℕ → ℕ →
       goes_line wrote mid writes first left later n greatest status top old now next is_max
       (subst (λ f. IfSome f (λ _. IfSome left (λ l. 0 < length l))) is some) taken (step sound clean)
 
-  pub goes_end : (wrote writes first left : Option (List ℕ)) (n greatest : ℕ) (old now : X) → IsAtEnd left → Goes wrote writes first left n greatest old now
+  pub goes_end : (wrote writes first left : Option (List ℕ)) (n : ℕ) (greatest : Status) (old now : X) → IsAtEnd left → Goes wrote writes first left n greatest old now
       → IfSome first (λ text. Writes wrote writes (λ bytes. EachLine Answers 0 text old bytes greatest [] now))
   goes_end wrote writes None left n greatest old now end far = tt
   goes_end wrote writes (Some text) None n greatest old now end far = absurd far
@@ -85,7 +88,7 @@ module _ {X : Type 0} (Answers : ℕ → List ℕ → X → List ℕ → ℕ →
 -- ---- the whole
 
 -- where it ends before, no more is gone of the lines that aren't answered than one line may take
-pub over_stop : {S : Type 0} (g : Ghosts S) (told : List ℕ → Option (List ℕ)) (format : Format) (c : Conditions) (wrote writes first left later : Option (List ℕ)) (n greatest : ℕ) (old now : Held S)
+pub over_stop : {S : Type 0} (g : Ghosts S) (told : List ℕ → Option (List ℕ)) (format : Format) (c : Conditions) (wrote writes first left later : Option (List ℕ)) (n : ℕ) (greatest : Status) (old now : Held S)
     → TakesAtMost 16777217 left later → Goes (LineOver g told format c) wrote writes first left n greatest old now
     → IfSome first (λ text. Writes wrote writes (FirstOver g told format c text later old))
 over_stop g told format c wrote writes None left later n greatest old now taken far = tt
@@ -95,13 +98,13 @@ over_stop g told format c wrote writes (Some text) (Some rest) later n greatest 
     (w.0, record { status = greatest; rest = rest; last = now; lines = w.1; behind = taken }, w.2)
 
 -- where a line isn't answered
-pub over_failure : {S T E : Type 0} (g : Ghosts S) (told : List ℕ → Option (List ℕ)) (format : Format) (c : Conditions) (wrote writes first left later : Option (List ℕ)) (n greatest : ℕ) (old now : Held S) (r : Result T E) (failed : Bool) (Clean : Type 0)
+pub over_failure : {S T E : Type 0} (g : Ghosts S) (told : List ℕ → Option (List ℕ)) (format : Format) (c : Conditions) (wrote writes first left later : Option (List ℕ)) (n : ℕ) (greatest : Status) (old now : Held S) (r : Result T E) (failed : Bool) (Clean : Type 0)
     → TakesAtMost 16777217 left later → (failed ≡ false → Clean → Goes (LineOver g told format c) wrote writes first left n greatest old now)
     → OnErr r (failed ≡ false → Clean → IfSome first (λ text. Writes wrote writes (FirstOver g told format c text later old)))
 over_failure g told format c wrote writes first left later n greatest old now (Ok x) failed Clean taken far = tt
 over_failure g told format c wrote writes first left later n greatest old now (Err e) failed Clean taken far = λ sound clean. over_stop g told format c wrote writes first left later n greatest old now taken (far sound clean)
 
-pub over_all : {S : Type 0} (g : Ghosts S) (told : List ℕ → Option (List ℕ)) (format : Format) (c : Conditions) (first left : Option (List ℕ)) (old new : Held S) (wrote writes fault : Option (List ℕ)) (status : ℕ)
+pub over_all : {S : Type 0} (g : Ghosts S) (told : List ℕ → Option (List ℕ)) (format : Format) (c : Conditions) (first left : Option (List ℕ)) (old new : Held S) (wrote writes fault : Option (List ℕ)) (status : Status)
     → IfSome first (λ text. Writes wrote writes (λ bytes. LinesOver g told format c 0 text old bytes status new))
     → IfSome first (λ text. ServesOverLines g told format c text left old new wrote writes fault fault status)
 over_all g told format c None left old new wrote writes fault status wrote_all = tt
@@ -109,6 +112,6 @@ over_all g told format c (Some text) left old new wrote writes fault status wrot
 
 pub over_part : {S : Type 0} (g : Ghosts S) (told : List ℕ → Option (List ℕ)) (format : Format) (c : Conditions) (first left : Option (List ℕ)) (old new : Held S) (wrote writes fault_old fault_new : Option (List ℕ))
     → IfSome first (λ text. Writes wrote writes (FirstOver g told format c text left old)) → Appends fault_old fault_new unreadable_line
-    → IfSome first (λ text. ServesOverLines g told format c text left old new wrote writes fault_old fault_new 3)
+    → IfSome first (λ text. ServesOverLines g told format c text left old new wrote writes fault_old fault_new Failed)
 over_part g told format c None left old new wrote writes fault_old fault_new part grew = tt
 over_part g told format c (Some text) left old new wrote writes fault_old fault_new part grew = inr (part, refl, grew)

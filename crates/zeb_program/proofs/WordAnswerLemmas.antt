@@ -1,47 +1,29 @@
 -- What is written for words, at each end.
-use Rattle.std.proofs.Common.{◌≡◌, ◌<◌, ◌⊎◌, ℕ, Bool, false, List, inl, inr, refl, subst, sym}
-use Rattle.std.specs.Prelude.{Option, Some, Result, Ok, Err, IfOk, OnErr, String, string_bytes}
+use Rattle.std.proofs.Common.{◌≡◌, ◌⊎◌, ℕ, Bool, false, List, inl, inr, refl, subst, sym}
+use Rattle.std.specs.Prelude.{◌≢◌, Option, Some, Result, Ok, Err, IfOk, OnErr, String, string_bytes}
 use Rattle.std.specs.Option.{option_map}
 use Rattle.std.specs.declared.alloc.AllocError.{AllocError}
 use Rattle.std.specs.declared.alloc.Global.{Global}
 use Rattle.std.specs.Io.KnownBytes.{Appends, IsAtEnd, Keeps}
 use Rattle.std.proofs.KnownBytes.{Appends-kept, Keeps-refl, Keeps-trans}
-use Rattle.zeb_change.specs.declared.refusals.Refusal.{Refusal}
-use Rattle.zeb_change.specs.declared.refusals.Refusal.TheVariants.{NotInitialised, OldFormat, ProfileChanged, Diagnostic, Exists, Record, Unknown, DatabaseFull, TooManyRecords, Damaged, IdentifierRuleChanged, ReadFault, Store, Memory}
-use Rattle.zeb_engine.specs.Refusals.{status_of}
 use Rattle.zeb_words.specs.declared.words.Usage.{Usage}
 use Rattle.zeb_words.specs.declared.words.Usage.TheVariants as usage
 use Rattle.zeb_program.specs.declared.tasks.Task.{Task}
-use Rattle.zeb_program.specs.Answers.{Writes}
 use Rattle.zeb_program.specs.PrivateWarnings.{MayWarn}
 use Rattle.zeb_words.specs.Names.{NamesWords}
 use Rattle.zeb_words.specs.declared.words.Act.TheVariants.{Batch, Shell}
 use Rattle.zeb_words.specs.declared.words.Words.{Words}
 use Rattle.zeb_program.specs.Errands.{IsTaskOf}
 use Rattle.zeb_program.specs.Registers.{Places}
-use Rattle.zeb_program.specs.WordAnswers.{AnswersWords, misused, batched, served, named, EndsWords, IsFaultStatus, NamesLines, NamesTask, StopsWords, TellsApart, TellsUsage, WarnsAtMost}
-use Rattle.zeb_program.specs.WordRuns.{RunsBatch, RunsShell}
+use Rattle.zeb_program.specs.WordAnswers.{AnswersWords, misused, batched, served, named, EndsWords, NamesTask, StopsWords, stopped_task, stopped_batch, stopped_shell, TellsApart, TellsUsage, WarnsAtMost}
+use Rattle.zeb_program.specs.WordRuns.{RunsBatch, RunsShell, StopsBatch, StopsShell}
+use Rattle.zeb_program.proofs.StopLemmas.{StopsBatch-kept, StopsShell-kept}
 use Rattle.zeb_program.proofs.WordRunLemmas.{RunsBatch-kept, RunsShell-kept, TellsApart-kept}
-
--- a refusal's status is that of a fault
-pub refusal_status : (refusal : Refusal) → IsFaultStatus (status_of refusal)
-refusal_status NotInitialised = inl refl
-refusal_status OldFormat = inl refl
-refusal_status ProfileChanged = inl refl
-refusal_status (Diagnostic number place addinfo) = inl refl
-refusal_status Exists = inl refl
-refusal_status (Record file nth fault) = inl refl
-refusal_status (Unknown file nth) = inl refl
-refusal_status DatabaseFull = inl refl
-refusal_status TooManyRecords = inl refl
-refusal_status Damaged = inl refl
-refusal_status IdentifierRuleChanged = inl refl
-refusal_status (ReadFault file) = inr refl
-refusal_status Store = inr refl
-refusal_status Memory = inr refl
+use Rattle.zeb_program.specs.declared.statuses.Status.{Status}
+use Rattle.zeb_program.specs.declared.statuses.Status.TheVariants.{Failed}
 
 -- what is passed on stays what it was
-TellsUsage-kept : (why : Usage) (old mid new fault_old fault_mid fault_new : Option (List ℕ)) (status : ℕ) → Keeps mid new → Keeps fault_mid fault_new
+TellsUsage-kept : (why : Usage) (old mid new fault_old fault_mid fault_new : Option (List ℕ)) (status : Status) → Keeps mid new → Keeps fault_mid fault_new
     → TellsUsage why old mid fault_old fault_mid status → TellsUsage why old new fault_old fault_new status
 TellsUsage-kept usage.BadUsage old mid new fault_old fault_mid fault_new status kept fault_kept t =
     (t.0, Keeps-trans old mid new t.1 kept, Appends-kept fault_old fault_mid fault_new _ t.2 fault_kept)
@@ -52,7 +34,7 @@ TellsUsage-kept (usage.Help text) old mid new fault_old fault_mid fault_new stat
 TellsUsage-kept usage.Memory old mid new fault_old fault_mid fault_new status kept fault_kept t =
     (t.0, Keeps-trans old mid new t.1 kept, Keeps-trans fault_old fault_mid fault_new t.2 fault_kept)
 
-AnswersWords-kept : {S : Type 0} (at : Places S) (words : List (List ℕ)) (given left : Option (List ℕ)) (unread : Bool) (old mid new fault_old fault_mid fault_new : Option (List ℕ)) (status : ℕ) → Keeps mid new → Keeps fault_mid fault_new
+AnswersWords-kept : {S : Type 0} (at : Places S) (words : List (List ℕ)) (given left : Option (List ℕ)) (unread : Bool) (old mid new fault_old fault_mid fault_new : Option (List ℕ)) (status : Status) → Keeps mid new → Keeps fault_mid fault_new
     → AnswersWords at words given left unread old mid fault_old fault_mid status → AnswersWords at words given left unread old new fault_old fault_new status
 AnswersWords-kept at words given left unread old mid new fault_old fault_mid fault_new status kept fault_kept (misused why none is tells) =
     misused why none is (TellsUsage-kept why old mid new fault_old fault_mid fault_new status kept fault_kept tells)
@@ -67,24 +49,32 @@ AnswersWords-kept at words given left unread old mid new fault_old fault_mid fau
 AnswersWords-kept at words given left unread old mid new fault_old fault_mid fault_new status kept fault_kept (named all task names is tells) =
     named all task names is (TellsApart-kept at all.config task old mid new fault_old fault_mid fault_new status kept fault_kept tells)
 
-pub kept_words : {S : Type 0} (at : Places S) (words : List (List ℕ)) (given left : Option (List ℕ)) (unread : Bool) (old mid new fault_old fault_mid fault_new : Option (List ℕ)) (status : ℕ) → Keeps mid new → Keeps fault_mid fault_new
+StopsWords-kept : {S : Type 0} (at : Places S) (words : List (List ℕ)) (given left old mid new fault_old fault_mid fault_new : Option (List ℕ)) → Keeps mid new → Keeps fault_mid fault_new
+    → StopsWords at words given left old mid fault_old fault_mid → StopsWords at words given left old new fault_old fault_new
+StopsWords-kept at words given left old mid new fault_old fault_mid fault_new kept fault_kept (stopped_task task names same quiet) =
+    stopped_task task names (Keeps-trans old mid new same kept) (Keeps-trans fault_old fault_mid fault_new quiet fault_kept)
+StopsWords-kept at words given left old mid new fault_old fault_mid fault_new kept fault_kept (stopped_batch all names is stops) =
+    stopped_batch all names is (StopsBatch-kept at all.config given old mid new fault_old fault_mid fault_new kept fault_kept stops)
+StopsWords-kept at words given left old mid new fault_old fault_mid fault_new kept fault_kept (stopped_shell all names is stops) =
+    stopped_shell all names is (StopsShell-kept at all.config given left old mid new fault_old fault_mid fault_new kept fault_kept stops)
+
+pub kept_words : {S : Type 0} (at : Places S) (words : List (List ℕ)) (given left : Option (List ℕ)) (unread : Bool) (old mid new fault_old fault_mid fault_new : Option (List ℕ)) (status : Status) → Keeps mid new → Keeps fault_mid fault_new
     → EndsWords at words given left unread old mid fault_old fault_mid status → EndsWords at words given left unread old new fault_old fault_new status
 kept_words at words given left unread old mid new fault_old fault_mid fault_new status kept fault_kept (inl answers) =
     inl (AnswersWords-kept at words given left unread old mid new fault_old fault_mid fault_new status kept fault_kept answers)
-kept_words at words given left unread old mid new fault_old fault_mid fault_new status kept fault_kept (inr (inl names, is)) = inr (inl names, is)
-kept_words at words given left unread old mid new fault_old fault_mid fault_new status kept fault_kept (inr (inr t, is)) =
-    inr (inr (t.0, t.1, Keeps-trans old mid new t.2 kept, Keeps-trans fault_old fault_mid fault_new t.3 fault_kept), is)
+kept_words at words given left unread old mid new fault_old fault_mid fault_new status kept fault_kept (inr stops) =
+    inr (StopsWords-kept at words given left old mid new fault_old fault_mid fault_new kept fault_kept stops.0, stops.1)
 
 -- both ways in which words end
-pub ended_words : {S : Type 0} (at : Places S) (words : List (List ℕ)) (given left : Option (List ℕ)) (unread : Bool) (old new fault_old fault_new : Option (List ℕ)) (failed fault_failed : Bool) (r : Result ℕ AllocError)
+pub ended_words : {S : Type 0} (at : Places S) (words : List (List ℕ)) (given left : Option (List ℕ)) (unread : Bool) (old new fault_old fault_new : Option (List ℕ)) (failed fault_failed : Bool) (r : Result Status AllocError)
     → IfOk r (λ status. failed ≡ false → fault_failed ≡ false → AnswersWords at words given left unread old new fault_old fault_new status)
     → IfOk r (λ status. failed ≡ false → fault_failed ≡ false → EndsWords at words given left unread old new fault_old fault_new status)
 ended_words at words given left unread old new fault_old fault_new failed fault_failed (Err e) h = h
 ended_words at words given left unread old new fault_old fault_new failed fault_failed (Ok status) h = λ sound quiet. inl (h sound quiet)
 
-pub early_words : {S : Type 0} (at : Places S) (words : List (List ℕ)) (given left : Option (List ℕ)) (unread : Bool) (old new fault_old fault_new : Option (List ℕ)) (failed fault_failed : Bool) (r : Result ℕ AllocError)
-    → OnErr r (failed ≡ false → fault_failed ≡ false → StopsWords words old new fault_old fault_new)
-    → OnErr r (failed ≡ false → fault_failed ≡ false → EndsWords at words given left unread old new fault_old fault_new 3)
+pub early_words : {S : Type 0} (at : Places S) (words : List (List ℕ)) (given left : Option (List ℕ)) (unread : Bool) (old new fault_old fault_new : Option (List ℕ)) (failed fault_failed : Bool) (r : Result Status AllocError)
+    → OnErr r (failed ≡ false → fault_failed ≡ false → StopsWords at words given left old new fault_old fault_new)
+    → OnErr r (failed ≡ false → fault_failed ≡ false → EndsWords at words given left unread old new fault_old fault_new Failed)
 early_words at words given left unread old new fault_old fault_new failed fault_failed (Ok status) h = h
 early_words at words given left unread old new fault_old fault_new failed fault_failed (Err e) h = λ sound quiet. inr (h sound quiet, refl)
 
@@ -100,59 +90,67 @@ same_kept : {S : Type 0} (contents : S → Option (List ℕ)) (old new : S) → 
 same_kept contents old new same = subst (λ s. Keeps (contents old) (contents s)) (sym same) (Keeps-refl (contents old))
 
 -- memory ran out and nothing is written
-pub untouched : (r : Result ℕ AllocError) (P Q : Type 0) → P → OnErr r Q → OnErr r (P × Q)
+pub untouched : (r : Result Status AllocError) (P Q : Type 0) → P → OnErr r Q → OnErr r (P × Q)
 untouched (Ok status) P Q first second = tt
 untouched (Err e) P Q first second = (first, second)
 
 -- a task
-pub task_words : {S : Type 0} (at : Places S) (words : List (List ℕ)) (given left : Option (List ℕ)) (unread : Bool) (old new fault_old fault_new : Option (List ℕ)) (all : Words) (task : Task) (failed fault_failed : Bool) (r : Result ℕ AllocError)
+pub task_words : {S : Type 0} (at : Places S) (words : List (List ℕ)) (given left : Option (List ℕ)) (unread : Bool) (old new fault_old fault_new : Option (List ℕ)) (all : Words) (task : Task) (failed fault_failed : Bool) (r : Result Status AllocError)
     → NamesWords words all → IsTaskOf all.database all.act task
     → IfOk r (λ status. failed ≡ false → fault_failed ≡ false → TellsApart at all.config task old new fault_old fault_new status)
     → IfOk r (λ status. failed ≡ false → fault_failed ≡ false → AnswersWords at words given left unread old new fault_old fault_new status)
 task_words at words given left unread old new fault_old fault_new all task failed fault_failed (Err e) names is h = h
 task_words at words given left unread old new fault_old fault_new all task failed fault_failed (Ok status) names is h = λ sound quiet. named all task names is (h sound quiet)
 
-pub stopped_task_words : {S T : Type 0} (contents : S → Option (List ℕ)) (fault_contents : T → Option (List ℕ)) (words : List (List ℕ)) (old new : S) (fault_old fault_new : T) (task : Task) (failed fault_failed : Bool) (r : Result ℕ AllocError)
+pub stopped_task_words : {S W V : Type 0} (at : Places S) (contents : W → Option (List ℕ)) (fault_contents : V → Option (List ℕ)) (words : List (List ℕ)) (given left : Option (List ℕ)) (old new : W) (fault_old fault_new : V) (task : Task) (failed fault_failed : Bool) (r : Result Status AllocError)
     → NamesTask words task → OnErr r ((new ≡ old) × (fault_new ≡ fault_old))
-    → OnErr r (failed ≡ false → fault_failed ≡ false → StopsWords words (contents old) (contents new) (fault_contents fault_old) (fault_contents fault_new))
-stopped_task_words contents fault_contents words old new fault_old fault_new task failed fault_failed (Ok status) names h = h
-stopped_task_words contents fault_contents words old new fault_old fault_new task failed fault_failed (Err e) names h =
-    λ _ _. inr (task, names, same_kept contents old new h.0, same_kept fault_contents fault_old fault_new h.1)
+    → OnErr r (failed ≡ false → fault_failed ≡ false → StopsWords at words given left (contents old) (contents new) (fault_contents fault_old) (fault_contents fault_new))
+stopped_task_words at contents fault_contents words given left old new fault_old fault_new task failed fault_failed (Ok status) names h = tt
+stopped_task_words at contents fault_contents words given left old new fault_old fault_new task failed fault_failed (Err e) names h =
+    λ _ _. stopped_task task names (same_kept contents old new h.0) (same_kept fault_contents fault_old fault_new h.1)
 
 -- a batch
-pub batch_words : {S : Type 0} (at : Places S) (words : List (List ℕ)) (given left : Option (List ℕ)) (unread : Bool) (old new fault_old fault_new : Option (List ℕ)) (all : Words) (failed fault_failed : Bool) (r : Result ℕ AllocError)
+pub batch_words : {S : Type 0} (at : Places S) (words : List (List ℕ)) (given left : Option (List ℕ)) (unread : Bool) (old new fault_old fault_new : Option (List ℕ)) (all : Words) (failed fault_failed : Bool) (r : Result Status AllocError)
     → NamesWords words all → all.act ≡ Batch
     → IfOk r (λ status. failed ≡ false → fault_failed ≡ false → RunsBatch at all.config given unread old new fault_old fault_new status)
     → IfOk r (λ status. failed ≡ false → fault_failed ≡ false → AnswersWords at words given left unread old new fault_old fault_new status)
 batch_words at words given left unread old new fault_old fault_new all failed fault_failed (Err e) names is runs = tt
 batch_words at words given left unread old new fault_old fault_new all failed fault_failed (Ok status) names is runs = λ sound quiet. batched all names is (runs sound quiet)
 
--- a batch or a shell
-pub stopped_line_words : (words : List (List ℕ)) (old new fault_old fault_new : Option (List ℕ)) (failed fault_failed : Bool) (r : Result ℕ AllocError) → NamesLines words
-    → OnErr r (failed ≡ false → fault_failed ≡ false → StopsWords words old new fault_old fault_new)
-stopped_line_words words old new fault_old fault_new failed fault_failed (Ok status) names = tt
-stopped_line_words words old new fault_old fault_new failed fault_failed (Err e) names = λ _ _. inl names
+pub stopped_batch_words : {S : Type 0} (at : Places S) (words : List (List ℕ)) (given left old new fault_old fault_new : Option (List ℕ)) (all : Words) (failed fault_failed : Bool) (r : Result Status AllocError)
+    → NamesWords words all → all.act ≡ Batch
+    → OnErr r (failed ≡ false → fault_failed ≡ false → StopsBatch at all.config given old new fault_old fault_new)
+    → OnErr r (failed ≡ false → fault_failed ≡ false → StopsWords at words given left old new fault_old fault_new)
+stopped_batch_words at words given left old new fault_old fault_new all failed fault_failed (Ok status) names is stops = tt
+stopped_batch_words at words given left old new fault_old fault_new all failed fault_failed (Err e) names is stops = λ sound quiet. stopped_batch all names is (stops sound quiet)
 
 -- a shell
-pub shell_words : {S : Type 0} (at : Places S) (words : List (List ℕ)) (given left : Option (List ℕ)) (unread : Bool) (old new fault_old fault_new : Option (List ℕ)) (all : Words) (failed fault_failed : Bool) (r : Result ℕ AllocError)
-    → NamesWords words all → all.act ≡ Shell → IfOk r (λ status. status < 3 → IsAtEnd left ⊎ Keeps old new)
+pub shell_words : {S : Type 0} (at : Places S) (words : List (List ℕ)) (given left : Option (List ℕ)) (unread : Bool) (old new fault_old fault_new : Option (List ℕ)) (all : Words) (failed fault_failed : Bool) (r : Result Status AllocError)
+    → NamesWords words all → all.act ≡ Shell → IfOk r (λ status. status ≢ Failed → IsAtEnd left ⊎ Keeps old new)
     → IfOk r (λ status. failed ≡ false → fault_failed ≡ false → RunsShell at all.config given left old new fault_old fault_new status)
     → IfOk r (λ status. failed ≡ false → fault_failed ≡ false → AnswersWords at words given left unread old new fault_old fault_new status)
 shell_words at words given left unread old new fault_old fault_new all failed fault_failed (Err e) names is end runs = tt
 shell_words at words given left unread old new fault_old fault_new all failed fault_failed (Ok status) names is end runs = λ sound quiet. served all names is end (runs sound quiet)
 
+pub stopped_shell_words : {S : Type 0} (at : Places S) (words : List (List ℕ)) (given left old new fault_old fault_new : Option (List ℕ)) (all : Words) (failed fault_failed : Bool) (r : Result Status AllocError)
+    → NamesWords words all → all.act ≡ Shell
+    → OnErr r (failed ≡ false → fault_failed ≡ false → StopsShell at all.config given left old new fault_old fault_new)
+    → OnErr r (failed ≡ false → fault_failed ≡ false → StopsWords at words given left old new fault_old fault_new)
+stopped_shell_words at words given left old new fault_old fault_new all failed fault_failed (Ok status) names is stops = tt
+stopped_shell_words at words given left old new fault_old fault_new all failed fault_failed (Err e) names is stops = λ sound quiet. stopped_shell all names is (stops sound quiet)
+
 -- a shell that read, and one that was refused before it read
-pub shell_read : (r : Result ℕ AllocError) (End Same : Type 0) → IfOk r (λ status. status < 3 → End) → IfOk r (λ status. status < 3 → End ⊎ Same)
+pub shell_read : (r : Result Status AllocError) (End Same : Type 0) → IfOk r (λ status. status ≢ Failed → End) → IfOk r (λ status. status ≢ Failed → End ⊎ Same)
 shell_read (Err e) End Same whole = tt
 shell_read (Ok status) End Same whole = λ less. inl (whole less)
 
-pub shell_refused : (r : Result ℕ AllocError) (End Same : Type 0) → Same → IfOk r (λ status. status < 3 → End ⊎ Same)
+pub shell_refused : (r : Result Status AllocError) (End Same : Type 0) → Same → IfOk r (λ status. status ≢ Failed → End ⊎ Same)
 shell_refused (Err e) End Same same = tt
 shell_refused (Ok status) End Same same = λ less. inr same
 
 -- an output that is the same keeps what it holds
-pub shell_kept : {S : Type 0} (contents : S → Option (List ℕ)) (old new : S) (r : Result ℕ AllocError) (End : Type 0)
-    → IfOk r (λ status. status < 3 → End ⊎ (new ≡ old)) → IfOk r (λ status. status < 3 → End ⊎ Keeps (contents old) (contents new))
+pub shell_kept : {S : Type 0} (contents : S → Option (List ℕ)) (old new : S) (r : Result Status AllocError) (End : Type 0)
+    → IfOk r (λ status. status ≢ Failed → End ⊎ (new ≡ old)) → IfOk r (λ status. status ≢ Failed → End ⊎ Keeps (contents old) (contents new))
 shell_kept contents old new (Err e) End h = tt
 shell_kept contents old new (Ok status) End h = λ less. kept (h less)
   where

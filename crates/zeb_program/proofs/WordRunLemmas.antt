@@ -1,13 +1,12 @@
 -- What comes of words, from the profile that they name and the register in the store at its path.
-use Rattle.std.proofs.Common.{◌≡◌, ◌<◌, ◌⊎◌, ◌∙◌, ℕ, Bool, false, true, List, inl, inr, refl, subst, sym}
-use Rattle.std.specs.Prelude.{Option, Some, None, Result, Ok, Err, IfOk, IfErr, IfSome, OnErr, String, codes, max, string_bytes}
+use Rattle.std.proofs.Common.{◌≡◌, ◌⊎◌, ℕ, Bool, false, List, inl, inr, refl, subst, sym}
+use Rattle.std.specs.Prelude.{Option, Some, None, Result, Ok, Err, IfOk, IfErr, IfSome, OnErr, String, codes, string_bytes}
 use Rattle.std.specs.declared.alloc.AllocError.{AllocError}
 use Rattle.std.specs.declared.alloc.Global.{Global}
-use Rattle.std.specs.Io.KnownBytes.{Appends, IsAtEnd, Keeps}
+use Rattle.std.specs.Io.KnownBytes.{Appends, Keeps}
 use Rattle.std.proofs.KnownBytes.{Appends-kept, Keeps-refl, Keeps-trans}
 use Rattle.sqlite.specs.Held.{Held, state}
 use Rattle.sqlite.specs.State.{HasCleanDisk, State}
-use Rattle.sqlite.specs.Store.{Ghosts}
 use Rattle.zeb_change.specs.Conditions.{Conditions}
 use Rattle.zeb_change.specs.declared.refusals.Refusal.{Refusal}
 use Rattle.zeb_engine.specs.Crashes.{Bears}
@@ -30,25 +29,27 @@ use Rattle.zeb_program.specs.declared.tasks.Served.{Served}
 use Rattle.zeb_program.specs.declared.tasks.Task.{Task}
 use Rattle.zeb_program.specs.declared.tasks.Task.TheVariants.{Ask}
 use Rattle.zeb_program.specs.Answers.{AnswersBatch, Writes}
-use Rattle.zeb_program.specs.FaultAnswers.{GivesAnswer, IsOpeningFailure, IsUnreadable, NamesUnder}
+use Rattle.zeb_program.specs.FaultAnswers.{GivesAnswer, IsUnreadable, NamesUnder}
 use Rattle.zeb_program.specs.FaultLines.{IsUnclosed, TellsFailure}
 use Rattle.zeb_program.specs.FirstAnswers.{AnswersFirst}
 use Rattle.zeb_program.specs.Inputs.{IsInput}
 use Rattle.zeb_program.specs.PathChanges.{AreFilesTold}
 use Rattle.zeb_program.specs.PrivateFaults.{IsOpeningFault}
-use Rattle.zeb_program.specs.PrivateServing.{AnswersFrom, Leads, ServesLines, ServesTask, replied}
+use Rattle.zeb_program.specs.PrivateServing.{AnswersFrom, ServesLines, ServesTask, replied}
 use Rattle.zeb_program.specs.PrivateWordRuns.{GivesFor, IsOwnOr, OpensUnder, RunsIn, ServesIn, ServesOnNothing, TakesStore, TellsDone}
-use Rattle.zeb_program.specs.Registers.{FromStore, LacksStore, OnRegister, kept, none, OpensStore, Places}
-use Rattle.zeb_program.specs.ScriptAnswers.{AnswersOpened, AreScriptConditions, unreadable_line}
-use Rattle.zeb_program.specs.TaskAnswers.{AnswersOn, AnswersTask, AreTold, ReadsWhole, paths_of}
-use Rattle.zeb_program.specs.WordAnswers.{IsFaultStatus, TellsApart, WarnsAtMost, WarnsUnclosed}
+use Rattle.zeb_program.specs.Registers.{LacksStore, kept, none, Places}
+use Rattle.zeb_program.specs.ScriptAnswers.{AnswersOpened, AreScriptConditions}
+use Rattle.zeb_program.specs.TaskAnswers.{AnswersOn, AnswersTask, ReadsWhole, paths_of}
+use Rattle.zeb_program.specs.WordAnswers.{TellsApart, WarnsAtMost}
 use Rattle.zeb_program.specs.WordRuns.{AnswersShell, IsInputFault, IsText, Performs, ReadsAt, RunsBatch, batch_stopped, batch_ran, RunsLines, on_store, in_memory, no_register, RunsShell, shell_stopped, shell_ran}
 use Rattle.zeb_program.specs.WordRuns.{ServesUnder, answered, unopened, StopsOpening, not_opened, TellsClosed, TellsWhy, WritesReply}
+use Rattle.zeb_program.specs.declared.statuses.Status.{Status}
+use Rattle.zeb_program.specs.Statuses.{IsFaultStatus}
+use Rattle.zeb_program.specs.declared.statuses.Status.TheVariants.{Answered, Failed}
+use Rattle.zeb_program.proofs.ScriptAnswerLemmas.{AnswersOpened-kept, Writes-kept}
+use Rattle.zeb_program.specs.Scripts.{BeginsRegister}
 
 -- ---- what is passed on stays what it was
-
-Writes-kept : (old mid new : Option (List ℕ)) (P : List ℕ → Type 0) → Keeps mid new → Writes old mid P → Writes old new P
-Writes-kept old mid new P stays w = (w.0, w.1, Appends-kept old mid new w.0 w.2 stays)
 
 WritesReply-kept : {S : Type 0} (at : Places S) (config : String Global) (task : Task) (old mid new : Option (List ℕ)) → Keeps mid new → WritesReply at config task old mid → WritesReply at config task old new
 WritesReply-kept at config task old mid new stays w = (w.0, w.1, Appends-kept old mid new (reply_text w.0) w.2 stays)
@@ -59,7 +60,7 @@ WarnsAtMost-kept task fault_old fault_mid fault_new stays (inr warns) =
     let wrote = warns.1 in
     inr (warns.0, (wrote.0, wrote.1, Appends-kept fault_old fault_mid fault_new wrote.0 wrote.2 stays))
 
-pub TellsApart-kept : {S : Type 0} (at : Places S) (config : String Global) (task : Task) (old mid new fault_old fault_mid fault_new : Option (List ℕ)) (status : ℕ) → Keeps mid new → Keeps fault_mid fault_new
+pub TellsApart-kept : {S : Type 0} (at : Places S) (config : String Global) (task : Task) (old mid new fault_old fault_mid fault_new : Option (List ℕ)) (status : Status) → Keeps mid new → Keeps fault_mid fault_new
     → TellsApart at config task old mid fault_old fault_mid status → TellsApart at config task old new fault_old fault_new status
 TellsApart-kept at config task old mid new fault_old fault_mid fault_new status stays fault_kept (inl t) =
     inl (t.0, WritesReply-kept at config task old mid new stays t.1, WarnsAtMost-kept task fault_old fault_mid fault_new fault_kept t.2)
@@ -69,33 +70,29 @@ TellsApart-kept at config task old mid new fault_old fault_mid fault_new status 
 TellsApart-kept at config task old mid new fault_old fault_mid fault_new status stays fault_kept (inr (inr t)) =
     inr (inr (t.0, Keeps-trans old mid new t.1 stays, Writes-kept fault_old fault_mid fault_new (TellsWhy at config task status) fault_kept t.2))
 
-TellsClosed-kept : (old mid new : Option (List ℕ)) (status : ℕ) → Keeps mid new → TellsClosed old mid status → TellsClosed old new status
+pub TellsClosed-kept : (old mid new : Option (List ℕ)) (status : Status) → Keeps mid new → TellsClosed old mid status → TellsClosed old new status
 TellsClosed-kept old mid new status stays (inl t) = inl (t.0, Keeps-trans old mid new t.1 stays)
 TellsClosed-kept old mid new status stays (inr t) = inr (t.0, Writes-kept old mid new IsUnclosed stays t.1)
 
-AnswersOpened-kept : (tells : List ℕ → Option (List ℕ)) (directives : List Directive) (n : ℕ) (batch : List ℕ) (old mid new : Option (List ℕ)) (status : ℕ) → Keeps mid new → AnswersOpened tells directives n batch old mid status → AnswersOpened tells directives n batch old new status
-AnswersOpened-kept tells directives n batch old mid new status stays (inl w) = inl (w.0, w.1, Appends-kept old mid new w.0 w.2 stays)
-AnswersOpened-kept tells directives n batch old mid new status stays (inr w) = inr (w.0, w.1, Appends-kept old mid new w.0 w.2 stays)
-
-RunsLines-kept : {S : Type 0} (at : Places S) (profile : List Directive) (text : List ℕ) (old mid new fault_old fault_mid fault_new : Option (List ℕ)) (status : ℕ) → Keeps mid new → Keeps fault_mid fault_new
+RunsLines-kept : {S : Type 0} (at : Places S) (profile : List Directive) (text : List ℕ) (old mid new fault_old fault_mid fault_new : Option (List ℕ)) (status : Status) → Keeps mid new → Keeps fault_mid fault_new
     → RunsLines at profile text old mid fault_old fault_mid status → RunsLines at profile text old new fault_old fault_new status
 RunsLines-kept at profile text old mid new fault_old fault_mid fault_new _ same fault_same (on_store c opened last here closed under opens from closes) =
     on_store c opened last here closed under opens
     (λ clean before bears known. Writes-kept old mid new (λ bytes. (later : Holdings) × AnswersBatch at.tells c 0 text before bytes here later) same (from clean before bears known))
     (TellsClosed-kept fault_old fault_mid fault_new closed fault_same closes)
-RunsLines-kept at profile text old mid new fault_old fault_mid fault_new status same fault_same (in_memory lacks quiet opened) =
-    in_memory lacks (Keeps-trans fault_old fault_mid fault_new quiet fault_same) (λ known. AnswersOpened-kept at.tells profile 0 text old mid new status same (opened known))
+RunsLines-kept at profile text old mid new fault_old fault_mid fault_new status same fault_same (in_memory lacks unmade quiet opened) =
+    in_memory lacks unmade (Keeps-trans fault_old fault_mid fault_new quiet fault_same) (λ known. AnswersOpened-kept at.tells profile 0 text old mid new status same (opened known))
 RunsLines-kept at profile text old mid new fault_old fault_mid fault_new status same fault_same (no_register {why = why} failure quiet tells) =
     no_register failure (Keeps-trans old mid new quiet same) (Writes-kept fault_old fault_mid fault_new (λ bytes. TellsFailure (fault.Refused why) bytes status) fault_same tells)
 
-pub RunsBatch-kept : {S : Type 0} (at : Places S) (config : String Global) (given : Option (List ℕ)) (failed : Bool) (old mid new fault_old fault_mid fault_new : Option (List ℕ)) (status : ℕ) → Keeps mid new → Keeps fault_mid fault_new
+pub RunsBatch-kept : {S : Type 0} (at : Places S) (config : String Global) (given : Option (List ℕ)) (failed : Bool) (old mid new fault_old fault_mid fault_new : Option (List ℕ)) (status : Status) → Keeps mid new → Keeps fault_mid fault_new
     → RunsBatch at config given failed old mid fault_old fault_mid status → RunsBatch at config given failed old new fault_old fault_new status
 RunsBatch-kept at config given failed old mid new fault_old fault_mid fault_new status same fault_same (batch_stopped why is quiet tells) =
     batch_stopped why is (Keeps-trans old mid new quiet same) (Writes-kept fault_old fault_mid fault_new (λ bytes. TellsFailure why bytes status) fault_same tells)
 RunsBatch-kept at config given failed old mid new fault_old fault_mid fault_new status same fault_same (batch_ran profile text read is runs) =
     batch_ran profile text read is (RunsLines-kept at profile text old mid new fault_old fault_mid fault_new status same fault_same runs)
 
-AnswersShell-kept : (told : List ℕ → Option (List ℕ)) (c : Conditions) (text : List ℕ) (left old mid new fault_old fault_new : Option (List ℕ)) (status : ℕ) (before : Holdings) → Keeps mid new
+AnswersShell-kept : (told : List ℕ → Option (List ℕ)) (c : Conditions) (text : List ℕ) (left old mid new fault_old fault_new : Option (List ℕ)) (status : Status) (before : Holdings) → Keeps mid new
     → AnswersShell told c text left old mid fault_old fault_new status before → AnswersShell told c text left old new fault_old fault_new status before
 AnswersShell-kept told c text left old mid new fault_old fault_new status before same (inl w) =
     inl (Writes-kept old mid new (λ bytes. (later : Holdings) × AnswersBatch told c 0 text before bytes status later) same w.0, w.1)
@@ -103,11 +100,11 @@ AnswersShell-kept told c text left old mid new fault_old fault_new status before
     inr (Writes-kept old mid new (AnswersFirst told c 0 text left before) same w.0, w.1, w.2)
 
 -- what is said of an input that is told
-some_kept : (given : Option (List ℕ)) (P Q : List ℕ → Type 0) → ((text : List ℕ) → P text → Q text) → IfSome given P → IfSome given Q
+pub some_kept : (given : Option (List ℕ)) (P Q : List ℕ → Type 0) → ((text : List ℕ) → P text → Q text) → IfSome given P → IfSome given Q
 some_kept None P Q so h = tt
 some_kept (Some text) P Q so h = so text h
 
-pub RunsShell-kept : {S : Type 0} (at : Places S) (config : String Global) (given left old mid new fault_old fault_mid fault_new : Option (List ℕ)) (status : ℕ) → Keeps mid new → Keeps fault_mid fault_new
+pub RunsShell-kept : {S : Type 0} (at : Places S) (config : String Global) (given left old mid new fault_old fault_mid fault_new : Option (List ℕ)) (status : Status) → Keeps mid new → Keeps fault_mid fault_new
     → RunsShell at config given left old mid fault_old fault_mid status → RunsShell at config given left old new fault_old fault_new status
 RunsShell-kept at config given left old mid new fault_old fault_mid fault_new status same fault_same (shell_stopped why is quiet tells) =
     shell_stopped why is (Keeps-trans old mid new quiet same) (Writes-kept fault_old fault_mid fault_new (λ bytes. TellsFailure why bytes status) fault_same tells)
@@ -189,13 +186,13 @@ served_nothing tells profile task c held last own answer under keeps serves name
 -- ---- what is told of a task
 
 -- of one that is answered
-pub told_done : {S : Type 0} (at : Places S) (config : String Global) (task : Task) (old new fault_old fault_new : Option (List ℕ)) (status : ℕ) (told : Told)
+pub told_done : {S : Type 0} (at : Places S) (config : String Global) (task : Task) (old new fault_old fault_new : Option (List ℕ)) (status : Status) (told : Told)
     → GivesFor (Ok told) (Performs at config task) → Appends old new told.text.items → TellsDone task fault_old fault_new status → TellsApart at config task old new fault_old fault_new status
 told_done at config task old new fault_old fault_new status told gives wrote (inl done) = inl (done.0, (gives.0, gives.2, subst (Appends old new) gives.1 wrote), done.1)
 told_done at config task old new fault_old fault_new status told gives wrote (inr done) = inr (inl (done.0, (gives.0, gives.2, subst (Appends old new) gives.1 wrote), done.1))
 
 -- of one that has no answer
-pub told_why : {S : Type 0} (at : Places S) (config : String Global) (task : Task) (old fault_old fault_new : Option (List ℕ)) (why : Fault) (failed fault_failed : Bool) (r : Result ℕ AllocError)
+pub told_why : {S : Type 0} (at : Places S) (config : String Global) (task : Task) (old fault_old fault_new : Option (List ℕ)) (why : Fault) (failed fault_failed : Bool) (r : Result Status AllocError)
     → Performs at config task (Err why) → IfOk r IsFaultStatus → IfOk r (λ status. fault_failed ≡ false → Writes fault_old fault_new (λ bytes. TellsFailure why bytes status))
     → IfOk r (λ status. failed ≡ false → fault_failed ≡ false → TellsApart at config task old old fault_old fault_new status)
 told_why at config task old fault_old fault_new why failed fault_failed (Err e) comes is tells = tt
@@ -206,23 +203,24 @@ told_why at config task old fault_old fault_new why failed fault_failed (Ok stat
 -- ---- the lines of the input
 
 -- how a register was closed
-pub told_closed : {T : Type 0} (shows : T → Option (List ℕ)) (old new : T) (failed : Bool) (status : ℕ) → (status ≡ 0 → new ≡ old) → (status ≡ 3 → failed ≡ false → Writes (shows old) (shows new) IsUnclosed)
-    → (status ≡ 0) ⊎ (status ≡ 3) → failed ≡ false → TellsClosed (shows old) (shows new) status
+pub told_closed : {T : Type 0} (shows : T → Option (List ℕ)) (old new : T) (failed : Bool) (status : Status) → (status ≡ Answered → new ≡ old) → (status ≡ Failed → failed ≡ false → Writes (shows old) (shows new) IsUnclosed)
+    → (status ≡ Answered) ⊎ (status ≡ Failed) → failed ≡ false → TellsClosed (shows old) (shows new) status
 told_closed shows old new failed status whole part (inl is) sound = inl (is, subst (λ t. Keeps (shows old) (shows t)) (sym (whole is)) (Keeps-refl (shows old)))
 told_closed shows old new failed status whole part (inr is) sound =
     inr (is, part is sound)
 
 -- the lines of a batch on the register in the store
-pub lines_kept : {S : Type 0} (at : Places S) (profile : List Directive) (text : List ℕ) (tells : List ℕ → Option (List ℕ)) (c : Conditions) (held : Held S) (n : ℕ) (old new fault_old fault_new : Option (List ℕ)) (status : ℕ)
+pub lines_kept : {S : Type 0} (at : Places S) (profile : List Directive) (text : List ℕ) (tells : List ℕ → Option (List ℕ)) (c : Conditions) (held : Held S) (n : ℕ) (old new fault_old fault_new : Option (List ℕ)) (status : Status)
     → n ≡ 0 → tells ≡ at.tells → AreScriptConditions profile c → TakesStore at profile held
     → RunsIn at.store tells c n text held old new fault_old fault_new status → RunsLines at profile text old new fault_old fault_new status
 lines_kept at profile text tells c held n old new fault_old fault_new status first same under takes runs =
     let r = subst (λ t. RunsIn at.store t c 0 text held old new fault_old fault_new status) same (subst (λ k. RunsIn at.store tells c k text held old new fault_old fault_new status) first runs) in
-    subst (RunsLines at profile text old new fault_old fault_new) (sym r.is)
-    (on_store c takes.0 r.last r.answered r.closed under takes.1
-    (λ clean before bears known. let w = r.lines clean known before (takes.2 (r.clean clean) before bears) in (w.2.0, (w.0, w.2.1), w.2.2)) r.closes)
+    let whole = r.3 in
+    subst (RunsLines at profile text old new fault_old fault_new) (sym r.2)
+    (on_store c takes.0 whole.last r.0 r.1 under takes.1
+    (λ clean before bears known. let w = whole.lines clean known before (takes.2 (whole.clean clean) before bears) in (w.2.0, (w.0, w.2.1), w.2.2)) whole.closes)
 
-pub run_kept : {S : Type 0} (at : Places S) (profile : List Directive) (text : List ℕ) (tells : List ℕ → Option (List ℕ)) (c : Conditions) (held : Held S) (n : ℕ) (old new fault_old fault_new : Option (List ℕ)) (failed fault_failed : Bool) (r : Result ℕ AllocError)
+pub run_kept : {S : Type 0} (at : Places S) (profile : List Directive) (text : List ℕ) (tells : List ℕ → Option (List ℕ)) (c : Conditions) (held : Held S) (n : ℕ) (old new fault_old fault_new : Option (List ℕ)) (failed fault_failed : Bool) (r : Result Status AllocError)
     → n ≡ 0 → tells ≡ at.tells → AreScriptConditions profile c → TakesStore at profile held
     → IfOk r (λ status. failed ≡ false → fault_failed ≡ false → RunsIn at.store tells c n text held old new fault_old fault_new status)
     → IfOk r (λ status. failed ≡ false → fault_failed ≡ false → RunsLines at profile text old new fault_old fault_new status)
@@ -231,15 +229,15 @@ run_kept at profile text tells c held n old new fault_old fault_new failed fault
     lines_kept at profile text tells c held n old new fault_old fault_new status first same under takes (runs sound quiet)
 
 -- on one in memory
-pub run_none : {S : Type 0} (at : Places S) (profile : List Directive) (text : List ℕ) (n : ℕ) (old new fault_old : Option (List ℕ)) (failed fault_failed : Bool) (r : Result ℕ AllocError)
-    → n ≡ 0 → LacksStore at profile → IfOk r (λ status. failed ≡ false → AreFilesTold at.tells text → AnswersOpened at.tells profile n text old new status)
+pub run_none : {S : Type 0} (at : Places S) (profile : List Directive) (text : List ℕ) (n : ℕ) (old new fault_old : Option (List ℕ)) (failed fault_failed : Bool) (r : Result Status AllocError)
+    → n ≡ 0 → LacksStore at profile → ¬ BeginsRegister text → IfOk r (λ status. failed ≡ false → AreFilesTold at.tells text → AnswersOpened at.tells profile n text old new status)
     → IfOk r (λ status. failed ≡ false → fault_failed ≡ false → RunsLines at profile text old new fault_old fault_old status)
-run_none at profile text n old new fault_old failed fault_failed (Err e) first lacks opened = tt
-run_none at profile text n old new fault_old failed fault_failed (Ok status) first lacks opened = λ sound _.
-    in_memory lacks (Keeps-refl fault_old) (λ known. subst (λ k. AnswersOpened at.tells profile k text old new status) first (opened sound known))
+run_none at profile text n old new fault_old failed fault_failed (Err e) first lacks unmade opened = tt
+run_none at profile text n old new fault_old failed fault_failed (Ok status) first lacks unmade opened = λ sound _.
+    in_memory lacks unmade (Keeps-refl fault_old) (λ known. subst (λ k. AnswersOpened at.tells profile k text old new status) first (opened sound known))
 
 -- or none is opened
-pub run_unopened : {S : Type 0} (at : Places S) (profile : List Directive) (text : List ℕ) (old fault_old fault_new : Option (List ℕ)) (why : Fault) (failed fault_failed : Bool) (r : Result ℕ AllocError) → IsOpeningFault why
+pub run_unopened : {S : Type 0} (at : Places S) (profile : List Directive) (text : List ℕ) (old fault_old fault_new : Option (List ℕ)) (why : Fault) (failed fault_failed : Bool) (r : Result Status AllocError) → IsOpeningFault why
     → IfOk r (λ status. fault_failed ≡ false → Writes fault_old fault_new (λ bytes. TellsFailure why bytes status))
     → IfOk r (λ status. failed ≡ false → fault_failed ≡ false → RunsLines at profile text old old fault_old fault_new status)
 run_unopened at profile text old fault_old fault_new why failed fault_failed (Err e) is tells = tt
@@ -249,14 +247,14 @@ run_unopened at profile text old fault_old fault_new (fault.Unreadable path) fai
 run_unopened at profile text old fault_old fault_new fault.Memory failed fault_failed (Ok status) is tells = absurd is
 
 -- a batch that isn't run
-pub batch_refused : {S : Type 0} (at : Places S) (config : String Global) (given : Option (List ℕ)) (read_failed : Bool) (old fault_old fault_new : Option (List ℕ)) (why : Fault) (failed fault_failed : Bool) (r : Result ℕ AllocError)
+pub batch_refused : {S : Type 0} (at : Places S) (config : String Global) (given : Option (List ℕ)) (read_failed : Bool) (old fault_old fault_new : Option (List ℕ)) (why : Fault) (failed fault_failed : Bool) (r : Result Status AllocError)
     → ReadsAt at config (Err why) ⊎ IsInputFault given read_failed why → IfOk r (λ status. fault_failed ≡ false → Writes fault_old fault_new (λ bytes. TellsFailure why bytes status))
     → IfOk r (λ status. failed ≡ false → fault_failed ≡ false → RunsBatch at config given read_failed old old fault_old fault_new status)
 batch_refused at config given read_failed old fault_old fault_new why failed fault_failed (Err e) is tells = tt
 batch_refused at config given read_failed old fault_old fault_new why failed fault_failed (Ok status) is tells = λ _ sound. batch_stopped why is (Keeps-refl old) (tells sound)
 
 -- and one that is
-pub batch_run : {S : Type 0} (at : Places S) (config : String Global) (given : Option (List ℕ)) (read_failed : Bool) (profile : List Directive) (text : List ℕ) (old new fault_old fault_new : Option (List ℕ)) (failed fault_failed : Bool) (r : Result ℕ AllocError)
+pub batch_run : {S : Type 0} (at : Places S) (config : String Global) (given : Option (List ℕ)) (read_failed : Bool) (profile : List Directive) (text : List ℕ) (old new fault_old fault_new : Option (List ℕ)) (failed fault_failed : Bool) (r : Result Status AllocError)
     → ReadsAt at config (Ok profile) → IsText given text → IfOk r (λ status. failed ≡ false → fault_failed ≡ false → RunsLines at profile text old new fault_old fault_new status)
     → IfOk r (λ status. failed ≡ false → fault_failed ≡ false → RunsBatch at config given read_failed old new fault_old fault_new status)
 batch_run at config given read_failed profile text old new fault_old fault_new failed fault_failed (Err e) read is runs = tt
@@ -271,31 +269,32 @@ stops_opening at config profile (fault.Profile file why) read is = absurd is
 stops_opening at config profile (fault.Unreadable path) read is = absurd is
 stops_opening at config profile fault.Memory read is = absurd is
 
-pub shell_unopened : {S : Type 0} (at : Places S) (config : String Global) (given left old fault_old fault_new : Option (List ℕ)) (why : Fault) (failed fault_failed : Bool) (r : Result ℕ AllocError) → StopsOpening at config why
+pub shell_unopened : {S : Type 0} (at : Places S) (config : String Global) (given left old fault_old fault_new : Option (List ℕ)) (why : Fault) (failed fault_failed : Bool) (r : Result Status AllocError) → StopsOpening at config why
     → IfOk r (λ status. fault_failed ≡ false → Writes fault_old fault_new (λ bytes. TellsFailure why bytes status))
     → IfOk r (λ status. failed ≡ false → fault_failed ≡ false → RunsShell at config given left old old fault_old fault_new status)
 shell_unopened at config given left old fault_old fault_new why failed fault_failed (Err e) is tells = tt
 shell_unopened at config given left old fault_old fault_new why failed fault_failed (Ok status) is tells = λ _ sound. shell_stopped why is (Keeps-refl old) (tells sound)
 
-served_shell : (told : List ℕ → Option (List ℕ)) (c : Conditions) (text : List ℕ) (left : Option (List ℕ)) (held last : State) (old new fault_old fault_new : Option (List ℕ)) (status : ℕ) (before : Holdings) → Holding held before
+served_shell : (told : List ℕ → Option (List ℕ)) (c : Conditions) (text : List ℕ) (left : Option (List ℕ)) (held last : State) (old new fault_old fault_new : Option (List ℕ)) (status : Status) (before : Holdings) → Holding held before
     → ServesLines told c text left held last old new fault_old fault_new status → AnswersShell told c text left old new fault_old fault_new status before
 served_shell told c text left held last old new fault_old fault_new status before keeps (inl all) = let w = all.0 before keeps in inl ((w.2.0, (w.0, w.2.1), w.2.2), all.1)
 served_shell told c text left held last old new fault_old fault_new status before keeps (inr part) = inr (part.0 before keeps, part.1, part.2)
 
 -- its lines, on the register in the store
-shell_kept : {S : Type 0} (at : Places S) (config : String Global) (tells : List ℕ → Option (List ℕ)) (c : Conditions) (held : Held S) (given left old new fault_old fault_new : Option (List ℕ)) (status : ℕ)
+shell_kept : {S : Type 0} (at : Places S) (config : String Global) (tells : List ℕ → Option (List ℕ)) (c : Conditions) (held : Held S) (given left old new fault_old fault_new : Option (List ℕ)) (status : Status)
     → tells ≡ at.tells → OpensUnder at config c held → ServesIn at.store tells c given left held old new fault_old fault_new status → RunsShell at config given left old new fault_old fault_new status
 shell_kept at config tells c held given left old new fault_old fault_new status same under serves =
     let s = subst (λ t. ServesIn at.store t c given left held old new fault_old fault_new status) same serves in
     let takes = under.3 in
-    subst (RunsShell at config given left old new fault_old fault_new) (sym s.is)
-    (shell_ran under.0 c takes.0 s.last s.between s.answered s.closed under.1 under.2 takes.1
-    (λ clean before bears. some_kept given (λ text. AreFilesTold at.tells text → ServesLines at.tells c text left (state at.store held) (state at.store s.last) old new fault_old s.between s.answered)
-    (λ text. AreFilesTold at.tells text → AnswersShell at.tells c text left old new fault_old s.between s.answered before)
-    (λ text h known. served_shell at.tells c text left (state at.store held) (state at.store s.last) old new fault_old s.between s.answered before (takes.2 (s.clean clean) before bears) (h known)) (s.lines clean))
-    s.closes)
+    let whole = s.4 in
+    subst (RunsShell at config given left old new fault_old fault_new) (sym s.3)
+    (shell_ran under.0 c takes.0 whole.last s.0 s.1 s.2 under.1 under.2 takes.1
+    (λ clean before bears. some_kept given (λ text. AreFilesTold at.tells text → ServesLines at.tells c text left (state at.store held) (state at.store whole.last) old new fault_old s.0 s.1)
+    (λ text. AreFilesTold at.tells text → AnswersShell at.tells c text left old new fault_old s.0 s.1 before)
+    (λ text h known. served_shell at.tells c text left (state at.store held) (state at.store whole.last) old new fault_old s.0 s.1 before (takes.2 (whole.clean clean) before bears) (h known)) (whole.lines clean))
+    whole.closes)
 
-pub shell_served : {S : Type 0} (at : Places S) (config : String Global) (tells : List ℕ → Option (List ℕ)) (c : Conditions) (held : Held S) (given left old new fault_old fault_new : Option (List ℕ)) (failed fault_failed : Bool) (r : Result ℕ AllocError)
+pub shell_served : {S : Type 0} (at : Places S) (config : String Global) (tells : List ℕ → Option (List ℕ)) (c : Conditions) (held : Held S) (given left old new fault_old fault_new : Option (List ℕ)) (failed fault_failed : Bool) (r : Result Status AllocError)
     → tells ≡ at.tells → OpensUnder at config c held → IfOk r (λ status. failed ≡ false → fault_failed ≡ false → ServesIn at.store tells c given left held old new fault_old fault_new status)
     → IfOk r (λ status. failed ≡ false → fault_failed ≡ false → RunsShell at config given left old new fault_old fault_new status)
 shell_served at config tells c held given left old new fault_old fault_new failed fault_failed (Err e) same under serves = tt
@@ -322,8 +321,8 @@ stops_so at config profile (Ok session) read failed = tt
 stops_so at config profile (Err failure) read failed = stops_opening at config profile failure.fault read failed
 
 -- what is told beside the answer to a task
-pub done_told : {T : Type 0} (shows : T → Option (List ℕ)) (task : Task) (old : Option (List ℕ)) (mid new : T) (failed : Bool) (status : ℕ) → (status ≡ 0 → new ≡ mid) → (status ≡ 3 → failed ≡ false → Writes (shows mid) (shows new) IsUnclosed)
-    → (status ≡ 0) ⊎ (status ≡ 3) → failed ≡ false → WarnsAtMost task old (shows mid) → TellsDone task old (shows new) status
+pub done_told : {T : Type 0} (shows : T → Option (List ℕ)) (task : Task) (old : Option (List ℕ)) (mid new : T) (failed : Bool) (status : Status) → (status ≡ Answered → new ≡ mid) → (status ≡ Failed → failed ≡ false → Writes (shows mid) (shows new) IsUnclosed)
+    → (status ≡ Answered) ⊎ (status ≡ Failed) → failed ≡ false → WarnsAtMost task old (shows mid) → TellsDone task old (shows new) status
 done_told shows task old mid new failed status whole part (inl is) sound warns = inl (is, subst (λ t. WarnsAtMost task old (shows t)) (sym (whole is)) warns)
 done_told shows task old mid new failed status whole part (inr is) sound warns =
     inr (is, (shows mid, warns, part is sound))

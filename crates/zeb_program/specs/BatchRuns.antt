@@ -1,5 +1,5 @@
 -- A batch as one run: the commands that its lines name, in their order, with the answer to each (this program's own).
-use Rattle.std.specs.Prelude.{◌≡◌, ◌⊎◌, ◌↔◌, ◌<◌, ◌+◌, ◌^◌, ℕ, max, map, Option, Some, Result, List, [], ◌∷◌, ◌++◌, length, String, string_bytes}
+use Rattle.std.specs.Prelude.{◌≡◌, ◌⊎◌, ◌↔◌, ◌<◌, ◌+◌, ◌^◌, ℕ, map, Option, Some, Result, List, [], ◌∷◌, ◌++◌, length, String, string_bytes}
 use Rattle.std.specs.declared.alloc.Global.{Global}
 use Rattle.zeb_change.specs.Conditions.{Conditions}
 use Rattle.zeb_change.specs.declared.refusals.Refusal.{Refusal}
@@ -13,6 +13,9 @@ use Rattle.zeb_image.specs.NameOf.{name_bytes}
 use Rattle.zeb_program.specs.Answers.{AnswersBatch, answer_status, answer_text, bad_line, mark_line}
 use Rattle.zeb_program.specs.Lines.{first_line, after_first_line}
 use Rattle.zeb_program.specs.Says.{Says}
+use Rattle.zeb_program.specs.Statuses.{greater}
+use Rattle.zeb_program.specs.declared.statuses.Status.{Status}
+use Rattle.zeb_program.specs.declared.statuses.Status.TheVariants.{Answered, Misused}
 use Rattle.zeb_program.specs.declared.lines.Line.TheVariants.{Remark, Command as Order, Path, Mark, Bad}
 use Rattle.zeb_program.specs.declared.path_changes.PathChange.{PathChange}
 
@@ -33,24 +36,24 @@ NamesCommand told line command =
 
 -- The lines of a text, which n lines of the input stand before: the commands that they name, an answer to each, what is written for the
 -- lines, and the greatest status.
-pub data TellsLines : (List ℕ → Option (List ℕ)) → ℕ → List ℕ → List Command → List (Result Reply Refusal) → List ℕ → ℕ → Type 0 where
-  none : {told : List ℕ → Option (List ℕ)} {n : ℕ} → TellsLines told n [] [] [] [] 0
-  remark : {told : List ℕ → Option (List ℕ)} {n : ℕ} {text : List ℕ} {commands : List Command} {answers : List (Result Reply Refusal)} {bytes : List ℕ} {status : ℕ}
+pub data TellsLines : (List ℕ → Option (List ℕ)) → ℕ → List ℕ → List Command → List (Result Reply Refusal) → List ℕ → Status → Type 0 where
+  none : {told : List ℕ → Option (List ℕ)} {n : ℕ} → TellsLines told n [] [] [] [] Answered
+  remark : {told : List ℕ → Option (List ℕ)} {n : ℕ} {text : List ℕ} {commands : List Command} {answers : List (Result Reply Refusal)} {bytes : List ℕ} {status : Status}
       → 0 < length text → Says (first_line text) Remark → TellsLines told (n + 1) (after_first_line text) commands answers bytes status
       → TellsLines told n text commands answers bytes status
-  mark : {told : List ℕ → Option (List ℕ)} {n : ℕ} {text : List ℕ} {commands : List Command} {answers : List (Result Reply Refusal)} {bytes : List ℕ} {status : ℕ}
+  mark : {told : List ℕ → Option (List ℕ)} {n : ℕ} {text : List ℕ} {commands : List Command} {answers : List (Result Reply Refusal)} {bytes : List ℕ} {status : Status}
       → (marked : String Global) → 0 < length text → Says (first_line text) (Mark marked) → TellsLines told (n + 1) (after_first_line text) commands answers bytes status
       → TellsLines told n text commands answers (mark_line (string_bytes marked) ++ bytes) status
-  bad : {told : List ℕ → Option (List ℕ)} {n : ℕ} {text : List ℕ} {commands : List Command} {answers : List (Result Reply Refusal)} {bytes : List ℕ} {status : ℕ}
+  bad : {told : List ℕ → Option (List ℕ)} {n : ℕ} {text : List ℕ} {commands : List Command} {answers : List (Result Reply Refusal)} {bytes : List ℕ} {status : Status}
       → 0 < length text → Says (first_line text) Bad → TellsLines told (n + 1) (after_first_line text) commands answers bytes status
-      → TellsLines told n text commands answers (bad_line (n + 1) ++ bytes) (max 2 status)
-  command : {told : List ℕ → Option (List ℕ)} {n : ℕ} {text : List ℕ} {commands : List Command} {answers : List (Result Reply Refusal)} {bytes : List ℕ} {status : ℕ}
+      → TellsLines told n text commands answers (bad_line (n + 1) ++ bytes) (greater Misused status)
+  command : {told : List ℕ → Option (List ℕ)} {n : ℕ} {text : List ℕ} {commands : List Command} {answers : List (Result Reply Refusal)} {bytes : List ℕ} {status : Status}
       → (command : Command) → (answer : Result Reply Refusal) → 0 < length text → NamesCommand told (first_line text) command
       → TellsLines told (n + 1) (after_first_line text) commands answers bytes status
-      → TellsLines told n text (command ∷ commands) (answer ∷ answers) (answer_text answer ++ bytes) (max (answer_status answer) status)
+      → TellsLines told n text (command ∷ commands) (answer ∷ answers) (answer_text answer ++ bytes) (greater (answer_status answer) status)
 
 -- what is written for a text's lines is the answers of one run of the commands that they name
-abbrev pub IsOneRun : (List ℕ → Option (List ℕ)) → Conditions → ℕ → List ℕ → Holdings → List ℕ → ℕ → Holdings → Type 0
+abbrev pub IsOneRun : (List ℕ → Option (List ℕ)) → Conditions → ℕ → List ℕ → Holdings → List ℕ → Status → Holdings → Type 0
 IsOneRun told c n text before bytes status last =
     (commands : List Command) × (answers : List (Result Reply Refusal)) × TellsLines told n text commands answers bytes status
     × Run c before commands (map answer_of answers) last
@@ -61,5 +64,5 @@ AreFilesShort told = (path file : List ℕ) → told path ≡ Some file → leng
 
 -- a batch is answered just as one run of the commands that its lines name
 abbrev pub BatchIsOneRun : Type 0
-BatchIsOneRun = (told : List ℕ → Option (List ℕ)) (c : Conditions) (n : ℕ) (text : List ℕ) (before : Holdings) (bytes : List ℕ) (status : ℕ) (last : Holdings)
+BatchIsOneRun = (told : List ℕ → Option (List ℕ)) (c : Conditions) (n : ℕ) (text : List ℕ) (before : Holdings) (bytes : List ℕ) (status : Status) (last : Holdings)
     → AreFilesShort told → AnswersBatch told c n text before bytes status last ↔ IsOneRun told c n text before bytes status last

@@ -1,6 +1,5 @@
 -- What is written where a command that words or a line name isn't answered, and the status that goes with it (this program's own).
 use Rattle.std.specs.Prelude.{◌≡◌, ◌⊎◌, ℕ, List, [], ◌∷◌, ◌++◌, codes, string_bytes}
-use Rattle.zeb_engine.specs.Refusals.{status_of}
 use Rattle.zeb_profile.specs.declared.faults.ProfileFault.{ProfileFault}
 use Rattle.zeb_profile.specs.Faults.{fault_text}
 use Rattle.zeb_program.specs.declared.faults.Fault.{Fault}
@@ -9,7 +8,10 @@ use Rattle.std.specs.Fmt.{decimal}
 use Rattle.zeb_paths.specs.Causes.{path_cause_text, store_cause_text}
 use Rattle.zeb_program.specs.declared.failures.Cause.{Cause}
 use Rattle.zeb_program.specs.declared.failures.Cause.TheVariants.{Path, Store, File}
-use Rattle.zeb_program.specs.ScriptAnswers.{fault_status, refusal_line}
+use Rattle.zeb_program.specs.ScriptAnswers.{refusal_line}
+use Rattle.zeb_program.specs.Statuses.{fault_status, refusal_status}
+use Rattle.zeb_program.specs.declared.statuses.Status.{Status}
+use Rattle.zeb_program.specs.declared.statuses.Status.TheVariants.{Failed}
 
 -- of a path that can't be read
 abbrev pub unreadable_path : List ℕ → List ℕ
@@ -20,10 +22,10 @@ abbrev pub profile_line : List ℕ → ProfileFault → List ℕ
 profile_line file fault = codes "zebraidx: " ++ file ++ codes " " ++ fault_text fault ++ 10 ∷ []
 
 -- This line is written of a fault, and this is the status. For want of memory in the program itself there is no line.
-abbrev pub TellsFault : Fault → List ℕ → ℕ → Type 0
+abbrev pub TellsFault : Fault → List ℕ → Status → Type 0
 TellsFault (Profile file fault) line status = (line ≡ profile_line (string_bytes file) fault) × (status ≡ fault_status fault.kind)
-TellsFault (Unreadable path) line status = (line ≡ unreadable_path (string_bytes path)) × (status ≡ 3)
-TellsFault (Refused refusal) line status = (line ≡ refusal_line refusal) × (status ≡ status_of refusal)
+TellsFault (Unreadable path) line status = (line ≡ unreadable_path (string_bytes path)) × (status ≡ Failed)
+TellsFault (Refused refusal) line status = (line ≡ refusal_line refusal) × (status ≡ refusal_status refusal)
 TellsFault Memory line status = ⊥
 
 -- of what is known of why there is a fault
@@ -37,7 +39,7 @@ abbrev pub IsCause : List ℕ → Type 0
 IsCause bytes = (bytes ≡ []) ⊎ ((cause : Cause) × (bytes ≡ cause_line cause))
 
 -- the line of a fault, with this status, and below it one with the cause, where it is known
-abbrev pub TellsFailure : Fault → List ℕ → ℕ → Type 0
+abbrev pub TellsFailure : Fault → List ℕ → Status → Type 0
 TellsFailure fault bytes status =
     (line : List ℕ) × (more : List ℕ) × TellsFault fault line status × IsCause more × (bytes ≡ line ++ more)
 

@@ -20,6 +20,7 @@ pub mod ScriptAnswers
 pub mod ProfileFiles
 pub mod Registers
 pub mod Scripts
+pub mod Statuses
 pub mod PrivateServing
 pub mod TaskAnswers
 pub mod Warnings

@@ -6,7 +6,6 @@ use Rattle.zeb_words.specs.declared.words.Act.{Act}
 use Rattle.zeb_words.specs.declared.words.Act.TheVariants.{Batch, Shell}
 use Rattle.zeb_program.specs.declared.tasks.Errand.{Errand}
 use Rattle.zeb_program.specs.declared.tasks.Errand.TheVariants as errand
-use Rattle.zeb_program.specs.declared.tasks.Task.{Task}
 use Rattle.zeb_program.specs.Errands.{IsTaskOf}
 
 -- what an act on a database asks for; only a batch and a shell have the lines of the input run

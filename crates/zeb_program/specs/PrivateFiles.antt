@@ -1,11 +1,27 @@
 -- What only the contracts of private functions speak of; no public clause reaches it.
 -- What is read of files that are read whole, those of an analysis, and what their readers are sure to give (this program's own).
-use Rattle.std.specs.Prelude.{◌≤◌, ◌||◌, Bool, ℕ, List, length, Option, None, if◌then◌else◌}
+use Rattle.std.specs.Prelude.{◌≡◌, ◌≤◌, ◌||◌, ⊤, Bool, ℕ, List, length, Option, None, IfSome, Result, Ok, Err, String, Vec, if◌then◌else◌}
 use Rattle.std.specs.List.{AllByRecursion}
+use Rattle.std.specs.declared.alloc.Global.{Global}
+use Rattle.zeb_program.specs.declared.faults.Fault.{Fault}
+use Rattle.zeb_program.specs.declared.faults.Fault.TheVariants.{Profile, Unreadable, Refused, Memory}
 
--- each of these files has at most as many bytes as a file that is read whole may have
+-- a file that is read whole may have so many bytes
+abbrev pub IsShort : List ℕ → Type 0
+IsShort bytes = length bytes ≤ 16777216
+
+-- so it is of each of these files
 abbrev pub AreShort : List (List ℕ) → Type 0
-AreShort = AllByRecursion (λ bytes. length bytes ≤ 16777216)
+AreShort = AllByRecursion IsShort
+
+-- What is answered where the file at a path is read whole, of which these bytes are told, if any: they, or others that aren't too many; or
+-- the path can't be read, where bytes that are told are too many; or memory ran out.
+abbrev pub ReadsContent : Option (List ℕ) → String Global → Result (Vec ℕ Global) Fault → Type 0
+ReadsContent told path (Ok content) = IsShort content.items × IfSome told (λ bytes. content.items ≡ bytes)
+ReadsContent told path (Err (Profile file fault)) = ⊥
+ReadsContent told path (Err (Unreadable given)) = (given ≡ path) × IfSome told (λ bytes. ¬ IsShort bytes)
+ReadsContent told path (Err (Refused refusal)) = ⊥
+ReadsContent told path (Err Memory) = ⊤
 
 -- the bytes that a reader is sure to give: those that it tells, where no read can fail and none has
 abbrev pub sure_bytes : {R : Type 0} (remaining : R → Option (List ℕ)) (may_fail has_failed : R → Bool) → R → Option (List ℕ)

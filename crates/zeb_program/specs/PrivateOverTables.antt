@@ -1,6 +1,6 @@
 -- What only the contracts of private functions speak of; no public clause reaches it.
 -- What a command or a change by paths is answered on any tables, whatever these hold, where words or a line name it (this program's own).
-use Rattle.std.specs.Prelude.{◌≡◌, ◌⊎◌, ℕ, Option, Some, Result, Ok, Err, OnErr, List, [], ◌∷◌, length, map, string_bytes}
+use Rattle.std.specs.Prelude.{◌≡◌, ◌⊎◌, ℕ, Option, Some, Result, Ok, Err, OnErr, List, [], ◌∷◌, map, string_bytes}
 use Rattle.std.specs.Io.KnownBytes.{Appends, Keeps as Stays}
 use Rattle.sqlite.specs.Held.{Held, state}
 use Rattle.sqlite.specs.State.{State}
@@ -41,6 +41,8 @@ use Rattle.zeb_program.specs.TaskAnswers.{AreTold}
 use Rattle.zeb_program.specs.Says.{Says}
 use Rattle.zeb_program.specs.ScriptAnswers.{unreadable_line}
 use Rattle.zeb_program.specs.TaskAnswers.{ReadsWhole}
+use Rattle.zeb_program.specs.declared.statuses.Status.{Status}
+use Rattle.zeb_program.specs.declared.statuses.Status.TheVariants.{Answered, Misused, Failed}
 
 -- ---- a task
 
@@ -102,44 +104,44 @@ pub record TaskOver (told : List ℕ → Option (List ℕ)) (format : Format) (c
 -- ---- a line: from which tables, what is written, its status, and the tables then
 
 -- what is written for a command, and its status, are those of its answer on any tables, and this is what it leaves of them
-abbrev pub CommandOver : Format → Conditions → Command → State → List ℕ → ℕ → State → Type 0
+abbrev pub CommandOver : Format → Conditions → Command → State → List ℕ → Status → State → Type 0
 CommandOver format c command old bytes status new =
     (answer : Result Reply Refusal) × (bytes ≡ answer_text answer) × (status ≡ answer_status answer)
     × ServesOver format c command old new answer
 
 -- This is written for an answer, or for the fault by which there is none, and this is the status.
-abbrev pub IsTold : Result Reply Fault → List ℕ → ℕ → Type 0
+abbrev pub IsTold : Result Reply Fault → List ℕ → Status → Type 0
 IsTold (Ok reply) bytes status = (bytes ≡ answer_text (Ok reply)) × (status ≡ answer_status (Ok reply))
 IsTold (Err fault) bytes status = TellsFault fault bytes status
 
 -- the same of a change by a path
-abbrev pub PathOver : (List ℕ → Option (List ℕ)) → Format → Conditions → PathChange → State → List ℕ → ℕ → State → Type 0
+abbrev pub PathOver : (List ℕ → Option (List ℕ)) → Format → Conditions → PathChange → State → List ℕ → Status → State → Type 0
 PathOver told format c change old bytes status new =
     (result : Result Reply Fault) × IsTold result bytes status
     × PathsOver told format c.profile change.kind c.limits (name_bytes change.database) (string_bytes change.path ∷ []) old result
     × PathsLeave told c change.kind (name_bytes change.database) (string_bytes change.path ∷ []) old new result
 
 -- of a line that says this
-abbrev pub SaysOver : (List ℕ → Option (List ℕ)) → Format → Conditions → ℕ → Line → State → List ℕ → ℕ → State → Type 0
-SaysOver told format c number Remark old bytes status new = (bytes ≡ []) × (status ≡ 0) × ChangesNothing old new
+abbrev pub SaysOver : (List ℕ → Option (List ℕ)) → Format → Conditions → ℕ → Line → State → List ℕ → Status → State → Type 0
+SaysOver told format c number Remark old bytes status new = (bytes ≡ []) × (status ≡ Answered) × ChangesNothing old new
 SaysOver told format c number (Order command) old bytes status new = CommandOver format c command old bytes status new
 SaysOver told format c number (Path change) old bytes status new = PathOver told format c change old bytes status new
-SaysOver told format c number (Mark text) old bytes status new = (bytes ≡ mark_line (string_bytes text)) × (status ≡ 0) × ChangesNothing old new
-SaysOver told format c number Bad old bytes status new = (bytes ≡ bad_line number) × (status ≡ 2) × ChangesNothing old new
+SaysOver told format c number (Mark text) old bytes status new = (bytes ≡ mark_line (string_bytes text)) × (status ≡ Answered) × ChangesNothing old new
+SaysOver told format c number Bad old bytes status new = (bytes ≡ bad_line number) × (status ≡ Misused) × ChangesNothing old new
 
 -- the same for a line, by its text and its number, and by the connection
-abbrev pub LineOver : {S : Type 0} → Ghosts S → (List ℕ → Option (List ℕ)) → Format → Conditions → ℕ → List ℕ → Held S → List ℕ → ℕ → Held S → Type 0
+abbrev pub LineOver : {S : Type 0} → Ghosts S → (List ℕ → Option (List ℕ)) → Format → Conditions → ℕ → List ℕ → Held S → List ℕ → Status → Held S → Type 0
 LineOver g told format c number text old bytes status new =
     (line : Line) × Says text line × SaysOver told format c number line (state g old) bytes status (state g new)
 
 -- every line of a text is answered so, each on the tables that the one before it left
-abbrev pub LinesOver : {S : Type 0} → Ghosts S → (List ℕ → Option (List ℕ)) → Format → Conditions → ℕ → List ℕ → Held S → List ℕ → ℕ → Held S → Type 0
+abbrev pub LinesOver : {S : Type 0} → Ghosts S → (List ℕ → Option (List ℕ)) → Format → Conditions → ℕ → List ℕ → Held S → List ℕ → Status → Held S → Type 0
 LinesOver g told format c n text old bytes status new = EachLine (LineOver g told format c) n text old bytes status [] new
 
 -- The first lines of a text are answered so, maybe all, and this is left of it: of the lines behind them no more is gone than one line may
 -- take.
 pub record FirstOver {S : Type 0} (g : Ghosts S) (told : List ℕ → Option (List ℕ)) (format : Format) (c : Conditions) (text : List ℕ) (left : Option (List ℕ)) (old : Held S) (bytes : List ℕ) : Type 0 where
-  pub status : ℕ
+  pub status : Status
   pub rest : List ℕ
   pub last : Held S
   pub lines : EachLine (LineOver g told format c) 0 text old bytes status rest last
@@ -147,7 +149,7 @@ pub record FirstOver {S : Type 0} (g : Ghosts S) (told : List ℕ → Option (Li
 
 -- A shell of these lines: all are answered so, and nothing goes to the fault output; or one can't be read, which is told there, and the lines
 -- before it are answered so, where this is left of the input.
-abbrev pub ServesOverLines : {S : Type 0} → Ghosts S → (List ℕ → Option (List ℕ)) → Format → Conditions → List ℕ → Option (List ℕ) → Held S → Held S → Option (List ℕ) → Option (List ℕ) → Option (List ℕ) → Option (List ℕ) → ℕ → Type 0
+abbrev pub ServesOverLines : {S : Type 0} → Ghosts S → (List ℕ → Option (List ℕ)) → Format → Conditions → List ℕ → Option (List ℕ) → Held S → Held S → Option (List ℕ) → Option (List ℕ) → Option (List ℕ) → Option (List ℕ) → Status → Type 0
 ServesOverLines g told format c text left old new wrote writes fault_old fault_new status =
     (Writes wrote writes (λ bytes. LinesOver g told format c 0 text old bytes status new) × Stays fault_old fault_new)
-    ⊎ (Writes wrote writes (FirstOver g told format c text left old) × (status ≡ 3) × Appends fault_old fault_new unreadable_line)
+    ⊎ (Writes wrote writes (FirstOver g told format c text left old) × (status ≡ Failed) × Appends fault_old fault_new unreadable_line)

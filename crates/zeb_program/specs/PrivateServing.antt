@@ -17,6 +17,8 @@ use Rattle.zeb_program.specs.FaultAnswers.{GivesAnswer, IsUnreadable}
 use Rattle.zeb_program.specs.ScriptAnswers.{unreadable_line}
 use Rattle.zeb_program.specs.TaskAnswers.{ReadsWhole}
 use Rattle.zeb_program.specs.TaskAnswers.{AnswersTask, AreTold, paths_of}
+use Rattle.zeb_program.specs.declared.statuses.Status.{Status}
+use Rattle.zeb_program.specs.declared.statuses.Status.TheVariants.{Failed}
 
 -- From tables that keep what a register holds, they lead to tables that keep what it holds then; P says what is written.
 abbrev pub Leads : State → State → Option (List ℕ) → Option (List ℕ) → (Holdings → List ℕ → Holdings → Type 0) → Type 0
@@ -29,10 +31,10 @@ Stops old wrote writes P = (before : Holdings) → Keeps old before → Writes w
 
 -- A shell of these lines: all are answered, and nothing goes to the fault output; or one can't be read, which is told there, and the lines
 -- before it are answered, where this is left of the input.
-abbrev pub ServesLines : (List ℕ → Option (List ℕ)) → Conditions → List ℕ → Option (List ℕ) → State → State → Option (List ℕ) → Option (List ℕ) → Option (List ℕ) → Option (List ℕ) → ℕ → Type 0
+abbrev pub ServesLines : (List ℕ → Option (List ℕ)) → Conditions → List ℕ → Option (List ℕ) → State → State → Option (List ℕ) → Option (List ℕ) → Option (List ℕ) → Option (List ℕ) → Status → Type 0
 ServesLines told c text left old new wrote writes fault_old fault_new status =
     (Leads old new wrote writes (λ before bytes last. AnswersBatch told c 0 text before bytes status last) × Stays fault_old fault_new)
-    ⊎ (Stops old wrote writes (AnswersFirst told c 0 text left) × (status ≡ 3) × Appends fault_old fault_new unreadable_line)
+    ⊎ (Stops old wrote writes (AnswersFirst told c 0 text left) × (status ≡ Failed) × Appends fault_old fault_new unreadable_line)
 
 -- From tables that keep what a register holds, an answer leads to tables that keep what it holds then.
 abbrev pub AnswersFrom : State → State → Result Reply Fault → (Holdings → Result Reply Refusal → Holdings → Type 0) → Type 0

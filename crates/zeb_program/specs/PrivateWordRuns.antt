@@ -1,9 +1,10 @@
 -- What only the contracts of private functions speak of; no public clause reaches it.
 -- The parts of what comes of words (this program's own).
-use Rattle.std.specs.Prelude.{◌≡◌, ◌⊎◌, ℕ, max, Option, IfSome, IfErr, Result, Ok, Err, List, String}
+use Rattle.std.specs.Prelude.{◌≡◌, ◌⊎◌, ℕ, Bool, false, Option, IfSome, IfErr, Result, Ok, Err, List, String}
+use Rattle.std.specs.declared.alloc.AllocError.{AllocError}
 use Rattle.std.specs.declared.alloc.Global.{Global}
 use Rattle.sqlite.specs.Held.{Held, state}
-use Rattle.sqlite.specs.State.{HasCleanDisk}
+use Rattle.sqlite.specs.State.{HasCleanDisk, State}
 use Rattle.sqlite.specs.Store.{Ghosts}
 use Rattle.zeb_change.specs.Conditions.{Conditions}
 use Rattle.zeb_change.specs.declared.refusals.Refusal.{Refusal}
@@ -18,13 +19,17 @@ use Rattle.zeb_program.specs.declared.faults.Fault.{Fault}
 use Rattle.zeb_program.specs.declared.faults.Fault.TheVariants.{Refused, Memory}
 use Rattle.zeb_program.specs.declared.performing.Told.{Told}
 use Rattle.zeb_program.specs.declared.tasks.Task.{Task}
-use Rattle.zeb_program.specs.Answers.{AnswersBatch}
+use Rattle.zeb_program.specs.Answers.{AnswersBatch, AnswersPart}
 use Rattle.zeb_program.specs.FaultAnswers.{IsOpeningFailure, NamesUnder}
+use Rattle.zeb_program.specs.FirstAnswers.{AnswersFirst}
 use Rattle.zeb_program.specs.PathChanges.{AreFilesTold}
-use Rattle.zeb_program.specs.PrivateServing.{Leads, ServesLines}
+use Rattle.zeb_program.specs.PrivateServing.{Leads, ServesLines, Stops}
 use Rattle.zeb_program.specs.Registers.{OpensStore, Places}
 use Rattle.zeb_program.specs.ScriptAnswers.{AreScriptConditions}
+use Rattle.zeb_program.specs.Statuses.{greater}
 use Rattle.zeb_program.specs.TaskAnswers.{AnswersOn, paths_of}
+use Rattle.zeb_program.specs.declared.statuses.Status.{Status}
+use Rattle.zeb_program.specs.declared.statuses.Status.TheVariants.{Answered, Failed}
 use Rattle.zeb_program.specs.WordAnswers.{WarnsAtMost, WarnsUnclosed}
 use Rattle.zeb_program.specs.WordRuns.{ReadsAt, TellsClosed}
 
@@ -66,31 +71,44 @@ ServesOnNothing told profile task result =
     ⊎ ((why : Refusal) × IsOpeningFailure why × (result ≡ Err (Refused why)))
 
 -- what goes to the fault output beside the answer to a task, and the status
-abbrev pub TellsDone : Task → Option (List ℕ) → Option (List ℕ) → ℕ → Type 0
+abbrev pub TellsDone : Task → Option (List ℕ) → Option (List ℕ) → Status → Type 0
 TellsDone task fault_old fault_new status =
-    ((status ≡ 0) × WarnsAtMost task fault_old fault_new) ⊎ ((status ≡ 3) × WarnsUnclosed task fault_old fault_new)
+    ((status ≡ Answered) × WarnsAtMost task fault_old fault_new) ⊎ ((status ≡ Failed) × WarnsUnclosed task fault_old fault_new)
 
 -- ---- the lines of the input
 
--- the lines of a batch are run over a connection, which is then closed
-pub record RunsIn {S : Type 0} (g : Ghosts S) (told : List ℕ → Option (List ℕ)) (c : Conditions) (n : ℕ) (text : List ℕ) (held : Held S) (old new fault_old fault_new : Option (List ℕ)) (status : ℕ) : Type 0 where
+-- Lines are run over a connection, which is then closed. What is said of them is said of the connection as it was before.
+pub record Closes {S : Type 0} (g : Ghosts S) (held : Held S) (Said : State → Type 0) (fault_old fault_new : Option (List ℕ)) (closed : Status) : Type 0 where
   pub last : Held S
-  pub answered : ℕ
-  pub closed : ℕ
-  pub is : status ≡ max answered closed
   pub clean : HasCleanDisk (state g last) → HasCleanDisk (state g held)
-  pub lines : HasCleanDisk (state g last) → AreFilesTold told text
-      → Leads (state g held) (state g last) old new (λ before bytes later. AnswersBatch told c n text before bytes answered later)
+  pub lines : HasCleanDisk (state g last) → Said (state g last)
   pub closes : TellsClosed fault_old fault_new closed
 
--- the same of a shell's
-pub record ServesIn {S : Type 0} (g : Ghosts S) (told : List ℕ → Option (List ℕ)) (c : Conditions) (given left : Option (List ℕ)) (held : Held S) (old new fault_old fault_new : Option (List ℕ)) (status : ℕ) : Type 0 where
-  pub last : Held S
-  pub between : Option (List ℕ)
-  pub answered : ℕ
-  pub closed : ℕ
-  pub is : status ≡ max answered closed
-  pub clean : HasCleanDisk (state g last) → HasCleanDisk (state g held)
-  pub lines : HasCleanDisk (state g last) → IfSome given (λ text. AreFilesTold told text
-      → ServesLines told c text left (state g held) (state g last) old new fault_old between answered)
-  pub closes : TellsClosed between fault_new closed
+-- The lines of a session are answered so, and what is told of its close behind them gives the other status, where no write has failed.
+abbrev pub EndsSession : Result Status AllocError → Result Status AllocError → Bool → Option (List ℕ) → Option (List ℕ) → Type 0
+EndsSession (Ok answered) result failed old new = (closed : Status) × (result ≡ Ok (greater answered closed)) × (failed ≡ false → TellsClosed old new closed)
+EndsSession (Err error) result failed old new = (closed : Status) × (result ≡ Err error) × (failed ≡ false → TellsClosed old new closed)
+
+-- the lines of a batch are run so
+abbrev pub RunsIn : {S : Type 0} → Ghosts S → (List ℕ → Option (List ℕ)) → Conditions → ℕ → List ℕ → Held S → Option (List ℕ) → Option (List ℕ) → Option (List ℕ) → Option (List ℕ) → Status → Type 0
+RunsIn g told c n text held old new fault_old fault_new status = (answered : Status) × (closed : Status) × (status ≡ greater answered closed)
+    × Closes g held (λ last. AreFilesTold told text
+    → Leads (state g held) last old new (λ before bytes later. AnswersBatch told c n text before bytes answered later)) fault_old fault_new closed
+
+-- and those of a shell
+abbrev pub ServesIn : {S : Type 0} → Ghosts S → (List ℕ → Option (List ℕ)) → Conditions → Option (List ℕ) → Option (List ℕ) → Held S → Option (List ℕ) → Option (List ℕ) → Option (List ℕ) → Option (List ℕ) → Status → Type 0
+ServesIn g told c given left held old new fault_old fault_new status =
+    (between : Option (List ℕ)) × (answered : Status) × (closed : Status) × (status ≡ greater answered closed)
+    × Closes g held (λ last. IfSome given (λ text. AreFilesTold told text
+    → ServesLines told c text left (state g held) last old new fault_old between answered)) between fault_new closed
+
+-- Where memory runs out for the program itself, the first lines of a batch are answered so, or none, and the rest are not.
+abbrev pub StopsIn : {S : Type 0} → Ghosts S → (List ℕ → Option (List ℕ)) → Conditions → ℕ → List ℕ → Held S → Option (List ℕ) → Option (List ℕ) → Option (List ℕ) → Option (List ℕ) → Type 0
+StopsIn g told c n text held old new fault_old fault_new =
+    (closed : Status) × Closes g held (λ last. AreFilesTold told text → Stops (state g held) old new (AnswersPart told c n text)) fault_old fault_new closed
+
+-- and those of a shell
+abbrev pub StopsServing : {S : Type 0} → Ghosts S → (List ℕ → Option (List ℕ)) → Conditions → Option (List ℕ) → Option (List ℕ) → Held S → Option (List ℕ) → Option (List ℕ) → Option (List ℕ) → Option (List ℕ) → Type 0
+StopsServing g told c given left held old new fault_old fault_new =
+    (closed : Status) × Closes g held (λ last. IfSome given (λ text. AreFilesTold told text
+    → Stops (state g held) old new (AnswersFirst told c 0 text left))) fault_old fault_new closed

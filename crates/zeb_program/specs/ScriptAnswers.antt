@@ -7,8 +7,6 @@ use Rattle.zeb_change.specs.declared.refusals.Refusal.TheVariants as refusal
 use Rattle.zeb_engine.specs.Refusals.{refusal_text}
 use Rattle.zeb_profile.specs.declared.directives.Directive.{Directive}
 use Rattle.zeb_profile.specs.declared.faults.ProfileFault.{ProfileFault}
-use Rattle.zeb_profile.specs.declared.faults.ProfileFaultKind.{ProfileFaultKind}
-use Rattle.zeb_profile.specs.declared.faults.ProfileFaultKind.TheVariants.{Memory}
 use Rattle.zeb_profile.specs.Faults.{fault_text}
 use Rattle.zeb_profile.specs.Outcomes.{FailsPlaced}
 use Rattle.zeb_profile.specs.Profiles.{profile_of}
@@ -16,13 +14,16 @@ use Rattle.zeb_program.specs.Inputs.{IsInput}
 use Rattle.zeb_program.specs.PathChanges.{AreFilesTold}
 use Rattle.zeb_program.specs.Scripts.{DividesAt, HasNoDivider}
 use Rattle.zeb_program.specs.Answers.{Writes, AnswersBatch, AnswersPart}
+use Rattle.zeb_program.specs.Statuses.{fault_status}
+use Rattle.zeb_program.specs.declared.statuses.Status.{Status}
+use Rattle.zeb_program.specs.declared.statuses.Status.TheVariants.{Answered, Failed}
 
 abbrev pub refusal_line : Refusal → List ℕ
 refusal_line why = refusal_text why ++ 10 ∷ []
 
 -- a register can't be opened: the store or the memory failed
-abbrev pub IsUnopened : List ℕ → ℕ → Type 0
-IsUnopened bytes status = ((bytes ≡ refusal_line refusal.Store) ⊎ (bytes ≡ refusal_line refusal.Memory)) × (status ≡ 3)
+abbrev pub IsUnopened : List ℕ → Status → Type 0
+IsUnopened bytes status = ((bytes ≡ refusal_line refusal.Store) ⊎ (bytes ≡ refusal_line refusal.Memory)) × (status ≡ Failed)
 
 abbrev pub unreadable_line : List ℕ
 unreadable_line = codes "zebraidx: cannot read input" ++ 10 ∷ []
@@ -34,11 +35,6 @@ usage_line = codes "zebraidx: bad usage" ++ 10 ∷ []
 abbrev pub fault_line : ProfileFault → List ℕ
 fault_line fault = codes "zebraidx: input " ++ fault_text fault ++ 10 ∷ []
 
--- the status for a profile that is refused
-abbrev pub fault_status : ProfileFaultKind → ℕ
-fault_status Memory = 3
-fault_status _ = 1
-
 -- what a register works under that the program opens, by the directives of its profile: the version is that of the layout with packed
 -- blocks, and the limits are the greatest that there are
 pub record AreScriptConditions (directives : List Directive) (c : Conditions) : Type 0 where
@@ -49,7 +45,7 @@ pub record AreScriptConditions (directives : List Directive) (c : Conditions) : 
 
 -- what the lines of a batch add to a writer's known bytes, from a register that holds nothing yet: their answers, or the failure of the
 -- store or the memory by which no register was opened
-abbrev pub AnswersOpened : (List ℕ → Option (List ℕ)) → List Directive → ℕ → List ℕ → Option (List ℕ) → Option (List ℕ) → ℕ → Type 0
+abbrev pub AnswersOpened : (List ℕ → Option (List ℕ)) → List Directive → ℕ → List ℕ → Option (List ℕ) → Option (List ℕ) → Status → Type 0
 AnswersOpened told directives n batch old new status =
     Writes old new (λ bytes. (c : Conditions) × AreScriptConditions directives c × (last : Holdings) × AnswersBatch told c n batch nothing_yet bytes status last)
     ⊎ Writes old new (λ bytes. IsUnopened bytes status)
@@ -65,16 +61,16 @@ IsProfileOf text profile = (HasNoDivider text × (profile ≡ text)) ⊎ ((n : �
 
 -- what a script of this text adds to a writer's known bytes, and its status, where `told` gives the bytes of files at paths: only an input
 -- that isn't too long and is text is looked at any further
-pub data AnswersScript : (List ℕ → Option (List ℕ)) → List ℕ → Option (List ℕ) → Option (List ℕ) → ℕ → Type 0 where
+pub data AnswersScript : (List ℕ → Option (List ℕ)) → List ℕ → Option (List ℕ) → Option (List ℕ) → Status → Type 0 where
   -- an input that is too long or no text
-  unreadable : {told : List ℕ → Option (List ℕ)} {text : List ℕ} {old new : Option (List ℕ)} → ¬ IsInput text → Writes old new (λ bytes. bytes ≡ unreadable_line) → AnswersScript told text old new 3
+  unreadable : {told : List ℕ → Option (List ℕ)} {text : List ℕ} {old new : Option (List ℕ)} → ¬ IsInput text → Writes old new (λ bytes. bytes ≡ unreadable_line) → AnswersScript told text old new Failed
   -- a profile that is refused: for its first fault, or for want of memory
   faulty : {told : List ℕ → Option (List ℕ)} {text profile : List ℕ} {old new : Option (List ℕ)} → (fault : ProfileFault) → IsInput text → IsProfileOf text profile → FailsPlaced fault (profile_of profile) → Writes old new (λ bytes. bytes ≡ fault_line fault)
       → AnswersScript told text old new (fault_status fault.kind)
   -- a profile alone
-  alone : {told : List ℕ → Option (List ℕ)} {text : List ℕ} {old new : Option (List ℕ)} → IsInput text → HasNoDivider text → IsOk (profile_of text) → Writes old new (λ bytes. bytes ≡ []) → AnswersScript told text old new 0
+  alone : {told : List ℕ → Option (List ℕ)} {text : List ℕ} {old new : Option (List ℕ)} → IsInput text → HasNoDivider text → IsOk (profile_of text) → Writes old new (λ bytes. bytes ≡ []) → AnswersScript told text old new Answered
   -- a profile, and the lines of a batch; what is said of them is said where the bytes of each file that a line names by a path are told
-  ran : {told : List ℕ → Option (List ℕ)} {text profile batch : List ℕ} {directives : List Directive} {n status : ℕ} {old new : Option (List ℕ)} → IsInput text → DividesAt n text profile batch → profile_of profile ≡ Ok directives
+  ran : {told : List ℕ → Option (List ℕ)} {text profile batch : List ℕ} {directives : List Directive} {n : ℕ} {status : Status} {old new : Option (List ℕ)} → IsInput text → DividesAt n text profile batch → profile_of profile ≡ Ok directives
       → (AreFilesTold told batch → AnswersOpened told directives n batch old new status) → AnswersScript told text old new status
 
 -- what it adds where memory runs out for the program itself
@@ -86,5 +82,5 @@ pub data EndsEarly : (List ℕ → Option (List ℕ)) → List ℕ → Option (L
   silent : {told : List ℕ → Option (List ℕ)} {text : List ℕ} {old new : Option (List ℕ)} → Writes old new (λ bytes. bytes ≡ []) → EndsEarly told text old new
 
 -- a script is answered, or it ends early, with status 3
-abbrev pub EndsScript : (List ℕ → Option (List ℕ)) → List ℕ → Option (List ℕ) → Option (List ℕ) → ℕ → Type 0
-EndsScript told text old new status = AnswersScript told text old new status ⊎ (EndsEarly told text old new × (status ≡ 3))
+abbrev pub EndsScript : (List ℕ → Option (List ℕ)) → List ℕ → Option (List ℕ) → Option (List ℕ) → Status → Type 0
+EndsScript told text old new status = AnswersScript told text old new status ⊎ (EndsEarly told text old new × (status ≡ Failed))

@@ -27,3 +27,7 @@ pub record DividesAt (n : ℕ) (text profile batch : List ℕ) : Type 0 where
 -- a text without a divider
 abbrev pub HasNoDivider : List ℕ → Type 0
 HasNoDivider text = (k : ℕ) → ¬ IsDivider (line_at k text)
+
+-- a line of a batch asks that a register be begun
+abbrev pub BeginsRegister : List ℕ → Type 0
+BeginsRegister text = (n : ℕ) × (without_blanks (line_at n text) ≡ codes "init")

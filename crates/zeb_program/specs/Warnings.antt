@@ -1,6 +1,6 @@
 -- The line by which an analysis warns of records that don't say that they are in Unicode (MARC 21, leader, position 9: `a`
 -- stands for UCS/Unicode). That all are read as UTF-8, and the line, are this program's own.
-use Rattle.std.specs.Prelude.{◌≡◌, ℕ, ◌+◌, List, [], ◌∷◌, ◌++◌, codes}
+use Rattle.std.specs.Prelude.{◌≡◌, ℕ, List, [], ◌∷◌, ◌++◌, codes}
 use Rattle.std.specs.Fmt.{decimal}
 use Rattle.zeb_program.specs.declared.warnings.Place.{Place}
 

@@ -1,5 +1,5 @@
 -- What is written for words, and the status (this program's own).
-use Rattle.std.specs.Prelude.{◌≡◌, ◌<◌, ◌⊎◌, ℕ, Bool, Option, List, ◌++◌, String, string_bytes}
+use Rattle.std.specs.Prelude.{◌≡◌, ◌≢◌, ◌⊎◌, ℕ, Bool, Option, List, ◌++◌, String, string_bytes}
 use Rattle.std.specs.declared.alloc.Global.{Global}
 use Rattle.std.specs.Io.KnownBytes.{Appends, IsAtEnd, Keeps}
 use Rattle.zeb_words.specs.Names.{NamesNone, NamesWords}
@@ -14,9 +14,12 @@ use Rattle.zeb_program.specs.Errands.{IsTaskOf}
 use Rattle.zeb_program.specs.FaultLines.{IsUnclosed}
 use Rattle.zeb_program.specs.Registers.{Places}
 use Rattle.zeb_program.specs.ScriptAnswers.{usage_line}
+use Rattle.zeb_program.specs.Statuses.{IsFaultStatus}
 use Rattle.zeb_program.specs.TaskAnswers.{ReadsWhole}
+use Rattle.zeb_program.specs.declared.statuses.Status.{Status}
+use Rattle.zeb_program.specs.declared.statuses.Status.TheVariants.{Answered, Misused, Failed}
 use Rattle.zeb_program.specs.Warnings.{IsWarning}
-use Rattle.zeb_program.specs.WordRuns.{RunsBatch, RunsShell, TellsWhy, WritesReply}
+use Rattle.zeb_program.specs.WordRuns.{RunsBatch, RunsShell, StopsBatch, StopsShell, TellsWhy, WritesReply}
 
 -- words that name this task
 abbrev pub NamesTask : List (List ℕ) → Task → Type 0
@@ -36,18 +39,14 @@ NamesLines words = NamesBatch words ⊎ NamesShell words
 
 -- what is written of words that name no command, to the output and to the fault output, and the status: a line, with the parser's
 -- text below it where the words are refused by the parser; or the help or the version that is asked for
-abbrev pub TellsUsage : Usage → Option (List ℕ) → Option (List ℕ) → Option (List ℕ) → Option (List ℕ) → ℕ → Type 0
+abbrev pub TellsUsage : Usage → Option (List ℕ) → Option (List ℕ) → Option (List ℕ) → Option (List ℕ) → Status → Type 0
 TellsUsage BadUsage old new fault_old fault_new status =
-    (status ≡ 2) × Keeps old new × Appends fault_old fault_new usage_line
+    (status ≡ Misused) × Keeps old new × Appends fault_old fault_new usage_line
 TellsUsage (Refused text) old new fault_old fault_new status =
-    (status ≡ 2) × Keeps old new × Appends fault_old fault_new (usage_line ++ string_bytes text)
+    (status ≡ Misused) × Keeps old new × Appends fault_old fault_new (usage_line ++ string_bytes text)
 TellsUsage (Help text) old new fault_old fault_new status =
-    (status ≡ 0) × Appends old new (string_bytes text) × Keeps fault_old fault_new
-TellsUsage Memory old new fault_old fault_new status = (status ≡ 3) × Keeps old new × Keeps fault_old fault_new
-
--- the status where a command has no answer: it was refused, or something failed
-abbrev pub IsFaultStatus : ℕ → Type 0
-IsFaultStatus status = (status ≡ 1) ⊎ (status ≡ 3)
+    (status ≡ Answered) × Appends old new (string_bytes text) × Keeps fault_old fault_new
+TellsUsage Memory old new fault_old fault_new status = (status ≡ Failed) × Keeps old new × Keeps fault_old fault_new
 
 -- nothing goes to the fault output, but an analysis may add one line there, which warns of records
 abbrev pub WarnsAtMost : Task → Option (List ℕ) → Option (List ℕ) → Type 0
@@ -60,14 +59,14 @@ WarnsUnclosed task fault_old fault_new = (between : Option (List ℕ)) × WarnsA
 -- the answer to a task, under the profile in this file, goes to the output, and only a warning to the fault output, and, with status 3, that the
 -- register's file needs its log; why there is no answer goes to the fault output alone, as the line of a fault, with the status of that fault, and below
 -- it its cause
-abbrev pub TellsApart : {S : Type 0} → Places S → String Global → Task → Option (List ℕ) → Option (List ℕ) → Option (List ℕ) → Option (List ℕ) → ℕ → Type 0
+abbrev pub TellsApart : {S : Type 0} → Places S → String Global → Task → Option (List ℕ) → Option (List ℕ) → Option (List ℕ) → Option (List ℕ) → Status → Type 0
 TellsApart at config task old new fault_old fault_new status =
-    ((status ≡ 0) × WritesReply at config task old new × WarnsAtMost task fault_old fault_new)
-    ⊎ ((status ≡ 3) × WritesReply at config task old new × WarnsUnclosed task fault_old fault_new)
+    ((status ≡ Answered) × WritesReply at config task old new × WarnsAtMost task fault_old fault_new)
+    ⊎ ((status ≡ Failed) × WritesReply at config task old new × WarnsUnclosed task fault_old fault_new)
     ⊎ (IsFaultStatus status × Keeps old new × Writes fault_old fault_new (TellsWhy at config task status))
 
 -- What is written for words, and the status: of an input that has this before, where it tells that, and this behind, and of which a read failed or didn't.
-pub data AnswersWords {S : Type 0} (at : Places S) (words : List (List ℕ)) (given left : Option (List ℕ)) (failed : Bool) (old new fault_old fault_new : Option (List ℕ)) (status : ℕ) : Type 0 where
+pub data AnswersWords {S : Type 0} (at : Places S) (words : List (List ℕ)) (given left : Option (List ℕ)) (failed : Bool) (old new fault_old fault_new : Option (List ℕ)) (status : Status) : Type 0 where
   -- words that name no command; which of the ways it is, is the parser's to say
   misused : (usage : Usage) → NamesNone words usage → IsRefusedAs words usage → TellsUsage usage old new fault_old fault_new status
       → AnswersWords at words given left failed old new fault_old fault_new status
@@ -75,18 +74,22 @@ pub data AnswersWords {S : Type 0} (at : Places S) (words : List (List ℕ)) (gi
   batched : (named : Words) → NamesWords words named → named.act ≡ Batch → RunsBatch at named.config given failed old new fault_old fault_new status
       → AnswersWords at words given left failed old new fault_old fault_new status
   -- words that name a shell, which does the same, and leaves a part of the input only where something failed, or nothing was answered
-  served : (named : Words) → NamesWords words named → named.act ≡ Shell → (status < 3 → IsAtEnd left ⊎ Keeps old new)
+  served : (named : Words) → NamesWords words named → named.act ≡ Shell → (status ≢ Failed → IsAtEnd left ⊎ Keeps old new)
       → RunsShell at named.config given left old new fault_old fault_new status → AnswersWords at words given left failed old new fault_old fault_new status
   -- words that name a task, so neither a batch nor a shell
   named : (named : Words) → (task : Task) → NamesWords words named → IsTaskOf named.database named.act task
       → TellsApart at named.config task old new fault_old fault_new status → AnswersWords at words given left failed old new fault_old fault_new status
 
--- what is written for them where memory runs out for the program itself: nothing, where they name a task
-abbrev pub StopsWords : List (List ℕ) → Option (List ℕ) → Option (List ℕ) → Option (List ℕ) → Option (List ℕ) → Type 0
-StopsWords words old new fault_old fault_new =
-    NamesLines words ⊎ ((task : Task) × NamesTask words task × Keeps old new × Keeps fault_old fault_new)
+-- what is written for them where memory runs out for the program itself: nothing, where they name a task; of a batch and of a shell the answers of
+-- the first lines, or nothing
+pub data StopsWords {S : Type 0} (at : Places S) (words : List (List ℕ)) (given left old new fault_old fault_new : Option (List ℕ)) : Type 0 where
+  stopped_task : (task : Task) → NamesTask words task → Keeps old new → Keeps fault_old fault_new → StopsWords at words given left old new fault_old fault_new
+  stopped_batch : (named : Words) → NamesWords words named → named.act ≡ Batch → StopsBatch at named.config given old new fault_old fault_new
+      → StopsWords at words given left old new fault_old fault_new
+  stopped_shell : (named : Words) → NamesWords words named → named.act ≡ Shell → StopsShell at named.config given left old new fault_old fault_new
+      → StopsWords at words given left old new fault_old fault_new
 
 -- words are answered, or memory runs out for the program itself, with status 3
-abbrev pub EndsWords : {S : Type 0} → Places S → List (List ℕ) → Option (List ℕ) → Option (List ℕ) → Bool → Option (List ℕ) → Option (List ℕ) → Option (List ℕ) → Option (List ℕ) → ℕ → Type 0
+abbrev pub EndsWords : {S : Type 0} → Places S → List (List ℕ) → Option (List ℕ) → Option (List ℕ) → Bool → Option (List ℕ) → Option (List ℕ) → Option (List ℕ) → Option (List ℕ) → Status → Type 0
 EndsWords at words given left failed old new fault_old fault_new status =
-    AnswersWords at words given left failed old new fault_old fault_new status ⊎ (StopsWords words old new fault_old fault_new × (status ≡ 3))
+    AnswersWords at words given left failed old new fault_old fault_new status ⊎ (StopsWords at words given left old new fault_old fault_new × (status ≡ Failed))

@@ -1,6 +1,6 @@
 -- What comes of words that name a task, a batch or a shell (this program's own): under the profile in the file that they name, and on the register
 -- that it names.
-use Rattle.std.specs.Prelude.{◌≡◌, ◌⊎◌, ◌++◌, ℕ, max, Bool, false, codes, Option, IfSome, IfErr, Result, Ok, Err, List, String, string_bytes}
+use Rattle.std.specs.Prelude.{◌≡◌, ◌⊎◌, ℕ, Bool, false, codes, Option, IfSome, IfErr, Result, Ok, Err, List, String, string_bytes}
 use Rattle.std.specs.declared.alloc.Global.{Global}
 use Rattle.std.specs.Io.KnownBytes.{Appends, Keeps}
 use Rattle.sqlite.specs.Held.{Held}
@@ -15,7 +15,7 @@ use Rattle.zeb_program.specs.declared.faults.Fault.{Fault}
 use Rattle.zeb_program.specs.declared.faults.Fault.TheVariants.{Unreadable, Refused}
 use Rattle.zeb_program.specs.declared.tasks.Task.{Task}
 use Rattle.zeb_program.specs.declared.tasks.Task.TheVariants.{Ask}
-use Rattle.zeb_program.specs.Answers.{AnswersBatch, Writes}
+use Rattle.zeb_program.specs.Answers.{AnswersBatch, AnswersPart, Writes}
 use Rattle.zeb_program.specs.FaultAnswers.{IsOpeningFailure, NamesUnder}
 use Rattle.zeb_program.specs.FaultLines.{IsUnclosed, TellsFailure}
 use Rattle.zeb_program.specs.FirstAnswers.{AnswersFirst}
@@ -23,8 +23,12 @@ use Rattle.zeb_program.specs.Inputs.{IsInput}
 use Rattle.zeb_program.specs.PathChanges.{AreFilesTold}
 use Rattle.zeb_program.specs.ProfileFiles.{ReadsProfile}
 use Rattle.zeb_program.specs.Registers.{FromStore, LacksStore, OnRegister, OpensStore, Places}
-use Rattle.zeb_program.specs.ScriptAnswers.{AnswersOpened, AreScriptConditions, unreadable_line}
+use Rattle.zeb_program.specs.ScriptAnswers.{AnswersOpened, AnswersStopped, AreScriptConditions, unreadable_line}
+use Rattle.zeb_program.specs.Scripts.{BeginsRegister}
+use Rattle.zeb_program.specs.Statuses.{greater}
 use Rattle.zeb_program.specs.TaskAnswers.{AnswersOn, paths_of}
+use Rattle.zeb_program.specs.declared.statuses.Status.{Status}
+use Rattle.zeb_program.specs.declared.statuses.Status.TheVariants.{Answered, Failed}
 
 -- this is read of the profile's file
 abbrev pub ReadsAt : {S : Type 0} → Places S → String Global → Result (List Directive) Fault → Type 0
@@ -51,14 +55,14 @@ abbrev pub WritesReply : {S : Type 0} → Places S → String Global → Task �
 WritesReply at config task old new = (reply : Reply) × Performs at config task (Ok reply) × Appends old new (reply_text reply)
 
 -- the lines of a fault that comes of the task
-abbrev pub TellsWhy : {S : Type 0} → Places S → String Global → Task → ℕ → List ℕ → Type 0
+abbrev pub TellsWhy : {S : Type 0} → Places S → String Global → Task → Status → List ℕ → Type 0
 TellsWhy at config task status bytes = (fault : Fault) × Performs at config task (Err fault) × TellsFailure fault bytes status
 
 -- ---- the lines of the input
 
 -- This is told of how the register was closed, and its status: nothing, or that its file needs its log.
-abbrev pub TellsClosed : Option (List ℕ) → Option (List ℕ) → ℕ → Type 0
-TellsClosed old new status = ((status ≡ 0) × Keeps old new) ⊎ ((status ≡ 3) × Writes old new IsUnclosed)
+abbrev pub TellsClosed : Option (List ℕ) → Option (List ℕ) → Status → Type 0
+TellsClosed old new status = ((status ≡ Answered) × Keeps old new) ⊎ ((status ≡ Failed) × Writes old new IsUnclosed)
 
 -- why no line is run: the profile isn't read, or no register is opened
 pub data StopsOpening {S : Type 0} (at : Places S) (config : String Global) : Fault → Type 0 where
@@ -74,20 +78,20 @@ IsInputFault given failed fault =
 abbrev pub IsText : Option (List ℕ) → List ℕ → Type 0
 IsText given text = IsInput text × IfSome given (λ bytes. text ≡ bytes)
 
--- The lines of a text are run as a batch, numbered from 1: on the register in the store, or, where none stands there, on one in memory as those of a
--- script. This is the greatest status met.
-pub data RunsLines {S : Type 0} (at : Places S) (profile : List Directive) (text : List ℕ) (old new fault_old fault_new : Option (List ℕ)) : ℕ → Type 0 where
-  on_store : (c : Conditions) → (opened : Held S) → (last : Held S) → (answered : ℕ) → (closed : ℕ) → AreScriptConditions profile c → OpensStore at profile opened
+-- The lines of a text are run as a batch, numbered from 1: on the register in the store, or, where none stands there and no line begins one, on one in
+-- memory as those of a script. This is the greatest status met.
+pub data RunsLines {S : Type 0} (at : Places S) (profile : List Directive) (text : List ℕ) (old new fault_old fault_new : Option (List ℕ)) : Status → Type 0 where
+  on_store : (c : Conditions) → (opened : Held S) → (last : Held S) → (answered : Status) → (closed : Status) → AreScriptConditions profile c → OpensStore at profile opened
       → FromStore at opened last (λ before. AreFilesTold at.tells text
       → Writes old new (λ bytes. (later : Holdings) × AnswersBatch at.tells c 0 text before bytes answered later))
-      → TellsClosed fault_old fault_new closed → RunsLines at profile text old new fault_old fault_new (max answered closed)
-  in_memory : {status : ℕ} → LacksStore at profile → Keeps fault_old fault_new
+      → TellsClosed fault_old fault_new closed → RunsLines at profile text old new fault_old fault_new (greater answered closed)
+  in_memory : {status : Status} → LacksStore at profile → ¬ BeginsRegister text → Keeps fault_old fault_new
       → (AreFilesTold at.tells text → AnswersOpened at.tells profile 0 text old new status) → RunsLines at profile text old new fault_old fault_new status
-  no_register : {why : Refusal} → {status : ℕ} → IsOpeningFailure why → Keeps old new → Writes fault_old fault_new (λ bytes. TellsFailure (Refused why) bytes status)
+  no_register : {why : Refusal} → {status : Status} → IsOpeningFailure why → Keeps old new → Writes fault_old fault_new (λ bytes. TellsFailure (Refused why) bytes status)
       → RunsLines at profile text old new fault_old fault_new status
 
 -- what is written for a batch, and its status, where `failed` says whether a read of the input failed
-pub data RunsBatch {S : Type 0} (at : Places S) (config : String Global) (given : Option (List ℕ)) (failed : Bool) (old new fault_old fault_new : Option (List ℕ)) (status : ℕ) : Type 0 where
+pub data RunsBatch {S : Type 0} (at : Places S) (config : String Global) (given : Option (List ℕ)) (failed : Bool) (old new fault_old fault_new : Option (List ℕ)) (status : Status) : Type 0 where
   batch_stopped : (fault : Fault) → ReadsAt at config (Err fault) ⊎ IsInputFault given failed fault → Keeps old new
       → Writes fault_old fault_new (λ bytes. TellsFailure fault bytes status) → RunsBatch at config given failed old new fault_old fault_new status
   batch_ran : (profile : List Directive) → (text : List ℕ) → ReadsAt at config (Ok profile) → IsText given text
@@ -95,17 +99,43 @@ pub data RunsBatch {S : Type 0} (at : Places S) (config : String Global) (given 
 
 -- The lines of a shell are answered, and nothing goes to the fault output; or one can't be read, which is told there, and those before it are answered,
 -- where this is left of the input.
-abbrev pub AnswersShell : (List ℕ → Option (List ℕ)) → Conditions → List ℕ → Option (List ℕ) → Option (List ℕ) → Option (List ℕ) → Option (List ℕ) → Option (List ℕ) → ℕ → Holdings → Type 0
+abbrev pub AnswersShell : (List ℕ → Option (List ℕ)) → Conditions → List ℕ → Option (List ℕ) → Option (List ℕ) → Option (List ℕ) → Option (List ℕ) → Option (List ℕ) → Status → Holdings → Type 0
 AnswersShell told c text left old new fault_old fault_new status before =
     (Writes old new (λ bytes. (later : Holdings) × AnswersBatch told c 0 text before bytes status later) × Keeps fault_old fault_new)
-    ⊎ (Writes old new (AnswersFirst told c 0 text left before) × (status ≡ 3) × Appends fault_old fault_new unreadable_line)
+    ⊎ (Writes old new (AnswersFirst told c 0 text left before) × (status ≡ Failed) × Appends fault_old fault_new unreadable_line)
 
 -- what is written for a shell, and its status, where this is left of the input
-pub data RunsShell {S : Type 0} (at : Places S) (config : String Global) (given left old new fault_old fault_new : Option (List ℕ)) : ℕ → Type 0 where
-  shell_stopped : {status : ℕ} → (fault : Fault) → StopsOpening at config fault → Keeps old new
+pub data RunsShell {S : Type 0} (at : Places S) (config : String Global) (given left old new fault_old fault_new : Option (List ℕ)) : Status → Type 0 where
+  shell_stopped : {status : Status} → (fault : Fault) → StopsOpening at config fault → Keeps old new
       → Writes fault_old fault_new (λ bytes. TellsFailure fault bytes status) → RunsShell at config given left old new fault_old fault_new status
-  shell_ran : (profile : List Directive) → (c : Conditions) → (opened : Held S) → (last : Held S) → (between : Option (List ℕ)) → (answered : ℕ) → (closed : ℕ)
+  shell_ran : (profile : List Directive) → (c : Conditions) → (opened : Held S) → (last : Held S) → (between : Option (List ℕ)) → (answered : Status) → (closed : Status)
       → ReadsAt at config (Ok profile) → AreScriptConditions profile c → OpensStore at profile opened
       → FromStore at opened last (λ before. IfSome given (λ text. AreFilesTold at.tells text
       → AnswersShell at.tells c text left old new fault_old between answered before))
-      → TellsClosed between fault_new closed → RunsShell at config given left old new fault_old fault_new (max answered closed)
+      → TellsClosed between fault_new closed → RunsShell at config given left old new fault_old fault_new (greater answered closed)
+
+-- ---- where memory runs out for the program itself
+
+-- Of the lines of a text that are run as a batch the first are answered, or none, and the rest are not: on the register in the store, on one in
+-- memory, or before one is opened.
+pub data StopsLines {S : Type 0} (at : Places S) (profile : List Directive) (text : List ℕ) (old new fault_old fault_new : Option (List ℕ)) : Type 0 where
+  part_on_store : (c : Conditions) → (opened : Held S) → (last : Held S) → (closed : Status) → AreScriptConditions profile c → OpensStore at profile opened
+      → FromStore at opened last (λ before. AreFilesTold at.tells text → Writes old new (AnswersPart at.tells c 0 text before))
+      → TellsClosed fault_old fault_new closed → StopsLines at profile text old new fault_old fault_new
+  part_in_memory : LacksStore at profile → ¬ BeginsRegister text → Keeps fault_old fault_new
+      → (AreFilesTold at.tells text → AnswersStopped at.tells profile 0 text old new) → StopsLines at profile text old new fault_old fault_new
+  no_line : Keeps old new → Keeps fault_old fault_new → StopsLines at profile text old new fault_old fault_new
+
+-- what is written for a batch then: nothing, or the answers of its first lines
+pub data StopsBatch {S : Type 0} (at : Places S) (config : String Global) (given old new fault_old fault_new : Option (List ℕ)) : Type 0 where
+  batch_silent : Keeps old new → Keeps fault_old fault_new → StopsBatch at config given old new fault_old fault_new
+  batch_part : (profile : List Directive) → (text : List ℕ) → ReadsAt at config (Ok profile) → IsText given text
+      → StopsLines at profile text old new fault_old fault_new → StopsBatch at config given old new fault_old fault_new
+
+-- and for a shell, where this is left of the input
+pub data StopsShell {S : Type 0} (at : Places S) (config : String Global) (given left old new fault_old fault_new : Option (List ℕ)) : Type 0 where
+  shell_silent : Keeps old new → Keeps fault_old fault_new → StopsShell at config given left old new fault_old fault_new
+  shell_part : (profile : List Directive) → (c : Conditions) → (opened : Held S) → (last : Held S) → (closed : Status)
+      → ReadsAt at config (Ok profile) → AreScriptConditions profile c → OpensStore at profile opened
+      → FromStore at opened last (λ before. IfSome given (λ text. AreFilesTold at.tells text → Writes old new (AnswersFirst at.tells c 0 text left before)))
+      → TellsClosed fault_old fault_new closed → StopsShell at config given left old new fault_old fault_new

@@ -1,51 +1,51 @@
 //! A batch: commands in one session, one on a line.
 
-ghost use Rattle.std.specs.Prelude.{◌≡◌, ◌≤◌, ◌++◌, ◌∷◌, [], false, IfOk, OnErr};
+ghost use Rattle.std.specs.Prelude.{◌≡◌, ◌++◌, ◌∷◌, [], false, IfOk, OnErr};
 ghost use Rattle.zeb_register.specs.Formats.{version_of};
 ghost use Rattle.sqlite.specs.Held.{state};
 ghost use Rattle.sqlite.specs.State.{HasCleanDisk};
 ghost use Rattle.zeb_change.specs.Conditions.{conditions};
-ghost use Rattle.zeb_engine.specs.Refusals.{refusal_text, status_of};
+ghost use Rattle.zeb_engine.specs.Refusals.{refusal_text};
 ghost use Rattle.zeb_program.specs.ScriptAnswers.{AnswersOpened, AnswersStopped};
 ghost use Rattle.std.specs.Io.KnownBytes.{Appends};
 ghost use Rattle.zeb_program.specs.Answers.{Writes, bad_line, mark_line, IsAnswer, AnswersLine, AnswersBatch, AnswersPart};
 ghost use Rattle.zeb_program.specs.PrivateOverTables.{CommandOver, LineOver, LinesOver};
 ghost use Rattle.zeb_program.specs.PathChanges.{AreFilesTold, IsLineTold};
 ghost use Rattle.zeb_program.specs.PrivateServing.{Leads, Stops};
-ghost use Rattle.zeb_program.specs.WordAnswers.{IsFaultStatus};
+ghost use Rattle.zeb_program.specs.Statuses.{IsFaultStatus, refusal_status};
 
 use crate::lines::Line;
 use crate::memory::open_in_memory;
 use crate::opening::session_over;
 use crate::path_changes::run_path_change;
-use crate::program::{ANSWERED, FAILED, MISUSED};
 use crate::script::Batch;
 use crate::sinks::Sink;
+use crate::statuses::Status;
 use crate::words::cut_line;
 use sqlite::Alter;
 use std::alloc::{AllocError, Global};
 use std::io::Write;
-use zeb_engine::{Command, Refusal, Session, refusal_line, render, status};
+use zeb_engine::{Command, Refusal, Session, refusal_line, render};
 use zeb_paths::Paths;
 use zeb_profile::Profile;
 use zeb_register::Layout;
 
 /// Runs the lines of a batch over a register in memory, and answers the greatest status met.
-pub fn run_batch<P: Paths, W: Write>(
+pub fn run_in_memory<P: Paths, W: Write>(
     alloc: Global,
     profile: Profile,
     paths: &P,
     batch: Batch<'_>,
     output: &mut Sink<W>,
-) -> Result<u8, AllocError>
+) -> Result<Status, AllocError>
     ensures sound { output.new.failed ≡ false → output.old.failed ≡ false }
-    ensures answer { IfOk result (λ status. output.new.failed ≡ false → AreFilesTold (P.tells paths.now) batch.entry.text.now →
-        AnswersOpened (P.tells paths.now) profile batch.entry.lines_before batch.entry.text.now (W.contents output.old.writer)
+    ensures answer { IfOk result (λ status. output.new.failed ≡ false
+        → AreFilesTold (P.tells paths.now) batch.entry.text.now → AnswersOpened (P.tells paths.now)
+        profile batch.entry.lines_before batch.entry.text.now (W.contents output.old.writer)
         (W.contents output.new.writer) status) }
-    ensures stopped { OnErr result (output.new.failed ≡ false → AreFilesTold (P.tells paths.now) batch.entry.text.now →
-        AnswersStopped (P.tells paths.now) profile batch.entry.lines_before batch.entry.text.now (W.contents output.old.writer)
-        (W.contents output.new.writer)) }
-    ensures range { IfOk result (λ status. status ≤ FAILED) }
+    ensures stopped { OnErr result (output.new.failed ≡ false → AreFilesTold (P.tells paths.now)
+        batch.entry.text.now → AnswersStopped (P.tells paths.now) profile batch.entry.lines_before
+        batch.entry.text.now (W.contents output.old.writer) (W.contents output.new.writer)) }
 {
     match session_over(alloc, open_in_memory(alloc), profile) {
         Ok(mut session) => run_lines(alloc, &mut session, paths, batch, output),
@@ -61,31 +61,35 @@ pub fn run_lines<S: Alter, L: Layout, P: Paths, W: Write>(
     paths: &P,
     batch: Batch<'_>,
     output: &mut Sink<W>,
-) -> Result<u8, AllocError>
+) -> Result<Status, AllocError>
     ensures sound { output.new.failed ≡ false → output.old.failed ≡ false }
-    ensures answer { IfOk result (λ status. output.new.failed ≡ false → HasCleanDisk (state S.Store session.new.connection)
-        → AreFilesTold (P.tells paths.now) batch.entry.text.now
-        → Leads (state S.Store session.old.connection) (state S.Store session.new.connection) (W.contents output.old.writer)
-        (W.contents output.new.writer)
-        (λ before bytes last. AnswersBatch (P.tells paths.now) (conditions
-        (version_of L.format) session.old.profile session.old.limits) batch.entry.lines_before batch.entry.text.now before bytes status
-        last)) }
+    ensures answer { IfOk result (λ status. output.new.failed ≡ false
+        → HasCleanDisk (state S.Store session.new.connection) → AreFilesTold (P.tells paths.now)
+        batch.entry.text.now → Leads (state S.Store session.old.connection)
+        (state S.Store session.new.connection) (W.contents output.old.writer)
+        (W.contents output.new.writer) (λ before bytes last. AnswersBatch (P.tells paths.now)
+        (conditions (version_of L.format) session.old.profile session.old.limits)
+        batch.entry.lines_before batch.entry.text.now before bytes status last)) }
     // Each line is answered as the engine says of it on any tables, on those that the line before it left.
-    ensures over { IfOk result (λ status. output.new.failed ≡ false → HasCleanDisk (state S.Store session.new.connection)
-        → Writes (W.contents output.old.writer) (W.contents output.new.writer) (λ bytes. LinesOver S.Store (P.tells paths.now) L.format
-        (conditions (version_of L.format) session.old.profile session.old.limits) batch.entry.lines_before batch.entry.text.now
-        session.old.connection bytes status session.new.connection)) }
-    ensures stopped { OnErr result (output.new.failed ≡ false → HasCleanDisk (state S.Store session.new.connection)
-        → AreFilesTold (P.tells paths.now) batch.entry.text.now
-        → Stops (state S.Store session.old.connection) (W.contents output.old.writer) (W.contents output.new.writer)
-        (AnswersPart (P.tells paths.now) (conditions
-        (version_of L.format) session.old.profile session.old.limits) batch.entry.lines_before batch.entry.text.now)) }
-    ensures clean { HasCleanDisk (state S.Store session.new.connection) → HasCleanDisk (state S.Store session.old.connection) }
-    ensures range { IfOk result (λ status. status ≤ FAILED) }
+    ensures over { IfOk result (λ status. output.new.failed ≡ false
+        → HasCleanDisk (state S.Store session.new.connection)
+        → Writes (W.contents output.old.writer) (W.contents output.new.writer)
+        (λ bytes. LinesOver S.Store (P.tells paths.now) L.format
+        (conditions (version_of L.format) session.old.profile session.old.limits)
+        batch.entry.lines_before batch.entry.text.now session.old.connection bytes status
+        session.new.connection)) }
+    ensures stopped { OnErr result (output.new.failed ≡ false
+        → HasCleanDisk (state S.Store session.new.connection) → AreFilesTold (P.tells paths.now)
+        batch.entry.text.now → Stops (state S.Store session.old.connection)
+        (W.contents output.old.writer) (W.contents output.new.writer)
+        (AnswersPart (P.tells paths.now) (conditions (version_of L.format) session.old.profile
+        session.old.limits) batch.entry.lines_before batch.entry.text.now)) }
+    ensures clean { HasCleanDisk (state S.Store session.new.connection)
+        → HasCleanDisk (state S.Store session.old.connection) }
 {
     let mut rest = batch.text;
     let mut number = batch.lines_before;
-    let mut greatest = ANSWERED;
+    let mut greatest = Status::Answered;
     while !rest.is_empty() {
         let (line, after) = cut_line(rest);
         number += 1;
@@ -103,26 +107,30 @@ pub fn run_line<S: Alter, L: Layout, P: Paths, W: Write>(
     line: &str,
     number: u64,
     output: &mut Sink<W>,
-) -> Result<u8, AllocError>
+) -> Result<Status, AllocError>
     ensures sound { output.new.failed ≡ false → output.old.failed ≡ false }
-    ensures answer { IfOk result (λ status. output.new.failed ≡ false → HasCleanDisk (state S.Store session.new.connection)
-        → IsLineTold (P.tells paths.now) line.now
-        → Leads (state S.Store session.old.connection) (state S.Store session.new.connection) (W.contents output.old.writer)
-        (W.contents output.new.writer)
-        (λ before bytes later. AnswersLine (P.tells paths.now) (conditions
-        (version_of L.format) session.old.profile session.old.limits) number line.now before bytes status later)) }
+    ensures answer { IfOk result (λ status. output.new.failed ≡ false
+        → HasCleanDisk (state S.Store session.new.connection) → IsLineTold (P.tells paths.now)
+        line.now → Leads (state S.Store session.old.connection)
+        (state S.Store session.new.connection) (W.contents output.old.writer)
+        (W.contents output.new.writer) (λ before bytes later. AnswersLine (P.tells paths.now)
+        (conditions (version_of L.format) session.old.profile session.old.limits) number line.now
+        before bytes status later)) }
     // It is answered as the engine says of it on any tables.
-    ensures over { IfOk result (λ status. output.new.failed ≡ false → HasCleanDisk (state S.Store session.new.connection)
-        → Writes (W.contents output.old.writer) (W.contents output.new.writer) (λ bytes. LineOver S.Store (P.tells paths.now) L.format
-        (conditions (version_of L.format) session.old.profile session.old.limits) number line.now session.old.connection bytes status
-        session.new.connection)) }
+    ensures over { IfOk result (λ status. output.new.failed ≡ false
+        → HasCleanDisk (state S.Store session.new.connection)
+        → Writes (W.contents output.old.writer) (W.contents output.new.writer)
+        (λ bytes. LineOver S.Store (P.tells paths.now) L.format
+        (conditions (version_of L.format) session.old.profile session.old.limits) number line.now
+        session.old.connection bytes status session.new.connection)) }
     ensures stopped { OnErr result (output.new ≡ output.old) }
-    ensures clean { HasCleanDisk (state S.Store session.new.connection) → HasCleanDisk (state S.Store session.old.connection) }
-    ensures under { (session.new.profile ≡ session.old.profile) × (session.new.limits ≡ session.old.limits) }
-    ensures range { IfOk result (λ status. status ≤ FAILED) }
+    ensures clean { HasCleanDisk (state S.Store session.new.connection)
+        → HasCleanDisk (state S.Store session.old.connection) }
+    ensures under { (session.new.profile ≡ session.old.profile)
+        × (session.new.limits ≡ session.old.limits) }
 {
     match Line::read(alloc, line)? {
-        Line::Remark => Ok(ANSWERED),
+        Line::Remark => Ok(Status::Answered),
         Line::Command(command) => run_command(alloc, session, &command, output),
         Line::Path(change) => run_path_change(alloc, session, paths, &change, output),
         Line::Mark(text) => Ok(write_mark(text.as_str(), output)),
@@ -135,51 +143,55 @@ fn run_command<S: Alter, L: Layout, W: Write>(
     session: &mut Session<S, L>,
     command: &Command,
     output: &mut Sink<W>,
-) -> Result<u8, AllocError>
+) -> Result<Status, AllocError>
     ensures sound { output.new.failed ≡ false → output.old.failed ≡ false }
-    ensures answer { IfOk result (λ status. output.new.failed ≡ false → HasCleanDisk (state S.Store session.new.connection)
-        → Leads (state S.Store session.old.connection) (state S.Store session.new.connection) (W.contents output.old.writer)
-        (W.contents output.new.writer)
-        (λ before bytes later. IsAnswer (conditions
-        (version_of L.format) session.old.profile session.old.limits) command.now before bytes status later)) }
-    ensures over { IfOk result (λ status. output.new.failed ≡ false → HasCleanDisk (state S.Store session.new.connection)
-        → Writes (W.contents output.old.writer) (W.contents output.new.writer) (λ bytes. CommandOver L.format
-        (conditions (version_of L.format) session.old.profile session.old.limits) command.now (state S.Store session.old.connection)
-        bytes status (state S.Store session.new.connection))) }
+    ensures answer { IfOk result (λ status. output.new.failed ≡ false
+        → HasCleanDisk (state S.Store session.new.connection)
+        → Leads (state S.Store session.old.connection) (state S.Store session.new.connection)
+        (W.contents output.old.writer) (W.contents output.new.writer)
+        (λ before bytes later. IsAnswer (conditions (version_of L.format) session.old.profile
+        session.old.limits) command.now before bytes status later)) }
+    ensures over { IfOk result (λ status. output.new.failed ≡ false
+        → HasCleanDisk (state S.Store session.new.connection)
+        → Writes (W.contents output.old.writer) (W.contents output.new.writer)
+        (λ bytes. CommandOver L.format (conditions (version_of L.format) session.old.profile
+        session.old.limits) command.now (state S.Store session.old.connection) bytes status
+        (state S.Store session.new.connection))) }
     ensures stopped { OnErr result (output.new ≡ output.old) }
-    ensures clean { HasCleanDisk (state S.Store session.new.connection) → HasCleanDisk (state S.Store session.old.connection) }
-    ensures under { (session.new.profile ≡ session.old.profile) × (session.new.limits ≡ session.old.limits) }
-    ensures range { IfOk result (λ status. status ≤ FAILED) }
+    ensures clean { HasCleanDisk (state S.Store session.new.connection)
+        → HasCleanDisk (state S.Store session.old.connection) }
+    ensures under { (session.new.profile ≡ session.old.profile)
+        × (session.new.limits ≡ session.old.limits) }
 {
     match session.command(command) {
         Ok(reply) => {
             output.write(render(alloc, &reply)?.as_slice());
-            Ok(ANSWERED)
+            Ok(Status::Answered)
         }
         Err(refusal) => refuse(alloc, &refusal, output),
     }
 }
 
 /// Writes the text of a mark, and answers the status of such a line.
-fn write_mark<W: Write>(text: &str, output: &mut Sink<W>) -> u8
+fn write_mark<W: Write>(text: &str, output: &mut Sink<W>) -> Status
     ensures sound { output.new.failed ≡ false → output.old.failed ≡ false }
-    ensures status { result ≡ ANSWERED }
+    ensures status { result ≡ Status.Answered }
     ensures line { output.new.failed ≡ false →
         Appends (W.contents output.old.writer) (W.contents output.new.writer) (mark_line text.now) }
 {
     output.write_line(text);
-    ANSWERED
+    Status::Answered
 }
 
 /// Writes that the line of this number is no command, and answers the status of such a line.
-pub fn refuse_line<W: Write>(number: u64, output: &mut Sink<W>) -> u8
+pub fn refuse_line<W: Write>(number: u64, output: &mut Sink<W>) -> Status
     ensures sound { output.new.failed ≡ false → output.old.failed ≡ false }
-    ensures status { result ≡ MISUSED }
+    ensures status { result ≡ Status.Misused }
     ensures line { output.new.failed ≡ false →
         Appends (W.contents output.old.writer) (W.contents output.new.writer) (bad_line number) }
 {
     output.write_line(format_args!("zebraidx: bad line {number}"));
-    MISUSED
+    Status::Misused
 }
 
 /// Writes a refusal's line, and answers its status.
@@ -187,15 +199,15 @@ pub fn refuse<W: Write>(
     alloc: Global,
     refusal: &Refusal,
     output: &mut Sink<W>,
-) -> Result<u8, AllocError>
+) -> Result<Status, AllocError>
     ensures sound { output.new.failed ≡ false → output.old.failed ≡ false }
-    ensures answer { IfOk result (λ status. output.new.failed ≡ false →
-        Writes (W.contents output.old.writer) (W.contents output.new.writer) (λ bytes. (bytes ≡ refusal_text refusal.now ++ 10 ∷ [])
-        × (status ≡ status_of refusal.now))) }
+    ensures answer { IfOk result (λ status. output.new.failed ≡ false
+        → Writes (W.contents output.old.writer) (W.contents output.new.writer)
+        (λ bytes. (bytes ≡ refusal_text refusal.now ++ 10 ∷ [])
+        × (status ≡ refusal_status refusal.now))) }
     ensures stopped { OnErr result (output.new ≡ output.old) }
-    ensures range { IfOk result (λ status. status ≤ FAILED) }
     ensures fault { IfOk result IsFaultStatus }
 {
     output.write_line(refusal_line(alloc, refusal)?);
-    Ok(status(refusal))
+    Ok(Status::of_refusal(refusal))
 }

@@ -1,13 +1,14 @@
 //! The words of a command line: what they ask for is done, and its answer or why there is none is written.
 
-ghost use Rattle.std.specs.Prelude.{◌≡◌, ◌⊎◌, ◌≤◌, ◌<◌, ◌+◌, ◌++◌, false, true, map, string_bytes, Ok, Err, IfErr, IfOk};
+ghost use Rattle.std.specs.Prelude.{◌≡◌, ◌≢◌, ◌⊎◌, ◌+◌, ◌++◌, false, true, map, string_bytes, Ok, Err, IfErr, IfOk};
 ghost use Rattle.std.specs.Prelude.{OnErr, IsErrAnd};
 ghost use Rattle.zeb_change.specs.Conditions.{conditions};
 ghost use Rattle.zeb_register.specs.Formats.{packed_blocks, version_of};
-ghost use Rattle.zeb_program.specs.PrivateWordRuns.{OpensUnder, RunsIn, ServesIn, TellsDone};
+ghost use Rattle.zeb_program.specs.PrivateWordRuns.{EndsSession, OpensUnder, RunsIn, ServesIn, StopsIn, StopsServing, TellsDone};
 ghost use Rattle.zeb_program.specs.ProfileFiles.{ReadsProfile};
 ghost use Rattle.zeb_program.specs.Registers.{places};
-ghost use Rattle.zeb_program.specs.WordRuns.{IsInputFault, IsText, RunsBatch, RunsLines, RunsShell, StopsOpening};
+ghost use Rattle.zeb_program.specs.WordRuns.{IsInputFault, IsText, RunsBatch, RunsLines, RunsShell};
+ghost use Rattle.zeb_program.specs.WordRuns.{StopsBatch, StopsLines, StopsOpening, StopsShell};
 ghost use Rattle.std.specs.Io.KnownBytes.{Appends, IsAtEnd};
 ghost use Rattle.zeb_program.specs.PrivateFaults.{IsUnread};
 ghost use Rattle.zeb_program.specs.Inputs.{TakesAtMost};
@@ -17,18 +18,17 @@ ghost use Rattle.zeb_program.specs.PrivateWarnings.{MayWarn};
 ghost use Rattle.zeb_program.specs.declared.tasks.Task.{Task as Asked};
 ghost use Rattle.std.specs.Option.{option_map};
 
-use crate::batch::{run_batch as run_on_nothing, run_lines};
+use crate::batch::{run_in_memory, run_lines};
 use crate::failures::{Failure, tell_closed, tell_failure};
 use crate::files::unread;
 use crate::input::{GREATEST_INPUT, read_text};
 use crate::outputs::Output;
 use crate::performing::{Told, close_register, open_register, perform, profile_at};
-use crate::program::{ANSWERED, FAILED, MISUSED};
 use crate::script::Batch;
 use crate::shell::serve_lines;
 use crate::sinks::Sink;
+use crate::statuses::Status;
 use crate::tasks::{Errand, Task};
-use crate::words::without_blanks;
 use std::alloc::{AllocError, Global};
 use std::io::Write;
 use zeb_engine::Session;
@@ -46,19 +46,23 @@ pub fn run_words<R: Source, W: Output, V: Write, P: Paths>(
     input: &mut R,
     output: &mut Sink<W>,
     fault_output: &mut Sink<V>,
-) -> Result<u8, AllocError>
+) -> Result<Status, AllocError>
     requires { R.has_failed input.old ≡ false }
-    ensures range { IfOk result (λ status. status ≤ FAILED) }
     ensures bounded { ¬ NamesShell (map string_bytes words.now) →
         TakesAtMost (GREATEST_INPUT + 1) (R.remaining input.old) (R.remaining input.new) }
     ensures unread { ¬ NamesLines (map string_bytes words.now) → input.new ≡ input.old }
-    ensures failed_read { R.has_failed input.new ≡ true → IfOk result (λ status. status ≡ FAILED) }
-    ensures answer { IfOk result (λ status. output.new.failed ≡ false → fault_output.new.failed ≡ false →
-        AnswersWords (places P.Store.Store (P.tells paths.old) (P.opens paths.old) (P.lacks paths.old)) (map string_bytes words.now)
-        (R.remaining input.old) (R.remaining input.new) (R.has_failed input.new) (W.contents output.old.writer)
-        (W.contents output.new.writer) (V.contents fault_output.old.writer) (V.contents fault_output.new.writer) status) }
-    ensures stopped { OnErr result (output.new.failed ≡ false → fault_output.new.failed ≡ false →
-        StopsWords (map string_bytes words.now) (W.contents output.old.writer) (W.contents output.new.writer)
+    ensures failed_read { R.has_failed input.new ≡ true
+        → IfOk result (λ status. status ≡ Status.Failed) }
+    ensures answer { IfOk result (λ status. output.new.failed ≡ false
+        → fault_output.new.failed ≡ false → AnswersWords (places P.Store.Store (P.tells paths.old)
+        (P.opens paths.old) (P.lacks paths.old)) (map string_bytes words.now)
+        (R.remaining input.old) (R.remaining input.new) (R.has_failed input.new)
+        (W.contents output.old.writer) (W.contents output.new.writer)
+        (V.contents fault_output.old.writer) (V.contents fault_output.new.writer) status) }
+    ensures stopped { OnErr result (output.new.failed ≡ false → fault_output.new.failed ≡ false
+        → StopsWords (places P.Store.Store (P.tells paths.old) (P.opens paths.old)
+        (P.lacks paths.old)) (map string_bytes words.now) (R.remaining input.old)
+        (R.remaining input.new) (W.contents output.old.writer) (W.contents output.new.writer)
         (V.contents fault_output.old.writer) (V.contents fault_output.new.writer)) }
 {
     let Words {
@@ -81,8 +85,7 @@ fn refuse_words<W: Write, V: Write>(
     usage: Usage,
     output: &mut Sink<W>,
     fault_output: &mut Sink<V>,
-) -> u8
-    ensures range { result ≤ FAILED }
+) -> Status
     ensures told { output.new.failed ≡ false → fault_output.new.failed ≡ false →
         TellsUsage usage (W.contents output.old.writer) (W.contents output.new.writer)
         (V.contents fault_output.old.writer) (V.contents fault_output.new.writer) result }
@@ -92,21 +95,21 @@ fn refuse_words<W: Write, V: Write>(
         Usage::Refused(text) => misuse(text.as_str(), fault_output),
         Usage::Help(text) => {
             output.write(text.as_bytes());
-            ANSWERED
+            Status::Answered
         }
-        Usage::Memory => FAILED,
+        Usage::Memory => Status::Failed,
     }
 }
 
 /// Writes that the words are misused, and below it what the parser says of them, and answers the status.
-fn misuse<V: Write>(text: &str, fault_output: &mut Sink<V>) -> u8
-    ensures status { result ≡ MISUSED }
-    ensures line { fault_output.new.failed ≡ false →
-        Appends (V.contents fault_output.old.writer) (V.contents fault_output.new.writer) (usage_line ++ text.now) }
+fn misuse<V: Write>(text: &str, fault_output: &mut Sink<V>) -> Status
+    ensures status { result ≡ Status.Misused }
+    ensures line { fault_output.new.failed ≡ false → Appends (V.contents fault_output.old.writer)
+        (V.contents fault_output.new.writer) (usage_line ++ text.now) }
 {
     fault_output.write_line("zebraidx: bad usage");
     fault_output.write(text.as_bytes());
-    MISUSED
+    Status::Misused
 }
 
 /// Carries out a task, writes its answer and what it warns of, and answers the status.
@@ -117,14 +120,15 @@ fn run_task<W: Write, V: Write, P: Paths>(
     paths: &mut P,
     output: &mut Sink<W>,
     fault_output: &mut Sink<V>,
-) -> Result<u8, AllocError>
-    ensures range { IfOk result (λ status. status ≤ FAILED) }
-    ensures apart { IfOk result (λ status. output.new.failed ≡ false → fault_output.new.failed ≡ false →
-        TellsApart (places P.Store.Store (P.tells paths.old) (P.opens paths.old) (P.lacks paths.old)) config task.now
-        (W.contents output.old.writer) (W.contents output.new.writer)
-        (V.contents fault_output.old.writer) (V.contents fault_output.new.writer) status) }
+) -> Result<Status, AllocError>
+    ensures apart { IfOk result (λ status. output.new.failed ≡ false
+        → fault_output.new.failed ≡ false → TellsApart (places P.Store.Store (P.tells paths.old)
+        (P.opens paths.old) (P.lacks paths.old)) config task.now (W.contents output.old.writer)
+        (W.contents output.new.writer) (V.contents fault_output.old.writer)
+        (V.contents fault_output.new.writer) status) }
     // Memory that runs out in the program itself is found before anything is written.
-    ensures stopped { OnErr result ((output.new ≡ output.old) × (fault_output.new ≡ fault_output.old)) }
+    ensures stopped { OnErr result ((output.new ≡ output.old)
+        × (fault_output.new ≡ fault_output.old)) }
 {
     match perform(alloc, config, task, paths) {
         Ok(told) => Ok(tell_answer(&told, output, fault_output)),
@@ -137,12 +141,13 @@ fn tell_answer<W: Write, V: Write>(
     told: &Told,
     output: &mut Sink<W>,
     fault_output: &mut Sink<V>,
-) -> u8
-    ensures range { result ≤ FAILED }
+) -> Status
     ensures text { output.new.failed ≡ false →
         Appends (W.contents output.old.writer) (W.contents output.new.writer) told.now.text.items }
-    ensures told { fault_output.new.failed ≡ false → (task : Asked) → MayWarn task (option_map string_bytes told.now.warning)
-        → TellsDone task (V.contents fault_output.old.writer) (V.contents fault_output.new.writer) result }
+    ensures told { fault_output.new.failed ≡ false → (task : Asked)
+        → MayWarn task (option_map string_bytes told.now.warning)
+        → TellsDone task (V.contents fault_output.old.writer) (V.contents fault_output.new.writer)
+        result }
 {
     output.write(told.text.as_slice());
     warn(&told.warning, fault_output);
@@ -152,8 +157,9 @@ fn tell_answer<W: Write, V: Write>(
 /// Writes a warning, where there is one.
 fn warn<V: Write>(warning: &Option<String>, fault_output: &mut Sink<V>)
     ensures sound { fault_output.new.failed ≡ false → fault_output.old.failed ≡ false }
-    ensures told { fault_output.new.failed ≡ false → (task : Asked) → MayWarn task (option_map string_bytes warning.now)
-        → WarnsAtMost task (V.contents fault_output.old.writer) (V.contents fault_output.new.writer) }
+    ensures told { fault_output.new.failed ≡ false → (task : Asked)
+        → MayWarn task (option_map string_bytes warning.now) → WarnsAtMost task
+        (V.contents fault_output.old.writer) (V.contents fault_output.new.writer) }
 {
     match warning {
         Some(line) => fault_output.write(line.as_bytes()),
@@ -169,15 +175,23 @@ fn run_batch<R: Source, W: Write, V: Write, P: Paths>(
     input: &mut R,
     output: &mut Sink<W>,
     fault_output: &mut Sink<V>,
-) -> Result<u8, AllocError>
+) -> Result<Status, AllocError>
     requires { R.has_failed input.old ≡ false }
-    ensures range { IfOk result (λ status. status ≤ FAILED) }
-    ensures bounded { TakesAtMost (GREATEST_INPUT + 1) (R.remaining input.old) (R.remaining input.new) }
-    ensures failed_read { R.has_failed input.new ≡ true → IfOk result (λ status. status ≡ FAILED) }
-    ensures answer { IfOk result (λ status. output.new.failed ≡ false → fault_output.new.failed ≡ false →
-        RunsBatch (places P.Store.Store (P.tells paths.old) (P.opens paths.old) (P.lacks paths.old)) config
-        (R.remaining input.old) (R.has_failed input.new) (W.contents output.old.writer) (W.contents output.new.writer)
+    ensures bounded { TakesAtMost (GREATEST_INPUT + 1) (R.remaining input.old)
+        (R.remaining input.new) }
+    ensures failed_read { R.has_failed input.new ≡ true
+        → IfOk result (λ status. status ≡ Status.Failed) }
+    ensures answer { IfOk result (λ status. output.new.failed ≡ false
+        → fault_output.new.failed ≡ false
+        → RunsBatch (places P.Store.Store (P.tells paths.old) (P.opens paths.old)
+        (P.lacks paths.old)) config (R.remaining input.old) (R.has_failed input.new)
+        (W.contents output.old.writer) (W.contents output.new.writer)
         (V.contents fault_output.old.writer) (V.contents fault_output.new.writer) status) }
+    ensures stopped { OnErr result (output.new.failed ≡ false → fault_output.new.failed ≡ false
+        → StopsBatch (places P.Store.Store (P.tells paths.old) (P.opens paths.old)
+        (P.lacks paths.old)) config (R.remaining input.old) (W.contents output.old.writer)
+        (W.contents output.new.writer) (V.contents fault_output.old.writer)
+        (V.contents fault_output.new.writer)) }
 {
     match begin_batch(alloc, config, paths, input) {
         Ok((profile, text)) => {
@@ -199,12 +213,16 @@ fn begin_batch<R: Source, P: Paths>(
     input: &mut R,
 ) -> Result<(Profile, String), Failure>
     requires { R.has_failed input.old ≡ false }
-    ensures bounded { TakesAtMost (GREATEST_INPUT + 1) (R.remaining input.old) (R.remaining input.new) }
-    ensures failed_read { R.has_failed input.new ≡ true → IsErrAnd result (λ failure. IsUnread failure.fault) }
-    ensures begun { IfOk result (λ begun. ReadsProfile (P.tells paths.now (string_bytes config)) config (Ok begun.0)
-        × IsText (R.remaining input.old) (string_bytes begun.1)) }
-    ensures refused { IfErr result (λ failure. ReadsProfile (P.tells paths.now (string_bytes config)) config (Err failure.fault)
-        ⊎ IsInputFault (R.remaining input.old) (R.has_failed input.new) failure.fault) }
+    ensures bounded { TakesAtMost (GREATEST_INPUT + 1) (R.remaining input.old)
+        (R.remaining input.new) }
+    ensures failed_read { R.has_failed input.new ≡ true → IsErrAnd result
+        (λ failure. IsUnread failure.fault) }
+    ensures begun { IfOk result (λ begun. ReadsProfile (P.tells paths.now (string_bytes config))
+        config (Ok begun.0) × IsText (R.remaining input.old) (string_bytes begun.1)) }
+    ensures refused { IfErr result
+        (λ failure. ReadsProfile (P.tells paths.now (string_bytes config)) config
+        (Err failure.fault) ⊎ IsInputFault (R.remaining input.old) (R.has_failed input.new)
+        failure.fault) }
 {
     let profile = profile_at(alloc, paths, config)?;
     match read_text(alloc, input, GREATEST_INPUT) {
@@ -228,26 +246,26 @@ fn serve_batch<W: Write, V: Write, P: Paths>(
     batch: Batch<'_>,
     output: &mut Sink<W>,
     fault_output: &mut Sink<V>,
-) -> Result<u8, AllocError>
-    ensures range { IfOk result (λ status. status ≤ FAILED) }
-    ensures answer { batch.entry.lines_before ≡ 0
-        → IfOk result (λ status. output.new.failed ≡ false → fault_output.new.failed ≡ false →
-        RunsLines (places P.Store.Store (P.tells paths.old) (P.opens paths.old) (P.lacks paths.old)) profile batch.entry.text.now
+) -> Result<Status, AllocError>
+    ensures answer { batch.entry.lines_before ≡ 0 → IfOk result (λ status. output.new.failed ≡ false
+        → fault_output.new.failed ≡ false
+        → RunsLines (places P.Store.Store (P.tells paths.old) (P.opens paths.old)
+        (P.lacks paths.old)) profile batch.entry.text.now (W.contents output.old.writer)
+        (W.contents output.new.writer) (V.contents fault_output.old.writer)
+        (V.contents fault_output.new.writer) status) }
+    ensures stopped { batch.entry.lines_before ≡ 0 → OnErr result (output.new.failed ≡ false
+        → fault_output.new.failed ≡ false → StopsLines (places P.Store.Store (P.tells paths.old)
+        (P.opens paths.old) (P.lacks paths.old)) profile batch.entry.text.now
         (W.contents output.old.writer) (W.contents output.new.writer)
-        (V.contents fault_output.old.writer) (V.contents fault_output.new.writer) status) }
+        (V.contents fault_output.old.writer) (V.contents fault_output.new.writer)) }
 {
-    if !begins(batch.text) && !paths.has_store(profile.store_path()) {
-        return run_on_nothing(alloc, profile, paths, batch, output);
+    if !batch.begins() && !paths.has_store(profile.store_path()) {
+        return run_in_memory(alloc, profile, paths, batch, output);
     }
     match open_register(alloc, paths, profile) {
         Ok(session) => run_in(alloc, session, paths, batch, output, fault_output),
         Err(failure) => tell_failure(alloc, &failure, fault_output),
     }
-}
-
-/// Whether a line of a batch may begin a register.
-fn begins(text: &str) -> bool {
-    text.lines().any(|line| without_blanks(line) == "init")
 }
 
 /// Runs the lines of a batch in a session, and closes its register.
@@ -258,17 +276,22 @@ fn run_in<W: Write, V: Write, P: Paths>(
     batch: Batch<'_>,
     output: &mut Sink<W>,
     fault_output: &mut Sink<V>,
-) -> Result<u8, AllocError>
-    ensures range { IfOk result (λ status. status ≤ FAILED) }
-    ensures answer { IfOk result (λ status. output.new.failed ≡ false → fault_output.new.failed ≡ false →
-        RunsIn P.Store.Store (P.tells paths.now) (conditions (version_of packed_blocks) session.profile session.limits)
-        batch.entry.lines_before batch.entry.text.now session.connection (W.contents output.old.writer) (W.contents output.new.writer)
+) -> Result<Status, AllocError>
+    ensures answer { IfOk result (λ status. output.new.failed ≡ false
+        → fault_output.new.failed ≡ false → RunsIn P.Store.Store (P.tells paths.now)
+        (conditions (version_of packed_blocks) session.profile session.limits)
+        batch.entry.lines_before batch.entry.text.now session.connection
+        (W.contents output.old.writer) (W.contents output.new.writer)
         (V.contents fault_output.old.writer) (V.contents fault_output.new.writer) status) }
+    ensures stopped { OnErr result (output.new.failed ≡ false → fault_output.new.failed ≡ false
+        → StopsIn P.Store.Store (P.tells paths.now) (conditions (version_of packed_blocks)
+        session.profile session.limits) batch.entry.lines_before batch.entry.text.now
+        session.connection (W.contents output.old.writer) (W.contents output.new.writer)
+        (V.contents fault_output.old.writer) (V.contents fault_output.new.writer)) }
 {
     let mut session = session;
     let answered = run_lines(alloc, &mut session, paths, batch, output);
-    let closed = tell_closed(close_register(paths, session), fault_output);
-    Ok(answered?.max(closed))
+    end_session(paths, session, answered, fault_output)
 }
 
 /// Runs the lines of the input as they come, and answers the greatest status met.
@@ -279,15 +302,23 @@ fn run_shell<R: Source, W: Output, V: Write, P: Paths>(
     input: &mut R,
     output: &mut Sink<W>,
     fault_output: &mut Sink<V>,
-) -> Result<u8, AllocError>
+) -> Result<Status, AllocError>
     requires { R.has_failed input.old ≡ false }
-    ensures range { IfOk result (λ status. status ≤ FAILED) }
-    ensures failed_read { R.has_failed input.new ≡ true → IfOk result (λ status. status ≡ FAILED) }
-    ensures whole { IfOk result (λ status. status < FAILED → IsAtEnd (R.remaining input.new) ⊎ (output.new ≡ output.old)) }
-    ensures answer { IfOk result (λ status. output.new.failed ≡ false → fault_output.new.failed ≡ false →
-        RunsShell (places P.Store.Store (P.tells paths.old) (P.opens paths.old) (P.lacks paths.old)) config
-        (R.remaining input.old) (R.remaining input.new) (W.contents output.old.writer) (W.contents output.new.writer)
+    ensures failed_read { R.has_failed input.new ≡ true
+        → IfOk result (λ status. status ≡ Status.Failed) }
+    ensures whole { IfOk result (λ status. status ≢ Status.Failed → IsAtEnd (R.remaining input.new)
+        ⊎ (output.new ≡ output.old)) }
+    ensures answer { IfOk result (λ status. output.new.failed ≡ false
+        → fault_output.new.failed ≡ false
+        → RunsShell (places P.Store.Store (P.tells paths.old) (P.opens paths.old)
+        (P.lacks paths.old)) config (R.remaining input.old) (R.remaining input.new)
+        (W.contents output.old.writer) (W.contents output.new.writer)
         (V.contents fault_output.old.writer) (V.contents fault_output.new.writer) status) }
+    ensures stopped { OnErr result (output.new.failed ≡ false → fault_output.new.failed ≡ false
+        → StopsShell (places P.Store.Store (P.tells paths.old) (P.opens paths.old)
+        (P.lacks paths.old)) config (R.remaining input.old) (R.remaining input.new)
+        (W.contents output.old.writer) (W.contents output.new.writer)
+        (V.contents fault_output.old.writer) (V.contents fault_output.new.writer)) }
 {
     match open(alloc, config, paths) {
         Ok(session) => serve_in(alloc, session, paths, input, output, fault_output),
@@ -303,18 +334,41 @@ fn serve_in<R: Source, W: Output, V: Write, P: Paths>(
     input: &mut R,
     output: &mut Sink<W>,
     fault_output: &mut Sink<V>,
-) -> Result<u8, AllocError>
+) -> Result<Status, AllocError>
     requires { R.has_failed input.old ≡ false }
-    ensures range { IfOk result (λ status. status ≤ FAILED) }
-    ensures failed_read { R.has_failed input.new ≡ true → IfOk result (λ status. status ≡ FAILED) }
-    ensures whole { IfOk result (λ status. status < FAILED → IsAtEnd (R.remaining input.new)) }
-    ensures answer { IfOk result (λ status. output.new.failed ≡ false → fault_output.new.failed ≡ false →
-        ServesIn P.Store.Store (P.tells paths.now) (conditions (version_of packed_blocks) session.profile session.limits)
-        (R.remaining input.old) (R.remaining input.new) session.connection (W.contents output.old.writer)
-        (W.contents output.new.writer) (V.contents fault_output.old.writer) (V.contents fault_output.new.writer) status) }
+    ensures failed_read { R.has_failed input.new ≡ true
+        → IfOk result (λ status. status ≡ Status.Failed) }
+    ensures whole { IfOk result (λ status. status ≢ Status.Failed
+        → IsAtEnd (R.remaining input.new)) }
+    ensures answer { IfOk result (λ status. output.new.failed ≡ false
+        → fault_output.new.failed ≡ false → ServesIn P.Store.Store (P.tells paths.now)
+        (conditions (version_of packed_blocks) session.profile session.limits)
+        (R.remaining input.old) (R.remaining input.new) session.connection
+        (W.contents output.old.writer) (W.contents output.new.writer)
+        (V.contents fault_output.old.writer) (V.contents fault_output.new.writer) status) }
+    ensures stopped { OnErr result (output.new.failed ≡ false → fault_output.new.failed ≡ false
+        → StopsServing P.Store.Store (P.tells paths.now) (conditions (version_of packed_blocks)
+        session.profile session.limits) (R.remaining input.old) (R.remaining input.new)
+        session.connection (W.contents output.old.writer) (W.contents output.new.writer)
+        (V.contents fault_output.old.writer) (V.contents fault_output.new.writer)) }
 {
     let mut session = session;
     let answered = serve_lines(alloc, &mut session, paths, input, output, fault_output);
+    end_session(paths, session, answered, fault_output)
+}
+
+/// Closes the register of a session whose lines are answered so, tells where not all stands in its one file then, and answers the
+/// greatest status.
+fn end_session<V: Write, P: Paths>(
+    paths: &P,
+    session: Session<P::Store, Blocks>,
+    answered: Result<Status, AllocError>,
+    fault_output: &mut Sink<V>,
+) -> Result<Status, AllocError>
+    ensures sound { fault_output.new.failed ≡ false → fault_output.old.failed ≡ false }
+    ensures ends { EndsSession answered result fault_output.new.failed
+        (V.contents fault_output.old.writer) (V.contents fault_output.new.writer) }
+{
     let closed = tell_closed(close_register(paths, session), fault_output);
     Ok(answered?.max(closed))
 }
@@ -325,10 +379,13 @@ fn open<P: Paths>(
     config: String,
     paths: &mut P,
 ) -> Result<Session<P::Store, Blocks>, Failure>
-    ensures opened { IfOk result (λ session. OpensUnder (places P.Store.Store (P.tells paths.old) (P.opens paths.old) (P.lacks paths.old))
-        config (conditions (version_of packed_blocks) session.profile session.limits) session.connection) }
-    ensures failed { IfErr result (λ failure.
-        StopsOpening (places P.Store.Store (P.tells paths.old) (P.opens paths.old) (P.lacks paths.old)) config failure.fault) }
+    ensures opened { IfOk result
+        (λ session. OpensUnder (places P.Store.Store (P.tells paths.old) (P.opens paths.old)
+        (P.lacks paths.old)) config (conditions (version_of packed_blocks) session.profile
+        session.limits) session.connection) }
+    ensures failed { IfErr result
+        (λ failure. StopsOpening (places P.Store.Store (P.tells paths.old) (P.opens paths.old)
+        (P.lacks paths.old)) config failure.fault) }
     ensures told { P.tells paths.new ≡ P.tells paths.old }
 {
     let profile = profile_at(alloc, paths, config)?;

@@ -4,13 +4,13 @@ ghost use Rattle.std.specs.Prelude.{◌≡◌, ◌⊎◌, false, IfOk, OnErr};
 ghost use Rattle.zeb_program.specs.Answers.{Writes};
 ghost use Rattle.zeb_program.specs.FaultLines.{IsCause, IsUnclosed, TellsFailure, cause_line};
 ghost use Rattle.zeb_program.specs.PrivateFaults.{IsUnread};
-ghost use Rattle.zeb_program.specs.WordAnswers.{IsFaultStatus};
+ghost use Rattle.zeb_program.specs.Statuses.{IsFaultStatus};
 ghost use Rattle.zeb_program.specs.declared.faults.Fault.TheVariants.{Memory, Refused};
 ghost use Rattle.std.specs.Io.KnownBytes.{Appends};
 
 use crate::faults::{Fault, tell};
-use crate::program::{ANSWERED, FAILED};
 use crate::sinks::Sink;
+use crate::statuses::Status;
 use std::alloc::{AllocError, Global};
 use std::io::Write;
 use zeb_engine::Refusal;
@@ -86,13 +86,13 @@ pub fn tell_failure<W: Write>(
     alloc: Global,
     failure: &Failure,
     output: &mut Sink<W>,
-) -> Result<u8, AllocError>
+) -> Result<Status, AllocError>
     ensures told { IfOk result (λ status. output.new.failed ≡ false →
         Writes (W.contents output.old.writer) (W.contents output.new.writer)
         (λ bytes. TellsFailure failure.now.fault bytes status)) }
     ensures sound { output.new.failed ≡ false → output.old.failed ≡ false }
     ensures status { IfOk result IsFaultStatus }
-    ensures unread { IsUnread failure.now.fault → IfOk result (λ status. status ≡ FAILED) }
+    ensures unread { IsUnread failure.now.fault → IfOk result (λ status. status ≡ Status.Failed) }
     ensures silent { OnErr result (output.new ≡ output.old) }
 {
     let status = tell(alloc, &failure.fault, output)?;
@@ -113,8 +113,8 @@ fn tell_cause<W: Write>(cause: &Option<Cause>, output: &mut Sink<W>)
 }
 
 fn write_cause<W: Write>(cause: &Cause, output: &mut Sink<W>)
-    ensures line { output.new.failed ≡ false →
-        Appends (W.contents output.old.writer) (W.contents output.new.writer) (cause_line cause.now) }
+    ensures line { output.new.failed ≡ false → Appends (W.contents output.old.writer)
+        (W.contents output.new.writer) (cause_line cause.now) }
     ensures sound { output.new.failed ≡ false → output.old.failed ≡ false }
 {
     match cause {
@@ -127,18 +127,18 @@ fn write_cause<W: Write>(cause: &Cause, output: &mut Sink<W>)
 }
 
 /// Writes that a part of what was done stands beside the register's file, where it does, and answers the status.
-pub fn tell_closed<W: Write>(closed: Closed, output: &mut Sink<W>) -> u8
-    ensures whole { result ≡ ANSWERED → output.new ≡ output.old }
-    ensures unclosed { result ≡ FAILED → output.new.failed ≡ false →
+pub fn tell_closed<W: Write>(closed: Closed, output: &mut Sink<W>) -> Status
+    ensures whole { result ≡ Status.Answered → output.new ≡ output.old }
+    ensures unclosed { result ≡ Status.Failed → output.new.failed ≡ false →
         Writes (W.contents output.old.writer) (W.contents output.new.writer) IsUnclosed }
     ensures sound { output.new.failed ≡ false → output.old.failed ≡ false }
-    ensures status { (result ≡ ANSWERED) ⊎ (result ≡ FAILED) }
+    ensures status { (result ≡ Status.Answered) ⊎ (result ≡ Status.Failed) }
 {
     if closed.is_whole {
-        return ANSWERED;
+        return Status::Answered;
     }
     tell_unclosed(&closed.cause.map(Cause::Store), output);
-    FAILED
+    Status::Failed
 }
 
 fn tell_unclosed<W: Write>(cause: &Option<Cause>, output: &mut Sink<W>)

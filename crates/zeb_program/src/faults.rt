@@ -4,12 +4,12 @@ ghost use Rattle.std.specs.Prelude.{◌≡◌, false, IfOk, IsErr, OnErr};
 ghost use Rattle.zeb_program.specs.Answers.{Writes};
 ghost use Rattle.zeb_program.specs.FaultLines.{TellsFault};
 ghost use Rattle.zeb_program.specs.PrivateFaults.{IsUnread, fault_of};
-ghost use Rattle.zeb_program.specs.declared.faults.Fault.TheVariants.{Memory, Refused};
-ghost use Rattle.zeb_program.specs.WordAnswers.{IsFaultStatus};
+ghost use Rattle.zeb_program.specs.declared.faults.Fault.TheVariants.{Memory};
+ghost use Rattle.zeb_program.specs.Statuses.{IsFaultStatus};
 
 use crate::batch::refuse;
-use crate::program::{FAILED, profile_status};
 use crate::sinks::Sink;
+use crate::statuses::Status;
 use std::alloc::{AllocError, AllocFailed, Global};
 use std::io::Write;
 use zeb_engine::Refusal;
@@ -45,14 +45,6 @@ impl<T: Drop> From<AllocFailed<T>> for Fault {
     }
 }
 
-impl From<Refusal> for Fault {
-    ghost from_gives = { λ refusal fault. fault ≡ Refused refusal };
-
-    fn from(refusal: Refusal) -> Fault {
-        Fault::Refused(refusal)
-    }
-}
-
 impl From<WalkFault> for Fault {
     ghost from_gives = { λ why fault. IsUnread fault × (fault ≡ fault_of why) };
 
@@ -65,23 +57,28 @@ impl From<WalkFault> for Fault {
 }
 
 /// Writes a fault's line, and answers its status. For want of memory nothing is written.
-pub fn tell<W: Write>(alloc: Global, fault: &Fault, output: &mut Sink<W>) -> Result<u8, AllocError>
-    ensures told { IfOk result (λ status. output.new.failed ≡ false →
-        Writes (W.contents output.old.writer) (W.contents output.new.writer) (λ line. TellsFault fault.now line status)) }
+pub fn tell<W: Write>(
+    alloc: Global,
+    fault: &Fault,
+    output: &mut Sink<W>,
+) -> Result<Status, AllocError>
+    ensures told { IfOk result (λ status. output.new.failed ≡ false
+        → Writes (W.contents output.old.writer) (W.contents output.new.writer)
+        (λ line. TellsFault fault.now line status)) }
     ensures sound { output.new.failed ≡ false → output.old.failed ≡ false }
     ensures memory { fault.now ≡ Memory → IsErr result }
     ensures status { IfOk result IsFaultStatus }
-    ensures unread { IsUnread fault.now → IfOk result (λ status. status ≡ FAILED) }
+    ensures unread { IsUnread fault.now → IfOk result (λ status. status ≡ Status.Failed) }
     ensures silent { OnErr result (output.new ≡ output.old) }
 {
     match fault {
         Fault::Profile { file, fault } => {
             output.write_line(format_args!("zebraidx: {file} {fault}"));
-            Ok(profile_status(fault.kind))
+            Ok(Status::of_profile(fault.kind))
         }
         Fault::Unreadable(path) => {
             output.write_line(format_args!("zebraidx: cannot read {path}"));
-            Ok(FAILED)
+            Ok(Status::Failed)
         }
         Fault::Refused(refusal) => refuse(alloc, refusal, output),
         Fault::Memory => Err(AllocError),

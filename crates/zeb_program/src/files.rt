@@ -1,10 +1,10 @@
 //! The files at the paths that words or a line name.
 
-ghost use Rattle.std.specs.Prelude.{◌≡◌, ◌⊎◌, ◌≤◌, ◌+◌, ℕ, List, Some, map, string_bytes, vec_len, Err, IfErr, IfOk, IfSome, false};
-ghost use Rattle.zeb_program.specs.Inputs.{IsTextWithin, TakesAtMost};
+ghost use Rattle.std.specs.Prelude.{◌≡◌, ◌⊎◌, ◌+◌, ℕ, List, Some, map, string_bytes, Err, IfErr, IfOk, false, true};
+ghost use Rattle.zeb_program.specs.Inputs.{TakesAtMost};
 ghost use Rattle.zeb_program.specs.FaultAnswers.{NamesUnder};
 ghost use Rattle.zeb_program.specs.PrivateFaults.{IsUnread};
-ghost use Rattle.zeb_program.specs.PrivateFiles.{AreShort, sure_bytes};
+ghost use Rattle.zeb_program.specs.PrivateFiles.{AreShort, ReadsContent, sure_bytes};
 ghost use Rattle.zeb_program.specs.ProfileFiles.{ReadsProfile};
 ghost use Rattle.zeb_program.specs.TaskAnswers.{AreTold};
 ghost use Rattle.zeb_program.specs.declared.faults.Fault.TheVariants.{Memory, Unreadable};
@@ -30,10 +30,9 @@ pub fn read_profile<P: Paths>(alloc: Global, paths: &P, file: String) -> Result<
 /// Reads the profile that stands in this file, whose bytes the source gives.
 fn profile_from<R: Source>(alloc: Global, source: &mut R, file: String) -> Result<Profile, Fault>
     requires { R.has_failed source.old ≡ false }
-    ensures read { ReadsProfile (R.remaining source.old) file result }
-    // Bytes that are told can't be read only where they are too many or no text, or where a read failed.
-    ensures unreadable { result ≡ Err (Unreadable file) → R.has_failed source.new ≡ false
-        → IfSome (R.remaining source.old) (λ bytes. ¬ IsTextWithin GREATEST_PROFILE bytes) }
+    ensures read { R.has_failed source.new ≡ false → ReadsProfile (R.remaining source.old) file result }
+    ensures failed { R.has_failed source.new ≡ true → result ≡ Err (Unreadable file) }
+    ensures able { R.may_fail source.old ≡ false → R.has_failed source.new ≡ false }
     // Whatever the answer.
     ensures taken { TakesAtMost (GREATEST_PROFILE + 1) (R.remaining source.old) (R.remaining source.new) }
 {
@@ -77,14 +76,10 @@ pub fn readers_of<P: Paths>(
 {
     let mut readers = Vec::new(alloc);
     let mut walk = Walk::new(alloc, paths, named)?;
-    for _ in 0..u64::MAX {
-        let Some(path) = walk.next_file()? else {
-            return Ok(readers);
-        };
+    while let Some(path) = walk.next_file()? {
         readers.push(paths.reader(path))?;
     }
-    // So many readers are none that could be held.
-    Err(Fault::Memory)
+    Ok(readers)
 }
 
 /// The path of the file that has this number, from 1, among those at and below the paths. `None` where it isn't found, or memory runs out.
@@ -111,32 +106,39 @@ pub fn contents_of<P: Paths>(
     // Where the bytes of a file at each path are told, they are just these.
     ensures told { (files : List (List ℕ)) → AreTold (P.tells paths.now) (map string_bytes named.now) files
         → IfOk result (λ contents. map (λ content. content.items) contents.items ≡ files) }
-    // So where one of these files has more bytes than a file may have, they are refused.
+    // So where one of these files has more bytes than a file may have, they are refused, and for no other reason than want of memory.
     ensures short { IfOk result (λ contents. AreShort (map (λ content. content.items) contents.items)) }
+    ensures reason { (files : List (List ℕ)) → AreTold (P.tells paths.now) (map string_bytes named.now) files
+        → IfErr result (λ fault. (fault ≡ Memory) ⊎ (¬ AreShort files)) }
     ensures unread { IfErr result IsUnread }
     ensures under { IfErr result (NamesUnder (map string_bytes named.now)) }
 {
     let mut contents = Vec::new(alloc);
     let mut walk = Walk::new(alloc, paths, named)?;
-    for _ in 0..u64::MAX {
-        let Some(path) = walk.next_file()? else {
-            return Ok(contents);
-        };
+    while let Some(path) = walk.next_file()? {
         contents.push(content_of(alloc, paths, path)?)?;
     }
-    // So many files are none that could be held.
-    Err(Fault::Memory)
+    Ok(contents)
 }
 
+/// The bytes of the file at this path.
 fn content_of<P: Paths>(alloc: Global, paths: &P, path: String) -> Result<Vec<u8>, Fault>
-    ensures told { (file : List ℕ) → P.tells paths.now (string_bytes path) ≡ Some file
-        → IfOk result (λ content. content.items ≡ file) }
-    ensures short { IfOk result (λ content. vec_len content ≤ GREATEST_INPUT) }
-    ensures unread { IfErr result IsUnread }
-    ensures path { IfErr result (λ fault. (fault ≡ Unreadable path) ⊎ (fault ≡ Memory)) }
+    ensures { ReadsContent (P.tells paths.now (string_bytes path)) path result }
 {
     let mut source = paths.reader(path.clone()?);
-    match read_whole(alloc, &mut source, GREATEST_INPUT) {
+    content_from(alloc, &mut source, path)
+}
+
+/// The bytes of the file at this path, which the source gives.
+fn content_from<R: Source>(alloc: Global, source: &mut R, path: String) -> Result<Vec<u8>, Fault>
+    requires { R.has_failed source.old ≡ false }
+    ensures read { R.has_failed source.new ≡ false → ReadsContent (R.remaining source.old) path result }
+    ensures failed { R.has_failed source.new ≡ true → result ≡ Err (Unreadable path) }
+    ensures able { R.may_fail source.old ≡ false → R.has_failed source.new ≡ false }
+    // Whatever the answer.
+    ensures taken { TakesAtMost (GREATEST_INPUT + 1) (R.remaining source.old) (R.remaining source.new) }
+{
+    match read_whole(alloc, source, GREATEST_INPUT) {
         Ok(content) => Ok(content),
         Err(fault) => Err(unread(fault, path)),
     }

@@ -1,6 +1,6 @@
 //! Reading a source whole.
 
-ghost use Rattle.std.specs.Prelude.{◌≡◌, ◌≤◌, ◌+◌, true, false, length, vec_len, string_bytes, string_len, IfOk, IfSome};
+ghost use Rattle.std.specs.Prelude.{◌≡◌, ◌↔◌, ◌≤◌, ◌+◌, true, false, length, vec_len, string_bytes, string_len, IfOk, IfSome};
 ghost use Rattle.std.specs.Io.KnownBytes.{Consumes, IsAtEnd};
 ghost use Rattle.zeb_program.specs.Inputs.{IsTextWithin, TakesAtMost};
 ghost use Rattle.zeb_program.specs.declared.input.InputFault.TheVariants.{Unreadable, Memory};
@@ -49,11 +49,11 @@ pub fn read_text<R: Source>(
     requires bounded { most ≤ GREATEST_INPUT }
     ensures text { IfOk result (λ text. IfSome (R.remaining source.old) (λ bytes. string_bytes text ≡ bytes)) }
     ensures short { IfOk result (λ text. string_len text ≤ most) }
-    ensures sound { IfOk result (λ _. R.has_failed source.new ≡ false) }
     // A source that tells its bytes and doesn't fail is refused only for what they are, or for memory.
     ensures unreadable { result ≡ Err Unreadable → R.has_failed source.new ≡ false →
         IfSome (R.remaining source.old) (λ bytes. ¬ IsTextWithin most bytes) }
     ensures failed { R.has_failed source.new ≡ true → result ≡ Err Unreadable }
+    ensures able { R.may_fail source.old ≡ false → R.has_failed source.new ≡ false }
     // Whatever the answer.
     ensures taken { TakesAtMost (most + 1) (R.remaining source.old) (R.remaining source.new) }
 {
@@ -70,12 +70,11 @@ pub fn read_whole<R: Source>(
 ) -> Result<Vec<u8>, InputFault>
     requires sound { R.has_failed source.old ≡ false }
     requires bounded { most ≤ GREATEST_INPUT }
-    ensures whole { IfOk result (λ bytes. IfSome (R.remaining source.old) (λ left. bytes.items ≡ left)) }
-    ensures short { IfOk result (λ bytes. vec_len bytes ≤ most) }
-    ensures sound { IfOk result (λ _. R.has_failed source.new ≡ false) }
+    ensures whole { IfOk result (λ bytes. (vec_len bytes ≤ most) × IfSome (R.remaining source.old) (λ left. bytes.items ≡ left)) }
     ensures unreadable { result ≡ Err Unreadable → R.has_failed source.new ≡ false →
         IfSome (R.remaining source.old) (λ left. ¬ (length left ≤ most)) }
     ensures failed { R.has_failed source.new ≡ true → result ≡ Err Unreadable }
+    ensures able { R.may_fail source.old ≡ false → R.has_failed source.new ≡ false }
     ensures taken { TakesAtMost (most + 1) (R.remaining source.old) (R.remaining source.new) }
 {
     let bytes = read_bytes(alloc, source, most)?;
@@ -91,9 +90,8 @@ fn read_bytes<R: Source>(alloc: Global, source: &mut R, most: usize) -> Result<V
     requires bounded { most ≤ GREATEST_INPUT }
     ensures taken { IfOk result (λ bytes. Consumes (R.remaining source.old) (R.remaining source.new) bytes.items) }
     ensures end { IfOk result (λ bytes. vec_len bytes ≤ most → IsAtEnd (R.remaining source.new)) }
-    ensures sound { IfOk result (λ _. R.has_failed source.new ≡ false) }
-    ensures unreadable { result ≡ Err Unreadable → R.has_failed source.new ≡ true }
-    ensures failed { R.has_failed source.new ≡ true → result ≡ Err Unreadable }
+    ensures failed { result ≡ Err Unreadable ↔ R.has_failed source.new ≡ true }
+    ensures able { R.may_fail source.old ≡ false → R.has_failed source.new ≡ false }
     ensures bounded { TakesAtMost (most + 1) (R.remaining source.old) (R.remaining source.new) }
 {
     let mut bytes = Vec::new(alloc);

@@ -21,11 +21,13 @@ mod program;
 mod script;
 mod shell;
 mod sinks;
+mod statuses;
 mod tasks;
 mod warnings;
 mod words;
 
 pub use laws::a_batch_is_one_run;
 pub use outputs::Output;
-pub use program::{FAILED, run};
+pub use program::run;
 pub use sinks::Sink;
+pub use statuses::Status;

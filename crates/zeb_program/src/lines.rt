@@ -1,13 +1,15 @@
 //! The lines of a batch, each of which names a command.
 
-ghost use Rattle.std.specs.Prelude.{IfOk, MatchOption, string_bytes};
+ghost use Rattle.std.specs.Prelude.{◌≢◌, IfOk, MatchOption, string_bytes};
 ghost use Rattle.zeb_engine.specs.declared.commands.Command.{Command};
-ghost use Rattle.zeb_program.specs.Batches.{Names, HasChange, HasFind, HasMark, HasPage, HasScan, NamesMark};
-ghost use Rattle.zeb_program.specs.PrivateBatches.{IsChange, IsFind, IsPage, IsScan};
+ghost use Rattle.zeb_program.specs.Batches.{Names, HasFind, HasMark, HasPage, HasScan, NamesMark, kind_word};
+ghost use Rattle.zeb_program.specs.PrivateBatches.{IsFind, IsPage, IsScan, SaysChange};
+ghost use Rattle.zeb_program.specs.Words.{first_word};
+ghost use Rattle.zeb_change.specs.declared.settings.Kind.{Kind};
 
-use crate::digits::bytes_of_digits;
+use crate::digits::bytes_of_file;
 use crate::numbers::number_of;
-use crate::path_changes::{PathChange, read_path_change};
+use crate::path_changes::{PathChange, kind_of};
 use crate::words::{cut_word, without_blanks};
 use std::alloc::{AllocError, Global};
 use zeb_engine::{Command, DbName, Kind};
@@ -69,20 +71,24 @@ impl Line {
         if text.is_empty() || text.starts_with('#') {
             return Ok(Line::Remark);
         }
+        let (word, rest) = cut_word(text);
+        if let Some(kind) = kind_of(word) {
+            return read_change(alloc, kind, rest);
+        }
         if let Some(command) = read_command(alloc, text)? {
             return Ok(Line::Command(command));
         }
-        if let Some(mark) = read_mark(alloc, text)? {
-            return Ok(Line::Mark(mark));
-        }
-        let change = read_path_change(alloc, text)?;
-        Ok(change.map_or(Line::Bad, Line::Path))
+        let mark = read_mark(alloc, text)?;
+        Ok(mark.map_or(Line::Bad, Line::Mark))
     }
 }
 
-/// The command that a line names which begins and ends with no blank, and is not empty. A change by a path is none.
+/// The command, but for a change, that a line names which begins and ends with no blank, and is not empty.
 fn read_command(alloc: Global, text: &str) -> Result<Option<Command>, AllocError>
-    ensures { IfOk result (λ found. MatchOption found ((command : Command) → ¬ Names text.now command) (Names text.now)) }
+    requires { (kind : Kind) → first_word text.now ≢ kind_word kind }
+    ensures { IfOk result
+        (λ found. MatchOption found ((command : Command) → ¬ Names text.now command)
+        (Names text.now)) }
 {
     let (word, rest) = cut_word(text);
     match word {
@@ -94,9 +100,6 @@ fn read_command(alloc: Global, text: &str) -> Result<Option<Command>, AllocError
         "drop" => Ok(DbName::read(rest).map(Command::Drop)),
         "stat" => Ok(DbName::read(rest).map(Command::Stat)),
         "dump" => Ok(DbName::read(rest).map(Command::Dump)),
-        "update" => read_change(alloc, Kind::Update, rest),
-        "delete" => read_change(alloc, Kind::Delete, rest),
-        "adelete" => read_change(alloc, Kind::Adelete, rest),
         "find" => read_find(alloc, rest),
         "page" => read_page(alloc, rest),
         "scan" => read_scan(alloc, rest),
@@ -104,23 +107,32 @@ fn read_command(alloc: Global, text: &str) -> Result<Option<Command>, AllocError
     }
 }
 
-/// `NAME hex:DIGITS`.
-fn read_change(alloc: Global, kind: Kind, text: &str) -> Result<Option<Command>, AllocError>
-    ensures { IfOk result (λ found. MatchOption found (¬ HasChange text.now) (IsChange kind text.now)) }
+/// `NAME FILE`, behind the word of a change.
+fn read_change(alloc: Global, kind: Kind, text: &str) -> Result<Line, AllocError>
+    ensures { IfOk result (SaysChange kind text.now) }
 {
     let (name, file) = cut_word(text);
-    let (Some(database), Some(digits)) = (DbName::read(name), file.strip_prefix("hex:")) else {
-        return Ok(None);
+    let Some(database) = DbName::read(name) else {
+        return Ok(Line::Bad);
     };
-    let Some(bytes) = bytes_of_digits(alloc, digits)? else {
-        return Ok(None);
-    };
-    let files = vec![in alloc; bytes]?;
-    Ok(Some(Command::Change {
-        kind,
-        database,
-        files,
-    }))
+    if file.is_empty() {
+        return Ok(Line::Bad);
+    }
+    match bytes_of_file(alloc, file)? {
+        Some(bytes) => {
+            let files = vec![in alloc; bytes]?;
+            Ok(Line::Command(Command::Change {
+                kind,
+                database,
+                files,
+            }))
+        }
+        None => Ok(Line::Path(PathChange {
+            kind,
+            database,
+            path: String::from_str(alloc, file)?,
+        })),
+    }
 }
 
 /// `NAME QUERY`.
@@ -192,7 +204,8 @@ fn read_scan(alloc: Global, text: &str) -> Result<Option<Command>, AllocError>
 
 /// The text of a line `mark TEXT`.
 fn read_mark(alloc: Global, text: &str) -> Result<Option<String>, AllocError>
-    ensures { IfOk result (λ found. MatchOption found (¬ HasMark text.now) (λ mark. NamesMark text.now (string_bytes mark))) }
+    ensures { IfOk result (λ found. MatchOption found (¬ HasMark text.now)
+        (λ mark. NamesMark text.now (string_bytes mark))) }
 {
     let (word, mark) = cut_word(text);
     if word == "mark" && !mark.is_empty() {

@@ -31,10 +31,13 @@ pub fn session_over<S: Alter + Drop>(
 ) -> Result<Session<S, Blocks>, Refusal>
     requires idle { IfOk opened (λ connection. connection.in_transaction ≡ false) }
     ensures unopened { OnErr opened (result ≡ Err Refusal.Store) }
-    ensures other { IfOk opened (λ connection. HasOtherTables (state S.Store connection) → result ≡ Err Refusal.Store) }
+    ensures other { IfOk opened (λ connection. HasOtherTables (state S.Store connection)
+        → result ≡ Err Refusal.Store) }
     ensures failed { IfErr result IsOpeningFailure }
-    ensures keeps { IfOk opened (λ connection. IfOk result (λ session. HasCleanDisk (state S.Store session.connection)
-        → (before : Holdings) → Bears (state S.Store connection) before → Keeps (state S.Store session.connection) before)) }
+    ensures keeps { IfOk opened
+        (λ connection. IfOk result (λ session. HasCleanDisk (state S.Store session.connection)
+        → (before : Holdings) → Bears (state S.Store connection) before
+        → Keeps (state S.Store session.connection) before)) }
     ensures under { IfOk result (λ session. AreScriptConditions profile
         (conditions (version_of packed_blocks) session.profile session.limits)) }
 {

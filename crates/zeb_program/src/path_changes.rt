@@ -1,7 +1,6 @@
 //! The lines of a batch that name a change by the path of its file.
 
-ghost use Rattle.std.specs.Prelude.{◌≡◌, ◌↔◌, ◌≢◌, ◌≤◌, ℕ, List, Some, false, string_bytes};
-ghost use Rattle.std.specs.Prelude.{IfOk, IfNone, IfSome, IsTrue, MatchOption, OnErr};
+ghost use Rattle.std.specs.Prelude.{◌≡◌, ◌≢◌, ℕ, List, Some, false, string_bytes, IfOk, IfNone, IfSome, OnErr};
 ghost use Rattle.sqlite.specs.Held.{state};
 ghost use Rattle.sqlite.specs.State.{HasCleanDisk};
 ghost use Rattle.zeb_change.specs.Conditions.{conditions};
@@ -9,16 +8,13 @@ ghost use Rattle.zeb_change.specs.declared.settings.Kind.{Kind};
 ghost use Rattle.zeb_register.specs.Formats.{version_of};
 ghost use Rattle.zeb_program.specs.Answers.{IsFileAnswer, Writes};
 ghost use Rattle.zeb_program.specs.Batches.{kind_word};
-ghost use Rattle.zeb_program.specs.PathChanges.{HasPath, IsDigits, NamesPath};
 ghost use Rattle.zeb_program.specs.PrivateServing.{Leads};
 ghost use Rattle.zeb_program.specs.PrivateOverTables.{PathOver};
 
-use crate::digits::bytes_of_digits;
 use crate::faults::tell;
-use crate::program::{ANSWERED, FAILED};
 use crate::sinks::Sink;
+use crate::statuses::Status;
 use crate::tasks::change_by_paths;
-use crate::words::cut_word;
 use sqlite::Alter;
 use std::alloc::{AllocError, Global};
 use std::io::Write;
@@ -35,29 +31,8 @@ pub struct PathChange {
     pub path: String,
 }
 
-/// The change that a line names by a path, `update NAME FILE`, `delete NAME FILE` or `adelete NAME FILE`. The line begins and
-/// ends with no blank. FILE is the rest of the line, isn't empty, and isn't `hex:` with the digits of bytes.
-pub fn read_path_change(alloc: Global, text: &str) -> Result<Option<PathChange>, AllocError>
-    ensures { IfOk result (λ found. MatchOption found (¬ HasPath text.now) (NamesPath text.now)) }
-{
-    let (word, rest) = cut_word(text);
-    let (name, file) = cut_word(rest);
-    let (Some(kind), Some(database)) = (kind_of(word), DbName::read(name)) else {
-        return Ok(None);
-    };
-    if file.is_empty() || is_digits(alloc, file)? {
-        return Ok(None);
-    }
-    let path = String::from_str(alloc, file)?;
-    Ok(Some(PathChange {
-        kind,
-        database,
-        path,
-    }))
-}
-
 /// The kind of change that a word names.
-fn kind_of(word: &str) -> Option<Kind>
+pub fn kind_of(word: &str) -> Option<Kind>
     ensures found { IfSome result (λ kind. word.now ≡ kind_word kind) }
     ensures none { IfNone result ((kind : Kind) → word.now ≢ kind_word kind) }
 {
@@ -69,16 +44,6 @@ fn kind_of(word: &str) -> Option<Kind>
     }
 }
 
-/// Whether a file is given as `hex:` and the digits of its bytes.
-fn is_digits(alloc: Global, file: &str) -> Result<bool, AllocError>
-    ensures { IfOk result (λ is. IsTrue is ↔ IsDigits file.now) }
-{
-    match file.strip_prefix("hex:") {
-        Some(digits) => Ok(bytes_of_digits(alloc, digits)?.is_some()),
-        None => Ok(false),
-    }
-}
-
 /// Carries out a change by a path, writes its reply or what kept it from one, and answers the status.
 pub fn run_path_change<S: Alter, L: Layout, P: Paths, W: Write>(
     alloc: Global,
@@ -86,30 +51,35 @@ pub fn run_path_change<S: Alter, L: Layout, P: Paths, W: Write>(
     paths: &P,
     change: &PathChange,
     output: &mut Sink<W>,
-) -> Result<u8, AllocError>
+) -> Result<Status, AllocError>
     ensures sound { output.new.failed ≡ false → output.old.failed ≡ false }
     // Where the paths tell the file's bytes.
-    ensures answer { IfOk result (λ status. output.new.failed ≡ false → HasCleanDisk (state S.Store session.new.connection)
-        → (file : List ℕ) → P.tells paths.now (string_bytes change.now.path) ≡ Some file
-        → Leads (state S.Store session.old.connection) (state S.Store session.new.connection) (W.contents output.old.writer)
+    ensures answer { IfOk result (λ status. output.new.failed ≡ false
+        → HasCleanDisk (state S.Store session.new.connection) → (file : List ℕ) → P.tells paths.now
+        (string_bytes change.now.path) ≡ Some file → Leads (state S.Store session.old.connection)
+        (state S.Store session.new.connection) (W.contents output.old.writer)
         (W.contents output.new.writer)
-        (λ before bytes later. IsFileAnswer (conditions
-        (version_of L.format) session.old.profile session.old.limits) change.now file before bytes status later)) }
+        (λ before bytes later. IsFileAnswer (conditions (version_of L.format) session.old.profile
+        session.old.limits) change.now file before bytes status later)) }
     // It is answered as the engine says of it on any tables, whatever the paths tell.
-    ensures over { IfOk result (λ status. output.new.failed ≡ false → HasCleanDisk (state S.Store session.new.connection)
-        → Writes (W.contents output.old.writer) (W.contents output.new.writer) (λ bytes. PathOver (P.tells paths.now) L.format
-        (conditions (version_of L.format) session.old.profile session.old.limits) change.now (state S.Store session.old.connection)
-        bytes status (state S.Store session.new.connection))) }
+    ensures over { IfOk result (λ status. output.new.failed ≡ false
+        → HasCleanDisk (state S.Store session.new.connection)
+        → Writes (W.contents output.old.writer) (W.contents output.new.writer)
+        (λ bytes. PathOver (P.tells paths.now) L.format
+        (conditions (version_of L.format) session.old.profile session.old.limits) change.now
+        (state S.Store session.old.connection) bytes status
+        (state S.Store session.new.connection))) }
     ensures stopped { OnErr result (output.new ≡ output.old) }
-    ensures clean { HasCleanDisk (state S.Store session.new.connection) → HasCleanDisk (state S.Store session.old.connection) }
-    ensures under { (session.new.profile ≡ session.old.profile) × (session.new.limits ≡ session.old.limits) }
-    ensures range { IfOk result (λ status. status ≤ FAILED) }
+    ensures clean { HasCleanDisk (state S.Store session.new.connection)
+        → HasCleanDisk (state S.Store session.old.connection) }
+    ensures under { (session.new.profile ≡ session.old.profile)
+        × (session.new.limits ≡ session.old.limits) }
 {
     let named = slice::from_ref(&change.path);
     match change_by_paths(alloc, session, paths, change.kind, &change.database, named) {
         Ok(reply) => {
             output.write(render(alloc, &reply)?.as_slice());
-            Ok(ANSWERED)
+            Ok(Status::Answered)
         }
         Err(fault) => tell(alloc, &fault, output),
     }

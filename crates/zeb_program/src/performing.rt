@@ -47,8 +47,10 @@ pub fn perform<P: Paths>(
     task: &Task,
     paths: &mut P,
 ) -> Result<Told, Failure>
-    ensures warns { IfOk result (λ told. spec.MayWarn task.now (option_map string_bytes told.warning)) }
-    ensures performs { GivesFor result (Performs (places P.Store.Store (P.tells paths.old) (P.opens paths.old) (P.lacks paths.old))
+    ensures warns { IfOk result
+        (λ told. spec.MayWarn task.now (option_map string_bytes told.warning)) }
+    ensures performs { GivesFor result
+        (Performs (places P.Store.Store (P.tells paths.old) (P.opens paths.old) (P.lacks paths.old))
         config task.now) }
 {
     let profile = profile_at(alloc, paths, config)?;
@@ -65,9 +67,11 @@ fn perform_in_register<P: Paths>(
     task: &Task,
     paths: &mut P,
 ) -> Result<Told, Failure>
-    ensures warns { IfOk result (λ told. spec.MayWarn task.now (option_map string_bytes told.warning)) }
-    ensures serves { GivesFor result (ServesUnder (places P.Store.Store (P.tells paths.old) (P.opens paths.old) (P.lacks paths.old))
-        profile task.now) }
+    ensures warns { IfOk result
+        (λ told. spec.MayWarn task.now (option_map string_bytes told.warning)) }
+    ensures serves { GivesFor result
+        (ServesUnder (places P.Store.Store (P.tells paths.old) (P.opens paths.old)
+        (P.lacks paths.old)) profile task.now) }
 {
     let mut session = open_register(alloc, paths, profile)?;
     let served = carry_out(alloc, &mut session, paths, task);
@@ -82,7 +86,8 @@ fn perform_on_nothing<P: Paths>(
     task: &Task,
     paths: &P,
 ) -> Result<Told, Failure>
-    ensures warns { IfOk result (λ told. spec.MayWarn task.now (option_map string_bytes told.warning)) }
+    ensures warns { IfOk result
+        (λ told. spec.MayWarn task.now (option_map string_bytes told.warning)) }
     ensures serves { GivesFor result (ServesOnNothing (P.tells paths.now) profile task.now) }
 {
     let mut session = session_over(alloc, open_in_memory(alloc), profile)?;
@@ -99,7 +104,8 @@ fn told_of<P: Paths>(
     closed: Closed,
 ) -> Result<Told, Failure>
     requires quiet { ¬ ReadsWhole task.now → IfOk served (λ served. served.unmarked.items ≡ []) }
-    ensures warns { IfOk result (λ told. spec.MayWarn task.now (option_map string_bytes told.warning)) }
+    ensures warns { IfOk result
+        (λ told. spec.MayWarn task.now (option_map string_bytes told.warning)) }
     ensures gives { GivesFor result (λ answer. IsOwnOr answer (replied served)) }
 {
     match served {
@@ -169,8 +175,9 @@ pub fn open_register<P: Paths>(
     ensures failed { IfErr result (λ failure. IsOpeningFault failure.fault) }
     ensures under { IfOk result (λ session. AreScriptConditions profile
         (conditions (version_of packed_blocks) session.profile session.limits)) }
-    ensures opened { IfOk result (λ session.
-        TakesStore (places P.Store.Store (P.tells paths.old) (P.opens paths.old) (P.lacks paths.old)) profile session.connection) }
+    ensures opened { IfOk result
+        (λ session. TakesStore (places P.Store.Store (P.tells paths.old) (P.opens paths.old)
+        (P.lacks paths.old)) profile session.connection) }
     ensures told { P.tells paths.new ≡ P.tells paths.old }
 {
     let opened = paths.store(profile.store_path());

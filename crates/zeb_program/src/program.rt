@@ -4,34 +4,24 @@ ghost use Rattle.std.specs.Prelude.{◌≡◌, ◌≢◌, ◌⊎◌, ◌≤◌, 
 ghost use Rattle.std.specs.Io.KnownBytes.{Appends, Keeps};
 ghost use Rattle.zeb_program.specs.Inputs.{TakesAtMost};
 ghost use Rattle.zeb_program.specs.Registers.{places};
-ghost use Rattle.zeb_program.specs.ScriptAnswers.{AnswersScript, EndsEarly, EndsScript, fault_line, fault_status};
-ghost use Rattle.zeb_program.specs.WordAnswers.{EndsWords, IsFaultStatus, NamesLines, NamesShell};
+ghost use Rattle.zeb_program.specs.ScriptAnswers.{AnswersScript, EndsEarly, EndsScript, fault_line};
+ghost use Rattle.zeb_program.specs.Statuses.{EndsWith, fault_status, status_code};
+ghost use Rattle.zeb_program.specs.WordAnswers.{EndsWords, NamesLines, NamesShell};
 
-use crate::batch::run_batch;
+use crate::batch::run_in_memory;
 use crate::command_line::run_words;
 use crate::input::{GREATEST_INPUT, InputFault, read_text};
 use crate::outputs::Output;
 use crate::script::Script;
 use crate::sinks::Sink;
+use crate::statuses::Status;
 use std::alloc::{AllocError, Global};
 use std::io::Write;
 use zeb_marc::Source;
 use zeb_paths::Paths;
-use zeb_profile::{Profile, ProfileFault, ProfileFaultKind};
+use zeb_profile::{Profile, ProfileFault};
 
-/// The status where all was answered.
-pub const ANSWERED: u8 = 0;
-
-/// The status where something was refused.
-pub const REFUSED: u8 = 1;
-
-/// The status where the words or a line say nothing that the program knows.
-pub const MISUSED: u8 = 2;
-
-/// The status where reading, writing, the store or memory failed.
-pub const FAILED: u8 = 3;
-
-/// Runs the program on these words, its name not among them, and answers its status, 0 to 3.
+/// Runs the program on these words, its name not among them, and answers the number of its status, 0 to 3.
 ///
 /// Without a word the input is a script: the lines of a profile, a line `.`, and the lines of a batch,
 /// which run over a register in memory; a file may be named by its path. What they answer goes to the
@@ -51,69 +41,81 @@ pub const FAILED: u8 = 3;
 pub fn run<R: Source, W: Output, V: Output, P: Paths>(
     alloc: Global,
     words: &[String],
-    paths: &mut P,
     input: &mut R,
     output: &mut Sink<W>,
     fault_output: &mut Sink<V>,
+    files: &mut P,
 ) -> u8
     requires { R.has_failed input.old ≡ false }
-    ensures range { result ≤ FAILED }
+    ensures range { result ≤ status_code Status.Failed }
 
     // However long the input is, and whatever the answer, but for a shell. Words leave it alone, but where they name a batch or a shell.
     ensures bounded { ¬ NamesShell (map string_bytes words.now) →
         TakesAtMost (GREATEST_INPUT + 1) (R.remaining input.old) (R.remaining input.new) }
-    ensures unread { words.now ≢ [] → ¬ NamesLines (map string_bytes words.now) → input.new ≡ input.old }
+    ensures unread { words.now ≢ [] → ¬ NamesLines (map string_bytes words.now)
+        → input.new ≡ input.old }
 
     // A failed read of the input, and a failed write, show in the status.
-    ensures failed_read { words.now ≡ [] → R.has_failed input.new ≡ true → result ≡ FAILED }
-    ensures failed_write { output.new.failed ≡ true → result ≡ FAILED }
-    ensures failed_fault { fault_output.new.failed ≡ true → result ≡ FAILED }
+    ensures failed_read { R.has_failed input.new ≡ true → result ≡ status_code Status.Failed }
+    ensures failed_write { output.new.failed ≡ true → result ≡ status_code Status.Failed }
+    ensures failed_fault { fault_output.new.failed ≡ true → result ≡ status_code Status.Failed }
 
     // Where no write has failed, nothing of what was written is held back.
     ensures passed { output.new.failed ≡ false → W.held_back output.new.writer ≡ [] }
-    ensures passed_fault { fault_output.new.failed ≡ false → V.held_back fault_output.new.writer ≡ [] }
+    ensures passed_fault { fault_output.new.failed ≡ false
+        → V.held_back fault_output.new.writer ≡ [] }
 
     // Without a word: what is written, where the input tells its bytes and neither a read nor a write failed. The answers of lines are
     // told where the paths tell the bytes of each file that a line names by its path.
-    ensures script { words.now ≡ [] → R.has_failed input.new ≡ false → output.new.failed ≡ false → fault_output.new.failed ≡ false →
-        IfSome (R.remaining input.old) (λ text.
-        EndsScript (P.tells paths.old) text (W.contents output.old.writer) (W.contents output.new.writer) result) }
+    ensures script { words.now ≡ [] → R.has_failed input.new ≡ false → output.new.failed ≡ false
+        → fault_output.new.failed ≡ false → IfSome (R.remaining input.old)
+        (λ text. EndsWith result (EndsScript (P.tells files.old) text (W.contents output.old.writer)
+        (W.contents output.new.writer))) }
     ensures quiet { words.now ≡ [] → fault_output.new.failed ≡ false →
         Keeps (V.contents fault_output.old.writer) (V.contents fault_output.new.writer) }
 
     // With words: what is told of the register that they have a command carried out on is told where the paths tell what opens it.
-    ensures words { words.now ≢ [] → output.new.failed ≡ false → fault_output.new.failed ≡ false →
-        EndsWords (places P.Store.Store (P.tells paths.old) (P.opens paths.old) (P.lacks paths.old)) (map string_bytes words.now)
-        (R.remaining input.old) (R.remaining input.new) (R.has_failed input.new) (W.contents output.old.writer)
-        (W.contents output.new.writer) (V.contents fault_output.old.writer) (V.contents fault_output.new.writer) result }
-    ensures failed_batch { words.now ≢ [] → R.has_failed input.new ≡ true → result ≡ FAILED }
+    ensures words { words.now ≢ [] → output.new.failed ≡ false → fault_output.new.failed ≡ false
+        → EndsWith result (EndsWords (places P.Store.Store (P.tells files.old) (P.opens files.old)
+        (P.lacks files.old)) (map string_bytes words.now) (R.remaining input.old)
+        (R.remaining input.new) (R.has_failed input.new) (W.contents output.old.writer)
+        (W.contents output.new.writer) (V.contents fault_output.old.writer)
+        (V.contents fault_output.new.writer)) }
 {
     if words.is_empty() {
-        let status = run_script(alloc, paths, input, output).unwrap_or(FAILED);
-        return finish(status, output, fault_output);
+        let ended = run_script(alloc, files, input, output);
+        let status = ended.unwrap_or(Status::Failed);
+        return finish(status, output, fault_output).code();
     }
-    let status = run_words(alloc, words, paths, input, output, fault_output).unwrap_or(FAILED);
-    finish(status, output, fault_output)
+    let ended = run_words(alloc, words, files, input, output, fault_output);
+    let status = ended.unwrap_or(Status::Failed);
+    finish(status, output, fault_output).code()
 }
 
-/// Has the outputs pass on what they hold back, and answers the status: this one, or `FAILED` where a write has failed.
-fn finish<W: Output, V: Output>(status: u8, output: &mut Sink<W>, fault_output: &mut Sink<V>) -> u8
-    ensures either { (result ≡ status) ⊎ (result ≡ FAILED) }
+/// Has the outputs pass on what they hold back, and answers the status: this one, or `Failed` where a write has failed.
+fn finish<W: Output, V: Output>(
+    status: Status,
+    output: &mut Sink<W>,
+    fault_output: &mut Sink<V>,
+) -> Status
+    ensures either { (result ≡ status) ⊎ (result ≡ Status.Failed) }
     ensures status { output.new.failed ≡ false → fault_output.new.failed ≡ false → result ≡ status }
-    ensures failed_write { output.new.failed ≡ true → result ≡ FAILED }
-    ensures failed_fault { fault_output.new.failed ≡ true → result ≡ FAILED }
+    ensures failed_write { output.new.failed ≡ true → result ≡ Status.Failed }
+    ensures failed_fault { fault_output.new.failed ≡ true → result ≡ Status.Failed }
     ensures sound { output.new.failed ≡ false → output.old.failed ≡ false }
     ensures sound_fault { fault_output.new.failed ≡ false → fault_output.old.failed ≡ false }
     ensures passed { output.new.failed ≡ false → W.held_back output.new.writer ≡ [] }
-    ensures passed_fault { fault_output.new.failed ≡ false → V.held_back fault_output.new.writer ≡ [] }
-    ensures bytes { output.new.failed ≡ false → Keeps (W.contents output.old.writer) (W.contents output.new.writer) }
+    ensures passed_fault { fault_output.new.failed ≡ false
+        → V.held_back fault_output.new.writer ≡ [] }
+    ensures bytes { output.new.failed ≡ false → Keeps (W.contents output.old.writer)
+        (W.contents output.new.writer) }
     ensures bytes_fault { fault_output.new.failed ≡ false →
         Keeps (V.contents fault_output.old.writer) (V.contents fault_output.new.writer) }
 {
     output.flush();
     fault_output.flush();
     if output.has_failed() || fault_output.has_failed() {
-        return FAILED;
+        return Status::Failed;
     }
     status
 }
@@ -123,55 +125,46 @@ fn run_script<R: Source, W: Write, P: Paths>(
     paths: &P,
     input: &mut R,
     output: &mut Sink<W>,
-) -> Result<u8, AllocError>
+) -> Result<Status, AllocError>
     requires { R.has_failed input.old ≡ false }
-    ensures range { IfOk result (λ status. status ≤ FAILED) }
-    ensures bounded { TakesAtMost (GREATEST_INPUT + 1) (R.remaining input.old) (R.remaining input.new) }
-    ensures failed_read { R.has_failed input.new ≡ true → IfOk result (λ status. status ≡ FAILED) }
+    ensures bounded { TakesAtMost (GREATEST_INPUT + 1) (R.remaining input.old)
+        (R.remaining input.new) }
+    ensures failed_read { R.has_failed input.new ≡ true
+        → IfOk result (λ status. status ≡ Status.Failed) }
     ensures sound { output.new.failed ≡ false → output.old.failed ≡ false }
-    ensures answer { IfOk result (λ status. R.has_failed input.new ≡ false → output.new.failed ≡ false →
-        IfSome (R.remaining input.old) (λ text.
-        AnswersScript (P.tells paths.now) text (W.contents output.old.writer) (W.contents output.new.writer) status)) }
-    ensures stopped { OnErr result (R.has_failed input.new ≡ false → output.new.failed ≡ false →
-        IfSome (R.remaining input.old) (λ text.
-        EndsEarly (P.tells paths.now) text (W.contents output.old.writer) (W.contents output.new.writer))) }
+    ensures answer { IfOk result (λ status. R.has_failed input.new ≡ false
+        → output.new.failed ≡ false → IfSome (R.remaining input.old)
+        (λ text. AnswersScript (P.tells paths.now) text (W.contents output.old.writer)
+        (W.contents output.new.writer) status)) }
+    ensures stopped { OnErr result (R.has_failed input.new ≡ false → output.new.failed ≡ false
+        → IfSome (R.remaining input.old) (λ text. EndsEarly (P.tells paths.now) text
+        (W.contents output.old.writer) (W.contents output.new.writer))) }
 {
     let text = match read_text(alloc, input, GREATEST_INPUT) {
         Ok(text) => text,
         Err(InputFault::Unreadable) => {
             output.write_line("zebraidx: cannot read input");
-            return Ok(FAILED);
+            return Ok(Status::Failed);
         }
         Err(InputFault::Memory) => return Err(AllocError),
     };
     let script = Script::cut(text.as_str());
     match Profile::read(alloc, script.profile) {
         Ok(profile) => match script.batch {
-            Some(batch) => run_batch(alloc, profile, paths, batch, output),
-            None => Ok(ANSWERED),
+            Some(batch) => run_in_memory(alloc, profile, paths, batch, output),
+            None => Ok(Status::Answered),
         },
         Err(fault) => Ok(refuse_profile(fault, output)),
     }
 }
 
 /// Writes a profile's fault, and answers its status.
-fn refuse_profile<W: Write>(fault: ProfileFault, output: &mut Sink<W>) -> u8
-    ensures range { result ≤ FAILED }
+fn refuse_profile<W: Write>(fault: ProfileFault, output: &mut Sink<W>) -> Status
     ensures status { result ≡ fault_status fault.kind }
-    ensures line { output.new.failed ≡ false → Appends (W.contents output.old.writer) (W.contents output.new.writer) (fault_line fault) }
+    ensures line { output.new.failed ≡ false → Appends (W.contents output.old.writer)
+        (W.contents output.new.writer) (fault_line fault) }
     ensures sound { output.new.failed ≡ false → output.old.failed ≡ false }
 {
     output.write_line(format_args!("zebraidx: input {fault}"));
-    profile_status(fault.kind)
-}
-
-/// The status that a profile's fault ends the program with.
-pub fn profile_status(kind: ProfileFaultKind) -> u8
-    ensures fault { IsFaultStatus result }
-    ensures status { result ≡ fault_status kind }
-{
-    match kind {
-        ProfileFaultKind::Memory => FAILED,
-        _ => REFUSED,
-    }
+    Status::of_profile(fault.kind)
 }

@@ -23,12 +23,33 @@ pub struct Batch<'a> {
     ghost numbered: { lines_before + length text.now < 2 ^ 64 },
 }
 
+impl<'a> Batch<'a> {
+    ghost use Rattle.std.specs.Prelude.{false};
+    ghost use Rattle.zeb_program.specs.Scripts.{BeginsRegister};
+
+    /// Whether a line asks that a register be begun.
+    pub fn begins(&self) -> bool
+        ensures { result ≡ false → ¬ BeginsRegister self.now.text.now }
+    {
+        let mut rest = self.text;
+        while !rest.is_empty() {
+            let (line, after) = cut_line(rest);
+            if without_blanks(line) == "init" {
+                return true;
+            }
+            rest = after;
+        }
+        false
+    }
+}
+
 impl<'a> Script<'a> {
     ghost use Rattle.zeb_program.specs.Scripts.{DividesAt, HasNoDivider};
 
     /// Cuts a text at its first line that is `.` but for blanks at its ends.
     pub fn cut(text: &'a str) -> Script<'a>
-        ensures undivided { IfNone result.batch (HasNoDivider text.now × (result.profile.now ≡ text.now)) }
+        ensures undivided { IfNone result.batch (HasNoDivider text.now
+            × (result.profile.now ≡ text.now)) }
         ensures divided { IfSome result.batch (λ batch.
             DividesAt batch.lines_before text.now result.profile.now batch.text.now) }
     {

@@ -1,6 +1,6 @@
 //! A shell: the lines of the input in one session, each answered before the next is read.
 
-ghost use Rattle.std.specs.Prelude.{◌≡◌, ◌≤◌, ◌<◌, ◌+◌, [], length, true, false, Some, IfOk, IfNone, IfSome, OnErr};
+ghost use Rattle.std.specs.Prelude.{◌≡◌, ◌≢◌, ◌<◌, ◌+◌, [], length, true, false, Some, IfOk, IfNone, IfSome, OnErr};
 ghost use Rattle.std.specs.Io.KnownBytes.{Consumes, IsAtEnd};
 ghost use Rattle.sqlite.specs.Held.{state};
 ghost use Rattle.sqlite.specs.State.{HasCleanDisk};
@@ -20,8 +20,8 @@ use crate::batch::{refuse_line, run_line};
 use crate::input::{GREATEST_INPUT, InputFault};
 use crate::line_input::read_line;
 use crate::outputs::Output;
-use crate::program::{ANSWERED, FAILED};
 use crate::sinks::Sink;
+use crate::statuses::Status;
 use crate::words::cut_line;
 use sqlite::Alter;
 use std::alloc::{AllocError, Global};
@@ -40,42 +40,50 @@ pub fn serve_lines<R: Source, S: Alter, L: Layout, P: Paths, W: Output, V: Write
     input: &mut R,
     output: &mut Sink<W>,
     fault_output: &mut Sink<V>,
-) -> Result<u8, AllocError>
+) -> Result<Status, AllocError>
     requires { R.has_failed input.old ≡ false }
-    ensures answer { IfOk result (λ status. output.new.failed ≡ false → fault_output.new.failed ≡ false
-        → HasCleanDisk (state S.Store session.new.connection)
+    ensures answer { IfOk result (λ status. output.new.failed ≡ false
+        → fault_output.new.failed ≡ false → HasCleanDisk (state S.Store session.new.connection)
         → IfSome (R.remaining input.old) (λ text. AreFilesTold (P.tells paths.now) text
-        → ServesLines (P.tells paths.now) (conditions
-        (version_of L.format) session.old.profile session.old.limits) text (R.remaining input.new)
-        (state S.Store session.old.connection) (state S.Store session.new.connection) (W.contents output.old.writer)
-        (W.contents output.new.writer) (V.contents fault_output.old.writer) (V.contents fault_output.new.writer) status)) }
+        → ServesLines (P.tells paths.now) (conditions (version_of L.format) session.old.profile
+        session.old.limits) text (R.remaining input.new) (state S.Store session.old.connection)
+        (state S.Store session.new.connection) (W.contents output.old.writer)
+        (W.contents output.new.writer) (V.contents fault_output.old.writer)
+        (V.contents fault_output.new.writer) status)) }
     // Each line is answered as the engine says of it on any tables, on those that the line before it left.
-    ensures over { IfOk result (λ status. output.new.failed ≡ false → fault_output.new.failed ≡ false
-        → HasCleanDisk (state S.Store session.new.connection)
-        → IfSome (R.remaining input.old) (λ text. ServesOverLines S.Store (P.tells paths.now) L.format (conditions
-        (version_of L.format) session.old.profile session.old.limits) text (R.remaining input.new)
-        session.old.connection session.new.connection (W.contents output.old.writer) (W.contents output.new.writer)
+    ensures over { IfOk result (λ status. output.new.failed ≡ false
+        → fault_output.new.failed ≡ false → HasCleanDisk (state S.Store session.new.connection)
+        → IfSome (R.remaining input.old) (λ text. ServesOverLines S.Store (P.tells paths.now)
+        L.format (conditions (version_of L.format) session.old.profile session.old.limits) text
+        (R.remaining input.new) session.old.connection session.new.connection
+        (W.contents output.old.writer) (W.contents output.new.writer)
         (V.contents fault_output.old.writer) (V.contents fault_output.new.writer) status)) }
-    ensures stopped_over { OnErr result (output.new.failed ≡ false → HasCleanDisk (state S.Store session.new.connection)
-        → IfSome (R.remaining input.old) (λ text. Writes (W.contents output.old.writer) (W.contents output.new.writer) (FirstOver
-        S.Store (P.tells paths.now) L.format (conditions (version_of L.format) session.old.profile session.old.limits) text
+    ensures stopped_over { OnErr result (output.new.failed ≡ false
+        → HasCleanDisk (state S.Store session.new.connection) → IfSome (R.remaining input.old)
+        (λ text. Writes (W.contents output.old.writer) (W.contents output.new.writer)
+        (FirstOver S.Store (P.tells paths.now) L.format
+        (conditions (version_of L.format) session.old.profile session.old.limits) text
         (R.remaining input.new) session.old.connection))) }
-    ensures stopped { OnErr result (output.new.failed ≡ false → HasCleanDisk (state S.Store session.new.connection)
-        → IfSome (R.remaining input.old) (λ text. AreFilesTold (P.tells paths.now) text
-        → Stops (state S.Store session.old.connection) (W.contents output.old.writer) (W.contents output.new.writer)
-        (AnswersFirst (P.tells paths.now) (conditions
-        (version_of L.format) session.old.profile session.old.limits) 0 text (R.remaining input.new)))) }
+    ensures stopped { OnErr result (output.new.failed ≡ false
+        → HasCleanDisk (state S.Store session.new.connection) → IfSome (R.remaining input.old)
+        (λ text. AreFilesTold (P.tells paths.now) text
+        → Stops (state S.Store session.old.connection) (W.contents output.old.writer)
+        (W.contents output.new.writer)
+        (AnswersFirst (P.tells paths.now) (conditions (version_of L.format) session.old.profile
+        session.old.limits) 0 text (R.remaining input.new)))) }
     ensures silent { OnErr result (fault_output.new ≡ fault_output.old) }
-    ensures clean { HasCleanDisk (state S.Store session.new.connection) → HasCleanDisk (state S.Store session.old.connection) }
-    ensures range { IfOk result (λ status. status ≤ FAILED) }
-    ensures failed_read { R.has_failed input.new ≡ true → IfOk result (λ status. status ≡ FAILED) }
-    ensures whole { IfOk result (λ status. status < FAILED → IsAtEnd (R.remaining input.new)) }
+    ensures clean { HasCleanDisk (state S.Store session.new.connection)
+        → HasCleanDisk (state S.Store session.old.connection) }
+    ensures failed_read { R.has_failed input.new ≡ true
+        → IfOk result (λ status. status ≡ Status.Failed) }
+    ensures whole { IfOk result (λ status. status ≢ Status.Failed
+        → IsAtEnd (R.remaining input.new)) }
 {
     match run_shell_lines(alloc, session, paths, input, output) {
         Ok(status) => Ok(status),
         Err(InputFault::Unreadable) => {
             fault_output.write_line("zebraidx: cannot read input");
-            Ok(FAILED)
+            Ok(Status::Failed)
         }
         Err(InputFault::Memory) => Err(AllocError),
     }
@@ -95,43 +103,52 @@ pub fn run_shell_lines<R: Source, S: Alter, L: Layout, P: Paths, W: Output>(
     paths: &P,
     input: &mut R,
     output: &mut Sink<W>,
-) -> Result<u8, InputFault>
+) -> Result<Status, InputFault>
     requires { R.has_failed input.old ≡ false }
     ensures sound { output.new.failed ≡ false → output.old.failed ≡ false }
-    ensures answer { IfOk result (λ status. output.new.failed ≡ false → HasCleanDisk (state S.Store session.new.connection)
-        → IfSome (R.remaining input.old) (λ text. AreFilesTold (P.tells paths.now) text
-        → Leads (state S.Store session.old.connection) (state S.Store session.new.connection) (W.contents output.old.writer)
-        (W.contents output.new.writer)
-        (λ before bytes last. AnswersBatch (P.tells paths.now) (conditions
-        (version_of L.format) session.old.profile session.old.limits) 0 text before bytes status last))) }
+    ensures answer { IfOk result (λ status. output.new.failed ≡ false
+        → HasCleanDisk (state S.Store session.new.connection) → IfSome (R.remaining input.old)
+        (λ text. AreFilesTold (P.tells paths.now) text
+        → Leads (state S.Store session.old.connection) (state S.Store session.new.connection)
+        (W.contents output.old.writer) (W.contents output.new.writer)
+        (λ before bytes last. AnswersBatch (P.tells paths.now)
+        (conditions (version_of L.format) session.old.profile session.old.limits) 0 text before
+        bytes status last))) }
     // Each line is answered as the engine says of it on any tables, on those that the line before it left.
-    ensures over { IfOk result (λ status. output.new.failed ≡ false → HasCleanDisk (state S.Store session.new.connection)
-        → IfSome (R.remaining input.old) (λ text. Writes (W.contents output.old.writer) (W.contents output.new.writer) (λ bytes. LinesOver
-        S.Store (P.tells paths.now) L.format (conditions (version_of L.format) session.old.profile session.old.limits) 0 text
+    ensures over { IfOk result (λ status. output.new.failed ≡ false
+        → HasCleanDisk (state S.Store session.new.connection) → IfSome (R.remaining input.old)
+        (λ text. Writes (W.contents output.old.writer) (W.contents output.new.writer)
+        (λ bytes. LinesOver S.Store (P.tells paths.now) L.format
+        (conditions (version_of L.format) session.old.profile session.old.limits) 0 text
         session.old.connection bytes status session.new.connection))) }
-    ensures stopped { OnErr result (output.new.failed ≡ false → HasCleanDisk (state S.Store session.new.connection)
-        → IfSome (R.remaining input.old) (λ text. AreFilesTold (P.tells paths.now) text
-        → Stops (state S.Store session.old.connection) (W.contents output.old.writer) (W.contents output.new.writer)
-        (AnswersFirst (P.tells paths.now) (conditions
-        (version_of L.format) session.old.profile session.old.limits) 0 text (R.remaining input.new)))) }
-    ensures stopped_over { OnErr result (output.new.failed ≡ false → HasCleanDisk (state S.Store session.new.connection)
-        → IfSome (R.remaining input.old) (λ text. Writes (W.contents output.old.writer) (W.contents output.new.writer) (FirstOver
-        S.Store (P.tells paths.now) L.format (conditions (version_of L.format) session.old.profile session.old.limits) text
+    ensures stopped { OnErr result (output.new.failed ≡ false
+        → HasCleanDisk (state S.Store session.new.connection) → IfSome (R.remaining input.old)
+        (λ text. AreFilesTold (P.tells paths.now) text
+        → Stops (state S.Store session.old.connection) (W.contents output.old.writer)
+        (W.contents output.new.writer)
+        (AnswersFirst (P.tells paths.now) (conditions (version_of L.format) session.old.profile
+        session.old.limits) 0 text (R.remaining input.new)))) }
+    ensures stopped_over { OnErr result (output.new.failed ≡ false
+        → HasCleanDisk (state S.Store session.new.connection) → IfSome (R.remaining input.old)
+        (λ text. Writes (W.contents output.old.writer) (W.contents output.new.writer)
+        (FirstOver S.Store (P.tells paths.now) L.format
+        (conditions (version_of L.format) session.old.profile session.old.limits) text
         (R.remaining input.new) session.old.connection))) }
-    ensures clean { HasCleanDisk (state S.Store session.new.connection) → HasCleanDisk (state S.Store session.old.connection) }
-    ensures range { IfOk result (λ status. status ≤ FAILED) }
+    ensures clean { HasCleanDisk (state S.Store session.new.connection)
+        → HasCleanDisk (state S.Store session.old.connection) }
     ensures failed { R.has_failed input.new ≡ true → result ≡ Err Unreadable }
     // Only where something failed a line may be left.
-    ensures whole { IfOk result (λ status. status < FAILED → IsAtEnd (R.remaining input.new)) }
+    ensures whole { IfOk result (λ status. status ≢ Status.Failed
+        → IsAtEnd (R.remaining input.new)) }
 {
-    let mut greatest = ANSWERED;
+    let mut greatest = Status::Answered;
     for lines_before in 0..u64::MAX {
         match run_next_line(alloc, session, paths, lines_before + 1, input, output)? {
             Some(status) => greatest = greatest.max(status),
             None => return Ok(greatest),
         }
         if output.has_failed() {
-            return Ok(FAILED);
+            return Ok(Status::Failed);
         }
     }
     // A line more than there are numbers.
@@ -147,34 +164,40 @@ fn run_next_line<R: Source, S: Alter, L: Layout, P: Paths, W: Output>(
     number: u64,
     input: &mut R,
     output: &mut Sink<W>,
-) -> Result<Option<u8>, InputFault>
+) -> Result<Option<Status>, InputFault>
     requires { R.has_failed input.old ≡ false }
     ensures sound { output.new.failed ≡ false → output.old.failed ≡ false }
     ensures answer { IfOk result (λ found. IfSome found (λ status. output.new.failed ≡ false
-        → HasCleanDisk (state S.Store session.new.connection)
-        → IfSome (R.remaining input.old) (λ left. IsLineTold (P.tells paths.now) (first_line left)
-        → Leads (state S.Store session.old.connection) (state S.Store session.new.connection) (W.contents output.old.writer)
-        (W.contents output.new.writer)
-        (λ before bytes later. AnswersLine (P.tells paths.now) (conditions
-        (version_of L.format) session.old.profile session.old.limits) number (first_line left) before bytes status later)))) }
+        → HasCleanDisk (state S.Store session.new.connection) → IfSome (R.remaining input.old)
+        (λ left. IsLineTold (P.tells paths.now) (first_line left)
+        → Leads (state S.Store session.old.connection) (state S.Store session.new.connection)
+        (W.contents output.old.writer) (W.contents output.new.writer)
+        (λ before bytes later. AnswersLine (P.tells paths.now)
+        (conditions (version_of L.format) session.old.profile session.old.limits) number
+        (first_line left) before bytes status later)))) }
     ensures over { IfOk result (λ found. IfSome found (λ status. output.new.failed ≡ false
-        → HasCleanDisk (state S.Store session.new.connection)
-        → IfSome (R.remaining input.old) (λ left. Writes (W.contents output.old.writer) (W.contents output.new.writer) (λ bytes. LineOver
-        S.Store (P.tells paths.now) L.format (conditions (version_of L.format) session.old.profile session.old.limits) number
+        → HasCleanDisk (state S.Store session.new.connection) → IfSome (R.remaining input.old)
+        (λ left. Writes (W.contents output.old.writer) (W.contents output.new.writer)
+        (λ bytes. LineOver S.Store (P.tells paths.now) L.format
+        (conditions (version_of L.format) session.old.profile session.old.limits) number
         (first_line left) session.old.connection bytes status session.new.connection)))) }
     ensures stopped { OnErr result (output.new ≡ output.old) }
-    ensures clean { HasCleanDisk (state S.Store session.new.connection) → HasCleanDisk (state S.Store session.old.connection) }
-    ensures under { (session.new.profile ≡ session.old.profile) × (session.new.limits ≡ session.old.limits) }
-    ensures range { IfOk result (λ found. IfSome found (λ status. status ≤ FAILED)) }
+    ensures clean { HasCleanDisk (state S.Store session.new.connection)
+        → HasCleanDisk (state S.Store session.old.connection) }
+    ensures under { (session.new.profile ≡ session.old.profile)
+        × (session.new.limits ≡ session.old.limits) }
     ensures taken { IfOk result (λ _. IfSome (R.remaining input.old) (λ left.
         Consumes (Some left) (R.remaining input.new) (whole_first_line left))) }
-    ensures some { IfOk result (λ found. IfSome found (λ _. IfSome (R.remaining input.old) (λ left. 0 < length left))) }
+    ensures some { IfOk result
+        (λ found. IfSome found (λ _. IfSome (R.remaining input.old) (λ left. 0 < length left))) }
     ensures end { IfOk result (λ found. IfNone found (IsAtEnd (R.remaining input.new))) }
-    ensures idle { IfOk result (λ found. IfNone found (IsAtEnd (R.remaining input.old) × (session.new ≡ session.old)
-        × (output.new ≡ output.old))) }
-    ensures bounded { TakesAtMost (GREATEST_INPUT + 1) (R.remaining input.old) (R.remaining input.new) }
+    ensures idle { IfOk result (λ found. IfNone found (IsAtEnd (R.remaining input.old)
+        × (session.new ≡ session.old) × (output.new ≡ output.old))) }
+    ensures bounded { TakesAtMost (GREATEST_INPUT + 1) (R.remaining input.old)
+        (R.remaining input.new) }
     ensures going { IfOk result (λ _. R.has_failed input.new ≡ false) }
-    ensures passed { IfOk result (λ found. IfSome found (λ _. output.new.failed ≡ false → W.held_back output.new.writer ≡ [])) }
+    ensures passed { IfOk result (λ found. IfSome found (λ _. output.new.failed ≡ false
+        → W.held_back output.new.writer ≡ [])) }
     ensures failed { R.has_failed input.new ≡ true → result ≡ Err Unreadable }
 {
     let bytes = read_line(alloc, input, GREATEST_INPUT)?;
@@ -194,24 +217,28 @@ fn run_bytes<S: Alter, L: Layout, P: Paths, W: Write>(
     bytes: Vec<u8>,
     number: u64,
     output: &mut Sink<W>,
-) -> Result<u8, AllocError>
+) -> Result<Status, AllocError>
     ensures sound { output.new.failed ≡ false → output.old.failed ≡ false }
     // Of bytes that are one line.
-    ensures answer { IfOk result (λ status. output.new.failed ≡ false → HasCleanDisk (state S.Store session.new.connection)
-        → after_first_line bytes.items ≡ [] → IsLineTold (P.tells paths.now) (first_line bytes.items)
-        → Leads (state S.Store session.old.connection) (state S.Store session.new.connection) (W.contents output.old.writer)
-        (W.contents output.new.writer)
-        (λ before written later. AnswersLine (P.tells paths.now) (conditions
-        (version_of L.format) session.old.profile session.old.limits) number (first_line bytes.items) before written status later)) }
-    ensures over { IfOk result (λ status. output.new.failed ≡ false → HasCleanDisk (state S.Store session.new.connection)
-        → after_first_line bytes.items ≡ []
-        → Writes (W.contents output.old.writer) (W.contents output.new.writer) (λ written. LineOver S.Store (P.tells paths.now) L.format
-        (conditions (version_of L.format) session.old.profile session.old.limits) number (first_line bytes.items) session.old.connection
-        written status session.new.connection)) }
+    ensures answer { IfOk result (λ status. output.new.failed ≡ false
+        → HasCleanDisk (state S.Store session.new.connection) → after_first_line bytes.items ≡ []
+        → IsLineTold (P.tells paths.now) (first_line bytes.items)
+        → Leads (state S.Store session.old.connection) (state S.Store session.new.connection)
+        (W.contents output.old.writer) (W.contents output.new.writer)
+        (λ before written later. AnswersLine (P.tells paths.now)
+        (conditions (version_of L.format) session.old.profile session.old.limits) number
+        (first_line bytes.items) before written status later)) }
+    ensures over { IfOk result (λ status. output.new.failed ≡ false
+        → HasCleanDisk (state S.Store session.new.connection) → after_first_line bytes.items ≡ []
+        → Writes (W.contents output.old.writer) (W.contents output.new.writer)
+        (λ written. LineOver S.Store (P.tells paths.now) L.format
+        (conditions (version_of L.format) session.old.profile session.old.limits) number
+        (first_line bytes.items) session.old.connection written status session.new.connection)) }
     ensures stopped { OnErr result (output.new ≡ output.old) }
-    ensures clean { HasCleanDisk (state S.Store session.new.connection) → HasCleanDisk (state S.Store session.old.connection) }
-    ensures under { (session.new.profile ≡ session.old.profile) × (session.new.limits ≡ session.old.limits) }
-    ensures range { IfOk result (λ status. status ≤ FAILED) }
+    ensures clean { HasCleanDisk (state S.Store session.new.connection)
+        → HasCleanDisk (state S.Store session.old.connection) }
+    ensures under { (session.new.profile ≡ session.old.profile)
+        × (session.new.limits ≡ session.old.limits) }
 {
     let Ok(text) = String::from_utf8(bytes) else {
         return Ok(refuse_line(number, output));

@@ -151,21 +151,25 @@ pub fn carry_out<S: Alter, L: Layout, P: Paths>(
     task: &Task,
 ) -> Result<Served, Fault>
     ensures answer { HasCleanDisk (state S.Store session.new.connection)
-        → ServesTask (P.tells paths.now) (conditions (version_of L.format) session.old.profile session.old.limits) task.now
-        (state S.Store session.old.connection) (state S.Store session.new.connection) (replied result) }
+        → ServesTask (P.tells paths.now) (conditions (version_of L.format) session.old.profile
+        session.old.limits) task.now (state S.Store session.old.connection)
+        (state S.Store session.new.connection) (replied result) }
     // It is answered as the engine says of it on any tables, and refused it changes nothing.
     ensures over { HasCleanDisk (state S.Store session.new.connection)
-        → TaskOver (P.tells paths.now) L.format (conditions (version_of L.format) session.old.profile session.old.limits) task.now
-        (state S.Store session.old.connection) (state S.Store session.new.connection) (replied result) }
-    ensures clean { HasCleanDisk (state S.Store session.new.connection) → HasCleanDisk (state S.Store session.old.connection) }
+        → TaskOver (P.tells paths.now) L.format
+        (conditions (version_of L.format) session.old.profile session.old.limits) task.now
+        (state S.Store session.old.connection) (state S.Store session.new.connection)
+        (replied result) }
+    ensures clean { HasCleanDisk (state S.Store session.new.connection)
+        → HasCleanDisk (state S.Store session.old.connection) }
     // An analysis leaves the connection as it is, whatever it is answered.
     ensures still { ReadsWhole task.now → session.new.connection ≡ session.old.connection }
     // Where something couldn't be read, the register was asked for nothing.
     ensures unread { IfErr result (λ fault. IsUnread fault → session.new ≡ session.old) }
     ensures names { IfErr result (NamesUnder (paths_of task.now)) }
     // Where the bytes of a file at each path are told; and of another task than an analysis nothing is to be warned of.
-    ensures unmarked { (files : List (List ℕ)) → AreTold (P.tells paths.now) (paths_of task.now) files
-        → IfOk result (λ served. served.unmarked.items ≡ spec.unmarked_by task.now files) }
+    ensures unmarked { (files : List (List ℕ)) → AreTold (P.tells paths.now) (paths_of task.now)
+        files → IfOk result (λ served. served.unmarked.items ≡ spec.unmarked_by task.now files) }
     ensures quiet { ¬ ReadsWhole task.now → IfOk result (λ served. served.unmarked.items ≡ []) }
 {
     match task {
@@ -196,17 +200,22 @@ fn to_serve(reply: Result<Reply, Fault>, unmarked: Vec<Place>) -> Result<Served,
 /// Asks a register for one command.
 fn ask<S: Alter, L: Layout>(session: &mut Session<S, L>, command: &Command) -> Result<Reply, Fault>
     ensures answer { HasCleanDisk (state S.Store session.new.connection)
-        → AnswersFrom (state S.Store session.old.connection) (state S.Store session.new.connection) result
-        (AnswersCommand (conditions (version_of L.format) session.old.profile session.old.limits) command.now) }
+        → AnswersFrom (state S.Store session.old.connection) (state S.Store session.new.connection)
+        result (AnswersCommand (conditions (version_of L.format) session.old.profile
+        session.old.limits) command.now) }
     ensures over { HasCleanDisk (state S.Store session.new.connection)
-        → GivesAnswer (ServesOver L.format (conditions (version_of L.format) session.old.profile session.old.limits) command.now
-        (state S.Store session.old.connection) (state S.Store session.new.connection)) result }
-    ensures clean { HasCleanDisk (state S.Store session.new.connection) → HasCleanDisk (state S.Store session.old.connection) }
+        → GivesAnswer (ServesOver L.format (conditions (version_of L.format) session.old.profile
+        session.old.limits) command.now (state S.Store session.old.connection)
+        (state S.Store session.new.connection)) result }
+    ensures clean { HasCleanDisk (state S.Store session.new.connection)
+        → HasCleanDisk (state S.Store session.old.connection) }
     ensures refused { HasCleanDisk (state S.Store session.new.connection)
-        → OnErr result (ChangesNothing (state S.Store session.old.connection) (state S.Store session.new.connection)) }
+        → OnErr result (ChangesNothing (state S.Store session.old.connection)
+        (state S.Store session.new.connection)) }
     // An analysis asks the store for nothing.
-    ensures analysed { GivesAnswer (AnswersAnyway
-        (conditions (version_of L.format) session.old.profile session.old.limits) command.now) result }
+    ensures analysed { GivesAnswer
+        (AnswersAnyway (conditions (version_of L.format) session.old.profile session.old.limits)
+        command.now) result }
     ensures still { (files : Vec (Vec ℕ Global) Global) → command.now ≡ Command.Analyse files
         → session.new.connection ≡ session.old.connection }
     ensures read { IfErr result (λ fault. ¬ IsUnread fault) }
@@ -226,17 +235,20 @@ pub fn change_by_paths<S: Alter, L: Layout, P: Paths>(
     database: &DbName,
     named: &[String],
 ) -> Result<Reply, Fault>
-    ensures clean { HasCleanDisk (state S.Store session.new.connection) → HasCleanDisk (state S.Store session.old.connection) }
-    ensures under { (session.new.profile ≡ session.old.profile) × (session.new.limits ≡ session.old.limits) }
+    ensures clean { HasCleanDisk (state S.Store session.new.connection)
+        → HasCleanDisk (state S.Store session.old.connection) }
+    ensures under { (session.new.profile ≡ session.old.profile)
+        × (session.new.limits ≡ session.old.limits) }
     // On any tables, and whatever the paths tell.
     ensures over { HasCleanDisk (state S.Store session.new.connection)
-        → PathsOver (P.tells paths.now) L.format session.old.profile kind session.old.limits (name_bytes database.now)
-        (map string_bytes named.now) (state S.Store session.old.connection) result }
+        → PathsOver (P.tells paths.now) L.format session.old.profile kind session.old.limits
+        (name_bytes database.now) (map string_bytes named.now)
+        (state S.Store session.old.connection) result }
     // Also what it does to them, and, where the bytes of a file at each path are told, that it is the change by these.
     ensures leaves { HasCleanDisk (state S.Store session.new.connection)
-        → PathsLeave (P.tells paths.now) (conditions (version_of L.format) session.old.profile session.old.limits) kind
-        (name_bytes database.now) (map string_bytes named.now) (state S.Store session.old.connection)
-        (state S.Store session.new.connection) result }
+        → PathsLeave (P.tells paths.now) (conditions (version_of L.format) session.old.profile
+        session.old.limits) kind (name_bytes database.now) (map string_bytes named.now)
+        (state S.Store session.old.connection) (state S.Store session.new.connection) result }
     ensures unread { IfErr result (λ fault. IsUnread fault → session.new ≡ session.old) }
     ensures names { IfErr result (NamesUnder (map string_bytes named.now)) }
 {
@@ -255,17 +267,19 @@ fn analyse_paths<S: Alter, L: Layout, P: Paths>(
     named: &[String],
 ) -> Result<Served, Fault>
     // Where the bytes of a file at each path are told.
-    ensures told { HasCleanDisk (state S.Store session.new.connection)
-        → (files : List (List ℕ)) → AreTold (P.tells paths.now) (map string_bytes named.now) files
-        → AnswersFrom (state S.Store session.old.connection) (state S.Store session.new.connection) (replied result)
-        (AnalysesFiles (conditions (version_of L.format) session.old.profile session.old.limits) files) ⊎ IsUnreadable (replied result) }
+    ensures told { HasCleanDisk (state S.Store session.new.connection) → (files : List (List ℕ))
+        → AreTold (P.tells paths.now) (map string_bytes named.now) files
+        → AnswersFrom (state S.Store session.old.connection) (state S.Store session.new.connection)
+        (replied result) (AnalysesFiles (conditions (version_of L.format) session.old.profile
+        session.old.limits) files) ⊎ IsUnreadable (replied result) }
     // On any tables, and whatever the paths tell.
-    ensures over { AnalysesOver (P.tells paths.now) session.old.profile session.old.limits.records (map string_bytes named.now)
-        (replied result) }
+    ensures over { AnalysesOver (P.tells paths.now) session.old.profile session.old.limits.records
+        (map string_bytes named.now) (replied result) }
     ensures still { session.new.connection ≡ session.old.connection }
     ensures unread { IfErr result (λ fault. IsUnread fault → session.new ≡ session.old) }
     ensures names { IfErr result (NamesUnder (map string_bytes named.now)) }
-    ensures unmarked { (files : List (List ℕ)) → AreTold (P.tells paths.now) (map string_bytes named.now) files
+    ensures unmarked { (files : List (List ℕ)) → AreTold (P.tells paths.now)
+        (map string_bytes named.now) files
         → IfOk result (λ served. served.unmarked.items ≡ spec.unmarked_of 1 files) }
 {
     let files = contents_of(alloc, paths, named)?;

@@ -29,7 +29,8 @@ fn says_unicode(bytes: &[u8]) -> bool
 /// Reads the next record of a file into the buffer, and says whether there is one. A fault stands behind the last record.
 fn read_record(left: &mut Slice<'_>, buffer: &mut RecordBuf) -> bool
     ensures none { result ≡ false → (split_of left.old).slices ≡ [] }
-    ensures one { result ≡ true → (split_of left.old).slices ≡ buffer.new ∷ (split_of left.new).slices }
+    ensures one { result ≡ true → (split_of left.old).slices ≡ buffer.new ∷ (split_of
+        left.new).slices }
     ensures shorter { result ≡ true → length left.new < length left.old }
 {
     match next_record(left, buffer) {
@@ -45,7 +46,8 @@ fn note_unmarked(
     file: u64,
     bytes: &[u8],
 ) -> Result<(), AllocError>
-    ensures { OnOk result (unmarked.new.items ≡ unmarked.old.items ++ spec.unmarked_from file 1 (split_of bytes.now).slices) }
+    ensures { OnOk result (unmarked.new.items ≡ unmarked.old.items ++ spec.unmarked_from file 1
+        (split_of bytes.now).slices) }
 {
     let mut left = Slice::new(bytes);
     let mut nth = 1;
@@ -60,7 +62,8 @@ fn note_unmarked(
 
 /// The places of those records of files that don't say that they are in Unicode, in their order.
 pub fn unmarked_of(alloc: Global, files: &[Vec<u8>]) -> Result<Vec<Place>, AllocError>
-    ensures { IfOk result (λ unmarked. unmarked.items ≡ spec.unmarked_of 1 (map (λ file. file.items) files.now)) }
+    ensures { IfOk result (λ unmarked. unmarked.items ≡ spec.unmarked_of 1
+        (map (λ file. file.items) files.now)) }
 {
     let mut buffer = RecordBuf::new(alloc)?;
     let mut unmarked = Vec::new(alloc);
@@ -91,7 +94,8 @@ pub fn warning(
     unmarked: &[Place],
     reply: &Reply,
 ) -> Result<Option<String>, AllocError>
-    ensures { IfOk result (λ line. option_map string_bytes line ≡ spec.warning_of unmarked.now reply.now) }
+    ensures { IfOk result (λ line. option_map string_bytes line ≡ spec.warning_of unmarked.now
+        reply.now) }
 {
     let Some(first) = unmarked.first() else {
         return Ok(None);

@@ -26,20 +26,20 @@ pub use Rattle.zeb_keys.specs.declared.Register.{Register}
 pub use Rattle.zeb_profile.specs.Indexes.{has_pair}
 pub use Rattle.zeb_profile.specs.declared.Profile.{Profile}
 pub use Rattle.zeb_profile.specs.declared.directives.Directive.{Directive}
-pub use Rattle.zeb_query.specs.Attributes.{kept, is_among, HoldingValue, is_bib1, is_other_set, is_other_kind, sets_in, kind_of, or_else, value_held, number_or, relation_is, structure_is, position_is, completeness_is, index_used, index_held, register_searched, patterns_held, relation_held, order_held, joined_words_if_any, joined_if_any, truncation_is, order_of, joined_words, truncations, value_of, default_completeness, default_position, default_relation, default_structure, default_truncation, comparisons, local_numbers}
-pub use Rattle.zeb_query.specs.Checks.{Check, check, checked_by, first_that_applies, written, Refusal, Gives, answered, one_of, has_target, head_checks, value_checks, words_checks, clash_checks, near_clash_checks, register_checks, number_checks, term_checks, find_checks, Operand, operand_of, parameter_checks, operand_checks, operands_checks, proximity_checks, checks_in, query_checks, near_checks, kept_text, orderings, distance_relations, separation_of, Fails, refused, scan_clash_checks, scan_checks, use_checks, is_other_type, numeral, scan_checks_in}
-pub use Rattle.zeb_query.specs.Grammar.{few, many, is_number, number_of, TreeValue, TermValue, NamedValue, PairValue, QueryValue, IsStructure, is_term, is_named, is_attribute, is_attribute_of_set, is_typed, is_pair, IsQuery, is_structure_of_set, keyword_spelled, has_equals, is_good, text_of, connective_of, connective_value, ConnectiveValue, BooleanOf, ProximityOf, ParametersValue, parameters_value, operator_word, under, with_attribute, with_type, no_head, SpellsQuery, keyword_of, is_structure, is_equals_sign, HeadValue, keyword_by, if_any, is_good_spelling, heads, inner_type, AttributeValue, attribute_value, head_value, query_value, tree_value}
+pub use Rattle.zeb_query.specs.Attributes.{HoldingValue, asks_number, completeness_of, index_in, index_used, is_bib1, is_complete, is_equal, is_first, is_list, is_local, is_local_number, is_numeric, is_ordered, is_other_kind, is_other_set, is_truncated, joined_if_any, joined_words, joined_words_if_any, kind_of, or_else, order_of, patterns_asked, position_of, register_of, relation_of, sets_in, structure_of, truncation_of, value_held, values_held}
+pub use Rattle.zeb_query.specs.Checks.{Check, Fails, Gives, Operand, Refusal, answered, attribute_checks, check, checked_by, checks_in, clash_check, clashes, clashes_with, distance_relations, find_checks, first_that_applies, index_check, index_near, is_beyond, kind_check, lacks_register, number_check, number_checks, one_of, operand_checks, operand_of, operands_checks, orderings, parameter_checks, proximity_checks, refused, scan_checks, scan_checks_in, separation_of, set_check, term_checks, type_check, use_checks, words_check, written}
+pub use Rattle.zeb_query.specs.Grammar.{few, many, is_number, number_of, TreeValue, TermValue, NamedValue, PairValue, QueryValue, IsStructure, is_term, is_named, is_attribute, is_attribute_of_set, is_typed, is_pair, IsQuery, is_structure_of_set, keyword_spelled, kept_text, has_equals, is_good, text_of, connective_of, connective_value, ConnectiveValue, BooleanOf, ProximityOf, ParametersValue, parameters_value, operator_word, under, with_attribute, with_type, no_head, SpellsQuery, keyword_of, is_structure, is_equals_sign, HeadValue, keyword_by, if_any, is_good_spelling, heads, inner_type, AttributeValue, attribute_value, head_value, query_value, tree_value}
 pub use Rattle.zeb_query.specs.Places.{IsBeginning, IsQueryWithin, IsBeginningWithin, IsStrange, IsUnfinished, IsUnspelled, IsCrowded, operators, IsFaultOf, IsReadable, IsFaulty, is_long, is_unspelled, is_crowded}
-pub use Rattle.zeb_query.specs.Plans.{PlanValue, ScanValue, plan_of, scan_of, TermPlanValue, RecordNumberOf, AlwaysOf, NumberOf, OrderedOf, CompleteOf, PhraseOf, AllWordsOf, AnyWordOf, near_asked, tree_asked, plan_register, held_in, looked_into, AllLookInto, LooksInto, operand_pattern, NearOf, HasSmallNumber, HasSmallNumbers, BeginsAtKey, PairOf, TermOf, plan_value, scan_value, tree_scanned}
-pub use Rattle.zeb_query.specs.PrivatePlanning.{index_used_or, kept_or, ordered_plan, patterns_read, subject_index, subject_read, taken_for, taken_if}
+pub use Rattle.zeb_query.specs.Plans.{AllLookInto, AllWordsOf, AlwaysOf, AnyWordOf, BeginsAtKey, CompleteOf, HasSmallNumber, HasSmallNumbers, LooksInto, NearOf, NumberOf, OrderedOf, PairOf, PhraseOf, PlanValue, RecordNumberOf, ScanValue, TermOf, TermPlanValue, entries_asked, held_in, looked_into, near_asked, operand_pattern, plan_of, plan_register, plan_value, scan_of, scan_value, start_asked, subject_asked, texts_asked, tree_asked, tree_scanned, words_asked}
+pub use Rattle.zeb_query.specs.PrivatePlanning.{◌>>=◌, index_read, kept_or, number_in, operands_plan, parameter_kept, passed, patterns_read, related_plan, subject_index, subject_plan, subject_read, tree_plan}
 pub use Rattle.zeb_query.specs.PrivateReading.{words_with, first_keyword, word_of, left, fault_of, IsAfterFirst, ReadsFirst, first_equals, ReadsWord, SpellsSpec, SpellsAttribute, SpellsHead, SpellsParameters, SpellsProximity, SpellsOperator, SpellsSet, Spells, first_place, IsFault, held_with, first_set, first_set_of, IsDiagnostic, holding_value}
-pub use Rattle.zeb_query.specs.PrivateValues.{asks_equal, asks_number, is_phrase, is_local, register_of, values_held, patterns_if, is_always, is_ordered, is_first, is_truncated, is_complete, is_numeric, is_list, lacks_register, spread_of, subject_by, clashes, relations, positions, structures, completenesses, kept_in}
 pub use Rattle.zeb_query.specs.PrivateWalk.{parameter_count, words_at, Due, Start, Structures, SetOrSpec, Spec, MoreWords, words_then, fault, fault_at_end, Step, Allowed, Refused, step, good_step, structure_step, start_step, spec_step, operator_step, Begun, unquoted, in_word, in_quotes, plain_word, quoted_word, with_front}
 pub use Rattle.zeb_query.specs.Words.{Word, AreWords, is_blank, Sign, Itself, Escaped, sign_text, meant, is_sign, IsCutOff, IsWritten, is_plain, is_braced, is_quoted, is_open, Stretch, stretch_text, stretch_word, IsStretch}
 pub use Rattle.zeb_query.specs.Worked.{sample_profile, PlansUnder, PlansAs, ScansAs}
 pub use Rattle.zeb_query.specs.declared.attributes.Asked.{Asked}
 pub use Rattle.zeb_query.specs.declared.attributes.Asked.TheVariants.{Compared, Always}
-pub use Rattle.zeb_query.specs.declared.attributes.Completeness.TheVariants.{Incomplete}
+pub use Rattle.zeb_query.specs.declared.attributes.Completeness.{Completeness}
+pub use Rattle.zeb_query.specs.declared.attributes.Completeness.TheVariants.{Complete, Incomplete}
 pub use Rattle.zeb_query.specs.declared.attributes.Position.TheVariants.{Any}
 pub use Rattle.zeb_query.specs.declared.attributes.Structure.{Structure}
 pub use Rattle.zeb_query.specs.declared.attributes.Structure.TheVariants.{Phrase, WordList, FreeForm, Numeric}

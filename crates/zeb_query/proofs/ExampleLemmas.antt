@@ -1,5 +1,5 @@
 -- Queries' texts and what they spell, word by word.
-use Rattle.zeb_query.proofs.Cited.{◌≡◌, ℕ, true, false, List, [], ◌∷◌, ◌++◌, Some, None, length, codes, refl, subst, Result, list_all, Plain, Quoted, Operator, OperatorWord, Directive, Word, AreWords, words_at, TreeValue, TermValue, NamedValue, PairValue, QueryValue, IsStructure, is_term, is_named, is_attribute, is_attribute_of_set, is_typed, is_pair, IsQuery, is_structure_of_set, keyword_spelled, has_equals, is_good, text_of, parameter_count, under, with_attribute, with_type, no_head, SpellsQuery, PlanValue, ScanValue, plan_of, scan_of, Refusal, sample_profile, PlansUnder, PlansAs, ScansAs, ConnectiveValue, connective_of}
+use Rattle.zeb_query.proofs.Cited.{◌≡◌, ℕ, true, false, List, [], ◌∷◌, ◌++◌, Some, None, codes, refl, subst, Result, list_all, Plain, Quoted, Operator, OperatorWord, Directive, Word, AreWords, words_at, TreeValue, TermValue, NamedValue, PairValue, QueryValue, IsStructure, is_term, is_named, is_attribute, is_attribute_of_set, is_typed, is_pair, IsQuery, is_structure_of_set, keyword_spelled, has_equals, is_good, text_of, under, with_attribute, with_type, no_head, SpellsQuery, PlanValue, ScanValue, plan_of, scan_of, Refusal, sample_profile, PlansUnder, PlansAs, ScansAs, ConnectiveValue, connective_of}
 use Rattle.std.proofs.Common.{map}
 use Rattle.zeb_query.proofs.WordStretches.{words_are_read}
 -- what the examples unfold

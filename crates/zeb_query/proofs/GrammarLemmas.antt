@@ -1,7 +1,6 @@
 -- Steps of a reader of queries, in the words of the grammar.
-use Rattle.zeb_query.proofs.Cited.{first_equals, ◌≡◌, ◌≢◌, ℕ, suc, ◌+◌, ◌-◌, ◌<◌, Bool, true, false, List, [], ◌∷◌, ◌++◌, Option, Some, None, length, cond, eqb, refl, ap, sym, subst, ◌∙◌, arith, append_assoc, option_and_then, nat_lt, map, list_all, before_first, after_first, position_or_len, nat_tests, length_push, map-append, nil_from_length, length-map, Rest, QueryFault, Spelling, Plain, Quoted, Bad, OperatorWord, Keyword, AttributeSet, Attribute, TermType, ResultSet, Operator, number_of, keyword_of, keyword_by, if_any, is_equals_sign, has_equals, is_good, is_good_spelling, IsStructure, is_attribute, is_attribute_of_set, is_typed, under, heads, no_head, inner_type, with_type, text_of, is_term, is_named, is_pair, parameter_count, IsQuery, is_structure, is_structure_of_set, AttributeValue, HeadValue, TreeValue, TermValue, NamedValue, PairValue, Word, word_of, left, fault_of, first_keyword, IsAfterFirst, ReadsFirst, ReadsWord, SpellsSpec, SpellsAttribute, SpellsHead, SpellsParameters, SpellsOperator, SpellsSet, Spells, first_place, IsFault, Due, Start, Structures, SetOrSpec, Spec, MoreWords, words_then, fault, Step, Allowed, Refused, step, structure_step, operator_step, start_step, And, Or, Not, Proximity, ConnectiveValue, connective_of, ◌&&◌}
+use Rattle.zeb_query.proofs.Cited.{first_equals, ◌≡◌, ◌≢◌, ℕ, suc, ◌<◌, Bool, true, false, List, [], ◌∷◌, ◌++◌, Option, Some, None, length, cond, eqb, refl, ap, sym, subst, ◌∙◌, arith, append_assoc, option_and_then, nat_lt, map, list_all, before_first, after_first, position_or_len, nat_tests, map-append, nil_from_length, length-map, Rest, QueryFault, Spelling, Plain, Quoted, Bad, OperatorWord, Keyword, AttributeSet, Attribute, TermType, ResultSet, Operator, number_of, keyword_of, keyword_by, if_any, is_equals_sign, has_equals, is_good, is_good_spelling, IsStructure, is_attribute, is_attribute_of_set, is_typed, under, heads, no_head, inner_type, with_type, text_of, is_term, is_named, is_pair, parameter_count, IsQuery, is_structure, is_structure_of_set, AttributeValue, HeadValue, TreeValue, TermValue, NamedValue, PairValue, Word, word_of, left, fault_of, first_keyword, IsAfterFirst, ReadsFirst, ReadsWord, SpellsSpec, SpellsAttribute, SpellsHead, SpellsParameters, SpellsOperator, SpellsSet, Spells, first_place, IsFault, Due, Start, Structures, SetOrSpec, Spec, MoreWords, words_then, fault, Step, Allowed, Refused, step, structure_step, operator_step, start_step, And, Or, Not, Proximity, ConnectiveValue, connective_of, ◌&&◌}
 use Rattle.std.proofs.lemmas.List.Folds.{list_all-append}
-use Rattle.zeb_query.proofs.DigitLemmas.{and_parts}
 use Rattle.zeb_query.specs.Grammar.{kind_and_value}
 
 -- the type and value of a word without `=`, and of one with it
@@ -135,26 +134,6 @@ under-under a b (TermValue place head text) = ap (λ h. TermValue place h text) 
 under-under a b (NamedValue place head name) = ap (λ h. NamedValue place h name) (sym (heads-assoc a b head))
 under-under a b (PairValue place head connective left right) = ap (λ h. PairValue place h connective left right) (sym (heads-assoc a b head))
 
-inner_type-none : (t : Option (List ℕ)) → inner_type None t ≡ t
-inner_type-none (Some t) = refl
-inner_type-none None = refl
-
-heads-no_head : (h : HeadValue) → heads no_head h ≡ h
-heads-no_head h = ap (λ type. record { attributes = h.attributes; term_type = type }) (inner_type-none h.term_type)
-
-pub under-no_head : (tree : TreeValue) → under no_head tree ≡ tree
-under-no_head (TermValue place head text) = ap (λ h. TermValue place h text) (heads-no_head head)
-under-no_head (NamedValue place head name) = ap (λ h. NamedValue place h name) (heads-no_head head)
-under-no_head (PairValue place head connective left right) = ap (λ h. PairValue place h connective left right) (heads-no_head head)
-
--- nothing is read yet
-pub spells_no_head : (rest : Rest) → SpellsHead rest rest no_head
-spells_no_head rest = record {
-  words = [];
-  is = refl;
-  spells = λ more tree spelled. subst (λ t. IsStructure more t) (sym (under-no_head tree)) spelled;
-}
-
 -- one more piece of a head: its words are the keyword and what follows
 spells_more : (start rest after : Rest) (head piece : HeadValue) (words : List Word) → left rest ≡ words ++ left after → ((more : List Word) (tree : TreeValue) → IsStructure more tree → IsStructure (words ++ more) (under piece tree)) → SpellsHead start rest head → SpellsHead start after (heads head piece)
 spells_more start rest after head piece words is spells s = record {
@@ -181,15 +160,6 @@ spells_more_type start rest middle after head w found reads word good s =
 pub heads-with_type : (h : HeadValue) (t : List ℕ) → record { attributes = h.attributes; term_type = Some t } ≡ heads h (with_type t)
 heads-with_type h t = ap (λ attributes. record { attributes = attributes; term_type = Some t }) (sym (append-nil h.attributes))
 
--- an operator at the front of a structure, where there is room for it
-pub fault_of-operator : (rest after : Rest) (w : Word) (connective : OperatorWord) (room : ℕ) → ReadsWord rest after w → is_good w ≡ true → keyword_of w ≡ Some (Operator connective) → after.room ≡ suc room → (n : ℕ) → fault_of rest (Structures (suc n)) ≡ fault_of (record { words = after.words; end = after.end; room = room }) (words_then (parameter_count connective) (suc (suc n)))
-fault_of-operator rest after w connective room reads good key has n =
-    let due = words_then (parameter_count connective) (suc (suc n)) in
-    ap (λ ws. fault rest.end rest.room (Structures (suc n)) ws) reads.is
-    ∙ fault-step rest.end rest.room (Structures (suc n)) w (left after) (Allowed room due)
-    (step-structure rest.room n w good ∙ ap (λ k. structure_step rest.room k n) key ∙ ap (λ r. operator_step r connective n) (sym reads.room ∙ has))
-    ∙ ap (λ end. fault end room due (left after)) (sym reads.end)
-
 heads-to_no_head : (h : HeadValue) → heads h no_head ≡ h
 heads-to_no_head h = ap (λ attributes. record { attributes = attributes; term_type = h.term_type }) (append-nil h.attributes)
 
@@ -212,23 +182,6 @@ spells_named start rest middle after head set name text s reads key named good s
     subst (λ h. Spells start after (NamedValue set.place h text)) (heads-to_no_head head)
     (subst (λ t. Spells start after (NamedValue set.place (heads head no_head) t)) (sym same)
     (spells_under start rest after head (set ∷ name ∷ []) (NamedValue set.place no_head name.text) s (reads.is ∙ ap (λ ws. set ∷ ws) named.is) (is_named set name (sym key) good)))
-
--- an operator with what stands behind its word
-pub spells_operator : (rest after last : Rest) (w : Word) (word : OperatorWord) (connective : ConnectiveValue) (texts : List (List ℕ)) (room : ℕ) → ReadsWord rest after w → keyword_of w ≡ Some (Operator word)
-    → SpellsParameters (record { words = after.words; end = after.end; room = room }) last texts → connective_of word texts ≡ Some connective → SpellsOperator rest last word w.place connective
-spells_operator rest after last w word connective texts room reads key s is = record {
-  operator = w;
-  words = s.words;
-  is = reads.is ∙ ap (λ ws. w ∷ ws) s.is;
-  place_is = refl;
-  keyword = key;
-  good = s.good;
-  connective_is = ap (λ ts. connective_of word ts) s.texts_are ∙ is;
-}
-
--- no parameters
-pub spells_no_parameters : (rest : Rest) → SpellsParameters rest rest []
-spells_no_parameters rest = record { words = []; is = refl; good = refl; texts_are = refl }
 
 -- one more parameter in front
 pub spells_next : (rest middle after : Rest) (text : List ℕ) (texts : List (List ℕ)) → SpellsParameters rest middle (text ∷ []) → SpellsParameters middle after texts → SpellsParameters rest after (text ∷ texts)
@@ -306,21 +259,8 @@ fault-start end room [] ne = refl
 fault-start end room (w ∷ ws) ne =
     fault-step end room Start w ws _ (step-start room w ne) ∙ sym (fault-step end room (Structures 1) w ws _ refl)
 
-pub fault_of-start : (rest : Rest) → first_keyword (left rest) ≢ Some AttributeSet → fault_of rest Start ≡ fault_of rest (Structures 1)
-fault_of-start rest ne = fault-start rest.end rest.room (left rest) ne
-
 pub spells_no_set : (rest : Rest) → SpellsSet rest rest None
 spells_no_set rest = record { words = []; is = refl; spells = λ more tree spelled. is_structure more tree spelled }
-
-pub fault_of-set : (rest middle after : Rest) (w : Word) → first_keyword (left rest) ≡ Some AttributeSet → ReadsFirst rest middle → ReadsWord middle after w → is_good w ≡ true → fault_of rest Start ≡ fault_of after (Structures 1)
-fault_of-set rest middle after w found reads word good =
-    let f = first_is AttributeSet (left rest) (left middle) reads.is found in
-    ap (λ ws. fault rest.end rest.room Start ws) f.1
-    ∙ fault-step rest.end rest.room Start f.0 (left middle) (Allowed rest.room (MoreWords 0 1))
-    (rw (good_from_keyword f.0 AttributeSet f.2) (ap (λ k. start_step rest.room k) f.2))
-    ∙ ap (λ end. fault end rest.room (MoreWords 0 1) (left middle)) (sym reads.end)
-    ∙ ap (λ room. fault middle.end room (MoreWords 0 1) (left middle)) (sym reads.room)
-    ∙ fault_of-word middle after w word good 0 1
 
 pub spells_set : (rest middle after : Rest) (w : Word) (text : List ℕ) → first_keyword (left rest) ≡ Some AttributeSet → ReadsFirst rest middle → ReadsWord middle after w → is_good w ≡ true → text ≡ w.text → SpellsSet rest after (Some text)
 spells_set rest middle after w text found reads word good same =
@@ -331,26 +271,3 @@ spells_set rest middle after w text found reads word good same =
       is = f.1 ∙ ap (λ ws. f.0 ∷ ws) word.is;
       spells = λ more tree spelled. is_structure_of_set f.0 w more tree f.2 good spelled;
     })
-
--- the end of a query
-pub fault_of-end : (rest : Rest) → true ≡ eqb (length rest.words.now) 0 → fault_of rest (Structures 0) ≡ None
-fault_of-end rest e = ap (λ ws. fault rest.end rest.room (Structures 0) (map word_of ws)) (nil_from_length rest.words.now (zero_from_test (length rest.words.now) e))
-
-fault-past : (end room : ℕ) (words : List Word) → 0 < length words → fault end room (Structures 0) words ≡ Some (108, first_place end words)
-fault-past end room [] more = absurd (omega arith)
-fault-past end room (w ∷ ws) more = fault-step end room (Structures 0) w ws (Refused 108) (past (is_good w))
-  where
-    past : (good : Bool) → cond good (Refused 108) (Refused 108) ≡ Refused 108
-    past true = refl
-    past false = refl
-
-pub fault_of-past : (rest : Rest) → false ≡ eqb (length rest.words.now) 0 → fault_of rest (Structures 0) ≡ Some (108, first_place rest.end (left rest))
-fault_of-past rest e =
-    let some : 0 < length rest.words.now = grind (arith, nat_tests) in
-    fault-past rest.end rest.room (left rest) (rw (length-map) some)
-
-pub spells_query : (rest middle last : Rest) (set : Option (List ℕ)) (tree : TreeValue) → SpellsSet rest middle set → Spells middle last tree → true ≡ eqb (length last.words.now) 0 → IsQuery (left rest) (record { attrset = set; tree = tree })
-spells_query rest middle last set tree s t e =
-    let nothing : left last ≡ [] = ap (λ ws. map word_of ws) (nil_from_length last.words.now (zero_from_test (length last.words.now) e)) in
-    let whole : left rest ≡ s.words ++ t.words = s.is ∙ ap (λ ws. s.words ++ ws) (t.is ∙ ap (λ ws. t.words ++ ws) nothing ∙ append-nil t.words) in
-    subst (λ ws. IsQuery ws (record { attrset = set; tree = tree })) (sym whole) (s.spells t.words tree t.spells)

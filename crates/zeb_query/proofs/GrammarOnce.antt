@@ -1,5 +1,5 @@
 -- One text is one structure: the first word says which rule it is by, and each part is read to its end and no further.
-use Rattle.zeb_query.proofs.Cited.{◌≡◌, ℕ, ◌⊎◌, inl, inr, true, false, true≢false, List, [], ◌∷◌, ◌++◌, Option, Some, None, length, refl, ap, sym, subst, ◌∙◌, arith, append_assoc, map, OperatorWord, Keyword, AttributeSet, Attribute, TermType, ResultSet, Operator, Word, keyword_of, IsStructure, is_term, is_named, is_attribute, is_attribute_of_set, is_typed, is_pair, IsQuery, is_structure, is_structure_of_set, is_good, has_equals, parameter_count, under, text_of, no_head, with_attribute, with_type, TreeValue, TermValue, NamedValue, PairValue, QueryValue, first_keyword, ConnectiveValue, connective_of}
+use Rattle.zeb_query.proofs.Cited.{◌≡◌, ℕ, ◌⊎◌, inl, inr, true, false, true≢false, List, [], ◌∷◌, ◌++◌, Option, Some, None, length, refl, ap, sym, subst, ◌∙◌, arith, append_assoc, map, OperatorWord, Keyword, AttributeSet, Attribute, TermType, ResultSet, Operator, Word, keyword_of, IsStructure, is_term, is_named, is_attribute, is_attribute_of_set, is_typed, is_pair, IsQuery, is_structure, is_structure_of_set, is_good, has_equals, under, text_of, no_head, with_attribute, with_type, TreeValue, TermValue, NamedValue, PairValue, QueryValue, first_keyword, ConnectiveValue, connective_of}
 use Rattle.zeb_query.specs.Grammar.{kind_and_value}
 use Rattle.zeb_query.proofs.GrammarLemmas.{words_count}
 use Rattle.zeb_query.proofs.GrammarLaws.{has_equals_from_read, not_set_first}

@@ -65,9 +65,6 @@ holding_of-more set head items i d before after lt step so_far =
     ∙ ap (λ attrs. holding_of set (record { attributes = attrs; term_type = head.term_type }))
     (append_assoc head.attributes front (a ∷ []) ∙ ap (λ attrs. head.attributes ++ attrs) (sym (map-append attribute_value (take i items) (get_or items i d ∷ [])) ∙ ap (λ xs. map attribute_value xs) (sym (take_more items i d lt))))
 
-pub holding_of-none : (set : Option (List ℕ)) (head : HeadValue) (h : HoldingValue) → h ≡ holding_of set head → h ≡ holding_of set (with_more head [])
-holding_of-none set head h e = e ∙ ap (λ attrs. holding_of set (record { attributes = attrs; term_type = head.term_type })) (sym (append-nil head.attributes))
-
 -- a term type inside of all others
 pub holding_of-type : (set : Option (List ℕ)) (attrs : List AttributeValue) (outer : Option (List ℕ)) (type : List ℕ) (h : HoldingValue) → h ≡ holding_of set (record { attributes = attrs; term_type = outer }) → record h { term_type = Some type } ≡ holding_of set (record { attributes = attrs; term_type = Some type })
 unfolding holding_of

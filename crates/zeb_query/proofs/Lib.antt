@@ -12,14 +12,8 @@ pub mod WordFinding
 pub mod WordStretches
 pub mod TextFaults
 pub mod CheckLemmas
-pub mod ValueLemmas
 pub mod TermCheckLemmas
-pub mod TermSteps
-pub mod PlanSteps
 pub mod PlanCheckLemmas
-pub mod NearSteps
-pub mod NearLemmas
-pub mod TreeSteps
 pub mod LookLemmas
 pub mod PlanNumbers
 pub mod ExampleLemmas

@@ -1,82 +1,77 @@
 -- In which register a term's plan looks.
-use Rattle.zeb_query.proofs.Cited.{◌≡◌, ℕ, Bool, true, false, cond, eqb, List, [], ◌∷◌, ◌++◌, Option, Some, None, refl, ap, sym, subst, ◌∙◌, Ok, not, ◌&&◌, is_none, unwrap_or, eqb-true, digits_value, Profile, Register, has_pair, Symbol, Relation, Order, BooleanOf, ParametersValue, ProximityOf, Proximity, operator_word, HeadValue, TreeValue, TermValue, NamedValue, PairValue, QueryValue, heads, no_head, HoldingValue, number_or, is_among, relation_is, structure_is, position_is, completeness_is, index_used, index_held, register_searched, patterns_held, relation_held, order_held, joined_words_if_any, joined_if_any, Check, check, first_that_applies, one_of, has_target, head_checks, value_checks, words_checks, clash_checks, near_clash_checks, register_checks, number_checks, term_checks, find_checks, Operand, operand_of, parameter_checks, operand_checks, operands_checks, proximity_checks, checks_in, query_checks, Refusal, TermPlanValue, PlanValue, RecordNumberOf, AlwaysOf, NumberOf, OrderedOf, CompleteOf, PhraseOf, AllWordsOf, AnyWordOf, near_asked, tree_asked, plan_of, plan_register, held_in, looked_into, AllLookInto, LooksInto}
+use Rattle.zeb_query.proofs.Cited.{◌≡◌, ℕ, true, false, eqb, List, [], ◌∷◌, ◌++◌, Option, Some, None, refl, ap, sym, subst, ◌∙◌, Ok, not, ◌||◌, ◌&&◌, cond, is_none, eqb-true, Profile, Register, has_pair, Symbol, Structure, Phrase, WordList, FreeForm, Numeric, Asked, Compared, Always, Completeness, Complete, Incomplete, Subject, Record, Entries, Values, Find, Near, Order, BooleanOf, ParametersValue, ProximityOf, Proximity, operator_word, HeadValue, TreeValue, TermValue, NamedValue, PairValue, QueryValue, heads, no_head, HoldingValue, asks_number, index_in, is_complete, is_equal, is_first, is_list, is_local, is_numeric, is_ordered, is_truncated, order_of, patterns_asked, register_of, values_held, attribute_checks, check, clash_check, clashes, clashes_with, is_beyond, lacks_register, first_that_applies, index_check, index_near, number_checks, one_of, term_checks, words_check, find_checks, Operand, operand_of, parameter_checks, operand_checks, operands_checks, proximity_checks, checks_in, Refusal, PlanValue, entries_asked, subject_asked, texts_asked, near_asked, tree_asked, plan_of, plan_register, held_in, looked_into, AllLookInto, LooksInto}
+use Rattle.std.proofs.lemmas.Bool.{or_parts}
 use Rattle.zeb_keys.specs.declared.Register.TheVariants as register
+use Rattle.zeb_query.specs.declared.values.Purpose.{Purpose}
 use Rattle.zeb_query.specs.Attributes.{holding_of}
 use Rattle.zeb_query.specs.Plans.{plan_asked}
-use Rattle.zeb_query.proofs.CheckLemmas.{answered_ok, none-cons, none-append, by_value}
+use Rattle.zeb_query.proofs.CheckLemmas.{answered_ok, none-cons, none-append, true_of_not}
 
-abbrev register_by : Bool → Bool → Register
-register_by numeric complete = cond numeric register.Number (cond complete register.Phrase register.Word)
+-- ---- what is known of a term that is taken
 
--- the plans of all terms but local numbers
-abbrev looking : ℕ → Relation → Order → ℕ → Option (List ℕ) → Option (List Symbol) → List (List Symbol) → Bool → Bool → Bool → Bool → Bool → Bool → Bool → TermPlanValue
-looking index r order number words pattern patterns first always numeric equal complete word_list free_form =
-    cond always (AlwaysOf index (register_by numeric complete))
-    (cond numeric (NumberOf index r number)
-    (cond (not equal) (OrderedOf index (register_by numeric complete) order words)
-    (cond complete (CompleteOf index pattern)
-    (cond word_list (AllWordsOf index patterns)
-    (cond free_form (AnyWordOf index patterns)
-    (PhraseOf index patterns first))))))
+pub record IsTaken (purpose : Purpose) (profile : Profile) (v : Values) : Type 0 where
+  pub beyond : is_beyond purpose v ≡ false
+  pub has_register : lacks_register profile (register_of v) v.subject ≡ false
 
-looks : (index : ℕ) (r : Relation) (order : Order) (number : ℕ) (words : Option (List ℕ)) (pattern : Option (List Symbol)) (patterns : List (List Symbol)) (first always numeric equal complete word_list free_form : Bool)
-    → plan_register (looking index r order number words pattern patterns first always numeric equal complete word_list free_form) ≡ Some (index, register_by numeric complete)
-looks index r order number words pattern patterns first true n e c w f = refl
-looks index r order number words pattern patterns first false true e c w f = refl
-looks index r order number words pattern patterns first false false false c w f = refl
-looks index r order number words pattern patterns first false false true true w f = refl
-looks index r order number words pattern patterns first false false true false true f = refl
-looks index r order number words pattern patterns first false false true false false true = refl
-looks index r order number words pattern patterns first false false true false false false = refl
+pub is_taken : (purpose : Purpose) (profile : Profile) (place : ℕ) (h : HoldingValue) (text : List ℕ) → first_that_applies (term_checks purpose profile place h text) ≡ None → IsTaken purpose profile (values_held profile h)
+is_taken purpose profile place h text e =
+    let v : Values = values_held profile h in
+    let clash = clash_check purpose profile place v in
+    let last = none-cons (words_check place v text) (clash ∷ []) (none-append (attribute_checks profile place h) (words_check place v text ∷ clash ∷ []) e).1 in
+    let parts = or_parts (clashes purpose v) (lacks_register profile (register_of v) v.subject) (none-cons clash [] last.1).0 in
+    let order = is_ordered v.relation && (is_first v.position || is_truncated v.truncation) in
+    record { beyond = (or_parts order (is_beyond purpose v) (or_parts (clashes_with v.subject v) (order || is_beyond purpose v) parts.0).1).1; has_register = parts.1 }
 
-looked : (local : Bool) (number : ℕ) (plan : TermPlanValue) (pair : ℕ × Register) → plan_register plan ≡ Some pair
-    → (local ≡ true → plan_register (cond local (RecordNumberOf number) plan) ≡ None) × (local ≡ false → plan_register (cond local (RecordNumberOf number) plan) ≡ Some pair)
-looked true number plan pair e = (λ _. refl, λ h. absurd cc)
-looked false number plan pair e = (λ h. absurd cc, λ _. e)
+-- ---- the plan of a term
 
-target_found : (profile : Profile) (local : Bool) (o : Option ℕ) (r : Register) → (not local && not (has_target profile o r)) ≡ false → local ≡ false → has_pair profile (unwrap_or o 0, r) ≡ true
-target_found profile true o r e l = absurd cc
-target_found profile false None r e l = absurd cc
-target_found profile false (Some index) r e l = elim (has_pair profile (index, r)) as (λ b. not b ≡ false → b ≡ true) [
-  | true ↦ λ _. refl
-  | false ↦ λ e'. absurd cc
-] e
+-- the same values, but for these
+abbrev valued : Values → Subject → Completeness → Values
+valued v subject whole = record v { subject = subject; completeness = whole }
 
--- what is known of a term where none of its checks applies
-pub record NoneApply (others : List Check) (profile : Profile) (place : ℕ) (h : HoldingValue) (text : List ℕ) : Type 0 where
-  pub further : first_that_applies others ≡ None
-  pub registers : first_that_applies (register_checks profile place h) ≡ None
-  pub numbers : first_that_applies (number_checks place h text) ≡ None
+texts_look : (v : Values) (index : ℕ) (structure : Structure) (text : List ℕ) (patterns : List (List Symbol)) (order : Option Order) (whole : Completeness) → asks_number structure ≡ false
+    → plan_register (texts_asked (valued v (Entries index structure) whole) index structure text patterns order) ≡ Some (index, register_of (valued v (Entries index structure) whole))
+texts_look v index Numeric text patterns order whole e = absurd cc
+texts_look v index Phrase text patterns (Some order) whole e = refl
+texts_look v index WordList text patterns (Some order) whole e = refl
+texts_look v index FreeForm text patterns (Some order) whole e = refl
+texts_look v index Phrase text patterns None Complete e = refl
+texts_look v index WordList text patterns None Complete e = refl
+texts_look v index FreeForm text patterns None Complete e = refl
+texts_look v index Phrase text patterns None Incomplete e = refl
+texts_look v index WordList text patterns None Incomplete e = refl
+texts_look v index FreeForm text patterns None Incomplete e = refl
 
-pub none_apply : (further : List Check) (profile : Profile) (place : ℕ) (h : HoldingValue) (text : List ℕ) → first_that_applies (term_checks further profile place h text) ≡ None
-    → NoneApply further profile place h text
-none_apply further profile place h text e =
-    let numbers = number_checks place h text in
-    let registers = register_checks profile place h ++ numbers in
-    let furthers = further ++ registers in
-    let clashes = clash_checks place h ++ furthers in
-    let words = words_checks place h text ++ clashes in
-    let last = none-append further registers
-    (none-append (clash_checks place h) furthers
-    (none-append (words_checks place h text) clashes
-    (none-append (value_checks profile place h) words
-    (none-append (head_checks place h) (value_checks profile place h ++ words) e).1).1).1).1 in
-    let ends = none-append (register_checks profile place h) numbers last.1 in
-    record { further = last.0; registers = ends.0; numbers = ends.1 }
+entries_look : (v : Values) (index : ℕ) (structure : Structure) (text : List ℕ) (patterns : List (List Symbol)) (asked : Asked) (whole : Completeness)
+    → plan_register (entries_asked (valued v (Entries index structure) whole) index structure text patterns asked) ≡ Some (index, register_of (valued v (Entries index structure) whole))
+entries_look v index structure text patterns Always whole = refl
+entries_look v index Numeric text patterns (Compared relation) whole = refl
+entries_look v index Phrase text patterns (Compared relation) whole = texts_look v index Phrase text patterns (order_of relation) whole refl
+entries_look v index WordList text patterns (Compared relation) whole = texts_look v index WordList text patterns (order_of relation) whole refl
+entries_look v index FreeForm text patterns (Compared relation) whole = texts_look v index FreeForm text patterns (order_of relation) whole refl
+
+has_target : (profile : Profile) (index : ℕ) (structure : Structure) (r : Register) → lacks_register profile r (Entries index structure) ≡ false → has_pair profile (index, r) ≡ true
+has_target profile index structure r e = true_of_not (has_pair profile (index, r)) e
+
+subject_looks : (profile : Profile) (v : Values) (subject : Subject) (whole : Completeness) (text : List ℕ) (patterns : List (List Symbol))
+    → lacks_register profile (register_of (valued v subject whole)) subject ≡ false → LooksInto profile (valued v subject whole) (plan_register (subject_asked (valued v subject whole) text patterns subject))
+subject_looks profile v Record whole text patterns e = record { none = λ _. refl; one = λ index structure is. absurd cc; found = λ index structure is. absurd cc }
+subject_looks profile v (Entries index structure) whole text patterns e = record {
+  none = λ is. absurd cc;
+  one = λ other form is. entries_look v index structure text patterns v.relation whole ∙ ap (λ i. Some (i, register_of (valued v (Entries index structure) whole))) (same other form is);
+  found = λ other form is. ap (λ i. has_pair profile (i, register_of (valued v (Entries index structure) whole))) (sym (same other form is))
+      ∙ has_target profile index structure (register_of (valued v (Entries index structure) whole)) e;
+}
+  where
+    same : (other : ℕ) (form : Structure) → ◌≡◌ {A = Subject} (Entries index structure) (Entries other form) → index ≡ other
+    same other form is = cc
 
 looks_into : (profile : Profile) (h : HoldingValue) (place : ℕ) (text : List ℕ) → first_that_applies (find_checks profile place h text) ≡ None
-    → LooksInto profile h (plan_register (plan_asked profile h text))
+    → LooksInto profile (values_held profile h) (plan_register (plan_asked profile h text))
 unfolding plan_asked
 looks_into profile h place text none =
-    let both = looked (structure_is h (107 ∷ [])) (digits_value 10 text) _ (index_held profile h, register_searched h)
-    (looks (index_held profile h) (relation_held h) (order_held h) (digits_value 10 text) (joined_words_if_any text) (joined_if_any (patterns_held h text)) (patterns_held h text) (position_is h (1 ∷ 2 ∷ []))
-    (relation_is h (103 ∷ [])) (structure_is h (109 ∷ [])) (relation_is h (3 ∷ [])) (completeness_is h (2 ∷ 3 ∷ [])) (structure_is h (6 ∷ [])) (structure_is h (105 ∷ []))) in
-    let applied = none-cons (check place 123 [] (not (structure_is h (107 ∷ [])) && not (has_target profile (index_used profile h.use_attribute) (register_searched h)))) [] (none_apply [] profile place h text none).registers in
-    record {
-      none = both.0;
-      one = both.1;
-      found = λ l. target_found profile (structure_is h (107 ∷ [])) (index_used profile h.use_attribute) (register_searched h) applied.0 l;
-    }
+    let v : Values = values_held profile h in
+    let taken : IsTaken Find profile v = is_taken Find profile place h text (none-append (term_checks Find profile place h text) (number_checks place text v.subject v.relation) none).0 in
+    subject_looks profile v v.subject v.completeness text (patterns_asked v text) taken.has_register
 
 -- ---- whole plans
 
@@ -89,48 +84,42 @@ AllLookInto-append profile (x ∷ xs) [] ys qs left right = absurd left
 
 -- ---- two words near each other
 
-pub true_of_not : (b : Bool) → not b ≡ false → b ≡ true
-true_of_not true e = refl
-true_of_not false e = absurd cc
-
-other_structure : (m : Option ℕ) → is_among (1 ∷ 2 ∷ []) m ≡ true → (is_among (107 ∷ []) m ≡ false) × (is_among (109 ∷ []) m ≡ false)
-other_structure m e = by_value (λ k. (is_among (107 ∷ []) k ≡ false) × (is_among (109 ∷ []) k ≡ false)) m (1 ∷ 2 ∷ []) e ((refl, refl), ((refl, refl), tt))
-
 -- an operand looks into the words of its index
-operand_looks : (profile : Profile) (o : Operand) → first_that_applies (operand_checks profile o) ≡ None → LooksInto profile o.held (Some (index_held profile o.held, register.Word))
+operand_looks : (profile : Profile) (o : Operand) → first_that_applies (operand_checks profile o) ≡ None → LooksInto profile (values_held profile o.held) (Some (index_near profile o, register.Word))
 operand_looks profile o e =
-    let h = o.held in
-    let place = o.place in
-    let nothing : NoneApply (near_clash_checks place h o.text) profile place h o.text = none_apply (near_clash_checks place h o.text) profile place h o.text e in
-    let words = check place 123 [] (is_none (one_of (patterns_held h o.text))) in
-    let complete = check place 123 [] (completeness_is h (2 ∷ 3 ∷ [])) in
-    let phrase = check place 123 [] (not (structure_is h (1 ∷ 2 ∷ []))) in
-    let first = check place 123 [] (position_is h (1 ∷ 2 ∷ [])) in
-    let relations = none-cons (check place 123 [] (not (relation_is h (3 ∷ [])))) (first ∷ phrase ∷ complete ∷ words ∷ []) nothing.further in
-    let phrases = none-cons phrase (complete ∷ words ∷ []) (none-cons first (phrase ∷ complete ∷ words ∷ []) relations.1).1 in
-    let completes = none-cons complete (words ∷ []) phrases.1 in
-    let others = other_structure (number_or 1 h.structure) (true_of_not (structure_is h (1 ∷ 2 ∷ [])) phrases.0) in
-    let applied = none-cons (check place 123 [] (not (structure_is h (107 ∷ [])) && not (has_target profile (index_used profile h.use_attribute) (register_searched h)))) [] nothing.registers in
-    let searched : register_searched h ≡ register.Word =
-    ap (λ b. cond b register.Number (cond (completeness_is h (2 ∷ 3 ∷ [])) register.Phrase register.Word)) others.1 ∙ ap (λ b. cond b register.Phrase register.Word) completes.0 in
-    record {
-      none = λ l. let never : ◌≡◌ {A = Bool} true false = sym l ∙ others.0 in absurd cc;
-      one = λ _. ap (λ r. Some (index_held profile h, r)) (sym searched);
-      found = λ l. target_found profile (structure_is h (107 ∷ [])) (index_used profile h.use_attribute) (register_searched h) applied.0 l;
-    }
+    let v : Values = values_held profile o.held in
+    let one = check o.place 123 [] (is_none (one_of (patterns_asked v o.text))) in
+    let parts = none-append (term_checks Near profile o.place o.held o.text) (index_check o.place v.subject ∷ one ∷ []) e in
+    let taken : IsTaken Near profile v = is_taken Near profile o.place o.held o.text parts.0 in
+    let after_complete = is_list v.subject || is_numeric v.subject in
+    let after_first = is_complete v.completeness || after_complete in
+    let whole = or_parts (is_complete v.completeness) after_complete (or_parts (is_first v.position) after_first (or_parts (not (is_equal v.relation)) (is_first v.position || after_first) taken.beyond).1).1 in
+    at v v.subject v.completeness (none-cons (index_check o.place v.subject) (one ∷ []) parts.1).0 (or_parts (is_list v.subject) (is_numeric v.subject) whole.1).1 whole.0 taken.has_register
+  where
+    at : (v : Values) (subject : Subject) (whole : Completeness) → is_local subject ≡ false → is_numeric subject ≡ false → is_complete whole ≡ false
+        → lacks_register profile (register_of (valued v subject whole)) subject ≡ false → LooksInto profile (valued v subject whole) (Some (index_in subject, register.Word))
+    at v Record whole l n c r = absurd cc
+    at v (Entries index structure) Complete l n c r = absurd cc
+    at v (Entries index structure) Incomplete l n c r =
+        let searched : register_of (valued v (Entries index structure) Incomplete) ≡ register.Word = ap (λ b. cond b register.Number register.Word) n in
+        record {
+          none = λ is. absurd cc;
+          one = λ other form is. let same : index ≡ other = cc in ap (λ i. Some (i, register.Word)) same ∙ ap (λ r. Some (other, r)) (sym searched);
+          found = λ other form is. let same : index ≡ other = cc in ap (λ i. has_pair profile (i, register_of (valued v (Entries index structure) Incomplete))) (sym same) ∙ true_of_not _ r;
+        }
 
 near_look : (profile : Profile) (place : ℕ) (parameters : ParametersValue) (left right : Operand)
     → first_that_applies (proximity_checks profile place parameters (Some left) (Some right)) ≡ None
     → AllLookInto profile (left.held ∷ right.held ∷ []) (looked_into (near_asked profile parameters (Some left) (Some right)))
 near_look profile place parameters left right none =
-    let one = index_held profile left.held in
-    let other = index_held profile right.held in
+    let one = index_near profile left in
+    let other = index_near profile right in
     let index_check = check place 123 [] (not (eqb one other)) in
     let operands = none-append (parameter_checks place parameters) (operands_checks profile place (Some left) (Some right)) none in
     let lefts = none-append (operand_checks profile left) (operand_checks profile right ++ index_check ∷ []) operands.1 in
     let rights = none-append (operand_checks profile right) (index_check ∷ []) lefts.1 in
     let same : one ≡ other = eqb-true one other (true_of_not (eqb one other) (none-cons index_check [] rights.1).0) in
-    (operand_looks profile left lefts.0, (subst (λ i. LooksInto profile right.held (Some (i, register.Word))) (sym same) (operand_looks profile right rights.0), tt))
+    (operand_looks profile left lefts.0, (subst (λ i. LooksInto profile (values_held profile right.held) (Some (i, register.Word))) (sym same) (operand_looks profile right rights.0), tt))
 
 -- some check of `@prox` applies unless both operands are terms
 no_near : (profile : Profile) (place : ℕ) (parameters : ParametersValue) (left right : Option Operand)
@@ -163,5 +152,5 @@ all_look profile set outer (PairValue place head (BooleanOf op) left right) none
 pub plan_looks : (profile : Profile) (query : QueryValue) (plan : PlanValue) → plan_of profile query ≡ Ok plan
     → AllLookInto profile (held_in query.attrset no_head query.tree) (looked_into plan)
 plan_looks profile query plan e =
-    let answer = answered_ok (first_that_applies (query_checks profile query)) (tree_asked profile query.attrset no_head query.tree) plan e in
+    let answer = answered_ok (first_that_applies (checks_in profile query.attrset no_head query.tree)) (tree_asked profile query.attrset no_head query.tree) plan e in
     subst (λ p. AllLookInto profile (held_in query.attrset no_head query.tree) (looked_into p)) answer.1 (all_look profile query.attrset no_head query.tree answer.0)

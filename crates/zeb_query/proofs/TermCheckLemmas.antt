@@ -1,214 +1,163 @@
--- A term is refused by the first of its checks that applies, and else has its values.
-use Rattle.zeb_query.proofs.Cited.{◌≡◌, ℕ, Bool, true, false, cond, List, [], ◌∷◌, ◌++◌, Option, Some, None, refl, ap, sym, ◌∙◌, length, Ok, not, nat_lt, ◌||◌, ◌&&◌, eqb, is_none, is_some, option_and_then, unwrap_or, Profile, Register, has_pair, Symbol, patterns_of, Equal, Compared, Any, Structure, Phrase, Incomplete, Subject, Record, Entries, Values, relations, positions, structures, completenesses, values_held, patterns_if, is_always, is_first, is_truncated, is_complete, is_local, is_numeric, kept, spread_of, subject_by, index_used_or, kept_or, patterns_read, subject_read, truncations, is_among, number_or, value_of, HoldingValue, relation_is, structure_is, position_is, truncation_is, completeness_is, index_used, index_held, Check, check, first_that_applies, written, has_target, head_checks, use_checks, value_checks, words_checks, checked_by}
-use Rattle.std.specs.Prelude.{chars}
+-- A term is refused by the first of its checks that applies, and else its plan, or where a scan begins, is what its attributes ask for.
+use Rattle.zeb_query.proofs.Cited.{◌≡◌, ℕ, Bool, true, false, cond, List, [], ◌∷◌, ◌++◌, Option, Some, None, refl, Ok, not, ◌&&◌, is_none, unwrap_or, digits_value, Profile, Register, Symbol, Structure, Phrase, Asked, Compared, Always, Equal, Any, Incomplete, Subject, Record, Entries, Values, Purpose, Find, Scan, Near, HoldingValue, asks_number, completeness_of, index_in, index_used, is_local_number, joined_words, order_of, patterns_asked, position_of, register_of, relation_of, structure_of, truncation_of, values_held, Check, check, checked_by, clash_check, find_checks, index_check, kind_check, number_check, number_checks, one_of, operand_checks, Operand, scan_checks, set_check, term_checks, type_check, use_checks, words_check, written, entries_asked, index_near, operand_pattern, subject_asked, start_asked, texts_asked, NumberOf, RecordNumberOf, ScanValue, Err, number_of, answered, passed, ◌>>=◌, index_read, kept_or, patterns_read, related_plan, subject_index, subject_plan, subject_read, few, many}
 use Rattle.zeb_text.specs.declared.Cut.TheVariants as cut
-use Rattle.zeb_query.specs.PrivatePlanning.{head_read, index_read, subject_with, values_read, term_read}
-use Rattle.zeb_query.proofs.TermSteps.{type_check, set_check, kind_check, head_parts, index_parts, value_parts, term_parts}
-use Rattle.zeb_query.proofs.CheckLemmas.{◌>>=◌, then_checks, none-cons, none-append, unkept, kept_by}
-use Rattle.zeb_query.proofs.ValueLemmas.{RelationIs, relation_value, position_value, StructureIs, structure_value, truncation_value, completeness_value}
+use Rattle.zeb_text.specs.Numbers.{number_key}
+use Rattle.zeb_query.specs.Plans.{plan_asked, scan_asked}
+use Rattle.zeb_query.specs.PrivatePlanning.{compared_plan, head_read, leaf_plan, leaf_scan, scan_start, term_read, term_taken, values_read, word_near}
+use Rattle.zeb_query.proofs.CheckLemmas.{kept_then, number_then, passed_then, then_checks}
 
--- ---- the term's type, and the sets and types of the attributes over it
+-- ---- the attributes
 
-pub head_steps : (place : ℕ) (h : HoldingValue) → head_read place h ≡ head_parts place h
-unfolding head_read head_parts
+abbrev head_checks : ℕ → HoldingValue → List Check
+head_checks place h = type_check place h.term_type ∷ set_check place h.other_set ∷ kind_check place h.other_kind ∷ []
+
+head_steps : (place : ℕ) (h : HoldingValue) → head_read place h ≡ checked_by (head_checks place h) tt
+unfolding head_read
 head_steps place h =
-    sym (then_checks (checked_by (type_check place h ∷ []) tt) _ (type_check place h ∷ []) (set_check place h ∷ kind_check place h ∷ []) tt tt refl
-    (λ _. then_checks (checked_by (set_check place h ∷ []) tt) _ (set_check place h ∷ []) (kind_check place h ∷ []) tt tt refl
-    (λ _. refl)))
+    passed_then (type_check place h.term_type) _ (set_check place h.other_set ∷ kind_check place h.other_kind ∷ []) tt
+    (passed_then (set_check place h.other_set) _ (kind_check place h.other_kind ∷ []) tt (last (kind_check place h.other_kind)))
+  where
+    last : (c : Check) → passed c ≡ checked_by (c ∷ []) (tt {0})
+    last c = elim c.applies as (λ p. cond p (Err c.refusal) (Ok tt) ≡ answered (cond p (Some c.refusal) None) (tt {0})) [
+      | true ↦ refl
+      | false ↦ refl
+    ]
 
--- ---- the values
+abbrev index_if : Profile → Bool → Option (List ℕ) → Option ℕ
+index_if profile local text = cond local None (Some (unwrap_or (index_used profile text) 0))
 
-used : (profile : Profile) (place : ℕ) (text : Option (List ℕ)) → (index_used_or profile place text >>= λ index. Ok (Some index))
-    ≡ checked_by (use_checks profile place false text) (Some (unwrap_or (index_used profile text) 0))
-used profile place None = elim (index_used profile None) as (λ o. (kept_or 116 place None o >>= λ index. Ok (Some index)) ≡ checked_by (check place 114 [] false ∷ check place 116 [] (is_none o) ∷ []) (Some (unwrap_or o 0))) [
-  | Some index ↦ refl
-  | None ↦ refl
-]
-used profile place (Some text) = elim (index_used profile (Some text)) as (λ o. (kept_or 114 place (Some text) o >>= λ index. Ok (Some index)) ≡ checked_by (check place 114 text (is_none o) ∷ check place 116 [] false ∷ []) (Some (unwrap_or o 0))) [
-  | Some index ↦ refl
-  | None ↦ refl
-]
-
-pub index_steps : (profile : Profile) (place : ℕ) (local : Bool) (text : Option (List ℕ)) → index_read profile place local text ≡ index_parts profile place local text
-unfolding index_read
+index_steps : (profile : Profile) (place : ℕ) (local : Bool) (text : Option (List ℕ))
+    → index_read profile place local text ≡ checked_by (use_checks profile place local text) (index_if profile local text)
 index_steps profile place true None = refl
 index_steps profile place true (Some text) = refl
-index_steps profile place false text = sym (used profile place text)
+index_steps profile place false None = elim (index_used profile None) as (λ o. (kept_or 116 place None o >>= λ index. Ok (Some index)) ≡ checked_by (check place 114 [] false ∷ check place 116 [] (is_none o) ∷ []) (Some (unwrap_or o 0))) [
+  | Some index ↦ refl
+  | None ↦ refl
+]
+index_steps profile place false (Some text) = elim (index_used profile (Some text)) as (λ o. (kept_or 114 place (Some text) o >>= λ index. Ok (Some index)) ≡ checked_by (check place 114 text (is_none o) ∷ check place 116 [] false ∷ []) (Some (unwrap_or o 0))) [
+  | Some index ↦ refl
+  | None ↦ refl
+]
 
-index_stage : (profile : Profile) (place : ℕ) (local : Bool) (text : Option (List ℕ))
-    → index_read profile place local text ≡ checked_by (use_checks profile place local text) (cond local None (Some (unwrap_or (index_used profile text) 0)))
-unfolding index_read
-index_stage profile place local text = refl
+abbrev structure_check : ℕ → Bool → Option (List ℕ) → Check
+structure_check place local text = check place 118 (written text) (not local && is_none (structure_of text))
 
-abbrev relation_check : ℕ → HoldingValue → Check
-relation_check place h = check place 117 (written h.relation) (not (relation_is h (1 ∷ 2 ∷ 3 ∷ 4 ∷ 5 ∷ 103 ∷ [])))
+subject_steps : (place : ℕ) (index : ℕ) (local : Bool) (text : Option (List ℕ)) → subject_read place text (cond local None (Some index))
+    ≡ checked_by (structure_check place local text ∷ []) (cond local Record (Entries index (unwrap_or (structure_of text) Phrase)))
+subject_steps place index true text = refl
+subject_steps place index false text = kept_then 118 place text (structure_of text) Phrase _ [] (Entries index (unwrap_or (structure_of text) Phrase)) refl
 
-abbrev position_check : ℕ → HoldingValue → Check
-position_check place h = check place 119 (written h.position) (not (position_is h (1 ∷ 2 ∷ 3 ∷ [])))
+abbrev value_checks : Profile → ℕ → HoldingValue → List Check
+value_checks profile place h =
+    use_checks profile place (is_local_number h.structure) h.use_attribute
+    ++ check place 117 (written h.relation) (is_none (relation_of h.relation))
+    ∷ check place 119 (written h.position) (is_none (position_of h.position))
+    ∷ structure_check place (is_local_number h.structure) h.structure
+    ∷ check place 120 (written h.truncation) (is_none (truncation_of h.truncation))
+    ∷ check place 122 (written h.completeness) (is_none (completeness_of h.completeness))
+    ∷ []
 
-abbrev structure_check : ℕ → HoldingValue → Check
-structure_check place h = check place 118 (written h.structure) (not (structure_is h (1 ∷ 2 ∷ 6 ∷ 105 ∷ 107 ∷ 109 ∷ [])))
-
-abbrev truncation_check : ℕ → HoldingValue → Check
-truncation_check place h = check place 120 (written h.truncation) (not (truncation_is h (1 ∷ 2 ∷ 3 ∷ 100 ∷ 101 ∷ [])))
-
-abbrev completeness_check : ℕ → HoldingValue → Check
-completeness_check place h = check place 122 (written h.completeness) (not (completeness_is h (1 ∷ 2 ∷ 3 ∷ [])))
-
--- a local number is kept, and a number that is no local one is kept where it is another structure
-local_kept : (a b c d x y : Bool) → (x || false) ≡ true → (a || (b || (c || (d || (x || (y || false)))))) ≡ true
-local_kept true b c d x y e = refl
-local_kept false true c d x y e = refl
-local_kept false false true d x y e = refl
-local_kept false false false true x y e = refl
-local_kept false false false false true y e = refl
-local_kept false false false false false y e = absurd cc
-
-other_kept : (a b c d x y : Bool) → (x || false) ≡ false → (a || (b || (c || (d || (x || (y || false)))))) ≡ (a || (b || (c || (d || (y || false)))))
-other_kept true b c d x y e = refl
-other_kept false true c d x y e = refl
-other_kept false false true d x y e = refl
-other_kept false false false true x y e = refl
-other_kept false false false false true y e = absurd cc
-other_kept false false false false false y e = refl
-
-kept_if_local : (m : Option ℕ) → is_among (107 ∷ []) m ≡ true → is_among (1 ∷ 2 ∷ 6 ∷ 105 ∷ 107 ∷ 109 ∷ []) m ≡ true
-kept_if_local None e = absurd cc
-kept_if_local (Some n) e = local_kept (eqb n 1) (eqb n 2) (eqb n 6) (eqb n 105) (eqb n 107) (eqb n 109) e
-
-kept_if_other : (m : Option ℕ) → is_among (107 ∷ []) m ≡ false → is_among (1 ∷ 2 ∷ 6 ∷ 105 ∷ 107 ∷ 109 ∷ []) m ≡ is_among (1 ∷ 2 ∷ 6 ∷ 105 ∷ 109 ∷ []) m
-kept_if_other None e = refl
-kept_if_other (Some n) e = other_kept (eqb n 1) (eqb n 2) (eqb n 6) (eqb n 105) (eqb n 107) (eqb n 109) e
-
-subject_kept : (place : ℕ) (text : Option (List ℕ)) (index : ℕ) (o : Option Structure)
-    → (checked_by (check place 118 (written text) (is_none o) ∷ []) (Entries index (unwrap_or o Phrase))) ≡ subject_with index (kept_or 118 place text o)
-subject_kept place text index (Some structure) = refl
-subject_kept place text index None = refl
-
-subject_stage : (place : ℕ) (h : HoldingValue) (index : ℕ)
-    → subject_read place h.structure (cond (structure_is h (107 ∷ [])) None (Some index))
-    ≡ checked_by (structure_check place h ∷ []) (subject_by index (number_or 1 h.structure))
-subject_stage place h index = at (structure_is h (107 ∷ [])) refl
-  where
-    at : (local : Bool) → structure_is h (107 ∷ []) ≡ local → subject_read place h.structure (cond local None (Some index))
-        ≡ checked_by (structure_check place h ∷ []) (cond local Record (Entries index (unwrap_or (option_and_then (kept structures) (number_or 1 h.structure)) Phrase)))
-    at true e = ap (λ b. checked_by (check place 118 (written h.structure) (not b) ∷ []) Record) (sym (kept_if_local (number_or 1 h.structure) e))
-    at false e =
-        let o = option_and_then (kept structures) (number_or 1 h.structure) in
-        sym (subject_kept place h.structure index o)
-        ∙ ap (λ b. checked_by (check place 118 (written h.structure) b ∷ []) (Entries index (unwrap_or o Phrase)))
-        (sym (ap not (kept_if_other (number_or 1 h.structure) e) ∙ unkept structures (number_or 1 h.structure)))
-
--- the checks of types 2 to 6, and those that follow on each
-abbrev after_structure : ℕ → HoldingValue → List Check
-after_structure place h = truncation_check place h ∷ completeness_check place h ∷ []
-
-abbrev after_position : ℕ → HoldingValue → List Check
-after_position place h = structure_check place h ∷ after_structure place h
-
-abbrev after_relation : ℕ → HoldingValue → List Check
-after_relation place h = position_check place h ∷ after_position place h
-
-abbrev after_use : ℕ → HoldingValue → List Check
-after_use place h = relation_check place h ∷ after_relation place h
-
-pub values_steps : (profile : Profile) (place : ℕ) (h : HoldingValue) → values_read profile place h ≡ value_parts profile place h
-unfolding values_read value_parts
+values_steps : (profile : Profile) (place : ℕ) (h : HoldingValue) → values_read profile place h ≡ checked_by (value_checks profile place h) (values_held profile h)
+unfolding values_read
 values_steps profile place h =
     let v : Values = values_held profile h in
-    let local = structure_is h (107 ∷ []) in
-    let index = index_held profile h in
-    sym (then_checks (index_read profile place local h.use_attribute) _ (use_checks profile place local h.use_attribute) (after_use place h) (cond local None (Some index)) v
-    (index_stage profile place local h.use_attribute)
-    (λ _. then_checks (kept_or 117 place h.relation (value_of relations 3 h.relation)) _ (relation_check place h ∷ []) (after_relation place h) v.relation v
-    (kept_by place 117 h.relation (value_of relations 3 h.relation) (Compared Equal) _ (unkept relations (number_or 3 h.relation)))
-    (λ _. then_checks (kept_or 119 place h.position (value_of positions 3 h.position)) _ (position_check place h ∷ []) (after_position place h) v.position v
-    (kept_by place 119 h.position (value_of positions 3 h.position) Any _ (unkept positions (number_or 3 h.position)))
-    (λ _. then_checks (subject_read place h.structure (cond local None (Some index))) _ (structure_check place h ∷ []) (after_structure place h) v.subject v
-    (subject_stage place h index)
-    (λ _. then_checks (kept_or 120 place h.truncation (value_of truncations 100 h.truncation)) _ (truncation_check place h ∷ []) (completeness_check place h ∷ []) v.truncation v
-    (kept_by place 120 h.truncation (value_of truncations 100 h.truncation) cut.None _ (unkept truncations (number_or 100 h.truncation)))
-    (λ _. then_checks (kept_or 122 place h.completeness (value_of completenesses 1 h.completeness)) _ (completeness_check place h ∷ []) [] v.completeness v
-    (kept_by place 122 h.completeness (value_of completenesses 1 h.completeness) Incomplete _ (unkept completenesses (number_or 1 h.completeness)))
-    (λ _. refl)))))))
+    let local = is_local_number h.structure in
+    let relation = check place 117 (written h.relation) (is_none (relation_of h.relation)) in
+    let position = check place 119 (written h.position) (is_none (position_of h.position)) in
+    let structure = structure_check place local h.structure in
+    let truncation = check place 120 (written h.truncation) (is_none (truncation_of h.truncation)) in
+    let completeness = check place 122 (written h.completeness) (is_none (completeness_of h.completeness)) in
+    then_checks (index_read profile place local h.use_attribute) _ (use_checks profile place local h.use_attribute) (relation ∷ position ∷ structure ∷ truncation ∷ completeness ∷ [])
+    (index_if profile local h.use_attribute) v (index_steps profile place local h.use_attribute)
+    (kept_then 117 place h.relation (relation_of h.relation) (Compared Equal) _ (position ∷ structure ∷ truncation ∷ completeness ∷ []) v
+    (kept_then 119 place h.position (position_of h.position) Any _ (structure ∷ truncation ∷ completeness ∷ []) v
+    (then_checks (subject_read place h.structure (index_if profile local h.use_attribute)) _ (structure ∷ []) (truncation ∷ completeness ∷ []) v.subject v
+    (subject_steps place (unwrap_or (index_used profile h.use_attribute) 0) local h.structure)
+    (kept_then 120 place h.truncation (truncation_of h.truncation) cut.None _ (completeness ∷ []) v
+    (kept_then 122 place h.completeness (completeness_of h.completeness) Incomplete _ [] v refl)))))
 
--- ---- what is known where all values are kept
+-- ---- a term for a purpose
 
-pub record AreHeld (profile : Profile) (h : HoldingValue) (v : Values) : Type 0 where
-  pub relation : RelationIs (number_or 3 h.relation) v.relation
-  pub position : position_is h (1 ∷ 2 ∷ []) ≡ is_first v.position
-  pub structure : StructureIs (number_or 1 h.structure) v.subject
-  pub truncation : not (truncation_is h (100 ∷ [])) ≡ is_truncated v.truncation
-  pub completeness : completeness_is h (2 ∷ 3 ∷ []) ≡ is_complete v.completeness
-  pub target : structure_is h (107 ∷ []) ≡ false → (r : Register) → has_target profile (index_used profile h.use_attribute) r ≡ has_pair profile (index_held profile h, r)
+abbrev taken : Profile → HoldingValue → List ℕ → Values × List (List Symbol)
+taken profile h text = (values_held profile h, patterns_asked (values_held profile h) text)
 
-false_of_not : (b : Bool) → not b ≡ false → b ≡ true
-false_of_not true e = refl
-false_of_not false e = absurd cc
-
-target_of : (profile : Profile) (place : ℕ) (text : Option (List ℕ)) (local : Bool) → first_that_applies (use_checks profile place local text) ≡ None → local ≡ false
-    → (r : Register) → has_target profile (index_used profile text) r ≡ has_pair profile (unwrap_or (index_used profile text) 0, r)
-target_of profile place text true e l r = absurd cc
-target_of profile place None false e l r = elim (index_used profile None) as (λ o. first_that_applies (check place 114 [] false ∷ check place 116 [] (is_none o) ∷ []) ≡ None → has_target profile o r ≡ has_pair profile (unwrap_or o 0, r)) [
-  | Some index ↦ λ _. refl
-  | None ↦ λ e'. absurd cc
-] e
-target_of profile place (Some text) false e l r = elim (index_used profile (Some text)) as (λ o. first_that_applies (check place 114 text (is_none o) ∷ check place 116 [] false ∷ []) ≡ None → has_target profile o r ≡ has_pair profile (unwrap_or o 0, r)) [
-  | Some index ↦ λ _. refl
-  | None ↦ λ e'. absurd cc
-] e
-
-held : (profile : Profile) (place : ℕ) (h : HoldingValue) → first_that_applies (value_checks profile place h) ≡ None → AreHeld profile h (values_held profile h)
-held profile place h e =
-    let uses = none-append (use_checks profile place (structure_is h (107 ∷ [])) h.use_attribute) (after_use place h) e in
-    let relation = none-cons (relation_check place h) (after_relation place h) uses.1 in
-    let position = none-cons (position_check place h) (after_position place h) relation.1 in
-    let structure = none-cons (structure_check place h) (after_structure place h) position.1 in
-    let truncation = none-cons (truncation_check place h) (completeness_check place h ∷ []) structure.1 in
-    let completeness = none-cons (completeness_check place h) [] truncation.1 in
-    record {
-      relation = relation_value (number_or 3 h.relation) (false_of_not _ relation.0);
-      position = position_value (number_or 3 h.position) (false_of_not _ position.0);
-      structure = structure_value (index_held profile h) (number_or 1 h.structure) (false_of_not _ structure.0);
-      truncation = truncation_value (number_or 100 h.truncation) (false_of_not _ truncation.0);
-      completeness = completeness_value (number_or 1 h.completeness) (false_of_not _ completeness.0);
-      target = λ l r. target_of profile place h.use_attribute (structure_is h (107 ∷ [])) uses.0 l r;
-    }
-
--- ---- the words
-
-words_at : (always local numeric : Bool) (patterns : List (List Symbol)) → nat_lt 64 (length (cond (not always && (not local && not numeric)) patterns []))
-    ≡ (not (local || numeric) && (not always && nat_lt 64 (length patterns)))
-words_at true true numeric patterns = refl
-words_at true false true patterns = refl
-words_at true false false patterns = refl
-words_at false true numeric patterns = refl
-words_at false false true patterns = refl
-words_at false false false patterns = refl
-
-words_stage : (profile : Profile) (place : ℕ) (h : HoldingValue) (text : List ℕ) → AreHeld profile h (values_held profile h)
-    → patterns_read place text (values_held profile h) ≡ checked_by (words_checks place h text) (patterns_if (values_held profile h) text)
-words_stage profile place h text are =
-    let v : Values = values_held profile h in
-    ap (λ b. checked_by (check place 5 [] b ∷ []) (patterns_if v text)) (words_at (is_always v.relation) (is_local v.subject) (is_numeric v.subject) (patterns_of v.truncation (spread_of v.subject) (chars text)))
-    ∙ ap (λ b. checked_by (check place 5 [] (not b && (not (is_always v.relation) && nat_lt 64 (length (patterns_of v.truncation (spread_of v.subject) (chars text))))) ∷ []) (patterns_if v text)) (sym are.structure.number)
-    ∙ ap (λ b. checked_by (check place 5 [] (not (structure_is h (107 ∷ 109 ∷ [])) && (not b && nat_lt 64 (length (patterns_of v.truncation (spread_of v.subject) (chars text))))) ∷ []) (patterns_if v text)) (sym are.relation.always)
-    ∙ ap (λ s. checked_by (check place 5 [] (not (structure_is h (107 ∷ 109 ∷ [])) && (not (relation_is h (103 ∷ [])) && nat_lt 64 (length (patterns_of v.truncation s (chars text))))) ∷ []) (patterns_if v text)) (sym are.structure.stars)
-
--- ---- what is read of a term
-
-abbrev pub reading_checks : Profile → ℕ → HoldingValue → List ℕ → List Check
-reading_checks profile place h text = head_checks place h ++ (value_checks profile place h ++ words_checks place h text)
-
-pub term_steps : (profile : Profile) (place : ℕ) (text : List ℕ) (h : HoldingValue) → term_read profile place text h ≡ term_parts profile place text h
-unfolding term_read term_parts head_read values_read
+term_steps : (profile : Profile) (place : ℕ) (text : List ℕ) (h : HoldingValue)
+    → term_read profile place text h ≡ checked_by (head_checks place h ++ (value_checks profile place h ++ words_check place (values_held profile h) text ∷ [])) (taken profile h text)
+unfolding term_read
 term_steps profile place text h =
     let v : Values = values_held profile h in
-    sym (then_checks (head_read place h) _ (head_checks place h) (value_checks profile place h ++ (words_checks place h text ++ [])) tt (v, patterns_if v text) refl
-    (λ _. then_checks (values_read profile place h) _ (value_checks profile place h) (words_checks place h text ++ []) v (v, patterns_if v text) refl
-    (λ e. then_checks (patterns_read place text v) _ (words_checks place h text) [] (patterns_if v text) (v, patterns_if v text) (words_stage profile place h text (held profile place h e))
-    (λ _. refl))))
+    let words = words_check place v text in
+    then_checks (head_read place h) _ (head_checks place h) (value_checks profile place h ++ words ∷ []) tt (taken profile h text) (head_steps place h)
+    (then_checks (values_read profile place h) _ (value_checks profile place h) (words ∷ []) v (taken profile h text) (values_steps profile place h)
+    (then_checks (patterns_read place text v) _ (words ∷ []) [] (patterns_asked v text) (taken profile h text) (passed_then words _ [] (patterns_asked v text) refl) refl))
 
--- where none of these checks applies, all values are kept
-pub term_held : (profile : Profile) (place : ℕ) (h : HoldingValue) (text : List ℕ) → first_that_applies (reading_checks profile place h text) ≡ None → AreHeld profile h (values_held profile h)
-term_held profile place h text e = held profile place h (none-append (value_checks profile place h) (words_checks place h text) (none-append (head_checks place h) (value_checks profile place h ++ words_checks place h text) e).1).0
+taken_steps : (profile : Profile) (purpose : Purpose) (place : ℕ) (text : List ℕ) (h : HoldingValue)
+    → term_taken profile purpose place text h ≡ checked_by (term_checks purpose profile place h text) (taken profile h text)
+unfolding term_taken
+taken_steps profile purpose place text h =
+    let v : Values = values_held profile h in
+    then_checks (term_read profile place text h) _ (head_checks place h ++ (value_checks profile place h ++ words_check place v text ∷ [])) (clash_check purpose profile place v ∷ []) (taken profile h text) (taken profile h text) (term_steps profile place text h)
+    (passed_then (clash_check purpose profile place v) _ [] (taken profile h text) refl)
+
+-- ---- in a find
+
+related_steps : (place : ℕ) (text : List ℕ) (v : Values) (index : ℕ) (structure : Structure) (patterns : List (List Symbol)) (asked : Asked)
+    → related_plan place text v index structure patterns asked ≡ checked_by (number_checks place text (Entries index structure) asked) (entries_asked v index structure text patterns asked)
+unfolding compared_plan
+related_steps place text v index structure patterns Always = refl
+related_steps place text v index structure patterns (Compared relation) = elim (asks_number structure) as (λ b.
+    cond b (kept_or 126 place (Some text) (number_of many text) >>= λ number. Ok (NumberOf index relation number)) (Ok (texts_asked v index structure text patterns (order_of relation)))
+    ≡ checked_by (cond b (number_check many place text ∷ []) []) (cond b (NumberOf index relation (digits_value 10 text)) (texts_asked v index structure text patterns (order_of relation)))) [
+      | true ↦ number_then 126 place many text (λ number. Ok (NumberOf index relation number)) [] (NumberOf index relation (digits_value 10 text)) refl
+      | false ↦ refl
+    ]
+
+subject_plans : (place : ℕ) (text : List ℕ) (v : Values) (patterns : List (List Symbol)) (subject : Subject)
+    → subject_plan place text v patterns subject ≡ checked_by (number_checks place text subject v.relation) (subject_asked v text patterns subject)
+subject_plans place text v patterns Record = number_then 126 place few text (λ number. Ok (RecordNumberOf number)) [] (RecordNumberOf (digits_value 10 text)) refl
+subject_plans place text v patterns (Entries index structure) = related_steps place text v index structure patterns v.relation
+
+pub leaf_steps : (profile : Profile) (h : HoldingValue) (place : ℕ) (text : List ℕ) → leaf_plan profile h place text ≡ checked_by (find_checks profile place h text) (plan_asked profile h text)
+unfolding leaf_plan plan_asked
+leaf_steps profile h place text =
+    let v : Values = values_held profile h in
+    then_checks (term_taken profile Find place text h) _ (term_checks Find profile place h text) (number_checks place text v.subject v.relation) (taken profile h text) (subject_asked v text (patterns_asked v text) v.subject)
+    (taken_steps profile Find place text h) (subject_plans place text v (patterns_asked v text) v.subject)
+
+-- ---- in a scan
+
+abbrev scan_with : Register → ℕ → List ℕ → ScanValue
+scan_with r index start = record { index = index; register = r; start = start }
+
+scan_from : (place : ℕ) (text : List ℕ) (r : Register) (subject : Subject)
+    → (subject_index place subject >>= λ index. (scan_start place text subject >>= λ start. Ok (scan_with r index start)))
+    ≡ checked_by (index_check place subject ∷ number_checks place text subject (Compared Equal)) (scan_with r (index_in subject) (start_asked subject text))
+unfolding scan_start
+scan_from place text r Record = refl
+scan_from place text r (Entries index structure) = elim (asks_number structure) as (λ b.
+    (cond b (kept_or 126 place (Some text) (number_of many text) >>= λ number. Ok (number_key number)) (Ok (joined_words text)) >>= λ start. Ok (scan_with r index start))
+    ≡ checked_by (cond b (number_check many place text ∷ []) []) (scan_with r index (cond b (number_key (digits_value 10 text)) (joined_words text)))) [
+      | true ↦ then_checks (kept_or 126 place (Some text) (number_of many text) >>= λ number. Ok (number_key number)) _ (number_check many place text ∷ []) [] (number_key (digits_value 10 text)) (scan_with r index (number_key (digits_value 10 text)))
+          (number_then 126 place many text (λ number. Ok (number_key number)) [] (number_key (digits_value 10 text)) refl) refl
+      | false ↦ refl
+    ]
+
+pub scan_steps : (profile : Profile) (h : HoldingValue) (place : ℕ) (text : List ℕ) → leaf_scan profile h place text ≡ checked_by (scan_checks profile place h text) (scan_asked profile h text)
+unfolding leaf_scan scan_asked
+scan_steps profile h place text =
+    let v : Values = values_held profile h in
+    then_checks (term_taken profile Scan place text h) _ (term_checks Scan profile place h text) (index_check place v.subject ∷ number_checks place text v.subject (Compared Equal)) (taken profile h text) (scan_with (register_of v) (index_in v.subject) (start_asked v.subject text))
+    (taken_steps profile Scan place text h) (scan_from place text (register_of v) v.subject)
+
+-- ---- near another term
+
+pub near_steps : (profile : Profile) (o : Operand) → word_near profile o ≡ checked_by (operand_checks profile o) (index_near profile o, operand_pattern profile o)
+unfolding word_near
+near_steps profile o =
+    let v : Values = values_held profile o.held in
+    let one = one_of (patterns_asked v o.text) in
+    then_checks (term_taken profile Near o.place o.text o.held) _ (term_checks Near profile o.place o.held o.text) (index_check o.place v.subject ∷ check o.place 123 [] (is_none one) ∷ []) (taken profile o.held o.text) (index_near profile o, operand_pattern profile o)
+    (taken_steps profile Near o.place o.text o.held)
+    (then_checks (subject_index o.place v.subject) _ (index_check o.place v.subject ∷ []) (check o.place 123 [] (is_none one) ∷ []) (index_in v.subject) (index_near profile o, operand_pattern profile o)
+    (passed_then (index_check o.place v.subject) _ [] (index_in v.subject) refl)
+    (kept_then 123 o.place None one [] _ [] (index_near profile o, operand_pattern profile o) refl))

@@ -2,29 +2,23 @@
 -- set Bib-1): types 1 use, 2 relation, 3 position, 4 structure, 5 truncation, 6 completeness. For each type the innermost attribute
 -- holds. The numbers of types and of values are Bib-1's.
 -- Own rules of this project: that all attributes over a term count for two faults, a set other than Bib-1 and a type outside 1 to 6,
--- of which the leftmost is told; that a value of more than nine digits is no number; which values are kept; what holds where there
--- is no attribute of a type; that 1 and 2 are one for the position and the structure, and 2 and 3 for the completeness; and that
--- structure 107, a local number, is the record's system number.
+-- of which the leftmost is told; that a value of more than nine digits is no number; that a use attribute that is no number is the
+-- name of an index; which values are kept; what holds where there is no attribute of a type; that 1 and 2 are one for the position and
+-- the structure, and 2 and 3 for the completeness; and that structure 107, a local number, is the record's system number.
 use Rattle.std.specs.Char.{to_ascii_lowercase}
-use Rattle.std.specs.List.{find, join_with_byte, list_any}
-use Rattle.std.specs.Option.{option_to_list, unwrap_or}
-use Rattle.std.specs.Prelude.{Bool, List, None, Option, Some, [], chars, codes, encode_utf8_all, false, if◌then◌else◌, map, nat_lt, not, option_and_then, ℕ, ◌&&◌, ◌++◌, ◌==◌, ◌∷◌, ◌||◌}
+use Rattle.std.specs.List.{find, join_with_byte}
+use Rattle.std.specs.Option.{is_some, option_map_or, option_to_list, unwrap_or}
+use Rattle.std.specs.Prelude.{Bool, List, None, Option, Some, [], chars, codes, encode_utf8_all, false, if◌then◌else◌, map, nat_lt, not, option_and_then, true, ℕ, ◌&&◌, ◌++◌, ◌==◌, ◌∷◌, ◌||◌}
 use Rattle.std.specs.Str.{bytes_eq}
 use Rattle.zeb_profile.specs.Indexes.{index_by_name, index_by_use}
-use Rattle.zeb_profile.specs.declared.Profile.{Profile}
-use Rattle.zeb_keys.specs.declared.Register.{Register}
+use Rattle.zeb_keys.specs.declared.Register.TheVariants as register
 use Rattle.zeb_text.specs.Symbols.{Symbol}
 use Rattle.zeb_text.specs.Truncation.{joined_patterns, patterns_of}
 use Rattle.zeb_text.specs.Words.{words_of}
-use Rattle.zeb_text.specs.declared.Cut.{Cut}
-use Rattle.zeb_text.specs.declared.Spread.{Spread}
-use Rattle.zeb_text.specs.declared.Spread.TheVariants.{Each, Ends}
-use Rattle.zeb_query.specs.declared.plans.Order.{Order}
-use Rattle.zeb_query.specs.declared.plans.Relation.{Relation}
-use Rattle.zeb_query.specs.declared.plans.Relation.TheVariants.{Equal, Greater, GreaterOrEqual, Less, LessOrEqual}
-use Rattle.zeb_keys.specs.declared.Register.TheVariants as register
-use Rattle.zeb_query.specs.declared.plans.Order.TheVariants as in_order
 use Rattle.zeb_text.specs.declared.Cut.TheVariants as cut
+use Rattle.zeb_query.specs.declared.plans.Order.TheVariants as in_order
+use Rattle.zeb_query.specs.declared.plans.Relation.TheVariants.{Equal, Greater, GreaterOrEqual, Less, LessOrEqual}
+use Rattle.zeb_query.specs.Enums.{Always, Any, Asked, Compared, Complete, Completeness, Cut, Each, Ends, Entries, First, FreeForm, Incomplete, Numeric, Order, Phrase, Position, Profile, Record, Register, Relation, Spread, Structure, Subject, Values, WordList}
 use Rattle.zeb_query.specs.Grammar.{AttributeValue, HeadValue, few, number_of}
 
 -- ---- the attributes over a term
@@ -82,95 +76,7 @@ holding_of set head = record {
   completeness = value_held 6 head.attributes;
 }
 
--- ---- the values that are kept
-
--- type 2, relation: those that compare
-abbrev pub comparisons : List (ℕ × Relation)
-comparisons = (1, Less) ∷ (2, LessOrEqual) ∷ (3, Equal) ∷ (4, GreaterOrEqual) ∷ (5, Greater) ∷ []
-
-abbrev pub equality : List ℕ
-equality = 3 ∷ []
-
--- the relations of order
-abbrev pub ordered_relations : List ℕ
-ordered_relations = 1 ∷ 2 ∷ 4 ∷ 5 ∷ []
-
-abbrev pub always_matches : List ℕ
-always_matches = 103 ∷ []
-
--- the numbers of a table
-abbrev pub numbers_in : {A : Type 0} → List (ℕ × A) → List ℕ
-numbers_in [] = []
-numbers_in (row ∷ rows) = row.0 ∷ numbers_in rows
-
--- type 3, position: first in field and first in subfield
-abbrev pub first_positions : List ℕ
-first_positions = 1 ∷ 2 ∷ []
-
--- any position
-abbrev pub any_positions : List ℕ
-any_positions = 3 ∷ []
-
--- type 4, structure: phrase and word
-abbrev pub phrases : List ℕ
-phrases = 1 ∷ 2 ∷ []
-
-abbrev pub word_lists : List ℕ
-word_lists = 6 ∷ []
-
--- free-form text
-abbrev pub free_forms : List ℕ
-free_forms = 105 ∷ []
-
-abbrev pub local_numbers : List ℕ
-local_numbers = 107 ∷ []
-
-abbrev pub numeric_strings : List ℕ
-numeric_strings = 109 ∷ []
-
--- the structures of words without an order
-abbrev pub lists : List ℕ
-lists = word_lists ++ free_forms
-
--- the structures of a term that is a number
-abbrev pub one_number : List ℕ
-one_number = local_numbers ++ numeric_strings
-
--- type 5, truncation
-abbrev pub truncations : List (ℕ × Cut)
-truncations = (1, cut.Right) ∷ (2, cut.Left) ∷ (3, cut.Both) ∷ (100, cut.None) ∷ (101, cut.Hash) ∷ []
-
-abbrev pub no_truncation : List ℕ
-no_truncation = 100 ∷ []
-
--- type 6, completeness: incomplete subfield
-abbrev pub incomplete_texts : List ℕ
-incomplete_texts = 1 ∷ []
-
--- complete subfield and complete field
-abbrev pub whole_texts : List ℕ
-whole_texts = 2 ∷ 3 ∷ []
-
--- ---- the value that holds
-
--- what holds where there is no attribute of the type: use 1016, any; equal; any position; a phrase; no truncation; incomplete subfield
-abbrev pub default_use : ℕ
-default_use = 1016
-
-abbrev pub default_relation : ℕ
-default_relation = 3
-
-abbrev pub default_position : ℕ
-default_position = 3
-
-abbrev pub default_structure : ℕ
-default_structure = 1
-
-abbrev pub default_truncation : ℕ
-default_truncation = 100
-
-abbrev pub default_completeness : ℕ
-default_completeness = 1
+-- ---- the values that are kept: of each type the numbers, and what each stands for
 
 -- what a number stands for in a table
 abbrev pub kept : {A : Type 0} → List (ℕ × A) → ℕ → Option A
@@ -183,37 +89,41 @@ number_or default None = Some default
 number_or default (Some text) = number_of few text
 
 -- what a value stands for, if it is kept
-abbrev pub value_of : {A : Type 0} → List (ℕ × A) → ℕ → Option (List ℕ) → Option A
-value_of table default value = option_and_then (kept table) (number_or default value)
+abbrev pub value_of : {A : Type 0} → ℕ → List (ℕ × A) → Option (List ℕ) → Option A
+value_of default table text = option_and_then (kept table) (number_or default text)
 
--- the attribute's number is one of these
-abbrev pub is_among : List ℕ → Option ℕ → Bool
-is_among values None = false
-is_among values (Some number) = list_any (λ value. number == value) values
+-- type 1, use: the default is any
+abbrev pub default_use : ℕ
+default_use = 1016
 
--- the value that holds, or the default where there is no attribute of the type, is one of these
-abbrev pub relation_is : HoldingValue → List ℕ → Bool
-relation_is h values = is_among values (number_or default_relation h.relation)
+-- type 2, relation: the default is equal
+abbrev pub relation_of : Option (List ℕ) → Option Asked
+relation_of text =
+    value_of 3
+    ((1, Compared Less) ∷ (2, Compared LessOrEqual) ∷ (3, Compared Equal) ∷ (4, Compared GreaterOrEqual) ∷ (5, Compared Greater)
+    ∷ (103, Always) ∷ []) text
 
-abbrev pub position_is : HoldingValue → List ℕ → Bool
-position_is h values = is_among values (number_or default_position h.position)
+-- type 3, position: first in field, first in subfield, any position, which is the default
+abbrev pub position_of : Option (List ℕ) → Option Position
+position_of text = value_of 3 ((1, First) ∷ (2, First) ∷ (3, Any) ∷ []) text
 
-abbrev pub structure_is : HoldingValue → List ℕ → Bool
-structure_is h values = is_among values (number_or default_structure h.structure)
+-- type 4, structure: phrase, which is the default, word, word list, free-form text, numeric string
+abbrev pub structure_of : Option (List ℕ) → Option Structure
+structure_of text = value_of 1 ((1, Phrase) ∷ (2, Phrase) ∷ (6, WordList) ∷ (105, FreeForm) ∷ (109, Numeric) ∷ []) text
 
-abbrev pub truncation_is : HoldingValue → List ℕ → Bool
-truncation_is h values = is_among values (number_or default_truncation h.truncation)
+-- local number
+abbrev pub is_local_number : Option (List ℕ) → Bool
+is_local_number text = option_map_or (λ number. number == 107) (number_or 1 text) false
 
-abbrev pub completeness_is : HoldingValue → List ℕ → Bool
-completeness_is h values = is_among values (number_or default_completeness h.completeness)
+-- type 5, truncation: right, left, both, none, which is the default, and each `#` of the term
+abbrev pub truncation_of : Option (List ℕ) → Option Cut
+truncation_of text = value_of 100 ((1, cut.Right) ∷ (2, cut.Left) ∷ (3, cut.Both) ∷ (100, cut.None) ∷ (101, cut.Hash) ∷ []) text
 
--- ---- what is compared for a term
+-- type 6, completeness: incomplete subfield, which is the default, complete subfield, complete field
+abbrev pub completeness_of : Option (List ℕ) → Option Completeness
+completeness_of text = value_of 1 ((1, Incomplete) ∷ (2, Complete) ∷ (3, Complete) ∷ []) text
 
--- What is compared for a term: its index, its register, and its words, by the attributes that hold over it (ANSI/NISO Z39.50-2003,
--- attribute set Bib-1). Bib-1 says what the attributes mean. That a use attribute may be an index's name, which register is searched, and
--- where a truncation puts its stars, are this project's own rules.
-
--- ---- indexes and registers
+-- ---- what a term names
 
 -- the index of a use attribute, by its number, or by its name where it is none; that of the default where there is no attribute
 abbrev pub index_named : Profile → List ℕ → Option ℕ → Option ℕ
@@ -224,20 +134,36 @@ abbrev pub index_used : Profile → Option (List ℕ) → Option ℕ
 index_used profile None = index_by_use profile default_use
 index_used profile (Some text) = index_named profile text (number_of few text)
 
-abbrev pub index_held : Profile → HoldingValue → ℕ
-index_held profile h = unwrap_or (index_used profile h.use_attribute) 0
+-- the values that hold over a term. Where a check refuses the term for a value that isn't kept, the default stands in its place, and
+-- index 0 in place of the one that a use attribute hasn't got.
+abbrev pub values_held : Profile → HoldingValue → Values
+values_held profile h = record {
+  subject = if is_local_number h.structure then Record else
+      Entries (unwrap_or (index_used profile h.use_attribute) 0) (unwrap_or (structure_of h.structure) Phrase);
+  relation = unwrap_or (relation_of h.relation) (Compared Equal);
+  position = unwrap_or (position_of h.position) Any;
+  truncation = unwrap_or (truncation_of h.truncation) cut.None;
+  completeness = unwrap_or (completeness_of h.completeness) Incomplete;
+}
 
--- the register that is searched: numbers for structure 109, whole texts for completeness 2 and 3, else words
-abbrev pub register_searched : HoldingValue → Register
-register_searched h =
-    if structure_is h numeric_strings then register.Number else (
-    if completeness_is h whole_texts then register.Phrase else register.Word)
+-- the index in which it is looked up; a local number has none
+abbrev pub index_in : Subject → ℕ
+index_in Record = 0
+index_in (Entries index structure) = index
 
--- ---- relations
+-- ---- what the values say
 
--- the relation that holds, where it is one that compares
-abbrev pub relation_held : HoldingValue → Relation
-relation_held h = unwrap_or (value_of comparisons default_relation h.relation) Equal
+abbrev pub is_first : Position → Bool
+is_first First = true
+is_first Any = false
+
+abbrev pub is_complete : Completeness → Bool
+is_complete Incomplete = false
+is_complete Complete = true
+
+abbrev pub is_truncated : Cut → Bool
+is_truncated cut.None = false
+is_truncated _ = true
 
 -- the order that a relation is, but for equality
 abbrev pub order_of : Relation → Option Order
@@ -247,20 +173,56 @@ order_of Equal = None
 order_of GreaterOrEqual = Some in_order.GreaterOrEqual
 order_of Greater = Some in_order.Greater
 
-abbrev pub order_held : HoldingValue → Order
-order_held h = unwrap_or (order_of (relation_held h)) in_order.Less
+abbrev pub is_ordered : Asked → Bool
+is_ordered (Compared relation) = is_some (order_of relation)
+is_ordered Always = false
 
--- ---- words
+abbrev pub is_equal : Asked → Bool
+is_equal (Compared Equal) = true
+is_equal _ = false
 
--- the words of the term as patterns: the truncation puts stars on each word for structures 6 and 105, else at the ends
-abbrev pub cut_of : HoldingValue → Cut
-cut_of h = unwrap_or (value_of truncations default_truncation h.truncation) cut.None
+abbrev pub is_local : Subject → Bool
+is_local Record = true
+is_local (Entries index structure) = false
 
-abbrev pub stars_of : HoldingValue → Spread
-stars_of h = if structure_is h lists then Each else Ends
+abbrev pub asks_number : Structure → Bool
+asks_number Numeric = true
+asks_number _ = false
 
-abbrev pub patterns_held : HoldingValue → List ℕ → List (List Symbol)
-patterns_held h text = patterns_of (cut_of h) (stars_of h) (chars text)
+abbrev pub is_numeric : Subject → Bool
+is_numeric Record = false
+is_numeric (Entries index structure) = asks_number structure
+
+-- words without an order
+abbrev pub is_list : Subject → Bool
+is_list (Entries index WordList) = true
+is_list (Entries index FreeForm) = true
+is_list _ = false
+
+-- ---- what is compared
+
+-- What is compared for a term: its register, and its words, by the values that hold over it. Which register is searched, and where a
+-- truncation puts its stars, are this project's own rules.
+
+-- the register that is searched: numbers, whole texts, or words
+abbrev pub register_of : Values → Register
+register_of v =
+    if is_numeric v.subject then register.Number else (
+    if is_complete v.completeness then register.Phrase else register.Word)
+
+-- the words of the term are compared: it is no number, and its relation isn't "always matches"
+abbrev pub compares_words : Subject → Asked → Bool
+compares_words (Entries index structure) (Compared relation) = not (asks_number structure)
+compares_words _ _ = false
+
+-- a truncation puts stars on each word of a list, else at the ends
+abbrev pub spread_of : Subject → Spread
+spread_of subject = if is_list subject then Each else Ends
+
+-- the patterns of the words that are compared
+abbrev pub patterns_asked : Values → List ℕ → List (List Symbol)
+patterns_asked v text =
+    if compares_words v.subject v.relation then patterns_of v.truncation (spread_of v.subject) (chars text) else []
 
 -- the term's words with a space between
 abbrev pub joined_words : List ℕ → List ℕ

@@ -9,28 +9,21 @@
 -- distance, ordered, relation, which-code and unit-code. Own rules too: which of their values are kept; that others, and operands that
 -- are no terms, are refused by 110; and that the operands are of one word each, in one index, with the attributes that are left.
 use Rattle.std.specs.Fmt.{decimal}
-use Rattle.std.specs.Option.{is_none, is_some, unwrap_or}
+use Rattle.std.specs.Option.{is_none, is_some, option_map_or, unwrap_or}
 use Rattle.std.specs.Prelude.{Bool, Err, List, None, Ok, Option, Result, Some, [], codes, false, if◌then◌else◌, length, nat_lt, not, string_bytes, true, ℕ, ◌&&◌, ◌++◌, ◌==◌, ◌∷◌, ◌≡◌, ◌||◌}
 use Rattle.std.specs.Str.{bytes_eq}
 use Rattle.std.specs.Str.Parse.{digits_value}
 use Rattle.zeb_profile.specs.Indexes.{has_pair}
-use Rattle.zeb_profile.specs.declared.Profile.{Profile}
-use Rattle.zeb_keys.specs.declared.Register.{Register}
 use Rattle.zeb_query.specs.declared.faults.QueryFault.{QueryFault}
 use Rattle.zeb_query.specs.declared.faults.QueryFault.TheVariants.{Diagnostic, Memory}
-use Rattle.zeb_query.specs.declared.plans.DistanceRelation.{DistanceRelation}
 use Rattle.zeb_query.specs.declared.plans.DistanceRelation.TheVariants.{Equal, Greater, GreaterOrEqual, Less, LessOrEqual, NotEqual}
-use Rattle.zeb_query.specs.declared.plans.Separation.{Separation}
-use Rattle.zeb_query.specs.declared.keywords.OperatorWord.{OperatorWord}
-use Rattle.zeb_query.specs.declared.keywords.OperatorWord.TheVariants.{And, Not, Or, Proximity}
+use Rattle.zeb_query.specs.declared.plans.Relation.TheVariants as relation
 use Rattle.zeb_query.specs.declared.plans.Operator.TheVariants as on_sets
-use Rattle.zeb_query.specs.Grammar.{BooleanOf, ConnectiveValue, HeadValue, NamedValue, PairValue, ParametersValue, ProximityOf, QueryValue, TermValue, TreeValue, few, heads, is_number, many, no_head, operator_word}
-use Rattle.zeb_query.specs.Attributes.{HoldingValue, always_matches, any_positions, comparisons, completeness_is, equality, first_positions, holding_of, incomplete_texts, index_held, index_used, lists, local_numbers, no_truncation, numbers_in, numeric_strings, one_number, ordered_relations, patterns_held, phrases, position_is, register_searched, relation_is, structure_is, truncation_is, truncations, whole_texts}
+use Rattle.zeb_query.specs.Enums.{Always, And, Asked, Compared, DistanceRelation, Entries, Find, FreeForm, Near, Not, Numeric, OperatorWord, Or, Phrase, Profile, Proximity, Purpose, Record, Register, Scan, Separation, Subject, Values, WordList}
+use Rattle.zeb_query.specs.Grammar.{BooleanOf, ConnectiveValue, HeadValue, NamedValue, PairValue, ParametersValue, ProximityOf, TermValue, TreeValue, few, heads, is_number, kept_text, many, no_head, operator_word}
+use Rattle.zeb_query.specs.Attributes.{HoldingValue, asks_number, completeness_of, holding_of, index_in, index_used, is_complete, is_equal, is_first, is_list, is_local, is_local_number, is_numeric, is_ordered, is_truncated, patterns_asked, position_of, register_of, relation_of, structure_of, truncation_of, values_held}
 
 -- ---- diagnostics as values
-
--- The diagnostics by which a query is refused, as values (ANSI/NISO Z39.50-2003, Appendix ERR, the list Bib-1), and what
--- it means that a call gives what a definition says. Which fault has which number, and its place, are this project's own rules.
 
 -- a diagnostic's number, place and addinfo
 pub record Refusal : Type 0 where
@@ -76,146 +69,118 @@ first_that_applies (c ∷ checks) = if c.applies then Some c.refusal else first_
 abbrev pub checked_by : {A : Type 0} → List Check → A → Result A Refusal
 checked_by checks x = answered (first_that_applies checks) x
 
--- ---- what the conditions say
+-- ---- the checks of a term
 
 -- a value as written
 abbrev pub written : Option (List ℕ) → List ℕ
-written None = []
-written (Some text) = text
-
-abbrev pub numeral : Option ℕ → List ℕ
-numeral None = []
-numeral (Some number) = decimal number
-
-abbrev pub is_known_type : List ℕ → Bool
-is_known_type type = bytes_eq type (codes "general") || bytes_eq type (codes "string")
+written text = unwrap_or text []
 
 -- a term type is named that isn't kept
-abbrev pub is_other_type : Option (List ℕ) → Bool
-is_other_type None = false
-is_other_type (Some type) = not (is_known_type type)
+abbrev pub type_check : ℕ → Option (List ℕ) → Check
+type_check place type =
+    check place 229 (written type) (option_map_or (λ text. not (bytes_eq text (codes "general") || bytes_eq text (codes "string"))) type false)
 
--- an index has a target with the register
-abbrev pub has_target : Profile → Option ℕ → Register → Bool
-has_target profile None r = false
-has_target profile (Some index) r = has_pair profile (index, r)
+-- the leftmost set and the leftmost type that Bib-1 hasn't got
+abbrev pub set_check : ℕ → Option (List ℕ) → Check
+set_check place set = check place 121 (written set) (is_some set)
 
--- ---- the table
-
--- the term's type, and the sets and types of the attributes over it
-abbrev pub head_checks : ℕ → HoldingValue → List Check
-head_checks place h =
-    check place 229 (written h.term_type) (is_other_type h.term_type)
-    ∷ check place 121 (written h.other_set) (is_some h.other_set)
-    ∷ check place 113 (numeral h.other_kind) (is_some h.other_kind)
-    ∷ []
+abbrev pub kind_check : ℕ → Option ℕ → Check
+kind_check place kind = check place 113 (option_map_or decimal kind []) (is_some kind)
 
 -- the use attribute, as written or none; a local number has no index
 abbrev pub use_checks : Profile → ℕ → Bool → Option (List ℕ) → List Check
-use_checks profile place local use_attribute =
-    check place 114 (written use_attribute) (not local && (is_some use_attribute && is_none (index_used profile use_attribute)))
-    ∷ check place 116 [] (not local && (is_none use_attribute && is_none (index_used profile use_attribute)))
+use_checks profile place local text =
+    check place 114 (written text) (not local && (is_some text && is_none (index_used profile text)))
+    ∷ check place 116 [] (not local && (is_none text && is_none (index_used profile text)))
     ∷ []
 
--- the values of the six attribute types
-abbrev pub value_checks : Profile → ℕ → HoldingValue → List Check
-value_checks profile place h =
-    use_checks profile place (structure_is h local_numbers) h.use_attribute
-    ++ check place 117 (written h.relation) (not (relation_is h (numbers_in comparisons ++ always_matches)))
-    ∷ check place 119 (written h.position) (not (position_is h (first_positions ++ any_positions)))
-    ∷ check place 118 (written h.structure) (not (structure_is h (phrases ++ (lists ++ one_number))))
-    ∷ check place 120 (written h.truncation) (not (truncation_is h (numbers_in truncations)))
-    ∷ check place 122 (written h.completeness) (not (completeness_is h (incomplete_texts ++ whole_texts)))
-    ∷ []
+-- the term's type, the sets and types of the attributes over it, and the values of the six attribute types
+abbrev pub attribute_checks : Profile → ℕ → HoldingValue → List Check
+attribute_checks profile place h =
+    type_check place h.term_type
+    ∷ set_check place h.other_set
+    ∷ kind_check place h.other_kind
+    ∷ (use_checks profile place (is_local_number h.structure) h.use_attribute
+    ++ check place 117 (written h.relation) (is_none (relation_of h.relation))
+    ∷ check place 119 (written h.position) (is_none (position_of h.position))
+    ∷ check place 118 (written h.structure) (not (is_local_number h.structure) && is_none (structure_of h.structure))
+    ∷ check place 120 (written h.truncation) (is_none (truncation_of h.truncation))
+    ∷ check place 122 (written h.completeness) (is_none (completeness_of h.completeness))
+    ∷ [])
 
--- the number of words, where words are compared
-abbrev pub words_checks : ℕ → HoldingValue → List ℕ → List Check
-words_checks place h text =
-    check place 5 []
-    (not (structure_is h one_number) && (not (relation_is h always_matches) && nat_lt 64 (length (patterns_held h text))))
-    ∷ []
+-- a position, a truncation or a completeness is asked for
+abbrev pub is_limited : Values → Bool
+is_limited v = is_first v.position || (is_truncated v.truncation || is_complete v.completeness)
 
--- values that aren't taken together
-abbrev pub clash_checks : ℕ → HoldingValue → List Check
-clash_checks place h =
-    check place 123 []
-    (structure_is h one_number
-    && (position_is h first_positions || (not (truncation_is h no_truncation) || completeness_is h whole_texts)))
-    ∷ check place 123 [] (structure_is h local_numbers && not (relation_is h equality))
-    ∷ check place 123 []
-    (structure_is h lists
-    && (position_is h first_positions || (completeness_is h whole_texts || relation_is h ordered_relations)))
-    ∷ check place 123 []
-    (relation_is h ordered_relations && (position_is h first_positions || not (truncation_is h no_truncation)))
-    ∷ []
+-- values that aren't taken together with a list of words
+abbrev pub clashes_with_list : Values → Bool
+clashes_with_list v = is_first v.position || (is_complete v.completeness || is_ordered v.relation)
 
--- values that a scan doesn't take
-abbrev pub scan_clash_checks : ℕ → HoldingValue → List Check
-scan_clash_checks place h =
-    check place 123 [] (not (relation_is h equality))
-    ∷ check place 123 [] (position_is h first_positions)
-    ∷ check place 123 [] (not (truncation_is h no_truncation))
-    ∷ check place 123 [] (structure_is h (lists ++ local_numbers))
-    ∷ []
+-- values that aren't taken together with what the term names
+abbrev pub clashes_with : Subject → Values → Bool
+clashes_with Record v = is_limited v || not (is_equal v.relation)
+clashes_with (Entries index Numeric) v = is_limited v
+clashes_with (Entries index Phrase) v = false
+clashes_with (Entries index WordList) v = clashes_with_list v
+clashes_with (Entries index FreeForm) v = clashes_with_list v
 
--- the one element of a list, if it has just one
-abbrev pub one_of : {A : Type 0} → List A → Option A
-one_of [] = None
-one_of (x ∷ []) = Some x
-one_of (x ∷ y ∷ others) = None
+-- values that a scan, or a word near another, doesn't take, though a find may
+abbrev pub is_beyond : Purpose → Values → Bool
+is_beyond Find v = false
+is_beyond Scan v = not (is_equal v.relation) || (is_first v.position || (is_truncated v.truncation || is_list v.subject))
+is_beyond Near v =
+    not (is_equal v.relation) || (is_first v.position || (is_complete v.completeness || (is_list v.subject || is_numeric v.subject)))
 
--- values that a word near another doesn't take, and another number of words than one
-abbrev pub near_clash_checks : ℕ → HoldingValue → List ℕ → List Check
-near_clash_checks place h text =
-    check place 123 [] (not (relation_is h equality))
-    ∷ check place 123 [] (position_is h first_positions)
-    ∷ check place 123 [] (not (structure_is h phrases))
-    ∷ check place 123 [] (completeness_is h whole_texts)
-    ∷ check place 123 [] (is_none (one_of (patterns_held h text)))
-    ∷ []
+-- values that aren't taken together for the purpose
+abbrev pub clashes : Purpose → Values → Bool
+clashes purpose v =
+    clashes_with v.subject v || ((is_ordered v.relation && (is_first v.position || is_truncated v.truncation)) || is_beyond purpose v)
 
--- an index without the searched register
-abbrev pub register_checks : Profile → ℕ → HoldingValue → List Check
-register_checks profile place h =
-    check place 123 []
-    (not (structure_is h local_numbers)
-    && not (has_target profile (index_used profile h.use_attribute) (register_searched h)))
-    ∷ []
+-- an index without the register
+abbrev pub lacks_register : Profile → Register → Subject → Bool
+lacks_register profile r Record = false
+lacks_register profile r (Entries index structure) = not (has_pair profile (index, r))
 
--- a term that has to be a number
-abbrev pub number_checks : ℕ → HoldingValue → List ℕ → List Check
-number_checks place h text =
-    check place 126 text (structure_is h local_numbers && not (is_number few text))
-    ∷ check place 126 text (structure_is h numeric_strings && (not (relation_is h always_matches) && not (is_number many text)))
-    ∷ []
+-- the number of words that are compared
+abbrev pub words_check : ℕ → Values → List ℕ → Check
+words_check place v text = check place 5 [] (nat_lt 64 (length (patterns_asked v text)))
 
--- the checks of a term, with those of further values that aren't taken
-abbrev pub term_checks : List Check → Profile → ℕ → HoldingValue → List ℕ → List Check
-term_checks further profile place h text =
-    head_checks place h
-    ++ (value_checks profile place h
-    ++ (words_checks place h text
-    ++ (clash_checks place h
-    ++ (further
-    ++ (register_checks profile place h
-    ++ number_checks place h text)))))
+-- values that aren't taken together, or an index without the searched register
+abbrev pub clash_check : Purpose → Profile → ℕ → Values → Check
+clash_check purpose profile place v = check place 123 [] (clashes purpose v || lacks_register profile (register_of v) v.subject)
 
--- the checks of a term in a find, in a scan, and near another term
+-- a term for the purpose
+abbrev pub term_checks : Purpose → Profile → ℕ → HoldingValue → List ℕ → List Check
+term_checks purpose profile place h text =
+    let v : Values = values_held profile h in
+    attribute_checks profile place h ++ words_check place v text ∷ clash_check purpose profile place v ∷ []
+
+-- a term that has to be a number of at most so many digits
+abbrev pub number_check : ℕ → ℕ → List ℕ → Check
+number_check most place text = check place 126 text (not (is_number most text))
+
+-- a local number, and a number that is compared
+abbrev pub number_checks : ℕ → List ℕ → Subject → Asked → List Check
+number_checks place text Record relation = number_check few place text ∷ []
+number_checks place text (Entries index structure) (Compared relation) = if asks_number structure then number_check many place text ∷ [] else []
+number_checks place text (Entries index structure) Always = []
+
+-- a local number has no index
+abbrev pub index_check : ℕ → Subject → Check
+index_check place subject = check place 123 [] (is_local subject)
+
+-- the checks of a term in a find, and in a scan, whose relation is equality
 abbrev pub find_checks : Profile → ℕ → HoldingValue → List ℕ → List Check
-find_checks profile place h text = term_checks [] profile place h text
+find_checks profile place h text =
+    let v : Values = values_held profile h in
+    term_checks Find profile place h text ++ number_checks place text v.subject v.relation
 
 abbrev pub scan_checks : Profile → ℕ → HoldingValue → List ℕ → List Check
-scan_checks profile place h text = term_checks (scan_clash_checks place h) profile place h text
-
-abbrev pub near_checks : Profile → ℕ → HoldingValue → List ℕ → List Check
-near_checks profile place h text = term_checks (near_clash_checks place h text) profile place h text
+scan_checks profile place h text =
+    let v : Values = values_held profile h in
+    term_checks Scan profile place h text ++ index_check place v.subject ∷ number_checks place text v.subject (Compared relation.Equal)
 
 -- ---- proximity: the parameters
-
--- what a text stands for in a table
-abbrev pub kept_text : {A : Type 0} → List (List ℕ × A) → List ℕ → Option A
-kept_text [] text = None
-kept_text (row ∷ rows) text = if bytes_eq text row.0 then Some row.1 else kept_text rows text
 
 -- whether the left word has to stand before the right one
 abbrev pub orderings : List (List ℕ × Bool)
@@ -260,14 +225,26 @@ operand_of set outer (TermValue place head text) = Some (record { place = place;
 operand_of set outer (NamedValue place head name) = None
 operand_of set outer (PairValue place head connective left right) = None
 
+-- the one element of a list, if it has just one
+abbrev pub one_of : {A : Type 0} → List A → Option A
+one_of [] = None
+one_of (x ∷ []) = Some x
+one_of (x ∷ y ∷ others) = None
+
 abbrev pub operand_checks : Profile → Operand → List Check
-operand_checks profile o = near_checks profile o.place o.held o.text
+operand_checks profile o =
+    let v : Values = values_held profile o.held in
+    term_checks Near profile o.place o.held o.text
+    ++ index_check o.place v.subject ∷ check o.place 123 [] (is_none (one_of (patterns_asked v o.text))) ∷ []
+
+abbrev pub index_near : Profile → Operand → ℕ
+index_near profile o = index_in (values_held profile o.held).subject
 
 abbrev pub operands_checks : Profile → ℕ → Option Operand → Option Operand → List Check
 operands_checks profile place (Some left) (Some right) =
     operand_checks profile left
     ++ (operand_checks profile right
-    ++ check place 123 [] (not (index_held profile left.held == index_held profile right.held)) ∷ [])
+    ++ check place 123 [] (not (index_near profile left == index_near profile right)) ∷ [])
 operands_checks profile place (Some left) None = check place 110 (operator_word Proximity) true ∷ []
 operands_checks profile place None right = check place 110 (operator_word Proximity) true ∷ []
 
@@ -285,9 +262,6 @@ checks_in profile set outer (PairValue place head (BooleanOf operator) left righ
 checks_in profile set outer (PairValue place head (ProximityOf parameters) left right) =
     proximity_checks profile place parameters (operand_of set (heads outer head) left) (operand_of set (heads outer head) right)
 
-abbrev pub query_checks : Profile → QueryValue → List Check
-query_checks profile query = checks_in profile query.attrset no_head query.tree
-
 -- ---- a scan, which takes a term alone
 
 abbrev pub operator_named : ConnectiveValue → OperatorWord
@@ -301,6 +275,3 @@ scan_checks_in profile set (TermValue place head text) = scan_checks profile pla
 scan_checks_in profile set (NamedValue place head name) = check place 18 name true ∷ []
 scan_checks_in profile set (PairValue place head connective left right) =
     check place 110 (operator_word (operator_named connective)) true ∷ []
-
-abbrev pub scan_query_checks : Profile → QueryValue → List Check
-scan_query_checks profile query = scan_checks_in profile query.attrset query.tree

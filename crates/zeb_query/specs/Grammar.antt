@@ -128,13 +128,13 @@ operator_word Or = codes "@or"
 operator_word Not = codes "@not"
 operator_word Proximity = codes "@prox"
 
+-- what a text stands for in a table
+abbrev pub kept_text : {A : Type 0} → List (List ℕ × A) → List ℕ → Option A
+kept_text [] text = None
+kept_text (row ∷ rows) text = if bytes_eq text row.0 then Some row.1 else kept_text rows text
+
 abbrev pub operator_spelled : List ℕ → Option OperatorWord
-operator_spelled text =
-    if bytes_eq text (operator_word And) then Some And else (
-    if bytes_eq text (operator_word Or) then Some Or else (
-    if bytes_eq text (operator_word Not) then Some Not else (
-    if bytes_eq text (operator_word Proximity) then Some Proximity else
-    None)))
+operator_spelled text = kept_text (map (λ word. (operator_word word, word)) (And ∷ Or ∷ Not ∷ Proximity ∷ [])) text
 
 -- the keyword of a text
 abbrev pub keyword_spelled : List ℕ → Option Keyword

@@ -3,25 +3,20 @@
 -- Bib-1 says what a relation, a position, a structure and a completeness ask for. Own rules of this project: what a plan has where Bib-1
 -- leaves it open, which are the words of a term, the register, and system numbers for structure 107.
 use Rattle.std.specs.Option.{option_map, unwrap_or}
-use Rattle.std.specs.Prelude.{Bool, List, None, Option, Result, Some, [], false, if◌then◌else◌, not, string_bytes, true, ℕ, ◌++◌, ◌<◌, ◌^◌, ◌∷◌, ◌≡◌}
+use Rattle.std.specs.Prelude.{Bool, List, None, Option, Result, Some, [], if◌then◌else◌, string_bytes, true, ℕ, ◌++◌, ◌<◌, ◌^◌, ◌∷◌, ◌≡◌}
 use Rattle.std.specs.Str.Parse.{digits_value}
 use Rattle.zeb_profile.specs.Indexes.{has_pair}
-use Rattle.zeb_profile.specs.declared.Profile.{Profile}
-use Rattle.zeb_keys.specs.declared.Register.{Register}
+use Rattle.zeb_keys.specs.declared.Register.TheVariants as register
 use Rattle.zeb_text.specs.Numbers.{number_key}
 use Rattle.zeb_text.specs.Symbols.{Symbol}
-use Rattle.zeb_query.specs.declared.plans.Operator.{Operator}
-use Rattle.zeb_query.specs.declared.plans.Order.{Order}
 use Rattle.zeb_query.specs.declared.plans.Plan.{Near, Pair', Plan, Term}
-use Rattle.zeb_query.specs.declared.plans.Relation.{Relation}
 use Rattle.zeb_query.specs.declared.plans.ScanPlan.{ScanPlan}
-use Rattle.zeb_query.specs.declared.plans.Separation.{Separation}
 use Rattle.zeb_query.specs.declared.plans.TermPlan.{TermPlan}
-use Rattle.zeb_keys.specs.declared.Register.TheVariants as register
 use Rattle.zeb_query.specs.declared.plans.TermPlan.TheVariants as term
+use Rattle.zeb_query.specs.Enums.{Always, Asked, Compared, Complete, Completeness, Entries, FreeForm, Incomplete, Operator, Order, Position, Profile, Record, Register, Relation, Separation, Structure, Subject, Values, WordList}
 use Rattle.zeb_query.specs.Grammar.{BooleanOf, HeadValue, NamedValue, PairValue, ParametersValue, ProximityOf, QueryValue, TermValue, TreeValue, heads, no_head}
-use Rattle.zeb_query.specs.Checks.{Operand, Refusal, checked_by, one_of, operand_of, query_checks, scan_query_checks, separation_of}
-use Rattle.zeb_query.specs.Attributes.{HoldingValue, always_matches, completeness_is, equality, first_positions, free_forms, holding_of, index_held, joined_if_any, joined_words, joined_words_if_any, local_numbers, numeric_strings, order_held, patterns_held, position_is, register_searched, relation_held, relation_is, structure_is, whole_texts, word_lists}
+use Rattle.zeb_query.specs.Checks.{Operand, Refusal, checked_by, checks_in, index_near, one_of, operand_of, scan_checks_in, separation_of}
+use Rattle.zeb_query.specs.Attributes.{HoldingValue, asks_number, holding_of, index_in, is_first, is_numeric, joined_if_any, joined_words, joined_words_if_any, order_of, patterns_asked, register_of, values_held}
 
 -- ---- plans as values
 
@@ -56,27 +51,37 @@ plan_value (Term plan) = TermOf (term_plan_value plan)
 plan_value (Pair' p op left right) = PairOf op (plan_value left) (plan_value right)
 plan_value (Near plan) = NearOf plan.index plan.left plan.right plan.separation
 
--- ---- terms
+-- ---- terms, by the values that hold over them, where none of their checks applies
 
--- what a term asks for, where none of its checks applies
+-- words that are compared by equality
+abbrev pub words_asked : ℕ → Structure → Position → Completeness → List (List Symbol) → TermPlanValue
+words_asked index structure position Complete patterns = CompleteOf index (joined_if_any patterns)
+words_asked index WordList position Incomplete patterns = AllWordsOf index patterns
+words_asked index FreeForm position Incomplete patterns = AnyWordOf index patterns
+words_asked index structure position Incomplete patterns = PhraseOf index patterns (is_first position)
+
+abbrev pub texts_asked : Values → ℕ → Structure → List ℕ → List (List Symbol) → Option Order → TermPlanValue
+texts_asked v index structure text patterns (Some order) = OrderedOf index (register_of v) order (joined_words_if_any text)
+texts_asked v index structure text patterns None = words_asked index structure v.position v.completeness patterns
+
+abbrev pub entries_asked : Values → ℕ → Structure → List ℕ → List (List Symbol) → Asked → TermPlanValue
+entries_asked v index structure text patterns Always = AlwaysOf index (register_of v)
+entries_asked v index structure text patterns (Compared relation) =
+    if asks_number structure then NumberOf index relation (digits_value 10 text) else
+    texts_asked v index structure text patterns (order_of relation)
+
+abbrev pub subject_asked : Values → List ℕ → List (List Symbol) → Subject → TermPlanValue
+subject_asked v text patterns Record = RecordNumberOf (digits_value 10 text)
+subject_asked v text patterns (Entries index structure) = entries_asked v index structure text patterns v.relation
+
 unfoldable pub plan_asked : Profile → HoldingValue → List ℕ → TermPlanValue
-plan_asked profile h text =
-    let index = index_held profile h in
-    let patterns = patterns_held h text in
-    if structure_is h local_numbers then RecordNumberOf (digits_value 10 text) else (
-    if relation_is h always_matches then AlwaysOf index (register_searched h) else (
-    if structure_is h numeric_strings then NumberOf index (relation_held h) (digits_value 10 text) else (
-    if not (relation_is h equality) then OrderedOf index (register_searched h) (order_held h) (joined_words_if_any text) else (
-    if completeness_is h whole_texts then CompleteOf index (joined_if_any patterns) else (
-    if structure_is h word_lists then AllWordsOf index patterns else (
-    if structure_is h free_forms then AnyWordOf index patterns else
-    PhraseOf index patterns (position_is h first_positions)))))))
+plan_asked profile h text = let v : Values = values_held profile h in subject_asked v text (patterns_asked v text) v.subject
 
 -- ---- proximity
 
 -- the pattern of the one word
-abbrev pub operand_pattern : Operand → List Symbol
-operand_pattern o = unwrap_or (one_of (patterns_held o.held o.text)) []
+abbrev pub operand_pattern : Profile → Operand → List Symbol
+operand_pattern profile o = unwrap_or (one_of (patterns_asked (values_held profile o.held) o.text)) []
 
 -- for a structure that has a check which always applies, so that nothing is asked for
 abbrev pub no_plan : PlanValue
@@ -85,7 +90,7 @@ no_plan = TermOf (AnyWordOf 0 [])
 -- what `@prox` with these parameters asks for, where none of its checks applies
 abbrev pub near_asked : Profile → ParametersValue → Option Operand → Option Operand → PlanValue
 near_asked profile parameters (Some left) (Some right) =
-    NearOf (index_held profile left.held) (operand_pattern left) (operand_pattern right) (separation_of parameters)
+    NearOf (index_near profile left) (operand_pattern profile left) (operand_pattern profile right) (separation_of parameters)
 near_asked profile parameters (Some left) None = no_plan
 near_asked profile parameters None right = no_plan
 
@@ -102,7 +107,7 @@ tree_asked profile set outer (PairValue place head (ProximityOf parameters) left
 
 -- the first diagnostic of the query's checks, or what the query asks for
 abbrev pub plan_of : Profile → QueryValue → Result PlanValue Refusal
-plan_of profile query = checked_by (query_checks profile query) (tree_asked profile query.attrset no_head query.tree)
+plan_of profile query = checked_by (checks_in profile query.attrset no_head query.tree) (tree_asked profile query.attrset no_head query.tree)
 
 -- ---- what every plan says of its numbers
 
@@ -130,12 +135,11 @@ plan_register (PhraseOf index patterns first) = Some (index, register.Word)
 plan_register (AllWordsOf index patterns) = Some (index, register.Word)
 plan_register (AnyWordOf index patterns) = Some (index, register.Word)
 
--- a plan looks into the register that the attributes ask for, at an index that has a target with it; with structure 107 into
--- none
-pub record LooksInto (profile : Profile) (h : HoldingValue) (looked : Option (ℕ × Register)) : Type 0 where
-  pub none : structure_is h local_numbers ≡ true → looked ≡ None
-  pub one : structure_is h local_numbers ≡ false → looked ≡ Some (index_held profile h, register_searched h)
-  pub found : structure_is h local_numbers ≡ false → has_pair profile (index_held profile h, register_searched h) ≡ true
+-- a plan looks into the register that the attributes ask for, at an index that has a target with it; for a local number into none
+pub record LooksInto (profile : Profile) (v : Values) (looked : Option (ℕ × Register)) : Type 0 where
+  pub none : v.subject ≡ Record → looked ≡ None
+  pub one : (index : ℕ) (structure : Structure) → v.subject ≡ Entries index structure → looked ≡ Some (index, register_of v)
+  pub found : (index : ℕ) (structure : Structure) → v.subject ≡ Entries index structure → has_pair profile (index, register_of v) ≡ true
 
 -- the attributes that hold over each term of a structure, from the left
 abbrev pub held_in : Option (List ℕ) → HeadValue → TreeValue → List HoldingValue
@@ -153,7 +157,7 @@ looked_into (NearOf index left right separation) = Some (index, register.Word) �
 -- each term looks into the register that its attributes ask for
 abbrev pub AllLookInto : Profile → List HoldingValue → List (Option (ℕ × Register)) → Type 0
 AllLookInto profile [] [] = Unit {0}
-AllLookInto profile (h ∷ held) (looked ∷ others) = LooksInto profile h looked × AllLookInto profile held others
+AllLookInto profile (h ∷ held) (looked ∷ others) = LooksInto profile (values_held profile h) looked × AllLookInto profile held others
 AllLookInto profile [] (looked ∷ others) = ⊥
 AllLookInto profile (h ∷ held) [] = ⊥
 
@@ -171,12 +175,13 @@ abbrev pub scan_value : ScanPlan → ScanValue
 scan_value plan = record { index = plan.index; register = plan.register; start = string_bytes plan.start }
 
 -- where a scan begins, where none of the term's checks applies: at the key of a number, or at the words
+abbrev pub start_asked : Subject → List ℕ → List ℕ
+start_asked subject text = if is_numeric subject then number_key (digits_value 10 text) else joined_words text
+
 unfoldable pub scan_asked : Profile → HoldingValue → List ℕ → ScanValue
-scan_asked profile h text = record {
-  index = index_held profile h;
-  register = register_searched h;
-  start = if structure_is h numeric_strings then number_key (digits_value 10 text) else joined_words text;
-}
+scan_asked profile h text =
+    let v : Values = values_held profile h in
+    record { index = index_in v.subject; register = register_of v; start = start_asked v.subject text }
 
 -- for a structure that has a check which always applies, so that no scan begins
 abbrev pub no_scan : ScanValue
@@ -189,7 +194,7 @@ tree_scanned profile set (PairValue place head connective left right) = no_scan
 
 -- the first diagnostic of the scan's checks, or where it begins
 abbrev pub scan_of : Profile → QueryValue → Result ScanValue Refusal
-scan_of profile query = checked_by (scan_query_checks profile query) (tree_scanned profile query.attrset query.tree)
+scan_of profile query = checked_by (scan_checks_in profile query.attrset query.tree) (tree_scanned profile query.attrset query.tree)
 
 -- in the register of numbers a scan begins at the key of a number below 10^18
 abbrev pub BeginsAtKey : ScanValue → Type 0

@@ -1,132 +1,163 @@
 -- What only the contracts of private functions speak of; no public clause reaches it.
--- What the functions below `plan` and `plan_scan` give: each part of a plan, by the public checks that refuse it.
-use Rattle.std.specs.Prelude.{ℕ, List, [], ◌∷◌, Option, Some, None, Bool, if◌then◌else◌, ◌&&◌, ◌||◌, not, Result, Ok, Err, length, nat_lt, ◌++◌}
-use Rattle.std.specs.Option.{is_some, unwrap_or}
-use Rattle.std.specs.Str.Parse.{digits_value}
-use Rattle.zeb_profile.specs.declared.Profile.{Profile}
-use Rattle.zeb_text.specs.Symbols.{Symbol}
+-- What the functions below `plan` and `plan_scan` give: the parts of a plan, one after another, each by the public checks that refuse it.
+use Rattle.std.specs.Option.{is_some}
+use Rattle.std.specs.Prelude.{Bool, Err, List, None, Ok, Option, Result, Some, [], codes, false, if◌then◌else◌, not, true, ℕ, ◌==◌, ◌||◌}
+use Rattle.std.specs.Str.{bytes_eq}
 use Rattle.zeb_text.specs.Numbers.{number_key}
-use Rattle.zeb_query.specs.declared.attributes.Structure.{Structure}
-use Rattle.zeb_query.specs.declared.attributes.Structure.TheVariants.{WordList, FreeForm}
-use Rattle.zeb_query.specs.declared.attributes.Position.{Position}
-use Rattle.zeb_query.specs.declared.values.Purpose.{Purpose}
-use Rattle.zeb_query.specs.declared.values.Subject.{Subject}
-use Rattle.zeb_query.specs.declared.values.Subject.TheVariants.{Record, Entries}
-use Rattle.zeb_query.specs.declared.values.Values.{Values}
-use Rattle.zeb_query.specs.declared.plans.Relation.{Relation}
-use Rattle.zeb_query.specs.declared.plans.Order.{Order}
-use Rattle.zeb_query.specs.Grammar.{HeadValue, ParametersValue, TreeValue, is_number, many}
-use Rattle.zeb_query.specs.Attributes.{HoldingValue, default_structure, holding_of, index_held, index_used, order_of, joined_words, joined_words_if_any, joined_if_any, value_of}
-use Rattle.zeb_query.specs.Checks.{Check, check, written, Refusal, refused, checked_by, head_checks, use_checks, value_checks, words_checks, find_checks, scan_checks, Operand, operand_checks, proximity_checks, checks_in}
-use Rattle.zeb_query.specs.Plans.{TermPlanValue, NumberOf, OrderedOf, CompleteOf, PhraseOf, AllWordsOf, AnyWordOf, PlanValue, ScanValue, plan_asked, scan_asked, operand_pattern, near_asked, tree_asked}
-use Rattle.zeb_query.specs.PrivateValues.{asks_number, clashes, is_complete, is_first, is_numeric, lacks_register, patterns_if, register_of, structures, values_held}
+use Rattle.zeb_text.specs.Symbols.{Symbol}
+use Rattle.zeb_query.specs.Enums.{Always, Asked, Compared, Entries, Find, Near, Profile, Proximity, Purpose, Record, Relation, Scan, Separation, Structure, Subject, Values}
+use Rattle.zeb_query.specs.Grammar.{BooleanOf, HeadValue, NamedValue, PairValue, ParametersValue, ProximityOf, TermValue, TreeValue, few, heads, kept_text, many, number_of, operator_word}
+use Rattle.zeb_query.specs.Attributes.{HoldingValue, asks_number, completeness_of, holding_of, index_in, index_used, is_local_number, is_numeric, joined_words, order_of, patterns_asked, position_of, register_of, relation_of, structure_of, truncation_of}
+use Rattle.zeb_query.specs.Checks.{Check, Operand, Refusal, check, clash_check, distance_relations, index_check, kind_check, one_of, operand_of, orderings, refused, set_check, type_check, words_check, written}
+use Rattle.zeb_query.specs.Plans.{AlwaysOf, NearOf, NumberOf, PairOf, PlanValue, RecordNumberOf, ScanValue, TermOf, TermPlanValue, texts_asked}
 
--- ---- a term that is read
+-- a part after another, unless that one was refused
+infixl 10 ◌>>=◌
+abbrev pub ◌>>=◌ : {A B : Type 0} → Result A Refusal → (A → Result B Refusal) → Result B Refusal
+(Ok x) >>= f = f x
+(Err e) >>= f = Err e
+
+-- nothing is refused, unless the check applies
+abbrev pub passed : Check → Result (Unit {0}) Refusal
+passed c = if c.applies then Err c.refusal else Ok tt
 
 -- a kept value, or the diagnostic about the value as written
 abbrev pub kept_or : {A : Type 0} → ℕ → ℕ → Option (List ℕ) → Option A → Result A Refusal
-kept_or number place value (Some x) = Ok x
-kept_or number place value None = refused number place (written value)
+kept_or number place text (Some x) = Ok x
+kept_or number place text None = refused number place (written text)
 
--- the index of the use attribute, or the diagnostic about it or that there is none
-abbrev pub index_used_or : Profile → ℕ → Option (List ℕ) → Result ℕ Refusal
-index_used_or profile place text = kept_or (if is_some text then 114 else 116) place text (index_used profile text)
+-- ---- a term that is read
 
--- the same, but for a local number, which has none
-unfoldable pub index_read : Profile → ℕ → Bool → Option (List ℕ) → Result (Option ℕ) Refusal
-index_read profile place local text =
-    checked_by (use_checks profile place local text) (if local then None else Some (unwrap_or (index_used profile text) 0))
+unfoldable pub head_read : ℕ → HoldingValue → Result (Unit {0}) Refusal
+head_read place h = do
+  _ ← passed (type_check place h.term_type)
+  _ ← passed (set_check place h.other_set)
+  passed (kind_check place h.other_kind)
 
-abbrev pub subject_with : ℕ → Result Structure Refusal → Result Subject Refusal
-subject_with index (Ok structure) = Ok (Entries index structure)
-subject_with index (Err refusal) = Err refusal
+-- the index of the use attribute, or the diagnostic about it or that there is none; a local number has no index
+abbrev pub index_read : Profile → ℕ → Bool → Option (List ℕ) → Result (Option ℕ) Refusal
+index_read profile place true text = Ok None
+index_read profile place false text =
+    kept_or (if is_some text then 114 else 116) place text (index_used profile text) >>= λ index. Ok (Some index)
 
 -- what a term names by its structure, with the index that it has where that is no local number
 abbrev pub subject_read : ℕ → Option (List ℕ) → Option ℕ → Result Subject Refusal
 subject_read place text None = Ok Record
-subject_read place text (Some index) = subject_with index (kept_or 118 place text (value_of structures default_structure text))
-
--- the index in which it is looked up
-abbrev pub subject_index : ℕ → Subject → Result ℕ Refusal
-subject_index place Record = refused 123 place []
-subject_index place (Entries index structure) = Ok index
-
-unfoldable pub head_read : ℕ → HoldingValue → Result (Unit {0}) Refusal
-head_read place h = checked_by (head_checks place h) tt
+subject_read place text (Some index) = kept_or 118 place text (structure_of text) >>= λ structure. Ok (Entries index structure)
 
 unfoldable pub values_read : Profile → ℕ → HoldingValue → Result Values Refusal
-values_read profile place h = checked_by (value_checks profile place h) (values_held profile h)
+values_read profile place h = do
+  index ← index_read profile place (is_local_number h.structure) h.use_attribute
+  relation ← kept_or 117 place h.relation (relation_of h.relation)
+  position ← kept_or 119 place h.position (position_of h.position)
+  subject ← subject_read place h.structure index
+  truncation ← kept_or 120 place h.truncation (truncation_of h.truncation)
+  completeness ← kept_or 122 place h.completeness (completeness_of h.completeness)
+  Ok (record { subject = subject; relation = relation; position = position; truncation = truncation; completeness = completeness })
 
 abbrev pub patterns_read : ℕ → List ℕ → Values → Result (List (List Symbol)) Refusal
-patterns_read place text v = checked_by (check place 5 [] (nat_lt 64 (length (patterns_if v text))) ∷ []) (patterns_if v text)
+patterns_read place text v = passed (words_check place v text) >>= λ _. Ok (patterns_asked v text)
 
 unfoldable pub term_read : Profile → ℕ → List ℕ → HoldingValue → Result (Values × List (List Symbol)) Refusal
-term_read profile place text h =
-    let v : Values = values_held profile h in
-    checked_by (head_checks place h ++ (value_checks profile place h ++ words_checks place h text)) (v, patterns_if v text)
-
-abbrev pub taken_for : Profile → Purpose → ℕ → Values × List (List Symbol) → Result (Values × List (List Symbol)) Refusal
-taken_for profile purpose place read =
-    if clashes purpose read.0 || lacks_register profile (register_of read.0) read.0.subject then refused 123 place [] else Ok read
-
-abbrev pub taken_if : Profile → Purpose → ℕ → Result (Values × List (List Symbol)) Refusal → Result (Values × List (List Symbol)) Refusal
-taken_if profile purpose place (Ok read) = taken_for profile purpose place read
-taken_if profile purpose place (Err refusal) = Err refusal
+term_read profile place text h = do
+  _ ← head_read place h
+  values ← values_read profile place h
+  patterns ← patterns_read place text values
+  Ok (values, patterns)
 
 -- a term that is read, where its values are taken together for the purpose and its index has the searched register
 unfoldable pub term_taken : Profile → Purpose → ℕ → List ℕ → HoldingValue → Result (Values × List (List Symbol)) Refusal
-term_taken profile purpose place text h = taken_if profile purpose place (term_read profile place text h)
+term_taken profile purpose place text h = do
+  read ← term_read profile place text h
+  _ ← passed (clash_check purpose profile place read.0)
+  Ok read
 
--- ---- plans
+-- the index in which a term is looked up
+abbrev pub subject_index : ℕ → Subject → Result ℕ Refusal
+subject_index place subject = passed (index_check place subject) >>= λ _. Ok (index_in subject)
+
+-- ---- the plan of a term, and where a scan begins at it
 
 -- a term that has to be a number of at most so many digits
-unfoldable pub number_in : ℕ → ℕ → List ℕ → Result ℕ Refusal
-number_in most place text = checked_by (check place 126 text (not (is_number most text)) ∷ []) (digits_value 10 text)
-
--- a term that has to be a number where its structure is one
-abbrev pub numeric_checks : ℕ → List ℕ → Bool → List Check
-numeric_checks place text numeric = check place 126 text (numeric && not (is_number many text)) ∷ []
-
-abbrev pub list_plan : ℕ → Structure → Position → List (List Symbol) → TermPlanValue
-list_plan index WordList position patterns = AllWordsOf index patterns
-list_plan index FreeForm position patterns = AnyWordOf index patterns
-list_plan index _ position patterns = PhraseOf index patterns (is_first position)
-
-abbrev pub ordered_plan : List ℕ → Values → ℕ → Structure → List (List Symbol) → Option Order → TermPlanValue
-ordered_plan text v index structure patterns (Some order) = OrderedOf index (register_of v) order (joined_words_if_any text)
-ordered_plan text v index structure patterns None =
-    if is_complete v.completeness then CompleteOf index (joined_if_any patterns) else list_plan index structure v.position patterns
+abbrev pub number_in : ℕ → ℕ → List ℕ → Result ℕ Refusal
+number_in most place text = kept_or 126 place (Some text) (number_of most text)
 
 unfoldable pub compared_plan : ℕ → List ℕ → Values → ℕ → Structure → List (List Symbol) → Relation → Result TermPlanValue Refusal
 compared_plan place text v index structure patterns relation =
-    checked_by (numeric_checks place text (asks_number structure))
-    (if asks_number structure then NumberOf index relation (digits_value 10 text) else
-    ordered_plan text v index structure patterns (order_of relation))
+    if asks_number structure then (number_in many place text >>= λ number. Ok (NumberOf index relation number)) else (
+    Ok (texts_asked v index structure text patterns (order_of relation)))
 
--- where a scan begins
-unfoldable pub scan_start : ℕ → List ℕ → Values → Result (List ℕ) Refusal
-scan_start place text v =
-    checked_by (numeric_checks place text (is_numeric v.subject))
-    (if is_numeric v.subject then number_key (digits_value 10 text) else joined_words text)
+abbrev pub related_plan : ℕ → List ℕ → Values → ℕ → Structure → List (List Symbol) → Asked → Result TermPlanValue Refusal
+related_plan place text v index structure patterns Always = Ok (AlwaysOf index (register_of v))
+related_plan place text v index structure patterns (Compared relation) = compared_plan place text v index structure patterns relation
 
--- ---- terms, operands and whole queries, by their checks
+abbrev pub subject_plan : ℕ → List ℕ → Values → List (List Symbol) → Subject → Result TermPlanValue Refusal
+subject_plan place text v patterns Record = number_in few place text >>= λ number. Ok (RecordNumberOf number)
+subject_plan place text v patterns (Entries index structure) = related_plan place text v index structure patterns v.relation
 
--- a term in a find and in a scan, over which the set is named and the head stands
-unfoldable pub leaf_plan : Profile → Option (List ℕ) → HeadValue → ℕ → List ℕ → Result TermPlanValue Refusal
-leaf_plan profile set head place text =
-    let h = holding_of set head in checked_by (find_checks profile place h text) (plan_asked profile h text)
+unfoldable pub leaf_plan : Profile → HoldingValue → ℕ → List ℕ → Result TermPlanValue Refusal
+leaf_plan profile h place text = do
+  read ← term_taken profile Find place text h
+  subject_plan place text read.0 read.1 read.0.subject
 
-unfoldable pub leaf_scan : Profile → Option (List ℕ) → HeadValue → ℕ → List ℕ → Result ScanValue Refusal
-leaf_scan profile set head place text =
-    let h = holding_of set head in checked_by (scan_checks profile place h text) (scan_asked profile h text)
+unfoldable pub scan_start : ℕ → List ℕ → Subject → Result (List ℕ) Refusal
+scan_start place text subject =
+    if is_numeric subject then (number_in many place text >>= λ number. Ok (number_key number)) else Ok (joined_words text)
 
--- an operand's index, and the pattern of its word
+unfoldable pub leaf_scan : Profile → HoldingValue → ℕ → List ℕ → Result ScanValue Refusal
+leaf_scan profile h place text = do
+  read ← term_taken profile Scan place text h
+  index ← subject_index place read.0.subject
+  start ← scan_start place text read.0.subject
+  Ok (record { index = index; register = register_of read.0; start = start })
+
+-- ---- proximity
+
+abbrev pub parameter_kept : ℕ → List ℕ → Bool → Result (Unit {0}) Refusal
+parameter_kept place text is_kept = passed (check place 110 text (not is_kept))
+
+unfoldable pub separation_read : ℕ → ParametersValue → Result Separation Refusal
+separation_read place p = do
+  _ ← parameter_kept place p.exclusion (bytes_eq p.exclusion (codes "0"))
+  distance ← kept_or 110 place (Some p.distance) (number_of few p.distance)
+  ordered ← kept_or 110 place (Some p.ordered) (kept_text orderings p.ordered)
+  relation ← kept_or 110 place (Some p.relation) (kept_text distance_relations p.relation)
+  _ ← parameter_kept place p.which_code (bytes_eq p.which_code (codes "k") || bytes_eq p.which_code (codes "known"))
+  _ ← parameter_kept place p.unit_code (bytes_eq p.unit_code (codes "2"))
+  Ok (record { distance = distance; ordered = ordered; relation = relation })
+
+-- the index and the one pattern of a term near another
 unfoldable pub word_near : Profile → Operand → Result (ℕ × List Symbol) Refusal
-word_near profile o = checked_by (operand_checks profile o) (index_held profile o.held, operand_pattern o)
+word_near profile o = do
+  read ← term_taken profile Near o.place o.text o.held
+  index ← subject_index o.place read.0.subject
+  pattern ← kept_or 123 o.place None (one_of read.1)
+  Ok (index, pattern)
+
+-- the plan of `@prox` behind its parameters: its operands from the left, and then their indexes, which have to be one
+abbrev pub operands_plan : Profile → ℕ → Separation → Option Operand → Option Operand → Result PlanValue Refusal
+operands_plan profile place separation (Some one) (Some other) = do
+  left ← word_near profile one
+  right ← word_near profile other
+  _ ← passed (check place 123 [] (not (left.0 == right.0)))
+  Ok (NearOf left.0 left.1 right.1 separation)
+operands_plan profile place separation (Some one) None = refused 110 place (operator_word Proximity)
+operands_plan profile place separation None other = refused 110 place (operator_word Proximity)
 
 unfoldable pub near_plan : Profile → ℕ → ParametersValue → Option Operand → Option Operand → Result PlanValue Refusal
-near_plan profile place parameters left right =
-    checked_by (proximity_checks profile place parameters left right) (near_asked profile parameters left right)
+near_plan profile place parameters left right = do
+  separation ← separation_read place parameters
+  operands_plan profile place separation left right
 
-unfoldable pub tree_plan : Profile → Option (List ℕ) → HeadValue → TreeValue → Result PlanValue Refusal
-tree_plan profile set outer tree = checked_by (checks_in profile set outer tree) (tree_asked profile set outer tree)
+-- ---- whole queries
+
+abbrev pub tree_plan : Profile → Option (List ℕ) → HeadValue → TreeValue → Result PlanValue Refusal
+tree_plan profile set outer (TermValue place head text) =
+    leaf_plan profile (holding_of set (heads outer head)) place text >>= λ plan. Ok (TermOf plan)
+tree_plan profile set outer (NamedValue place head name) = refused 18 place name
+tree_plan profile set outer (PairValue place head (BooleanOf op) left right) = do
+  one ← tree_plan profile set (heads outer head) left
+  other ← tree_plan profile set (heads outer head) right
+  Ok (PairOf op one other)
+tree_plan profile set outer (PairValue place head (ProximityOf parameters) left right) =
+    near_plan profile place parameters (operand_of set (heads outer head) left) (operand_of set (heads outer head) right)

@@ -1,6 +1,6 @@
 -- What only the contracts of private functions speak of; no public clause reaches it.
 -- What the functions that read a text give, in the words of the grammar.
-use Rattle.std.specs.Prelude.{ℕ, List, ◌++◌, map, string_bytes, ◌≡◌, [], ◌∷◌, true, false, Bool, Option, Some, None, length, ◌==◌, if◌then◌else◌}
+use Rattle.std.specs.Prelude.{ℕ, List, ◌++◌, map, string_bytes, ◌≡◌, [], ◌∷◌, true, false, Bool, Option, Some, None, ◌==◌, if◌then◌else◌}
 use Rattle.std.specs.List.{list_all}
 use Rattle.std.specs.Borrow.{Bor}
 use Rattle.std.specs.Option.{option_copied}

@@ -58,6 +58,10 @@ times (suc n) text = text ++ times n text
 abbrev pub quoted : List ℕ → List ℕ
 quoted text = 34 ∷ (text ++ 34 ∷ [])
 
+-- 65 words in one term
+abbrev pub words_65 : List ℕ
+words_65 = quoted (times 64 (codes "a ") ++ codes "a")
+
 -- ---- plans: a word of an index, the same as the first of its unit, an entry of Title by `dick`, a date by 951, and the words a and b
 abbrev pub word_in : ℕ → List ℕ → Result PlanValue Refusal
 word_in index word = Ok (TermOf (PhraseOf index (literal word ∷ []) false))

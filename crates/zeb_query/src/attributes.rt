@@ -1,8 +1,7 @@
 //! The values of a term's attributes that are kept, each type an enum of its own.
 ghost use Rattle.std.specs.Prelude.{◌≡◌};
 ghost use Rattle.std.specs.Option.{option_copied};
-ghost use Rattle.zeb_query.specs.PrivateValues.{relations, positions, structures, completenesses, asks_number};
-ghost use Rattle.zeb_query.specs.Attributes.{default_completeness, default_position, default_relation, default_structure, default_truncation, is_among, local_numbers, truncations, number_or, value_of, order_of};
+ghost use Rattle.zeb_query.specs.Attributes as values;
 
 use crate::digits::short_number;
 use crate::{Order, Relation};
@@ -10,7 +9,7 @@ use zeb_text::Cut;
 
 /// What a relation attribute asks for (Bib-1, attribute type 2).
 #[derive(Clone, Copy, Debug, PartialEq, Eq)]
-pub(crate) enum Asked {
+pub enum Asked {
     /// Values 1 to 5.
     Compared(Relation),
     /// 103, always matches.
@@ -20,7 +19,7 @@ pub(crate) enum Asked {
 impl Relation {
     /// The order that it is, if it isn't equality.
     pub(crate) fn order(self) -> Option<Order>
-        ensures { result ≡ order_of self }
+        ensures { result ≡ values.order_of self }
     {
         match self {
             Relation::Less => Some(Order::Less),
@@ -34,7 +33,7 @@ impl Relation {
 
 /// Where in a field a term stands (Bib-1, attribute type 3).
 #[derive(Clone, Copy, Debug, PartialEq, Eq)]
-pub(crate) enum Position {
+pub enum Position {
     /// 1, first in field, and 2, first in subfield, which this project treats alike.
     First,
     /// 3, any position.
@@ -43,7 +42,7 @@ pub(crate) enum Position {
 
 /// How a term that is looked up in an index is read (Bib-1, attribute type 4).
 #[derive(Clone, Copy, Debug, PartialEq, Eq)]
-pub(crate) enum Structure {
+pub enum Structure {
     /// 1, phrase, and 2, word, which this project treats alike.
     Phrase,
     /// 6, word list.
@@ -56,7 +55,7 @@ pub(crate) enum Structure {
 
 impl Structure {
     pub(crate) fn is_numeric(self) -> bool
-        ensures { result ≡ asks_number self }
+        ensures { result ≡ values.asks_number self }
     {
         self == Structure::Numeric
     }
@@ -64,7 +63,7 @@ impl Structure {
 
 /// How much of a field a term stands for (Bib-1, attribute type 6).
 #[derive(Clone, Copy, Debug, PartialEq, Eq)]
-pub(crate) enum Completeness {
+pub enum Completeness {
     /// 1, incomplete subfield.
     Incomplete,
     /// 2, complete subfield, and 3, complete field, which this project treats alike.
@@ -72,20 +71,20 @@ pub(crate) enum Completeness {
 }
 
 /// The number that an attribute's value spells, or the default where there is no attribute of the type.
-fn number_or(value: Option<&str>, default: u32) -> Option<u32>
-    ensures { result ≡ number_or default (option_copied value.entry) }
+fn number_or(text: Option<&str>, default: u32) -> Option<u32>
+    ensures { result ≡ values.number_or default (option_copied text.entry) }
 {
-    match value {
+    match text {
         None => Some(default),
         Some(text) => short_number(text),
     }
 }
 
 /// The relation, equal where there is no attribute; nothing for a value that isn't kept.
-pub(crate) fn relation_of(value: Option<&str>) -> Option<Asked>
-    ensures { result ≡ value_of relations default_relation (option_copied value.entry) }
+pub(crate) fn relation_of(text: Option<&str>) -> Option<Asked>
+    ensures { result ≡ values.relation_of (option_copied text.entry) }
 {
-    match number_or(value, 3)? {
+    match number_or(text, 3)? {
         1 => Some(Asked::Compared(Relation::Less)),
         2 => Some(Asked::Compared(Relation::LessOrEqual)),
         3 => Some(Asked::Compared(Relation::Equal)),
@@ -97,10 +96,10 @@ pub(crate) fn relation_of(value: Option<&str>) -> Option<Asked>
 }
 
 /// The position, any where there is no attribute; nothing for a value that isn't kept.
-pub(crate) fn position_of(value: Option<&str>) -> Option<Position>
-    ensures { result ≡ value_of positions default_position (option_copied value.entry) }
+pub(crate) fn position_of(text: Option<&str>) -> Option<Position>
+    ensures { result ≡ values.position_of (option_copied text.entry) }
 {
-    match number_or(value, 3)? {
+    match number_or(text, 3)? {
         1 | 2 => Some(Position::First),
         3 => Some(Position::Any),
         _ => None,
@@ -108,21 +107,20 @@ pub(crate) fn position_of(value: Option<&str>) -> Option<Position>
 }
 
 /// Whether the structure is 107, local number, which this project reads as the record's system number, in no index.
-pub(crate) fn is_local_number(value: Option<&str>) -> bool
-    ensures { result ≡ is_among local_numbers
-        (number_or default_structure (option_copied value.entry)) }
+pub(crate) fn is_local_number(text: Option<&str>) -> bool
+    ensures { result ≡ values.is_local_number (option_copied text.entry) }
 {
-    match number_or(value, 1) {
+    match number_or(text, 1) {
         Some(number) => number == 107,
         None => false,
     }
 }
 
 /// Another structure, a phrase where there is no attribute; nothing for a value that isn't kept.
-pub(crate) fn structure_of(value: Option<&str>) -> Option<Structure>
-    ensures { result ≡ value_of structures default_structure (option_copied value.entry) }
+pub(crate) fn structure_of(text: Option<&str>) -> Option<Structure>
+    ensures { result ≡ values.structure_of (option_copied text.entry) }
 {
-    match number_or(value, 1)? {
+    match number_or(text, 1)? {
         1 | 2 => Some(Structure::Phrase),
         6 => Some(Structure::WordList),
         105 => Some(Structure::FreeForm),
@@ -132,10 +130,10 @@ pub(crate) fn structure_of(value: Option<&str>) -> Option<Structure>
 }
 
 /// The truncation (Bib-1, attribute type 5), none where there is no attribute; nothing for a value that isn't kept.
-pub(crate) fn truncation_of(value: Option<&str>) -> Option<Cut>
-    ensures { result ≡ value_of truncations default_truncation (option_copied value.entry) }
+pub(crate) fn truncation_of(text: Option<&str>) -> Option<Cut>
+    ensures { result ≡ values.truncation_of (option_copied text.entry) }
 {
-    match number_or(value, 100)? {
+    match number_or(text, 100)? {
         1 => Some(Cut::Right),
         2 => Some(Cut::Left),
         3 => Some(Cut::Both),
@@ -146,10 +144,10 @@ pub(crate) fn truncation_of(value: Option<&str>) -> Option<Cut>
 }
 
 /// The completeness, incomplete where there is no attribute; nothing for a value that isn't kept.
-pub(crate) fn completeness_of(value: Option<&str>) -> Option<Completeness>
-    ensures { result ≡ value_of completenesses default_completeness (option_copied value.entry) }
+pub(crate) fn completeness_of(text: Option<&str>) -> Option<Completeness>
+    ensures { result ≡ values.completeness_of (option_copied text.entry) }
 {
-    match number_or(value, 1)? {
+    match number_or(text, 1)? {
         1 => Some(Completeness::Incomplete),
         2 | 3 => Some(Completeness::Complete),
         _ => None,

@@ -1,6 +1,10 @@
 //! The diagnostics by which a text or a query is refused.
-ghost use Rattle.std.specs.Prelude.{◌≡◌};
-ghost use Rattle.zeb_query.specs.PrivateReading.{condition_number};
+ghost use Rattle.std.specs.Prelude.{◌≡◌, []};
+ghost use Rattle.zeb_query.specs.PrivateReading.{IsDiagnostic, condition_number};
+
+use crate::QueryFault;
+use std::alloc::Global;
+
 /// A condition of the list Bib-1 (ANSI/NISO Z39.50-2003, Appendix ERR). Which fault has which is this project's own choice.
 #[derive(Clone, Copy, Debug, PartialEq, Eq)]
 pub(crate) enum Condition {
@@ -27,9 +31,43 @@ pub(crate) enum Condition {
 }
 
 impl Condition {
-    pub(crate) fn number(self) -> u32
+    fn number(self) -> u32
         ensures { result ≡ condition_number self }
     {
         self as u32
+    }
+}
+
+/// Where a text or a query may be refused: a position in bytes from the start of the text.
+#[derive(Clone, Copy)]
+pub(crate) struct Site {
+    pub alloc: Global,
+    pub place: usize,
+}
+
+impl Site {
+    /// A diagnostic without an addinfo.
+    pub(crate) fn refused(self, condition: Condition) -> QueryFault
+        ensures { IsDiagnostic result (condition_number condition) self.place [] }
+    {
+        QueryFault::Diagnostic {
+            number: condition.number(),
+            place: self.place,
+            addinfo: String::new(self.alloc),
+        }
+    }
+
+    /// A diagnostic about a text. Where there is no memory for that, the fault is `Memory`.
+    pub(crate) fn about(self, condition: Condition, text: &str) -> QueryFault
+        ensures { IsDiagnostic result (condition_number condition) self.place text.now }
+    {
+        match String::from_str(self.alloc, text) {
+            Ok(addinfo) => QueryFault::Diagnostic {
+                number: condition.number(),
+                place: self.place,
+                addinfo,
+            },
+            Err(_) => QueryFault::Memory,
+        }
     }
 }

@@ -6,7 +6,7 @@ ghost use Rattle.zeb_query.specs.Places.{IsReadable, IsFaulty};
 ghost use Rattle.zeb_query.specs.Plans.{TermOf, PairOf, NearOf, RecordNumberOf, AlwaysOf, CompleteOf, PhraseOf, AllWordsOf, AnyWordOf};
 ghost use Rattle.zeb_query.specs.Checks.{refused};
 ghost use Rattle.zeb_profile.specs.Profiles.{profile_of};
-ghost use Rattle.zeb_query.specs.Worked.{PlansAs, PlansUnder, ScansAs, a_near_b, date_by, dick_by, first_in, quoted, sample_profile, times, titles_alone, word_in};
+ghost use Rattle.zeb_query.specs.Worked.{PlansAs, PlansUnder, ScansAs, a_near_b, date_by, dick_by, first_in, quoted, sample_profile, times, titles_alone, word_in, words_65};
 
 use crate::{DistanceRelation, Operator, Order, Relation};
 
@@ -54,17 +54,55 @@ pub fn diagnostics_at_examples()
     ensures terms { PlansAs (codes "@set r") (refused 18 0 (codes "r"))
         × PlansAs (codes "@attr 1=31 @attr 4=109 x1") (refused 126 23 (codes "x1"))
         × PlansAs (codes "@attr 4=107 x") (refused 126 12 (codes "x"))
-        × PlansAs (quoted (times 64 (codes "a ") ++ codes "a")) (refused 5 0 [])
+        × PlansAs words_65 (refused 5 0 [])
         × PlansAs (codes "@and @attr 2=6 x @attr 1=9999 y") (refused 117 15 (codes "6")) }
-    ensures combinations { PlansAs (codes "@attr 1=31 1851") (refused 123 11 [])
-        × PlansAs (codes "@attr 4=107 @attr 3=1 1") (refused 123 22 [])
-        × PlansAs (codes "@attr 4=107 @attr 2=4 1") (refused 123 22 [])
-        × PlansAs (codes "@attr 4=6 @attr 6=2 x") (refused 123 20 [])
-        × PlansAs (codes "@attr 4=105 @attr 2=1 x") (refused 123 22 [])
-        × PlansAs (codes "@attr 2=4 @attr 5=1 x") (refused 123 20 [])
-        × PlansAs (codes "@attr 1=31 @attr 4=109 @attr 5=1 1851") (refused 123 33 []) }
     ensures defaults { PlansUnder titles_alone (codes "whale") (refused 116 0 [])
         × PlansUnder titles_alone (codes "@attr 1=1016 x") (refused 114 13 (codes "1016")) }
+{}
+
+/// Values that aren't taken together under that profile, for which 123 refuses a term; and values of other types beside structure 109
+/// or relation 103 that are taken.
+pub fn combinations_at_examples()
+    ensures numbers { PlansAs (codes "@attr 4=107 @attr 3=1 1") (refused 123 22 [])
+        × PlansAs (codes "@attr 4=107 @attr 5=1 1") (refused 123 22 [])
+        × PlansAs (codes "@attr 4=107 @attr 6=2 1") (refused 123 22 [])
+        × PlansAs (codes "@attr 4=107 @attr 2=4 1") (refused 123 22 [])
+        × PlansAs (codes "@attr 4=107 @attr 2=103 1") (refused 123 24 [])
+        × PlansAs (codes "@attr 1=31 @attr 4=109 @attr 3=1 1851") (refused 123 33 [])
+        × PlansAs (codes "@attr 1=31 @attr 4=109 @attr 5=1 1851") (refused 123 33 [])
+        × PlansAs (codes "@attr 1=31 @attr 4=109 @attr 6=2 1851") (refused 123 33 []) }
+    ensures lists { PlansAs (codes "@attr 4=6 @attr 3=1 x") (refused 123 20 [])
+        × PlansAs (codes "@attr 1=4 @attr 4=6 @attr 6=2 x") (refused 123 30 [])
+        × PlansAs (codes "@attr 4=6 @attr 2=5 x") (refused 123 20 [])
+        × PlansAs (codes "@attr 4=105 @attr 3=1 x") (refused 123 22 [])
+        × PlansAs (codes "@attr 1=4 @attr 4=105 @attr 6=2 x") (refused 123 32 [])
+        × PlansAs (codes "@attr 4=105 @attr 2=1 x") (refused 123 22 []) }
+    ensures orders { PlansAs (codes "@attr 2=4 @attr 3=1 x") (refused 123 20 [])
+        × PlansAs (codes "@attr 2=4 @attr 5=1 x") (refused 123 20 []) }
+    ensures registers { PlansAs (codes "@attr 1=31 1851") (refused 123 11 [])
+        × PlansAs (codes "@attr 6=2 x") (refused 123 10 []) }
+    ensures taken { PlansAs (codes "@attr 1=31 @attr 4=109 @attr 2=103 x")
+        (Ok (TermOf (AlwaysOf 1 Number)))
+        × PlansAs (codes "@attr 1=4 @attr 2=103 @attr 3=1 @attr 5=1 @attr 6=2 x")
+        (Ok (TermOf (AlwaysOf 0 Phrase)))
+        × PlansAs (codes "@attr 4=6 @attr 2=103 x") (Ok (TermOf (AlwaysOf 2 Word)))
+        × PlansAs (codes "@attr 2=103 " ++ words_65) (Ok (TermOf (AlwaysOf 2 Word))) }
+{}
+
+/// Two faults of one term under that profile: the first of their order is told, wherever its attribute stands.
+pub fn first_faults_at_examples()
+    ensures heads { PlansAs (codes "@attr exp-1 1=4 @term no x") (refused 229 25 (codes "no"))
+        × PlansAs (codes "@attr 7=1 @attr exp-1 1=4 x") (refused 121 26 (codes "exp-1"))
+        × PlansAs (codes "@attr 1=9999 @attr 7=1 x") (refused 113 23 (codes "7")) }
+    ensures values { PlansAs (codes "@attr 2=6 @attr 1=9999 x") (refused 114 23 (codes "9999"))
+        × PlansUnder titles_alone (codes "@attr 2=6 x") (refused 116 10 [])
+        × PlansAs (codes "@attr 3=4 @attr 2=6 x") (refused 117 20 (codes "6"))
+        × PlansAs (codes "@attr 4=3 @attr 3=4 x") (refused 119 20 (codes "4"))
+        × PlansAs (codes "@attr 5=102 @attr 4=3 x") (refused 118 22 (codes "3"))
+        × PlansAs (codes "@attr 6=4 @attr 5=102 x") (refused 120 22 (codes "102"))
+        × PlansAs (codes "@attr 6=4 " ++ words_65) (refused 122 10 (codes "4")) }
+    ensures texts { PlansAs (codes "@attr 2=4 @attr 5=1 " ++ words_65) (refused 5 20 [])
+        × PlansAs (codes "@attr 4=107 @attr 3=1 x") (refused 123 22 []) }
 {}
 
 /// Queries under that profile and their plans.
@@ -133,13 +171,24 @@ pub fn proximity_at_examples()
     ensures parameters { PlansAs (codes "@prox 1 1 0 2 k 2 a b") (refused 110 0 (codes "1"))
         × PlansAs (codes "@prox 0 1 0 7 k 2 a b") (refused 110 0 (codes "7"))
         × PlansAs (codes "@prox 0 1 0 2 p 2 a b") (refused 110 0 (codes "p")) }
-    ensures operands { PlansAs (codes "@prox 0 1 0 2 k 2 @attr 6=3 a b") (refused 123 28 [])
+    ensures operands { PlansAs (codes "@prox 0 1 0 2 k 2 @attr 1=4 moby dick") (refused 123 0 [])
         × PlansAs (codes "@prox 0 1 0 2 k 2 a @and b c") (refused 110 0 (codes "@prox"))
         × PlansAs (codes "@prox 0 1 0 2 k 2 a " ++ quoted (codes "b c")) (refused 123 20 [])
-        × PlansAs (codes "@prox 0 1 0 2 k 2 @attr 1=4 moby dick") (refused 123 0 []) }
+        × PlansAs (codes "@prox 0 1 0 2 k 2 a " ++ quoted []) (refused 123 20 []) }
+    ensures values { PlansAs (codes "@prox 0 1 0 2 k 2 @attr 2=4 a b") (refused 123 28 [])
+        × PlansAs (codes "@prox 0 1 0 2 k 2 @attr 2=103 a b") (refused 123 30 [])
+        × PlansAs (codes "@prox 0 1 0 2 k 2 @attr 3=1 a b") (refused 123 28 [])
+        × PlansAs (codes "@prox 0 1 0 2 k 2 @attr 4=6 a b") (refused 123 28 [])
+        × PlansAs (codes "@prox 0 1 0 2 k 2 @attr 4=105 a b") (refused 123 30 [])
+        × PlansAs (codes "@prox 0 1 0 2 k 2 @attr 4=107 1 b") (refused 123 30 [])
+        × PlansAs (codes "@prox 0 1 0 2 k 2 @attr 1=31 @attr 4=109 1 b") (refused 123 41 [])
+        × PlansAs (codes "@prox 0 1 0 2 k 2 @attr 1=4 @attr 6=2 a b") (refused 123 38 []) }
     ensures near { PlansAs (codes "@prox 0 1 1 2 known 2 Dick moby") (Ok (NearOf 2
         (literal (codes "dick")) (literal (codes "moby"))
         record { distance = 1; ordered = true; relation = DistanceRelation.LessOrEqual }))
+        × PlansAs (codes "@prox 0 1 0 2 k 2 a @attr 5=1 b") (Ok (NearOf 2
+        (literal (codes "a")) (literal (codes "b") ++ Star ∷ [])
+        record { distance = 1; ordered = false; relation = DistanceRelation.LessOrEqual }))
         × PlansAs (codes "@prox 0 1 0 1 k 2 a b") (a_near_b DistanceRelation.Less)
         × PlansAs (codes "@prox 0 1 0 3 k 2 a b") (a_near_b DistanceRelation.Equal)
         × PlansAs (codes "@prox 0 1 0 4 k 2 a b") (a_near_b DistanceRelation.GreaterOrEqual)
@@ -156,6 +205,10 @@ pub fn scans_at_examples()
         × ScansAs (codes "@attr 1=31 @attr 4=109 1851")
         (Ok record { index = 1; register = Number; start = codes "000000000000001851" }) }
     ensures values { ScansAs (codes "@attr 2=103 a") (refused 123 12 [])
+        × ScansAs (codes "@attr 2=1 a") (refused 123 10 [])
+        × ScansAs (codes "@attr 2=2 a") (refused 123 10 [])
+        × ScansAs (codes "@attr 2=4 a") (refused 123 10 [])
+        × ScansAs (codes "@attr 2=5 a") (refused 123 10 [])
         × ScansAs (codes "@attr 3=1 a") (refused 123 10 [])
         × ScansAs (codes "@attr 5=1 a") (refused 123 10 [])
         × ScansAs (codes "@attr 4=6 a") (refused 123 10 [])

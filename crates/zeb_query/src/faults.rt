@@ -2,8 +2,7 @@
 ghost use Rattle.std.specs.Prelude.{◌≡◌};
 ghost use Rattle.zeb_query.specs.declared.faults.QueryFault.TheVariants.{Memory};
 
-use crate::diagnostics::Condition;
-use std::alloc::{AllocError, AllocFailed, Global};
+use std::alloc::{AllocError, AllocFailed};
 use std::fmt;
 use thiserror::Error;
 
@@ -39,36 +38,6 @@ impl fmt::Display for Told<'_> {
         }
         f.write_str(": ")?;
         f.write_str(self.0)
-    }
-}
-
-impl QueryFault {
-    ghost use Rattle.std.specs.Prelude.{[]};
-    ghost use Rattle.zeb_query.specs.PrivateReading.{IsDiagnostic, condition_number};
-
-    /// A diagnostic without an addinfo.
-    pub(crate) fn diagnostic(alloc: Global, condition: Condition, place: usize) -> QueryFault
-        ensures { IsDiagnostic result (condition_number condition) place [] }
-    {
-        QueryFault::Diagnostic {
-            number: condition.number(),
-            place,
-            addinfo: String::new(alloc),
-        }
-    }
-
-    /// A diagnostic about a text. Where there is no memory for that, the fault is `Memory`.
-    pub(crate) fn about(alloc: Global, condition: Condition, place: usize, text: &str) -> QueryFault
-        ensures { IsDiagnostic result (condition_number condition) place text.now }
-    {
-        match String::from_str(alloc, text) {
-            Ok(addinfo) => QueryFault::Diagnostic {
-                number: condition.number(),
-                place,
-                addinfo,
-            },
-            Err(_) => QueryFault::Memory,
-        }
     }
 }
 

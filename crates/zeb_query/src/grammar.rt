@@ -7,7 +7,7 @@ ghost use Rattle.zeb_query.specs.PrivateReading.{SpellsHead, SpellsParameters, S
 ghost use Rattle.zeb_query.specs.Grammar.{attribute_value, connective_value, head_value, parameters_value, tree_value, query_value, PairValue, IsQuery, kind_and_value, has_equals, heads};
 ghost use Rattle.zeb_query.specs.PrivateWalk.{Start, Structures, SetOrSpec, Spec, MoreWords, fault, words_then};
 
-use crate::diagnostics::Condition;
+use crate::diagnostics::{Condition, Site};
 use crate::digits::short_number;
 use crate::keywords::{Keyword, OperatorWord};
 use crate::words::{Spelling, Word};
@@ -41,7 +41,7 @@ impl<'a> Rest<'a> {
             Some(word) => word.place,
             None => self.end,
         };
-        QueryFault::diagnostic(alloc, Condition::MalformedQuery, place)
+        Site { alloc, place }.refused(Condition::MalformedQuery)
     }
 
     /// The first word, whatever it is but a bad one, and what follows it.
@@ -308,7 +308,7 @@ fn connective_of<'a>(
     let (word, after) = rest.word(alloc)?;
     let place = word.place;
     if after.room == 0 {
-        return Err(QueryFault::diagnostic(alloc, Condition::TooManyOperators, place));
+        return Err(Site { alloc, place }.refused(Condition::TooManyOperators));
     }
     let after = Rest {
         room: after.room - 1,

@@ -26,6 +26,7 @@ mod terms;
 mod values;
 mod words;
 
+pub use attributes::{Asked, Completeness, Position, Structure};
 pub use faults::QueryFault;
 pub use planning::plan;
 pub use plans::{
@@ -35,3 +36,4 @@ pub use plans::{
 pub use queries::{Attribute, Connective, Head, Leaf, Parameters, Query, Tree};
 pub use reading::read_pqf;
 pub use scanning::plan_scan;
+pub use values::{Subject, Values};

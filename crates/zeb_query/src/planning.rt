@@ -1,16 +1,15 @@
 //! The plan of a query, or its first diagnostic.
 ghost use Rattle.std.specs.Prelude.{◌≡◌, List, ℕ, Option, ◌<◌, ◌^◌, IfOk, string_bytes};
 ghost use Rattle.std.specs.Option.{option_map};
-ghost use Rattle.zeb_query.specs.Grammar.{HeadValue, tree_value, query_value, head_value, heads, few, many};
+ghost use Rattle.zeb_query.specs.Grammar.{HeadValue, tree_value, query_value, head_value, heads, many};
 ghost use Rattle.zeb_query.specs.Checks.{Gives};
-ghost use Rattle.zeb_query.specs.Attributes.{holding_of};
+ghost use Rattle.zeb_query.specs.Attributes as attributes;
 ghost use Rattle.zeb_query.specs.PrivateReading.{IsDiagnostic, holding_value};
 ghost use Rattle.zeb_query.specs.Plans as plans;
-ghost use Rattle.zeb_query.specs.Attributes as term_words;
 ghost use Rattle.zeb_query.specs.PrivatePlanning as steps;
 
 use crate::attributes::{Asked, Completeness, Position, Structure};
-use crate::diagnostics::Condition;
+use crate::diagnostics::{Condition, Site};
 use crate::digits::{long_number, short_number};
 use crate::holding::Holding;
 use crate::proximity::plan_near;
@@ -28,9 +27,10 @@ use zeb_text::{Pattern, join, join_patterns, words};
 /// The checks of its operators, named sets and terms stand in the order of the text, and the first that applies is answered, with
 /// the place of the operator's word, of `@set` or of the term:
 /// - 18 at a named result set, about its name;
-/// - at `@prox`, 110 about the first of its parameters that isn't kept, or about `@prox` where an operand isn't a term; then the faults of its operands, for which 123 is answered also for a relation other than
-///   equal, a position other than any, a structure other than phrase and word, a completeness other than incomplete, and a
-///   number of words other than one; and last 123 where their indexes differ;
+/// - at `@prox`, 110 about the first of its parameters that isn't kept, or about `@prox` where an operand isn't a term; then the
+///   faults of its operands, for which 123 is answered also for a relation other than equal, a position other than any, a
+///   structure other than phrase and word, a completeness other than incomplete, and a number of words other than one; and last
+///   123 where their indexes differ;
 /// - at a term, 229 about a term type other than `general` and `string`; 121 about the leftmost attribute set other
 ///   than Bib-1 over the term; 113 about the leftmost attribute type outside 1 to 6;
 /// - 114, 117, 119, 118, 120, 122 about the value of an attribute of type 1 to 6 that isn't kept, in the order of the
@@ -51,7 +51,6 @@ pub fn plan(alloc: Global, query: &Query, profile: &Profile) -> Result<Plan, Que
 }
 
 /// The plan of a structure over which these attributes hold.
-#[tactic(auto, using(crate::proofs::TreeSteps::tree_term, crate::proofs::TreeSteps::tree_named, crate::proofs::TreeSteps::tree_boolean, crate::proofs::TreeSteps::tree_near))]
 fn plan_tree(
     alloc: Global,
     tree: &Tree,
@@ -59,7 +58,7 @@ fn plan_tree(
     profile: &Profile,
 ) -> Result<Plan, QueryFault>
     ensures { (set : Option (List ℕ)) (outer : HeadValue)
-        → holding_value over.entry ≡ holding_of set outer
+        → holding_value over.entry ≡ attributes.holding_of set outer
         → Gives plans.plan_value result
         (steps.tree_plan profile.now set outer (tree_value tree.now)) }
 {
@@ -81,7 +80,15 @@ fn plan_tree(
                     Ok(pair_plan(alloc, *operator, left, right)?)
                 }
                 Connective::Proximity(parameters) => {
-                    plan_near(alloc, *place, parameters, left, right, holding, profile)
+                    let place = *place;
+                    plan_near(
+                        Site { alloc, place },
+                        parameters,
+                        left,
+                        right,
+                        holding,
+                        profile,
+                    )
                 }
             }
         }
@@ -91,7 +98,8 @@ fn plan_tree(
 pub(crate) fn named_set(alloc: Global, leaf: &Leaf) -> QueryFault
     ensures { IsDiagnostic result 18 leaf.now.place (string_bytes leaf.now.text) }
 {
-    QueryFault::about(alloc, Condition::ResultSet, leaf.place, leaf.text.as_str())
+    let place = leaf.place;
+    Site { alloc, place }.about(Condition::ResultSet, leaf.text.as_str())
 }
 
 fn pair_plan(alloc: Global, operator: Operator, left: Plan, right: Plan) -> Result<Plan, AllocError>
@@ -106,7 +114,7 @@ fn pair_plan(alloc: Global, operator: Operator, left: Plan, right: Plan) -> Resu
     Ok(Plan::Pair(Box::new(alloc, pair)?))
 }
 
-#[tactic(auto, using(crate::proofs::PlanCheckLemmas::leaf_steps), unfolding(crate::proofs::PlanSteps::term_plan))]
+#[tactic(auto, unfolding(crate::specs::PrivatePlanning::leaf_plan))]
 fn plan_leaf(
     alloc: Global,
     leaf: &Leaf,
@@ -114,15 +122,19 @@ fn plan_leaf(
     profile: &Profile,
 ) -> Result<TermPlan, QueryFault>
     ensures { (set : Option (List ℕ)) (outer : HeadValue)
-        → holding_value over.entry ≡ holding_of set outer
-        → Gives plans.term_plan_value result
-        (steps.leaf_plan profile.now set (heads outer (head_value leaf.now.head))
+        → holding_value over.entry ≡ attributes.holding_of set outer
+        → Gives plans.term_plan_value result (steps.leaf_plan profile.now
+        (attributes.holding_of set (heads outer (head_value leaf.now.head)))
         leaf.now.place (string_bytes leaf.now.text)) }
 {
+    let place = leaf.place;
+    let site = Site { alloc, place };
+    let text = leaf.text.as_str();
     let holding = over.within(&leaf.head);
-    let (values, patterns) = taken_term(alloc, leaf, &holding, profile, Purpose::Find)?;
+    let (values, patterns) = taken_term(site, text, &holding, profile, Purpose::Find)?;
     let Subject::Entries { index, structure } = values.subject else {
-        return Ok(TermPlan::RecordNumber(system_number_in(alloc, leaf)?));
+        let number = kept(site, Condition::TermValue, Some(text), short_number(text))?;
+        return Ok(TermPlan::RecordNumber(number));
     };
     match values.relation {
         Asked::Always => Ok(TermPlan::Always {
@@ -130,49 +142,32 @@ fn plan_leaf(
             register: values.register(),
         }),
         Asked::Compared(relation) => {
-            compared(alloc, leaf, &values, index, structure, relation, patterns)
+            compared(site, text, &values, index, structure, relation, patterns)
         }
     }
 }
 
-/// The system number that a term has to be.
-#[tactic(auto, using(crate::proofs::PlanCheckLemmas::number_steps))]
-fn system_number_in(alloc: Global, leaf: &Leaf) -> Result<u64, QueryFault>
-    ensures { Gives (λ x. x) result
-        (steps.number_in few leaf.now.place (string_bytes leaf.now.text)) }
-{
-    let text = leaf.text.as_str();
-    let found = short_number(text);
-    let number = kept(alloc, Condition::TermValue, leaf.place, Some(text), found)?;
-    Ok(number as u64)
-}
-
 /// The number that a term has to be, which the register of numbers may have.
-#[tactic(auto, using(crate::proofs::PlanCheckLemmas::number_steps))]
-pub(crate) fn number_in(alloc: Global, leaf: &Leaf) -> Result<u64, QueryFault>
-    ensures gives { Gives (λ x. x) result
-        (steps.number_in many leaf.now.place (string_bytes leaf.now.text)) }
+pub(crate) fn number_in(site: Site, text: &str) -> Result<u64, QueryFault>
+    ensures gives { Gives (λ x. x) result (steps.number_in many site.place text.now) }
     ensures small { IfOk result (λ number. number < 10 ^ many) }
 {
-    let text = leaf.text.as_str();
-    let number = long_number(text);
-    kept(alloc, Condition::TermValue, leaf.place, Some(text), number)
+    kept(site, Condition::TermValue, Some(text), long_number(text))
 }
 
 /// The term's words with a space between.
-pub(crate) fn joined_words(alloc: Global, leaf: &Leaf) -> Result<String, AllocError>
-    ensures { IfOk result
-        (λ joined. string_bytes joined ≡ term_words.joined_words (string_bytes leaf.now.text)) }
+pub(crate) fn joined_words(alloc: Global, text: &str) -> Result<String, AllocError>
+    ensures { IfOk result (λ joined. string_bytes joined ≡ attributes.joined_words text.now) }
 {
-    join(alloc, &words(alloc, leaf.text.as_str())?)
+    join(alloc, &words(alloc, text)?)
 }
 
 /// The same, if the term has a word.
-fn joined_words_if_any(alloc: Global, leaf: &Leaf) -> Result<Option<String>, AllocError>
-    ensures { IfOk result (λ joined. option_map string_bytes joined
-        ≡ term_words.joined_words_if_any (string_bytes leaf.now.text)) }
+fn joined_words_if_any(alloc: Global, text: &str) -> Result<Option<String>, AllocError>
+    ensures { IfOk result (λ joined.
+        option_map string_bytes joined ≡ attributes.joined_words_if_any text.now) }
 {
-    let words = words(alloc, leaf.text.as_str())?;
+    let words = words(alloc, text)?;
     if words.is_empty() {
         Ok(None)
     } else {
@@ -181,22 +176,21 @@ fn joined_words_if_any(alloc: Global, leaf: &Leaf) -> Result<Option<String>, All
 }
 
 /// The plan of a term that is compared with the entries of an index.
-#[tactic(auto, using(crate::proofs::PlanCheckLemmas::compared_steps), unfolding(crate::proofs::TermSteps::compared_parts))]
+#[tactic(auto, unfolding(crate::specs::PrivatePlanning::compared_plan))]
 fn compared(
-    alloc: Global,
-    leaf: &Leaf,
+    site: Site,
+    text: &str,
     values: &Values,
     index: u32,
     structure: Structure,
     relation: Relation,
     patterns: Vec<Pattern>,
 ) -> Result<TermPlan, QueryFault>
-    ensures { Gives plans.term_plan_value result
-        (steps.compared_plan leaf.now.place (string_bytes leaf.now.text) values.now index structure
-        patterns.items relation) }
+    ensures { Gives plans.term_plan_value result (steps.compared_plan site.place text.now values.now
+        index structure patterns.items relation) }
 {
     if structure.is_numeric() {
-        let number = number_in(alloc, leaf)?;
+        let number = number_in(site, text)?;
         return Ok(TermPlan::Number {
             index,
             relation,
@@ -204,7 +198,7 @@ fn compared(
         });
     }
     if let Some(order) = relation.order() {
-        let start = joined_words_if_any(alloc, leaf)?;
+        let start = joined_words_if_any(site.alloc, text)?;
         return Ok(TermPlan::Ordered {
             index,
             register: values.register(),
@@ -212,16 +206,18 @@ fn compared(
             start,
         });
     }
-    if values.completeness == Completeness::Complete {
-        let pattern = joined_if_any(alloc, &patterns)?;
-        return Ok(TermPlan::Complete { index, pattern });
+    match values.completeness {
+        Completeness::Complete => {
+            let pattern = joined_if_any(site.alloc, &patterns)?;
+            Ok(TermPlan::Complete { index, pattern })
+        }
+        Completeness::Incomplete => Ok(words_plan(index, structure, values.position, patterns)),
     }
-    Ok(words_plan(index, structure, values.position, patterns))
 }
 
 /// The pattern of all words, if there is a word.
 fn joined_if_any(alloc: Global, patterns: &[Pattern]) -> Result<Option<Pattern>, AllocError>
-    ensures { IfOk result (λ pattern. pattern ≡ term_words.joined_if_any patterns.now) }
+    ensures { IfOk result (λ pattern. pattern ≡ attributes.joined_if_any patterns.now) }
 {
     if patterns.is_empty() {
         Ok(None)
@@ -237,7 +233,7 @@ fn words_plan(
     patterns: Vec<Pattern>,
 ) -> TermPlan
     ensures { plans.term_plan_value result
-        ≡ steps.list_plan index structure position patterns.items }
+        ≡ plans.words_asked index structure position Completeness.Incomplete patterns.items }
 {
     match structure {
         Structure::WordList => TermPlan::AllWords { index, patterns },

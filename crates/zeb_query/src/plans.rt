@@ -46,7 +46,7 @@ pub enum Order {
 #[derive(Debug, Drop)]
 pub enum TermPlan {
     /// The record with this system number, 0 to 999,999,999: what this project takes a local number for.
-    RecordNumber(u64),
+    RecordNumber(u32),
     /// The records that have any entry in the register of the index.
     Always {
         index: u32,

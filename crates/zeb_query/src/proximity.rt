@@ -1,13 +1,13 @@
 //! The plan of `@prox`: two words near each other in one unit.
-ghost use Rattle.std.specs.Prelude.{◌≡◌, List, ℕ, Option, Some, string_bytes, if◌then◌else◌};
-ghost use Rattle.zeb_query.specs.Grammar.{HeadValue, parameters_value, tree_value, head_value, heads};
-ghost use Rattle.zeb_query.specs.Checks.{Gives, refused, one_of, operand_of, kept_text, orderings, distance_relations, checked_by, parameter_checks, separation_of};
+ghost use Rattle.std.specs.Prelude.{◌≡◌, List, ℕ, Option, Some, string_bytes};
+ghost use Rattle.zeb_query.specs.Grammar.{HeadValue, parameters_value, tree_value, head_value, heads, kept_text};
+ghost use Rattle.zeb_query.specs.Checks.{Gives, one_of, operand_of, orderings, distance_relations};
 ghost use Rattle.zeb_query.specs.Attributes.{holding_of};
 ghost use Rattle.zeb_query.specs.PrivateReading.{holding_value};
 ghost use Rattle.zeb_query.specs.Plans.{plan_value};
-ghost use Rattle.zeb_query.specs.PrivatePlanning.{kept_or, word_near, near_plan};
+ghost use Rattle.zeb_query.specs.PrivatePlanning as steps;
 
-use crate::diagnostics::Condition;
+use crate::diagnostics::{Condition, Site};
 use crate::digits::short_number;
 use crate::holding::Holding;
 use crate::keywords::OperatorWord;
@@ -20,10 +20,9 @@ use zeb_text::Pattern;
 
 /// The plan of `@prox` and its operands: its parameters are looked at first, then the left operand, then the right one,
 /// and then whether both look into one index.
-#[tactic(auto, using(crate::proofs::NearLemmas::near_plan_steps))]
+#[tactic(auto, unfolding(crate::specs::PrivatePlanning::near_plan))]
 pub(crate) fn plan_near(
-    alloc: Global,
-    place: usize,
+    site: Site,
     parameters: &Parameters,
     left: &Tree,
     right: &Tree,
@@ -32,23 +31,18 @@ pub(crate) fn plan_near(
 ) -> Result<Plan, QueryFault>
     ensures { (set : Option (List ℕ)) (outer : HeadValue)
         → holding_value over.entry ≡ holding_of set outer
-        → Gives plan_value result (near_plan profile.now place (parameters_value parameters.now)
-        (operand_of set outer (tree_value left.now))
+        → Gives plan_value result (steps.near_plan profile.now site.place
+        (parameters_value parameters.now) (operand_of set outer (tree_value left.now))
         (operand_of set outer (tree_value right.now))) }
 {
-    let separation = separation_of(alloc, place, parameters)?;
+    let separation = separation_of(site, parameters)?;
     let (Tree::Term(left), Tree::Term(right)) = (left, right) else {
-        return Err(QueryFault::about(
-            alloc,
-            Condition::Operator,
-            place,
-            OperatorWord::Proximity.as_str(),
-        ));
+        return Err(site.about(Condition::Operator, OperatorWord::Proximity.as_str()));
     };
-    let (index, left) = near_operand(alloc, left, over, profile)?;
-    let (other, right) = near_operand(alloc, right, over, profile)?;
+    let (index, left) = near_operand(site.alloc, left, over, profile)?;
+    let (other, right) = near_operand(site.alloc, right, over, profile)?;
     if index != other {
-        return Err(QueryFault::diagnostic(alloc, Condition::Combination, place));
+        return Err(site.refused(Condition::Combination));
     }
     Ok(Plan::Near(NearPlan {
         index,
@@ -59,29 +53,23 @@ pub(crate) fn plan_near(
 }
 
 /// What the six parameters ask for, or 110 about the first that isn't kept.
-#[tactic(auto, using(crate::proofs::NearLemmas::separation_steps), unfolding(crate::proofs::NearSteps::separation_read))]
-fn separation_of(
-    alloc: Global,
-    place: usize,
-    parameters: &Parameters,
-) -> Result<Separation, QueryFault>
+#[tactic(auto, unfolding(crate::specs::PrivatePlanning::separation_read))]
+fn separation_of(site: Site, parameters: &Parameters) -> Result<Separation, QueryFault>
     ensures { Gives (λ x. x) result
-        (checked_by (parameter_checks place (parameters_value parameters.now))
-        (separation_of (parameters_value parameters.now))) }
+        (steps.separation_read site.place (parameters_value parameters.now)) }
 {
     let exclusion = parameters.exclusion.as_str();
-    check(alloc, place, exclusion, exclusion == "0")?;
+    check_parameter(site, exclusion, exclusion == "0")?;
     let distance = parameters.distance.as_str();
-    let distance = asked(alloc, place, distance, short_number(distance))?;
+    let distance = asked(site, distance, short_number(distance))?;
     let ordered = parameters.ordered.as_str();
-    let ordered = asked(alloc, place, ordered, ordering_of(ordered))?;
+    let ordered = asked(site, ordered, ordering_of(ordered))?;
     let relation = parameters.relation.as_str();
-    let relation = asked(alloc, place, relation, distance_relation_of(relation))?;
+    let relation = asked(site, relation, distance_relation_of(relation))?;
     let which_code = parameters.which_code.as_str();
-    let is_known = which_code == "k" || which_code == "known";
-    check(alloc, place, which_code, is_known)?;
+    check_parameter(site, which_code, which_code == "k" || which_code == "known")?;
     let unit_code = parameters.unit_code.as_str();
-    check(alloc, place, unit_code, unit_code == "2")?;
+    check_parameter(site, unit_code, unit_code == "2")?;
     Ok(Separation {
         distance,
         ordered,
@@ -90,20 +78,20 @@ fn separation_of(
 }
 
 /// What a parameter asks for, or the fault of one that isn't kept.
-fn asked<T>(alloc: Global, place: usize, parameter: &str, value: Option<T>) -> Result<T, QueryFault>
-    ensures { Gives (λ x. x) result (kept_or 110 place (Some parameter.now) value) }
+fn asked<T>(site: Site, parameter: &str, value: Option<T>) -> Result<T, QueryFault>
+    ensures { Gives (λ x. x) result (steps.kept_or 110 site.place (Some parameter.now) value) }
 {
-    kept(alloc, Condition::Operator, place, Some(parameter), value)
+    kept(site, Condition::Operator, Some(parameter), value)
 }
 
 /// The fault of a parameter that isn't kept.
-fn check(alloc: Global, place: usize, parameter: &str, is_kept: bool) -> Result<(), QueryFault>
-    ensures { Gives (λ x. x) result (if is_kept then Ok tt else refused 110 place parameter.now) }
+fn check_parameter(site: Site, parameter: &str, is_kept: bool) -> Result<(), QueryFault>
+    ensures { Gives (λ x. x) result (steps.parameter_kept site.place parameter.now is_kept) }
 {
     if is_kept {
         Ok(())
     } else {
-        Err(QueryFault::about(alloc, Condition::Operator, place, parameter))
+        Err(site.about(Condition::Operator, parameter))
     }
 }
 
@@ -134,7 +122,7 @@ fn distance_relation_of(text: &str) -> Option<DistanceRelation>
 }
 
 /// The index of an operand, and the pattern of its one word.
-#[tactic(auto, using(crate::proofs::NearLemmas::near_steps), unfolding(crate::proofs::NearSteps::term_near))]
+#[tactic(auto, unfolding(crate::specs::PrivatePlanning::word_near))]
 fn near_operand(
     alloc: Global,
     leaf: &Leaf,
@@ -143,18 +131,21 @@ fn near_operand(
 ) -> Result<(u32, Pattern), QueryFault>
     ensures { (set : Option (List ℕ)) (outer : HeadValue)
         → holding_value over.entry ≡ holding_of set outer
-        → Gives (λ x. x) result (word_near profile.now record {
+        → Gives (λ x. x) result (steps.word_near profile.now record {
           place = leaf.now.place;
           held = holding_of set (heads outer (head_value leaf.now.head));
           text = string_bytes leaf.now.text;
         }) }
 {
+    let place = leaf.place;
+    let site = Site { alloc, place };
+    let text = leaf.text.as_str();
     let holding = over.within(&leaf.head);
-    let (values, patterns) = taken_term(alloc, leaf, &holding, profile, Purpose::Near)?;
-    let index = index_in(alloc, leaf.place, values.subject)?;
+    let (values, patterns) = taken_term(site, text, &holding, profile, Purpose::Near)?;
+    let index = index_in(site, values.subject)?;
     match only(patterns) {
         Some(pattern) => Ok((index, pattern)),
-        None => Err(QueryFault::diagnostic(alloc, Condition::Combination, leaf.place)),
+        None => Err(site.refused(Condition::Combination)),
     }
 }
 

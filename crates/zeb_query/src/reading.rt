@@ -3,7 +3,7 @@ ghost use Rattle.std.specs.Prelude.{IfOk, OnOk, IfErr};
 ghost use Rattle.zeb_query.specs.Grammar.{SpellsQuery, query_value};
 ghost use Rattle.zeb_query.specs.Places.{IsReadable, IsFaultOf};
 
-use crate::diagnostics::Condition;
+use crate::diagnostics::{Condition, Site};
 use crate::grammar::query;
 use crate::words::words_of;
 use crate::{Query, QueryFault};
@@ -24,7 +24,7 @@ pub fn read_pqf(alloc: Global, text: &str) -> Result<Query, QueryFault>
     ensures faulty { IfErr result (λ e. IsFaultOf e text.now) }
 {
     if text.len() > MOST_BYTES {
-        return Err(QueryFault::diagnostic(alloc, Condition::TooManyCharacters, 0));
+        return Err(Site { alloc, place: 0 }.refused(Condition::TooManyCharacters));
     }
     let words = words_of(alloc, text)?;
     query(alloc, &words, text.len())

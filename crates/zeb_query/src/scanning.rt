@@ -1,11 +1,12 @@
 //! The plan of a scan, which begins at a term.
 ghost use Rattle.std.specs.Prelude.{IfOk, string_bytes};
 ghost use Rattle.zeb_query.specs.Grammar.{query_value, head_value, heads, no_head};
+ghost use Rattle.zeb_query.specs.Attributes.{holding_of};
 ghost use Rattle.zeb_query.specs.Checks.{Gives};
 ghost use Rattle.zeb_query.specs.Plans as scans;
 ghost use Rattle.zeb_query.specs.PrivatePlanning as steps;
 
-use crate::diagnostics::Condition;
+use crate::diagnostics::{Condition, Site};
 use crate::holding::Holding;
 use crate::planning::{joined_words, named_set, number_in};
 use crate::terms::{index_in, taken_term};
@@ -33,30 +34,31 @@ pub fn plan_scan(alloc: Global, query: &Query, profile: &Profile) -> Result<Scan
             place,
             connective,
             ..
-        } => Err(QueryFault::about(
-            alloc,
-            Condition::Operator,
-            *place,
-            connective.word().as_str(),
-        )),
+        } => {
+            let place = *place;
+            Err(Site { alloc, place }.about(Condition::Operator, connective.word().as_str()))
+        }
     }
 }
 
-#[tactic(auto, using(crate::proofs::PlanCheckLemmas::scan_steps), unfolding(crate::proofs::PlanSteps::term_scan))]
+#[tactic(auto, unfolding(crate::specs::PrivatePlanning::leaf_scan))]
 fn scan_leaf(
     alloc: Global,
     leaf: &Leaf,
     query: &Query,
     profile: &Profile,
 ) -> Result<ScanPlan, QueryFault>
-    ensures { Gives scans.scan_value result
-        (steps.leaf_scan profile.now (query_value query.now).attrset
-        (heads no_head (head_value leaf.now.head)) leaf.now.place (string_bytes leaf.now.text)) }
+    ensures { Gives scans.scan_value result (steps.leaf_scan profile.now
+        (holding_of (query_value query.now).attrset (heads no_head (head_value leaf.now.head)))
+        leaf.now.place (string_bytes leaf.now.text)) }
 {
+    let place = leaf.place;
+    let site = Site { alloc, place };
+    let text = leaf.text.as_str();
     let holding = Holding::over(query).within(&leaf.head);
-    let (values, _) = taken_term(alloc, leaf, &holding, profile, Purpose::Scan)?;
-    let index = index_in(alloc, leaf.place, values.subject)?;
-    let start = start_of(alloc, leaf, &values)?;
+    let (values, _) = taken_term(site, text, &holding, profile, Purpose::Scan)?;
+    let index = index_in(site, values.subject)?;
+    let start = start_of(site, text, &values)?;
     Ok(ScanPlan {
         index,
         register: values.register(),
@@ -65,15 +67,15 @@ fn scan_leaf(
 }
 
 /// The entry to begin with.
-#[tactic(auto, using(crate::proofs::PlanCheckLemmas::start_steps), unfolding(crate::proofs::TermSteps::start_parts))]
-fn start_of(alloc: Global, leaf: &Leaf, values: &Values) -> Result<String, QueryFault>
+#[tactic(auto, unfolding(crate::specs::PrivatePlanning::scan_start))]
+fn start_of(site: Site, text: &str, values: &Values) -> Result<String, QueryFault>
     ensures { Gives (λ start. string_bytes start) result
-        (steps.scan_start leaf.now.place (string_bytes leaf.now.text) values.now) }
+        (steps.scan_start site.place text.now values.now.subject) }
 {
     if values.is_numeric() {
-        let number = number_in(alloc, leaf)?;
-        Ok(key_of_number(alloc, number)?)
+        let number = number_in(site, text)?;
+        Ok(key_of_number(site.alloc, number)?)
     } else {
-        Ok(joined_words(alloc, leaf)?)
+        Ok(joined_words(site.alloc, text)?)
     }
 }

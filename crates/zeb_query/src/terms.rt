@@ -1,19 +1,18 @@
 //! Reading a term: the values of its attributes and the patterns of its words, or its first diagnostic.
-ghost use Rattle.std.specs.Prelude.{◌≡◌, ◌∷◌, [], IfOk, Some, string_bytes};
-ghost use Rattle.std.specs.Option.{is_some, option_copied};
-ghost use Rattle.zeb_query.specs.Checks.{Gives, check, checked_by, is_other_type, numeral, written};
+ghost use Rattle.std.specs.Prelude.{◌≡◌, IfOk, Some};
+ghost use Rattle.std.specs.Option.{option_copied};
+ghost use Rattle.zeb_query.specs.Checks.{Gives, kind_check, type_check};
 ghost use Rattle.zeb_query.specs.PrivateReading.{condition_number, holding_value};
-ghost use Rattle.zeb_query.specs.PrivatePlanning.{kept_or, index_used_or, index_read, subject_read, subject_index, values_read, head_read, patterns_read, term_read, term_taken};
+ghost use Rattle.zeb_query.specs.PrivatePlanning as steps;
 
+use crate::QueryFault;
 use crate::attributes::{
     completeness_of, is_local_number, position_of, relation_of, structure_of, truncation_of,
 };
-use crate::diagnostics::Condition;
+use crate::diagnostics::{Condition, Site};
 use crate::digits::short_number;
 use crate::holding::Holding;
 use crate::values::{Purpose, Subject, Values};
-use crate::{Leaf, QueryFault};
-use std::alloc::Global;
 use zeb_profile::Profile;
 use zeb_text::{Pattern, pattern_words};
 
@@ -25,124 +24,74 @@ const ANY: u32 = 1016;
 
 /// The value, or the diagnostic about the attribute's text where that isn't kept.
 pub(crate) fn kept<T>(
-    alloc: Global,
+    site: Site,
     condition: Condition,
-    place: usize,
     written: Option<&str>,
     value: Option<T>,
 ) -> Result<T, QueryFault>
-    ensures gives { Gives (λ x. x) result
-        (kept_or (condition_number condition) place (option_copied written.entry) value) }
+    ensures gives { Gives (λ x. x) result (steps.kept_or (condition_number condition) site.place
+        (option_copied written.entry) value) }
     ensures is { IfOk result (λ x. value ≡ Some x) }
 {
     match value {
         Some(value) => Ok(value),
-        None => Err(QueryFault::about(alloc, condition, place, written.unwrap_or(""))),
+        None => Err(site.about(condition, written.unwrap_or(""))),
     }
 }
 
-/// The index of a use attribute: that of its number, or of its name where it is no number.
+/// The index of a use attribute: that of its number, or of its name where it is no number. A term that is a local number has none.
 fn index_of(
-    alloc: Global,
-    place: usize,
-    written: Option<&str>,
-    profile: &Profile,
-) -> Result<u32, QueryFault>
-    ensures { Gives (λ x. x) result
-        (index_used_or profile.now place (option_copied written.entry)) }
-{
-    let Some(text) = written else {
-        let index = profile.index_by_use(ANY);
-        return kept(alloc, Condition::NoUseAttribute, place, None, index);
-    };
-    let index = match short_number(text) {
-        Some(number) => profile.index_by_use(number),
-        None => profile.index_by_name(text),
-    };
-    kept(alloc, Condition::UseAttribute, place, written, index)
-}
-
-/// The index of a term with this use attribute and this structure; a local number has none.
-#[tactic(auto, using(crate::proofs::TermCheckLemmas::index_steps))]
-fn index_if(
-    alloc: Global,
-    place: usize,
+    site: Site,
     written: Option<&str>,
     local: bool,
     profile: &Profile,
 ) -> Result<Option<u32>, QueryFault>
     ensures { Gives (λ x. x) result
-        (index_read profile.now place local (option_copied written.entry)) }
+        (steps.index_read profile.now site.place local (option_copied written.entry)) }
 {
     if local {
-        Ok(None)
-    } else {
-        Ok(Some(index_of(alloc, place, written, profile)?))
+        return Ok(None);
     }
+    let Some(text) = written else {
+        let index = profile.index_by_use(ANY);
+        return Ok(Some(kept(site, Condition::NoUseAttribute, None, index)?));
+    };
+    let index = match short_number(text) {
+        Some(number) => profile.index_by_use(number),
+        None => profile.index_by_name(text),
+    };
+    Ok(Some(kept(site, Condition::UseAttribute, written, index)?))
 }
 
 /// What a term names with this structure, which has an index where it is no local number.
-fn subject_of(
-    alloc: Global,
-    place: usize,
-    written: Option<&str>,
-    index: Option<u32>,
-) -> Result<Subject, QueryFault>
-    ensures { Gives (λ x. x) result (subject_read place (option_copied written.entry) index) }
+fn subject_of(site: Site, written: Option<&str>, index: Option<u32>) -> Result<Subject, QueryFault>
+    ensures { Gives (λ x. x) result
+        (steps.subject_read site.place (option_copied written.entry) index) }
 {
     let Some(index) = index else {
         return Ok(Subject::Record);
     };
-    let structure = structure_of(written);
-    let structure = kept(alloc, Condition::Structure, place, written, structure)?;
+    let structure = kept(site, Condition::Structure, written, structure_of(written))?;
     Ok(Subject::Entries { index, structure })
 }
 
 /// The values of the six attribute types, or the diagnostic of the first one that isn't kept.
-#[tactic(auto, using(crate::proofs::TermCheckLemmas::values_steps), unfolding(crate::proofs::TermSteps::value_parts))]
-fn values_of(
-    alloc: Global,
-    place: usize,
-    holding: &Holding<'_>,
-    profile: &Profile,
-) -> Result<Values, QueryFault>
-    ensures { Gives (λ x. x) result (values_read profile.now place (holding_value holding.now)) }
+#[tactic(auto, unfolding(crate::specs::PrivatePlanning::values_read))]
+fn values_of(site: Site, holding: &Holding<'_>, profile: &Profile) -> Result<Values, QueryFault>
+    ensures { Gives (λ x. x) result
+        (steps.values_read profile.now site.place (holding_value holding.now)) }
 {
     let local = is_local_number(holding.structure);
-    let index = index_if(alloc, place, holding.use_attribute, local, profile)?;
+    let index = index_of(site, holding.use_attribute, local, profile)?;
     let relation = relation_of(holding.relation);
-    let relation = kept(
-        alloc,
-        Condition::Relation,
-        place,
-        holding.relation,
-        relation,
-    )?;
+    let relation = kept(site, Condition::Relation, holding.relation, relation)?;
     let position = position_of(holding.position);
-    let position = kept(
-        alloc,
-        Condition::Position,
-        place,
-        holding.position,
-        position,
-    )?;
-    let subject = subject_of(alloc, place, holding.structure, index)?;
-    let truncation = truncation_of(holding.truncation);
-    let truncation = kept(
-        alloc,
-        Condition::Truncation,
-        place,
-        holding.truncation,
-        truncation,
-    )?;
-    let completeness = completeness_of(holding.completeness);
-    let completeness = kept(
-        alloc,
-        Condition::Completeness,
-        place,
-        holding.completeness,
-        completeness,
-    )?;
+    let position = kept(site, Condition::Position, holding.position, position)?;
+    let subject = subject_of(site, holding.structure, index)?;
+    let cut = truncation_of(holding.truncation);
+    let truncation = kept(site, Condition::Truncation, holding.truncation, cut)?;
+    let whole = completeness_of(holding.completeness);
+    let completeness = kept(site, Condition::Completeness, holding.completeness, whole)?;
     Ok(Values {
         subject,
         relation,
@@ -152,62 +101,53 @@ fn values_of(
     })
 }
 
-fn check_type(alloc: Global, place: usize, term_type: Option<&str>) -> Result<(), QueryFault>
+fn check_type(site: Site, term_type: Option<&str>) -> Result<(), QueryFault>
     ensures { Gives (λ x. x) result
-        (checked_by (check place 229 (written (option_copied term_type.entry))
-        (is_other_type (option_copied term_type.entry)) ∷ []) tt) }
+        (steps.passed (type_check site.place (option_copied term_type.entry))) }
 {
     match term_type {
         Some(text) if text != "general" && text != "string" => {
-            Err(QueryFault::about(alloc, Condition::TermType, place, text))
+            Err(site.about(Condition::TermType, text))
         }
         _ => Ok(()),
     }
 }
 
-fn check_kind(alloc: Global, place: usize, kind: Option<u32>) -> Result<(), QueryFault>
-    ensures { Gives (λ x. x) result
-        (checked_by (check place 113 (numeral kind) (is_some kind) ∷ []) tt) }
+fn check_kind(site: Site, kind: Option<u32>) -> Result<(), QueryFault>
+    ensures { Gives (λ x. x) result (steps.passed (kind_check site.place kind)) }
 {
-    let Some(kind) = kind else {
-        return Ok(());
-    };
-    let addinfo = kind.to_string(alloc)?;
-    Err(QueryFault::Diagnostic {
-        number: Condition::AttributeType.number(),
-        place,
-        addinfo,
-    })
+    match kind {
+        Some(kind) => {
+            let text = kind.to_string(site.alloc)?;
+            Err(site.about(Condition::AttributeType, text.as_str()))
+        }
+        None => Ok(()),
+    }
 }
 
 /// The faults of a term's type and of the sets and types of the attributes over it.
-#[tactic(auto, using(crate::proofs::TermCheckLemmas::head_steps), unfolding(crate::proofs::TermSteps::head_parts))]
-fn check_holding(alloc: Global, place: usize, holding: &Holding<'_>) -> Result<(), QueryFault>
-    ensures { Gives (λ x. x) result (head_read place (holding_value holding.now)) }
+#[tactic(auto, unfolding(crate::specs::PrivatePlanning::head_read))]
+fn check_holding(site: Site, holding: &Holding<'_>) -> Result<(), QueryFault>
+    ensures { Gives (λ x. x) result (steps.head_read site.place (holding_value holding.now)) }
 {
-    check_type(alloc, place, holding.term_type)?;
+    check_type(site, holding.term_type)?;
     if let Some(set) = holding.other_set {
-        return Err(QueryFault::about(alloc, Condition::AttributeSet, place, set));
+        return Err(site.about(Condition::AttributeSet, set));
     }
-    check_kind(alloc, place, holding.other_kind)
+    check_kind(site, holding.other_kind)
 }
 
 /// The patterns of a term's words; none where the words aren't compared.
-fn patterns_for(alloc: Global, leaf: &Leaf, values: &Values) -> Result<Vec<Pattern>, QueryFault>
+fn patterns_for(site: Site, text: &str, values: &Values) -> Result<Vec<Pattern>, QueryFault>
     ensures { Gives (λ patterns. patterns.items) result
-        (patterns_read leaf.now.place (string_bytes leaf.now.text) values.now) }
+        (steps.patterns_read site.place text.now values.now) }
 {
-    if !values.has_words() {
-        return Ok(Vec::new(alloc));
+    if !values.compares_words() {
+        return Ok(Vec::new(site.alloc));
     }
-    let patterns = pattern_words(
-        alloc,
-        leaf.text.as_str(),
-        values.truncation,
-        values.spread(),
-    )?;
+    let patterns = pattern_words(site.alloc, text, values.truncation, values.spread())?;
     if patterns.len() > MOST_WORDS {
-        return Err(QueryFault::diagnostic(alloc, Condition::TooManyWords, leaf.place));
+        return Err(site.refused(Condition::TooManyWords));
     }
     Ok(patterns)
 }
@@ -215,20 +155,19 @@ fn patterns_for(alloc: Global, leaf: &Leaf, values: &Values) -> Result<Vec<Patte
 /// The values of a term's attributes and the patterns of its words, or the first diagnostic of: the term's type,
 /// the sets and types of the attributes, their values, the number of words. There are no patterns where the words
 /// aren't compared.
-#[tactic(auto, using(crate::proofs::TermCheckLemmas::term_steps), unfolding(crate::proofs::TermSteps::term_parts))]
+#[tactic(auto, unfolding(crate::specs::PrivatePlanning::term_read))]
 fn read_term(
-    alloc: Global,
-    leaf: &Leaf,
+    site: Site,
+    text: &str,
     holding: &Holding<'_>,
     profile: &Profile,
 ) -> Result<(Values, Vec<Pattern>), QueryFault>
     ensures { Gives (λ read. (read.0, read.1.items)) result
-        (term_read profile.now leaf.now.place (string_bytes leaf.now.text)
-        (holding_value holding.now)) }
+        (steps.term_read profile.now site.place text.now (holding_value holding.now)) }
 {
-    check_holding(alloc, leaf.place, holding)?;
-    let values = values_of(alloc, leaf.place, holding, profile)?;
-    let patterns = patterns_for(alloc, leaf, &values)?;
+    check_holding(site, holding)?;
+    let values = values_of(site, holding, profile)?;
+    let patterns = patterns_for(site, text, &values)?;
     Ok((values, patterns))
 }
 
@@ -236,29 +175,28 @@ fn read_term(
 /// purpose, values that aren't taken together, and an index that has no target with the searched register.
 #[tactic(auto, unfolding(crate::specs::PrivatePlanning::term_taken))]
 pub(crate) fn taken_term(
-    alloc: Global,
-    leaf: &Leaf,
+    site: Site,
+    text: &str,
     holding: &Holding<'_>,
     profile: &Profile,
     purpose: Purpose,
 ) -> Result<(Values, Vec<Pattern>), QueryFault>
     ensures { Gives (λ read. (read.0, read.1.items)) result
-        (term_taken profile.now purpose leaf.now.place (string_bytes leaf.now.text)
-        (holding_value holding.now)) }
+        (steps.term_taken profile.now purpose site.place text.now (holding_value holding.now)) }
 {
-    let (values, patterns) = read_term(alloc, leaf, holding, profile)?;
+    let (values, patterns) = read_term(site, text, holding, profile)?;
     if values.clashes(purpose) || values.lacks_register(profile) {
-        return Err(QueryFault::diagnostic(alloc, Condition::Combination, leaf.place));
+        return Err(site.refused(Condition::Combination));
     }
     Ok((values, patterns))
 }
 
 /// The index in which a term is looked up, which a local number hasn't got.
-pub(crate) fn index_in(alloc: Global, place: usize, subject: Subject) -> Result<u32, QueryFault>
-    ensures { Gives (λ x. x) result (subject_index place subject) }
+pub(crate) fn index_in(site: Site, subject: Subject) -> Result<u32, QueryFault>
+    ensures { Gives (λ x. x) result (steps.subject_index site.place subject) }
 {
     match subject {
-        Subject::Record => Err(QueryFault::diagnostic(alloc, Condition::Combination, place)),
+        Subject::Record => Err(site.refused(Condition::Combination)),
         Subject::Entries { index, .. } => Ok(index),
     }
 }

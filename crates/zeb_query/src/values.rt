@@ -1,6 +1,7 @@
 //! The values of a term's attributes, and which of them are taken together.
 ghost use Rattle.std.specs.Prelude.{◌≡◌};
-ghost use Rattle.zeb_query.specs.PrivateValues as terms;
+ghost use Rattle.zeb_query.specs.Attributes as values;
+ghost use Rattle.zeb_query.specs.Checks as checks;
 
 use crate::Relation;
 use crate::attributes::{Asked, Completeness, Position, Structure};
@@ -10,11 +11,15 @@ use zeb_text::{Cut, Spread};
 
 /// What a term names, by its structure.
 #[derive(Clone, Copy, Debug, PartialEq, Eq)]
-pub(crate) enum Subject {
+pub enum Subject {
     /// A local number: the record with that system number, which is in no index.
     Record,
     /// Another structure: entries of the index of the use attribute.
-    Entries { index: u32, structure: Structure },
+    Entries {
+        /// Its number in the profile, from 0.
+        index: u32,
+        structure: Structure,
+    },
 }
 
 /// What a term is for.
@@ -27,9 +32,9 @@ pub(crate) enum Purpose {
     Near,
 }
 
-/// A term's attributes as kept values.
-#[derive(Clone, Copy)]
-pub(crate) struct Values {
+/// A term's attributes as kept values, of which the definitions of checks and plans speak.
+#[derive(Clone, Copy, Debug, PartialEq, Eq)]
+pub struct Values {
     /// By the use attribute and the structure.
     pub subject: Subject,
     pub relation: Asked,
@@ -39,60 +44,41 @@ pub(crate) struct Values {
 }
 
 impl Values {
-    /// Whether the words of the term are compared: it is no number, and the relation isn't "always matches".
-    pub(crate) fn has_words(&self) -> bool
-        ensures { result ≡ terms.has_words self.now }
-    {
-        !self.is_always() && !self.is_local() && !self.is_numeric()
-    }
-
-    fn is_always(&self) -> bool
-        ensures { result ≡ terms.is_always self.now.relation }
-    {
-        matches!(self.relation, Asked::Always)
-    }
-
     fn is_equal(&self) -> bool
-        ensures { result ≡ terms.asks_equal self.now.relation }
+        ensures { result ≡ values.is_equal self.now.relation }
     {
         matches!(self.relation, Asked::Compared(Relation::Equal))
     }
 
     fn is_ordered(&self) -> bool
-        ensures { result ≡ terms.is_ordered self.now.relation }
+        ensures { result ≡ values.is_ordered self.now.relation }
     {
         match self.relation {
-            Asked::Compared(relation) => relation != Relation::Equal,
+            Asked::Compared(relation) => relation.order().is_some(),
             Asked::Always => false,
         }
     }
 
     fn is_first(&self) -> bool
-        ensures { result ≡ terms.is_first self.now.position }
+        ensures { result ≡ values.is_first self.now.position }
     {
         self.position == Position::First
     }
 
     fn is_complete(&self) -> bool
-        ensures { result ≡ terms.is_complete self.now.completeness }
+        ensures { result ≡ values.is_complete self.now.completeness }
     {
         self.completeness == Completeness::Complete
     }
 
     fn is_truncated(&self) -> bool
-        ensures { result ≡ terms.is_truncated self.now.truncation }
+        ensures { result ≡ values.is_truncated self.now.truncation }
     {
         !matches!(self.truncation, Cut::None)
     }
 
-    fn is_local(&self) -> bool
-        ensures { result ≡ terms.is_local self.now.subject }
-    {
-        matches!(self.subject, Subject::Record)
-    }
-
     pub(crate) fn is_numeric(&self) -> bool
-        ensures { result ≡ terms.is_numeric self.now.subject }
+        ensures { result ≡ values.is_numeric self.now.subject }
     {
         match self.subject {
             Subject::Record => false,
@@ -100,17 +86,8 @@ impl Values {
         }
     }
 
-    fn is_phrase(&self) -> bool
-        ensures { result ≡ terms.is_phrase self.now.subject }
-    {
-        match self.subject {
-            Subject::Record => false,
-            Subject::Entries { structure, .. } => structure == Structure::Phrase,
-        }
-    }
-
     fn is_list(&self) -> bool
-        ensures { result ≡ terms.is_list self.now.subject }
+        ensures { result ≡ values.is_list self.now.subject }
     {
         match self.subject {
             Subject::Record => false,
@@ -120,27 +97,50 @@ impl Values {
         }
     }
 
+    /// Whether the words of the term are compared: it is no number, and the relation isn't "always matches".
+    pub(crate) fn compares_words(&self) -> bool
+        ensures { result ≡ values.compares_words self.now.subject self.now.relation }
+    {
+        match (self.subject, self.relation) {
+            (Subject::Entries { structure, .. }, Asked::Compared(_)) => !structure.is_numeric(),
+            _ => false,
+        }
+    }
+
     /// Whether a position, a truncation or a completeness is asked for.
     fn is_limited(&self) -> bool
-        ensures { result ≡ terms.is_limited self.now }
+        ensures { result ≡ checks.is_limited self.now }
     {
         self.is_first() || self.is_truncated() || self.is_complete()
     }
 
+    /// Whether the values aren't taken together with what the term names.
+    fn clashes_with_subject(&self) -> bool
+        ensures { result ≡ checks.clashes_with self.now.subject self.now }
+    {
+        let Subject::Entries { structure, .. } = self.subject else {
+            return self.is_limited() || !self.is_equal();
+        };
+        match structure {
+            Structure::Numeric => self.is_limited(),
+            Structure::Phrase => false,
+            Structure::WordList | Structure::FreeForm => {
+                self.is_first() || self.is_complete() || self.is_ordered()
+            }
+        }
+    }
+
     /// Whether the values aren't taken together for the purpose.
     pub(crate) fn clashes(&self, purpose: Purpose) -> bool
-        ensures { result ≡ terms.clashes purpose self.now }
+        ensures { result ≡ checks.clashes purpose self.now }
     {
-        let number = (self.is_local() || self.is_numeric()) && self.is_limited();
-        let local = self.is_local() && !self.is_equal();
-        let list = self.is_list() && (self.is_first() || self.is_complete() || self.is_ordered());
         let order = self.is_ordered() && (self.is_first() || self.is_truncated());
-        number || local || list || order || self.is_beyond(purpose)
+        self.clashes_with_subject() || order || self.is_beyond(purpose)
     }
 
     /// Whether a scan, or a word near another, doesn't take the values, though a find may.
     fn is_beyond(&self, purpose: Purpose) -> bool
-        ensures { result ≡ terms.is_beyond purpose self.now }
+        ensures { result ≡ checks.is_beyond purpose self.now }
     {
         match purpose {
             Purpose::Find => false,
@@ -148,13 +148,17 @@ impl Values {
                 !self.is_equal() || self.is_first() || self.is_truncated() || self.is_list()
             }
             Purpose::Near => {
-                !self.is_equal() || self.is_first() || !self.is_phrase() || self.is_complete()
+                !self.is_equal()
+                    || self.is_first()
+                    || self.is_complete()
+                    || self.is_list()
+                    || self.is_numeric()
             }
         }
     }
 
     pub(crate) fn register(&self) -> Register
-        ensures { result ≡ terms.register_of self.now }
+        ensures { result ≡ values.register_of self.now }
     {
         if self.is_numeric() {
             Register::Number
@@ -168,7 +172,7 @@ impl Values {
     /// Whether the index has no target with the register that is searched; a system number is searched in none.
     pub(crate) fn lacks_register(&self, profile: &Profile) -> bool
         ensures { result
-            ≡ terms.lacks_register profile.now (terms.register_of self.now) self.now.subject }
+            ≡ checks.lacks_register profile.now (values.register_of self.now) self.now.subject }
     {
         match self.subject {
             Subject::Record => false,
@@ -178,7 +182,7 @@ impl Values {
 
     /// Where the stars of the truncation stand.
     pub(crate) fn spread(&self) -> Spread
-        ensures { result ≡ terms.spread_of self.now.subject }
+        ensures { result ≡ values.spread_of self.now.subject }
     {
         if self.is_list() {
             Spread::Each

@@ -1,5 +1,5 @@
 -- The lists of neighbouring terms are told by their units. What a call that lists them says of tables that hold a content.
-use Rattle.zeb_register.proofs.Cited.{Row, State, Trees, Text, has_mapped, mapped_has, Has, ◌≡◌, ◌≢◌, ◌↔◌, ◌∙◌, ℕ, ℤ, List, [], ◌∷◌, ◌++◌, drop, map, refl, sym, ap, ap₂, subst, inl, inr, Result, Ok, Err, OnOk, Vec, Global, Key, Register, Posting, RegFault, Store, RegisterOf, IsBetween, IsRestBetween, three_behind, register_columns, key_in, posting_row, first_three, IsListOf, IsRest, IsStore, postings_tree, Content, Format, plain_rows, holds_in, IsReasoned, term_list}
+use Rattle.zeb_register.proofs.Cited.{Row, State, Trees, Text, has_mapped, mapped_has, Has, ◌≡◌, ◌≢◌, ◌↔◌, ◌∙◌, ℕ, ℤ, List, [], ◌∷◌, ◌++◌, drop, map, refl, sym, ap, ap₂, subst, inl, inr, Result, Ok, Err, OnOk, Vec, Global, Key, Register, Posting, RegFault, Store, RegisterOf, IsBetween, IsRestBetween, three_behind, register_columns, key_in, posting_row, first_three, IsListOf, IsRest, IsStore, postings_tree, Format, plain_rows, holds_in, IsReasoned, term_list}
 use Rattle.zeb_register.specs.Answers.{Answers, IfDamaged}
 use Rattle.zeb_register.specs.Between.{IsPostingBetween}
 use Rattle.zeb_register.specs.Clauses.{IsHonestOfHeld, OnStore, TellsHeld}

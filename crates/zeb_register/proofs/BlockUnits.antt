@@ -1,5 +1,5 @@
 -- What packed rows say of a key, unit by unit: each has one reading, a malformed one none. What tables hold says each unit.
-use Rattle.zeb_register.proofs.Cited.{Row, column, Trees, Int, Blob, Has, ◌≡◌, ◌≢◌, ◌∙◌, ◌/◌, ℕ, ℤ, pos, List, [], ◌∷◌, ◌++◌, map, refl, sym, ap, subst, Key, Place, Posting, Content, posting_cmp, HoldsBlockRows, SpellsPart, part_in, key_row}
+use Rattle.zeb_register.proofs.Cited.{Row, column, Trees, Int, Blob, ◌≡◌, ◌∙◌, ◌/◌, ℕ, ℤ, pos, List, [], ◌∷◌, ◌++◌, map, refl, sym, ap, subst, Key, Place, Posting, Content, posting_cmp, HoldsBlockRows, SpellsPart, part_in, key_row}
 use Rattle.std.specs.List.Sorted.{IsStrictlySortedBy}
 use Rattle.zeb_register.specs.Content.{places_in}
 use Rattle.zeb_register.specs.PackedBlocks.{AreAllSpelled}

@@ -76,4 +76,10 @@ pub mod PlainTurns
 pub mod PlainKeyLaws
 pub mod PackedKeyLaws
 pub mod UnitChangeLaws
+pub mod AlikeRows
+pub mod RunRows
+pub mod RunTurns
+pub mod RunSplits
+pub mod RunLaws
+pub mod RunCounts
 pub mod Cited

@@ -1,5 +1,5 @@
 -- What follows of changes of a key's units in packed blocks: for tables that hold a content, and for rows whatever they say.
-use Rattle.zeb_register.proofs.Cited.{true, HasRow, ◌≡◌, ◌≢◌, ◌↔◌, ◌∙◌, ◌/◌, ◌≤◌, ◌<◌, ℕ, ℤ, zero, suc, pos, List, [], ◌∷◌, ◌++◌, nat_eq, refl, sym, ap, subst, inl, inr, arith, eqb_tells, AllByRecursion, Int, Blob, Row, column, Trees, Has, all_has, Posting, Key, Place, RecordChange, AreChangedAt, ArePlacesOf, Content, HasRisingLists, IsStorable, posted, posting_at, HasKey, IsCount, HoldsBlocks, block_row, part_in, key_row, HoldsBlockRows, IsInRecord, KeepsMalformed, KeepsRowsBeside, blocks_tree, dict_tree, postings_tree, ap₂, length, not, ◌==◌, packed_blocks, IsRest}
+use Rattle.zeb_register.proofs.Cited.{true, HasRow, ◌≡◌, ◌≢◌, ◌↔◌, ◌∙◌, ◌/◌, ◌≤◌, ℕ, ℤ, zero, suc, pos, List, [], ◌∷◌, ◌++◌, nat_eq, refl, sym, ap, subst, inl, inr, arith, eqb_tells, AllByRecursion, Int, Blob, Row, column, Trees, Has, all_has, Posting, Key, Place, RecordChange, AreChangedAt, ArePlacesOf, Content, HasRisingLists, IsStorable, posted, posting_at, HasKey, IsCount, HoldsBlocks, block_row, part_in, key_row, HoldsBlockRows, IsInRecord, KeepsMalformed, KeepsRowsBeside, blocks_tree, dict_tree, postings_tree, ap₂, length, not, ◌==◌, packed_blocks, IsRest}
 use Rattle.zeb_register.specs.Content.{OldsRise, places_in}
 use Rattle.zeb_register.proofs.ContentChanges.{posting_total, told_spot, with_list}
 use Rattle.zeb_register.proofs.ContentLemmas.{told_apart}
@@ -12,7 +12,7 @@ use Rattle.zeb_register.proofs.RisingLists.{kept_rises, same_list}
 use Rattle.zeb_register.proofs.TermsAmong.{records_count, records_of}
 use Rattle.zeb_register.specs.PrivateUnits.{units_of}
 use Rattle.zeb_register.specs.PackedUnits.{BlockReads, CountsAs, IsOfBlock, ReadsAs}
-use Rattle.zeb_register.specs.UnitChanges.{KeepsBut, IsTold, IsBlockAmong, IsBlockIn, IsOwnBlock, AllowsChanges, IsStorableChange, IsTouched, KeyUnits, LacksBlock, LacksBlocks, PutsUnits}
+use Rattle.zeb_register.specs.UnitChanges.{KeepsBut, IsTold, IsBlockAmong, IsBlockIn, IsOwnBlock, AllowsChanges, IsStorableChange, IsTouched, KeyUnits, LacksBlock, PutsUnits}
 use Rattle.zeb_register.proofs.BlockUnits.{held_block, held_units, one_block_read, one_reading, read_rises}
 use Rattle.zeb_register.proofs.KeyPlaces.{in_place, place_in, place_of}
 use Rattle.zeb_register.proofs.ContentTurns.{AreUnitsIn, InRange, count_turned, list_kept, list_there, list_turned, touched, units_turned}
@@ -138,10 +138,6 @@ module _ (db : ℤ) (key : Key) (changes : List RecordChange) (old : Trees) (con
       count_so (HasKey (posted content db) key) (IsInRecord list) (suc records) (key_posted content db key) (row_counts old content db key holds row.0 (suc records) row.1 (counts.said row.0 row.1).2)
 
   -- the rows allow each change of the content
-  lacks_all : (These : ℕ → Type 0) (xs : List RecordChange) → ((block : ℕ) → LacksBlock db key block old) → LacksBlocks These db key xs old
-  lacks_all These [] none = tt
-  lacks_all These (x ∷ xs) none = (λ is. none (x.sysno / 256), lacks_all (λ b. These b × (x.sysno / 256 < b)) xs none)
-
   uncounted : records_of list ≡ 0 → (block : ℕ) → LacksBlock db key block old
   uncounted none block =
       let empty : [] ≡ part_in block list = some_or (part_in block list) (λ p h. counted_none (IsInRecord list) (records_of list) p.sysno (records_count list) none (p, part_in_list block list p h, refl)) in
@@ -156,7 +152,7 @@ module _ (db : ℤ) (key : Key) (changes : List RecordChange) (old : Trees) (con
         record {
           count = record {
             is = held_counts old content storable holds db key (records_of list) (counted_list old content db key);
-            lacks = λ none. lacks_all (λ block. Unit {0}) changes (uncounted none);
+            lacks = λ none block touch. uncounted none block;
           };
           found = λ n it. held_units old content (block_rows old content holds) db key n;
           turns = turns.1;

@@ -118,6 +118,7 @@ apart x m other it = elim it.1 [ inl first ↦ other (sym it.2 ∙ ap (λ (y : R
 none_put : (db : ℤ) (key : Key) (trees new : Trees) → IsUtf8 key.term → ((tree : ℕ) → new tree ≡ trees tree) → PutsUnits plain_rows db key [] trees new
 none_put db key trees new text same = record {
   text = text;
+  stored = tt;
   were = record { places = λ n. []; records = 0 };
   are = record { places = λ n. []; records = 0 };
   allowed = record { count = tt; found = λ n it. absurd it.1; turns = (λ n. refl, refl) };
@@ -163,7 +164,7 @@ module _ (db : ℤ) (key : Key) (x : RecordChange) (xs : List RecordChange) (old
     },
   )
 
-  module _ (new : Trees) (rest : PutsUnits plain_rows db key xs mid new) where
+  module _ (own : IsStorableChange x) (new : Trees) (rest : PutsUnits plain_rows db key xs mid new) where
     abbrev were : KeyUnits
     were = with_unit n x.old.now rest.were
 
@@ -201,6 +202,7 @@ module _ (db : ℤ) (key : Key) (x : RecordChange) (xs : List RecordChange) (old
     both : IsChanged xs n ⊎ ¬ IsChanged xs n → PutsUnits plain_rows db key (x ∷ xs) old new
     both (inl again) = record {
       text = first.text;
+      stored = (own, rest.stored);
       were = were;
       are = rest.are;
       allowed = record {
@@ -223,6 +225,7 @@ module _ (db : ℤ) (key : Key) (x : RecordChange) (xs : List RecordChange) (old
     }
     both (inr none) = record {
       text = first.text;
+      stored = (own, rest.stored);
       were = were;
       are = with_unit n x.new.now rest.are;
       allowed = record {
@@ -263,18 +266,24 @@ LeadsOn db key xs i old mid = (end : Trees) (result : Result (Unit {0}) RegFault
 
 pub one_more : (db : ℤ) (key : Key) (x : RecordChange) (xs : List RecordChange) (old mid new : Trees) (result : Result (Unit {0}) RegFault) → IsStorableChange x → TurnsRows db key x.sysno x.old.now x.new.now old mid
     → Answered db key xs mid new result → Answered db key (x ∷ xs) old new result
-one_more db key x xs old mid new (Ok done) stored first rest = put_more db key x xs old mid first new (any_put db key xs mid new first.text rest)
-one_more db key x xs old mid new (Err fault) stored first rest = λ told. let it = rest told in (
-  (stored, it.0),
-  λ were are allows. let next = allows_next db key x xs old mid first were are allows in it.1 next.0 are next.1,
+one_more db key x xs old mid new (Ok done) stored first rest = put_more db key x xs old mid first stored new (any_put db key xs mid new first.text rest)
+one_more db key x xs old mid new (Err fault) stored first rest = (
+  λ none. rest.0 (λ others. none (stored, others)),
+  λ told. let it = rest.1 told in (
+    (stored, it.0),
+    λ were are allows. let next = allows_next db key x xs old mid first were are allows in it.1 next.0 are next.1,
+  ),
 )
 
 -- a change that is refused refuses all
 pub first_refused : (db : ℤ) (key : Key) (x : RecordChange) (xs : List RecordChange) (trees : Trees) (fault : RegFault) → AllByRecursion IsStorableChange (x ∷ xs) → (fault ≡ Damaged → ¬ RowsRead trees db key x.sysno x.old.now)
     → IsRefusedAs plain_rows db key (x ∷ xs) trees fault
-first_refused db key x xs trees fault stored refused told = (
-  stored,
-  λ were are allows. refused told (subst (RowsRead trees db key x.sysno) allows.turns.1.found (allows.found x.sysno (x, inl refl, refl))),
+first_refused db key x xs trees fault stored refused = (
+  λ none. absurd (none stored),
+  λ told. (
+    stored,
+    λ were are allows. refused told (subst (RowsRead trees db key x.sysno) allows.turns.1.found (allows.found x.sysno (x, inl refl, refl))),
+  ),
 )
 
 -- ---- changes that are left

@@ -1,12 +1,11 @@
 -- Rows of a register as the terms of a content.
-use Rattle.zeb_register.proofs.Cited.{Row, column, value_cmp, row_cmp, Trees, Value, Null, Int, Real, Text, Blob, has_left, has_right, has_either, has_mapped, mapped_has, Has, row_cmp_total, value_cmp-Int, value_cmp-Text, ◌≡◌, ◌≢◌, ◌↔◌, ◌⊎◌, ◌∙◌, ◌<◌, ◌≤◌, ◌+◌, ℕ, ℤ, pos, negsuc, zero, suc, true, false, List, [], ◌∷◌, ◌++◌, length, map, take, drop, get_or, refl, sym, ap, ap₂, subst, inl, inr, Ordering, Less, Equal, Greater, nat_cmp, arith, Option, Some, None, String, string_bytes, IsUtf8, take_more, slice_cmp, slice_set, is_lt, ordering_then, Global, Register, Posting, register_code, numbers_apart, TermCount, HasRow, IsListOf, postings_tree, key_of, IsRest, Content, IsStorable, posted, posting_cmp, HoldsRows, posting_row, register_front, IsCount, AreCounts, AreSpotsOf, AreTermsOf, HasSpot, Spot, TermIn, key_in, spot_cmp, IsInRecord, HasTerm, ShowsOccurrence, IsOccurrenceRow, IsShown}
+use Rattle.zeb_register.proofs.Cited.{Row, column, value_cmp, row_cmp, Trees, Value, Null, Int, Real, Text, Blob, has_left, has_right, has_either, mapped_has, Has, row_cmp_total, value_cmp-Int, value_cmp-Text, ◌≡◌, ◌≢◌, ◌↔◌, ◌⊎◌, ◌∙◌, ◌<◌, ◌≤◌, ◌+◌, ℕ, ℤ, pos, negsuc, zero, suc, List, [], ◌∷◌, ◌++◌, length, map, take, drop, get_or, refl, sym, ap, ap₂, subst, inl, inr, Ordering, Less, Equal, Greater, nat_cmp, arith, take_more, slice_cmp, slice_set, ordering_then, Register, Posting, register_code, numbers_apart, TermCount, HasRow, postings_tree, key_of, Content, posted, posting_cmp, HoldsRows, posting_row, register_front, IsCount, AreTermsOf, Spot, TermIn, key_in, spot_cmp, IsInRecord, HasTerm, ShowsOccurrence, IsShown}
 use Rattle.std.specs.List.Sorted.{IsStrictlySortedBy}
 use Rattle.zeb_register.specs.PlainUnits.{ShowsPosting}
 use Rattle.zeb_register.proofs.RisingLists.{front_rises, before_last}
 use Rattle.zeb_register.proofs.RowLemmas.{same_bytes}
-use Rattle.zeb_register.proofs.Scans.{strictly_mapped}
-use Rattle.zeb_register.proofs.ContentLemmas.{ints_order, same_key}
-use Rattle.zeb_register.proofs.CountLemmas.{IsNewest, is_less, counts_so, count_so, count_more, counted_none, newest_is, above_newest, newest_stays}
+use Rattle.zeb_register.proofs.ContentLemmas.{ints_order}
+use Rattle.zeb_register.proofs.CountLemmas.{IsNewest, is_less, count_so, count_more, counted_none, newest_is, above_newest, newest_stays}
 use Rattle.zeb_register.proofs.OccurringLemmas.{key_posted}
 use Rattle.zeb_register.proofs.TermLists.{IsTerm}
 use Rattle.zeb_register.proofs.TermsAmong.{terms_among}

@@ -79,7 +79,7 @@ module _ (format : Format) (s t : State) (db : ℤ) (key : Key) (changes : List 
   told_damaged (Ok done) tells clean inside store is rise content storable holds after change = absurd (let e : ◌≡◌ {A = Result (Unit {0}) RegFault} (Ok done) (Err Damaged) = is in cc)
   told_damaged (Err fault) tells clean inside store is rise content storable holds after change =
       let damaged : fault ≡ Damaged = cc in
-      let it = tells clean inside store damaged in
+      let it = (tells clean inside store).1 damaged in
       let allows = allows_held format db key changes s.now.trees content holds storable it.0 rise after change in
       it.1 allows.0 allows.1 allows.2
 

@@ -35,4 +35,5 @@ pub mod PrivateBetweenRows
 pub mod PrivateRowTerms
 pub mod PrivateStoreTables
 pub mod UnitChanges
+pub mod RunChanges
 pub mod PrivateUnits

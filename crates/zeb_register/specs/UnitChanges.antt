@@ -1,6 +1,7 @@
 -- What changes of a key's places do to its units, on any rows of a store and in either format.
-use Rattle.std.specs.Prelude.{Bool, true, false, pos, IsUtf8, ◌+◌, ◌↔◌, ◌≡◌, ◌≢◌, ◌⊎◌, ◌/◌, ◌<◌, ◌≤◌, ◌++◌, ℕ, ℤ, List, [], ◌∷◌, Result}
+use Rattle.std.specs.Prelude.{Bool, true, false, pos, IsUtf8, ◌+◌, ◌↔◌, ◌≡◌, ◌≢◌, ◌⊎◌, ◌/◌, ◌≤◌, ℕ, ℤ, List, [], ◌∷◌, Result}
 use Rattle.std.specs.List.{AllByRecursion}
+use Rattle.std.specs.List.Sorted.{IsNonDecreasingBy}
 use Rattle.sqlite.specs.Order.{Row}
 use Rattle.sqlite.specs.State.{State}
 use Rattle.sqlite.specs.Tree.{Trees}
@@ -8,7 +9,7 @@ use Rattle.sqlite_rules.specs.Lists.{Has}
 use Rattle.zeb_keys.specs.Registers.{register_code}
 use Rattle.zeb_keys.specs.declared.keys.Key.{Key}
 use Rattle.zeb_register.specs.declared.faults.RegFault.{RegFault}
-use Rattle.zeb_register.specs.declared.faults.RegFault.TheVariants.{Damaged}
+use Rattle.zeb_register.specs.declared.faults.RegFault.TheVariants.{Damaged, Store}
 use Rattle.zeb_register.specs.declared.registers.Place.{Place}
 use Rattle.zeb_register.specs.declared.registers.RecordChange.{RecordChange}
 use Rattle.zeb_register.specs.Answers.{Answers}
@@ -29,6 +30,10 @@ use Rattle.zeb_register.specs.Units.{reads_as}
 pub record IsStorableChange (change : RecordChange) : Type 0 where
   pub sysno : (1 ≤ change.sysno) × (change.sysno ≤ 999999999)
   pub places : AreStorablePlaces change.new.now
+
+-- The numbers of the records don't fall. Changes of one record stand in the order in which they are made.
+abbrev pub NumbersRise : List RecordChange → Type 0
+NumbersRise changes = IsNonDecreasingBy (λ (change : RecordChange). change.sysno) changes
 
 -- so many records have a key before and after one record's places are changed
 abbrev pub CountsOn : List Place → List Place → ℕ → ℕ → Type 0
@@ -125,12 +130,9 @@ PutsCount db key records tree old new =
 abbrev pub LacksBlock : ℤ → Key → ℕ → Trees → Type 0
 LacksBlock db key block = IsTold false (IsBlockIn db key block) blocks_tree
 
--- There is no row of a block in which a change lies, where it is one of these blocks and above those of all changes before it.
-abbrev pub LacksBlocks : (ℕ → Type 0) → ℤ → Key → List RecordChange → Trees → Type 0
-LacksBlocks These db key [] trees = Unit {0}
-LacksBlocks These db key (change ∷ changes) trees =
-    (These (change.sysno / 256) → LacksBlock db key (change.sysno / 256) trees)
-    × LacksBlocks (λ block. These block × (change.sysno / 256 < block)) db key changes trees
+-- no block in which a change lies has a row
+abbrev pub LacksBlocks : ℤ → Key → List RecordChange → Trees → Type 0
+LacksBlocks db key changes trees = (block : ℕ) → IsTouched changes block → LacksBlock db key block trees
 
 abbrev pub IsBlockAmong : ℤ → Key → List RecordChange → Row → Type 0
 IsBlockAmong db key changes row = (block : ℕ) × IsTouched changes block × IsBlockIn db key block row
@@ -144,11 +146,10 @@ pub record PutsBlocks (db : ℤ) (key : Key) (changes : List RecordChange) (reco
   pub dict : PutsCount db key records dict_tree old new
   pub postings : new postings_tree ≡ old postings_tree
 
--- So many records have the key. Where none is counted, no block in which a change lies has a row, but where it is a block below one of a
--- change before it.
+-- So many records have the key. Where none is counted, no block in which a change lies has a row.
 pub record IsCounted (db : ℤ) (key : Key) (changes : List RecordChange) (trees : Trees) (records : ℕ) : Type 0 where
   pub is : CountsAs trees db key records
-  pub lacks : records ≡ 0 → LacksBlocks (λ block. Unit {0}) db key changes trees
+  pub lacks : records ≡ 0 → LacksBlocks db key changes trees
 
 -- ---- in either format
 
@@ -169,9 +170,10 @@ pub record AllowsChanges (format : Format) (db : ℤ) (key : Key) (changes : Lis
   pub found : (sysno : ℕ) → are_read format changes sysno → reads_as format trees db key sysno (were.places sysno)
   pub turns : TurnsUnits format changes were are
 
--- the units read as the new places, the key is counted so, and each other row is as it was
+-- The changes can be stored. The units read as the new places, the key is counted so, and each other row is as it was.
 pub record PutsUnits (format : Format) (db : ℤ) (key : Key) (changes : List RecordChange) (old new : Trees) : Type 0 where
   pub text : IsUtf8 key.term
+  pub stored : AllByRecursion IsStorableChange changes
   pub were : KeyUnits
   pub are : KeyUnits
   pub allowed : AllowsChanges format db key changes old were are
@@ -184,10 +186,11 @@ abbrev pub PutsAny : Format → ℤ → Key → List RecordChange → (old new :
 PutsAny format db key [] old new = (tree : ℕ) → new tree ≡ old tree
 PutsAny format db key (change ∷ changes) old new = PutsUnits format db key (change ∷ changes) old new
 
--- Damaged is told only where the changes can be stored, and the rows don't allow them.
+-- Changes that can't be stored are refused as Store. Damaged is told only of others, where the rows don't allow them.
 abbrev pub IsRefusedAs : Format → ℤ → Key → List RecordChange → Trees → RegFault → Type 0
 IsRefusedAs format db key changes trees fault =
-    fault ≡ Damaged → AllByRecursion IsStorableChange changes × ((were are : KeyUnits) → ¬ AllowsChanges format db key changes trees were are)
+    (¬ AllByRecursion IsStorableChange changes → fault ≡ Store)
+    × (fault ≡ Damaged → AllByRecursion IsStorableChange changes × ((were are : KeyUnits) → ¬ AllowsChanges format db key changes trees were are))
 
 -- accepted inside a transaction on a store, the call puts the changes
 abbrev pub ChangesKey : {A : Type 0} → Format → ℤ → Key → List RecordChange → (old new : State) → Result A RegFault → Type 0

@@ -1,6 +1,6 @@
 //! Which changes of records' places the registers store.
 
-ghost use Rattle.std.specs.Prelude.{◌≡◌, ◌≢◌, ◌≤◌, OnOk};
+ghost use Rattle.std.specs.Prelude.{◌≡◌, ◌≤◌, IfErr, OnOk};
 ghost use Rattle.std.specs.declared.cmp.Ordering.TheVariants.{Less};
 ghost use Rattle.std.specs.List.{AllByRecursion};
 ghost use Rattle.zeb_register.specs.Content.{AreStorablePlaces, IsStorablePlace, place_cmp};
@@ -16,7 +16,7 @@ const GREATEST_NUMBER: u64 = 999_999_999;
 /// Refuses changes that no row has, as `Store`: one with a number of 0 or above 999,999,999, and one to places that don't rise.
 pub fn check_changes(changes: &[RecordChange<'_>]) -> Result<(), RegFault>
     ensures stored { OnOk result (AllByRecursion IsStorableChange changes.now) }
-    ensures honest { result ≢ Err RegFault.Damaged }
+    ensures refused { IfErr result (λ fault. fault ≡ RegFault.Store) }
 {
     for change in changes {
         check_numbers(change.sysno, change.new)?;
@@ -28,7 +28,7 @@ pub fn check_changes(changes: &[RecordChange<'_>]) -> Result<(), RegFault>
 fn check_numbers(sysno: u64, places: &[Place]) -> Result<(), RegFault>
     ensures number { OnOk result ((1 ≤ sysno) × (sysno ≤ 999999999)) }
     ensures stored { OnOk result (AreStorablePlaces places.now) }
-    ensures honest { result ≢ Err RegFault.Damaged }
+    ensures refused { IfErr result (λ fault. fault ≡ RegFault.Store) }
 {
     if sysno == 0 || sysno > GREATEST_NUMBER {
         return Err(RegFault::Store);
@@ -44,7 +44,7 @@ fn check_numbers(sysno: u64, places: &[Place]) -> Result<(), RegFault>
 /// Refuses a place that isn't above the one before it, or that no column stores.
 fn check_place(before: Place, place: Place) -> Result<(), RegFault>
     ensures ok { OnOk result (IsStorablePlace place × (place_cmp before place ≡ Less)) }
-    ensures honest { result ≢ Err RegFault.Damaged }
+    ensures refused { IfErr result (λ fault. fault ≡ RegFault.Store) }
 {
     stored(place.seq)?;
     stored(place.pos)?;

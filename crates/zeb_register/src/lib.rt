@@ -26,9 +26,11 @@ mod plain_between;
 mod plain_changes;
 mod read_beside;
 mod registers;
+mod run_laws;
 mod schema;
 mod statements;
 mod tables;
+mod tallies;
 mod terms;
 mod values;
 mod wiping;
@@ -48,10 +50,11 @@ pub use meta::{meta_of, meta_put};
 pub use occurring::{OccurrenceSet, occurrences_have_one_list_of_terms};
 pub use plain::Rows;
 pub use registers::{
-    Layout, Place, RecordChange, RegisterOf, TermCount, Totals, Work,
+    KeyChanges, Layout, Place, RecordChange, RegisterOf, TermCount, Totals, Work,
     changed_units_are_of_a_content, contents_change, registers_hold_one_content,
     units_tell_the_content,
 };
+pub use run_laws::{changed_runs_are_of_a_content, runs_are_keys_in_turn};
 pub use schema::{is_bare_schema, is_store_schema};
 pub use tables::make_tables;
 pub use wiping::{registers_wipe, wipe};

@@ -18,6 +18,8 @@ ghost use Rattle.zeb_register.specs.Store.{KeepsRegisters, LacksRegisters};
 ghost use Rattle.zeb_register.specs.UnitChanges.{AllowsChanges, IsStorableChange, KeyUnits, PutsAny};
 ghost use Rattle.zeb_register.specs.Units.{HoldsUnits, counts_as, is_malformed, is_miscounted, reads_as};
 
+use crate::statements::inside::nothing_inside;
+use crate::tallies::counts_are_numbers;
 use crate::{DatabaseId, Expected, RegFault};
 use sqlite::{Alter, Connection, Transaction};
 use std::alloc::Global;
@@ -37,6 +39,13 @@ pub struct RecordChange<'a> {
     pub sysno: u64,
     pub old: &'a [Place],
     pub new: &'a [Place],
+}
+
+/// What becomes of a key's places in records.
+#[derive(Clone, Copy, Debug)]
+pub struct KeyChanges<'a> {
+    pub key: &'a Key,
+    pub changes: &'a [RecordChange<'a>],
 }
 
 /// A term of a register, and the number of records that have it.
@@ -88,7 +97,8 @@ pub trait Layout {
     ghost use Rattle.zeb_register.specs.Between.{AreKeysBetween};
     ghost use Rattle.zeb_register.specs.Units.{ListsKey, ListsTerms};
     ghost use Rattle.zeb_register.specs.Terms.{TellsAll, TellsBefore, TellsFrom, TellsTotals, WorksThrough};
-    ghost use Rattle.zeb_register.specs.UnitChanges.{ChangesKey};
+    ghost use Rattle.zeb_register.specs.UnitChanges.{ChangesKey, NumbersRise};
+    ghost use Rattle.zeb_register.specs.RunChanges.{ChangesKeys, IsRun, changes_in};
     ghost use Rattle.zeb_keys.specs.declared.keys.Key.{Key};
     ghost use Rattle.zeb_blocks.specs.declared.postings.Posting.{Posting};
 
@@ -128,8 +138,9 @@ pub trait Layout {
         Self::key_changes(tx, work, db, key, &[change])
     }
 
-    /// Puts places of a key in several records, one after the other, each where its `old` stood. A layout may read and write a row once
-    /// for several records that stand next to each other in `changes`; it counts work as if each record had been changed alone.
+    /// Puts places of a key in several records, one after the other, each where its `old` stood. The numbers of the records don't fall. A
+    /// layout may read and write a row once for several records that stand next to each other; it counts work as if each record had been
+    /// changed alone.
     ///
     /// `Damaged` where a record has other places than its `old`, where a row that is read is malformed, and where the number of the records
     /// that have the key is kept and can't follow. `Store` also where a number of a record is 0 or above 999,999,999, one of a place 0 or
@@ -141,6 +152,7 @@ pub trait Layout {
         key: &Key,
         changes: &[RecordChange<'_>],
     ) -> Result<(), RegFault>
+        requires rising { NumbersRise changes.now }
         ensures same { tx.new.conn.ghost_name ≡ tx.old.conn.ghost_name }
         ensures call { Inside (state S.Store tx.old.conn.now) (state S.Store tx.new.conn.now) result
             (λ _. GoesOn) }
@@ -150,6 +162,35 @@ pub trait Layout {
             (row_work * length changes.now)
             (row_work * length changes.now) (row_work * length changes.now) work.old work.new) }
         ensures no_work { row_work ≡ 0 → work.new ≡ work.old };
+
+    /// Puts the changes of a run of keys, each where its `old` stood. A layout may read and write a row once for several keys that it keeps
+    /// there; it counts work as if each key had been changed alone.
+    ///
+    /// It is refused where `key_changes` of one of the keys is, and keys may be changed then that stand before it.
+    fn run_changes<S: Alter>(
+        tx: &mut Transaction<'_, S>,
+        work: &mut Work,
+        db: DatabaseId,
+        run: &[KeyChanges<'_>],
+    ) -> Result<(), RegFault>
+        requires rising { IsRun run.now }
+        ensures same { tx.new.conn.ghost_name ≡ tx.old.conn.ghost_name }
+        ensures call { Inside (state S.Store tx.old.conn.now) (state S.Store tx.new.conn.now) result
+            (λ _. GoesOn) }
+        ensures units { ChangesKeys format db.0 run.now
+            (state S.Store tx.old.conn.now) (state S.Store tx.new.conn.now) result }
+        ensures work { OnOk result (Works (row_work * changes_in run.now) (row_work * changes_in run.now)
+            (row_work * changes_in run.now) (row_work * changes_in run.now) work.old work.new) }
+        ensures no_work { row_work ≡ 0 → work.new ≡ work.old }
+    {
+        // A closed connection is refused also where there is no key.
+        nothing_inside(tx)?;
+        for one in run {
+            Self::key_changes(tx, work, db, one.key, one.changes)?;
+            counts_are_numbers(work);
+        }
+        Ok(())
+    }
 
     /// Takes a database out, with its records and its rows in every table of the registers.
     fn database_take<S: Alter>(tx: &mut Transaction<'_, S>, db: DatabaseId) -> Result<(), RegFault>

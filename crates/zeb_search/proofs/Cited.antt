@@ -81,13 +81,15 @@ pub use Rattle.zeb_register.specs.declared.registers.TermCount.{TermCount}
 pub use Rattle.zeb_register.specs.declared.registers.Work.{Work}
 pub use Rattle.zeb_search.specs.Comparing.{Precedes, StandsInOrder, Stands, AreApart, IsDistant}
 pub use Rattle.zeb_search.specs.DictRows.{EntryDict, PlanDict, RegisterDict, TermDict, WordDict}
+pub use Rattle.zeb_search.specs.Finds.{FindsEntries, FindsPlan, FindsWords, Follow, HasAll, HasAsked, HasEach, HasPosting, HasRun, HasSome, HidesEntries, HidesWord, HidesWords, IsCounted, IsNear, IsReached, IsShown, IsStray, Occurs, PlanFinds, PlanHides, ReadsEntries, ReadsWord, ReadsWords, TermFinds, TermHides}
+pub use Rattle.zeb_search.specs.PrivateFinds.{FindsEntry, FindsKeys, FindsTerm, HidesKeys, IsReachedBy, ListsKeys, PlacesFound, ReadsKeys, ReadsPlaces, ReadsRun, FindsRuns, MeetsTerms, ReadsPhrases}
 pub use Rattle.zeb_search.specs.Holds.{AreJoined, HasEntry, HasWord, HasWords, HasNear, TermHolds, TreeHolds, Fits, HasMatch, HasPhrase, IsNumberAt}
 pub use Rattle.zeb_search.specs.ListRows.{AreKeysOf, EntryRows, rows_under, WordRows, PlanRows}
 pub use Rattle.zeb_search.specs.Lists.{AreNumbers, AreJust, Rise}
 pub use Rattle.zeb_search.specs.PrivateLists.{ArePostings}
-pub use Rattle.zeb_search.specs.PrivateMet.{IsShownWith, AreKeyListsSound, AreKeysIn, AreMet, HasMet}
+pub use Rattle.zeb_search.specs.PrivateMet.{IsShownAmong, IsShownWith, AreKeysIn, AreMet, HasMet, MeetsCounts}
 pub use Rattle.zeb_search.specs.PrivateSearchCounts.{NoRows}
-pub use Rattle.zeb_search.specs.PrivateTerms.{TermsRise, BeginsAt, IsAmong, LeadsTo, AreTaken, IsWanted, NamesEntry, AreFound, AreNeighbours, AreRun, HasWanted, IsPostingOf, StandTogether, StandsWithin, HasPosting, HasBehind, IsNear, EndsAt}
+pub use Rattle.zeb_search.specs.PrivateTerms.{TermsRise, BeginsAt, IsAmong, LeadsTo, AreTaken, IsWanted, NamesEntry, AreFound, AreNeighbours, AreRun, IsPostingOf, StandTogether, StandsWithin, HasBehind, EndsAt}
 pub use Rattle.zeb_search.specs.PrivateWalks.{HasWithin, IsBefore, IsBehind, IsUpTo, IsWithin, IsFollowed, IsNearBy, IsWithinSome}
 pub use Rattle.zeb_search.specs.PrivateWordCounts.{CountedMatches, CountedWords}
 pub use Rattle.zeb_search.specs.Registers.{HoldsIn, is_kept_in, NamesReadable, TermNamesReadable}

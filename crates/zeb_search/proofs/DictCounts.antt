@@ -1,5 +1,5 @@
 -- How many rows of `dict` calls read, one after the other.
-use Rattle.zeb_search.proofs.Cited.{◌≡◌, ◌∙◌, ◌++◌, ◌∷◌, ◌+◌, ◌*◌, ◌≤◌, [], ℕ, ℤ, List, Some, None, arith, ap, refl, sym, subst, inl, inr, length, map, length-append, Ordering, Less, length-map, mul-add, mul-le-mul_left, IsTotalOrder, nat_list_cmp_total, State, HasCleanDisk, Survives, Has, all_has, has_mapped, mapped_has, Symbol, Register, PlanValue, TermOf, PairOf, NearOf, TermPlanValue, RecordNumberOf, AlwaysOf, NumberOf, OrderedOf, CompleteOf, PhraseOf, AllWordsOf, AnyWordOf, Occurrence, TermCount, Work, Content, posted, Format, holds_in, AreTermsOf, TermIn, IsStore, Works, never_itself, CountsByContent, HasNoStar, AreWithoutStars, IsOneKey, NamesEntries, TermNamesEntries, NoRows, EntryDict, PlanDict, RegisterDict, TermDict, WordDict, TermsRise}
+use Rattle.zeb_search.proofs.Cited.{◌≡◌, ◌∙◌, ◌++◌, ◌∷◌, ◌+◌, ◌*◌, ◌≤◌, [], ℕ, ℤ, List, Some, None, arith, ap, refl, sym, subst, inl, inr, length, map, length-append, Ordering, Less, length-map, mul-add, mul-le-mul_left, IsTotalOrder, nat_list_cmp_total, State, Survives, Has, all_has, has_mapped, mapped_has, Symbol, Register, PlanValue, TermOf, PairOf, NearOf, TermPlanValue, RecordNumberOf, AlwaysOf, NumberOf, OrderedOf, CompleteOf, PhraseOf, AllWordsOf, AnyWordOf, Occurrence, TermCount, Work, Content, posted, Format, AreTermsOf, TermIn, Works, never_itself, CountsByContent, HasNoStar, AreWithoutStars, IsOneKey, NamesEntries, TermNamesEntries, NoRows, EntryDict, PlanDict, RegisterDict, TermDict, WordDict, TermsRise}
 use Rattle.std.specs.List.Sorted.{IsStrictlySortedBy}
 use Rattle.zeb_keys.specs.declared.Register.TheVariants as register
 use Rattle.zeb_search.proofs.SearchCountLemmas.{counted_then, no_rows_then, terms_count}

@@ -1,9 +1,8 @@
 -- The counts of a register's terms that a search has met, page by page.
-use Rattle.zeb_search.proofs.Cited.{◌≡◌, ◌≢◌, ◌⊎◌, ◌∙◌, ◌<◌, ◌≤◌, ℕ, ℤ, List, [], ◌∷◌, ◌++◌, length, refl, sym, ap, subst, inl, inr, Less, Equal, Greater, Ordering, None, Some, String, string_bytes, Global, nat_cmp, slice_cmp, append_assoc, Trees, Has, has_either, has_left, has_right, Register, TermCount, Content, posted, Format, holds_in, TermIn, key_in, Precedes, Wanted, HasMet, HasWanted, IsShownWith, BeginsAt, IsAmong, IsWanted, LeadsTo, TermsRise}
+use Rattle.zeb_search.proofs.Cited.{◌≡◌, ◌≢◌, ◌⊎◌, ◌∙◌, ◌<◌, ◌≤◌, ℕ, ℤ, List, [], ◌∷◌, ◌++◌, length, refl, sym, ap, subst, inl, inr, Less, Equal, Greater, Ordering, None, Some, String, string_bytes, Global, nat_cmp, slice_cmp, append_assoc, Trees, Has, has_either, has_left, has_right, Register, TermCount, Content, posted, Format, holds_in, TermIn, key_in, Precedes, Wanted, HasMet, IsShownWith, BeginsAt, IsAmong, IsWanted, LeadsTo, TermsRise}
 use Rattle.zeb_register.specs.Terms.{Comes, IsNearest, ListsAll, ListsFrom}
 use Rattle.zeb_register.specs.Units.{counts_as}
 use Rattle.zeb_register.proofs.BlockContents.{some_counted}
-use Rattle.zeb_register.proofs.CountLemmas.{some_count}
 use Rattle.zeb_register.proofs.CountLists.{asked_shown}
 use Rattle.zeb_register.proofs.KeyLists.{count_held}
 use Rattle.zeb_search.proofs.Comparisons.{below_next, below_others, none_between, precedes_then}
@@ -44,18 +43,7 @@ module _ (format : Format) (trees : Trees) (db : ℤ) (index : ℕ) (register : 
       shown : (term : List ℕ) → IsTold terms term
       shown term = asked_shown format trees db index register (λ _. Unit {0}) terms lists term tt
 
-  -- where the tables hold a content, they are the terms that are asked for
-  pub met_held : (terms : List TermCount) → HasMet format trees db index register wanted terms → (content : Content) → holds_in format trees content → HasWanted (posted content db) index register wanted terms
-  met_held terms met content holds = record {
-    rising = met.rising;
-    all = λ term n there asked. among term n there (met.each term asked);
-    whole = λ one two first last term n there within. among term n there (met.whole one two first last term within);
-  }
-    where
-      among : (term : List ℕ) (n : ℕ) → TermIn (posted content db) index register term n → IsTold terms term → IsAmong terms term
-      among term n there it = it.2 (some_count (TermIn (posted content db) index register term) it.0 n (count_held format trees content holds db (key_in index register term) it.0 it.1.0) there)
-
-  -- and some record has each
+  -- where the tables hold a content, some record has each
   pub met_of : (t : TermCount) → (1 ≤ t.records) × counts_as format trees db (key_in index register t.term) t.records → (content : Content) → holds_in format trees content → (n : ℕ) × TermIn (posted content db) index register t.term n
   met_of t it content holds = some_counted (TermIn (posted content db) index register t.term) t.records (count_held format trees content holds db (key_in index register t.term) t.records it.1) it.0
 

@@ -1,12 +1,9 @@
--- What a step of a search has met, in each format: the rows of a register's terms, and the lists of their keys.
-use Rattle.zeb_search.proofs.Cited.{◌≡◌, ◌↔◌, ◌∙◌, ◌++◌, ◌∷◌, [], ℕ, ℤ, List, ap, drop, get_or, inl, inr, length, subst, sym, Null, Text, Row, column, State, Survives, Trees, Has, has_either, has_left, has_right, Register, Key, RegisterOf, TermCount, OnStore, Format, plain_rows, packed_blocks, key_in, register_front, AreListsSound, IsListSound, Rise, Wanted, AreKeyListsSound, AreKeysIn, AreMet, HasMet, AreTaken, IsWanted, NamesEntry, AreEntriesSound}
-use Rattle.zeb_register.specs.Store.{IsRest, dict_tree}
+-- What a step of a search has met: the counts of a register's terms, and the keys of those that are asked for.
+use Rattle.zeb_search.proofs.Cited.{◌≡◌, ◌↔◌, ◌∙◌, ◌++◌, ◌∷◌, [], ℕ, ℤ, List, ap, inl, inr, subst, subst₂, sym, IsTrue, State, Survives, Trees, Has, has_left, has_right, Register, Key, RegisterOf, TermCount, OnStore, Format, key_in, Rise, Wanted, AreKeysIn, AreMet, HasMet, AreTaken, FoundKeys, IsAmong, IsWanted, NamesEntry, StandTogether, StandsWithin}
 use Rattle.zeb_register.specs.Terms.{ListsFrom}
-use Rattle.zeb_register.proofs.BetweenRows.{begins}
+use Rattle.zeb_register.specs.Units.{counts_as}
 use Rattle.zeb_search.proofs.MetPages.{MetUpTo}
 use Rattle.zeb_search.proofs.MetRows.{met_later}
-use Rattle.zeb_search.proofs.NeighbourLemmas.{HaveEnds, from_first, not_lower, up_to_last}
-use Rattle.zeb_search.proofs.OneKey.{one_alone}
 use Rattle.zeb_search.proofs.ReadLemmas.{IsRead, clean_before}
 use Rattle.zeb_search.proofs.RisingTexts.{back_rise, front_rise, one_rises}
 
@@ -26,75 +23,62 @@ page_told format db index register wanted a b c read crash terms text start same
 
 -- ---- keys
 
-module _ (of : RegisterOf) (wanted : Wanted) where
+module _ (of : RegisterOf) (wanted : Wanted) (format : Format) (trees : Trees) where
   -- the keys of the terms that are asked for
-  pub keys_met : (format : Format) (trees : Trees) (terms : List TermCount) (keys : List Key) → (¬ NamesEntry wanted) → HasMet format trees of.db.0 of.index of.register wanted terms
-      → AreTaken of.index of.register wanted terms keys → AreMet format trees of wanted keys
-  keys_met format trees terms keys unnamed met taken = record {
-    are = record {
-      rising = taken.rising met.rising;
-      each = λ key there.
-          let from = (taken.each key).0 there in
-          let same : key.term ≡ from.0.term = ap (λ (k : Key). k.term) from.2.1 in
-          from.2.1 ∙ ap (key_in of.index of.register) (sym same);
-    };
-    named = λ named. absurd (unnamed named);
-    each = λ _ term asked.
-        let it = met.each term asked in (
-          it.0,
-          it.1,
-          λ has.
-              let among = it.2 has in
-              (taken.each (key_in of.index of.register term)).1 (among.0, among.1, (subst (IsWanted wanted) (sym among.2) asked, ap (key_in of.index of.register) (sym among.2))),
-        );
+  pub keys_met : (terms : List TermCount) (found : FoundKeys) → (¬ NamesEntry wanted) → HasMet format trees of.db.0 of.index of.register wanted terms
+      → AreTaken of.index of.register wanted terms found.keys.items → (IsTrue found.are_neighbours → StandTogether wanted terms) → AreMet format trees of wanted found
+  keys_met terms found unnamed met taken together = record {
+    are = record { rising = taken.rising met.rising; each = λ key there. let from = term_of key there in from.2.1 ∙ ap (key_in of.index of.register) (sym (its_term key there)) };
+    asked = λ key there. subst (IsWanted wanted) (sym (its_term key there)) (term_of key there).2.0;
+    met = inr (
+      unnamed,
+      record {
+        counted = λ key there.
+            let from = term_of key there in
+            let it = met.of from.0 from.1 in
+            (from.0.records, it.0, subst (λ (k : Key). counts_as format trees of.db.0 k from.0.records) (sym from.2.1) it.1);
+        each = λ term asked. let it = met.each term asked in (it.0, it.1, λ has. let among = it.2 has in its_key term among (subst (IsWanted wanted) (sym among.2) asked));
+        neighbours = λ is first last one two term within.
+            let s = term_of first one in
+            let t = term_of last two in
+            let moved : StandsWithin s.0.term t.0.term term = subst₂ (λ a b. StandsWithin a b term) (its_term first one) (its_term last two) within in
+            let it = met.whole s.0 t.0 s.1 t.1 term moved in (
+              it.0,
+              it.1,
+              λ has.
+                  let among = it.2 has in
+                  its_key term among (together is s.0 t.0 among.0 s.1 t.1 among.1 s.2.0 t.2.0 (subst (StandsWithin s.0.term t.0.term) (sym among.2) moved)),
+            );
+      },
+    );
   }
+    where
+      term_of : (key : Key) → Has found.keys.items key → (t : TermCount) × Has terms t × (IsWanted wanted t.term × (key ≡ key_in of.index of.register t.term))
+      term_of key there = (taken.each key).0 there
+
+      its_term : (key : Key) (there : Has found.keys.items key) → key.term ≡ (term_of key there).0.term
+      its_term key there = ap (λ (k : Key). k.term) (term_of key there).2.1
+
+      its_key : (term : List ℕ) (among : IsAmong terms term) → IsWanted wanted among.0.term → Has found.keys.items (key_in of.index of.register term)
+      its_key term among asked = (taken.each (key_in of.index of.register term)).1 (among.0, among.1, (asked, ap (key_in of.index of.register) (sym among.2)))
 
   -- the key of the one entry that is asked for
-  pub named_met : (format : Format) (trees : Trees) (text : List ℕ) → NamesEntry wanted → ((term : List ℕ) → IsWanted wanted term ↔ (term ≡ text))
-      → AreMet format trees of wanted (key_in of.index of.register text ∷ [])
-  named_met format trees text named one = record {
-    are = record {
+  pub named_met : (found : FoundKeys) (text : List ℕ) → NamesEntry wanted → ((term : List ℕ) → IsWanted wanted term ↔ (term ≡ text)) → found.keys.items ≡ key_in of.index of.register text ∷ []
+      → ¬ IsTrue found.are_neighbours → AreMet format trees of wanted found
+  named_met found text named one is alone = record {
+    are = subst (AreKeysIn of) (sym is) (record {
       rising = one_rises (λ (key : Key). key.term) (key_in of.index of.register text);
-      each = λ key there. elim there [
-        | inl same ↦ same ∙ ap (key_in of.index of.register) (sym (ap (λ (k : Key). k.term) same))
-        | inr none ↦ absurd none
-      ];
-    };
-    named = λ _ term asked. inl (ap (key_in of.index of.register) ((one term).0 asked));
-    each = λ unnamed. absurd (unnamed named);
+      each = λ key there. its_own key (only key there);
+    });
+    asked = λ key there. (one key.term).1 (ap (λ (k : Key). k.term) (only key (subst (λ (l : List Key). Has l key) is there)));
+    met = inl (named, record { each = λ term asked. subst (λ (l : List Key). Has l (key_in of.index of.register term)) (sym is) (inl (ap (key_in of.index of.register) ((one term).0 asked))); alone = alone });
   }
+    where
+      only : (key : Key) → Has (key_in of.index of.register text ∷ []) key → key ≡ key_in of.index of.register text
+      only key there = elim there [ inl same ↦ same | inr none ↦ absurd none ]
 
-  -- with their lists, all rows that are asked for are sound
-  pub entries_sound : (format : Format) (trees : Trees) (keys : List Key) → AreMet format trees of wanted keys → (AreKeysIn of keys → AreKeyListsSound format trees of.db.0 keys)
-      → AreEntriesSound format trees of.db.0 (NamesEntry wanted) of.index of.register (IsWanted wanted)
-  entries_sound plain_rows trees keys met lists term asked = (λ _. tt, λ _. tt)
-  entries_sound packed_blocks trees keys met lists term asked = (
-    λ named. lists met.are (key_in of.index of.register term) (met.named named term asked),
-    λ unnamed row there shown.
-        let it = met.each unnamed term asked in
-        let is : row ≡ Text term ∷ drop 1 row = begins row (Text term) shown (λ none. cc) in
-        let said = it.1.0.said (drop 1 row) (subst (IsRest dict_tree (register_front of.db.0 of.index of.register) trees) is there) in
-        ((term, shown, it.1.1 said.0, (it.0, ap (λ (r : Row). column r 1) is ∙ said.2, said.0, said.1)), lists met.are (key_in of.index of.register term) (it.2 said.0)),
-  )
-
--- ---- lists
-
-module _ (format : Format) (trees : Trees) where
-  pub one_sound : (db : ℤ) (keys : List Key) (key : Key) → length keys ≡ 1 → key ≡ get_or keys 0 key → IsListSound format trees db key → AreKeyListsSound format trees db keys
-  one_sound db keys key one is sound other here = elim (subst (λ (l : List Key). Has l other) (one_alone keys key one is) here) [
-    | inl same ↦ subst (IsListSound format trees db) (sym same) sound
-    | inr none ↦ absurd none
-  ]
-
-  pub between_sound : (of : RegisterOf) (keys : List Key) (first last : Key) → HaveEnds keys first last → AreListsSound format trees of.db.0 of.index of.register first.term last.term
-      → AreKeysIn of keys → AreKeyListsSound format trees of.db.0 keys
-  between_sound of keys first last at sound are key here =
-      subst (IsListSound format trees of.db.0) (sym (are.each key here))
-      (sound key.term (not_lower key.term first.term (from_first keys are.rising first last at key here), not_lower last.term key.term (up_to_last keys are.rising first last at key here)))
-
-  -- one run more
-  pub more_sound : (db : ℤ) (done run : List Key) → AreKeyListsSound format trees db done → AreKeyListsSound format trees db run → AreKeyListsSound format trees db (done ++ run)
-  more_sound db done run before here key there = elim (has_either done run key there) [ inl old ↦ before key old | inr new ↦ here key new ]
+      its_own : (key : Key) → key ≡ key_in of.index of.register text → key ≡ key_in of.index of.register key.term
+      its_own key same = same ∙ ap (key_in of.index of.register) (sym (ap (λ (k : Key). k.term) same))
 
 -- a part of such keys
 pub part_in_order : (of : RegisterOf) (keys done run behind : List Key) → keys ≡ done ++ (run ++ behind) → AreKeysIn of keys → AreKeysIn of run

@@ -1,5 +1,5 @@
 -- Terms that stand next to each other in a register, and the postings of such a run.
-use Rattle.zeb_search.proofs.Cited.{◌≡◌, ◌↔◌, ◌⊎◌, ◌∙◌, ◌+◌, ◌-◌, ◌≤◌, ℕ, ℤ, suc, Bool, true, false, IsTrue, List, [], ◌∷◌, ◌++◌, Result, Ok, Err, Vec, OnOk, drop, get_or, length, map, take, refl, sym, ap, subst, subst₂, inl, inr, Ordering, Less, Equal, Greater, arith, nat_cmp, is_lt, slice_cmp, take-append-drop, Global, State, HasCleanDisk, Survives, Has, all_has, has_either, has_right, mapped_has, Key, RegisterOf, TermCount, Work, AreKeysBetween, IsPostingBetween, OnStore, TellsHeld, Content, Posting, posted, Format, holds_in, key_in, IsStore, Works, RegFault, Precedes, CountsByContent, CountsAtMost, NoRows, FoundKeys, Wanted, AreKeysOf, EntryRows, rows_under, Rise, AreFound, AreNeighbours, AreRun, AreTaken, HasWanted, IsPostingOf, IsWanted, StandTogether, StandsWithin, TermsRise, last_view}
+use Rattle.zeb_search.proofs.Cited.{◌≡◌, ◌⊎◌, ◌∙◌, ◌+◌, ◌-◌, ◌≤◌, ℕ, ℤ, suc, Bool, true, false, List, [], ◌∷◌, ◌++◌, Result, Ok, Err, Vec, OnOk, drop, get_or, length, map, take, refl, sym, ap, subst, subst₂, inl, inr, Ordering, Less, Equal, Greater, arith, nat_cmp, is_lt, slice_cmp, take-append-drop, Global, State, HasCleanDisk, Survives, Has, all_has, has_either, has_right, mapped_has, Key, RegisterOf, TermCount, Work, AreKeysBetween, OnStore, TellsHeld, Content, Posting, posted, Format, holds_in, IsStore, Works, RegFault, Precedes, CountsByContent, CountsAtMost, NoRows, FoundKeys, Wanted, AreKeysOf, EntryRows, rows_under, Rise, AreFound, AreRun, IsWanted, StandTogether, TermsRise, last_view}
 use Rattle.std.specs.List.Sorted.{IsStrictlySortedBy}
 use Rattle.zeb_search.proofs.Comparisons.{never_after, never_before_itself}
 use Rattle.zeb_search.proofs.SearchCountLemmas.{counts_then, list_counts}
@@ -72,24 +72,6 @@ module _ (wanted : Wanted) where
       ];
     }
 
--- ---- the keys of terms that stand together
-
-module _ (content : Content) (of : RegisterOf) (wanted : Wanted) where
-  pub keys_neighbours : (terms : List TermCount) (keys : List Key) → HasWanted (posted content of.db.0) of.index of.register wanted terms → StandTogether wanted terms
-      → AreTaken of.index of.register wanted terms keys → AreNeighbours content of keys
-  keys_neighbours terms keys has together taken first last one two term p within here =
-      let s = (taken.each first).0 one in
-      let t = (taken.each last).0 two in
-      let moved : StandsWithin s.0.term t.0.term term = subst₂ (λ a b. StandsWithin a b term) (ap (λ (k : Key). k.term) s.2.1) (ap (λ (k : Key). k.term) t.2.1) within in
-      let u = has.whole s.0 t.0 s.1 t.1 term p.sysno (record { key = key_in of.index of.register term; seq = p.seq; pos = p.pos }, here, refl) moved in
-      let asked = together s.0 t.0 u.0 s.1 t.1 u.1 s.2.0 t.2.0 (subst (StandsWithin s.0.term t.0.term) (sym u.2) moved) in
-      (taken.each (key_in of.index of.register term)).1 (u.0, u.1, (asked, ap (key_in of.index of.register) (sym u.2)))
-
-  -- keys that were found, as they were read
-  pub found_keys : (found : FoundKeys) → AreKeysOf (posted content of.db.0) of.index of.register (IsWanted wanted) found.keys.items → (IsTrue found.are_neighbours → AreNeighbours content of found.keys.items)
-      → AreKeysOf (posted content of.db.0) of.index of.register (IsWanted wanted) found.keys.items × AreFound content of found
-  found_keys found are neighbours = (are, record { rising = are.rising; each = λ key here. (are.each key here).0; neighbours = neighbours })
-
 -- ---- the postings from the first key to the last
 
 -- these keys begin with the one and end with the other
@@ -123,7 +105,7 @@ not_lower a b never = by (slice_cmp nat_cmp a b) refl
     by Equal is = refl
     by Greater is = refl
 
-never_lower : (a b : List ℕ) → is_lt (slice_cmp nat_cmp a b) ≡ false → ¬ Precedes a b
+pub never_lower : (a b : List ℕ) → is_lt (slice_cmp nat_cmp a b) ≡ false → ¬ Precedes a b
 never_lower a b low is = let e : true ≡ false = sym (ap is_lt is) ∙ low in cc
 
 -- keys that rise stand between the first and the last
@@ -154,24 +136,9 @@ module _ (content : Content) (of : RegisterOf) (keys : List Key) (are : AreRun c
         term p (never_lower term first.term between.0, never_lower last.term term between.1) here;
   }
 
-  -- they are those of the keys
-  pub run_listed : (list : List Posting) → ((p : Posting) → Has list p ↔ IsPostingBetween content of first.term last.term p) → (p : Posting) → Has list p ↔ IsPostingOf content of.db.0 keys p
-  run_listed list is p = (
-    λ here. let it = (is p).0 here in (key_in of.index of.register it.0, keys_between.all it.0 p it.1 it.2, it.2),
-    λ posting.
-        let key = keys_between.each posting.0 posting.1 in
-        (is p).1 (posting.0.term, key.1, subst (λ (k : Key). Has (content of.db.0 k) p) key.0 posting.2),
-  )
-
 -- a call that reads the lists from the first key to the last, whose texts are these
 module _ (format : Format) (of : RegisterOf) (keys : List Key) (many : 2 ≤ length keys) (first last : Key) (at : HaveEnds keys first last)
     (low high : List ℕ) (is_low : low ≡ first.term) (is_high : high ≡ last.term) (old new : State) where
-  pub between_listed : (result : Result (Vec Posting Global) RegFault) → TellsHeld (holds_in format) old new result (λ content list. (p : Posting) → Has list.items p ↔ IsPostingBetween content of low high p)
-      → TellsHeld (holds_in format) old new result (λ content list. AreRun content of keys → (p : Posting) → Has list.items p ↔ IsPostingOf content of.db.0 keys p)
-  between_listed (Err why) told = λ clean store. tt
-  between_listed (Ok list) told = λ clean store content has are.
-      run_listed content of keys are many first last at list.items (subst₂ (λ a b. (p : Posting) → Has list.items p ↔ IsPostingBetween content of a b p) is_low is_high (told clean store content has))
-
   pub between_counted : (rows : List Posting → ℕ) (a b : Work) (result : Result (Vec Posting Global) RegFault)
       → TellsHeld (holds_in format) old new result (λ content _. (keys : List Key) → AreKeysBetween content of low high keys → Works 0 0 (rows_under rows content of.db.0 keys) 0 a b)
       → OnOk result (OnStore old new (λ trees. (content : Content) → holds_in format trees content → AreRun content of keys → CountsAtMost 0 (rows_under rows content of.db.0 keys) a b))

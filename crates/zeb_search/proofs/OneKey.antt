@@ -1,5 +1,5 @@
 -- The list of a key that is the only one.
-use Rattle.zeb_search.proofs.Cited.{◌≡◌, ◌↔◌, ◌∙◌, ◌∷◌, [], ℕ, ℤ, List, Result, Ok, Err, Vec, OnOk, arith, ap, get_or, inl, inr, length, refl, subst, sym, Global, State, Has, Key, TellsHeld, Content, Posting, Format, holds_in, Works, RegFault, Work, registers_rise, CountsByContent, NoRows, rows_under, ArePostings, IsPostingOf}
+use Rattle.zeb_search.proofs.Cited.{◌≡◌, ◌∙◌, ◌∷◌, [], ℕ, ℤ, List, Result, Ok, Err, Vec, OnOk, arith, ap, get_or, length, refl, sym, Global, State, Key, TellsHeld, Content, Posting, Format, holds_in, Works, RegFault, Work, CountsByContent, NoRows, rows_under}
 use Rattle.zeb_search.proofs.SearchCountLemmas.{list_counts}
 
 pub one_alone : {X : Type 0} (keys : List X) (key : X) → length keys ≡ 1 → key ≡ get_or keys 0 key → keys ≡ key ∷ []
@@ -8,24 +8,6 @@ one_alone (first ∷ []) key one is = ap (λ k. k ∷ []) (sym is)
 one_alone (first ∷ second ∷ more) key one is = absurd (omega arith)
 
 module _ (format : Format) (db : ℤ) (keys : List Key) (key : Key) (one : length keys ≡ 1) (is : key ≡ get_or keys 0 key) where
-  pub one_listed : (old new : State) (result : Result (Vec Posting Global) RegFault) → TellsHeld (holds_in format) old new result (λ content list. list.items ≡ content db key)
-      → TellsHeld (holds_in format) old new result (λ content list. (p : Posting) → Has list.items p ↔ IsPostingOf content db keys p)
-  one_listed old new (Err why) told = λ clean store. tt
-  one_listed old new (Ok list) told = λ clean store content has.
-      let same = told clean store content has in
-      rw (one_alone keys key one is, same) (λ p. (λ there. (key, inl refl, there), λ of. elim of.1 [ inl here ↦ subst (λ (k : Key). Has (content db k) p) here of.2 | inr none ↦ absurd none ]))
-
-  -- it rises, as each list of a content does
-  pub one_told : (old new : State) (result : Result (Vec Posting Global) RegFault) → TellsHeld (holds_in format) old new result (λ content list. list.items ≡ content db key)
-      → TellsHeld (holds_in format) old new result (λ content list. ArePostings (IsPostingOf content db keys) list.items)
-  one_told old new (Err why) told = λ clean store. tt
-  one_told old new (Ok list) told = λ clean store content has.
-      let same = told clean store content has in
-      rw (one_alone keys key one is, same) record {
-        rising = registers_rise format old.now.trees content has db key;
-        each = λ p. (λ there. (key, inl refl, there), λ of. elim of.1 [ inl here ↦ subst (λ (k : Key). Has (content db k) p) here of.2 | inr none ↦ absurd none ]);
-      }
-
   module _ (rows : List Posting → ℕ) where
     rows_of_one : (content : Content) → rows (content db key) ≡ rows_under rows content db keys
     rows_of_one content = rw (one_alone keys key one is) (omega arith)

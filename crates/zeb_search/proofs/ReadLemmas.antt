@@ -1,5 +1,5 @@
 -- Reading calls one after the other: what the accepted ones leave of a connection, and what later ones tell of the tables at the first.
-use Rattle.zeb_search.proofs.Cited.{◌≡◌, ◌∙◌, false, IsTrue, Result, Ok, Err, arith, refl, sym, ap, subst, Database, Trees, State, HasCleanDisk, IsUnchanged, Survives, unchanged_then, ChangesNothing, Reading, Content, IsStorable, Format, holds_in, IsStore, nothing_still, nothing_then, store_same, quiet_still, quiet_then, IsUntouched}
+use Rattle.zeb_search.proofs.Cited.{◌≡◌, ◌∙◌, false, IsTrue, Result, Ok, Err, arith, refl, sym, ap, subst, Database, State, HasCleanDisk, IsUnchanged, Survives, unchanged_then, ChangesNothing, Reading, IsStore, nothing_still, nothing_then, store_same, quiet_still, quiet_then, IsUntouched}
 
 -- every call so far was accepted
 pub record IsRead (old new : State) : Type 0 where
@@ -74,26 +74,3 @@ still_store a b read clean store = store_same a b (read.untouched clean).0 store
 
 pub still_trees : (a b : State) → IsRead a b → HasCleanDisk b → b.now.trees ≡ a.now.trees
 still_trees a b read clean = ap (λ (d : Database). d.trees) (read.untouched clean).0
-
-module _ (format : Format) where
-  -- what is told of each content that the tables hold
-  abbrev pub Tells : Trees → (Content → Type 0) → Type 0
-  Tells trees P = (content : Content) → holds_in format trees content → P content
-
-  pub told_before : (a b : State) (P : Content → Type 0) → IsRead a b → HasCleanDisk b → Tells b.now.trees P → Tells a.now.trees P
-  told_before a b P read clean told content has = told content (subst (λ t. holds_in format t content) (sym (still_trees a b read clean)) has)
-
-  -- what a later call tells of each content, of those that the tables held before the accepted ones
-  pub told_behind : (a b c : State) (P : Content → Type 0) → IsRead a b → Survives b c (λ _. ⊥)
-      → (HasCleanDisk c → IsStore b → (content : Content) → holds_in format b.now.trees content → P content)
-      → HasCleanDisk c → IsStore a → (content : Content) → holds_in format a.now.trees content → P content
-  told_behind a b c P read crash told clean store content has =
-      let first = clean_before b c crash clean in
-      told clean (still_store a b read first store) content (subst (λ t. holds_in format t content) (sym (still_trees a b read first)) has)
-
-  -- the tables hold no content
-  abbrev pub HoldsNone : Trees → Type 0
-  HoldsNone trees = (content : Content) → IsStorable content → ¬ holds_in format trees content
-
-  pub none_before : (a b : State) → IsRead a b → HasCleanDisk b → HoldsNone b.now.trees → HoldsNone a.now.trees
-  none_before a b read clean none content storable has = none content storable (subst (λ t. holds_in format t content) (sym (still_trees a b read clean)) has)

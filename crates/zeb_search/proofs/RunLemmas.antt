@@ -1,5 +1,5 @@
 -- Keys that were found, read run by run.
-use Rattle.zeb_search.proofs.Cited.{◌≡◌, ◌↔◌, ◌≤◌, ◌++◌, ℕ, ℤ, IsTrue, List, length, inl, inr, subst, sym, Has, has_either, has_left, has_right, Key, RegisterOf, Content, Posting, key_in, FoundKeys, Rise, AreFound, AreRun, IsPostingOf}
+use Rattle.zeb_search.proofs.Cited.{◌≡◌, ◌≤◌, ◌++◌, ℕ, IsTrue, List, length, inl, inr, subst, sym, Has, has_either, has_left, has_right, Key, RegisterOf, Content, key_in, FoundKeys, Rise, AreFound, AreRun}
 use Rattle.zeb_search.proofs.RisingTexts.{back_rise, before_behind, front_rise}
 
 abbrev text : Key → List ℕ
@@ -28,17 +28,3 @@ module _ (content : Content) (of : RegisterOf) (found : FoundKeys) (done run beh
           ]
         ];
   }
-
--- one run more
-pub listed_more : (content : Content) (db : ℤ) (done run : List Key) (postings list : List Posting) → ((p : Posting) → Has postings p ↔ IsPostingOf content db done p) → ((p : Posting) → Has list p ↔ IsPostingOf content db run p)
-    → (p : Posting) → Has (postings ++ list) p ↔ IsPostingOf content db (done ++ run) p
-listed_more content db done run postings list before here p = (
-  λ there. elim (has_either postings list p there) [
-    | inl old ↦ let it = (before p).0 old in (it.0, has_left done run it.0 it.1, it.2)
-    | inr new ↦ let it = (here p).0 new in (it.0, has_right done run it.0 it.1, it.2)
-  ],
-  λ it. elim (has_either done run it.0 it.1) [
-    | inl old ↦ has_left postings list p ((before p).1 (it.0, old, it.2))
-    | inr new ↦ has_right postings list p ((here p).1 (it.0, new, it.2))
-  ],
-)

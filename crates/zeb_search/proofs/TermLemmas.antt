@@ -1,8 +1,8 @@
 -- The terms that a step of a search asks for.
-use Rattle.zeb_search.proofs.Cited.{◌≡◌, ◌↔◌, ◌∙◌, ◌<◌, ◌^◌, ℕ, List, [], ◌∷◌, ◌++◌, arith, get_or, sym, ap, subst, subst₂, inl, inr, IsUtf8, chars, encode_utf8_all, Contains, get_or-map, length-map, encodes-chars, Relation, number_key, Matches, Symbol, Char, Star, literal, literal-same, same-literal, keys_order, Register, Key, Occurrence, numbers_apart, TermCount, AreTermsOf, key_in, Precedes, Stands, HasNoStar, Fits, IsNumberAt, Wanted, AreKeysOf, AreTaken, HasWanted, IsWanted}
+use Rattle.zeb_search.proofs.Cited.{◌≡◌, ◌↔◌, ◌∙◌, ◌<◌, ◌^◌, ℕ, List, [], ◌∷◌, ◌++◌, arith, get_or, sym, ap, subst, subst₂, inl, inr, IsUtf8, chars, encode_utf8_all, Contains, get_or-map, length-map, encodes-chars, Relation, number_key, Matches, Symbol, Char, Star, literal, literal-same, same-literal, keys_order, Register, Key, numbers_apart, TermCount, key_in, Precedes, Stands, HasNoStar, Fits, IsNumberAt, Wanted, AreTaken, IsWanted}
 use Rattle.zeb_search.proofs.Comparisons.{tied_back}
 use Rattle.zeb_search.proofs.GatheredLists.{gathers_more, gathers_none, gathers_past}
-use Rattle.zeb_search.proofs.RisingTexts.{before_last_text, front_rise, joined_rise, none_rises, one_rises, terms_rise}
+use Rattle.zeb_search.proofs.RisingTexts.{before_last_text, front_rise, joined_rise, none_rises, one_rises}
 
 pub same_number : (m n : ℕ) → m < 10 ^ 18 → n < 10 ^ 18 → number_key m ≡ number_key n → m ≡ n
 same_number m n m_small n_small same = numbers_apart m n (sym (keys_order m n m_small n_small) ∙ tied_back (number_key m) (number_key n) same)
@@ -27,34 +27,6 @@ literal_plain pattern text is has =
     let there : Contains (literal text) Star = subst (λ (p : List Symbol). Contains p Star) is has in
     let char : Char (get_or text there.0 0) ≡ Star = sym (get_or-map Char text there.0 0 Star (omega (arith, there.1, length-map text Char))) ∙ there.2 in
     cc
-
--- ---- the keys of the terms that are asked for
-
-module _ (O : ℕ → Occurrence → Type 0) (index : ℕ) (register : Register) (wanted : Wanted) where
-  pub keys_are : (terms : List TermCount) (keys : List Key) → HasWanted O index register wanted terms → AreTaken index register wanted terms keys → AreKeysOf O index register (IsWanted wanted) keys
-  keys_are terms keys has taken = record {
-    rising = taken.rising has.rising;
-    each = λ key there.
-        let from = (taken.each key).0 there in
-        let same : key.term ≡ from.0.term = ap (λ (k : Key). k.term) from.2.1 in
-        (from.2.1 ∙ ap (key_in index register) (sym same), subst (IsWanted wanted) (sym same) from.2.0);
-    all = λ term n there asked.
-        let from = has.all term n there asked in
-        (taken.each (key_in index register term)).1 (from.0, from.1, (subst (IsWanted wanted) (sym from.2) asked, ap (key_in index register) (sym from.2)));
-  }
-
-  -- the key of the one entry that is asked for
-  pub named_key : (text : List ℕ) → ((term : List ℕ) → IsWanted wanted term ↔ (term ≡ text)) → AreKeysOf O index register (IsWanted wanted) (key_in index register text ∷ [])
-  named_key text one = record {
-    rising = one_rises (λ (key : Key). key.term) (key_in index register text);
-    each = λ key there. elim there [
-      | inl same ↦
-          let of : key.term ≡ text = ap (λ (k : Key). k.term) same in
-          (same ∙ ap (key_in index register) (sym of), (one key.term).1 of)
-      | inr none ↦ absurd none
-    ];
-    all = λ term n there asked. inl (ap (key_in index register) ((one term).0 asked));
-  }
 
 -- the keys that are taken of terms, term by term
 module _ (index : ℕ) (register : Register) (wanted : Wanted) where

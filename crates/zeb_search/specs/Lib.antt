@@ -6,11 +6,13 @@ pub mod Holds
 pub mod ByAttributes
 pub mod ListRows
 pub mod SearchRows
+pub mod Finds
 pub mod Lists
 pub mod PrivateLists
 pub mod PrivateWordCounts
 pub mod PrivateTerms
 pub mod PrivateMet
+pub mod PrivateFinds
 pub mod PrivateWalks
 pub mod Registers
 pub mod Untouched

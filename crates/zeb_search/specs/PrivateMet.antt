@@ -1,6 +1,6 @@
 -- What only the contracts of private functions speak of; no public clause reaches it.
 -- Which counts of a register a step of a search has met, and which terms and keys it has found.
-use Rattle.std.specs.Prelude.{◌≡◌, ◌≤◌, ℕ, ℤ, List}
+use Rattle.std.specs.Prelude.{◌≡◌, ◌⊎◌, ◌≤◌, ℕ, ℤ, IsTrue, List}
 use Rattle.sqlite.specs.Tree.{Trees}
 use Rattle.sqlite_rules.specs.Lists.{Has}
 use Rattle.zeb_keys.specs.declared.Register.{Register}
@@ -9,10 +9,11 @@ use Rattle.zeb_register.specs.declared.registers.RegisterOf.{RegisterOf}
 use Rattle.zeb_register.specs.declared.registers.TermCount.{TermCount}
 use Rattle.zeb_register.specs.Formats.{Format}
 use Rattle.zeb_register.specs.Occurring.{key_in}
-use Rattle.zeb_register.specs.Sound.{IsListSound}
 use Rattle.zeb_register.specs.Terms.{shows_count}
 use Rattle.zeb_register.specs.Units.{counts_as}
+use Rattle.zeb_search.specs.declared.keys.FoundKeys.{FoundKeys}
 use Rattle.zeb_search.specs.declared.terms.Wanted.{Wanted}
+use Rattle.zeb_search.specs.Finds.{IsCounted}
 use Rattle.zeb_search.specs.Lists.{Rise}
 use Rattle.zeb_search.specs.PrivateTerms.{IsAmong, IsWanted, NamesEntry, StandsWithin, TermsRise}
 
@@ -34,13 +35,28 @@ pub record AreKeysIn (of : RegisterOf) (keys : List Key) : Type 0 where
   pub rising : Rise (λ (key : Key). key.term) keys
   pub each : (key : Key) → Has keys key → key ≡ key_in of.index of.register key.term
 
--- They are keys of the register. An entry that is asked for by its name has its key among them; else each is shown with it.
-pub record AreMet (format : Format) (trees : Trees) (of : RegisterOf) (wanted : Wanted) (keys : List Key) : Type 0 where
-  pub are : AreKeysIn of keys
-  pub named : NamesEntry wanted → (term : List ℕ) → IsWanted wanted term → Has keys (key_in of.index of.register term)
-  pub each : (¬ NamesEntry wanted) → (term : List ℕ) → IsWanted wanted term
-      → IsShownWith format trees of.db.0 (key_in of.index of.register term) (Has keys (key_in of.index of.register term))
+module _ (format : Format) (trees : Trees) (of : RegisterOf) (wanted : Wanted) (found : FoundKeys) where
+  abbrev pub IsAmongKeys : List ℕ → Type 0
+  IsAmongKeys term = Has found.keys.items (key_in of.index of.register term)
 
--- the list of each of the keys is sound
-abbrev pub AreKeyListsSound : Format → Trees → ℤ → List Key → Type 0
-AreKeyListsSound format trees db keys = (key : Key) → Has keys key → IsListSound format trees db key
+  abbrev pub IsShownAmong : List ℕ → Type 0
+  IsShownAmong term = IsShownWith format trees of.db.0 (key_in of.index of.register term) (IsAmongKeys term)
+
+  -- Some record is counted for each of the keys. Each entry that is asked for is shown with its key among them; so is each that stands
+  -- between two neighbours.
+  pub record MeetsCounts : Type 0 where
+    pub counted : (key : Key) → Has found.keys.items key → IsCounted format trees of.db.0 key
+    pub each : (term : List ℕ) → IsWanted wanted term → IsShownAmong term
+    pub neighbours : IsTrue found.are_neighbours → (first last : Key) → Has found.keys.items first → Has found.keys.items last
+        → (term : List ℕ) → StandsWithin first.term last.term term → IsShownAmong term
+
+  -- the entry that is asked for by its name is there, and no neighbours are known
+  pub record MeetsName : Type 0 where
+    pub each : (term : List ℕ) → IsWanted wanted term → IsAmongKeys term
+    pub alone : ¬ IsTrue found.are_neighbours
+
+  -- these keys of the register are asked for, by their name or by what the counts show
+  pub record AreMet : Type 0 where
+    pub are : AreKeysIn of found.keys.items
+    pub asked : (key : Key) → Has found.keys.items key → IsWanted wanted key.term
+    pub met : (NamesEntry wanted × MeetsName) ⊎ ((¬ NamesEntry wanted) × MeetsCounts)

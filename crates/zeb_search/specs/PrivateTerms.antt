@@ -5,17 +5,15 @@ use Rattle.std.specs.declared.alloc.Global.{Global}
 use Rattle.sqlite_rules.specs.Lists.{Has}
 use Rattle.zeb_keys.specs.declared.Register.{Register}
 use Rattle.zeb_keys.specs.declared.keys.Key.{Key}
-use Rattle.zeb_keys.specs.declared.keys.Occurrence.{Occurrence}
 use Rattle.zeb_register.specs.declared.registers.RegisterOf.{RegisterOf}
 use Rattle.zeb_register.specs.declared.registers.TermCount.{TermCount}
 use Rattle.zeb_register.specs.Between.{term_list}
 use Rattle.zeb_register.specs.Content.{Content, Posting}
-use Rattle.zeb_register.specs.Occurring.{TermIn, key_in}
+use Rattle.zeb_register.specs.Occurring.{key_in}
 use Rattle.zeb_search.specs.declared.keys.FoundKeys.{FoundKeys}
 use Rattle.zeb_search.specs.declared.terms.Wanted.{Wanted}
 use Rattle.zeb_search.specs.declared.terms.Wanted.TheVariants as wanted
-use Rattle.zeb_query.specs.declared.plans.Separation.{Separation}
-use Rattle.zeb_search.specs.Comparing.{AreSeparated, Precedes, StandsInOrder}
+use Rattle.zeb_search.specs.Comparing.{Precedes, StandsInOrder}
 use Rattle.zeb_search.specs.SearchCounts.{HasNoStar, IsOneKey}
 use Rattle.zeb_search.specs.Holds.{Fits, IsNumberAt}
 use Rattle.zeb_search.specs.Lists.{Rise}
@@ -49,14 +47,6 @@ pub record AreTaken (index : ℕ) (register : Register) (wanted : Wanted) (terms
 -- the entry is one of the terms
 abbrev pub IsAmong : List TermCount → List ℕ → Type 0
 IsAmong terms term = (t : TermCount) × Has terms t × (t.term ≡ term)
-
--- each entry that is asked for and that some record has is among the terms, each of which stands there once; so is each that some record
--- has and that stands between two of them
-pub record HasWanted (O : ℕ → Occurrence → Type 0) (index : ℕ) (register : Register) (wanted : Wanted) (terms : List TermCount) : Type 0 where
-  pub rising : TermsRise terms
-  pub all : (term : List ℕ) (n : ℕ) → TermIn O index register term n → IsWanted wanted term → IsAmong terms term
-  pub whole : (s t : TermCount) → Has terms s → Has terms t → (term : List ℕ) (n : ℕ) → TermIn O index register term n
-      → StandsWithin s.term t.term term → IsAmong terms term
 
 -- of the terms each that stands between two that are asked for is asked for too
 abbrev pub StandTogether : Wanted → List TermCount → Type 0
@@ -100,20 +90,7 @@ LeadsTo wanted page (Some next) = (front : List TermCount) × (t : TermCount) ×
 abbrev pub IsPostingOf : Content → ℤ → List Key → Posting → Type 0
 IsPostingOf content db keys p = (key : Key) × Has keys key × Has (content db key) p
 
--- the record has a posting of the list
-abbrev pub HasPosting : List Posting → ℕ → Type 0
-HasPosting list n = (p : Posting) × Has list p × (p.sysno ≡ n)
-
 -- another posting stands behind it in the same unit, at a distance of so many words
 abbrev pub HasBehind : (least greatest : ℕ) → List Posting → Posting → Type 0
 HasBehind least greatest others p =
     (q : Posting) × Has others q × (q.sysno ≡ p.sysno) × (q.seq ≡ p.seq) × (p.pos + least ≤ q.pos) × (q.pos ≤ p.pos + greatest)
-
--- two postings of one record and one unit
-abbrev pub ShareUnit : Posting → Posting → Type 0
-ShareUnit p q = (p.sysno ≡ q.sysno) × (p.seq ≡ q.seq)
-
--- the record has a posting of each list in one unit, and the two are separated so
-abbrev pub IsNear : Separation → List Posting → List Posting → ℕ → Type 0
-IsNear separation left right n =
-    (p : Posting) × (q : Posting) × Has left p × Has right q × (p.sysno ≡ n) × ShareUnit p q × AreSeparated separation p.pos q.pos

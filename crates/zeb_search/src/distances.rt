@@ -6,7 +6,7 @@ ghost use Rattle.sqlite_rules.specs.Lists.{Has};
 ghost use Rattle.zeb_register.specs.Content.{posting_cmp};
 ghost use Rattle.zeb_search.specs.Comparing.{IsDistant};
 ghost use Rattle.zeb_search.specs.Lists.{AreNumbers};
-ghost use Rattle.zeb_search.specs.PrivateTerms.{IsNear};
+ghost use Rattle.zeb_search.specs.Finds.{IsNear};
 ghost use Rattle.zeb_search.specs.PrivateWalks.{IsFollowed, IsNearBy, IsWithin, IsWithinSome};
 
 use crate::lists::{Words, in_order, numbers_of, with_one_within};

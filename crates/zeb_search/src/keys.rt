@@ -3,16 +3,12 @@
 ghost use Rattle.std.specs.Prelude.{◌≡◌, IfOk, IsTrue, OnOk};
 ghost use Rattle.sqlite.specs.Held.{state};
 ghost use Rattle.zeb_register.specs.Calls.{Reading};
-ghost use Rattle.zeb_register.specs.Clauses.{IsHonestStorable, IsReasoned, Tells, TellsHeld};
-ghost use Rattle.zeb_register.specs.Content.{posted};
-ghost use Rattle.zeb_register.specs.Formats.{holds_in};
 ghost use Rattle.zeb_search.specs.SearchCounts.{CountsByContent};
 ghost use Rattle.zeb_search.specs.PrivateSearchCounts.{NoRows};
 ghost use Rattle.zeb_search.specs.DictRows.{EntryDict, RegisterDict};
-ghost use Rattle.zeb_search.specs.ListRows.{AreKeysOf};
-ghost use Rattle.zeb_search.specs.PrivateMet.{AreMet, HasMet};
-ghost use Rattle.zeb_search.specs.PrivateTerms.{AreFound, AreTaken, IsWanted, LeadsTo, NamesEntry, StandTogether, TermsRise};
+ghost use Rattle.zeb_search.specs.PrivateTerms.{AreTaken, LeadsTo, NamesEntry, StandTogether, TermsRise};
 ghost use Rattle.zeb_search.specs.Untouched.{IsUntouched};
+ghost use Rattle.zeb_search.specs.PrivateFinds.{FindsKeys, MeetsTerms};
 
 use crate::ranges::text_above;
 use crate::terms::Wanted;
@@ -107,12 +103,8 @@ fn terms_wanted<S: Alter, L: Layout>(
 ) -> Result<Vec<TermCount>, RegFault>
     ensures call { Reading (state S.Store connection.old) (state S.Store connection.new) result
         (λ _. IsUntouched) }
-    ensures honest { IsHonestStorable (holds_in L.format) (state S.Store connection.old)
-        (state S.Store connection.new) result }
-    ensures refused { IsReasoned (state S.Store connection.old) (state S.Store connection.new)
-        result }
-    ensures told { Tells (state S.Store connection.old) (state S.Store connection.new) result
-        (λ trees terms. HasMet L.format trees of.db.0 of.index of.register wanted.entry terms.items) }
+    ensures units { MeetsTerms L.format of wanted.entry
+        (state S.Store connection.old) (state S.Store connection.new) result }
     ensures work { OnOk result (CountsByContent L.format
         (λ content. RegisterDict L.row_work content of.db.0 of.index of.register) NoRows
         (state S.Store connection.old) (state S.Store connection.new) work.old work.new) }
@@ -149,17 +141,8 @@ pub(crate) fn keys_wanted<S: Alter, L: Layout>(
 ) -> Result<FoundKeys, RegFault>
     ensures call { Reading (state S.Store connection.old) (state S.Store connection.new) result
         (λ _. IsUntouched) }
-    ensures value { TellsHeld (holds_in L.format) (state S.Store connection.old)
-        (state S.Store connection.new) result
-        (λ content found. AreKeysOf (posted content of.db.0) of.index of.register
-        (IsWanted wanted.entry) found.keys.items
-        × AreFound content of found) }
-    ensures honest { IsHonestStorable (holds_in L.format) (state S.Store connection.old)
-        (state S.Store connection.new) result }
-    ensures refused { IsReasoned (state S.Store connection.old) (state S.Store connection.new)
-        result }
-    ensures met { Tells (state S.Store connection.old) (state S.Store connection.new) result
-        (λ trees found. AreMet L.format trees of wanted.entry found.keys.items) }
+    ensures units { FindsKeys L.format of wanted.entry
+        (state S.Store connection.old) (state S.Store connection.new) result }
     ensures work { OnOk result (CountsByContent L.format
         (λ content. EntryDict L.row_work content of.db.0 (NamesEntry wanted.entry) of.index
         of.register) NoRows

@@ -5,10 +5,11 @@ ghost use Rattle.std.specs.List.Sorted.{IsStrictlySortedBy};
 ghost use Rattle.std.specs.Ordering.{nat_cmp};
 ghost use Rattle.sqlite_rules.specs.Lists.{Has};
 ghost use Rattle.zeb_register.specs.Content.{posting_cmp, Posting};
+ghost use Rattle.zeb_search.specs.Finds.{HasPosting};
 ghost use Rattle.zeb_search.specs.Holds.{AreJoined};
 ghost use Rattle.zeb_search.specs.Lists.{AreNumbers};
 ghost use Rattle.zeb_search.specs.PrivateLists.{ArePostings};
-ghost use Rattle.zeb_search.specs.PrivateTerms.{HasBehind, HasPosting};
+ghost use Rattle.zeb_search.specs.PrivateTerms.{HasBehind};
 ghost use Rattle.zeb_search.specs.PrivateWalks.{HasWithin, IsBefore, IsBehind, IsWithin, words_between, words_from};
 
 use std::alloc::{AllocError, Global};

@@ -1,21 +1,17 @@
 //! The records on which a plan holds.
 
-ghost use Rattle.std.specs.Prelude.{◌≡◌, ◌<◌, ◌^◌, ℕ, ℤ, [], ◌∷◌, OnOk, pos};
+ghost use Rattle.std.specs.Prelude.{◌≡◌, ◌<◌, ◌^◌, ℕ, ℤ, [], ◌∷◌, OnOk};
 ghost use Rattle.sqlite.specs.Held.{state};
-ghost use Rattle.zeb_query.specs.Plans.{HasSmallNumber, HasSmallNumbers, NearOf, PlanValue, TermOf, plan_value, term_plan_value};
+ghost use Rattle.zeb_query.specs.Plans.{HasSmallNumber, HasSmallNumbers, NearOf, PlanValue, plan_value, term_plan_value};
 ghost use Rattle.zeb_register.specs.Calls.{Reading};
-ghost use Rattle.zeb_register.specs.Clauses.{IsHonest, IsHonestStorable, IsReasoned, OnStore, Tells, TellsHeld};
-ghost use Rattle.zeb_register.specs.Content.{Content, IsStorable};
-ghost use Rattle.zeb_register.specs.Formats.{holds_in};
-ghost use Rattle.zeb_register.specs.Kept.{AreReadableIdents};
+ghost use Rattle.zeb_register.specs.Content.{Content};
 ghost use Rattle.zeb_search.specs.SearchCounts.{CountsByContent, NamesEntries};
 ghost use Rattle.zeb_search.specs.DictRows.{PlanDict, TermDict};
 ghost use Rattle.zeb_search.specs.ListRows.{PlanRows, TermRows};
-ghost use Rattle.zeb_search.specs.Lists.{AreNumbers};
 ghost use Rattle.zeb_search.specs.PrivateWordCounts.{CountedWords};
-ghost use Rattle.zeb_search.specs.Registers.{HoldsIn, NamesReadable, TermNamesReadable, is_kept_in};
-ghost use Rattle.zeb_search.specs.SearchRows.{ArePlanRowsSound, AreTermRowsSound, AreWordsSound};
 ghost use Rattle.zeb_search.specs.Untouched.{IsUntouched};
+ghost use Rattle.zeb_search.specs.PrivateFinds.{FindsRecord, FindsTerm};
+ghost use Rattle.zeb_search.specs.Finds.{FindsPlan};
 
 use crate::distances::near;
 use crate::lists::joined;
@@ -29,11 +25,12 @@ use zeb_keys::Register;
 use zeb_query::{NearPlan, Plan, TermPlan};
 use zeb_register::{DatabaseId, Layout, RegFault, RegisterOf, Work, ident_of};
 
-/// The numbers of the records of a database on which a plan holds, rising and each once. The registers alone decide, and of a system
-/// number that the plan names whether a record has it.
+/// The numbers of the records of a database on which a plan holds, rising and each once, whatever rows the tables have. The units of the
+/// entries decide that the plan asks for, and of a system number that it names whether a record has it.
 ///
-/// `Damaged` only where the tables hold no content, or where the identifier of a record that the plan names is no UTF-8; `Store` where a
-/// call of the store failed; `Memory` where memory ran out. Outside a transaction it changes nothing.
+/// `Damaged` only where a row of such an entry is malformed, a count of a register whose terms are read can't be shown, or the identifier of
+/// a record that the plan names is no UTF-8; `Store` where a call of the store failed; `Memory` where memory ran out. Outside a transaction
+/// it changes nothing.
 pub fn hits<S: Alter, L: Layout>(
     alloc: Global,
     connection: &mut Connection<S>,
@@ -44,20 +41,8 @@ pub fn hits<S: Alter, L: Layout>(
     requires { HasSmallNumbers (plan_value plan.now) }
     ensures call { Reading (state S.Store connection.old) (state S.Store connection.new) result
         (λ _. IsUntouched) }
-    ensures value { TellsHeld (holds_in L.format) (state S.Store connection.old)
-        (state S.Store connection.new) result
-        (λ content hits. AreNumbers (HoldsIn (state S.Store connection.old).now.trees content
-        database.0
-        (plan_value plan.now)) hits.items) }
-    ensures honest { OnStore (state S.Store connection.old) (state S.Store connection.new)
-        (λ trees. result ≡ Err RegFault.Damaged
-        → NamesReadable trees database.0 (plan_value plan.now)
-        → (content : Content) → IsStorable content → ¬ holds_in L.format trees content) }
-    ensures refused { IsReasoned (state S.Store connection.old) (state S.Store connection.new)
-        result }
-    ensures sound { OnStore (state S.Store connection.old) (state S.Store connection.new)
-        (λ trees. OnOk result
-        (ArePlanRowsSound L.format trees database.0 (plan_value plan.now))) }
+    ensures units { FindsPlan L.format database.0 (plan_value plan.now)
+        (state S.Store connection.old) (state S.Store connection.new) result }
     ensures work { OnOk result (CountsByContent L.format
         (λ content. PlanDict L.row_work content database.0 (plan_value plan.now))
         (λ content. PlanRows L.block_rows content database.0 (plan_value plan.now))
@@ -86,20 +71,8 @@ fn term_hits<S: Alter, L: Layout>(
     requires { HasSmallNumber (term_plan_value term.now) }
     ensures call { Reading (state S.Store connection.old) (state S.Store connection.new) result
         (λ _. IsUntouched) }
-    ensures value { TellsHeld (holds_in L.format) (state S.Store connection.old)
-        (state S.Store connection.new) result
-        (λ content hits. AreNumbers (HoldsIn (state S.Store connection.old).now.trees content
-        database.0
-        (TermOf (term_plan_value term.now))) hits.items) }
-    ensures honest { OnStore (state S.Store connection.old) (state S.Store connection.new)
-        (λ trees. result ≡ Err RegFault.Damaged
-        → TermNamesReadable trees database.0 (term_plan_value term.now)
-        → (content : Content) → IsStorable content → ¬ holds_in L.format trees content) }
-    ensures refused { IsReasoned (state S.Store connection.old) (state S.Store connection.new)
-        result }
-    ensures sound { OnStore (state S.Store connection.old) (state S.Store connection.new)
-        (λ trees. OnOk result
-        (AreTermRowsSound L.format trees database.0 (term_plan_value term.now))) }
+    ensures units { FindsTerm L.format database.0 (term_plan_value term.now)
+        (state S.Store connection.old) (state S.Store connection.new) result }
     ensures work { OnOk result (CountsByContent L.format
         (λ content. TermDict L.row_work content database.0 (term_plan_value term.now))
         (λ content. TermRows L.block_rows content database.0 (term_plan_value term.now))
@@ -107,7 +80,7 @@ fn term_hits<S: Alter, L: Layout>(
     ensures no_work { L.row_work ≡ 0 → work.new ≡ work.old }
 {
     match term {
-        TermPlan::RecordNumber(number) => record_hits(alloc, connection, database, *number),
+        TermPlan::RecordNumber(number) => record_hits(alloc, connection, database, *number as u64),
         TermPlan::Always { index, register } => {
             let of = RegisterOf {
                 db: database,
@@ -195,12 +168,8 @@ fn record_hits<S: Alter>(
     requires { number < 10 ^ 9 }
     ensures call { Reading (state S.Store connection.old) (state S.Store connection.new) result
         (λ _. IsUntouched) }
-    ensures value { Tells (state S.Store connection.old) (state S.Store connection.new) result
-        (λ trees hits. AreNumbers (λ n. (n ≡ number) × is_kept_in trees database.0 n) hits.items) }
-    ensures honest { IsHonest (state S.Store connection.old) (state S.Store connection.new) result
-        (λ trees. AreReadableIdents trees database.0 (pos number)) }
-    ensures refused { IsReasoned (state S.Store connection.old) (state S.Store connection.new)
-        result }
+    ensures units { FindsRecord database.0 number
+        (state S.Store connection.old) (state S.Store connection.new) result }
 {
     let Some(_ident) = ident_of(connection, database, number)? else {
         return Ok(Vec::new(alloc));
@@ -219,19 +188,9 @@ fn near_hits<S: Alter, L: Layout>(
     requires { plan.now.separation.distance < 10 ^ 9 }
     ensures call { Reading (state S.Store connection.old) (state S.Store connection.new) result
         (λ _. IsUntouched) }
-    ensures value { TellsHeld (holds_in L.format) (state S.Store connection.old)
-        (state S.Store connection.new) result
-        (λ content hits. AreNumbers (HoldsIn (state S.Store connection.old).now.trees content
-        database.0
-        (NearOf plan.now.index plan.now.left plan.now.right plan.now.separation)) hits.items) }
-    ensures honest { IsHonestStorable (holds_in L.format) (state S.Store connection.old)
-        (state S.Store connection.new) result }
-    ensures refused { IsReasoned (state S.Store connection.old) (state S.Store connection.new)
-        result }
-    ensures sound { OnStore (state S.Store connection.old) (state S.Store connection.new)
-        (λ trees. OnOk result
-        (AreWordsSound L.format trees database.0 plan.now.index
-        (plan.now.left ∷ plan.now.right ∷ []))) }
+    ensures units { FindsPlan L.format database.0
+        (NearOf plan.now.index plan.now.left plan.now.right plan.now.separation)
+        (state S.Store connection.old) (state S.Store connection.new) result }
     ensures work { OnOk result (CountedWords L.format L.row_work L.block_rows database.0
         plan.now.index
         (plan.now.left ∷ plan.now.right ∷ []) (state S.Store connection.old)

@@ -1,24 +1,18 @@
 //! The postings of several keys.
 
-ghost use Rattle.std.specs.Prelude.{◌≡◌, ◌≤◌, ◌↔◌, ◌+◌, ◌++◌, IsTrue, OnOk, length};
+ghost use Rattle.std.specs.Prelude.{◌≡◌, ◌≤◌, ◌+◌, ◌++◌, IsTrue, OnOk, length};
 ghost use Rattle.sqlite.specs.Held.{state};
-ghost use Rattle.sqlite_rules.specs.Lists.{Has};
 ghost use Rattle.zeb_register.specs.Calls.{Reading};
-ghost use Rattle.zeb_register.specs.Clauses.{IsHonestStorable, IsReasoned, OnStore, TellsHeld};
-ghost use Rattle.zeb_register.specs.Content.{Content, posted};
+ghost use Rattle.zeb_register.specs.Clauses.{OnStore};
+ghost use Rattle.zeb_register.specs.Content.{Content};
 ghost use Rattle.zeb_register.specs.Formats.{holds_in};
 ghost use Rattle.zeb_search.specs.SearchCounts.{CountsByContent, CountsAtMost};
 ghost use Rattle.zeb_search.specs.DictRows.{EntryDict};
-ghost use Rattle.zeb_search.specs.SearchCounts.{HasNoStar};
-ghost use Rattle.zeb_search.specs.SearchRows.{AreEntriesSound};
-ghost use Rattle.zeb_search.specs.Holds.{Fits, HasEntry, HasWord};
 ghost use Rattle.zeb_search.specs.ListRows.{EntryRows, rows_under};
-ghost use Rattle.zeb_search.specs.Lists.{AreNumbers};
-ghost use Rattle.zeb_search.specs.PrivateLists.{ArePostings};
 ghost use Rattle.zeb_search.specs.PrivateWordCounts.{CountedMatches};
-ghost use Rattle.zeb_search.specs.PrivateMet.{AreKeyListsSound, AreKeysIn};
-ghost use Rattle.zeb_search.specs.PrivateTerms.{AreFound, AreRun, IsPostingOf, IsWanted, NamesEntry};
+ghost use Rattle.zeb_search.specs.PrivateTerms.{AreFound, AreRun, IsWanted, NamesEntry};
 ghost use Rattle.zeb_search.specs.Untouched.{IsUntouched};
+ghost use Rattle.zeb_search.specs.PrivateFinds.{FindsEntry, FindsRuns, ReadsPlaces, ReadsRun};
 
 use crate::keys::{FoundKeys, keys_wanted};
 use crate::lists::{numbers_among, postings_in_order, postings_joined};
@@ -66,17 +60,8 @@ fn list_of_run<S: Alter, L: Layout>(
     requires { 1 ≤ length run.now }
     ensures call { Reading (state S.Store connection.old) (state S.Store connection.new) result
         (λ _. IsUntouched) }
-    ensures value { TellsHeld (holds_in L.format) (state S.Store connection.old)
-        (state S.Store connection.new) result
-        (λ content list. AreRun content of run.now → (p : Posting)
-        → Has list.items p ↔ IsPostingOf content of.db.0 run.now p) }
-    ensures honest { IsHonestStorable (holds_in L.format) (state S.Store connection.old)
-        (state S.Store connection.new) result }
-    ensures refused { IsReasoned (state S.Store connection.old) (state S.Store connection.new)
-        result }
-    ensures spelled { OnStore (state S.Store connection.old) (state S.Store connection.new)
-        (λ trees. OnOk result
-        (AreKeysIn of run.now → AreKeyListsSound L.format trees of.db.0 run.now)) }
+    ensures units { ReadsRun L.format of run.now
+        (state S.Store connection.old) (state S.Store connection.new) result }
     ensures work { OnOk result (OnStore (state S.Store connection.old)
         (state S.Store connection.new) (λ trees.
         (content : Content) → holds_in L.format trees content → AreRun content of run.now
@@ -108,18 +93,8 @@ fn list_found<S: Alter, L: Layout>(
 ) -> Result<Vec<Posting>, RegFault>
     ensures call { Reading (state S.Store connection.old) (state S.Store connection.new) result
         (λ _. IsUntouched) }
-    ensures value { TellsHeld (holds_in L.format) (state S.Store connection.old)
-        (state S.Store connection.new) result
-        (λ content list. AreFound content of found.now
-        → (p : Posting) → Has list.items p ↔ IsPostingOf content of.db.0 found.now.keys.items p) }
-    ensures honest { IsHonestStorable (holds_in L.format) (state S.Store connection.old)
-        (state S.Store connection.new) result }
-    ensures refused { IsReasoned (state S.Store connection.old) (state S.Store connection.new)
-        result }
-    ensures spelled { OnStore (state S.Store connection.old) (state S.Store connection.new)
-        (λ trees. OnOk result
-        (AreKeysIn of found.now.keys.items → AreKeyListsSound L.format trees of.db.0
-        found.now.keys.items)) }
+    ensures units { FindsRuns L.format of found.now
+        (state S.Store connection.old) (state S.Store connection.new) result }
     ensures work { OnOk result (OnStore (state S.Store connection.old)
         (state S.Store connection.new) (λ trees.
         (content : Content) → holds_in L.format trees content → AreFound content of found.now
@@ -149,18 +124,9 @@ pub(crate) fn numbers_wanted<S: Alter, L: Layout>(
 ) -> Result<Vec<u64>, RegFault>
     ensures call { Reading (state S.Store connection.old) (state S.Store connection.new) result
         (λ _. IsUntouched) }
-    ensures value { TellsHeld (holds_in L.format) (state S.Store connection.old)
-        (state S.Store connection.new) result
-        (λ content hits. AreNumbers (HasEntry (posted content of.db.0) of.index of.register
-        (IsWanted wanted.entry)) hits.items) }
-    ensures honest { IsHonestStorable (holds_in L.format) (state S.Store connection.old)
-        (state S.Store connection.new) result }
-    ensures refused { IsReasoned (state S.Store connection.old) (state S.Store connection.new)
-        result }
-    ensures sound { OnStore (state S.Store connection.old) (state S.Store connection.new)
-        (λ trees. OnOk result
-        (AreEntriesSound L.format trees of.db.0 (NamesEntry wanted.entry) of.index of.register
-        (IsWanted wanted.entry))) }
+    ensures units { FindsEntry L.format of.db.0 (NamesEntry wanted.entry) of.index of.register
+        (IsWanted wanted.entry)
+        (state S.Store connection.old) (state S.Store connection.new) result }
     ensures work { OnOk result (CountsByContent L.format
         (λ content. EntryDict L.row_work content of.db.0 (NamesEntry wanted.entry) of.index
         of.register)
@@ -184,18 +150,8 @@ pub(crate) fn places_of_words<S: Alter, L: Layout>(
 ) -> Result<Vec<Posting>, RegFault>
     ensures call { Reading (state S.Store connection.old) (state S.Store connection.new) result
         (λ _. IsUntouched) }
-    ensures value { TellsHeld (holds_in L.format) (state S.Store connection.old)
-        (state S.Store connection.new) result
-        (λ content list. ArePostings (λ p. HasWord (posted content of.db.0) of.index pattern.now
-        p.sysno p.seq p.pos) list.items) }
-    ensures honest { IsHonestStorable (holds_in L.format) (state S.Store connection.old)
-        (state S.Store connection.new) result }
-    ensures refused { IsReasoned (state S.Store connection.old) (state S.Store connection.new)
-        result }
-    ensures sound { OnStore (state S.Store connection.old) (state S.Store connection.new)
-        (λ trees. OnOk result
-        (AreEntriesSound L.format trees of.db.0 (HasNoStar pattern.now) of.index Register.Word
-        (Fits pattern.now))) }
+    ensures units { ReadsPlaces L.format of.db.0 of.index pattern.now
+        (state S.Store connection.old) (state S.Store connection.new) result }
     ensures work { OnOk result (CountedMatches L.format L.row_work L.block_rows of.db.0 of.index
         pattern.now
         (state S.Store connection.old) (state S.Store connection.new) work.old work.new) }

@@ -1,20 +1,14 @@
 //! The records in which words match patterns.
 
-ghost use Rattle.std.specs.Prelude.{◌≡◌, ◌≢◌, ◌==◌, [], IfOk, filter, OnOk};
+ghost use Rattle.std.specs.Prelude.{◌≡◌, ◌==◌, IfOk, filter, OnOk};
 ghost use Rattle.sqlite.specs.Held.{state};
-ghost use Rattle.zeb_query.specs.Plans.{AllWordsOf, AnyWordOf, PhraseOf, TermOf};
+ghost use Rattle.zeb_query.specs.Plans.{AllWordsOf, AnyWordOf, PhraseOf};
 ghost use Rattle.zeb_register.specs.Calls.{Reading};
-ghost use Rattle.zeb_register.specs.Clauses.{IsHonestStorable, IsReasoned, OnStore, TellsHeld};
-ghost use Rattle.zeb_register.specs.Content.{posted};
-ghost use Rattle.zeb_register.specs.Formats.{holds_in};
-ghost use Rattle.zeb_search.specs.Holds.{Fits, HasMatch, HasWords};
-ghost use Rattle.zeb_search.specs.Lists.{AreNumbers};
-ghost use Rattle.zeb_search.specs.PrivateLists.{ArePostings};
+ghost use Rattle.zeb_search.specs.Holds.{Fits};
 ghost use Rattle.zeb_search.specs.PrivateWordCounts.{CountedMatches, CountedWords};
-ghost use Rattle.zeb_search.specs.Registers.{HoldsIn};
 ghost use Rattle.zeb_search.specs.SearchCounts.{HasNoStar};
-ghost use Rattle.zeb_search.specs.SearchRows.{AreEntriesSound, AreWordsSound};
 ghost use Rattle.zeb_search.specs.Untouched.{IsUntouched};
+ghost use Rattle.zeb_search.specs.PrivateFinds.{FindsEntry, FindsTerm, ReadsPhrases};
 
 use crate::lists::{joined, numbers_of, with_one_behind};
 use crate::postings::{numbers_wanted, places_of_words};
@@ -37,18 +31,9 @@ fn word_hits<S: Alter, L: Layout>(
 ) -> Result<Vec<u64>, RegFault>
     ensures call { Reading (state S.Store connection.old) (state S.Store connection.new) result
         (λ _. IsUntouched) }
-    ensures value { TellsHeld (holds_in L.format) (state S.Store connection.old)
-        (state S.Store connection.new) result
-        (λ content hits. AreNumbers (HasMatch (posted content of.db.0) of.index pattern.now)
-        hits.items) }
-    ensures honest { IsHonestStorable (holds_in L.format) (state S.Store connection.old)
-        (state S.Store connection.new) result }
-    ensures refused { IsReasoned (state S.Store connection.old) (state S.Store connection.new)
-        result }
-    ensures sound { OnStore (state S.Store connection.old) (state S.Store connection.new)
-        (λ trees. OnOk result
-        (AreEntriesSound L.format trees of.db.0 (HasNoStar pattern.now) of.index Register.Word
-        (Fits pattern.now))) }
+    ensures units { FindsEntry L.format of.db.0 (HasNoStar pattern.now) of.index Register.Word
+        (Fits pattern.now)
+        (state S.Store connection.old) (state S.Store connection.new) result }
     ensures work { OnOk result (CountedMatches L.format L.row_work L.block_rows of.db.0 of.index
         pattern.now
         (state S.Store connection.old) (state S.Store connection.new) work.old work.new) }
@@ -72,18 +57,8 @@ pub(crate) fn any_word_hits<S: Alter, L: Layout>(
 ) -> Result<Vec<u64>, RegFault>
     ensures call { Reading (state S.Store connection.old) (state S.Store connection.new) result
         (λ _. IsUntouched) }
-    ensures value { TellsHeld (holds_in L.format) (state S.Store connection.old)
-        (state S.Store connection.new) result
-        (λ content hits. AreNumbers (HoldsIn (state S.Store connection.old).now.trees content
-        of.db.0
-        (TermOf (AnyWordOf of.index patterns.now))) hits.items) }
-    ensures honest { IsHonestStorable (holds_in L.format) (state S.Store connection.old)
-        (state S.Store connection.new) result }
-    ensures refused { IsReasoned (state S.Store connection.old) (state S.Store connection.new)
-        result }
-    ensures sound { OnStore (state S.Store connection.old) (state S.Store connection.new)
-        (λ trees. OnOk result
-        (AreWordsSound L.format trees of.db.0 of.index patterns.now)) }
+    ensures units { FindsTerm L.format of.db.0 (AnyWordOf of.index patterns.now)
+        (state S.Store connection.old) (state S.Store connection.new) result }
     ensures work { OnOk result (CountedWords L.format L.row_work L.block_rows of.db.0 of.index
         patterns.now
         (state S.Store connection.old) (state S.Store connection.new) work.old work.new) }
@@ -107,18 +82,8 @@ pub(crate) fn all_words_hits<S: Alter, L: Layout>(
 ) -> Result<Vec<u64>, RegFault>
     ensures call { Reading (state S.Store connection.old) (state S.Store connection.new) result
         (λ _. IsUntouched) }
-    ensures value { TellsHeld (holds_in L.format) (state S.Store connection.old)
-        (state S.Store connection.new) result
-        (λ content hits. AreNumbers (HoldsIn (state S.Store connection.old).now.trees content
-        of.db.0
-        (TermOf (AllWordsOf of.index patterns.now))) hits.items) }
-    ensures honest { IsHonestStorable (holds_in L.format) (state S.Store connection.old)
-        (state S.Store connection.new) result }
-    ensures refused { IsReasoned (state S.Store connection.old) (state S.Store connection.new)
-        result }
-    ensures sound { OnStore (state S.Store connection.old) (state S.Store connection.new)
-        (λ trees. OnOk result
-        (AreWordsSound L.format trees of.db.0 of.index patterns.now)) }
+    ensures units { FindsTerm L.format of.db.0 (AllWordsOf of.index patterns.now)
+        (state S.Store connection.old) (state S.Store connection.new) result }
     ensures work { OnOk result (CountedWords L.format L.row_work L.block_rows of.db.0 of.index
         patterns.now
         (state S.Store connection.old) (state S.Store connection.new) work.old work.new) }
@@ -147,18 +112,8 @@ pub(crate) fn phrase_hits<S: Alter, L: Layout>(
 ) -> Result<Vec<u64>, RegFault>
     ensures call { Reading (state S.Store connection.old) (state S.Store connection.new) result
         (λ _. IsUntouched) }
-    ensures value { TellsHeld (holds_in L.format) (state S.Store connection.old)
-        (state S.Store connection.new) result
-        (λ content hits. AreNumbers (HoldsIn (state S.Store connection.old).now.trees content
-        of.db.0
-        (TermOf (PhraseOf of.index patterns.now first))) hits.items) }
-    ensures honest { IsHonestStorable (holds_in L.format) (state S.Store connection.old)
-        (state S.Store connection.new) result }
-    ensures refused { IsReasoned (state S.Store connection.old) (state S.Store connection.new)
-        result }
-    ensures sound { OnStore (state S.Store connection.old) (state S.Store connection.new)
-        (λ trees. OnOk result
-        (AreWordsSound L.format trees of.db.0 of.index patterns.now)) }
+    ensures units { FindsTerm L.format of.db.0 (PhraseOf of.index patterns.now first)
+        (state S.Store connection.old) (state S.Store connection.new) result }
     ensures work { OnOk result (CountedWords L.format L.row_work L.block_rows of.db.0 of.index
         patterns.now
         (state S.Store connection.old) (state S.Store connection.new) work.old work.new) }
@@ -198,17 +153,8 @@ fn places_of_phrase<S: Alter, L: Layout>(
 ) -> Result<Vec<Posting>, RegFault>
     ensures call { Reading (state S.Store connection.old) (state S.Store connection.new) result
         (λ _. IsUntouched) }
-    ensures value { TellsHeld (holds_in L.format) (state S.Store connection.old)
-        (state S.Store connection.new) result
-        (λ content places. ArePostings (λ p. (patterns.now ≢ [])
-        × HasWords (posted content of.db.0) of.index patterns.now p.sysno p.seq p.pos) places.items) }
-    ensures honest { IsHonestStorable (holds_in L.format) (state S.Store connection.old)
-        (state S.Store connection.new) result }
-    ensures refused { IsReasoned (state S.Store connection.old) (state S.Store connection.new)
-        result }
-    ensures sound { OnStore (state S.Store connection.old) (state S.Store connection.new)
-        (λ trees. OnOk result
-        (AreWordsSound L.format trees of.db.0 of.index patterns.now)) }
+    ensures units { ReadsPhrases L.format of.db.0 of.index patterns.now
+        (state S.Store connection.old) (state S.Store connection.new) result }
     ensures work { OnOk result (CountedWords L.format L.row_work L.block_rows of.db.0 of.index
         patterns.now
         (state S.Store connection.old) (state S.Store connection.new) work.old work.new) }

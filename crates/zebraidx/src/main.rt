@@ -6,14 +6,14 @@ use std::io::{self, BufReader, BufWriter, ErrorKind, Write};
 use std::process::ExitCode;
 use zeb_marc::FromRead;
 use zeb_paths::{Disk, Tally};
-use zeb_program::{FAILED, Sink, run};
+use zeb_program::{Sink, Status, run};
 
 fn main(rt: HostRuntime) -> ExitCode {
     let status = run_outside(&rt);
     if let Err(error) = &status {
         complain(&rt, why_unstarted(error.kind()));
     }
-    ExitCode::from(status.unwrap_or(FAILED))
+    ExitCode::from(status.unwrap_or(Status::Failed.code()))
 }
 
 /// Why the program doesn't begin.
@@ -40,14 +40,14 @@ fn run_outside(rt: &HostRuntime) -> io::Result<u8> {
     let mut output = Sink::new(BufWriter::new(rt.alloc(), rt.stdout())?);
     let mut fault_output = Sink::new(rt.stderr());
     let tally = Tally::new(rt);
-    let mut paths = Disk::counted(rt, &tally);
+    let mut files = Disk::counted(rt, &tally);
     let status = run(
         rt.alloc(),
         words.as_slice(),
-        &mut paths,
         &mut input,
         &mut output,
         &mut fault_output,
+        &mut files,
     );
     if output.has_failed() {
         complain(rt, "cannot write output");

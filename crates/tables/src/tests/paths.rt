@@ -6,7 +6,7 @@ use std::process::Abort;
 use std::test::Fail;
 use std::{env, fs};
 use zeb_marc::Source;
-use zeb_paths::{Disk, PathKind, Paths, Shelf, Shelved, Walk, WalkFault};
+use zeb_paths::{Disk, PathCause, PathKind, Paths, Shelf, Shelved, Walk, WalkFault};
 
 /// The paths of the files of a shelf, each of one byte.
 const PATHS: [&str; 9] = [
@@ -180,11 +180,11 @@ fn have_kinds<P: Paths>(
     root: &str,
 ) -> Result<(), Fail> {
     let missing = below(rt.alloc(), root, "d")?;
-    assert_eq!(rt; paths.kind(missing.as_str()), None);
+    assert_eq!(rt; paths.kind(missing.as_str()), Err(PathCause::Absent));
     assert!(rt; paths.names(rt.alloc(), missing.as_str()).is_err());
     let inner = below(rt.alloc(), root, "b")?;
-    assert_eq!(rt; paths.kind(inner.as_str()), Some(PathKind::Folder));
-    assert_eq!(rt; paths.kind("/dev/null"), None);
+    assert_eq!(rt; paths.kind(inner.as_str()), Ok(PathKind::Folder));
+    assert_eq!(rt; paths.kind("/dev/null"), Err(PathCause::Neither));
     Ok(())
 }
 

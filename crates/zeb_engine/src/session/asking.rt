@@ -5,9 +5,9 @@ ghost use Rattle.sqlite.specs.Held.{state};
 ghost use Rattle.sqlite.specs.State.{HasCleanDisk};
 ghost use Rattle.zeb_register.specs.Formats.{version_of};
 ghost use Rattle.zeb_engine.specs.Asking.{Alone};
-ghost use Rattle.zeb_engine.specs.Finding.{FindSays, RefusedAlone, RefusesFind, FindOver, FindReads};
+ghost use Rattle.zeb_engine.specs.Finding.{FindSays, RefusedAlone, RefusesFind, FindOver, FindReads, HidesFind};
 ghost use Rattle.zeb_engine.specs.Scanning.{ScanSays, HidesTerms, ScanOver, ScanReads};
-ghost use Rattle.zeb_engine.specs.Hidden.{UnlessHidden, OverReady};
+ghost use Rattle.zeb_engine.specs.Hidden.{UnlessHidden};
 ghost use Rattle.zeb_change.specs.Conditions.{conditions};
 ghost use Rattle.zeb_image.specs.NameOf.{name_bytes};
 ghost use Rattle.zeb_engine.specs.Checking.{ChecksTables};
@@ -60,10 +60,11 @@ impl<S: Alter, L: Layout> Session<S, L> {
             question.entry.query.now question.entry.first
             question.entry.count) (state S.Store self.old.connection) result }
         ensures tables { HasCleanDisk (state S.Store self.new.connection)
-            → OverReady (version_of L.format) self.old.profile
+            → UnlessHidden (version_of L.format) self.old.profile
             (FindOver L.format self.old.profile (name_bytes database.now) question.entry.query.now
-            question.entry.first
-            question.entry.count) (state S.Store self.old.connection) result }
+            question.entry.first question.entry.count)
+            (HidesFind L.format self.old.profile (name_bytes database.now) question.entry.query.now
+            question.entry.first question.entry.count) (state S.Store self.old.connection) result }
         ensures caused { FailsForCause S.Store self.old.connection self.new.connection result }
         ensures work { HasCleanDisk (state S.Store self.new.connection)
             → OnOk result (FindReads L.format L.row_work L.block_rows self.old.profile

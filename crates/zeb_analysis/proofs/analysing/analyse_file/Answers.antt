@@ -1,4 +1,4 @@
-use Rattle.zeb_analysis.proofs.Cited.{rules, arith, ◌≡◌, ◌≢◌, ◌∙◌, ◌+◌, ◌++◌, ◌∷◌, [], length, map, true, false, IfErr, Ok, Err, Some, sym, ap, subst, length-map, map-append, next_of, Memory, analysed, first_refusal, ReadsPlace}
+use Rattle.zeb_analysis.proofs.Cited.{rules, arith, ◌≡◌, ◌≢◌, ◌∙◌, ◌+◌, ◌++◌, ◌∷◌, [], length, map, true, false, IfErr, Ok, Err, Some, sym, ap, subst, length-map, map-append, next_of, Memory, analysed, first_refusal, ReadsPlace, place_at}
 use Rattle.zeb_analysis.specs.Analysing.{standing_in}
 use Rattle.zeb_analysis.proofs.FileWalk.{Under, before_first, left_is_shorter, record_ends_walk, walk_ends, walk_goes_on, walk_is_refused}
 use Rattle.zeb_analysis.proofs.analysing.analyse_file.Goals as goal
@@ -27,7 +27,7 @@ pub returns-clause-ok : goal.returns-clause-ok
 returns-clause-ok c =
     let setting = c.args.setting.now in
     let none : c.in_ok-read_record.field-0 ≡ false = search rules in
-    let read = subst (λ b. ReadsPlace c.args.file c.loop-buffer.nth (next_of c.loop-buffer.left) (Ok b) c.read_record.new.buffer c.read_record.new.left) none c.in_ok-read_record.ensures in
+    let read = subst (λ b. ReadsPlace (place_at c.args.file c.loop-buffer.nth) (next_of c.loop-buffer.left) (Ok b) c.read_record.new.buffer c.read_record.new.left) none c.in_ok-read_record.ensures in
     walk_ends setting.profile.now setting.limit c.args.file c.loop-buffer.nth c.args.bytes.now c.loop-buffer.left (map analysed c.args.analyses.now.items) (map analysed c.loop-buffer.analyses.items)
     c.loop-buffer.invariant.under c.read_record.new.buffer c.read_record.new.left read
 
@@ -37,7 +37,7 @@ returns-in_err-analysis-clause-err c =
     let old = map analysed c.args.analyses.now.items in
     let now = map analysed c.loop-buffer.analyses.items in
     let some : c.in_ok-read_record.field-0 ≡ true = search rules in
-    let read = subst (λ b. ReadsPlace c.args.file c.loop-buffer.nth (next_of c.loop-buffer.left) (Ok b) c.read_record.new.buffer c.read_record.new.left) some c.in_ok-read_record.ensures in
+    let read = subst (λ b. ReadsPlace (place_at c.args.file c.loop-buffer.nth) (next_of c.loop-buffer.left) (Ok b) c.read_record.new.buffer c.read_record.new.left) some c.in_ok-read_record.ensures in
     let refused = c.in_err-analysis.field-0.0 in
     let many : c.len.result ≡ length now = c.len.ensures ∙ c.loop-buffer.analyses.ok.0 ∙ sym (length-map c.loop-buffer.analyses.items analysed) in
     let result : c.from_residual-in_err-analysis.result ≡ Err refused = search rules in
@@ -48,7 +48,7 @@ returns-in_err-analysis-clause-err c =
 pub loop-buffer-smaller : goal.loop-buffer-smaller
 loop-buffer-smaller c =
     let some : c.in_ok-read_record.field-0 ≡ true = search rules in
-    let read = subst (λ b. ReadsPlace c.args.file c.loop-buffer.nth (next_of c.loop-buffer.left) (Ok b) c.read_record.new.buffer c.read_record.new.left) some c.in_ok-read_record.ensures in
+    let read = subst (λ b. ReadsPlace (place_at c.args.file c.loop-buffer.nth) (next_of c.loop-buffer.left) (Ok b) c.read_record.new.buffer c.read_record.new.left) some c.in_ok-read_record.ensures in
     omega (arith, left_is_shorter c.args.file c.loop-buffer.nth c.loop-buffer.left c.read_record.new.buffer c.read_record.new.left read)
 
 pub loop-buffer-preserved : goal.loop-buffer-preserved
@@ -57,7 +57,7 @@ loop-buffer-preserved c =
     let old = map analysed c.args.analyses.now.items in
     let now = map analysed c.loop-buffer.analyses.items in
     let some : c.in_ok-read_record.field-0 ≡ true = search rules in
-    let read = subst (λ b. ReadsPlace c.args.file c.loop-buffer.nth (next_of c.loop-buffer.left) (Ok b) c.read_record.new.buffer c.read_record.new.left) some c.in_ok-read_record.ensures in
+    let read = subst (λ b. ReadsPlace (place_at c.args.file c.loop-buffer.nth) (next_of c.loop-buffer.left) (Ok b) c.read_record.new.buffer c.read_record.new.left) some c.in_ok-read_record.ensures in
     let shorter = left_is_shorter c.args.file c.loop-buffer.nth c.loop-buffer.left c.read_record.new.buffer c.read_record.new.left read in
     let many : c.len.result ≡ length now = c.len.ensures ∙ c.loop-buffer.analyses.ok.0 ∙ sym (length-map c.loop-buffer.analyses.items analysed) in
     let analysis = analysed c.in_ok-analysis.analysis in

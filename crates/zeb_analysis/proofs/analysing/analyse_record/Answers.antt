@@ -10,7 +10,7 @@ returns-then-before-setting-clause-err c other =
 pub returns-in-Err-clause-err : goal.returns-in-Err-clause-err
 returns-in-Err-clause-err c other =
     no_record c.args.setting.now.profile.now c.args.setting.now.limit c.args.before c.args.incoming.place.file c.args.incoming.place.nth c.args.incoming.bytes.now c.if-before-setting.false
-    c.in-Err.fault c.in-Err.ensures ∙ ap Some (sym c.of_marc.ensures)
+    c.in-Err.fault c.in-Err.ensures
 
 pub returns-in-Err-identifier-clause-err : goal.returns-in-Err-identifier-clause-err
 returns-in-Err-identifier-clause-err c other =

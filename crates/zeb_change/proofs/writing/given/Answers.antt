@@ -16,11 +16,13 @@ loop-count-preserved c =
           c.in_ok-push.ensures.items c.loop-count.invariant.told;
     }
 
+pub returns-clause-rising : goal.returns-clause-rising
+returns-clause-rising c = IsNonDecreasingBy-from_sort_by_key number_in _ c.in_ok-sort_by_key.ensures.sorted (λ a r q k. search rules)
+
 pub returns-clause-told : goal.returns-clause-told
 returns-clause-told c changes many are = record {
   noted = c.loop-count.given.items;
   same = all_given c.args.counts.now c.args.places.now c.loop-count.left.now c.loop-count.count-index c.loop-count.given.items
       (drop_of_length-le c.args.counts.now c.loop-count-test.false) c.loop-count.invariant.told changes many are;
-  rising = IsNonDecreasingBy-from_sort_by_key number_in _ c.in_ok-sort_by_key.ensures.sorted (λ a r q k. search rules);
   stable = c.sort_by_key.ensures.stable number_in (answers_always _ _ _ (λ f a r g h. search rules));
 }

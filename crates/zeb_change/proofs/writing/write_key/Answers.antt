@@ -1,8 +1,12 @@
 use Rattle.zeb_change.proofs.Cited.{◌≡◌, ◌∙◌, ℕ, rules, Ok, Err, ap, length, subst, sym, state, registers_rise, beside_database, IsWorkFor, AreGivenInOrder}
 use Rattle.zeb_register.specs.declared.faults.RegFault.TheVariants.{Damaged}
+use Rattle.zeb_register.specs.UnitChanges.{NumbersRise}
 use Rattle.zeb_register.proofs.UnitChangeLaws.{told_beside, told_change, told_damaged, told_malformed}
 use Rattle.zeb_change.proofs.Commuting.{olds_rise, put_in_order}
 use Rattle.zeb_change.proofs.writing.write_key.Goals as goal
+
+pub key_changes-requires : goal.key_changes-requires
+key_changes-requires g c = record { rising = subst NumbersRise (sym c.deref-3.ensures.value) c.in_ok-given.ensures.rising }
 
 pub returns-clause-written : goal.returns-clause-written
 returns-clause-written g c clean mode store =

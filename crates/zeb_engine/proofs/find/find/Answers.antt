@@ -1,12 +1,12 @@
-use Rattle.zeb_engine.proofs.Cited.{rules, ◌≡◌, ℕ, pos, List, Bor, length, map, Err, Ok, IsTrue, arith, refl, sym, ap, subst, inl, inr, string_bytes, state, HasCleanDisk, Trees, Directive, plan_value, query_value, posted, Format, version_of, HasDatabase, AreNumbers, has_ident_in, HoldsIn, NamesReadable, ArePlanRowsSound, Question, Reply, Base, conditions, OfDatabase, Answer, FindOver, FindTells, HidesUnsaid, SoundHits, asked_of, name_bytes, query_refusal, register_refusal, FindAnswers, Meets}
+use Rattle.zeb_engine.proofs.Cited.{rules, ◌≡◌, ℕ, pos, List, Bor, length, map, Err, Ok, IsTrue, arith, refl, sym, ap, subst, inl, inr, string_bytes, state, HasCleanDisk, Trees, Directive, plan_value, query_value, posted, Format, version_of, HasDatabase, AreNumbers, has_ident_in, HoldsIn, NamesReadable, PlanFinds, Question, Reply, Base, conditions, OfDatabase, Answer, FindOver, FindTells, HidesFind, HidesFound, HidesOne, HidesPlan, PlanHides, ◌<◌, ◌^◌, Has, asked_of, name_bytes, query_refusal, register_refusal, FindAnswers, Meets, hits_honest, hits_reasoned, hits_told}
 use Rattle.zeb_register.specs.declared.catalog.Database.{Database}
 use Rattle.zeb_engine.proofs.ReadyQueries.{existing_ends, query_ends, refused_ends}
 use Rattle.zeb_engine.proofs.FindAnswers.{asked_ends, asked_kept, found_ends, hits_answered, idents_readable, met_view, plan_ends}
-use Rattle.zeb_engine.proofs.ListedDatabases.{fault_fails}
+use Rattle.zeb_engine.proofs.ListedDatabases.{fault_fails, fault_or_damage}
 use Rattle.zeb_engine.proofs.Lookups.{base_found, hits_asked, hits_found, still_holds}
 use Rattle.zeb_engine.proofs.FindRefusals.{asked_refused, asked_small, hits_refused, misses_refused, plan_refused, query_refused, show_refused}
-use Rattle.zeb_engine.proofs.HiddenRows.{misses_hidden}
-use Rattle.zeb_engine.proofs.OverTables.{asked_over, fault_few, few_over, numbers_found, or_fails, past_found, plan_found, query_over}
+use Rattle.zeb_engine.proofs.HiddenRows.{hidden_read, misses_hidden}
+use Rattle.zeb_engine.proofs.OverTables.{asked_over, few_hidden, numbers_found, or_fails, past_found, plan_found, query_over}
 use Rattle.zeb_engine.proofs.ReadyTexts.{fault_never}
 use Rattle.zeb_engine.proofs.Showing.{kept_fails, still_shows}
 use Rattle.zeb_engine.proofs.StoreCauses.{LeavesAll, accepted_leaves, fault_after, leaves_then, passed_cause, query_caused, refusal_after}
@@ -15,6 +15,10 @@ use Rattle.zeb_engine.proofs.find.find.Goals as goal
 -- what may be answered of a database
 abbrev says : List Directive → Question → Base → Answer → Type 0
 says profile asked = FindAnswers profile asked.query.now asked.first asked.count
+
+-- which damage is told of them
+abbrev hides : Format → List Directive → (name : List ℕ) → Question → Trees → Type 0
+hides format profile name asked = HidesFind format profile name asked.query.now asked.first asked.count
 
 -- the same on any tables
 abbrev tells : Format → List Directive → Question → Trees → OfDatabase
@@ -99,7 +103,7 @@ returns-in_err-hits-clause-found g c clean opened limits before bases is keeps =
     let fault = c.in_err-hits.field-0.0 in
     let told : c.from_residual-in_err-hits.result ≡ Err (register_refusal fault) = search rules in
     refused_ends (says c.args.profile.now c.args.question) (name_bytes c.args.name.now) c.args.question.query.now bases c.from_residual-in_err-hits.result (register_refusal fault) told (inr (fault_fails fault (λ is_damaged.
-    c.in_err-hits.ensures.honest clean at.still.store (ap Err is_damaged) readable at.held.content at.held.storable at.still.held)))
+    hits_honest g.L.Layout.format c.in_ok-database.database.id.0 (plan_value c.in_ok-plan.plan) (state g.S.Store c.existing_database.new.connection) (state g.S.Store c.hits.new.connection) (Err fault) c.in_err-hits.ensures.units clean at.still.store (ap Err is_damaged) readable at.held.content at.held.storable at.still.held)))
 
 pub returns-in_err-hits-clause-refused : goal.returns-in_err-hits-clause-refused
 returns-in_err-hits-clause-refused g c clean store content storable held =
@@ -112,7 +116,7 @@ returns-in_err-hits-clause-refused g c clean store content storable held =
     let told : c.from_residual-in_err-hits.result ≡ Err (register_refusal fault) = search rules in
     rw told (hits_refused c.args.profile.now (name_bytes c.args.name.now) c.args.question.query.now c.args.question.first c.args.question.count s0.now.trees content c.in_ok-query.ensures.readable
     c.in_ok-database.database.id.0 (pos c.in_ok-database.database.last) (c.in_ok-database.ensures.row clean1 store) (query_value c.in_ok-query.query) c.in_ok-query.ensures.spelled plan c.in_ok-plan.ensures.planned fault
-    (λ is readable. c.in_err-hits.ensures.honest clean still.store (ap Err is) (subst (λ (t : Trees). NamesReadable t c.in_ok-database.database.id.0 plan) (sym still.trees) readable) content storable still.held))
+    (λ is readable. hits_honest g.L.Layout.format c.in_ok-database.database.id.0 (plan_value c.in_ok-plan.plan) (state g.S.Store c.existing_database.new.connection) (state g.S.Store c.hits.new.connection) (Err fault) c.in_err-hits.ensures.units clean still.store (ap Err is) (subst (λ (t : Trees). NamesReadable t c.in_ok-database.database.id.0 plan) (sym still.trees) readable) content storable still.held))
 
 pub returns-in_err-hits-clause-ready : goal.returns-in_err-hits-clause-ready
 returns-in_err-hits-clause-ready g c =
@@ -128,7 +132,7 @@ returns-in_err-hits-clause-caused g c clean =
     let fault = c.in_err-hits.field-0.0 in
     let told : c.from_residual-in_err-hits.result ≡ Err (register_refusal fault) = search rules in
     let found = accepted_leaves s0 s1 c.existing_database.ensures.crash (c.in_ok-database.ensures.found clean1) (c.existing_database.ensures.same clean1) in
-    rw told (fault_after s0 s1 (state g.S.Store c.hits.new.connection) found fault clean c.in_err-hits.ensures.refused)
+    rw told (fault_after s0 s1 (state g.S.Store c.hits.new.connection) found fault clean (hits_reasoned g.L.Layout.format c.in_ok-database.database.id.0 (plan_value c.in_ok-plan.plan) (state g.S.Store c.existing_database.new.connection) (state g.S.Store c.hits.new.connection) (Err fault) c.in_err-hits.ensures.units))
 
 pub returns-in_err-asked-clause-found : goal.returns-in_err-asked-clause-found
 returns-in_err-asked-clause-found g c clean opened limits before bases is keeps =
@@ -138,7 +142,7 @@ returns-in_err-asked-clause-found g c clean opened limits before bases is keeps 
     let clean1 : HasCleanDisk s1 = omega (arith, c.hits.ensures.call.crash.clean) in
     let at = base_found g.L.Layout.format k (record { version_is = refl; sound = c.is_of_some_text.ensures }) s0 s1 before bases (name_bytes c.args.name.now) c.in_ok-database.database is (keeps opened).0 (c.existing_database.ensures.same clean1) (c.in_ok-database.ensures.exists clean1 opened k before bases is keeps) in
     let numbers = c.in_ok-hits.hits.items in
-    let hits = subst (λ (t : Trees). AreNumbers (HoldsIn t at.held.content c.in_ok-database.database.id.0 (plan_value c.in_ok-plan.plan)) numbers) at.still.trees (c.in_ok-hits.ensures.value clean at.still.store at.held.content at.still.held) in
+    let hits = subst (λ (t : Trees). AreNumbers (HoldsIn t at.held.content c.in_ok-database.database.id.0 (plan_value c.in_ok-plan.plan)) numbers) at.still.trees (hits_told g.L.Layout.format c.in_ok-database.database.id.0 (plan_value c.in_ok-plan.plan) (state g.S.Store c.existing_database.new.connection) (state g.S.Store c.hits.new.connection) (Ok c.in_ok-hits.hits) c.in_ok-hits.ensures.units clean at.still.store at.held.content at.still.held) in
     let refusal = c.in_err-asked.field-0.0 in
     let told : c.from_residual-in_err-asked.result ≡ Err refusal = search rules in
     let Asked = λ (wanted : List ℕ) (asked : Bor (List ℕ)). asked.now ≡ wanted in
@@ -153,7 +157,7 @@ returns-in_err-asked-clause-refused g c clean store content storable held =
     let clean1 : HasCleanDisk s1 = omega (arith, c.hits.ensures.call.crash.clean) in
     let still = still_holds g.L.Layout.format content s0 s1 (c.existing_database.ensures.same clean1) (c.in_ok-database.ensures.found clean1).1 store held in
     let numbers = c.in_ok-hits.hits.items in
-    let hits = subst (λ (t : Trees). AreNumbers (HoldsIn t content c.in_ok-database.database.id.0 (plan_value c.in_ok-plan.plan)) numbers) still.trees (c.in_ok-hits.ensures.value clean still.store content still.held) in
+    let hits = subst (λ (t : Trees). AreNumbers (HoldsIn t content c.in_ok-database.database.id.0 (plan_value c.in_ok-plan.plan)) numbers) still.trees (hits_told g.L.Layout.format c.in_ok-database.database.id.0 (plan_value c.in_ok-plan.plan) (state g.S.Store c.existing_database.new.connection) (state g.S.Store c.hits.new.connection) (Ok c.in_ok-hits.hits) c.in_ok-hits.ensures.units clean still.store content still.held) in
     let refusal = c.in_err-asked.field-0.0 in
     let told : c.from_residual-in_err-asked.result ≡ Err refusal = search rules in
     let Asked = λ (wanted : List ℕ) (asked : Bor (List ℕ)). asked.now ≡ wanted in
@@ -178,7 +182,7 @@ returns-in_err-shown-clause-found g c clean opened limits before bases is keeps 
     let clean1 : HasCleanDisk s1 = omega (arith, clean2, c.hits.ensures.call.crash.clean) in
     let on = hits_found g.L.Layout.format k (record { version_is = refl; sound = c.is_of_some_text.ensures }) s0 s1 s2 before bases (name_bytes c.args.name.now) c.in_ok-database.database is (keeps opened).0
     (c.existing_database.ensures.same clean1) (c.in_ok-database.ensures.exists clean1 opened k before bases is keeps) (plan_value c.in_ok-plan.plan) c.args.question.first c.args.question.count c.in_ok-hits.hits.items _ c.in_ok-asked.asked
-    (c.in_ok-hits.ensures.value clean2) c.deref.ensures.value c.in_ok-asked.ensures.asked (c.hits.ensures.call.same clean2 c.existing_database.ensures.idle) in
+    (hits_told g.L.Layout.format c.in_ok-database.database.id.0 (plan_value c.in_ok-plan.plan) (state g.S.Store c.existing_database.new.connection) (state g.S.Store c.hits.new.connection) (Ok c.in_ok-hits.hits) c.in_ok-hits.ensures.units clean2) c.deref.ensures.value c.in_ok-asked.ensures.asked (c.hits.ensures.call.same clean2 c.existing_database.ensures.idle) in
     let asked = c.in_ok-asked.asked.now in
     let kept = asked_kept g.L.Layout.format k.profile s0.now.trees c.in_ok-database.database.id.0 on.at.base on.at.held (plan_value c.in_ok-plan.plan) c.in_ok-hits.hits.items asked c.args.question.first c.args.question.count on.wanted.hits on.wanted.said in
     let refusal = c.in_err-shown.field-0.0 in
@@ -197,7 +201,7 @@ returns-in_err-shown-clause-refused g c clean store content storable held =
     let plan = plan_value c.in_ok-plan.plan in
     let numbers = c.in_ok-hits.hits.items in
     let asked = c.in_ok-asked.asked in
-    let shown = hits_asked g.L.Layout.format content s0 s1 s2 still c.in_ok-database.database.id.0 plan c.args.question.first c.args.question.count numbers _ asked (c.in_ok-hits.ensures.value clean2 still.store content still.held)
+    let shown = hits_asked g.L.Layout.format content s0 s1 s2 still c.in_ok-database.database.id.0 plan c.args.question.first c.args.question.count numbers _ asked (hits_told g.L.Layout.format c.in_ok-database.database.id.0 (plan_value c.in_ok-plan.plan) (state g.S.Store c.existing_database.new.connection) (state g.S.Store c.hits.new.connection) (Ok c.in_ok-hits.hits) c.in_ok-hits.ensures.units clean2 still.store content still.held)
     c.deref.ensures.value c.in_ok-asked.ensures.asked (c.hits.ensures.call.same clean2 c.existing_database.ensures.idle) in
     let small = asked_small s0.now.trees content storable c.in_ok-database.database.id.0 plan c.in_ok-plan.ensures.numbers numbers asked.now c.args.question.first c.args.question.count shown.hits shown.said in
     let refusal = c.in_err-shown.field-0.0 in
@@ -228,7 +232,7 @@ returns-clause-found g c clean opened limits before bases is keeps =
     let clean1 : HasCleanDisk s1 = omega (arith, clean2, c.hits.ensures.call.crash.clean) in
     let on = hits_found g.L.Layout.format k (record { version_is = refl; sound = c.is_of_some_text.ensures }) s0 s1 (state g.S.Store c.hits.new.connection) before bases (name_bytes c.args.name.now) c.in_ok-database.database is (keeps opened).0
     (c.existing_database.ensures.same clean1) (c.in_ok-database.ensures.exists clean1 opened k before bases is keeps) (plan_value c.in_ok-plan.plan) c.args.question.first c.args.question.count c.in_ok-hits.hits.items _ c.in_ok-asked.asked
-    (c.in_ok-hits.ensures.value clean2) c.deref.ensures.value c.in_ok-asked.ensures.asked (c.hits.ensures.call.same clean2 c.existing_database.ensures.idle) in
+    (hits_told g.L.Layout.format c.in_ok-database.database.id.0 (plan_value c.in_ok-plan.plan) (state g.S.Store c.existing_database.new.connection) (state g.S.Store c.hits.new.connection) (Ok c.in_ok-hits.hits) c.in_ok-hits.ensures.units clean2) c.deref.ensures.value c.in_ok-asked.ensures.asked (c.hits.ensures.call.same clean2 c.existing_database.ensures.idle) in
     let numbers = c.in_ok-hits.hits.items in
     let counted : c.len.result ≡ length numbers = search rules in
     rw counted (found_ends g.L.Layout.format k.profile s0.now.trees c.in_ok-database.database.id.0 on.at.base on.at.held (name_bytes c.args.name.now) c.args.question.query.now c.args.question.first c.args.question.count bases c.in_ok-query.ensures.readable on.at.named
@@ -245,7 +249,7 @@ returns-clause-alone g c clean store content held =
     let plan = plan_value c.in_ok-plan.plan in
     let numbers = c.in_ok-hits.hits.items in
     let asked = c.in_ok-asked.asked in
-    let shown = hits_asked g.L.Layout.format content s0 s1 (state g.S.Store c.hits.new.connection) still c.in_ok-database.database.id.0 plan c.args.question.first c.args.question.count numbers _ asked (c.in_ok-hits.ensures.value clean2 still.store content still.held)
+    let shown = hits_asked g.L.Layout.format content s0 s1 (state g.S.Store c.hits.new.connection) still c.in_ok-database.database.id.0 plan c.args.question.first c.args.question.count numbers _ asked (hits_told g.L.Layout.format c.in_ok-database.database.id.0 (plan_value c.in_ok-plan.plan) (state g.S.Store c.existing_database.new.connection) (state g.S.Store c.hits.new.connection) (Ok c.in_ok-hits.hits) c.in_ok-hits.ensures.units clean2 still.store content still.held)
     c.deref.ensures.value c.in_ok-asked.ensures.asked (c.hits.ensures.call.same clean2 c.existing_database.ensures.idle) in
     let counted : c.len.result ≡ length numbers = search rules in
     rw counted (
@@ -276,7 +280,7 @@ returns-in_err-query-clause-tables g c clean store =
     let fault = c.in_err-query.field-0.0 in
     let told : c.from_residual.result ≡ Err (query_refusal fault) = search rules in
     let trees = (state g.S.Store c.args.connection.now).now.trees in
-    rw told (query_over (tells g.L.Layout.format c.args.profile.now c.args.question trees) (name_bytes c.args.name.now) HidesUnsaid trees c.args.question.query.now fault c.in_err-query.ensures.faulty)
+    rw told (query_over (tells g.L.Layout.format c.args.profile.now c.args.question trees) (name_bytes c.args.name.now) (hides g.L.Layout.format c.args.profile.now (name_bytes c.args.name.now) c.args.question) trees c.args.question.query.now fault c.in_err-query.ensures.faulty)
 
 pub returns-in_err-database-clause-tables : goal.returns-in_err-database-clause-tables
 returns-in_err-database-clause-tables g c clean store =
@@ -285,7 +289,7 @@ returns-in_err-database-clause-tables g c clean store =
     let trees = (state g.S.Store c.args.connection.now).now.trees in
     let Tells = tells g.L.Layout.format c.args.profile.now c.args.question trees in
     let name = name_bytes c.args.name.now in
-    rw told (asked_over Tells name HidesUnsaid trees c.args.question.query.now c.in_ok-query.ensures.readable (Err refusal) (misses_hidden Tells name HidesUnsaid trees (λ _. tt) refusal (c.in_err-database.ensures.misses clean store)))
+    rw told (asked_over Tells name (hides g.L.Layout.format c.args.profile.now (name_bytes c.args.name.now) c.args.question) trees c.args.question.query.now c.in_ok-query.ensures.readable (Err refusal) (misses_hidden Tells name (hides g.L.Layout.format c.args.profile.now (name_bytes c.args.name.now) c.args.question) trees (λ hidden. (c.in_ok-query.ensures.readable, inl hidden)) refusal (c.in_err-database.ensures.misses clean store)))
 
 pub returns-in_err-plan-clause-tables : goal.returns-in_err-plan-clause-tables
 returns-in_err-plan-clause-tables g c clean store =
@@ -294,15 +298,29 @@ returns-in_err-plan-clause-tables g c clean store =
     let trees = (state g.S.Store c.args.connection.now).now.trees in
     let database = c.in_ok-database.database in
     let text = c.args.question.query.now in
-    rw told (or_fails (tells g.L.Layout.format c.args.profile.now c.args.question trees) (name_bytes c.args.name.now) HidesUnsaid trees text c.in_ok-query.ensures.readable database.id.0 (pos database.last) (c.in_ok-database.ensures.row clean store) (query_refusal fault)
-    (plan_found c.args.profile.now text (query_value c.in_ok-query.query) c.in_ok-query.ensures.spelled (has_ident_in trees database.id.0) (SoundHits g.L.Layout.format trees database.id.0) c.args.question.first c.args.question.count fault c.in_err-plan.ensures.planned))
+    rw told (or_fails (tells g.L.Layout.format c.args.profile.now c.args.question trees) (name_bytes c.args.name.now) (hides g.L.Layout.format c.args.profile.now (name_bytes c.args.name.now) c.args.question) trees text c.in_ok-query.ensures.readable database.id.0 (pos database.last) (c.in_ok-database.ensures.row clean store) (query_refusal fault)
+    (plan_found c.args.profile.now text (query_value c.in_ok-query.query) c.in_ok-query.ensures.spelled (has_ident_in trees database.id.0) (PlanFinds g.L.Layout.format trees database.id.0) c.args.question.first c.args.question.count fault c.in_err-plan.ensures.planned))
 
 pub returns-in_err-hits-clause-tables : goal.returns-in_err-hits-clause-tables
 returns-in_err-hits-clause-tables g c clean store =
+    let format = g.L.Layout.format in
+    let s0 = state g.S.Store c.args.connection.now in
+    let s1 = state g.S.Store c.existing_database.new.connection in
+    let clean1 : HasCleanDisk s1 = omega (arith, c.hits.ensures.call.crash.clean) in
+    let trees = s0.now.trees in
+    let at = still_shows s0 s1 trees (c.existing_database.ensures.same clean1) (λ _. (store, refl)) (c.in_ok-database.ensures.found clean1).1 in
+    let database = c.in_ok-database.database in
+    let plan = plan_value c.in_ok-plan.plan in
+    let question = c.args.question in
+    let text = question.query.now in
+    let profile = c.args.profile.now in
     let fault = c.in_err-hits.field-0.0 in
     let told : c.from_residual-in_err-hits.result ≡ Err (register_refusal fault) = search rules in
-    let question = c.args.question in
-    rw told (few_over (FindOver g.L.Layout.format c.args.profile.now (name_bytes c.args.name.now) question.query.now question.first question.count) (state g.S.Store c.args.connection.now).now.trees (register_refusal fault) (fault_few fault))
+    let hidden = c.in_err-hits.ensures.units clean at.0 in
+    rw told (hidden_read text c.in_ok-query.ensures.readable (FindOver format profile (name_bytes c.args.name.now) text question.first question.count) (HidesPlan format profile text question.first question.count) (name_bytes c.args.name.now) trees
+    database.id.0 (pos database.last) (c.in_ok-database.ensures.row clean1 store) (register_refusal fault)
+    (fault_or_damage (HidesPlan format profile text question.first question.count trees database.id.0) fault
+    (λ is. (plan, (query_value c.in_ok-query.query, c.in_ok-query.ensures.spelled, c.in_ok-plan.ensures.planned), inl (subst (λ (t : Trees). PlanHides format t database.id.0 plan) at.1 (hidden.0 is))))))
 
 pub returns-in_err-asked-clause-tables : goal.returns-in_err-asked-clause-tables
 returns-in_err-asked-clause-tables g c clean store =
@@ -315,21 +333,46 @@ returns-in_err-asked-clause-tables g c clean store =
     let at = still_shows s0 s1 trees (c.existing_database.ensures.same clean1) (λ _. (store, refl)) (c.in_ok-database.ensures.found clean1).1 in
     let database = c.in_ok-database.database in
     let plan = plan_value c.in_ok-plan.plan in
-    let Sound = SoundHits g.L.Layout.format trees database.id.0 in
-    let sound = subst (λ (t : Trees). ArePlanRowsSound g.L.Layout.format t database.id.0 plan) at.1 (c.in_ok-hits.ensures.sound clean at.0) in
+    let Found = PlanFinds g.L.Layout.format trees database.id.0 in
+    let finds = subst (λ (t : Trees). PlanFinds g.L.Layout.format t database.id.0 plan c.in_ok-hits.hits.items) at.1 (c.in_ok-hits.ensures.units clean at.0) in
     let question = c.args.question in
     let Asked = λ (wanted : List ℕ) (asked : Bor (List ℕ)). asked.now ≡ wanted in
     let met = subst (λ (l : List ℕ). Meets Asked (asked_of l question.first question.count) (Err refusal)) c.deref.ensures.value c.in_err-asked.ensures.asked in
-    rw told (or_fails (tells g.L.Layout.format c.args.profile.now question trees) (name_bytes c.args.name.now) HidesUnsaid trees question.query.now c.in_ok-query.ensures.readable database.id.0 (pos database.last) (c.in_ok-database.ensures.row clean1 store) refusal
-    (past_found c.args.profile.now question.query.now (query_value c.in_ok-query.query) c.in_ok-query.ensures.spelled (has_ident_in trees database.id.0) Sound question.first question.count
-    plan c.in_ok-plan.ensures.planned c.in_ok-hits.hits.items sound Asked refusal met))
+    rw told (or_fails (tells g.L.Layout.format c.args.profile.now question trees) (name_bytes c.args.name.now) (hides g.L.Layout.format c.args.profile.now (name_bytes c.args.name.now) c.args.question) trees question.query.now c.in_ok-query.ensures.readable database.id.0 (pos database.last) (c.in_ok-database.ensures.row clean1 store) refusal
+    (past_found c.args.profile.now question.query.now (query_value c.in_ok-query.query) c.in_ok-query.ensures.spelled (has_ident_in trees database.id.0) Found question.first question.count
+    plan c.in_ok-plan.ensures.planned c.in_ok-hits.hits.items finds Asked refusal met))
 
 pub returns-in_err-shown-clause-tables : goal.returns-in_err-shown-clause-tables
 returns-in_err-shown-clause-tables g c clean store =
+    let format = g.L.Layout.format in
+    let s0 = state g.S.Store c.args.connection.now in
+    let s1 = state g.S.Store c.existing_database.new.connection in
+    let s2 = state g.S.Store c.hits.new.connection in
+    let clean2 : HasCleanDisk s2 = omega (arith, c.show.ensures.crash.clean) in
+    let clean1 : HasCleanDisk s1 = omega (arith, clean2, c.hits.ensures.call.crash.clean) in
+    let trees = s0.now.trees in
+    let found = still_shows s0 s1 trees (c.existing_database.ensures.same clean1) (λ _. (store, refl)) in
+    let shows = still_shows s1 s2 trees (c.hits.ensures.call.same clean2 c.existing_database.ensures.idle) found in
+    let at = found (c.in_ok-database.ensures.found clean1).1 in
+    let database = c.in_ok-database.database in
+    let plan = plan_value c.in_ok-plan.plan in
+    let question = c.args.question in
+    let text = question.query.now in
+    let profile = c.args.profile.now in
+    let numbers = c.in_ok-hits.hits.items in
+    let asked = c.in_ok-asked.asked in
     let refusal = c.in_err-shown.field-0.0 in
     let told : c.from_residual-in_err-shown.result ≡ Err refusal = search rules in
-    let question = c.args.question in
-    rw told (few_over (FindOver g.L.Layout.format c.args.profile.now (name_bytes c.args.name.now) question.query.now question.first question.count) (state g.S.Store c.args.connection.now).now.trees refusal c.in_err-shown.ensures.few)
+    let finds = subst (λ (t : Trees). PlanFinds format t database.id.0 plan numbers) at.1 (c.in_ok-hits.ensures.units clean2 at.0) in
+    let Asked = λ (wanted : List ℕ) (asked : Bor (List ℕ)). asked.now ≡ wanted in
+    let met = subst (λ (l : List ℕ). Meets Asked (asked_of l question.first question.count) (Ok asked)) c.deref.ensures.value c.in_ok-asked.ensures.asked in
+    let said = met_view (λ (x : Bor (List ℕ)). x.now) (asked_of numbers question.first question.count) asked met in
+    let few = few_hidden refusal ((n : ℕ) → Has asked.now n → n < 2 ^ 63) (HidesOne trees database.id.0 asked.now) c.in_err-shown.ensures.few (c.in_err-shown.ensures.refused clean trees shows) in
+    rw told (hidden_read text c.in_ok-query.ensures.readable (FindOver format profile (name_bytes c.args.name.now) text question.first question.count) (HidesPlan format profile text question.first question.count) (name_bytes c.args.name.now) trees
+    database.id.0 (pos database.last) (c.in_ok-database.ensures.row clean1 store) refusal (elim few [
+      | inl failed ↦ inl failed
+      | inr damaged ↦ inr (damaged.0, (plan, (query_value c.in_ok-query.query, c.in_ok-query.ensures.spelled, c.in_ok-plan.ensures.planned), inr (numbers, asked.now, finds, said, damaged.1)))
+    ]))
 
 pub returns-clause-tables : goal.returns-clause-tables
 returns-clause-tables g c clean store =
@@ -344,8 +387,8 @@ returns-clause-tables g c clean store =
     let at = found (c.in_ok-database.ensures.found clean1).1 in
     let database = c.in_ok-database.database in
     let plan = plan_value c.in_ok-plan.plan in
-    let Sound = SoundHits g.L.Layout.format trees database.id.0 in
-    let sound = subst (λ (t : Trees). ArePlanRowsSound g.L.Layout.format t database.id.0 plan) at.1 (c.in_ok-hits.ensures.sound clean2 at.0) in
+    let Found = PlanFinds g.L.Layout.format trees database.id.0 in
+    let finds = subst (λ (t : Trees). PlanFinds g.L.Layout.format t database.id.0 plan c.in_ok-hits.hits.items) at.1 (c.in_ok-hits.ensures.units clean2 at.0) in
     let question = c.args.question in
     let text = question.query.now in
     let numbers = c.in_ok-hits.hits.items in
@@ -360,7 +403,7 @@ returns-clause-tables g c clean store =
         database.id.0,
         pos database.last,
         c.in_ok-database.ensures.row clean1 store,
-        numbers_found c.args.profile.now text (query_value c.in_ok-query.query) c.in_ok-query.ensures.spelled (has_ident_in trees database.id.0) Sound question.first question.count
-            plan c.in_ok-plan.ensures.planned numbers sound asked.now said (map (λ hit. (hit.sysno, string_bytes hit.ident)) c.in_ok-shown.shown.items) (c.in_ok-shown.ensures.shown clean trees shows),
+        numbers_found c.args.profile.now text (query_value c.in_ok-query.query) c.in_ok-query.ensures.spelled (has_ident_in trees database.id.0) Found question.first question.count
+            plan c.in_ok-plan.ensures.planned numbers finds asked.now said (map (λ hit. (hit.sysno, string_bytes hit.ident)) c.in_ok-shown.shown.items) (c.in_ok-shown.ensures.shown clean trees shows),
       ),
     )))

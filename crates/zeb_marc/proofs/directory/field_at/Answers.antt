@@ -22,3 +22,10 @@ slice_bounds-bytes-start c =
     let ordered : c.in-Some.start ≤ c.in-Some.end - 1 = omega (arith, sound.begins, found.1, found.2) in
     let within : c.in-Some.end ≤ length c.args.area.now = omega (arith, sound.within, found.2) in
     search rules
+
+pub slice_bounds-bytes-end : goal.slice_bounds-bytes-end
+slice_bounds-bytes-end c =
+    let sound = IsSoundEntry-from_checks c.args.area.now (entry_of c.args.entry.now) c.requires.sound in
+    let found = c.in-Some.ensures in
+    let within : c.in-Some.end - 1 ≤ length c.args.area.now = omega (arith, sound.within, found.2) in
+    search rules

@@ -61,25 +61,30 @@ returns-clause-units g c clean inside store =
     let clean2 : HasCleanDisk third = omega (arith, c.dict_write.ensures.call.crash.clean) in
     let blocks = blocks_done g (goal.at.returns-clause-units g c).In_ok-after clean2 inside in
     key_answers c.args.db.0 c.args.key.now c.args.changes.now c.in_ok-known.known c.in_ok-after.after first third (state g.S.Store c.dict_write.new.tx.conn.now) c.dict_write.result
-    (c.in_ok-known.ensures.knows blocks.clean inside store) c.in_ok-known.ensures.clear.1 c.in_ok-known.ensures.text (blocks.runs store) (c.dict_write.ensures.call.ok clean blocks.goes.mode) c.dict_write.ensures.honest
+    (c.in_ok-known.ensures.knows blocks.clean inside store) c.in_ok-known.ensures.clear.1 c.in_ok-known.ensures.text c.requires.stored c.requires.rising (blocks.runs store) (c.dict_write.ensures.call.ok clean blocks.goes.mode) c.dict_write.ensures.honest
 
 pub returns-in_err-known-clause-units : goal.returns-in_err-known-clause-units
-returns-in_err-known-clause-units g c clean inside store = refused_so _ _ c.from_residual.result c.in_err-known.field-0.0 (search rules) (λ told.
-    (c.requires.stored, λ were are allows. c.in_err-known.ensures.knows clean inside store told were.records allows.count.is))
+returns-in_err-known-clause-units g c clean inside store = refused_so _ _ c.from_residual.result c.in_err-known.field-0.0 (search rules) (
+  λ none. absurd (none c.requires.stored),
+  λ told. (c.requires.stored, λ were are allows. c.in_err-known.ensures.knows clean inside store told were.records allows.count.is),
+)
 
 pub returns-in_err-after-clause-units : goal.returns-in_err-after-clause-units
-returns-in_err-after-clause-units g c clean inside store = refused_so _ _ c.from_residual-in_err-after.result c.in_err-after.field-0.0 (search rules) (λ told.
-    let first = state g.S.Store c.args.tx.now.conn.now in
-    let second = state g.S.Store c.key_known.new.tx.conn.now in
-    let clean1 : HasCleanDisk second = omega (arith, c.runs_put.ensures.call.crash.clean) in
-    let reads = c.in_ok-known.ensures.call.ok clean1 inside in
-    let db = c.args.db.0 in
-    let key = c.args.key.now in
-    let xs = c.args.changes.now in (
-      c.requires.stored,
-      λ were are allows.
-          let known = c.in_ok-known.known in
-          let here = blocks_allowed db key xs known first.now.trees were are c.in_ok-known.ensures.clear.1 (c.in_ok-known.ensures.knows clean1 inside store) c.requires.stored allows in
-          c.in_err-after.ensures.damaged clean reads.mode (store_same first second reads.now_is store) (ap Err told)
-          (subst (λ (d : Database). AllowsBlocks db key xs (λ block. known.clear_from ≤ block) known.records d.trees) (sym reads.now_is) here),
-    ))
+returns-in_err-after-clause-units g c clean inside store = refused_so _ _ c.from_residual-in_err-after.result c.in_err-after.field-0.0 (search rules) (
+  λ none. absurd (none c.requires.stored),
+  λ told.
+      let first = state g.S.Store c.args.tx.now.conn.now in
+      let second = state g.S.Store c.key_known.new.tx.conn.now in
+      let clean1 : HasCleanDisk second = omega (arith, c.runs_put.ensures.call.crash.clean) in
+      let reads = c.in_ok-known.ensures.call.ok clean1 inside in
+      let db = c.args.db.0 in
+      let key = c.args.key.now in
+      let xs = c.args.changes.now in (
+        c.requires.stored,
+        λ were are allows.
+            let known = c.in_ok-known.known in
+            let here = blocks_allowed db key xs known first.now.trees were are c.in_ok-known.ensures.clear.1 (c.in_ok-known.ensures.knows clean1 inside store) c.requires.stored allows in
+            c.in_err-after.ensures.damaged clean reads.mode (store_same first second reads.now_is store) (ap Err told)
+            (subst (λ (d : Database). AllowsBlocks db key xs (λ block. known.clear_from ≤ block) known.records d.trees) (sym reads.now_is) here),
+      ),
+)

@@ -1,5 +1,5 @@
-use Rattle.zeb_profile.proofs.Cuts.{boundary_after_blanks}
+use Rattle.zeb_profile.proofs.Trims.{trimmed_start}
 use Rattle.zeb_profile.proofs.lines.trim_start.Goals as goal
 
-pub range_from-requires : goal.range_from-requires
-range_from-requires c _ = rw (c.leading_blanks.ensures, c.as_bytes.ensures.value) (boundary_after_blanks c.args.text.now c.utf8.text)
+pub returns : goal.returns
+returns c = trimmed_start _ _ c.trim_start_matches.ensures.matches

@@ -13,6 +13,7 @@ use Rattle.zeb_program.proofs.ServingLemmas.{reaches_start, reaches_line, reache
 use Rattle.zeb_program.proofs.ScriptLemmas.{after_first_line-IsUtf8, not_empty, is_empty, length-after_first_line}
 use Rattle.zeb_program.proofs.batch.run_lines.Goals as goal
 use Rattle.zeb_register.specs.Formats.{version_of}
+use Rattle.zeb_program.proofs.StatusLemmas.{max_greater}
 
 pub loop-rest-init : goal.loop-rest-init
 loop-rest-init g c =
@@ -21,7 +22,6 @@ loop-rest-init g c =
     record {
       text = search rules;
       room = search rules;
-      range = omega arith;
       sound = λ sound. sound;
       under = (refl, refl);
       clean = λ clean. clean;
@@ -45,7 +45,6 @@ loop-rest-preserved g c =
     record {
       text = subst IsUtf8 (sym c.cut_line.ensures.rest) (after_first_line-IsUtf8 rest c.loop-rest.invariant.text);
       room = omega (arith, ap length c.cut_line.ensures.rest, length-after_first_line rest some);
-      range = omega (arith, c.max-greatest.ensures, c.in_ok-run_line.ensures.range);
       sound = λ sound. c.loop-rest.invariant.sound (c.run_line.ensures.sound sound);
       under = (c.run_line.ensures.under.0 ∙ same.0, c.run_line.ensures.under.1 ∙ same.1);
       clean = λ clean. c.loop-rest.invariant.clean (c.run_line.ensures.clean clean);
@@ -55,14 +54,14 @@ loop-rest-preserved g c =
           let step = subst₂ (λ p l. Writes (g.W.Write.contents c.loop-rest.output.writer) (g.W.Write.contents c.run_line.new.output.writer)
           (λ bytes. LineOver g.S.Store tells g.L.Layout.format (conditions (version_of g.L.Layout.format) p l) (number + 1) line c.loop-rest.session.connection bytes c.in_ok-run_line.field-0 c.run_line.new.session.connection)) same.0 same.1 (c.in_ok-run_line.ensures.over sound clean) in
           answered_line (LineOver g.S.Store tells g.L.Layout.format k) _ _ _ _ _ _ number rest line c.cut_line.result.1.now c.loop-rest.greatest c.in_ok-run_line.field-0 c.max-greatest.result
-          c.loop-rest.session.connection c.run_line.new.session.connection some c.cut_line.ensures.line c.cut_line.ensures.rest c.max-greatest.ensures was step;
+          c.loop-rest.session.connection c.run_line.new.session.connection some c.cut_line.ensures.line c.cut_line.ensures.rest (c.max-greatest.ensures ∙ max_greater c.loop-rest.greatest c.in_ok-run_line.field-0) was step;
       answers = λ sound clean known.
           let was = c.loop-rest.invariant.answers (c.run_line.ensures.sound sound) (c.run_line.ensures.clean clean) known in
           let here = subst (IsLineTold tells) (sym c.cut_line.ensures.line) (told_first tells rest (c.loop-rest.invariant.told known)) in
           let step = subst₂ (λ p l. Leads now next (g.W.Write.contents c.loop-rest.output.writer) (g.W.Write.contents c.run_line.new.output.writer)
           (λ held bytes then. AnswersLine tells (conditions (version_of g.L.Layout.format) p l) (number + 1) line held bytes c.in_ok-run_line.field-0 then)) same.0 same.1 (c.in_ok-run_line.ensures.answer sound clean here) in
           reaches_line tells k old now next _ _ _ _ _ number rest line c.cut_line.result.1.now c.loop-rest.greatest c.in_ok-run_line.field-0 c.max-greatest.result some
-          c.cut_line.ensures.line c.cut_line.ensures.rest c.max-greatest.ensures was step;
+          c.cut_line.ensures.line c.cut_line.ensures.rest (c.max-greatest.ensures ∙ max_greater c.loop-rest.greatest c.in_ok-run_line.field-0) was step;
     }
 
 pub returns-clause-answer : goal.returns-clause-answer

@@ -1,14 +1,50 @@
-use Rattle.zeb_program.proofs.WordRunLemmas.{told_closed}
+use Rattle.std.proofs.Common.{◌≡◌, false, refl}
+use Rattle.sqlite.specs.Held.{state}
+use Rattle.sqlite.specs.State.{HasCleanDisk}
+use Rattle.zeb_change.specs.Conditions.{conditions}
+use Rattle.zeb_register.specs.Formats.{packed_blocks, version_of}
+use Rattle.zeb_program.specs.Answers.{AnswersBatch, AnswersPart}
+use Rattle.zeb_program.specs.PathChanges.{AreFilesTold}
+use Rattle.zeb_program.specs.PrivateServing.{Leads, Stops}
+use Rattle.zeb_program.specs.PrivateWordRuns.{RunsIn, StopsIn}
+use Rattle.zeb_program.proofs.SessionLemmas.{ended_err, ended_ok}
 use Rattle.zeb_program.proofs.command_line.run_in.Goals as goal
 
 pub returns-clause-answer : goal.returns-clause-answer
-returns-clause-answer g c = λ sound quiet. record {
-  last = c.run_lines-answered.new.session.connection;
-  answered = c.in_ok-answered.field-0;
-  closed = c.tell_closed-closed.result;
-  is = c.max.ensures;
-  clean = c.run_lines-answered.ensures.clean;
-  lines = λ clean known. c.in_ok-answered.ensures.answer sound clean known;
-  closes = told_closed (λ sink. g.V.Write.contents sink.writer) c.args.fault_output.now c.tell_closed-closed.new.output _ c.tell_closed-closed.result
-      c.tell_closed-closed.ensures.whole c.tell_closed-closed.ensures.unclosed c.tell_closed-closed.ensures.status quiet;
-}
+returns-clause-answer g c =
+    let store = g.P.Store.Store in
+    let tells = g.P.Paths.tells c.args.paths.now in
+    let k = conditions (version_of packed_blocks) c.args.session.profile c.args.session.limits in
+    let n = c.args.batch.lines_before in
+    let text = c.args.batch.text.now in
+    let held = c.args.session.connection in
+    let last = c.run_lines-answered.new.session.connection in
+    let old = g.W.Write.contents c.args.output.now.writer in
+    let new = g.W.Write.contents c.run_lines-answered.new.output.writer in
+    let fault_old = g.V.Write.contents c.args.fault_output.now.writer in
+    let fault_new = g.V.Write.contents c.end_session.new.fault_output.writer in
+    ended_ok c.run_lines-answered.result c.end_session.result c.end_session.new.fault_output.failed fault_old fault_new
+    (λ status. c.run_lines-answered.new.output.failed ≡ false → HasCleanDisk (state store last) → AreFilesTold tells text
+    → Leads (state store held) (state store last) old new (λ before bytes later. AnswersBatch tells k n text before bytes status later))
+    (λ status. c.run_lines-answered.new.output.failed ≡ false → c.end_session.new.fault_output.failed ≡ false → RunsIn store tells k n text held old new fault_old fault_new status)
+    c.end_session.ensures.ends c.run_lines-answered.ensures.answer
+    (λ answered closed lines closes sound quiet. (answered, closed, refl, record { last = last; clean = c.run_lines-answered.ensures.clean; lines = lines sound; closes = closes quiet }))
+
+pub returns-clause-stopped : goal.returns-clause-stopped
+returns-clause-stopped g c =
+    let store = g.P.Store.Store in
+    let tells = g.P.Paths.tells c.args.paths.now in
+    let k = conditions (version_of packed_blocks) c.args.session.profile c.args.session.limits in
+    let n = c.args.batch.lines_before in
+    let text = c.args.batch.text.now in
+    let held = c.args.session.connection in
+    let last = c.run_lines-answered.new.session.connection in
+    let old = g.W.Write.contents c.args.output.now.writer in
+    let new = g.W.Write.contents c.run_lines-answered.new.output.writer in
+    let fault_old = g.V.Write.contents c.args.fault_output.now.writer in
+    let fault_new = g.V.Write.contents c.end_session.new.fault_output.writer in
+    ended_err c.run_lines-answered.result c.end_session.result c.end_session.new.fault_output.failed fault_old fault_new
+    (c.run_lines-answered.new.output.failed ≡ false → HasCleanDisk (state store last) → AreFilesTold tells text → Stops (state store held) old new (AnswersPart tells k n text))
+    (c.run_lines-answered.new.output.failed ≡ false → c.end_session.new.fault_output.failed ≡ false → StopsIn store tells k n text held old new fault_old fault_new)
+    c.end_session.ensures.ends c.run_lines-answered.ensures.stopped
+    (λ closed lines closes sound quiet. (closed, record { last = last; clean = c.run_lines-answered.ensures.clean; lines = lines sound; closes = closes quiet }))

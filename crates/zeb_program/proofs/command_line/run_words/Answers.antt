@@ -2,7 +2,7 @@ use Rattle.std.proofs.Common.{[], map, string_bytes, inl, inr, arith}
 use Rattle.std.proofs.KnownBytes.{Consumes-nil}
 use Rattle.zeb_program.specs.Registers.{places}
 use Rattle.zeb_program.specs.WordAnswers.{misused}
-use Rattle.zeb_program.proofs.WordAnswerLemmas.{batch_words, shell_kept, shell_words, stopped_line_words, stopped_task_words, task_words}
+use Rattle.zeb_program.proofs.WordAnswerLemmas.{batch_words, shell_kept, shell_words, stopped_batch_words, stopped_shell_words, stopped_task_words, task_words}
 use Rattle.zeb_program.proofs.command_line.run_words.Goals as goal
 
 pub returns-in-Err-clause-answer : goal.returns-in-Err-clause-answer
@@ -19,7 +19,7 @@ returns-in-Task-clause-answer g c =
 
 pub returns-in-Task-clause-stopped : goal.returns-in-Task-clause-stopped
 returns-in-Task-clause-stopped g c =
-    stopped_task_words (λ sink. g.W.Write.contents sink.writer) (λ sink. g.V.Write.contents sink.writer) (map string_bytes c.args.words.now) c.args.output.now c.run_task.new.output
+    stopped_task_words (places g.P.Store.Store (g.P.Paths.tells c.args.paths.now) (g.P.Paths.opens c.args.paths.now) (g.P.Paths.lacks c.args.paths.now)) (λ sink. g.W.Write.contents sink.writer) (λ sink. g.V.Write.contents sink.writer) (map string_bytes c.args.words.now) _ _ c.args.output.now c.run_task.new.output
     c.args.fault_output.now c.run_task.new.fault_output c.in-Task.task _ _ c.run_task.result (c.in-Ok.words, c.in-Ok.ensures.named, c.in-Task.ensures) c.run_task.ensures.stopped
 
 pub returns-in-Batch-clause-unread : goal.returns-in-Batch-clause-unread
@@ -33,7 +33,7 @@ returns-in-Batch-clause-answer g c =
 
 pub returns-in-Batch-clause-stopped : goal.returns-in-Batch-clause-stopped
 returns-in-Batch-clause-stopped g c =
-    stopped_line_words (map string_bytes c.args.words.now) _ _ _ _ _ _ c.run_batch.result (inl (c.in-Ok.words, c.in-Ok.ensures.named, c.in-Batch.ensures))
+    stopped_batch_words (places g.P.Store.Store (g.P.Paths.tells c.args.paths.now) (g.P.Paths.opens c.args.paths.now) (g.P.Paths.lacks c.args.paths.now)) (map string_bytes c.args.words.now) _ _ _ _ _ _ c.in-Ok.words _ _ c.run_batch.result c.in-Ok.ensures.named c.in-Batch.ensures c.run_batch.ensures.stopped
 
 pub returns-in-Shell-clause-bounded : goal.returns-in-Shell-clause-bounded
 returns-in-Shell-clause-bounded g c = λ other.
@@ -51,4 +51,4 @@ returns-in-Shell-clause-answer g c =
 
 pub returns-in-Shell-clause-stopped : goal.returns-in-Shell-clause-stopped
 returns-in-Shell-clause-stopped g c =
-    stopped_line_words (map string_bytes c.args.words.now) _ _ _ _ _ _ c.run_shell.result (inr (c.in-Ok.words, c.in-Ok.ensures.named, c.in-Shell.ensures))
+    stopped_shell_words (places g.P.Store.Store (g.P.Paths.tells c.args.paths.now) (g.P.Paths.opens c.args.paths.now) (g.P.Paths.lacks c.args.paths.now)) (map string_bytes c.args.words.now) _ _ _ _ _ _ c.in-Ok.words _ _ c.run_shell.result c.in-Ok.ensures.named c.in-Shell.ensures c.run_shell.ensures.stopped

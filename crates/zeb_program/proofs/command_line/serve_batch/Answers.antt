@@ -2,14 +2,16 @@ use Rattle.std.proofs.Common.{◌≡◌, false, rules}
 use Rattle.zeb_change.specs.Conditions.{conditions}
 use Rattle.zeb_register.specs.Formats.{packed_blocks, version_of}
 use Rattle.zeb_program.specs.Registers.{places}
+use Rattle.zeb_program.proofs.StopLemmas.{stop_kept, stop_none, stop_unopened}
 use Rattle.zeb_program.proofs.WordRunLemmas.{run_kept, run_none, run_unopened}
 use Rattle.zeb_program.proofs.command_line.serve_batch.Goals as goal
 
 pub returns-then-not-has_store-clause-answer : goal.returns-then-not-has_store-clause-answer
 returns-then-not-has_store-clause-answer g c = λ first.
     let lacking : c.has_store.result ≡ false = search rules in
-    run_none (places g.P.Store.Store (g.P.Paths.tells c.args.paths.now) (g.P.Paths.opens c.args.paths.now) (g.P.Paths.lacks c.args.paths.now)) c.args.profile c.args.batch.text.now c.args.batch.lines_before _ _ _ _ _ c.run_batch.result first
-    (c.store_path.result.now, c.store_path.ensures, c.has_store.ensures lacking) c.run_batch.ensures.answer
+    let unmade : c.begins.result ≡ false = search rules in
+    run_none (places g.P.Store.Store (g.P.Paths.tells c.args.paths.now) (g.P.Paths.opens c.args.paths.now) (g.P.Paths.lacks c.args.paths.now)) c.args.profile c.args.batch.text.now c.args.batch.lines_before _ _ _ _ _ c.run_in_memory.result first
+    (c.store_path.result.now, c.store_path.ensures, c.has_store.ensures lacking) (c.begins.ensures unmade) c.run_in_memory.ensures.answer
 
 pub returns-in-Ok-clause-answer : goal.returns-in-Ok-clause-answer
 returns-in-Ok-clause-answer g c = λ first.
@@ -20,3 +22,20 @@ returns-in-Ok-clause-answer g c = λ first.
 pub returns-in-Err-clause-answer : goal.returns-in-Err-clause-answer
 returns-in-Err-clause-answer g c = λ first.
     run_unopened (places g.P.Store.Store (g.P.Paths.tells c.args.paths.now) (g.P.Paths.opens c.args.paths.now) (g.P.Paths.lacks c.args.paths.now)) c.args.profile c.args.batch.text.now _ _ _ c.in-Err.failure.fault _ _ c.tell_failure.result c.in-Err.ensures.failed c.tell_failure.ensures.told
+
+pub returns-then-not-has_store-clause-stopped : goal.returns-then-not-has_store-clause-stopped
+returns-then-not-has_store-clause-stopped g c = λ first.
+    let lacking : c.has_store.result ≡ false = search rules in
+    let unmade : c.begins.result ≡ false = search rules in
+    stop_none (places g.P.Store.Store (g.P.Paths.tells c.args.paths.now) (g.P.Paths.opens c.args.paths.now) (g.P.Paths.lacks c.args.paths.now)) c.args.profile c.args.batch.text.now c.args.batch.lines_before _ _ _ _ _ c.run_in_memory.result first
+    (c.store_path.result.now, c.store_path.ensures, c.has_store.ensures lacking) (c.begins.ensures unmade) c.run_in_memory.ensures.stopped
+
+pub returns-in-Ok-clause-stopped : goal.returns-in-Ok-clause-stopped
+returns-in-Ok-clause-stopped g c = λ first.
+    let session = c.in-Ok.session in
+    stop_kept (places g.P.Store.Store (g.P.Paths.tells c.args.paths.now) (g.P.Paths.opens c.args.paths.now) (g.P.Paths.lacks c.args.paths.now)) c.args.profile c.args.batch.text.now (g.P.Paths.tells c.open_register.new.paths) (conditions (version_of packed_blocks) session.profile session.limits) session.connection c.args.batch.lines_before
+    _ _ _ _ _ _ c.run_in.result first c.open_register.ensures.told c.in-Ok.ensures.under c.in-Ok.ensures.opened c.run_in.ensures.stopped
+
+pub returns-in-Err-clause-stopped : goal.returns-in-Err-clause-stopped
+returns-in-Err-clause-stopped g c = λ first.
+    stop_unopened (places g.P.Store.Store (g.P.Paths.tells c.args.paths.now) (g.P.Paths.opens c.args.paths.now) (g.P.Paths.lacks c.args.paths.now)) c.args.profile c.args.batch.text.now _ (λ sink. g.V.Write.contents sink.writer) c.args.fault_output.now c.tell_failure.new.output _ _ c.tell_failure.result c.tell_failure.ensures.silent

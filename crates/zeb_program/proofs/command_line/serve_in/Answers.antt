@@ -1,15 +1,79 @@
-use Rattle.zeb_program.proofs.WordRunLemmas.{told_closed}
+use Rattle.std.proofs.Common.{◌≡◌, false, refl, subst}
+use Rattle.std.specs.Prelude.{IfSome}
+use Rattle.std.specs.Io.KnownBytes.{IsAtEnd}
+use Rattle.sqlite.specs.Held.{state}
+use Rattle.sqlite.specs.State.{HasCleanDisk}
+use Rattle.zeb_change.specs.Conditions.{conditions}
+use Rattle.zeb_register.specs.Formats.{packed_blocks, version_of}
+use Rattle.zeb_program.specs.FirstAnswers.{AnswersFirst}
+use Rattle.zeb_program.specs.PathChanges.{AreFilesTold}
+use Rattle.zeb_program.specs.WordRuns.{TellsClosed}
+use Rattle.zeb_program.specs.PrivateServing.{ServesLines, Stops}
+use Rattle.zeb_program.specs.PrivateWordRuns.{ServesIn, StopsServing}
+use Rattle.zeb_program.proofs.SessionLemmas.{both_err, ended_err, ended_ok, ended_failed, ended_whole}
 use Rattle.zeb_program.proofs.command_line.serve_in.Goals as goal
 
+pub returns-clause-failed_read : goal.returns-clause-failed_read
+returns-clause-failed_read g c = λ failed.
+    ended_failed c.serve_lines-answered.result c.end_session.result c.end_session.new.fault_output.failed _ _ c.end_session.ensures.ends (c.serve_lines-answered.ensures.failed_read failed)
+
+pub returns-clause-whole : goal.returns-clause-whole
+returns-clause-whole g c =
+    ended_whole c.serve_lines-answered.result c.end_session.result c.end_session.new.fault_output.failed _ _ (IsAtEnd (g.R.Source.remaining c.serve_lines-answered.new.input)) c.end_session.ensures.ends c.serve_lines-answered.ensures.whole
+
 pub returns-clause-answer : goal.returns-clause-answer
-returns-clause-answer g c = λ sound quiet. record {
-  last = c.serve_lines-answered.new.session.connection;
-  between = g.V.Write.contents c.serve_lines-answered.new.fault_output.writer;
-  answered = c.in_ok-answered.field-0;
-  closed = c.tell_closed-closed.result;
-  is = c.max.ensures;
-  clean = c.serve_lines-answered.ensures.clean;
-  lines = λ clean. c.in_ok-answered.ensures.answer sound (c.tell_closed-closed.ensures.sound quiet) clean;
-  closes = told_closed (λ sink. g.V.Write.contents sink.writer) c.serve_lines-answered.new.fault_output c.tell_closed-closed.new.output _ c.tell_closed-closed.result
-      c.tell_closed-closed.ensures.whole c.tell_closed-closed.ensures.unclosed c.tell_closed-closed.ensures.status quiet;
-}
+returns-clause-answer g c =
+    let store = g.P.Store.Store in
+    let tells = g.P.Paths.tells c.args.paths.now in
+    let k = conditions (version_of packed_blocks) c.args.session.profile c.args.session.limits in
+    let given = g.R.Source.remaining c.args.input.now in
+    let left = g.R.Source.remaining c.serve_lines-answered.new.input in
+    let held = c.args.session.connection in
+    let last = c.serve_lines-answered.new.session.connection in
+    let old = g.W.Write.contents c.args.output.now.writer in
+    let new = g.W.Write.contents c.serve_lines-answered.new.output.writer in
+    let fault_old = g.V.Write.contents c.args.fault_output.now.writer in
+    let between = g.V.Write.contents c.serve_lines-answered.new.fault_output.writer in
+    let fault_new = g.V.Write.contents c.end_session.new.fault_output.writer in
+    ended_ok c.serve_lines-answered.result c.end_session.result c.end_session.new.fault_output.failed between fault_new
+    (λ status. c.serve_lines-answered.new.output.failed ≡ false → c.serve_lines-answered.new.fault_output.failed ≡ false → HasCleanDisk (state store last)
+    → IfSome given (λ text. AreFilesTold tells text → ServesLines tells k text left (state store held) (state store last) old new fault_old between status))
+    (λ status. c.serve_lines-answered.new.output.failed ≡ false → c.end_session.new.fault_output.failed ≡ false → ServesIn store tells k given left held old new fault_old fault_new status)
+    c.end_session.ensures.ends c.serve_lines-answered.ensures.answer
+    (λ answered closed lines closes sound quiet. (
+      between,
+      answered,
+      closed,
+      refl,
+      record { last = last; clean = c.serve_lines-answered.ensures.clean; lines = lines sound (c.end_session.ensures.sound quiet); closes = closes quiet },
+    ))
+
+pub returns-clause-stopped : goal.returns-clause-stopped
+returns-clause-stopped g c =
+    let store = g.P.Store.Store in
+    let tells = g.P.Paths.tells c.args.paths.now in
+    let k = conditions (version_of packed_blocks) c.args.session.profile c.args.session.limits in
+    let given = g.R.Source.remaining c.args.input.now in
+    let left = g.R.Source.remaining c.serve_lines-answered.new.input in
+    let held = c.args.session.connection in
+    let last = c.serve_lines-answered.new.session.connection in
+    let old = g.W.Write.contents c.args.output.now.writer in
+    let new = g.W.Write.contents c.serve_lines-answered.new.output.writer in
+    let fault_old = g.V.Write.contents c.args.fault_output.now.writer in
+    let between = g.V.Write.contents c.serve_lines-answered.new.fault_output.writer in
+    let fault_new = g.V.Write.contents c.end_session.new.fault_output.writer in
+    let said = (c.serve_lines-answered.new.output.failed ≡ false → HasCleanDisk (state store last)
+    → IfSome given (λ text. AreFilesTold tells text → Stops (state store held) old new (AnswersFirst tells k 0 text left))) in
+    let same = (c.serve_lines-answered.new.fault_output ≡ c.args.fault_output.now) in
+    ended_err c.serve_lines-answered.result c.end_session.result c.end_session.new.fault_output.failed between fault_new (said × same)
+    (c.serve_lines-answered.new.output.failed ≡ false → c.end_session.new.fault_output.failed ≡ false → StopsServing store tells k given left held old new fault_old fault_new)
+    c.end_session.ensures.ends (both_err c.serve_lines-answered.result said same c.serve_lines-answered.ensures.stopped c.serve_lines-answered.ensures.silent)
+    (λ closed facts closes sound quiet. (
+      closed,
+      record {
+        last = last;
+        clean = c.serve_lines-answered.ensures.clean;
+        lines = facts.0 sound;
+        closes = subst (λ sink. TellsClosed (g.V.Write.contents sink.writer) fault_new closed) facts.1 (closes quiet);
+      },
+    ))

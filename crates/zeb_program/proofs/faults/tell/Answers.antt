@@ -6,6 +6,7 @@ use Rattle.zeb_program.specs.Answers.{Writes}
 use Rattle.zeb_program.specs.FaultLines.{TellsFault, profile_line, unreadable_path}
 use Rattle.zeb_program.specs.declared.faults.Fault.{Fault}
 use Rattle.zeb_program.proofs.faults.tell.Goals as goal
+use Rattle.zeb_program.specs.declared.statuses.Status.TheVariants.{Failed}
 
 -- the parts of a line, as they are written and as they are said
 nested : (a b c d : List ℕ) → (a ++ (b ++ (c ++ d))) ++ 10 ∷ [] ≡ a ++ b ++ c ++ d ++ 10 ∷ []
@@ -16,12 +17,12 @@ returns-in-Profile-clause-told g c = λ sound.
     let old = g.W.Write.contents c.args.output.now.writer in
     let new = g.W.Write.contents c.write_line.new.self.writer in
     let same = nested (codes "zebraidx: ") (string_bytes c.in-Profile.file) (codes " ") (fault_text c.in-Profile.fault) in
-    subst (λ (f : Fault). Writes old new (λ line. TellsFault f line c.profile_status.result)) (sym c.in-Profile.is)
-    (profile_line (string_bytes c.in-Profile.file) c.in-Profile.fault, (refl, c.profile_status.ensures.status), subst (Appends old new) same (c.write_line.ensures.bytes sound))
+    subst (λ (f : Fault). Writes old new (λ line. TellsFault f line c.of_profile.result)) (sym c.in-Profile.is)
+    (profile_line (string_bytes c.in-Profile.file) c.in-Profile.fault, (refl, c.of_profile.ensures.status), subst (Appends old new) same (c.write_line.ensures.bytes sound))
 
 pub returns-in-Unreadable-clause-told : goal.returns-in-Unreadable-clause-told
 returns-in-Unreadable-clause-told g c = λ sound.
     let old = g.W.Write.contents c.args.output.now.writer in
     let new = g.W.Write.contents c.write_line-in-Unreadable.new.self.writer in
-    subst (λ (f : Fault). Writes old new (λ line. TellsFault f line 3)) (sym c.in-Unreadable.is)
+    subst (λ (f : Fault). Writes old new (λ line. TellsFault f line Failed)) (sym c.in-Unreadable.is)
     (unreadable_path (string_bytes c.in-Unreadable.path), (refl, refl), c.write_line-in-Unreadable.ensures.bytes sound)

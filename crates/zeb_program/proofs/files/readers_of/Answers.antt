@@ -6,8 +6,8 @@ use Rattle.zeb_program.specs.PrivateFiles.{sure_bytes}
 use Rattle.zeb_program.proofs.ReaderLemmas.{under_faults, under_start, GivesNext, Ends, met_start, met_fault, met_end, met_next, sure_of}
 use Rattle.zeb_program.proofs.files.readers_of.Goals as goal
 
-pub loop-init : goal.loop-init
-loop-init g c =
+pub loop-walk-init : goal.loop-walk-init
+loop-walk-init g c =
     record {
       paths = ap (λ p. p.now) c.in_ok-walk.ensures.paths;
       under = under_start (map string_bytes c.args.named.now) _ c.in_ok-walk.ensures.left;
@@ -16,33 +16,33 @@ loop-init g c =
 
 pub returns-in_err-path-clause-memory : goal.returns-in_err-path-clause-memory
 returns-in_err-path-clause-memory g c files told =
-    let left = paths_left c.loop.walk.steps.items in
+    let left = paths_left c.loop-walk.walk.steps.items in
     let later = paths_left c.next_file.new.self.steps.items in
     let why = c.in_err-path.field-0.0 in
-    absurd (met_fault (sure_bytes g.P.Reader.Source.remaining g.P.Reader.Source.may_fail g.P.Reader.Source.has_failed) (g.P.Paths.tells c.args.paths.now) files c.loop.readers.items left later why
-    (c.loop.invariant.met files told) (subst (λ p. GivesNext (g.P.Paths.tells p) left later (Err why)) c.loop.invariant.paths c.in_err-path.ensures.told) c.in_err-path.ensures.ended)
+    absurd (met_fault (sure_bytes g.P.Reader.Source.remaining g.P.Reader.Source.may_fail g.P.Reader.Source.has_failed) (g.P.Paths.tells c.args.paths.now) files c.loop-walk.readers.items left later why
+    (c.loop-walk.invariant.met files told) (subst (λ p. GivesNext (g.P.Paths.tells p) left later (Err why)) c.loop-walk.invariant.paths c.in_err-path.ensures.told) c.in_err-path.ensures.ended)
 
-pub returns-in_default-clause-told : goal.returns-in_default-clause-told
-returns-in_default-clause-told g c files told =
-    let left = paths_left c.loop.walk.steps.items in
+pub returns-clause-told : goal.returns-clause-told
+returns-clause-told g c files told =
+    let left = paths_left c.loop-walk.walk.steps.items in
     let later = paths_left c.next_file.new.self.steps.items in
-    let next = subst (λ p. GivesNext (g.P.Paths.tells p) left later (Ok c.in_ok-path.field-0)) c.loop.invariant.paths c.in_ok-path.ensures.told in
-    met_end (sure_bytes g.P.Reader.Source.remaining g.P.Reader.Source.may_fail g.P.Reader.Source.has_failed) (g.P.Paths.tells c.args.paths.now) files c.loop.readers.items left later
-    (c.loop.invariant.met files told) (subst (λ found. GivesNext (g.P.Paths.tells c.args.paths.now) left later (Ok found)) c.in_default.is next)
+    let next = subst (λ p. GivesNext (g.P.Paths.tells p) left later (Ok c.in_ok-path.field-0)) c.loop-walk.invariant.paths c.in_ok-path.ensures.told in
+    met_end (sure_bytes g.P.Reader.Source.remaining g.P.Reader.Source.may_fail g.P.Reader.Source.has_failed) (g.P.Paths.tells c.args.paths.now) files c.loop-walk.readers.items left later
+    (c.loop-walk.invariant.met files told) (subst (λ found. GivesNext (g.P.Paths.tells c.args.paths.now) left later (Ok found)) c.in_default.is next)
 
-pub loop-preserved : goal.loop-preserved
-loop-preserved g c =
-    let left = paths_left c.loop.walk.steps.items in
+pub loop-walk-preserved : goal.loop-walk-preserved
+loop-walk-preserved g c =
+    let left = paths_left c.loop-walk.walk.steps.items in
     let later = paths_left c.next_file.new.self.steps.items in
     let tells = g.P.Paths.tells c.args.paths.now in
-    let next = subst (λ p. GivesNext (g.P.Paths.tells p) left later (Ok c.in_ok-path.field-0)) c.loop.invariant.paths c.in_ok-path.ensures.told in
+    let next = subst (λ p. GivesNext (g.P.Paths.tells p) left later (Ok c.in_ok-path.field-0)) c.loop-walk.invariant.paths c.in_ok-path.ensures.told in
     let read : g.P.Reader.Source.remaining c.reader.result ≡ tells (string_bytes c.in-Some.path) = c.reader.ensures.bytes in
     record {
-      paths = ap (λ p. p.now) c.in_ok-path.ensures.paths ∙ c.loop.invariant.paths;
-      under = (c.in_ok-path.ensures.under (map string_bytes c.args.named.now) c.loop.invariant.under).1;
+      paths = ap (λ p. p.now) c.in_ok-path.ensures.paths ∙ c.loop-walk.invariant.paths;
+      under = (c.in_ok-path.ensures.under (map string_bytes c.args.named.now) c.loop-walk.invariant.under).1;
       met = λ files told.
-          met_next (sure_bytes g.P.Reader.Source.remaining g.P.Reader.Source.may_fail g.P.Reader.Source.has_failed) tells files c.loop.readers.items c.push.new.self.items left later c.in-Some.path c.reader.result
-          (c.loop.invariant.met files told) (subst (λ found. GivesNext tells left later (Ok found)) c.in-Some.is next)
+          met_next (sure_bytes g.P.Reader.Source.remaining g.P.Reader.Source.may_fail g.P.Reader.Source.has_failed) tells files c.loop-walk.readers.items c.push.new.self.items left later c.in-Some.path c.reader.result
+          (c.loop-walk.invariant.met files told) (subst (λ found. GivesNext tells left later (Ok found)) c.in-Some.is next)
           (subst (λ found. Ends left (Ok found)) c.in-Some.is c.in_ok-path.ensures.ended)
           (λ file known. sure_of g.P.Reader.Source.remaining g.P.Reader.Source.may_fail g.P.Reader.Source.has_failed c.reader.result file (read ∙ known) (c.reader.ensures.able file known) c.reader.ensures.sound) c.in_ok-push.ensures.items;
     }
@@ -51,4 +51,4 @@ pub returns-in_err-path-clause-under : goal.returns-in_err-path-clause-under
 returns-in_err-path-clause-under g c =
     let why = c.in_err-path.field-0.0 in
     let from : IfErr c.from_residual-in_err-path.result (λ given. IsUnread given × (given ≡ fault_of why)) = search rules in
-    under_faults (map string_bytes c.args.named.now) why c.from_residual-in_err-path.result from (c.in_err-path.ensures.under (map string_bytes c.args.named.now) c.loop.invariant.under).0
+    under_faults (map string_bytes c.args.named.now) why c.from_residual-in_err-path.result from (c.in_err-path.ensures.under (map string_bytes c.args.named.now) c.loop-walk.invariant.under).0

@@ -1,16 +1,19 @@
 use Rattle.std.proofs.Common.{◌≡◌, List, ℕ, map, string_bytes}
-use Rattle.zeb_paths.specs.Walks.{AreUnder, paths_left}
+use Rattle.zeb_paths.specs.Walks.{AreUnder, paths_left, walk_weight}
 use Rattle.zeb_program.specs.PrivateFiles.{sure_bytes}
 use Rattle.zeb_program.specs.TaskAnswers.{AreTold}
 use Rattle.zeb_program.proofs.ReaderLemmas.{IsMet}
 use Rattle.zeb_program.proofs.files.readers_of.Given as goal
 
 -- The readers of the first files are there, and the paths of the others are left.
-abbrev pub invariant-loop : goal.invariant-loop
-invariant-loop g l =
+abbrev pub invariant-loop-walk : goal.invariant-loop-walk
+invariant-loop-walk g l =
     record {
       paths : l.walk.paths.now ≡ l.paths;
       under : AreUnder (map string_bytes l.named) (paths_left l.walk.steps.items);
       met : (files : List (List ℕ)) → AreTold (g.P.Paths.tells l.paths) (map string_bytes l.named) files
           → IsMet (sure_bytes g.P.Reader.Source.remaining g.P.Reader.Source.may_fail g.P.Reader.Source.has_failed) (g.P.Paths.tells l.paths) files l.readers.items (paths_left l.walk.steps.items);
     }
+
+abbrev pub decreases-loop-walk : goal.decreases-loop-walk
+decreases-loop-walk g l = walk_weight l.walk.steps.items

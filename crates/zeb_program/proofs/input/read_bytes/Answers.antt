@@ -8,4 +8,4 @@ pub returns-in_err-extend_from_slice-clause-bounded : goal.returns-in_err-extend
 returns-in_err-extend_from_slice-clause-bounded g c =
     let before = c.loop-portion.bytes.items in
     let last = take c.in_ok-count.count c.read.new.buffer in
-    (before ++ last, rw (length-append before last) (search rules), Consumes-trans _ _ _ before last c.loop-portion.invariant.2 c.in_ok-count.ensures.bytes.0)
+    (before ++ last, rw (length-append before last) (search rules), Consumes-trans _ _ _ before last c.loop-portion.invariant.taken c.in_ok-count.ensures.bytes.0)

@@ -1,4 +1,3 @@
-use Rattle.std.proofs.Common.{sym, subst}
 use Rattle.std.proofs.Math.Path.{fun_ext}
 use Rattle.zeb_program.specs.Registers.{places}
 use Rattle.zeb_change.specs.declared.refusals.Refusal.TheVariants.{Store}

@@ -1,5 +1,5 @@
-use Rattle.std.proofs.Common.{◌≡◌, ◌∙◌, [], ap, inl, inr, subst, sym}
-use Rattle.std.specs.Prelude.{Err, IfOk, Ok, Result}
+use Rattle.std.proofs.Common.{◌≡◌, ◌∙◌, [], ap, inl, subst, sym}
+use Rattle.std.specs.Prelude.{Err, IfOk, Result}
 use Rattle.zeb_program.specs.PrivateServing.{replied}
 use Rattle.zeb_program.specs.PrivateWarnings.{MayWarn}
 use Rattle.zeb_program.specs.declared.faults.Fault.{Fault}

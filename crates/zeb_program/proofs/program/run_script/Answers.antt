@@ -14,13 +14,13 @@ pub returns-in-Some-clause-answer : goal.returns-in-Some-clause-answer
 returns-in-Some-clause-answer g c =
     let cut = rw c.in-Some.is at c.cut-script.ensures.divided in
     let divides = subst (λ t. DividesAt c.in-Some.batch.lines_before t c.cut-script.result.profile.now c.in-Some.batch.text.now) c.as_str.ensures.value cut in
-    ran_script (g.P.Paths.tells c.args.paths.now) _ _ _ (string_bytes c.in-Ok.text) _ _ _ _ _ _ c.run_batch.result c.in-Ok.ensures.text (text_input c.in-Ok.text c.in-Ok.ensures.short) divides c.in-Ok-read.ensures c.run_batch.ensures.answer
+    ran_script (g.P.Paths.tells c.args.paths.now) _ _ _ (string_bytes c.in-Ok.text) _ _ _ _ _ _ c.run_in_memory.result c.in-Ok.ensures.text (text_input c.in-Ok.text c.in-Ok.ensures.short) divides c.in-Ok-read.ensures c.run_in_memory.ensures.answer
 
 pub returns-in-Some-clause-stopped : goal.returns-in-Some-clause-stopped
 returns-in-Some-clause-stopped g c =
     let cut = rw c.in-Some.is at c.cut-script.ensures.divided in
     let divides = subst (λ t. DividesAt c.in-Some.batch.lines_before t c.cut-script.result.profile.now c.in-Some.batch.text.now) c.as_str.ensures.value cut in
-    stopped_script (g.P.Paths.tells c.args.paths.now) _ _ _ (string_bytes c.in-Ok.text) _ _ _ _ _ _ c.run_batch.result c.in-Ok.ensures.text (text_input c.in-Ok.text c.in-Ok.ensures.short) divides c.in-Ok-read.ensures c.run_batch.ensures.stopped
+    stopped_script (g.P.Paths.tells c.args.paths.now) _ _ _ (string_bytes c.in-Ok.text) _ _ _ _ _ _ c.run_in_memory.result c.in-Ok.ensures.text (text_input c.in-Ok.text c.in-Ok.ensures.short) divides c.in-Ok-read.ensures c.run_in_memory.ensures.stopped
 
 pub returns-in-Err-Memory-clause-stopped : goal.returns-in-Err-Memory-clause-stopped
 returns-in-Err-Memory-clause-stopped g c = λ _ _. silent_script (g.P.Paths.tells c.args.paths.now) _ _

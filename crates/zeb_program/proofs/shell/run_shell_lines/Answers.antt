@@ -11,6 +11,7 @@ use Rattle.zeb_program.specs.PrivateOverTables.{LineOver}
 use Rattle.zeb_program.proofs.ShellOverLemmas.{goes_start, goes_found, goes_end, over_failure, over_stop}
 use Rattle.zeb_program.proofs.ShellLemmas.{AnswersNext, serves_start, serves_found, serves_end, serves_failure, serves_stop, found_none}
 use Rattle.zeb_program.proofs.shell.run_shell_lines.Goals as goal
+use Rattle.zeb_program.proofs.StatusLemmas.{max_greater}
 
 pub loop-lines_before-init : goal.loop-lines_before-init
 loop-lines_before-init g c =
@@ -18,7 +19,6 @@ loop-lines_before-init g c =
     let old = state g.S.Store c.args.session.now.connection in
     record {
       read = search rules;
-      range = omega arith;
       sound = λ sound. sound;
       under = (refl, refl);
       clean = λ clean. clean;
@@ -41,7 +41,6 @@ loop-lines_before-preserved g c =
     let same = c.loop-lines_before.invariant.under in
     record {
       read = search rules;
-      range = search rules;
       sound = λ sound. c.loop-lines_before.invariant.sound (c.run_next_line.ensures.sound sound);
       under = (c.run_next_line.ensures.under.0 ∙ same.0, c.run_next_line.ensures.under.1 ∙ same.1);
       clean = λ clean. c.loop-lines_before.invariant.clean (c.run_next_line.ensures.clean clean);
@@ -50,14 +49,14 @@ loop-lines_before-preserved g c =
           (n + 1) (first_line text) c.loop-lines_before.session.connection bytes s c.run_next_line.new.session.connection)))) same.0 same.1 c.in_ok-status.ensures.over in
           goes_found (LineOver g.S.Store tells g.L.Layout.format k) (g.W.Write.contents c.args.output.now.writer) mid writes (g.R.Source.remaining c.args.input.now) left (g.R.Source.remaining c.run_next_line.new.input)
           n c.loop-lines_before.greatest c.in-Some.status c.max-greatest.result c.args.session.now.connection c.loop-lines_before.session.connection c.run_next_line.new.session.connection failed (HasCleanDisk next) c.in_ok-status.field-0
-          c.in-Some.is c.max-greatest.ensures c.in_ok-status.ensures.some c.in_ok-status.ensures.taken step sound clean
+          c.in-Some.is (c.max-greatest.ensures ∙ max_greater c.loop-lines_before.greatest c.in-Some.status) c.in_ok-status.ensures.some c.in_ok-status.ensures.taken step sound clean
           (c.loop-lines_before.invariant.over (c.run_next_line.ensures.sound sound) (c.run_next_line.ensures.clean clean));
       answers = λ sound clean.
           let step = subst₂ (λ p l. IfSome c.in_ok-status.field-0 (λ s. failed ≡ false → HasCleanDisk next → IfSome left (AnswersNext tells (conditions (version_of g.L.Layout.format) p l) now next mid writes (n + 1) s)))
           same.0 same.1 c.in_ok-status.ensures.answer in
           serves_found tells k old now next (g.W.Write.contents c.args.output.now.writer) mid writes (g.R.Source.remaining c.args.input.now) left (g.R.Source.remaining c.run_next_line.new.input)
           n c.loop-lines_before.greatest c.in-Some.status c.max-greatest.result failed (HasCleanDisk next) c.in_ok-status.field-0
-          c.in-Some.is c.max-greatest.ensures c.in_ok-status.ensures.some c.in_ok-status.ensures.taken step sound clean
+          c.in-Some.is (c.max-greatest.ensures ∙ max_greater c.loop-lines_before.greatest c.in-Some.status) c.in_ok-status.ensures.some c.in_ok-status.ensures.taken step sound clean
           (c.loop-lines_before.invariant.answers (c.run_next_line.ensures.sound sound) (c.run_next_line.ensures.clean clean));
     }
 

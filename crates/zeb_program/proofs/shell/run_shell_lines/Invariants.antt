@@ -1,4 +1,4 @@
-use Rattle.std.proofs.Common.{◌≡◌, ◌≤◌, false}
+use Rattle.std.proofs.Common.{◌≡◌, false}
 use Rattle.sqlite.specs.Held.{state}
 use Rattle.sqlite.specs.State.{HasCleanDisk}
 use Rattle.zeb_change.specs.Conditions.{conditions}
@@ -14,7 +14,6 @@ invariant-loop-lines_before g l =
     let before = l.initial.session in
     record {
       read : g.R.Source.has_failed l.input ≡ false;
-      range : l.greatest ≤ 3;
       sound : l.output.failed ≡ false → l.initial.output.failed ≡ false;
       under : (l.session.profile ≡ before.profile) × (l.session.limits ≡ before.limits);
       clean : HasCleanDisk (state g.S.Store l.session.connection) → HasCleanDisk (state g.S.Store before.connection);

@@ -28,15 +28,6 @@ returns c = record {
     planned (is_structure _ _ (quoted_at 0 (codes "a a a a a a a a a a a a a a a a a a a a a a a a a a a a a a a a a a a a a a a a a a a a a a a a a a a a a a a a a a a a a a a a a"))) refl refl,
     planned (is_structure _ _ (pair_at 0 (codes "@and") And [] refl refl refl (under_at 5 11 (codes "2=6") (2, codes "6") refl (term_at 15 (codes "x") refl)) (under_at 17 23 (codes "1=9999") (1, codes "9999") refl (term_at 30 (codes "y") refl)))) refl refl,
   );
-  combinations = (
-    planned (is_structure _ _ (under_at 0 6 (codes "1=31") (1, codes "31") refl (term_at 11 (codes "1851") refl))) refl refl,
-    planned (is_structure _ _ (under_at 0 6 (codes "4=107") (4, codes "107") refl (under_at 12 18 (codes "3=1") (3, codes "1") refl (term_at 22 (codes "1") refl)))) refl refl,
-    planned (is_structure _ _ (under_at 0 6 (codes "4=107") (4, codes "107") refl (under_at 12 18 (codes "2=4") (2, codes "4") refl (term_at 22 (codes "1") refl)))) refl refl,
-    planned (is_structure _ _ (under_at 0 6 (codes "4=6") (4, codes "6") refl (under_at 10 16 (codes "6=2") (6, codes "2") refl (term_at 20 (codes "x") refl)))) refl refl,
-    planned (is_structure _ _ (under_at 0 6 (codes "4=105") (4, codes "105") refl (under_at 12 18 (codes "2=1") (2, codes "1") refl (term_at 22 (codes "x") refl)))) refl refl,
-    planned (is_structure _ _ (under_at 0 6 (codes "2=4") (2, codes "4") refl (under_at 10 16 (codes "5=1") (5, codes "1") refl (term_at 20 (codes "x") refl)))) refl refl,
-    planned (is_structure _ _ (under_at 0 6 (codes "1=31") (1, codes "31") refl (under_at 11 17 (codes "4=109") (4, codes "109") refl (under_at 23 29 (codes "5=1") (5, codes "1") refl (term_at 33 (codes "1851") refl))))) refl refl,
-  );
   defaults = (
     planned_under (is_structure _ _ (term_at 0 (codes "whale") refl)) refl refl,
     planned_under (is_structure _ _ (under_at 0 6 (codes "1=1016") (1, codes "1016") refl (term_at 13 (codes "x") refl))) refl refl,

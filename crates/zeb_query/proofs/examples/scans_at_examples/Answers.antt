@@ -12,6 +12,10 @@ returns c = record {
   );
   values = (
     scanned (is_structure _ _ (under_at 0 6 (codes "2=103") (2, codes "103") refl (term_at 12 (codes "a") refl))) refl refl,
+    scanned (is_structure _ _ (under_at 0 6 (codes "2=1") (2, codes "1") refl (term_at 10 (codes "a") refl))) refl refl,
+    scanned (is_structure _ _ (under_at 0 6 (codes "2=2") (2, codes "2") refl (term_at 10 (codes "a") refl))) refl refl,
+    scanned (is_structure _ _ (under_at 0 6 (codes "2=4") (2, codes "4") refl (term_at 10 (codes "a") refl))) refl refl,
+    scanned (is_structure _ _ (under_at 0 6 (codes "2=5") (2, codes "5") refl (term_at 10 (codes "a") refl))) refl refl,
     scanned (is_structure _ _ (under_at 0 6 (codes "3=1") (3, codes "1") refl (term_at 10 (codes "a") refl))) refl refl,
     scanned (is_structure _ _ (under_at 0 6 (codes "5=1") (5, codes "1") refl (term_at 10 (codes "a") refl))) refl refl,
     scanned (is_structure _ _ (under_at 0 6 (codes "4=6") (4, codes "6") refl (term_at 10 (codes "a") refl))) refl refl,

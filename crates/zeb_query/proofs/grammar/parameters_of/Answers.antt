@@ -1,4 +1,4 @@
-use Rattle.zeb_query.proofs.Cited.{◌∙◌, [], ◌∷◌, string_bytes}
+use Rattle.zeb_query.proofs.Cited.{◌∙◌}
 use Rattle.zeb_query.proofs.GrammarLemmas.{spells_next}
 use Rattle.zeb_query.proofs.grammar.parameters_of.Goals as goal
 

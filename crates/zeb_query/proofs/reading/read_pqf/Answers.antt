@@ -23,4 +23,4 @@ returns-clause-faulty c =
     read_faulty c.args.text.now _ c.query.result c.if-text-gt-MOST_BYTES.false (ap (λ items. map word_of items) c.deref.ensures.value ∙ c.in_ok-words.ensures) c.query.ensures.fails
 
 pub returns-then-text-gt-MOST_BYTES-clause-faulty : goal.returns-then-text-gt-MOST_BYTES-clause-faulty
-returns-then-text-gt-MOST_BYTES-clause-faulty c = too_long c.args.text.now c.diagnostic.result c.if-text-gt-MOST_BYTES.true c.diagnostic.ensures
+returns-then-text-gt-MOST_BYTES-clause-faulty c = too_long c.args.text.now c.refused.result c.if-text-gt-MOST_BYTES.true c.refused.ensures

@@ -1,4 +1,4 @@
-use Rattle.zeb_register.proofs.Cited.{ap, rules, Err}
+use Rattle.zeb_register.proofs.Cited.{rules}
 use Rattle.zeb_register.proofs.Answered.{refused_so}
 use Rattle.zeb_register.proofs.ContentLemmas.{has_at}
 use Rattle.zeb_register.proofs.plain.postings_of.Goals as goal

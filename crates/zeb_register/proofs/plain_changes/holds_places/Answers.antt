@@ -1,4 +1,4 @@
-use Rattle.zeb_register.proofs.Cited.{state, Row, Has, ◌≡◌, ◌≢◌, ◌∙◌, Result, Ok, Err, OnOk, sym, ap, subst, map, IfErr, IsListOf, IsRest, postings_tree, Damaged, first_two, IsTwoNumbers}
+use Rattle.zeb_register.proofs.Cited.{state, Row, Has, ◌≡◌, ◌∙◌, Result, Ok, Err, OnOk, sym, ap, subst, map, IfErr, IsListOf, IsRest, postings_tree, Damaged, first_two, IsTwoNumbers}
 use Rattle.zeb_register.proofs.Columns.{column_is, numbered_rows}
 use Rattle.zeb_register.proofs.PlaceLemmas.{place_front}
 use Rattle.zeb_register.proofs.UnitRows.{reads_told}

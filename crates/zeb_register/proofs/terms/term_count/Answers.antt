@@ -1,4 +1,4 @@
-use Rattle.zeb_register.proofs.Cited.{state, rules, ◌∙◌, sym, subst, string_bytes, List, Posting, posting_cmp, IsCount, key_in, IsInRecord, plain_rows}
+use Rattle.zeb_register.proofs.Cited.{state, rules, sym, subst, List, Posting, posting_cmp, IsCount, key_in, IsInRecord}
 use Rattle.std.specs.List.Sorted.{IsStrictlySortedBy}
 use Rattle.zeb_register.specs.PlainUnits.{HasShownNone, RowsCount}
 use Rattle.zeb_register.proofs.Answered.{refused_so}

@@ -1,13 +1,13 @@
-use Rattle.zeb_search.proofs.Cited.{rules, Vec, Global, Trees, holds_in, ◌≡◌, ◌∙◌, ◌∷◌, ◌+◌, ◌*◌, [], ℕ, List, None, Some, ap, arith, length, length-append, refl, sym, subst, string_bytes, Err, IfOk-weaker, state, Has, TermCount, posted, TermIn, NoRows, RegisterDict, HasMet, HasWanted, LeadsTo, TermsRise}
-use Rattle.zeb_register.proofs.Answered.{answers_ok}
-use Rattle.zeb_register.proofs.CountLists.{all_told, from_told}
+use Rattle.zeb_search.proofs.Cited.{rules, Vec, Global, Trees, ◌≡◌, ◌∙◌, ◌∷◌, ◌+◌, ◌*◌, [], List, None, Some, ap, arith, length, length-append, refl, sym, subst, string_bytes, Err, state, Has, TermCount, NoRows, RegisterDict, HasMet, LeadsTo, TermsRise}
+use Rattle.zeb_register.specs.Terms.{HidesFrom, HidesSome, ListsAll, ListsFrom}
+use Rattle.zeb_register.proofs.CountLists.{all_told}
 use Rattle.zeb_register.proofs.FormatLemmas.{registers_have_terms}
 use Rattle.zeb_search.proofs.MetPages.{MetUpTo, all_met, last_met, met_of, more_of, more_rises, next_met, none_met}
 use Rattle.zeb_search.proofs.MetTerms.{page_told}
-use Rattle.zeb_search.proofs.ReadLemmas.{accepted, clean_before, one_read, read_still, read_then, still_store, still_trees}
+use Rattle.zeb_search.proofs.ReadLemmas.{accepted, one_read, read_still, read_then}
 use Rattle.zeb_search.proofs.SearchCountLemmas.{counted_still, counted_within, if_ok_counted}
 use Rattle.zeb_search.proofs.DictCounts.{pages_counted, within_register}
-use Rattle.zeb_search.proofs.ReasonedFaults.{reasoned_error}
+use Rattle.zeb_search.proofs.ToldLemmas.{tells_later, tells_more, tells_refused}
 use Rattle.zeb_search.proofs.keys.terms_wanted.Goals as goal
 
 pub pages-init : goal.pages-init
@@ -56,8 +56,8 @@ pages-smaller g c =
     let more : length c.append.new.self.items ≡ length terms.items + length page = ap length c.in_ok-append.ensures.items ∙ length-append terms.items page in
     omega (arith, some, more, terms.ok.0, terms.ok.1, terms.small)
 
-pub returns-in-None-clause-told : goal.returns-in-None-clause-told
-returns-in-None-clause-told g c clean store =
+pub returns-in-None-clause-units : goal.returns-in-None-clause-units
+returns-in-None-clause-units g c clean store =
     let old = state g.S.Store c.args.connection.now in
     let now = state g.S.Store c.pages.connection in
     let new = state g.S.Store c.terms_from.new.conn in
@@ -118,34 +118,29 @@ returns-in-None-clause-call g c =
     let new = state g.S.Store c.terms_from.new.conn in
     accepted old new _ (read_then old now new c.pages.invariant.read (one_read now new c.in_ok-page.page c.in_ok-page.ensures.call))
 
-pub returns-in_err-page-clause-refused : goal.returns-in_err-page-clause-refused
-returns-in_err-page-clause-refused g c =
+pub returns-in_err-page-clause-units : goal.returns-in_err-page-clause-units
+returns-in_err-page-clause-units g c =
     let old = state g.S.Store c.args.connection.now in
     let now = state g.S.Store c.pages.connection in
     let new = state g.S.Store c.terms_from.new.conn in
+    let format = g.L.Layout.format in
+    let of = c.args.of in
+    let start = c.as_str.result.now in
     let cause = c.in_err-page.field-0.0 in
     let told : c.from_residual-in_err-page.result ≡ Err cause = search rules in
-    reasoned_error old now new c.pages.invariant.read c.terms_from.ensures.call.crash cause c.from_residual-in_err-page.result told (from_told g.L.Layout.format c.args.of c.as_str.result.now c.pages.page_terms now new (Err cause) c.in_err-page.ensures.units).2
+    let hides = λ (trees : Trees). HidesFrom format trees of.db.0 of.index of.register start c.pages.page_terms in
+    let lists = λ (trees : Trees) (page : Vec TermCount Global). ListsFrom format trees of.db.0 of.index of.register start c.pages.page_terms page.items in
+    tells_refused hides (λ trees. HidesSome format trees of.db.0 of.index of.register) lists (λ (trees : Trees) (terms : Vec TermCount Global). HasMet format trees of.db.0 of.index of.register c.args.wanted terms.items) old new cause c.from_residual-in_err-page.result told
+    (λ _ _ hidden. (hidden.term, hidden.hidden)) (tells_later hides lists old now new c.pages.invariant.read c.terms_from.ensures.call.crash (Err cause) c.in_err-page.ensures.units)
 
-pub returns-in_err-page-clause-honest : goal.returns-in_err-page-clause-honest
-returns-in_err-page-clause-honest g c clean store is content storable has =
+pub returns-then-spans_register-clause-units : goal.returns-then-spans_register-clause-units
+returns-then-spans_register-clause-units g c =
     let old = state g.S.Store c.args.connection.now in
-    let now = state g.S.Store c.pages.connection in
-    let new = state g.S.Store c.terms_from.new.conn in
-    let first = clean_before now new c.terms_from.ensures.call.crash clean in
-    let read = c.pages.invariant.read in
-    (from_told g.L.Layout.format c.args.of c.as_str.result.now c.pages.page_terms now new (Err c.in_err-page.field-0.0) c.in_err-page.ensures.units).1 clean (still_store old now read first store) (ap Err (search rules)) content storable
-    (subst (λ (t : Trees). holds_in g.L.Layout.format t content) (sym (still_trees old now read first)) has)
-
-pub returns-then-spans_register-clause-honest : goal.returns-then-spans_register-clause-honest
-returns-then-spans_register-clause-honest g c = (all_told g.L.Layout.format c.args.of (state g.S.Store c.args.connection.now) (state g.S.Store c.terms_of.new.conn) c.terms_of.result c.terms_of.ensures.units).1
-
-pub returns-then-spans_register-clause-refused : goal.returns-then-spans_register-clause-refused
-returns-then-spans_register-clause-refused g c = (all_told g.L.Layout.format c.args.of (state g.S.Store c.args.connection.now) (state g.S.Store c.terms_of.new.conn) c.terms_of.result c.terms_of.ensures.units).2
-
-pub returns-then-spans_register-clause-told : goal.returns-then-spans_register-clause-told
-returns-then-spans_register-clause-told g c clean store =
-    answers_ok c.terms_of.result _ _ _ (λ terms lists. all_met g.L.Layout.format (state g.S.Store c.args.connection.now).now.trees c.args.of.db.0 c.args.of.index c.args.of.register c.args.wanted terms.items lists) (c.terms_of.ensures.units clean store)
+    let format = g.L.Layout.format in
+    let of = c.args.of in
+    let hides = λ (trees : Trees). HidesSome format trees of.db.0 of.index of.register in
+    tells_more hides hides (λ (trees : Trees) (terms : Vec TermCount Global). ListsAll format trees of.db.0 of.index of.register terms.items) (λ (trees : Trees) (terms : Vec TermCount Global). HasMet format trees of.db.0 of.index of.register c.args.wanted terms.items)
+    old (state g.S.Store c.terms_of.new.conn) c.terms_of.result (λ _ _ hidden. hidden) (λ _ _ terms. all_met format old.now.trees of.db.0 of.index of.register c.args.wanted terms.items) c.terms_of.ensures.units
 
 pub returns-then-spans_register-clause-work : goal.returns-then-spans_register-clause-work
 returns-then-spans_register-clause-work g c =

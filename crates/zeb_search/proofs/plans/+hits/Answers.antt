@@ -1,24 +1,74 @@
-use Rattle.zeb_search.proofs.Cited.{rules, ◌≡◌, Err, ap, refl, subst, sym, on_ok_weaker, state, Trees, OnStore, holds_in, RegFault, PairPlan, PairOf, PlanValue, plan_value, CountsByContent, PlanDict, PlanRows, NamesReadable, ArePlanRowsSound}
-use Rattle.zeb_register.specs.declared.RegFault.TheVariants as fault
+use Rattle.zeb_search.proofs.Cited.{rules, ◌≡◌, ℕ, Ok, Err, Vec, Global, inl, inr, refl, subst, sym, state, Trees, Has, AreJoined, AreNumbers, PairPlan, PairOf, plan_value, CountsByContent, PlanDict, PlanRows, FindsPlan, PlanFinds, PlanHides}
+use Rattle.zeb_search.proofs.PlanLaws.{plan_rises}
 use Rattle.zeb_search.proofs.SearchCountLemmas.{counted_then}
-use Rattle.zeb_search.proofs.MetRows.{met_earlier, met_later}
-use Rattle.zeb_search.proofs.ReadLemmas.{as_read, clean_before, still_store, still_trees}
-use Rattle.zeb_search.proofs.ReasonedFaults.{reasoned_error}
+use Rattle.zeb_search.proofs.ReadLemmas.{as_read, clean_before}
+use Rattle.zeb_search.proofs.ToldLemmas.{tells_later, tells_refused}
 use Rattle.zeb_search.proofs.plans.+hits.Goals as goal
 
-pub returns-in_err-right-in-Pair-clause-honest : goal.returns-in_err-right-in-Pair-clause-honest
-returns-in_err-right-in-Pair-clause-honest g t c clean store told readable content storable has =
+pub returns-in-Near-clause-units : goal.returns-in-Near-clause-units
+returns-in-Near-clause-units g t c = rw c.in-Near.is c.near_hits.ensures.units
+
+pub returns-in-Term-clause-units : goal.returns-in-Term-clause-units
+returns-in-Term-clause-units g t c = rw c.in-Term.is c.term_hits.ensures.units
+
+pub returns-in_ok-joined-in-Pair-clause-units : goal.returns-in_ok-joined-in-Pair-clause-units
+returns-in_ok-joined-in-Pair-clause-units g t c =
     let old = state g.S.Store c.args.connection.now in
     let mid = state g.S.Store c.hits.new.connection in
-    let first = clean_before mid (state g.S.Store c.hits-in-Pair.new.connection) c.hits-in-Pair.ensures.call.crash clean in
-    let read = as_read old mid c.in_ok-left-in-Pair.left c.in_ok-left-in-Pair.ensures.call in
-    let trees = sym (still_trees old mid read first) in
-    let named : NamesReadable old.now.trees c.args.database.0 (plan_value c.deref-in-Pair.result.now.right) =
-    subst (λ (pair : PairPlan). NamesReadable old.now.trees c.args.database.0 (plan_value pair.right)) (sym c.deref-in-Pair.ensures) (rw c.in-Pair.is at readable).1 in
+    let new = state g.S.Store c.hits-in-Pair.new.connection in
+    let format = g.L.Layout.format in
+    let db = c.args.database.0 in
+    let pair : PairPlan = c.in-Pair.pair.value in
+    let left = plan_value pair.left in
+    let right = plan_value pair.right in
+    let crash = c.hits-in-Pair.ensures.call.crash in
+    let of_left = subst (λ (p : PairPlan). FindsPlan format db (plan_value p.left) old mid (Ok c.in_ok-left-in-Pair.left)) c.deref.ensures c.in_ok-left-in-Pair.ensures.units in
+    let of_right = subst (λ (p : PairPlan). FindsPlan format db (plan_value p.right) mid new (Ok c.in_ok-right-in-Pair.right)) c.deref-in-Pair.ensures c.in_ok-right-in-Pair.ensures.units in
+    rw c.in-Pair.is (λ clean store.
+    let lefts = subst (PlanFinds format old.now.trees db left) (sym c.deref-in-Pair-3.ensures.value) (of_left (clean_before mid new crash clean) store) in
+    let rights = subst (PlanFinds format old.now.trees db right) (sym c.deref-in-Pair-4.ensures.value)
+    (tells_later (λ trees. PlanHides format trees db right) (λ (trees : Trees) (hits : Vec ℕ Global). PlanFinds format trees db right hits.items) old mid new (as_read old mid c.in_ok-left-in-Pair.left c.in_ok-left-in-Pair.ensures.call) crash (Ok c.in_ok-right-in-Pair.right) of_right clean store) in
+    let joins = c.in_ok-joined-in-Pair.ensures (plan_rises format old.now.trees db left c.deref-in-Pair-3.result.now lefts) (plan_rises format old.now.trees db right c.deref-in-Pair-4.result.now rights) in (
+      c.deref-in-Pair-3.result.now,
+      c.deref-in-Pair-4.result.now,
+      lefts,
+      rights,
+      subst (λ (p : PairPlan). AreNumbers (λ n. AreJoined p.operator (Has c.deref-in-Pair-3.result.now n) (Has c.deref-in-Pair-4.result.now n)) c.in_ok-joined-in-Pair.field-0.items) c.deref-in-Pair-2.ensures joins,
+    ))
+
+pub returns-in_err-left-in-Pair-clause-units : goal.returns-in_err-left-in-Pair-clause-units
+returns-in_err-left-in-Pair-clause-units g t c =
+    let old = state g.S.Store c.args.connection.now in
+    let mid = state g.S.Store c.hits.new.connection in
+    let format = g.L.Layout.format in
+    let db = c.args.database.0 in
+    let pair : PairPlan = c.in-Pair.pair.value in
+    let left = plan_value pair.left in
+    let right = plan_value pair.right in
+    let cause = c.in_err-left-in-Pair.field-0.0 in
+    let told : c.from_residual.result ≡ Err cause = search rules in
+    let of_left = subst (λ (p : PairPlan). FindsPlan format db (plan_value p.left) old mid (Err cause)) c.deref.ensures c.in_err-left-in-Pair.ensures.units in
+    rw c.in-Pair.is (tells_refused (λ trees. PlanHides format trees db left) (λ trees. PlanHides format trees db (PairOf pair.operator left right)) (λ (trees : Trees) (hits : Vec ℕ Global). PlanFinds format trees db left hits.items)
+    (λ (trees : Trees) (hits : Vec ℕ Global). PlanFinds format trees db (PairOf pair.operator left right) hits.items) old mid cause c.from_residual.result told (λ _ _ bad. inl bad) of_left)
+
+pub returns-in_err-right-in-Pair-clause-units : goal.returns-in_err-right-in-Pair-clause-units
+returns-in_err-right-in-Pair-clause-units g t c =
+    let old = state g.S.Store c.args.connection.now in
+    let mid = state g.S.Store c.hits.new.connection in
+    let new = state g.S.Store c.hits-in-Pair.new.connection in
+    let format = g.L.Layout.format in
+    let db = c.args.database.0 in
+    let pair : PairPlan = c.in-Pair.pair.value in
+    let left = plan_value pair.left in
+    let right = plan_value pair.right in
     let cause = c.in_err-right-in-Pair.field-0.0 in
-    let same : ◌≡◌ {A = RegFault} cause fault.Damaged = let is : c.from_residual-in_err-right-in-Pair.result ≡ Err cause = search rules in cc in
-    c.in_err-right-in-Pair.ensures.honest clean (still_store old mid read first store) (ap Err same) (subst (λ s. NamesReadable s c.args.database.0 (plan_value c.deref-in-Pair.result.now.right)) trees named)
-    content storable (subst (λ s. holds_in g.L.Layout.format s content) trees has)
+    let told : c.from_residual-in_err-right-in-Pair.result ≡ Err cause = search rules in
+    let of_right = subst (λ (p : PairPlan). FindsPlan format db (plan_value p.right) mid new (Err cause)) c.deref-in-Pair.ensures c.in_err-right-in-Pair.ensures.units in
+    let hides = λ (trees : Trees). PlanHides format trees db right in
+    let finds = λ (trees : Trees) (hits : Vec ℕ Global). PlanFinds format trees db right hits.items in
+    rw c.in-Pair.is (tells_refused hides (λ trees. PlanHides format trees db (PairOf pair.operator left right)) finds (λ (trees : Trees) (hits : Vec ℕ Global). PlanFinds format trees db (PairOf pair.operator left right) hits.items)
+    old new cause c.from_residual-in_err-right-in-Pair.result told (λ _ _ bad. inr bad)
+    (tells_later hides finds old mid new (as_read old mid c.in_ok-left-in-Pair.left c.in_ok-left-in-Pair.ensures.call) c.hits-in-Pair.ensures.call.crash (Err cause) of_right))
 
 pub returns-in-Near-clause-work : goal.returns-in-Near-clause-work
 returns-in-Near-clause-work g t c = rw c.in-Near.is c.near_hits.ensures.work
@@ -45,32 +95,3 @@ returns-in_ok-joined-in-Pair-clause-work g t c =
     (λ content. PlanDict row_work content db (PairOf pair.operator left right)) (λ content. PlanRows rows content db left) (λ content. PlanRows rows content db right)
     (λ content. PlanRows rows content db (PairOf pair.operator left right)) old mid new c.args.work.now c.hits.new.work c.hits-in-Pair.new.work (λ content m n first second. (m, n, first, second, refl))
     (λ content m n first second. (m, n, first, second, refl)) (as_read old mid c.in_ok-left-in-Pair.left c.in_ok-left-in-Pair.ensures.call) c.hits-in-Pair.ensures.call.crash of_left of_right)
-
-pub returns-in_err-right-in-Pair-clause-refused : goal.returns-in_err-right-in-Pair-clause-refused
-returns-in_err-right-in-Pair-clause-refused g t c =
-    let old = state g.S.Store c.args.connection.now in
-    let mid = state g.S.Store c.hits.new.connection in
-    let new = state g.S.Store c.hits-in-Pair.new.connection in
-    let cause = c.in_err-right-in-Pair.field-0.0 in
-    let told : c.from_residual-in_err-right-in-Pair.result ≡ Err cause = search rules in
-    reasoned_error old mid new (as_read old mid c.in_ok-left-in-Pair.left c.in_ok-left-in-Pair.ensures.call) c.hits-in-Pair.ensures.call.crash cause c.from_residual-in_err-right-in-Pair.result told c.in_err-right-in-Pair.ensures.refused
-
-pub returns-in-Term-clause-sound : goal.returns-in-Term-clause-sound
-returns-in-Term-clause-sound g t c = rw c.in-Term.is c.term_hits.ensures.sound
-
-pub returns-in-Near-clause-sound : goal.returns-in-Near-clause-sound
-returns-in-Near-clause-sound g t c clean store = rw c.in-Near.is (on_ok_weaker c.near_hits.result (λ sound. sound) (c.near_hits.ensures.sound clean store))
-
-pub returns-in_ok-joined-in-Pair-clause-sound : goal.returns-in_ok-joined-in-Pair-clause-sound
-returns-in_ok-joined-in-Pair-clause-sound g t c =
-    let old = state g.S.Store c.args.connection.now in
-    let mid = state g.S.Store c.hits.new.connection in
-    let new = state g.S.Store c.hits-in-Pair.new.connection in
-    let pair : PairPlan = c.in-Pair.pair.value in
-    let sound : PlanValue → Trees → Type 0 = λ plan trees. ArePlanRowsSound g.L.Layout.format trees c.args.database.0 plan in
-    let crash = c.hits-in-Pair.ensures.call.crash in
-    let of_left = subst (λ (p : PairPlan). OnStore old mid (λ trees. ArePlanRowsSound g.L.Layout.format trees c.args.database.0 (plan_value p.left))) c.deref.ensures c.in_ok-left-in-Pair.ensures.sound in
-    let of_right = subst (λ (p : PairPlan). OnStore mid new (λ trees. ArePlanRowsSound g.L.Layout.format trees c.args.database.0 (plan_value p.right))) c.deref-in-Pair.ensures c.in_ok-right-in-Pair.ensures.sound in
-    let left = met_earlier old mid new (sound (plan_value pair.left)) crash of_left in
-    let right = met_later old mid new (sound (plan_value pair.right)) crash (as_read old mid c.in_ok-left-in-Pair.left c.in_ok-left-in-Pair.ensures.call) of_right in
-    rw c.in-Pair.is (λ clean store. (left clean store, right clean store))

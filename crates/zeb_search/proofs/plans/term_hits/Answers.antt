@@ -1,26 +1,43 @@
-use Rattle.zeb_search.proofs.Cited.{◌≡◌, refl, on_ok_weaker, state, Content, StandsInOrder, EntryDict, RegisterDict, EntryRows}
+use Rattle.zeb_search.proofs.Cited.{◌≡◌, refl, sym, subst, on_ok_weaker, state, AreNumbers, Content, StandsInOrder, EntryDict, RegisterDict, EntryRows}
 use Rattle.zeb_search.proofs.SearchCountLemmas.{counted_for, idle_counted}
 use Rattle.zeb_search.proofs.DictCounts.{unnamed}
-use Rattle.zeb_search.proofs.MetRows.{on_ok_anyway}
-use Rattle.zeb_search.proofs.PlanLemmas.{no_pattern, no_start}
+use Rattle.zeb_search.proofs.JustLemmas.{just_none}
 use Rattle.zeb_search.proofs.plans.term_hits.Goals as goal
 
-pub returns-in-None-clause-value : goal.returns-in-None-clause-value
-returns-in-None-clause-value g c clean store content has =
-    let w = c.in-Ordered in
-    no_start (state g.S.Store c.args.connection.now).now.trees content c.args.database.0 c.args.term.now c.new.result.items c.new.ensures.items w.index w.register w.order w.start w.is c.in-None.is
+pub returns-in-RecordNumber-clause-units : goal.returns-in-RecordNumber-clause-units
+returns-in-RecordNumber-clause-units g c = rw c.in-RecordNumber.is c.record_hits.ensures.units
 
-pub returns-in-None-pattern-clause-value : goal.returns-in-None-pattern-clause-value
-returns-in-None-pattern-clause-value g c clean store content has =
-    no_pattern (state g.S.Store c.args.connection.now).now.trees content c.args.database.0 c.args.term.now c.new-in-None-pattern.result.items c.new-in-None-pattern.ensures.items c.in-Complete.index c.in-Complete.pattern c.in-Complete.is c.in-None-pattern.is
+pub returns-in-Always-clause-units : goal.returns-in-Always-clause-units
+returns-in-Always-clause-units g c = rw c.in-Always.is c.numbers_wanted.ensures.units
+
+pub returns-in-Number-clause-units : goal.returns-in-Number-clause-units
+returns-in-Number-clause-units g c = rw c.in-Number.is c.numbers_wanted-in-Number.ensures.units
+
+pub returns-in-Some-clause-units : goal.returns-in-Some-clause-units
+returns-in-Some-clause-units g c = rw (c.in-Ordered.is, c.in-Some.is, ← c.as_str.ensures.value) c.numbers_wanted-in-Some.ensures.units
+
+pub returns-in-None-clause-units : goal.returns-in-None-clause-units
+returns-in-None-clause-units g c = rw (c.in-Ordered.is, c.in-None.is) (λ clean store. subst (AreNumbers (λ _. ⊥)) (sym c.new.ensures.items) (just_none (λ _. ⊥) (λ n none. none)))
+
+pub returns-in-Some-pattern-clause-units : goal.returns-in-Some-pattern-clause-units
+returns-in-Some-pattern-clause-units g c = rw (c.in-Complete.is, c.in-Some-pattern.is) c.numbers_wanted-in-Some-pattern.ensures.units
+
+pub returns-in-None-pattern-clause-units : goal.returns-in-None-pattern-clause-units
+returns-in-None-pattern-clause-units g c = rw (c.in-Complete.is, c.in-None-pattern.is) (λ clean store. subst (AreNumbers (λ _. ⊥)) (sym c.new-in-None-pattern.ensures.items) (just_none (λ _. ⊥) (λ n none. none)))
+
+pub returns-in-Phrase-clause-units : goal.returns-in-Phrase-clause-units
+returns-in-Phrase-clause-units g c = rw (c.in-Phrase.is, ← c.as_slice.ensures.value) c.phrase_hits.ensures.units
+
+pub returns-in-AllWords-clause-units : goal.returns-in-AllWords-clause-units
+returns-in-AllWords-clause-units g c = rw (c.in-AllWords.is, ← c.as_slice-in-AllWords.ensures.value) c.all_words_hits.ensures.units
+
+pub returns-in-AnyWord-clause-units : goal.returns-in-AnyWord-clause-units
+returns-in-AnyWord-clause-units g c = rw (c.in-AnyWord.is, ← c.as_slice-in-AnyWord.ensures.value) c.any_word_hits.ensures.units
 
 pub returns-in-RecordNumber-clause-work : goal.returns-in-RecordNumber-clause-work
 returns-in-RecordNumber-clause-work g c =
     rw c.in-RecordNumber.is (idle_counted c.record_hits.result g.L.Layout.format (λ content n. n ≡ 0) (λ content n. n ≡ 0) (state g.S.Store c.args.connection.now) (state g.S.Store c.record_hits.new.connection)
     c.args.work.now (λ content. refl) (λ content. refl))
-
-pub returns-in-Always-clause-value : goal.returns-in-Always-clause-value
-returns-in-Always-clause-value g c clean store = rw c.in-Always.is (c.numbers_wanted.ensures.value clean store)
 
 pub returns-in-Always-clause-work : goal.returns-in-Always-clause-work
 returns-in-Always-clause-work g c =
@@ -60,36 +77,3 @@ returns-in-AllWords-clause-work g c = rw (c.in-AllWords.is, ← c.as_slice-in-Al
 
 pub returns-in-AnyWord-clause-work : goal.returns-in-AnyWord-clause-work
 returns-in-AnyWord-clause-work g c = rw (c.in-AnyWord.is, ← c.as_slice-in-AnyWord.ensures.value) c.any_word_hits.ensures.work
-
-pub returns-in-RecordNumber-clause-honest : goal.returns-in-RecordNumber-clause-honest
-returns-in-RecordNumber-clause-honest g c clean store told readable content storable has = c.record_hits.ensures.honest clean store told (rw c.in-RecordNumber.is at readable)
-
-pub returns-in-RecordNumber-clause-sound : goal.returns-in-RecordNumber-clause-sound
-returns-in-RecordNumber-clause-sound g c = rw c.in-RecordNumber.is (λ clean store. on_ok_anyway c.record_hits.result)
-
-pub returns-in-None-clause-sound : goal.returns-in-None-clause-sound
-returns-in-None-clause-sound g c = rw (c.in-Ordered.is, c.in-None.is) (λ clean store. tt)
-
-pub returns-in-None-pattern-clause-sound : goal.returns-in-None-pattern-clause-sound
-returns-in-None-pattern-clause-sound g c = rw (c.in-Complete.is, c.in-None-pattern.is) (λ clean store. tt)
-
-pub returns-in-Always-clause-sound : goal.returns-in-Always-clause-sound
-returns-in-Always-clause-sound g c = rw c.in-Always.is c.numbers_wanted.ensures.sound
-
-pub returns-in-Number-clause-sound : goal.returns-in-Number-clause-sound
-returns-in-Number-clause-sound g c = rw c.in-Number.is c.numbers_wanted-in-Number.ensures.sound
-
-pub returns-in-Some-clause-sound : goal.returns-in-Some-clause-sound
-returns-in-Some-clause-sound g c = rw (c.in-Ordered.is, c.in-Some.is, ← c.as_str.ensures.value) c.numbers_wanted-in-Some.ensures.sound
-
-pub returns-in-Some-pattern-clause-sound : goal.returns-in-Some-pattern-clause-sound
-returns-in-Some-pattern-clause-sound g c = rw (c.in-Complete.is, c.in-Some-pattern.is) c.numbers_wanted-in-Some-pattern.ensures.sound
-
-pub returns-in-Phrase-clause-sound : goal.returns-in-Phrase-clause-sound
-returns-in-Phrase-clause-sound g c = rw (c.in-Phrase.is, ← c.as_slice.ensures.value) c.phrase_hits.ensures.sound
-
-pub returns-in-AllWords-clause-sound : goal.returns-in-AllWords-clause-sound
-returns-in-AllWords-clause-sound g c = rw (c.in-AllWords.is, ← c.as_slice-in-AllWords.ensures.value) c.all_words_hits.ensures.sound
-
-pub returns-in-AnyWord-clause-sound : goal.returns-in-AnyWord-clause-sound
-returns-in-AnyWord-clause-sound g c = rw (c.in-AnyWord.is, ← c.as_slice-in-AnyWord.ensures.value) c.any_word_hits.ensures.sound

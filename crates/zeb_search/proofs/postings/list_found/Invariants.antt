@@ -1,4 +1,4 @@
-use Rattle.zeb_search.proofs.Cited.{◌≡◌, ◌↔◌, ◌++◌, List, length, state, HasCleanDisk, Has, Key, OnStore, Content, Posting, holds_in, IsStore, CountsAtMost, rows_under, AreKeyListsSound, AreKeysIn, AreFound, IsPostingOf}
+use Rattle.zeb_search.proofs.Cited.{◌≡◌, ◌++◌, IsTrue, List, length, state, Key, OnStore, Content, holds_in, CountsAtMost, rows_under, AreKeysIn, AreFound, ListsKeys}
 use Rattle.zeb_search.proofs.ReadLemmas.{IsRead}
 use Rattle.zeb_search.proofs.postings.list_found.Given as goal
 
@@ -9,11 +9,9 @@ invariant-loop-left g l =
     record {
       read : IsRead old now;
       done : (done : List Key) × (l.found.keys.items ≡ done ++ l.left)
-          × (HasCleanDisk now → IsStore old → (content : Content) → holds_in g.L.Layout.format old.now.trees content → AreFound content l.of l.found
-          → (p : Posting) → Has l.postings.items p ↔ IsPostingOf content l.of.db.0 done p)
+          × (AreKeysIn l.of l.found.keys.items → OnStore old now (λ trees. ListsKeys g.L.Layout.format trees l.of done (IsTrue l.found.are_neighbours) l.postings.items))
           × OnStore old now (λ trees. (content : Content) → holds_in g.L.Layout.format trees content → AreFound content l.of l.found
-          → CountsAtMost 0 (rows_under g.L.Layout.block_rows content l.of.db.0 done) l.fn.work l.work)
-          × OnStore old now (λ trees. AreKeysIn l.of l.found.keys.items → AreKeyListsSound g.L.Layout.format trees l.of.db.0 done);
+          → CountsAtMost 0 (rows_under g.L.Layout.block_rows content l.of.db.0 done) l.fn.work l.work);
       no_work : g.L.Layout.row_work ≡ 0 → l.work ≡ l.fn.work;
     }
 

@@ -1,51 +1,52 @@
-use Rattle.zeb_search.proofs.Cited.{rules, ◌≡◌, ◌∙◌, ◌++◌, ◌∷◌, [], List, ap, subst, sym, Err, append_assoc, append_cancel_left, state, posted, Symbol, ArePostings, CountedWords}
-use Rattle.zeb_search.proofs.PlanLemmas.{AreWordsAt, IsWordAt, none_found, some_patterns, word_before, IsStart, no_patterns, one_word}
-use Rattle.zeb_search.proofs.MetRows.{MetWords, no_word_met, one_word_met, word_met_before}
-use Rattle.zeb_search.proofs.ReadLemmas.{as_read, clean_before, read_then, told_behind}
-use Rattle.zeb_search.proofs.JustLemmas.{just_same}
-use Rattle.zeb_search.proofs.ReasonedFaults.{reasoned_error}
+use Rattle.zeb_search.proofs.Cited.{rules, ◌≡◌, ◌∙◌, ◌++◌, ◌∷◌, [], List, Ok, Err, Vec, Global, ap, inl, refl, subst, sym, append_assoc, append_cancel_left, has_right, state, Trees, Has, Symbol, Posting, PlacesFound, ReadsWord, CountedWords}
+use Rattle.std.specs.List.Sorted.{IsStrictlySortedBy}
+use Rattle.zeb_register.specs.Content.{posting_cmp}
+use Rattle.zeb_search.proofs.PlanLemmas.{no_patterns, some_patterns}
+use Rattle.zeb_search.proofs.ReadLemmas.{as_read, clean_before, read_then}
+use Rattle.zeb_search.proofs.WordCalls.{Reads, places_later, word_refused}
 use Rattle.zeb_search.proofs.WordCounts.{words_before, one_word_counted}
+use Rattle.zeb_search.proofs.WordReads.{no_place, one_place, place_before}
 use Rattle.zeb_search.proofs.words.places_of_phrase.Goals as goal
 
-pub returns-in_default-clause-value : goal.returns-in_default-clause-value
-returns-in_default-clause-value g c clean store content has =
-    none_found c.args.patterns.now (AreWordsAt (posted content c.args.of.db.0) c.args.of.index c.args.patterns.now) c.new.result.items c.in_default.ensures.cases c.new.ensures.items
+pub returns-in_default-clause-units : goal.returns-in_default-clause-units
+returns-in_default-clause-units g c clean store =
+    no_place g.L.Layout.format (state g.S.Store c.args.connection.now).now.trees c.args.of.db.0 c.args.of.index c.args.patterns.now c.new.result.items (no_patterns c.args.patterns.now c.in_default.ensures.cases) c.new.ensures.items
 
 pub loop-pattern-preserved : goal.loop-pattern-preserved
 loop-pattern-preserved g c =
     let old = state g.S.Store c.args.connection.now in
     let now = state g.S.Store c.loop-pattern.connection in
     let new = state g.S.Store c.places_of_words-in-Some-split_last.new.connection in
+    let format = g.L.Layout.format in
+    let db = c.args.of.db.0 in
+    let index = c.args.of.index in
     let pattern = c.in-Some-split_last.pattern.now in
     let before = c.in-Some-split_last.before.now in
     let rest = c.loop-pattern.invariant.behind.0 in
+    let read = c.loop-pattern.invariant.read in
+    let crash = c.places_of_words-in-Some-split_last.ensures.call.crash in
     let joined : c.args.patterns.now ≡ before ++ (pattern ∷ rest) =
     c.loop-pattern.invariant.behind.2 ∙ ap (λ (l : List (List Symbol)). l ++ rest) c.in-Some-split_last.ensures.cases.0 ∙ append_assoc before (pattern ∷ []) rest in
     record {
-      read = read_then old now new c.loop-pattern.invariant.read (as_read now new c.in_ok-starts.starts c.in_ok-starts.ensures.call);
+      read = read_then old now new read (as_read now new c.in_ok-starts.starts c.in_ok-starts.ensures.call);
       behind = (
         pattern ∷ rest,
         some_patterns pattern rest,
         joined,
-        λ clean store content has.
-            let O = posted content c.args.of.db.0 in
-            let clean1 = clean_before now new c.places_of_words-in-Some-split_last.ensures.call.crash clean in
-            let here = told_behind g.L.Layout.format old now new (λ content. ArePostings (IsWordAt (posted content c.args.of.db.0) c.args.of.index pattern) c.in_ok-starts.starts.items) c.loop-pattern.invariant.read
-            c.places_of_words-in-Some-split_last.ensures.call.crash c.in_ok-starts.ensures.value clean store content has in
-            let starts = subst (ArePostings (IsWordAt O c.args.of.index pattern)) (sym c.deref.ensures.value) here in
-            let places = subst (ArePostings (AreWordsAt O c.args.of.index rest)) (sym c.deref-in-Some-split_last.ensures.value) (c.loop-pattern.invariant.behind.3 clean1 store content has) in
-            word_before O c.args.of.index pattern rest c.deref.result.now c.deref-in-Some-split_last.result.now c.in_ok-places-2.places.items starts places (c.in_ok-places-2.ensures starts.rising places.rising),
+        λ clean store.
+            let here = places_later format db index pattern old now new read crash (Ok c.in_ok-starts.starts) c.in_ok-starts.ensures.units clean store in
+            let of_starts = sym c.deref.ensures.value in
+            let of_places = sym c.deref-in-Some-split_last.ensures.value in
+            let starts = subst (ReadsWord format old.now.trees db index pattern) of_starts here.0 in
+            let rises = subst (IsStrictlySortedBy posting_cmp) of_starts here.1 in
+            let places = subst (PlacesFound format old.now.trees db index rest) of_places (c.loop-pattern.invariant.behind.3 (clean_before now new crash clean) store) in
+            place_before format old.now.trees db index pattern rest c.deref.result.now c.deref-in-Some-split_last.result.now c.in_ok-places-2.places.items c.loop-pattern.invariant.behind.1 starts places (c.in_ok-places-2.ensures rises places.2.rising),
       );
       counted = λ behind is.
           let same : pattern ∷ rest ≡ behind = append_cancel_left before (pattern ∷ rest) behind (sym joined ∙ is) in
-          subst (λ (l : List (List Symbol)). CountedWords g.L.Layout.format g.L.Layout.row_work g.L.Layout.block_rows c.args.of.db.0 c.args.of.index l old new c.args.work.now c.places_of_words-in-Some-split_last.new.work) same
-          (words_before g.L.Layout.format g.L.Layout.row_work g.L.Layout.block_rows c.args.of.db.0 c.args.of.index rest pattern old now new c.args.work.now c.loop-pattern.work c.places_of_words-in-Some-split_last.new.work
-          c.loop-pattern.invariant.read c.places_of_words-in-Some-split_last.ensures.call.crash (c.loop-pattern.invariant.counted rest c.loop-pattern.invariant.behind.2) c.in_ok-starts.ensures.work);
-      sound = λ behind is.
-          let same : pattern ∷ rest ≡ behind = append_cancel_left before (pattern ∷ rest) behind (sym joined ∙ is) in
-          subst (λ (l : List (List Symbol)). MetWords g.L.Layout.format c.args.of.db.0 c.args.of.index l old new) same
-          (word_met_before g.L.Layout.format c.args.of.db.0 c.args.of.index rest pattern old now new c.loop-pattern.invariant.read c.places_of_words-in-Some-split_last.ensures.call.crash
-          (c.loop-pattern.invariant.sound rest c.loop-pattern.invariant.behind.2) c.in_ok-starts.ensures.sound);
+          subst (λ (l : List (List Symbol)). CountedWords format g.L.Layout.row_work g.L.Layout.block_rows db index l old new c.args.work.now c.places_of_words-in-Some-split_last.new.work) same
+          (words_before format g.L.Layout.row_work g.L.Layout.block_rows db index rest pattern old now new c.args.work.now c.loop-pattern.work c.places_of_words-in-Some-split_last.new.work
+          read crash (c.loop-pattern.invariant.counted rest c.loop-pattern.invariant.behind.2) c.in_ok-starts.ensures.work);
       no_work = λ none. c.places_of_words-in-Some-split_last.ensures.no_work none ∙ c.loop-pattern.invariant.no_work none;
     }
 
@@ -61,28 +62,23 @@ loop-pattern-init g c =
         last ∷ [],
         some_patterns last [],
         c.in-Some.ensures.cases.0,
-        λ clean store content has. one_word (posted content c.args.of.db.0) c.args.of.index last c.in_ok-places.places.items (c.in_ok-places.ensures.value clean store content has),
+        λ clean store.
+            let here = c.in_ok-places.ensures.units clean store in
+            one_place g.L.Layout.format old.now.trees c.args.of.db.0 c.args.of.index last c.in_ok-places.places.items here.0 here.1,
       );
       counted = λ behind is.
           let same : last ∷ [] ≡ behind = append_cancel_left others (last ∷ []) behind (sym c.in-Some.ensures.cases.0 ∙ is) in
           subst (λ (l : List (List Symbol)). CountedWords g.L.Layout.format g.L.Layout.row_work g.L.Layout.block_rows c.args.of.db.0 c.args.of.index l old new c.args.work.now c.places_of_words.new.work) same
           (one_word_counted g.L.Layout.format g.L.Layout.row_work g.L.Layout.block_rows c.args.of.db.0 c.args.of.index last old new c.args.work.now c.places_of_words.new.work c.in_ok-places.ensures.work);
-      sound = λ behind is.
-          let same : last ∷ [] ≡ behind = append_cancel_left others (last ∷ []) behind (sym c.in-Some.ensures.cases.0 ∙ is) in
-          subst (λ (l : List (List Symbol)). MetWords g.L.Layout.format c.args.of.db.0 c.args.of.index l old new) same
-          (one_word_met g.L.Layout.format c.args.of.db.0 c.args.of.index last old new c.in_ok-places.ensures.sound);
       no_work = c.places_of_words.ensures.no_work;
     }
 
-pub returns-clause-value : goal.returns-clause-value
-returns-clause-value g c clean store content has =
-    let O = posted content c.args.of.db.0 in
+pub returns-clause-units : goal.returns-clause-units
+returns-clause-units g c clean store =
     let rest = c.loop-pattern.invariant.behind.0 in
-    let places = c.loop-pattern.places.items in
     let whole : c.args.patterns.now ≡ rest =
     c.loop-pattern.invariant.behind.2 ∙ ap (λ (l : List (List Symbol)). l ++ rest) (no_patterns c.loop-pattern.others.now c.in_default-split_last.ensures.cases) in
-    subst (λ (l : List (List Symbol)). ArePostings (IsStart O c.args.of.index l) places) (sym whole)
-    (just_same (AreWordsAt O c.args.of.index rest) (IsStart O c.args.of.index rest) places (λ p. (λ h. (c.loop-pattern.invariant.behind.1, h), λ h. h.1)) (c.loop-pattern.invariant.behind.3 clean store content has))
+    subst (λ (l : List (List Symbol)). PlacesFound g.L.Layout.format (state g.S.Store c.args.connection.now).now.trees c.args.of.db.0 c.args.of.index l c.loop-pattern.places.items) (sym whole) (c.loop-pattern.invariant.behind.3 clean store)
 
 pub returns-clause-work : goal.returns-clause-work
 returns-clause-work g c =
@@ -92,25 +88,35 @@ returns-clause-work g c =
     subst (λ (l : List (List Symbol)). CountedWords g.L.Layout.format g.L.Layout.row_work g.L.Layout.block_rows c.args.of.db.0 c.args.of.index l (state g.S.Store c.args.connection.now) (state g.S.Store c.loop-pattern.connection) c.args.work.now c.loop-pattern.work)
     (sym whole) (c.loop-pattern.invariant.counted rest c.loop-pattern.invariant.behind.2)
 
-pub returns-in_err-starts-clause-refused : goal.returns-in_err-starts-clause-refused
-returns-in_err-starts-clause-refused g c =
+pub returns-in_err-places-clause-units : goal.returns-in_err-places-clause-units
+returns-in_err-places-clause-units g c =
+    let format = g.L.Layout.format in
+    let db = c.args.of.db.0 in
+    let index = c.args.of.index in
+    let patterns = c.args.patterns.now in
+    let last = c.in-Some.last.now in
+    let cause = c.in_err-places.field-0.0 in
+    let told : c.from_residual.result ≡ Err cause = search rules in
+    word_refused format db index (Reads format db index last) (λ (trees : Trees) (places : Vec Posting Global). PlacesFound format trees db index patterns places.items) patterns last
+    (subst (λ (l : List (List Symbol)). Has l last) (sym c.in-Some.ensures.cases.0) (has_right c.in-Some.others.now (last ∷ []) last (inl refl)))
+    (state g.S.Store c.args.connection.now) (state g.S.Store c.places_of_words.new.connection) cause c.from_residual.result told c.in_err-places.ensures.units
+
+pub returns-in_err-starts-clause-units : goal.returns-in_err-starts-clause-units
+returns-in_err-starts-clause-units g c =
     let old = state g.S.Store c.args.connection.now in
     let now = state g.S.Store c.loop-pattern.connection in
     let new = state g.S.Store c.places_of_words-in-Some-split_last.new.connection in
+    let format = g.L.Layout.format in
+    let db = c.args.of.db.0 in
+    let index = c.args.of.index in
+    let patterns = c.args.patterns.now in
+    let pattern = c.in-Some-split_last.pattern.now in
+    let before = c.in-Some-split_last.before.now in
+    let rest = c.loop-pattern.invariant.behind.0 in
+    let joined : patterns ≡ before ++ (pattern ∷ rest) =
+    c.loop-pattern.invariant.behind.2 ∙ ap (λ (l : List (List Symbol)). l ++ rest) c.in-Some-split_last.ensures.cases.0 ∙ append_assoc before (pattern ∷ []) rest in
     let cause = c.in_err-starts.field-0.0 in
     let told : c.from_residual-in_err-starts.result ≡ Err cause = search rules in
-    reasoned_error old now new c.loop-pattern.invariant.read c.places_of_words-in-Some-split_last.ensures.call.crash cause c.from_residual-in_err-starts.result told c.in_err-starts.ensures.refused
-
-pub returns-clause-sound : goal.returns-clause-sound
-returns-clause-sound g c =
-    let rest = c.loop-pattern.invariant.behind.0 in
-    let whole : c.args.patterns.now ≡ rest =
-    c.loop-pattern.invariant.behind.2 ∙ ap (λ (l : List (List Symbol)). l ++ rest) (no_patterns c.loop-pattern.others.now c.in_default-split_last.ensures.cases) in
-    subst (λ (l : List (List Symbol)). MetWords g.L.Layout.format c.args.of.db.0 c.args.of.index l (state g.S.Store c.args.connection.now) (state g.S.Store c.loop-pattern.connection))
-    (sym whole) (c.loop-pattern.invariant.sound rest c.loop-pattern.invariant.behind.2)
-
-pub returns-in_default-clause-sound : goal.returns-in_default-clause-sound
-returns-in_default-clause-sound g c =
-    let old = state g.S.Store c.args.connection.now in
-    subst (λ (l : List (List Symbol)). MetWords g.L.Layout.format c.args.of.db.0 c.args.of.index l old old) (sym (no_patterns c.args.patterns.now c.in_default.ensures.cases))
-    (no_word_met g.L.Layout.format c.args.of.db.0 c.args.of.index old old)
+    word_refused format db index (Reads format db index pattern) (λ (trees : Trees) (places : Vec Posting Global). PlacesFound format trees db index patterns places.items) patterns pattern
+    (subst (λ (l : List (List Symbol)). Has l pattern) (sym joined) (has_right before (pattern ∷ rest) pattern (inl refl))) old new cause c.from_residual-in_err-starts.result told
+    (places_later format db index pattern old now new c.loop-pattern.invariant.read c.places_of_words-in-Some-split_last.ensures.call.crash (Err cause) c.in_err-starts.ensures.units)

@@ -1,4 +1,4 @@
-use Rattle.zeb_engine.proofs.Cited.{◌≡◌, Err, IsTrue, List, rules, arith, sym, subst, inl, state, HasCleanDisk, nothing_then, answer_of, conditions, Base, Keeps, name_bytes, Finds, FindSays, RefusesFind, FindOver, HidesUnsaid, FindAnswers, PlanValue, IsPlanOf, PlanReads, version_of}
+use Rattle.zeb_engine.proofs.Cited.{◌≡◌, Err, IsTrue, List, rules, arith, sym, subst, inl, state, HasCleanDisk, nothing_then, answer_of, conditions, Base, Keeps, name_bytes, Finds, FindSays, RefusesFind, FindOver, HidesFind, FindAnswers, PlanValue, IsPlanOf, PlanReads, version_of}
 use Rattle.zeb_engine.specs.Steps.{ready}
 use Rattle.zeb_engine.proofs.ReadyQueries.{alone_after, ready_asked, refused_after, unready_asked}
 use Rattle.zeb_engine.proofs.AskedReads.{told_after}
@@ -104,7 +104,7 @@ pub returns-in_err-check_ready-clause-tables : goal.returns-in_err-check_ready-c
 returns-in_err-check_ready-clause-tables g c clean store texts =
     let refusal = c.in_err-check_ready.field-0.0 in
     let told : c.from_residual.result ≡ Err refusal = search rules in
-    rw told (unready_hidden (FindOver g.L.Layout.format c.args.self.now.profile (name_bytes c.args.database.now) c.args.question.query.now c.args.question.first c.args.question.count) HidesUnsaid (version_of g.L.Layout.format) c.args.self.now.profile (state g.S.Store c.args.self.now.connection) refusal
+    rw told (unready_hidden (FindOver g.L.Layout.format c.args.self.now.profile (name_bytes c.args.database.now) c.args.question.query.now c.args.question.first c.args.question.count) (HidesFind g.L.Layout.format c.args.self.now.profile (name_bytes c.args.database.now) c.args.question.query.now c.args.question.first c.args.question.count) (version_of g.L.Layout.format) c.args.self.now.profile (state g.S.Store c.args.self.now.connection) refusal
     c.in_err-check_ready.ensures.few (c.in_err-check_ready.ensures.texts clean) (c.in_err-check_ready.ensures.whole clean) store texts)
 
 pub returns-clause-tables : goal.returns-clause-tables
@@ -112,5 +112,5 @@ returns-clause-tables g c clean store texts =
     let old = state g.S.Store c.args.self.now.connection in
     let mid = state g.S.Store c.check_ready.new.connection in
     let clean1 : HasCleanDisk mid = omega (arith, c.find.ensures.crash.clean) in
-    hidden_after (FindOver g.L.Layout.format c.args.self.now.profile (name_bytes c.args.database.now) c.args.question.query.now c.args.question.first c.args.question.count) HidesUnsaid old mid c.find.result
+    hidden_after (FindOver g.L.Layout.format c.args.self.now.profile (name_bytes c.args.database.now) c.args.question.query.now c.args.question.first c.args.question.count) (HidesFind g.L.Layout.format c.args.self.now.profile (name_bytes c.args.database.now) c.args.question.query.now c.args.question.first c.args.question.count) old mid c.find.result
     (c.check_ready.ensures.same clean1) (c.in_ok-check_ready.ensures.«open» clean1) (c.find.ensures.tables clean) store

@@ -1,10 +1,15 @@
-use Rattle.std.proofs.Common.{◌≡◌, ℕ, List, string_bytes}
-use Rattle.zeb_paths.specs.Walks.{AreUnder, IsUnder, paths_left}
+use Rattle.std.proofs.Common.{◌≡◌, ◌+◌, ◌*◌, ℕ, List, string_bytes, vec_len}
+use Rattle.zeb_paths.specs.Walks.{AreUnder, IsUnder, level_weight, paths_left, walk_weight}
 use Rattle.zeb_paths.proofs.walk.Walk.enter.Given as goal
 
+-- what is left has become heavier by each name that was put in
 abbrev pub invariant-loop-name : goal.invariant-loop-name
 invariant-loop-name g l =
-    (goal.iterator-loop-name g).can_next l.name-iterator
-    × (goal.iterator-loop-name g).is_finite l.name-iterator
-    × (l.self.paths ≡ l.initial.self.paths)
-    × ((named : List (List ℕ)) → IsUnder named (string_bytes l.folder.path) → AreUnder named (paths_left l.initial.self.steps.items) → AreUnder named (paths_left l.self.steps.items))
+    record {
+      paths : l.self.paths ≡ l.initial.self.paths;
+      under : (named : List (List ℕ)) → IsUnder named (string_bytes l.folder.path) → AreUnder named (paths_left l.initial.self.steps.items) → AreUnder named (paths_left l.self.steps.items);
+      weight : walk_weight l.self.steps.items + level_weight (l.folder.level + 1) * vec_len l.names ≡ walk_weight l.initial.self.steps.items + level_weight (l.folder.level + 1) * vec_len l.initial.names;
+    }
+
+abbrev pub decreases-loop-name : goal.decreases-loop-name
+decreases-loop-name g l = vec_len l.names

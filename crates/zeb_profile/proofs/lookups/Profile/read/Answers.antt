@@ -9,9 +9,9 @@ invariant_of-result c =
     let directives = directives_in placed in
     let settled : Settles placed c.in_ok-settled.settled = subst (λ (lines : List Placed). Settles lines c.in_ok-settled.settled) c.deref-2.ensures.value c.in_ok-settled.ensures.settled in
     let said : profile_of c.args.text.now ≡ Ok directives = rw (c.in_ok-placed.ensures, settled.whole) refl in
-    let names : c.in_ok-names.names.items ≡ index_names directives = c.in_ok-names.ensures ∙ ap (λ lines. index_names (directives_in lines)) c.deref.ensures.value in
-    let known : c.deref-4.result.now ≡ c.in_ok-names.names.items = c.deref-4.ensures.value in
-    let lines : map line_value c.in_ok-lines.lines.items ≡ map (resolved c.in_ok-names.names.items) directives = rw known at c.in_ok-lines.ensures in
+    let names : c.in_ok-indexes.indexes.names.items ≡ index_names directives = c.in_ok-indexes.ensures.names ∙ ap (λ lines. index_names (directives_in lines)) c.deref.ensures.value in
+    let known : c.deref-4.result.now ≡ c.in_ok-indexes.indexes.names.items = c.deref-4.ensures.value in
+    let lines : map line_value c.in_ok-lines.lines.items ≡ map (resolved c.in_ok-indexes.indexes.names.items) directives = rw known at c.in_ok-lines.ensures in
     let same : directives_on c.in_ok-lines.lines.items ≡ directives = resolved-directives _ _ _ lines in
     rw same (
       names,
@@ -38,7 +38,7 @@ returns c =
     let directives = directives_in placed in
     let settled : Settles placed c.in_ok-settled.settled = subst (λ (lines : List Placed). Settles lines c.in_ok-settled.settled) c.deref-2.ensures.value c.in_ok-settled.ensures.settled in
     let said : profile_of c.args.text.now ≡ Ok directives = rw (c.in_ok-placed.ensures, settled.whole) refl in
-    let known : c.deref-4.result.now ≡ c.in_ok-names.names.items = c.deref-4.ensures.value in
-    let lines : map line_value c.in_ok-lines.lines.items ≡ map (resolved c.in_ok-names.names.items) directives = rw known at c.in_ok-lines.ensures in
+    let known : c.deref-4.result.now ≡ c.in_ok-indexes.indexes.names.items = c.deref-4.ensures.value in
+    let lines : map line_value c.in_ok-lines.lines.items ≡ map (resolved c.in_ok-indexes.indexes.names.items) directives = rw known at c.in_ok-lines.ensures in
     let same : directives_on c.in_ok-lines.lines.items ≡ directives = resolved-directives _ _ _ lines in
     said ∙ ap Ok (sym same)

@@ -1,4 +1,4 @@
-use Rattle.zeb_register.proofs.Cited.{unchanged_then, Database, state, HasCleanDisk, IsUnchanged, rules, ◌≡◌, ◌∙◌, ◌++◌, [], ◌∷◌, ℕ, List, Err, None, Some, Trees, true, length, sym, ap, subst, arith, string_bytes, IsUtf8-string_bytes, length-append, TermCount, key_in, plain_rows}
+use Rattle.zeb_register.proofs.Cited.{unchanged_then, Database, state, HasCleanDisk, IsUnchanged, rules, ◌≡◌, ◌∙◌, ◌++◌, [], ◌∷◌, ℕ, List, Err, None, Some, true, length, sym, ap, subst, arith, string_bytes, IsUtf8-string_bytes, length-append, TermCount, key_in, plain_rows}
 use Rattle.zeb_register.specs.PlainUnits.{HasShownNone, RowsCount}
 use Rattle.zeb_register.specs.Terms.{Comes, ListsCounts}
 use Rattle.zeb_register.proofs.Answered.{refused_so}

@@ -1,5 +1,4 @@
-use Rattle.zeb_register.proofs.Cited.{state, row_cmp, List, Row, Has, Trees, Vec, Global, sym, subst, IfOk-weaker, IsListOf, IsRest, postings_tree, TermCount, AreCounts, IsOccurrenceRow, IsShown, plain_rows, register_front}
-use Rattle.std.specs.List.Sorted.{IsStrictlySortedBy}
+use Rattle.zeb_register.proofs.Cited.{state, Trees, Vec, Global, sym, subst, IfOk-weaker, IsListOf, IsRest, postings_tree, TermCount, plain_rows, register_front}
 use Rattle.zeb_register.specs.Terms.{HidesSome, ListsAll}
 use Rattle.zeb_register.proofs.Answered.{never_stored, told_or}
 use Rattle.zeb_register.proofs.PlainTerms.{rows_tell}

@@ -1,4 +1,4 @@
-use Rattle.zeb_register.proofs.Cited.{state, row_cmp, List, Row, rules, ap, inl, sym, subst, arith, Err, IsListOf, IsRest, postings_tree, AreCounts, IsShown, register_front}
+use Rattle.zeb_register.proofs.Cited.{state, row_cmp, List, Row, rules, inl, sym, subst, arith, IsListOf, IsRest, postings_tree, AreCounts, IsShown, register_front}
 use Rattle.std.specs.List.Sorted.{IsStrictlySortedBy}
 use Rattle.zeb_register.proofs.Answered.{refused_so}
 use Rattle.zeb_register.proofs.CountLemmas.{none_in_sum}

@@ -1,0 +1,13 @@
+pub mod Cited
+pub mod Parts
+pub mod Rising
+pub mod OneEntry
+pub mod Order
+pub mod Walked
+pub mod Pushing
+pub mod Finding
+pub mod Numbers
+pub mod Cutting
+pub mod WorkedLeaves
+pub mod Fronts
+pub mod Faults

@@ -1,0 +1,7 @@
+pub mod Order
+pub mod Leaves
+pub mod Walks
+pub mod Answers
+pub mod Cuts
+pub mod Worked
+pub mod PrivateTold

@@ -1,0 +1,53 @@
+-- What only the contracts of private functions speak of; no public clause reaches it.
+-- The parts in which an entry is told, and when they tell one.
+use Rattle.std.specs.Prelude.{ℕ, ◌+◌, ◌^◌, ◌<◌, ◌≤◌, List, [], ◌∷◌, ◌++◌, length, drop, take}
+use Rattle.zeb_blocks.specs.Numbers.{uleb}
+use Rattle.zeb_leaf.specs.Leaves.{counted}
+use Rattle.zeb_leaf.specs.Walks.{Place}
+use Rattle.zeb_leaf.specs.declared.entries.Entry.{Entry}
+use Rattle.zeb_leaf.specs.declared.telling.Told.{Told}
+
+-- the parts of an entry
+pub record Parts : Type 0 where
+  pub shared : ℕ
+  pub suffix : List ℕ
+  pub block : ℕ
+  pub records : ℕ
+  pub bytes : List ℕ
+
+abbrev pub parts_told : Told → Parts
+parts_told told = record { shared = told.shared; suffix = told.suffix.now; block = told.block; records = told.records; bytes = told.bytes.now }
+
+unfoldable pub parts_bytes : Parts → List ℕ
+parts_bytes p = uleb p.shared ++ (counted p.suffix ++ (uleb p.block ++ (uleb p.records ++ counted p.bytes)))
+
+-- each number fits 64 bits
+pub record AreSmall (p : Parts) : Type 0 where
+  pub shared : p.shared < 2 ^ 64
+  pub suffix : length p.suffix < 2 ^ 64
+  pub block : p.block < 2 ^ 64
+  pub records : p.records < 2 ^ 64
+  pub bytes : length p.bytes < 2 ^ 64
+
+-- what is left of a term and of the one before it, behind all that they share, rises; where both end there, the blocks do
+abbrev pub Rises : List ℕ → List ℕ → ℕ → ℕ → Type 0
+Rises [] [] least block = least ≤ block
+Rises [] (y ∷ ys) least block = Unit {0}
+Rises (x ∷ xs) [] least block = ⊥
+Rises (x ∷ xs) (y ∷ ys) least block = x < y
+
+-- their numbers are those of an entry
+pub record Sound (p : Parts) : Type 0 where
+  pub term : p.shared + length p.suffix < 2 ^ 64
+  pub block : p.block < 2 ^ 56
+  pub records : (1 ≤ p.records) × (p.records ≤ 256)
+
+-- they tell an entry that may come at the place
+pub record Fit (place : Place) (p : Parts) : Type 0 where
+  pub shared : p.shared ≤ length place.term
+  pub rises : Rises (drop p.shared place.term) p.suffix place.least p.block
+  pub sound : Sound p
+
+-- the entry that they tell behind a term
+abbrev pub entry_told : List ℕ → Parts → Entry
+entry_told before p = record { term = take p.shared before ++ p.suffix; block = p.block; records = p.records; bytes = p.bytes }

@@ -1,0 +1,22 @@
+//! The bytes of a leaf: the blocks of many terms in one row, each entry told from the one before it.
+//!
+//! Numbers are those of `zeb_blocks`, ULEB128 (DWARF 5, 7.6) in its shortest form. Leaves are this project's own.
+#![tactic(auto)]
+
+mod entries;
+mod laws;
+mod parting;
+mod reading;
+mod telling;
+mod walking;
+mod writing;
+
+pub use entries::{Bytes, Entry, Held, LEAF_BYTES, LeafFault};
+pub use laws::{
+    bytes_and_entries_are_one_to_one, leaf_is_cut_at_an_entry, rising_entries_follow,
+    sizes_of_entries, worked_leaves,
+};
+pub use parting::part;
+pub use reading::{find, read_leaf};
+pub use walking::LeafReader;
+pub use writing::{LeafWriter, spell_leaf};

@@ -1,0 +1,21 @@
+use Rattle.std.proofs.Common.{◌≡◌, ◌∙◌, ap, rules, subst, sym}
+use Rattle.std.specs.Prelude.{Err, Ok}
+use Rattle.zeb_program.specs.PrivateWordRuns.{EndsSession}
+use Rattle.zeb_program.proofs.StatusLemmas.{max_greater}
+use Rattle.zeb_program.proofs.WordRunLemmas.{told_closed}
+use Rattle.zeb_program.proofs.command_line.end_session.Goals as goal
+
+pub returns-clause-ends : goal.returns-clause-ends
+returns-clause-ends g c =
+    let closes = told_closed (λ sink. g.V.Write.contents sink.writer) c.args.fault_output.now c.tell_closed-closed.new.output c.tell_closed-closed.new.output.failed c.tell_closed-closed.result
+    c.tell_closed-closed.ensures.whole c.tell_closed-closed.ensures.unclosed c.tell_closed-closed.ensures.status in
+    subst (λ answered. EndsSession answered (Ok c.max.result) c.tell_closed-closed.new.output.failed (g.V.Write.contents c.args.fault_output.now.writer) (g.V.Write.contents c.tell_closed-closed.new.output.writer)) (sym c.in_ok-answered.was)
+    (c.tell_closed-closed.result, ap Ok (c.max.ensures ∙ max_greater c.in_ok-answered.field-0 c.tell_closed-closed.result), closes)
+
+pub returns-in_err-answered-clause-ends : goal.returns-in_err-answered-clause-ends
+returns-in_err-answered-clause-ends g c =
+    let closes = told_closed (λ sink. g.V.Write.contents sink.writer) c.args.fault_output.now c.tell_closed-closed.new.output c.tell_closed-closed.new.output.failed c.tell_closed-closed.result
+    c.tell_closed-closed.ensures.whole c.tell_closed-closed.ensures.unclosed c.tell_closed-closed.ensures.status in
+    let is : c.from_residual.result ≡ Err c.in_err-answered.field-0.0 = search rules in
+    subst (λ answered. EndsSession answered c.from_residual.result c.tell_closed-closed.new.output.failed (g.V.Write.contents c.args.fault_output.now.writer) (g.V.Write.contents c.tell_closed-closed.new.output.writer)) (sym c.in_err-answered.was)
+    (c.tell_closed-closed.result, is, closes)

@@ -1,0 +1,15 @@
+//! The counts of the work on registers.
+
+ghost use Rattle.zeb_register.specs.Tallies.{AreInRange};
+
+use crate::registers::Work;
+
+/// Each count of the work is a number of its type, as one knows who reads it. Nothing is done.
+pub fn counts_are_numbers(work: &Work)
+    ensures { AreInRange work.now }
+{
+    let _dict_read = work.dict_read;
+    let _dict_written = work.dict_written;
+    let _block_read = work.block_read;
+    let _block_written = work.block_written;
+}
