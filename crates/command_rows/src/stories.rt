@@ -1,8 +1,7 @@
 //! Registers over one layout and then the other, whose rows change between commands.
 
 use crate::commands::{Row, run};
-use crate::statements::{TableRow, tables_answer};
-use sqlite::{Alter, Connection, MemStore};
+use sqlite::{Alter, Connection};
 use std::alloc::AllocGlobal;
 use std::test::Fail;
 use zeb_engine::Limits;
@@ -23,12 +22,9 @@ pub enum Part<'a> {
     Plain(&'a str, &'a [Row<'a>]),
     /// Commands under a profile, over packed tables.
     Packed(&'a str, &'a [Row<'a>]),
-    /// Rows are looked at, or changed.
-    Tables(&'a [TableRow<'a>]),
+    /// Statements, each of which changes one row.
+    Changes(&'a [&'a str]),
 }
-
-/// Parts, each after the one before.
-pub type Story = &'static [Part<'static>];
 
 /// Does a part with a connection, which is given back.
 pub fn done<S: Alter + Drop>(
@@ -40,19 +36,19 @@ pub fn done<S: Alter + Drop>(
     match part {
         Part::Plain(profile, rows) => run::<S, Rows>(rt, connection, all, profile, rows),
         Part::Packed(profile, rows) => run::<S, Blocks>(rt, connection, all, profile, rows),
-        Part::Tables(rows) => {
-            let mut connection = connection;
-            tables_answer(rt, &mut connection, rows)?;
-            Ok(connection)
-        }
+        Part::Changes(statements) => changed(connection, statements),
     }
 }
 
-/// Goes through a story over a new store in memory, and gives the connection.
-pub fn told(rt: &impl AllocGlobal, story: Story) -> Result<Connection<MemStore>, Fail> {
-    let mut connection = Connection::open_in_memory(rt.alloc())?;
-    for part in story {
-        connection = done(rt, connection, part)?;
+fn changed<S: Alter + Drop>(
+    connection: Connection<S>,
+    statements: &[&str],
+) -> Result<Connection<S>, Fail> {
+    let mut connection = connection;
+    for sql in statements {
+        if connection.execute(sql, &[])? != 1 {
+            return Err(Fail::new("a statement that changes no row, or more"));
+        }
     }
     Ok(connection)
 }

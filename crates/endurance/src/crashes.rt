@@ -1,9 +1,7 @@
 //! Commands over files that stop at some call, each call in turn. What is opened again after it dumps and checks as before the command
 //! that was under way, or as after it, whichever layout and profile it is opened under.
 
-use crate::renewals::SUBJECTS;
 use command_rows::commands::{Row, Step, adopted, answer, command_of, lacks_memory, prints, told};
-use command_rows::statements::Statement;
 use command_rows::stories::{Part, done};
 use sqlite::{Connection, FileStore, Files};
 use sqlite_disk::{Crash, Disk, Fuse, Memory};
@@ -15,6 +13,10 @@ use worked_samples::{BOOKS, CAFE, CAFE_DOCK, CAFE_MOBY, DOCK, DOCK_ALONE, MOBY, 
 use zeb_engine::{Limits, Session};
 use zeb_packed::Blocks;
 use zeb_register::{Layout, Rows};
+
+/// `BOOKS` with a use attribute of subjects, and no whole titles.
+const SUBJECTS: &str =
+    "store books.db\nidentifier 001\natt 4 Title\natt 31 Date\natt 1016 Any\natt 21 Any\nmelm 245$a Title:w\nmelm 245 Title:w\nmelm 260$c Date:n\nall Any\n";
 
 /// What is printed for a dump, and then for a check: over a row for each posting under `BOOKS`, over packed tables under `BOOKS`, and over
 /// these under `SUBJECTS`.
@@ -126,15 +128,9 @@ const REINDEXED: Case = Case {
 const DAMAGED: Case = Case {
     begun: &[
         Part::Packed(BOOKS, BEGUN),
-        Part::Tables(&[
-            (
-                Statement::Execute("DELETE FROM blocks WHERE idx = 0 AND term = 'moby'"),
-                "1",
-            ),
-            (
-                Statement::Execute("INSERT INTO dict SELECT id, 0, 0, 'zebra', 1 FROM databases"),
-                "1",
-            ),
+        Part::Changes(&[
+            "DELETE FROM blocks WHERE idx = 0 AND term = 'moby'",
+            "INSERT INTO dict SELECT id, 0, 0, 'zebra', 1 FROM databases",
         ]),
     ],
     profile: BOOKS,

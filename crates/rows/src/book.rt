@@ -1,21 +1,17 @@
 //! A file of cases, line by line.
 
+use crate::damages::Damages;
 use crate::faults::Fault;
 use crate::folder::Folder;
 use crate::outcomes::{Outcome, shown};
 use crate::records::Fields;
-use crate::rows::{Row, script_of};
+use crate::rows::{Line, Row, lines_of, script_of};
 use crate::runs::{run_input, run_words};
+use crate::stores::Kept;
+use crate::stories::told;
 use crate::texts::{bytes_of, expanded};
 use std::alloc::Global;
 use std::{mem, slice};
-
-/// A line below a head, without the two spaces that it begins with.
-#[derive(Drop)]
-struct Line<'a> {
-    number: usize,
-    text: &'a str,
-}
 
 /// A head, what stands behind it, and the lines below it.
 #[derive(Drop)]
@@ -97,6 +93,12 @@ impl<'a> Book<'a> {
             "script" => self.run_script(part),
             "inputs" => self.run_inputs(part),
             "words" => self.run_words(part),
+            "story" => self.run_story(part, None),
+            "both" => {
+                self.run_story(part, Some(Kept::Plain))?;
+                self.run_story(part, Some(Kept::Packed))
+            }
+            "damages" => self.run_damages(part),
             _ => self.set(part),
         }
     }
@@ -203,6 +205,54 @@ impl<'a> Book<'a> {
         let script = script_of(self.alloc, self.folder.profile()?, &rows)?;
         let found = run_input(self.alloc, &self.folder, &script)?;
         self.compare(part.name, &rows, &found)
+    }
+
+    /// Takes a new store through the lines.
+    fn run_story(&mut self, part: &Part<'_>, either: Option<Kept>) -> Result<(), Fault> {
+        let count = self.tell_lines(part.name, &part.lines, either)?;
+        self.rows = self.rows.saturating_add(count);
+        Ok(())
+    }
+
+    /// Has each statement alter a register of its own, in each of the layouts.
+    fn run_damages(&mut self, part: &Part<'_>) -> Result<(), Fault> {
+        let Some(damages) = Damages::read(part.name) else {
+            return Err(Fault::Line("no damages"));
+        };
+        for line in &part.lines {
+            self.number = line.number;
+            self.run_damage(&damages, line, Kept::Plain)?;
+            self.run_damage(&damages, line, Kept::Packed)?;
+        }
+        Ok(())
+    }
+
+    /// Has a statement alter a register of this layout, where it is one of those that are asked for.
+    fn run_damage(&mut self, all: &Damages<'_>, line: &Line<'_>, kept: Kept) -> Result<(), Fault> {
+        if line.text.starts_with('#') || !all.has(kept) {
+            return Ok(());
+        }
+        let story = all.story(self.alloc, kept, line.text)?;
+        let lines = lines_of(self.alloc, &story, line.number)?;
+        self.tell_lines(line.text, &lines, Some(kept))?;
+        self.rows = self.rows.saturating_add(1);
+        Ok(())
+    }
+
+    /// Takes a new store through these lines, and answers how many were answered.
+    fn tell_lines(
+        &mut self,
+        name: &str,
+        lines: &[Line<'_>],
+        either: Option<Kept>,
+    ) -> Result<usize, Fault> {
+        let (answered, number, result) = told(self.alloc, &self.folder, either, lines);
+        self.number = number;
+        for (row, found) in &answered {
+            self.compare(name, slice::from_ref(row), found)?;
+        }
+        result?;
+        Ok(answered.len())
     }
 
     /// Finds each row's answer behind that of the one before it. The first that isn't there is told, and nothing of those behind it.

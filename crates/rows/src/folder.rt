@@ -1,13 +1,12 @@
 //! The files that cases run over, and the register that words find at their profile's path.
 
+use crate::commands::command_of;
 use crate::faults::Fault;
+use crate::stores::{Kept, Store};
 use sqlite::{Connection, MemStore};
 use std::alloc::Global;
 use std::str;
-use zeb_engine::{Command, DbName, Kind, Limits, Session};
-use zeb_packed::Blocks;
 use zeb_paths::Shelved;
-use zeb_profile::Profile;
 
 /// The profile of scripts, and of words that name no other.
 const PROFILE: &str = "zebra.cfg";
@@ -81,12 +80,17 @@ impl Folder {
         self.bytes("input").unwrap_or(&[])
     }
 
+    /// The text of a file.
+    pub fn text(&self, path: &str) -> Result<&str, Fault> {
+        match str::from_utf8(self.bytes(path)?) {
+            Ok(text) => Ok(text),
+            Err(_) => Err(Fault::Line("the file is no text")),
+        }
+    }
+
     /// The text of the profile.
     pub fn profile(&self) -> Result<&str, Fault> {
-        match str::from_utf8(self.bytes(PROFILE)?) {
-            Ok(text) => Ok(text),
-            Err(_) => Err(Fault::Line("the profile is no text")),
-        }
+        self.text(PROFILE)
     }
 
     /// The files as paths have them.
@@ -113,60 +117,28 @@ impl Folder {
 
     /// The same, as it was before it was altered.
     fn register(&self, alloc: Global) -> Result<Option<Connection<MemStore>>, Fault> {
-        if self.register.is_empty() {
-            return Ok(None);
-        }
-        let Ok(connection) = Connection::open_in_memory(alloc) else {
-            return Err(Fault::Line("no store could be opened"));
-        };
         match self.register.as_str() {
-            "new" => Ok(Some(connection)),
-            "begun" => Ok(Some(filled(alloc, connection, self.profile()?, None)?)),
+            "" => Ok(None),
+            "new" => Ok(Some(Store::new(alloc)?.connection())),
+            "begun" => Ok(Some(filled(alloc, self.profile()?, &["init"])?)),
             path => {
-                let change = update(alloc, self.bytes(path)?)?;
-                Ok(Some(filled(alloc, connection, self.profile()?, Some(change))?))
+                let digits = hex::encode(alloc, self.bytes(path)?)?;
+                let update = format!(in alloc; "update Default hex:{digits}")?;
+                Ok(Some(filled(alloc, self.profile()?, &["init", &update])?))
             }
         }
     }
 }
 
-/// An update of the database `Default` by a file of these bytes.
-fn update(alloc: Global, bytes: &[u8]) -> Result<Command, Fault> {
-    let Some(database) = DbName::read("Default") else {
-        return Err(Fault::Line("no name"));
-    };
-    let file = Vec::from_slice(alloc, bytes)?;
-    Ok(Command::Change {
-        kind: Kind::Update,
-        database,
-        files: vec![in alloc; file]?,
-    })
-}
-
-/// The store with a register that is begun under a profile, and then changed so.
-fn filled(
-    alloc: Global,
-    connection: Connection<MemStore>,
-    profile: &str,
-    change: Option<Command>,
-) -> Result<Connection<MemStore>, Fault> {
-    if !connection.is_autocommit() {
-        return Err(Fault::Line("the store is in use"));
+/// A new store after these commands under a profile.
+fn filled(alloc: Global, profile: &str, lines: &[&str]) -> Result<Connection<MemStore>, Fault> {
+    let mut store = Store::new(alloc)?.begun(alloc, Kept::Packed, profile)?;
+    for line in lines {
+        if store.answer(&command_of(alloc, line)?)?.is_err() {
+            return Err(Fault::Line("the register is refused"));
+        }
     }
-    let Ok(profile) = Profile::read(alloc, profile) else {
-        return Err(Fault::Line("the profile is refused"));
-    };
-    let Ok(mut session) = Session::<_, Blocks>::adopt(alloc, connection, profile, Limits::GREATEST)
-    else {
-        return Err(Fault::Line("the store is refused"));
-    };
-    let begun = session.command(&Command::Init).is_ok();
-    let changed = change.map_or(true, |change| session.command(&change).is_ok());
-    if begun && changed {
-        Ok(session.release())
-    } else {
-        Err(Fault::Line("the register is refused"))
-    }
+    Ok(store.connection())
 }
 
 /// Runs a statement, which has to change some row.

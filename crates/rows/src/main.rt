@@ -2,12 +2,16 @@
 #![tactic(auto)]
 
 mod book;
+mod commands;
+mod damages;
 mod faults;
 mod folder;
 mod outcomes;
 mod records;
 mod rows;
 mod runs;
+mod stores;
+mod stories;
 mod texts;
 
 use crate::book::Book;

@@ -4,7 +4,23 @@ use crate::faults::Fault;
 use crate::folder::Folder;
 use crate::outcomes::Outcome;
 use crate::texts::{bytes_of, expanded};
-use std::alloc::Global;
+use std::alloc::{AllocError, Global};
+
+/// A line below a head, without the two spaces that it begins with.
+#[derive(Drop)]
+pub struct Line<'a> {
+    pub number: usize,
+    pub text: &'a str,
+}
+
+/// The lines of a text, all with this number.
+pub fn lines_of(alloc: Global, text: &str, number: usize) -> Result<Vec<Line<'_>>, AllocError> {
+    let mut lines = Vec::new(alloc);
+    for text in text.split_terminator('\n') {
+        lines.push(Line { number, text })?;
+    }
+    Ok(lines)
+}
 
 /// A row `INPUT -> ANSWER`.
 #[derive(Drop)]
@@ -27,6 +43,18 @@ impl Row {
         let Some((input, answer)) = line.split_once(" -> ") else {
             return Err(Fault::Line("a row without ` -> `"));
         };
+        Row::new(alloc, folder, number, input, answer, is_words)
+    }
+
+    /// The row of an input and its answer.
+    pub fn new(
+        alloc: Global,
+        folder: &Folder,
+        number: usize,
+        input: &str,
+        answer: &str,
+        is_words: bool,
+    ) -> Result<Row, Fault> {
         let input = expanded(alloc, folder, input)?;
         let answer = expanded(alloc, folder, answer)?;
         let mut wanted = Outcome::new(alloc);

@@ -3,7 +3,7 @@
 use crate::faults::Fault;
 use crate::folder::Folder;
 use crate::outcomes::Outcome;
-use crate::texts::bytes_of;
+use crate::texts::text_of;
 use sqlite::{Alter, Connection, MemStore};
 use std::alloc::Global;
 use zeb_marc::Slice;
@@ -19,17 +19,10 @@ pub fn run_input(alloc: Global, folder: &Folder, input: &[u8]) -> Result<Outcome
 pub fn run_words(alloc: Global, folder: &Folder, line: &str) -> Result<Outcome, Fault> {
     let mut words = Vec::new(alloc);
     for word in line.split(' ') {
-        words.push(word_of(alloc, word)?)?;
+        words.push(text_of(alloc, word)?)?;
     }
     let store = folder.store(alloc)?;
     run_over(alloc, folder, store, &words, folder.input())
-}
-
-fn word_of(alloc: Global, text: &str) -> Result<String, Fault> {
-    match String::from_utf8(bytes_of(alloc, text)?) {
-        Ok(word) => Ok(word),
-        Err(_) => Err(Fault::Line("a word is no text")),
-    }
 }
 
 /// Runs the program over the folder's files and a store.

@@ -14,6 +14,14 @@ pub fn bytes_of(alloc: Global, text: &str) -> Result<Vec<u8>, Fault> {
     Ok(bytes)
 }
 
+/// The text that a text stands for.
+pub fn text_of(alloc: Global, text: &str) -> Result<String, Fault> {
+    match String::from_utf8(bytes_of(alloc, text)?) {
+        Ok(text) => Ok(text),
+        Err(_) => Err(Fault::Line("bytes that are no text")),
+    }
+}
+
 /// Adds the byte that two digits stand for, and what stands behind them.
 fn add_coded(alloc: Global, bytes: &mut Vec<u8>, part: &str) -> Result<(), Fault> {
     let (Some(digits), Some(rest)) = (part.get(..2), part.get(2..)) else {

@@ -7,22 +7,11 @@ use std::fmt::Write;
 use std::str;
 use zeb_register::RegFault;
 
-/// The postings, with the database's name for its number.
-pub const POSTINGS: &str =
-    "SELECT name, idx, reg, term, sysno, seq, pos FROM postings JOIN databases ON id = db ORDER BY name, idx, reg, term, sysno, seq, pos";
-
-const DATABASES: &str = "SELECT * FROM databases ORDER BY id";
-
-const RECORDS: &str = "SELECT * FROM records ORDER BY db, sysno";
-
-/// All rows of databases and of records, in the order of their keys.
-pub const LISTS: [&str; 2] = [DATABASES, RECORDS];
-
 /// All rows of each table, in the order of its key.
 pub const TABLES: [&str; 6] = [
     "SELECT * FROM meta ORDER BY name",
-    DATABASES,
-    RECORDS,
+    "SELECT * FROM databases ORDER BY id",
+    "SELECT * FROM records ORDER BY db, sysno",
     "SELECT * FROM postings ORDER BY db, idx, reg, term, sysno, seq, pos",
     "SELECT * FROM blocks ORDER BY db, idx, reg, term, block",
     "SELECT * FROM dict ORDER BY db, idx, reg, term",

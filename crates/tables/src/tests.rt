@@ -1,184 +1,164 @@
-//! Calls on the register's tables, step by step: what each answers, and what rows it leaves.
+//! Tables of steps on the register's tables: each line is a step, and behind ` ->` what it has to answer, a fault by its name. A step
+//! without an arrow answers nothing. A new store begins behind each empty line.
 
-use crate::queries::{execute, rows};
 use sqlite::{Alter, Connection};
 use std::alloc::{AllocGlobal, Global};
 use std::process::Abort;
 use std::test::Fail;
-use zeb_register::{DatabaseId, RegFault};
+use zeb_packed::Blocks;
+use zeb_register::{DatabaseId, Layout, RegFault, Rows};
 
-mod calls;
+mod changes;
 mod damage;
 mod files;
 mod lists;
 mod memory;
 mod moby_dick;
-mod neighbours;
-mod numbers;
 mod paths;
-mod readings;
+mod reads;
 mod records;
+mod runs;
 mod scanning;
 mod schema;
 mod steps;
+mod words;
 
-use calls::{Call, carry_out_alone, known};
-use readings::{Read, tell, used};
+use words::Words;
 
-/// What a script does. The calls on a database are on the one that was put or used last.
-pub enum Step<'a> {
-    /// A call in a transaction that is committed.
-    Commit(Call<'a>),
-    /// A call in a transaction that is given up.
-    GiveUp(Call<'a>),
-    /// The calls that follow are on the database of this name.
-    Use(&'a str),
-    Read(Read<'a>),
-    /// A limit on the steps of a statement's query.
-    Limit(Option<u64>),
-    /// A statement of the test's own: how many rows it changes.
-    Execute(&'a str),
-    /// The rows that a query of the test's own finds.
-    Rows(&'a str),
+/// What a step answers.
+type Answer = Result<String, RegFault>;
+
+/// Whether all that was asked got its answer.
+type Outcome = Result<(), Fail>;
+
+/// An open store, and the database that was put or used last, which steps are on.
+#[derive(Drop)]
+pub struct Opened<S: Alter> {
+    conn: Connection<S>,
+    db: Option<DatabaseId>,
 }
 
-/// A step and its answer, a fault by its name.
-pub type Row<'a> = (Step<'a>, &'a str);
-
-/// Rows of a script: those that several scripts have, by their name, or a script's own.
-pub enum Part {
-    /// The tables.
-    Made,
-    /// The tables and the texts that the store keeps of itself.
-    Begun,
-    /// A database without records.
-    Default,
-    /// Two records, and what they are found by.
-    Filled,
-    /// What is read where they are.
-    Answers,
-    /// Terms of three lists.
-    Terms,
-    Rows(&'static [Row<'static>]),
-}
-
-/// Parts, each after the one before.
-pub type Script = &'static [Part];
-
-static MADE: &[Row<'static>] = &[(Step::Commit(Call::Tables), "")];
-
-/// The rows of a part. The rows that several scripts have are named here alone, since the proof of a function
-/// goes through each copy of a constant.
-fn rows_of(part: &Part) -> &'static [Row<'static>] {
-    match part {
-        Part::Made => MADE,
-        Part::Begun => moby_dick::BEGUN,
-        Part::Default => moby_dick::DEFAULT,
-        Part::Filled => moby_dick::FILLED,
-        Part::Answers => moby_dick::ANSWERS,
-        Part::Terms => scanning::TERMS,
-        Part::Rows(rows) => rows,
+/// Lines that several tables have, by the name that stands there behind `with`.
+fn part(name: &str) -> &'static str {
+    match name {
+        "made" => "do make_tables",
+        "begun" => moby_dick::BEGUN,
+        "default" => "do database_put Default 2",
+        "filled" => moby_dick::FILLED,
+        "posted" => moby_dick::POSTED,
+        "answers" => moby_dick::ANSWERS,
+        "terms" => scanning::TERMS,
+        "once" => schema::ONCE,
+        "beside" => schema::BESIDE,
+        _ => "no such part",
     }
 }
 
-/// What stands in the tables after calls that write.
-const PUT: [Script; 9] = [
-    moby_dick::HELD,
-    moby_dick::NAMED,
-    records::CLASHING,
-    lists::CHANGED,
-    lists::WRONG,
-    lists::TAKEN,
-    lists::TAKEN_TWICE,
-    numbers::GREATEST,
-    numbers::TOO_GREAT,
-];
-
-/// Does a step, and adds its answer to the text.
-pub fn answer<S: Alter>(
-    alloc: Global,
-    conn: &mut Connection<S>,
-    db: &mut Option<DatabaseId>,
-    step: &Step<'_>,
-    text: &mut String,
-) -> Result<(), RegFault> {
-    match step {
-        Step::Commit(call) => carry_out_alone(alloc, conn, db, call, true, text)?,
-        Step::GiveUp(call) => carry_out_alone(alloc, conn, db, call, false, text)?,
-        Step::Use(name) => *db = used(conn, name)?,
-        Step::Read(call) => tell(alloc, conn, known(db)?, call, text)?,
-        Step::Limit(steps) => conn.set_step_limit(*steps),
-        Step::Execute(sql) => execute(conn, sql, text)?,
-        Step::Rows(sql) => rows(conn, sql, text)?,
+/// A line's step and answer, if it is no remark and no line for the other layout alone.
+fn row_of<L: Layout>(line: &str) -> Option<(&str, &str)> {
+    let (own, other) = match L::version() == Rows::version() {
+        true => ("plain ", "packed "),
+        false => ("packed ", "plain "),
+    };
+    if line.starts_with('#') || line.starts_with(other) {
+        return None;
     }
-    Ok(())
+    let line = line.strip_prefix(own).unwrap_or(line);
+    let (step, wanted) = line.split_once(" ->").unwrap_or((line, ""));
+    Some((step, wanted.strip_prefix(' ').unwrap_or(wanted)))
 }
 
-fn told<S: Alter>(
-    alloc: Global,
-    conn: &mut Connection<S>,
-    db: &mut Option<DatabaseId>,
-    step: &Step<'_>,
-) -> Result<String, Fail> {
-    let mut text = String::new(alloc);
-    match answer(alloc, conn, db, step, &mut text) {
-        Ok(()) => Ok(text),
-        Err(fault) => Ok(format!(in alloc; "{fault}")?),
+impl<S: Alter> Opened<S> {
+    /// Does a step, one behind `do` or `undo` in a transaction that is then committed or given up.
+    fn answer<L: Layout>(&mut self, alloc: Global, step: &str) -> Answer {
+        let mut words = Words { alloc, left: step };
+        match words.word() {
+            "do" => self.change_alone::<L>(words, true),
+            "undo" => self.change_alone::<L>(words, false),
+            "use" => self.use_database(words),
+            "limit" => self.limit(words),
+            word => self.read::<L>(step, word, words),
+        }
+    }
+
+    fn told<L: Layout>(&mut self, alloc: Global, step: &str) -> Result<String, Fail> {
+        match self.answer::<L>(alloc, step) {
+            Ok(text) => Ok(text),
+            Err(fault) => Ok(format!(in alloc; "{fault}")?),
+        }
+    }
+
+    /// Each line gets its answer.
+    fn answers<L: Layout>(&mut self, rt: &(impl Abort + AllocGlobal), lines: &str) -> Outcome {
+        for line in lines.split('\n') {
+            if let Some((step, wanted)) = row_of::<L>(line) {
+                let text = self.told::<L>(rt.alloc(), step)?;
+                assert_eq!(rt; text.as_str(), wanted, "{line}");
+            }
+        }
+        Ok(())
+    }
+
+    /// Each line of these parts gets its answer.
+    fn parts<L: Layout>(&mut self, rt: &(impl Abort + AllocGlobal), names: &str) -> Outcome {
+        for name in names.split(' ') {
+            self.answers::<L>(rt, part(name))?;
+        }
+        Ok(())
+    }
+
+    /// Runs a table.
+    fn run<L: Layout>(&mut self, rt: &(impl Abort + AllocGlobal), table: &str) -> Outcome {
+        for line in table.split('\n') {
+            match line.strip_prefix("with ") {
+                Some(names) => self.parts::<L>(rt, names)?,
+                None => self.answers::<L>(rt, line)?,
+            }
+        }
+        Ok(())
     }
 }
 
-/// Each step gets its answer.
-pub fn answers<S: Alter>(
-    rt: &(impl Abort + AllocGlobal),
-    conn: &mut Connection<S>,
-    db: &mut Option<DatabaseId>,
-    rows: &[Row<'_>],
-) -> Result<(), Fail> {
-    for (place, (step, wanted)) in rows.iter().enumerate() {
-        let text = told(rt.alloc(), conn, db, step)?;
-        assert_eq!(rt; text.as_str(), *wanted, "step {place}");
+/// Runs each table over a new store in memory.
+fn run_all<L: Layout>(rt: &(impl Abort + AllocGlobal), tables: &str) -> Outcome {
+    for table in tables.split("\n\n") {
+        let conn = Connection::open_in_memory(rt.alloc())?;
+        Opened { conn, db: None }.run::<L>(rt, table)?;
     }
     Ok(())
 }
 
-/// Runs a script.
-fn run<S: Alter>(
-    rt: &(impl Abort + AllocGlobal),
-    conn: &mut Connection<S>,
-    script: Script,
-) -> Result<(), Fail> {
-    let mut db = None;
-    for part in script {
-        answers(rt, conn, &mut db, rows_of(part))?;
-    }
-    Ok(())
-}
-
-/// Runs each script over a new store in memory.
-fn run_all(rt: &(impl Abort + AllocGlobal), scripts: &[Script]) -> Result<(), Fail> {
-    for script in scripts {
-        let mut conn = Connection::open_in_memory(rt.alloc())?;
-        run(rt, &mut conn, script)?;
-    }
-    Ok(())
+/// Runs each table in both layouts.
+fn run_both(rt: &(impl Abort + AllocGlobal), tables: &str) -> Outcome {
+    run_all::<Rows>(rt, tables)?;
+    run_all::<Blocks>(rt, tables)
 }
 
 #[test]
-fn records_and_lists_stand_as_they_were_put(rt: HostRuntime) -> Result<(), Fail> {
-    run_all(&rt, &PUT)
+fn records_and_lists_stand_as_they_were_put(rt: HostRuntime) -> Outcome {
+    run_both(&rt, moby_dick::TABLES)?;
+    run_both(&rt, records::TABLES)?;
+    run_both(&rt, lists::TABLES)
 }
 
 #[test]
-fn terms_come_in_the_order_of_their_bytes(rt: HostRuntime) -> Result<(), Fail> {
-    run_all(&rt, &scanning::SCRIPTS)
+fn runs_of_keys_are_changed_as_each_key_is(rt: HostRuntime) -> Outcome {
+    run_both(&rt, runs::TABLES)
 }
 
 #[test]
-fn tables_have_their_columns_and_keys(rt: HostRuntime) -> Result<(), Fail> {
-    run_all(&rt, &schema::SCRIPTS)
+fn terms_come_in_the_order_of_their_bytes(rt: HostRuntime) -> Outcome {
+    run_both(&rt, scanning::TABLES)?;
+    run_both(&rt, scanning::NEIGHBOURS)
 }
 
 #[test]
-fn damage_is_answered_where_it_is_read(rt: HostRuntime) -> Result<(), Fail> {
-    run_all(&rt, &damage::SCRIPTS)
+fn tables_have_their_columns_and_keys(rt: HostRuntime) -> Outcome {
+    run_both(&rt, schema::TABLES)
+}
+
+#[test]
+fn damage_is_answered_where_it_is_read(rt: HostRuntime) -> Outcome {
+    run_both(&rt, damage::TABLES)?;
+    run_all::<Rows>(&rt, damage::OF_POSTINGS)
 }

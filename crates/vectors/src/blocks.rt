@@ -1,11 +1,103 @@
-//! Worked blocks both ways, bytes that are refused, and the longest numbers.
-ghost use Rattle.std.specs.Prelude.{◌≡◌};
+//! Worked blocks of postings both ways, bytes that are refused, and the longest numbers.
+ghost use Rattle.std.specs.Prelude.{◌≡◌, ◌<◌, ◌^◌, length};
 ghost use Rattle.zeb_blocks.specs.Blocks.{BlockSpells};
 ghost use Rattle.zeb_blocks.specs.Worked.{at};
 
-use std::process::Abort;
+use crate::rows::rows_hold;
+use std::alloc::{AllocError, Global};
 use std::test::Fail;
 use zeb_blocks::{BlockWriter, Damaged, Posting, Postings, push_block, spell};
+
+/// A block's number and its bytes, and the postings that they spell there: system number, unit and place.
+static ROWS: &str = "\
+0: 1 2 2 -> 1.2.2
+0: 1 2 2 0 1 1 -> 1.2.2 1.3.1
+0: 1 2 2 0 0 3 -> 1.2.2 1.2.5
+0: 1 2 2 254 1 1 1 -> 1.2.2 255.1.1
+1: 0 2 2 -> 256.2.2
+# The longest numbers, and the greatest of nine bytes.
+72057594037927935: 255 1 128 128 128 128 128 128 128 128 128 1 255 255 255 255 255 255 255 255 255 1 -> \
+18446744073709551615.9223372036854775808.18446744073709551615
+0: 1 255 255 255 255 255 255 255 255 127 1 -> 1.9223372036854775807.1
+# Bytes that are refused. In the last but one a number has eleven bytes; no system number of so high a block as the last fits 64 bits.
+0:  -> damaged
+0: 0 2 2 -> damaged
+0: 1 2 -> damaged
+0: 1 2 130 -> damaged
+0: 1 2 130 0 -> damaged
+0: 1 2 2 0 0 0 -> damaged
+0: 128 2 1 1 -> damaged
+0: 1 255 255 255 255 255 255 255 255 255 2 1 -> damaged
+0: 1 128 128 128 128 128 128 128 128 128 129 1 1 -> damaged
+72057594037927936: 0 2 2 -> damaged
+";
+
+fn bytes_of(alloc: Global, text: &str) -> Result<Vec<u8>, AllocError> {
+    let mut bytes = Vec::new(alloc);
+    for number in text.split(' ').filter(|number| !number.is_empty()) {
+        bytes.push(number.parse().unwrap_or(0))?;
+    }
+    Ok(bytes)
+}
+
+fn listed(alloc: Global, postings: &[Posting]) -> Result<String, AllocError> {
+    let mut listed = Vec::new(alloc);
+    for posting in postings {
+        let (sysno, seq, pos) = (posting.sysno, posting.seq, posting.pos);
+        listed.push(format!(in alloc; "{sysno}.{seq}.{pos}")?)?;
+    }
+    listed.join(alloc, " ")
+}
+
+/// Whether the bytes put the postings behind those of a list.
+fn are_pushed(block: u64, bytes: &[u8], list: &Vec<Posting>) -> Result<bool, AllocError> {
+    let mut pushed = list.clone()?;
+    let is_sound = push_block(&mut pushed, block, bytes)?.is_ok();
+    Ok(is_sound && pushed.strip_prefix(list.as_slice()) == Some(list.as_slice()))
+}
+
+/// The postings of a block, where each way of reading gives them and they are spelled as the bytes.
+fn sound_line(
+    alloc: Global,
+    block: u64,
+    bytes: &[u8],
+    postings: Postings<'_>,
+) -> Result<String, AllocError>
+    requires spelled { BlockSpells block postings bytes.now }
+    requires few { length postings < 2 ^ 64 }
+{
+    let counts = (postings.len(), postings.clone()?.count());
+    let list: Vec<Posting> = postings.collect(alloc)?;
+    let is_spelled = spell(alloc, block, &list)?.as_slice() == bytes;
+    if counts == (list.len(), list.len()) && is_spelled && are_pushed(block, bytes, &list)? {
+        listed(alloc, &list)
+    } else {
+        String::from_str(alloc, "other postings")
+    }
+}
+
+/// What is said where a block isn't read.
+fn damaged_line(alloc: Global, block: u64, bytes: &[u8]) -> Result<String, AllocError> {
+    match push_block(&mut Vec::new(alloc), block, bytes)? {
+        Ok(()) => String::from_str(alloc, "pushed and not read"),
+        Err(Damaged) => String::from_str(alloc, "damaged"),
+    }
+}
+
+fn answer(alloc: Global, text: &str) -> Result<String, AllocError> {
+    let (block, bytes) = text.split_once(": ").unwrap_or((text, ""));
+    let block = block.parse().unwrap_or(0);
+    let bytes = bytes_of(alloc, bytes)?;
+    match Postings::read(block, &bytes) {
+        Ok(postings) => sound_line(alloc, block, &bytes, postings),
+        Err(Damaged) => damaged_line(alloc, block, &bytes),
+    }
+}
+
+#[test]
+fn blocks_are_read_and_written(rt: HostRuntime) -> Result<(), Fail> {
+    rows_hold(rt.alloc(), ROWS, answer)
+}
 
 /// The posting with these numbers.
 fn posting(sysno: u64, seq: u64, pos: u64) -> Posting
@@ -14,119 +106,10 @@ fn posting(sysno: u64, seq: u64, pos: u64) -> Posting
     Posting { sysno, seq, pos }
 }
 
-/// Asserts that the bytes are read as these postings, and no more.
-fn assert_read(rt: &impl Abort, block: u64, bytes: &[u8], expected: &[Posting]) {
-    let postings = Postings::read(block, bytes).expect(rt, "a block");
-    assert_eq!(rt; postings.len(), expected.len());
-    let mut left = expected.iter();
-    for read in postings {
-        assert_eq!(rt; Some(read), left.next().copied());
-    }
-    assert_eq!(rt; left.next().copied(), None);
-}
-
-/// Asserts that these postings are written as the bytes, and that these put them behind those of a list.
-fn assert_spelled(
-    rt: &(impl Abort + AllocGlobal),
-    block: u64,
-    bytes: &[u8],
-    list: &[Posting],
-) -> Result<(), Fail>
-    requires { BlockSpells block list.now bytes.now }
-{
-    let spelled = spell(rt.alloc(), block, list)?;
-    assert!(rt; spelled.as_slice() == bytes);
-    let first = posting(1, 1, 1);
-    let mut read = Vec::new(rt.alloc());
-    read.push(first)?;
-    assert!(rt; push_block(&mut read, block, bytes)?.is_ok());
-    assert_eq!(rt; read.first(), Some(&first));
-    assert!(rt; &read[1..] == list);
-    Ok(())
-}
-
 #[test]
-fn one_posting(rt: HostRuntime) -> Result<(), Fail> {
-    let list = [posting(1, 2, 2)];
-    assert_read(&rt, 0, &[1, 2, 2], &list);
-    assert_spelled(&rt, 0, &[1, 2, 2], &list)
-}
-
-#[test]
-fn two_units(rt: HostRuntime) -> Result<(), Fail> {
-    let list = [posting(1, 2, 2), posting(1, 3, 1)];
-    assert_read(&rt, 0, &[1, 2, 2, 0, 1, 1], &list);
-    assert_spelled(&rt, 0, &[1, 2, 2, 0, 1, 1], &list)
-}
-
-#[test]
-fn two_records(rt: HostRuntime) -> Result<(), Fail> {
-    let list = [posting(1, 2, 2), posting(255, 1, 1)];
-    assert_read(&rt, 0, &[1, 2, 2, 0xfe, 1, 1, 1], &list);
-    assert_spelled(&rt, 0, &[1, 2, 2, 0xfe, 1, 1, 1], &list)
-}
-
-#[test]
-fn second_block(rt: HostRuntime) -> Result<(), Fail> {
-    assert_read(&rt, 1, &[0, 2, 2], &[posting(256, 2, 2)]);
+fn a_block_is_written_posting_by_posting(rt: HostRuntime) -> Result<(), Fail> {
     let mut writer = BlockWriter::new(rt.alloc(), 1);
     writer.push(posting(256, 2, 2))?;
     assert!(rt; writer.into_bytes().as_slice() == [0, 2, 2].as_slice());
     Ok(())
-}
-
-#[test]
-fn postings_are_counted_and_collected(rt: HostRuntime) -> Result<(), Fail> {
-    let block = [1, 2, 2, 0, 0, 3];
-    let postings = Postings::read(0, &block).expect(&rt, "a block");
-    assert_eq!(rt; postings.count(), 2);
-    let all: Vec<Posting> = Postings::read(0, &block)
-        .expect(&rt, "a block")
-        .collect(rt.alloc())?;
-    let expected = [posting(1, 2, 2), posting(1, 2, 5)];
-    assert!(rt; all.as_slice() == expected.as_slice());
-    Ok(())
-}
-
-#[test]
-fn damage_is_found(rt: HostRuntime) -> Result<(), Fail> {
-    let tenth_byte_2 = [1, 255, 255, 255, 255, 255, 255, 255, 255, 255, 2, 1];
-    let eleven_bytes = [1, 128, 128, 128, 128, 128, 128, 128, 128, 128, 129, 1, 1];
-    let refused: [&[u8]; 9] = [
-        &[],
-        &[0, 2, 2],
-        &[1, 2],
-        &[1, 2, 0x82],
-        &[1, 2, 0x82, 0],
-        &[1, 2, 2, 0, 0, 0],
-        &[0x80, 2, 1, 1],
-        &tenth_byte_2,
-        &eleven_bytes,
-    ];
-    let mut read = Vec::new(rt.alloc());
-    for bytes in refused {
-        assert!(rt; matches!(Postings::read(0, bytes), Err(Damaged)));
-        assert!(rt; matches!(push_block(&mut read, 0, bytes)?, Err(Damaged)));
-    }
-    // No system number of so high a block fits 64 bits.
-    assert!(rt; matches!(Postings::read(1 << 56, &[0, 2, 2]), Err(Damaged)));
-    assert!(rt; matches!(push_block(&mut read, 1 << 56, &[0, 2, 2])?, Err(Damaged)));
-    Ok(())
-}
-
-#[test]
-fn longest_numbers(rt: HostRuntime) -> Result<(), Fail> {
-    let bytes = [
-        255, 1, 128, 128, 128, 128, 128, 128, 128, 128, 128, 1, 255, 255, 255, 255, 255, 255, 255,
-        255, 255, 1,
-    ];
-    let list = [posting(u64::MAX, 1 << 63, u64::MAX)];
-    assert_read(&rt, (1 << 56) - 1, &bytes, &list);
-    assert_spelled(&rt, (1 << 56) - 1, &bytes, &list)
-}
-
-#[test]
-fn nine_bytes_hold_63_bits(rt: HostRuntime) {
-    let bytes = [1, 255, 255, 255, 255, 255, 255, 255, 255, 127, 1];
-    assert_read(&rt, 0, &bytes, &[posting(1, (1 << 63) - 1, 1)]);
 }

@@ -1,5 +1,5 @@
 -- What an accepted change leaves and loses, of any tables of a store.
-use Rattle.zeb_change.proofs.Cited.{◌≡◌, ◌∙◌, ◌+◌, ◌<◌, ◌≤◌, ◌++◌, ℕ, ℤ, List, [], ◌∷◌, Option, Some, None, Ok, inl, inr, refl, sym, ap, subst, arith, flat_map, Database, State, MarcFault, Split, Elder, Format, IsStore, Kind, Update, Delete, Adelete, Setting, Fate, Tally, PassesOn, TakesNamed, Point, Turns, At, FoldsRecord, SettlesNotes, TakesFiles, TakesRecord, TakesRest, point_in}
+use Rattle.zeb_change.proofs.Cited.{◌≡◌, ◌+◌, ◌≤◌, ◌++◌, ℕ, ℤ, List, [], ◌∷◌, Option, Some, None, Ok, inl, inr, refl, sym, ap, subst, arith, flat_map, Database, State, MarcFault, Split, Elder, Format, IsStore, Kind, Update, Delete, Adelete, Setting, Fate, Tally, PassesOn, TakesNamed, Point, Turns, At, FoldsRecord, SettlesNotes, TakesFiles, TakesRecord, TakesRest, point_in}
 use Rattle.zeb_change.proofs.FoldParts.{store_of}
 use Rattle.zeb_change.proofs.KeptStill.{passes_same, passes_seen, passes_then}
 use Rattle.zeb_change.proofs.Reasons.{counted_one, none_taken, one_taken, taken_written, takes_then}

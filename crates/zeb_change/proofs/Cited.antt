@@ -59,7 +59,7 @@ pub use Rattle.zeb_change.specs.PrivateElders.{KeepsOtherRecords, KeepsUnder}
 pub use Rattle.zeb_change.specs.PrivateFaults.{as_refusal, kept_fault}
 pub use Rattle.zeb_change.specs.PrivateKeyRuns.{AreOfKey, BeginsWithKey, Stops, IsNotAbove}
 pub use Rattle.zeb_change.specs.PrivateNoteWords.{IsCutOff, counts_in, TakesChange, TakesNumber, TakesPlaces}
-pub use Rattle.zeb_change.specs.PrivatePending.{AreGivenInOrder, number_in, AreGivenAs, ArePutAt, IsNotedAlso, IsTakenOut, IsNotNoted, change_in}
+pub use Rattle.zeb_change.specs.PrivatePending.{AreGivenInOrder, number_in, AreGivenAs, IsNotedAlso, IsTakenOut, IsNotNoted, change_in}
 pub use Rattle.zeb_change.specs.PrivateReading.{ReadsRecord}
 pub use Rattle.zeb_change.specs.PrivateReasons.{TakesNamed, IsDamageOrFailure, IsFullOrFails, IsRecordRefused, LosesJustNamed}
 pub use Rattle.zeb_change.specs.PrivateRecords.{IsElderAs, elder_bytes, GoesBy, IsWholeElder, IsNewer}
@@ -115,15 +115,15 @@ pub use Rattle.zeb_marc.specs.declared.faults.MarcFault.TheVariants.{LengthDigit
 pub use Rattle.zeb_profile.specs.Indexes.{unit_targets}
 pub use Rattle.zeb_profile.specs.declared.directives.Directive.{Directive}
 pub use Rattle.zeb_register.proofs.Calls.{store_same}
-pub use Rattle.zeb_register.proofs.ContentChanges.{changed_at, change_is, same_content, integers_apart, at_sysno, place_total, posting_total, told_spot, with_list, with_list_here, with_list_there}
+pub use Rattle.zeb_register.proofs.ContentChanges.{changed_at, change_is, same_content, integers_apart, at_sysno, place_total, posting_total, with_list}
 pub use Rattle.zeb_register.proofs.CountLemmas.{rises_then}
 pub use Rattle.zeb_register.proofs.FormatLemmas.{registers_rise, registers_stay}
 pub use Rattle.zeb_register.proofs.ListChanges.{list_changed, posting_is}
-pub use Rattle.zeb_register.proofs.Malformed.{beside_same, beside_seen, beside_then, malformed_same, malformed_seen, malformed_then, beside_database}
+pub use Rattle.zeb_register.proofs.Malformed.{beside_same, beside_seen, beside_then, malformed_same, malformed_seen, malformed_then}
 pub use Rattle.zeb_register.proofs.RisingLists.{never_itself, told_by, same_list}
 pub use Rattle.zeb_register.proofs.RowsAreLists.{one_ident, one_number}
 pub use Rattle.zeb_register.specs.Calls.{Alters, GoesOn}
-pub use Rattle.zeb_register.specs.Content.{Content, HasRisingLists, posting_at, ArePlacesOf, Posting, AreChangedAt, AreListChanges, IsListChanged, OldsRise, place_cmp, posting_cmp, IsStorable, IsChangedAt, IsStorablePosting}
+pub use Rattle.zeb_register.specs.Content.{Content, HasRisingLists, posting_at, ArePlacesOf, Posting, AreListChanges, IsListChanged, OldsRise, place_cmp, posting_cmp, IsStorable, IsChangedAt, IsStorablePosting}
 pub use Rattle.zeb_register.specs.Formats.{Format, holds_in}
 pub use Rattle.zeb_register.specs.Kept.{IsElderOf, AreNumbered}
 pub use Rattle.zeb_register.specs.Sound.{KeepsMalformed, KeepsRowsBeside}
@@ -132,7 +132,6 @@ pub use Rattle.zeb_register.specs.Store.{IsStore, KeepsLists, Changes, HasNumber
 pub use Rattle.zeb_register.specs.Tables.{store_schema}
 pub use Rattle.zeb_register.specs.Tallies.{AreInRange, Rises}
 pub use Rattle.zeb_register.specs.declared.faults.RegFault.{RegFault}
-pub use Rattle.zeb_register.specs.declared.faults.RegFault.TheVariants.{Store}
 pub use Rattle.zeb_register.specs.declared.kept.Elder.{Elder}
 pub use Rattle.zeb_register.specs.declared.registers.Place.{Place}
 pub use Rattle.zeb_register.specs.declared.registers.RecordChange.{RecordChange}

@@ -1,5 +1,5 @@
 -- Changes of different records commute: given by the numbers of their records, the changes of a key come to the same content.
-use Rattle.zeb_change.proofs.Cited.{◌≡◌, ◌≢◌, ◌↔◌, ◌⊎◌, ℤ, List, [], ◌∷◌, ◌++◌, sym, subst, inl, inr, nat_cmp_total, IsStableByKey, Has, Key, numbers_apart, RecordChange, AreChangedAt, AreListChanges, ArePlacesOf, Content, IsListChanged, HasRisingLists, OldsRise, Posting, place_cmp, posting_at, posting_cmp, at_sysno, list_changed, posting_is, told_by, KeyChange, AreTurns, AreGivenInOrder, number_in}
+use Rattle.zeb_change.proofs.Cited.{◌≡◌, ◌≢◌, ◌↔◌, ◌⊎◌, List, [], ◌∷◌, ◌++◌, sym, subst, inl, inr, nat_cmp_total, IsStableByKey, Has, numbers_apart, RecordChange, AreListChanges, ArePlacesOf, IsListChanged, OldsRise, Posting, place_cmp, posting_at, posting_cmp, at_sysno, list_changed, posting_is, told_by, KeyChange, AreTurns, AreGivenInOrder, number_in}
 use Rattle.std.proofs.Common.{nat_cmp}
 use Rattle.std.specs.List.Sorted.{IsStrictlySortedBy}
 use Rattle.zeb_register.proofs.ListChanges.{place_of}
@@ -82,12 +82,8 @@ in_order = of_reordered number_in (λ noted given. (old new : List Posting) → 
 -- ---- the changes of a key
 
 module _ (changes : List KeyChange) (given : List RecordChange) (is : AreGivenInOrder changes given) where
-  pub put_in_order : (db : ℤ) (key : Key) (old new : Content) → HasRisingLists old → AreTurns changes (old db key) (new db key)
-      → ((d : ℤ) (k : Key) → ¬ ((d ≡ db) × (k ≡ key)) → new d k ≡ old d k) → AreChangedAt db key given old new
-  put_in_order db key old new up turns others = record {
-    list = in_order is.noted given is.stable (old db key) (new db key) (up db key) (turns_given changes is.noted (old db key) (new db key) is.same turns);
-    others = others;
-  }
+  pub put_in_order : (old new : List Posting) → IsStrictlySortedBy posting_cmp old → AreTurns changes old new → AreListChanges given old new
+  put_in_order old new up turns = in_order is.noted given is.stable old new up (turns_given changes is.noted old new is.same turns)
 
   pub olds_rise : (old new : List Posting) → AreTurns changes old new → OldsRise given
   olds_rise old new are = all_of number_in (λ (c : RecordChange). IsStrictlySortedBy place_cmp c.old.now) is.noted given is.stable (turns_rise changes is.noted old new is.same are)

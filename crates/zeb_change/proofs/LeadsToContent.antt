@@ -1,5 +1,5 @@
--- The content that the registers hold once the noted changes are written, as a change is noted and as a key's changes are written.
-use Rattle.zeb_change.proofs.Cited.{◌≡◌, ◌≢◌, ◌⊎◌, ◌∙◌, ℕ, ℤ, List, [], ◌∷◌, ◌++◌, ◌+◌, drop, map, Option, inl, inr, refl, sym, ap, subst, subst₂, AllByRecursion, append-nil, append_assoc, Has, Trees, Key, key_total, keys_apart, RecordChange, Place, AreListChanges, ArePlacesOf, Content, IsChangedAt, IsListChanged, HasRisingLists, IsStorable, IsStorablePosting, Posting, place_cmp, posting_cmp, Format, holds_in, posting_total, told_spot, with_list, with_list_here, with_list_there, registers_rise, same_list, told_by, KeyNotes, PlaceCounts, Pending, KeyChange, AreTurns, IsNothingNoted, LeadsList, LeadsTo, WillHold, notes_at, IsCutOff, counts_in, AreGivenAs, ArePutAt, IsNotedAlso, IsTakenOut}
+-- The content that the registers hold once the noted changes are written, as a change is noted and where nothing is.
+use Rattle.zeb_change.proofs.Cited.{◌≡◌, ◌≢◌, ◌⊎◌, ◌∙◌, ℕ, ℤ, List, [], ◌∷◌, ◌++◌, ◌+◌, drop, map, Option, None, inl, inr, refl, sym, ap, subst, subst₂, AllByRecursion, append-nil, append_assoc, Trees, Key, key_total, keys_apart, RecordChange, Place, AreListChanges, ArePlacesOf, Content, IsChangedAt, IsListChanged, HasRisingLists, IsStorable, Posting, place_cmp, posting_cmp, Format, holds_in, posting_total, registers_rise, same_list, told_by, KeyNotes, PlaceCounts, Pending, KeyChange, AreTurns, IsNothingNoted, LeadsList, LeadsTo, WillHold, notes_at, IsCutOff, counts_in, AreGivenAs, IsNotedAlso}
 use Rattle.std.specs.List.Sorted.{IsStrictlySortedBy}
 use Rattle.zeb_change.specs.PrivateNoteWords.{places_in}
 use Rattle.zeb_change.proofs.NotedChanges.{nothing_at}
@@ -119,64 +119,6 @@ leads_more db key change old new behind before after leads up noted rising stood
     each k (inr other) = subst₂ (λ (notes : Option KeyNotes) (l : List Posting). LeadsList notes (behind db k) l) (sym (noted.others k other))
         (sym (list_kept db key change.sysno change.new before after up changed db k (λ h. other h.1))) (leads.each k)
 
--- ---- a key's changes are written
-
-module _ (db : ℤ) (key : Key) (behind ahead : Content) where
-  -- the content behind with this one list of the content ahead
-  abbrev pub put : Content
-  put = with_list db key (ahead db key) behind
-
-  put_here : put db key ≡ ahead db key
-  put_here = with_list_here db key (ahead db key) behind
-
-  put_there : (d : ℤ) (k : Key) → ¬ ((d ≡ db) × (k ≡ key)) → put d k ≡ behind d k
-  put_there = with_list_there db key (ahead db key) behind
-
-  put_storable : IsStorable behind → IsStorable ahead → IsStorable put
-  put_storable one two d k p there = by (told_spot d db k key)
-    where
-      by : ((d ≡ db) × (k ≡ key)) ⊎ ¬ ((d ≡ db) × (k ≡ key)) → IsStorablePosting k p
-      by (inl here) =
-          two d k p (subst₂ (λ (x : ℤ) (z : Key). Has (put x z) p → Has (ahead x z) p) (sym here.0) (sym here.1) (subst (λ (l : List Posting). Has l p) put_here) there)
-      by (inr other) = one d k p (subst (λ (l : List Posting). Has l p) (put_there d k other) there)
-
-  module _ (old new : Pending) (notes : KeyNotes) (leads : LeadsTo db old behind ahead) (out : IsTakenOut key notes old new) where
-    put_is : ArePutAt db key notes behind put
-    put_is = record {
-      list = subst₂ (λ (o : Option KeyNotes) (l : List Posting). LeadsList o (behind db key) l) out.here (sym put_here) (leads.each key);
-      others = put_there;
-    }
-
-    put_leads : LeadsTo db new put ahead
-    put_leads = record {
-      each = λ k. each k (told_by key_total keys_apart k key);
-      others = λ d k other. leads.others d k other ∙ sym (put_there d k (λ h. other h.0));
-    }
-      where
-        at_key : LeadsList (notes_at new key) (put db key) (ahead db key)
-        at_key = subst (λ (o : Option KeyNotes). LeadsList o (put db key) (ahead db key)) (sym out.gone) ([], refl, sym put_here)
-
-        each : (k : Key) → (k ≡ key) ⊎ (k ≢ key) → LeadsList (notes_at new k) (put db k) (ahead db k)
-        each k (inl same) = subst (λ (z : Key). LeadsList (notes_at new z) (put db z) (ahead db z)) (sym same) at_key
-        each k (inr other) = subst₂ (λ (o : Option KeyNotes) (l : List Posting). LeadsList o l (ahead db k)) (sym (out.others k other))
-            (sym (put_there db k (λ h. other h.1))) (leads.each k)
-
--- a key's changes are written where the registers will hold a content, which they will hold then too
-pub held_then : (format : Format) (now next : Trees) (db : ℤ) (key : Key) (notes : KeyNotes) (old new : Pending) (ahead : Content) → IsStorable ahead → IsTakenOut key notes old new
-    → ((before after : Content) → holds_in format now before → ArePutAt db key notes before after → holds_in format next after)
-    → WillHold format now db old ahead → WillHold format next db new ahead
-held_then format now next db key notes old new ahead storable out written holds = record {
-  behind = put db key holds.behind ahead;
-  held = written holds.behind (put db key holds.behind ahead) holds.held (put_is db key holds.behind ahead old new notes holds.leads out);
-  storable = put_storable db key holds.behind ahead holds.storable storable;
-  leads = put_leads db key holds.behind ahead old new notes holds.leads out;
-}
-
--- the content that a key's changes make
-pub put_one : (format : Format) (now : Trees) (db : ℤ) (key : Key) (notes : KeyNotes) (old new : Pending) (ahead : Content) → IsTakenOut key notes old new
-    → (holds : WillHold format now db old ahead) → (after : Content) × ArePutAt db key notes holds.behind after
-put_one format now db key notes old new ahead out holds = (put db key holds.behind ahead, put_is db key holds.behind ahead old new notes holds.leads out)
-
 -- ---- a content ahead
 
 turns_lead_up : (changes : List KeyChange) (old new : List Posting) → IsStrictlySortedBy posting_cmp old → AreTurns changes old new → IsStrictlySortedBy posting_cmp new
@@ -207,13 +149,17 @@ pub will_begin : (format : Format) (trees : Trees) (db : ℤ) (pending : Pending
     → WillHold format trees db pending content
 will_begin format trees db pending content none held storable = record { behind = content; held = held; storable = storable; leads = nothing_leads db pending content none }
 
+-- where nothing is noted of a key its list stays
+pub unled : (notes : Option KeyNotes) (old new : List Posting) → notes ≡ None → LeadsList notes old new → new ≡ old
+unled notes old new none leads =
+    let led = subst (λ (o : Option KeyNotes). LeadsList o old new) none leads in
+    subst (λ (cs : List KeyChange). AreTurns cs old new) led.1 led.2
+
 led_by_nothing : (db : ℤ) (pending : Pending) (behind ahead : Content) → IsNothingNoted pending → LeadsTo db pending behind ahead → ahead ≡ behind
 led_by_nothing db pending behind ahead none leads = λ i d key. at d key (told_id d db) i
   where
     here : (key : Key) → ahead db key ≡ behind db key
-    here key =
-        let led = subst (λ (o : Option KeyNotes). LeadsList o (behind db key) (ahead db key)) (nothing_at pending none key) (leads.each key) in
-        subst (λ (cs : List KeyChange). AreTurns cs (behind db key) (ahead db key)) led.1 led.2
+    here key = unled (notes_at pending key) (behind db key) (ahead db key) (nothing_at pending none key) (leads.each key)
 
     at : (d : ℤ) (key : Key) → (d ≡ db) ⊎ (d ≢ db) → ahead d key ≡ behind d key
     at d key (inl same) = subst (λ (x : ℤ). ahead x key ≡ behind x key) (sym same) (here key)

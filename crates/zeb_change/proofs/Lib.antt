@@ -1,4 +1,5 @@
 pub mod TransactionLemmas
+pub mod ZippedLists
 pub mod ResultLemmas
 pub mod KeptLemmas
 pub mod KeptChanges
@@ -8,9 +9,13 @@ pub mod PostedLemmas
 pub mod Reposted
 pub mod NoteWords
 pub mod NotedChanges
+pub mod NotedEntries
+pub mod TakenKeys
 pub mod LeadsToContent
 pub mod StableReorderings
 pub mod Commuting
+pub mod RunsInTurn
+pub mod WrittenNotes
 pub mod UnderWay
 pub mod TakenLemmas
 pub mod TurnLemmas

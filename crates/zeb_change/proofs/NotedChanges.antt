@@ -1,8 +1,12 @@
 -- The changes that are noted of each key, and how many there are, as a change is noted and as a key's changes are taken out.
-use Rattle.zeb_change.proofs.Cited.{◌≡◌, ◌≢◌, ◌∙◌, ◌+◌, Bool, true, false, List, [], ◌∷◌, ◌++◌, length, Option, Some, None, refl, sym, ap, subst, arith, Less, is_eq, lookup, set_value, BTreeMap, get, insert_entry, is_at, Updates, WritesThrough, Key, key_order, keys_apart, KeyNotes, Pending, KeyChange, AreNoted, IsNotedIn, IsNothingNoted, changes_among, notes_at, noted_count, IsNotNoted, IsNotedAlso, IsTakenOut}
+use Rattle.zeb_change.proofs.Cited.{All, all_from, contains_had, ◌≡◌, ◌≢◌, ◌∙◌, ◌+◌, Bool, true, false, List, [], ◌∷◌, ◌++◌, Option, Some, None, refl, sym, ap, subst, arith, Less, is_eq, lookup, set_value, BTreeMap, get, insert_entry, is_at, Updates, WritesThrough, Key, key_order, keys_apart, KeyNotes, Pending, KeyChange, AreNoted, IsNotedIn, IsNothingNoted, changes_among, notes_at, noted_count, IsNotNoted, IsNotedAlso, IsTakenOut}
 use Rattle.std.specs.declared.cmp.Ordering.{Ordering}
 use Rattle.std.specs.declared.cmp.Ordering.TheVariants.{Equal, Greater}
 use Rattle.zeb_change.specs.NoteWords.{change_words}
+use Rattle.std.specs.BTreeMap.{IsOrdered, keys}
+use Rattle.std.specs.BTreeMap.Range.{IsLtBy}
+use Rattle.std.specs.List.Sorted.{IsStrictlySortedBy}
+use Rattle.zeb_change.specs.PrivatePending.{DoKeysRise}
 use Rattle.zeb_change.proofs.NoteWords.{noted_more, one_noted}
 
 -- what stands at a key is the key's
@@ -48,7 +52,7 @@ insert_more (e ∷ es) key v none one = by (key_order key e.0) refl (λ later. i
 
 -- ---- at which key
 
-apart_at : (key k : Key) → k ≢ key → is_at (key_order key) k ≡ false
+pub apart_at : (key k : Key) → k ≢ key → is_at (key_order key) k ≡ false
 apart_at key k differs = by (key_order key k) refl
   where
     by : (o : Ordering) → key_order key k ≡ o → is_eq o ≡ false
@@ -89,16 +93,12 @@ noted_first key change v old new none one words entries updates = record {
     alone : (changes : List KeyChange) → changes ≡ [] → IsNotedIn v (changes ++ change ∷ [])
     alone changes empty = subst (λ (cs : List KeyChange). IsNotedIn v (cs ++ change ∷ [])) (sym empty) (record { count = one; words = words ∙ sym (one_noted change) })
 
--- the first key's changes are taken out
-first_out : (key : Key) (v : KeyNotes) (old new : Pending) → old.notes.entries ≡ (key, v) ∷ new.notes.entries → get key_order old.notes key ≡ Some v
-    → Updates key_order old.notes new.notes key None → IsTakenOut key v old new
-first_out key v old new entries found updates = record {
-  here = found;
-  gone = updates.1;
+-- the least key's changes are taken out
+first_out : (key : Key) (v : KeyNotes) (old new : Pending) → old.notes.entries ≡ (key, v) ∷ new.notes.entries → All (IsLtBy key_order key) (keys new.notes) → IsOrdered key_order new.notes → IsTakenOut key v old new
+unfolding IsStrictlySortedBy
+first_out key v old new entries above ordered = record {
   first = entries;
-  others = λ k differs. updates.2 k (apart_at key k differs);
-  count = ap changes_among entries;
-  fewer = ap length entries ∙ omega arith;
+  rising = subst DoKeysRise (sym entries) (all_from (IsLtBy key_order key) (keys new.notes) (λ k there. let at = contains_had (keys new.notes) k there in subst (IsLtBy key_order key) at.2 (above at.0 k at.1)), ordered);
 }
 
 -- ---- by the order of keys that the program goes by
@@ -122,11 +122,9 @@ module _ (cmp : Key → Key → Ordering) (law : (a b : Key) → cmp a b ≡ key
   pub absent : (key : Key) (old : Pending) → get cmp old.notes key ≡ None → IsNotNoted key old
   absent key old none = subst (λ R. get R old.notes key ≡ None) same_order none
 
-  pub out : (key : Key) (v : KeyNotes) (old new : Pending) → old.notes.entries ≡ (key, v) ∷ new.notes.entries → get cmp old.notes key ≡ Some v
-      → Updates cmp old.notes new.notes key None → IsTakenOut key v old new
-  out key v old new entries found updates =
-      first_out key v old new entries (subst (λ R. get R old.notes key ≡ Some v) same_order found)
-      (subst (λ R. Updates R old.notes new.notes key None) same_order updates)
+  pub out : (key : Key) (v : KeyNotes) (old new : Pending) → old.notes.entries ≡ (key, v) ∷ new.notes.entries → All (IsLtBy cmp key) (keys new.notes) → IsOrdered cmp new.notes → IsTakenOut key v old new
+  out key v old new entries above ordered =
+      first_out key v old new entries (subst (λ R. All (IsLtBy R key) (keys new.notes)) same_order above) (subst (λ R. IsOrdered R new.notes) same_order ordered)
 
 -- where nothing is noted, no change is
 pub nothing_at : (pending : Pending) → IsNothingNoted pending → (key : Key) → notes_at pending key ≡ None
@@ -134,3 +132,7 @@ nothing_at pending none key = ap (λ (es : List (Key × KeyNotes)). lookup (is_a
 
 pub nothing_count : (pending : Pending) → IsNothingNoted pending → noted_count pending ≡ 0
 nothing_count pending none = ap changes_among none
+
+pub count_both : (front back : List (Key × KeyNotes)) → changes_among (front ++ back) ≡ changes_among front + changes_among back
+count_both [] back = omega arith
+count_both (entry ∷ front) back = omega (arith, count_both front back)

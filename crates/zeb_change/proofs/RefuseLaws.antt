@@ -1,7 +1,7 @@
 -- Why a change is refused, and what it finds of its first record, of any tables of a store.
-use Rattle.zeb_change.proofs.Cited.{◌≡◌, ◌⊎◌, ◌∙◌, ◌+◌, ◌<◌, ◌≤◌, ◌++◌, ℕ, ℤ, List, [], ◌∷◌, length, Option, Some, None, Result, Ok, Err, IfErr, inl, inr, refl, sym, ap, subst, arith, AllByRecursion, flat_map, State, MarcFault, Split, Format, IsStore, Refusal, Setting, Fate, AreWholeBefore, FindsWhole, FirstFindsWhole, first_in, first_record, marc_refusal, IsDamageOrFailure, IsRecordRefused, AreNamed, HasReasonAt, IsRefusedAt, At, FoldsRecord, TakesFiles, TakesRecord, TakesRest, point_in}
+use Rattle.zeb_change.proofs.Cited.{◌≡◌, ◌⊎◌, ◌∙◌, ◌+◌, ◌<◌, ◌++◌, ℕ, ℤ, List, [], ◌∷◌, length, Option, Some, None, Result, Ok, Err, inl, inr, refl, sym, ap, subst, arith, AllByRecursion, flat_map, State, MarcFault, Split, Format, IsStore, Refusal, Setting, AreWholeBefore, FindsWhole, FirstFindsWhole, first_in, first_record, marc_refusal, IsDamageOrFailure, IsRecordRefused, AreNamed, HasReasonAt, IsRefusedAt, At, FoldsRecord, TakesFiles, TakesRecord, TakesRest, point_in}
 use Rattle.std.proofs.Common.{append_assoc}
-use Rattle.zeb_change.proofs.AcceptLaws.{IsAccepted, accepts_one, accepts_record, accepts_rest, showing}
+use Rattle.zeb_change.proofs.AcceptLaws.{IsAccepted, accepts_record, accepts_rest, showing}
 use Rattle.zeb_change.proofs.Elders.{is_so}
 use Rattle.zeb_change.proofs.Reasons.{many_refuses, named_behind, reason_behind, reason_more, whole_behind}
 use Rattle.zeb_change.proofs.RecordLaws as law

@@ -26,6 +26,7 @@ pub mod PrivateChangedKeys
 pub mod PrivateTallies
 pub mod PrivateNoteWords
 pub mod PrivatePending
+pub mod PrivateWriting
 pub mod PrivateStanding
 pub mod PrivateRecords
 pub mod PrivateReasons

@@ -1,15 +1,19 @@
 -- What only the contracts of private functions speak of; no public clause reaches it.
--- A change is noted; a key's changes are taken out, and written.
-use Rattle.std.specs.Prelude.{◌≡◌, ◌≢◌, ◌+◌, ℕ, ℤ, List, [], ◌∷◌, ◌++◌, length, None, Some}
-use Rattle.std.specs.List.Sorted.{IsStableByKey}
+-- A change is noted; keys are taken out with their changes, and given to a layout.
+use Rattle.std.specs.Prelude.{◌≡◌, ◌≢◌, ◌+◌, ℕ, List, [], ◌∷◌, ◌++◌, length, map, None}
+use Rattle.std.specs.List.{AllZip}
+use Rattle.std.specs.List.Sorted.{IsStableByKey, IsStrictlySortedBy}
 use Rattle.std.specs.Ordering.{nat_cmp}
+use Rattle.zeb_keys.specs.Order.{key_order}
 use Rattle.zeb_keys.specs.declared.keys.Key.{Key}
 use Rattle.zeb_register.specs.declared.registers.RecordChange.{RecordChange}
-use Rattle.zeb_register.specs.Content.{Content}
+use Rattle.zeb_register.specs.UnitChanges.{NumbersRise}
 use Rattle.zeb_change.specs.declared.key_notes.KeyNotes.{KeyNotes}
 use Rattle.zeb_change.specs.declared.pending.Pending.{Pending}
+use Rattle.zeb_change.specs.declared.pending.TakenKey.{TakenKey}
 use Rattle.zeb_change.specs.NoteWords.{KeyChange}
-use Rattle.zeb_change.specs.Noted.{AreNoted, LeadsList, notes_at, noted_count}
+use Rattle.zeb_change.specs.Noted.{AreNoted, IsNotedIn, notes_at, noted_count}
+use Rattle.zeb_change.specs.PrivateNoteWords.{counts_in, places_in}
 
 -- a change as a layout takes it
 abbrev pub change_in : RecordChange → KeyChange
@@ -25,14 +29,27 @@ pub record IsNotedAlso (key : Key) (change : KeyChange) (old new : Pending) : Ty
   pub others : (k : Key) → k ≢ key → notes_at new k ≡ notes_at old k
   pub count : noted_count new ≡ noted_count old + 1
 
--- a key's changes are noted no longer
+-- each key is below the next one
+abbrev pub DoKeysRise : List (Key × KeyNotes) → Type 0
+DoKeysRise entries = IsStrictlySortedBy key_order (map (λ (entry : Key × KeyNotes). entry.0) entries)
+
+-- the least key's changes are noted no longer
 pub record IsTakenOut (key : Key) (notes : KeyNotes) (old new : Pending) : Type 0 where
-  pub here : notes_at old key ≡ Some notes
-  pub gone : notes_at new key ≡ None
   pub first : old.notes.entries ≡ (key, notes) ∷ new.notes.entries
-  pub others : (k : Key) → k ≢ key → notes_at new k ≡ notes_at old k
-  pub count : noted_count old ≡ notes.count + noted_count new
-  pub fewer : length old.notes.entries ≡ length new.notes.entries + 1
+  pub rising : DoKeysRise old.notes.entries
+
+-- the key that was noted, and its changes
+pub record IsTakenFrom (entry : Key × KeyNotes) (taken : TakenKey) : Type 0 where
+  pub key : taken.key ≡ entry.0
+  pub many : length taken.counts.items ≡ entry.1.count
+  pub told : (changes : List KeyChange) → IsNotedIn entry.1 changes → (taken.counts.items ≡ map counts_in changes) × (taken.places.items ≡ places_in changes)
+
+-- the changes of these keys, the least ones, are noted no longer
+pub record AreTakenOut (taken : List TakenKey) (old new : Pending) : Type 0 where
+  pub entries : List (Key × KeyNotes)
+  pub first : old.notes.entries ≡ entries ++ new.notes.entries
+  pub each : AllZip IsTakenFrom entries taken
+  pub rising : taken ≢ [] → DoKeysRise old.notes.entries
 
 -- the changes as a layout takes them, one for one
 abbrev pub AreGivenAs : List KeyChange → List RecordChange → Type 0
@@ -51,7 +68,9 @@ pub record AreGivenInOrder (changes : List KeyChange) (given : List RecordChange
   pub same : AreGivenAs changes noted
   pub stable : IsStableByKey number_in nat_cmp noted given
 
--- one list is changed so, and no other
-pub record ArePutAt (db : ℤ) (key : Key) (notes : KeyNotes) (old new : Content) : Type 0 where
-  pub list : LeadsList (Some notes) (old db key) (new db key)
-  pub others : (d : ℤ) (k : Key) → ¬ ((d ≡ db) × (k ≡ key)) → new d k ≡ old d k
+-- a taken key, and its changes as a layout takes them
+pub record IsGivenFrom (taken : TakenKey) (key : Key) (given : List RecordChange) : Type 0 where
+  pub same : key ≡ taken.key
+  pub many : length given ≡ length taken.counts.items
+  pub rising : NumbersRise given
+  pub told : (changes : List KeyChange) → taken.counts.items ≡ map counts_in changes → taken.places.items ≡ places_in changes → AreGivenInOrder changes given

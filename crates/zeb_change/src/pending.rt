@@ -1,18 +1,31 @@
 //! The changes of keys that were noted and are not written yet.
 
-ghost use Rattle.std.specs.Prelude.{◌≤◌, ◌↔◌, IsTrue, OnOk, IfNone, IfSome};
+ghost use Rattle.std.specs.Prelude.{◌≡◌, ◌≤◌, ◌↔◌, [], IsTrue, IfOk, OnOk, IfNone, IfSome};
 ghost use Rattle.zeb_change.specs.Noted.{IsNothingNoted};
-ghost use Rattle.zeb_change.specs.PrivatePending.{IsNotNoted, IsNotedAlso, IsTakenOut, change_in};
+ghost use Rattle.zeb_change.specs.PrivatePending.{AreTakenOut, IsNotNoted, IsNotedAlso, IsTakenOut, change_in};
 
-use crate::key_notes::KeyNotes;
+use crate::key_notes::{KeyNotes, PlaceCounts};
 use std::alloc::{AllocError, Global};
 use std::collections::BTreeMap;
 use zeb_keys::{Key, order_is_by_parts};
-use zeb_register::RecordChange;
+use zeb_register::{Place, RecordChange};
+
+/// With how many changes a run of keys is long enough. Out of its words a change takes some 80 bytes, eight times what it takes in them, and
+/// its key 160 more: those of a whole command could take 640 MB, and these take 1 MB. A layout reads and writes at most one row more a run.
+const RUN_CHANGES: usize = 4096;
 
 /// How many bytes a key takes beside its term and the words of its changes: 64 in the map, whose nodes are two thirds full or more, and
 /// what the allocator keeps beside two blocks of memory.
 const KEY_WEIGHT: usize = 144;
+
+/// A key that is noted no longer, with its changes: of each its record and how many places it has, and the places of all, one behind the
+/// other.
+#[derive(Drop)]
+pub(crate) struct TakenKey {
+    pub key: Key,
+    pub counts: Vec<PlaceCounts>,
+    pub places: Vec<Place>,
+}
 
 /// The changes of a database's registers that were noted and are not written yet: for each key those of its records, in the order in
 /// which they were noted.
@@ -80,7 +93,7 @@ impl Pending {
     }
 
     /// Takes out the least key with its changes; none where nothing is noted.
-    pub(crate) fn take_first(&mut self) -> Option<(Key, KeyNotes)>
+    fn take_first(&mut self) -> Option<(Key, KeyNotes)>
         ensures taken { IfSome result (λ first. IsTakenOut first.0 first.1 self.old self.new) }
         ensures none { IfNone result (IsNothingNoted self.old × IsNothingNoted self.new) }
     {
@@ -92,5 +105,28 @@ impl Pending {
                 None
             }
         }
+    }
+    /// Takes out the least keys with their changes, up to the one with which these are enough for a run; all where they are fewer. None
+    /// where nothing is noted.
+    pub(crate) fn take_run(&mut self) -> Result<Vec<TakenKey>, AllocError>
+        ensures taken { IfOk result (λ run. AreTakenOut run.items self.old self.new) }
+        ensures none { IfOk result (λ run. run.items ≡ []
+            → IsNothingNoted self.old × IsNothingNoted self.new) }
+    {
+        let mut run = Vec::new(self.alloc);
+        let mut changes = 0;
+        while let Some((key, notes)) = self.take_first() {
+            let (counts, places) = notes.read(self.alloc)?;
+            changes += counts.len();
+            run.push(TakenKey {
+                key,
+                counts,
+                places,
+            })?;
+            if changes >= RUN_CHANGES {
+                return Ok(run);
+            }
+        }
+        Ok(run)
     }
 }

@@ -1,29 +1,31 @@
-//! Noted changes of keys, written into the registers key by key.
+//! Noted changes of keys, written into the registers in runs of keys.
 
-ghost use Rattle.std.specs.Prelude.{◌≡◌, List, [], ◌∷◌, Err, IsTrue, OnOk, IfOk, length, map};
+ghost use Rattle.std.specs.Prelude.{◌≡◌, List, [], ◌∷◌, IfOk, OnOk, length, map};
+ghost use Rattle.std.specs.List.{AllZip};
+ghost use Rattle.std.specs.List.Sorted.{IsStrictlySortedBy};
 ghost use Rattle.sqlite.specs.declared.types.Value.TheVariants.{Int};
 ghost use Rattle.sqlite.specs.Held.{state};
-ghost use Rattle.sqlite.specs.State.{HasCleanDisk};
+ghost use Rattle.zeb_keys.specs.Order.{key_order};
 ghost use Rattle.zeb_register.specs.Calls.{GoesOn, Inside};
 ghost use Rattle.zeb_register.specs.Clauses.{InStore};
-ghost use Rattle.zeb_register.specs.Content.{Content, IsStorable};
-ghost use Rattle.zeb_register.specs.Formats.{holds_in};
 ghost use Rattle.zeb_register.specs.Sound.{KeepsMalformed, KeepsRowsBeside};
-ghost use Rattle.zeb_register.specs.Store.{IsStore, KeepsLists};
 ghost use Rattle.zeb_register.specs.UnitChanges.{NumbersRise};
+ghost use Rattle.zeb_change.specs.declared.key_notes.KeyNotes.{KeyNotes};
 ghost use Rattle.zeb_change.specs.Costs.{IsWorkFor};
 ghost use Rattle.zeb_change.specs.NoteWords.{KeyChange};
-ghost use Rattle.zeb_change.specs.Noted.{IsNothingNoted, Settles};
+ghost use Rattle.zeb_change.specs.Noted.{IsDueFor, IsNothingNoted, Settles, changes_among};
+ghost use Rattle.zeb_change.specs.PrivateInside.{WorksInside};
 ghost use Rattle.zeb_change.specs.PrivateNoteWords.{IsCutOff, counts_in, places_in};
-ghost use Rattle.zeb_change.specs.PrivatePending.{AreGivenInOrder, ArePutAt};
+ghost use Rattle.zeb_change.specs.PrivatePending.{AreGivenInOrder, IsGivenFrom, IsTakenFrom};
+ghost use Rattle.zeb_change.specs.PrivateWriting.{WritesInStore};
 
-use crate::key_notes::{KeyNotes, PlaceCounts};
-use crate::pending::Pending;
+use crate::key_notes::PlaceCounts;
+use crate::pending::{Pending, TakenKey};
 use sqlite::{Alter, Transaction};
 use std::alloc::{AllocError, Global};
 use zeb_keys::Key;
 use zeb_register::for_layouts::counts_are_numbers;
-use zeb_register::{DatabaseId, Layout, Place, RecordChange, RegFault, Work};
+use zeb_register::{DatabaseId, KeyChanges, Layout, Place, RecordChange, RegFault, Work};
 
 /// So many places at the front, and those behind them; all where there are fewer.
 fn cut_off<'a>(places: &'a [Place], count: u64) -> (&'a [Place], &'a [Place])
@@ -61,52 +63,101 @@ fn given<'a>(
     Ok(given)
 }
 
-/// Writes the changes of one key.
-fn write_key<S: Alter, L: Layout>(
+/// A key, and its changes as a layout takes them.
+#[derive(Drop)]
+struct GivenKey<'a> {
+    key: &'a Key,
+    changes: Vec<RecordChange<'a>>,
+}
+
+/// The changes of each of these keys, as a layout takes them.
+fn given_each<'a>(alloc: Global, taken: &'a [TakenKey]) -> Result<Vec<GivenKey<'a>>, AllocError>
+    ensures { IfOk result (λ given. AllZip (λ (one : TakenKey) (given_one : _).
+        IsGivenFrom one given_one.key.now given_one.changes.items) taken.now given.items) }
+{
+    let mut all = Vec::with_capacity(alloc, taken.len())?;
+    for one in taken {
+        let changes = given(alloc, &one.counts, &one.places)?;
+        all.push(GivenKey {
+            key: &one.key,
+            changes,
+        })?;
+    }
+    Ok(all)
+}
+
+/// These keys with their changes, as a run.
+fn run_of<'k: 'a, 'a>(
+    alloc: Global,
+    given: &'a [GivenKey<'k>],
+) -> Result<Vec<KeyChanges<'a>>, AllocError>
+    ensures { IfOk result (λ run. AllZip (λ (given_one : _) (one : _).
+        (one.key.now ≡ given_one.key.now) × (one.changes.now ≡ given_one.changes.items))
+        given.now run.items) }
+{
+    let mut run = Vec::with_capacity(alloc, given.len())?;
+    for one in given {
+        run.push(KeyChanges {
+            key: one.key,
+            changes: &one.changes,
+        })?;
+    }
+    Ok(run)
+}
+
+/// Writes the changes of these keys, as one run.
+fn write_run<S: Alter, L: Layout>(
     tx: &mut Transaction<'_, S>,
     alloc: Global,
     work: &mut Work,
     db: DatabaseId,
-    key: &Key,
-    notes: &KeyNotes,
+    taken: &[TakenKey],
 ) -> Result<(), RegFault>
+    requires rising { IsStrictlySortedBy key_order (map (λ (one : TakenKey). one.key) taken.now) }
     ensures same { tx.new.conn.ghost_name ≡ tx.old.conn.ghost_name }
     ensures call { Inside (state S.Store tx.old.conn.now) (state S.Store tx.new.conn.now) result
         (λ _. GoesOn) }
-    ensures written { HasCleanDisk (state S.Store tx.new.conn.now)
-        → IsTrue (state S.Store tx.old.conn.now).in_transaction
-        → IsStore (state S.Store tx.old.conn.now)
-        → OnOk result (IsStore (state S.Store tx.new.conn.now)
-        × KeepsLists (state S.Store tx.old.conn.now).now.trees
-        (state S.Store tx.new.conn.now).now.trees
-        × ((before after : Content) → holds_in L.format (state S.Store tx.old.conn.now).now.trees
-        before
-        → ArePutAt db.0 key.now notes.now before after
-        → holds_in L.format (state S.Store tx.new.conn.now).now.trees after)) }
-    ensures honest { HasCleanDisk (state S.Store tx.new.conn.now)
-        → IsTrue (state S.Store tx.old.conn.now).in_transaction
-        → IsStore (state S.Store tx.old.conn.now)
-        → result ≡ Err RegFault.Damaged
-        → (before after : Content) → IsStorable before
-        → holds_in L.format (state S.Store tx.old.conn.now).now.trees before
-        → ¬ ArePutAt db.0 key.now notes.now before after }
-    ensures work { OnOk result (IsWorkFor L.row_work notes.now.count work.old work.new) }
+    ensures rows { (entries : List (Key × KeyNotes)) → AllZip IsTakenFrom entries taken.now
+        → WritesInStore L.format db.0 entries (state S.Store tx.old.conn.now)
+        (state S.Store tx.new.conn.now) result }
+    ensures work { (entries : List (Key × KeyNotes)) → AllZip IsTakenFrom entries taken.now
+        → OnOk result (IsWorkFor L.row_work (changes_among entries) work.old work.new) }
     ensures no_work { L.row_work ≡ 0 → work.new ≡ work.old }
-    ensures malformed { InStore (state S.Store tx.old.conn.now) (state S.Store tx.new.conn.now)
-        (λ trees. OnOk result
-        (KeepsMalformed trees (state S.Store tx.new.conn.now).now.trees)) }
-    ensures beside { InStore (state S.Store tx.old.conn.now) (state S.Store tx.new.conn.now)
-        (λ trees. OnOk result
-        (KeepsRowsBeside (Int db.0 ∷ []) trees (state S.Store tx.new.conn.now).now.trees)) }
 {
-    let (counts, places) = notes.read(alloc)?;
-    let given = given(alloc, &counts, &places)?;
-    L::key_changes(tx, work, db, key, &given)?;
-    Ok(())
+    let given = given_each(alloc, taken)?;
+    let run = run_of(alloc, &given)?;
+    L::run_changes(tx, work, db, &run)
 }
 
-/// Writes all noted changes into the registers of a database, key by key in the order of keys, and those of a key by the numbers of their
-/// records. Nothing is noted then, and the registers hold what they would have held had each change been written as it was noted.
+/// Writes all that is noted, run by run.
+fn write_runs<S: Alter, L: Layout>(
+    tx: &mut Transaction<'_, S>,
+    alloc: Global,
+    work: &mut Work,
+    db: DatabaseId,
+    pending: &mut Pending,
+) -> Result<(), RegFault>
+    ensures same { tx.new.conn.ghost_name ≡ tx.old.conn.ghost_name }
+    ensures inside { WorksInside (state S.Store tx.old.conn.now)
+        (state S.Store tx.new.conn.now) result }
+    ensures rows { WritesInStore L.format db.0 pending.old.notes.entries
+        (state S.Store tx.old.conn.now) (state S.Store tx.new.conn.now) result }
+    ensures all { OnOk result (IsNothingNoted pending.new
+        × IsDueFor L.row_work 0 work.old work.new pending.old pending.new) }
+    ensures no_work { L.row_work ≡ 0 → work.new ≡ work.old }
+{
+    loop {
+        let taken = pending.take_run()?;
+        if taken.is_empty() {
+            return Ok(());
+        }
+        write_run::<S, L>(tx, alloc, work, db, &taken)?;
+        counts_are_numbers(work);
+    }
+}
+
+/// Writes all noted changes into the registers of a database, in runs of keys in the order of keys, and those of a key by the numbers of
+/// their records. Nothing is noted then, and the registers hold what they would have held had each change been written as it was noted.
 ///
 /// `Damaged` where other places stand in the registers than the changes say. The transaction is to be given up then, and where the store or
 /// the memory fails.
@@ -131,11 +182,7 @@ pub fn write_pending<S: Alter, L: Layout>(
     // Over a layout whose rows count nothing the counts stay, also where it is refused.
     ensures no_work { L.row_work ≡ 0 → work.new ≡ work.old }
 {
-    while let Some((key, notes)) = pending.take_first() {
-        write_key::<S, L>(tx, alloc, work, db, &key, &notes)?;
-        counts_are_numbers(work);
-    }
-    Ok(())
+    write_runs::<S, L>(tx, alloc, work, db, pending)
 }
 
 /// Writes all noted changes, as `write_pending` does, where they take as much memory as they may, and else does nothing.

@@ -70,10 +70,6 @@ module _ (profile : List Directive) where
 
     -- ---- each record
 
-    -- a refusal
-    pub refused_elders : (limits : Limits) {T : Type 0} (trees : Trees) (why : Refusal) (result : Result T Refusal) → result ≡ Err why → EldersOver profile limits name texts trees result
-    refused_elders limits trees why result told = rw told tt
-
     -- the row of its database, which was found, is written before the records
     pub put_elders : (limits : Limits) {T : Type 0} (old mid : State) (id : ℤ) (found : Option catalog.Database) (x : T) → IsStore old → Changes databases_tree (PutsDatabase id name (pos (last_of found))) old mid
         → IsDatabaseOf old.now.trees name found → HasNumbersTo (last_of found) old.now.trees id → AllFindWhole profile (last_of found) mid.now.trees id (splits_of texts) → AreFewRecords limits texts

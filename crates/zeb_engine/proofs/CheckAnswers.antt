@@ -1,9 +1,8 @@
 -- What a look at whole tables tells of a check and of an upgrade.
-use Rattle.zeb_engine.proofs.Cited.{◌≡◌, ◌↔◌, ◌∙◌, ℕ, Bool, true, false, List, Ok, Err, IsTrue, refl, sym, ap, subst, inl, inr, Database, Trees, State, canonical_text, RegFault, ChangesNothing, IsStore, Refusal, Base, Conditions, register_refusal, Meets, Holdings, under, IsImage, Keeps, Done, IsSomeImage, TellsImage, IsUnready, IsReadyFor, IsRefusedOver, checked, checked_from, Always, Serves}
+use Rattle.zeb_engine.proofs.Cited.{◌≡◌, ◌↔◌, ◌∙◌, ℕ, Bool, true, false, List, Ok, Err, IsTrue, refl, sym, ap, subst, inl, inr, Database, Trees, State, canonical_text, ChangesNothing, IsStore, Refusal, Base, Conditions, Meets, Holdings, under, IsImage, Keeps, Done, IsSomeImage, TellsImage, IsUnready, IsReadyFor, IsRefusedOver, checked, checked_from, Always, Serves}
 use Rattle.zeb_register.specs.declared.RegFault.TheVariants as register
 use Rattle.zeb_change.specs.declared.refusals.Refusal.TheVariants as refusal
 use Rattle.zeb_engine.specs.Steps.{ready}
-use Rattle.zeb_engine.proofs.ListedDatabases.{fault_fails}
 use Rattle.zeb_engine.proofs.Ready.{ready_good, ready_is}
 use Rattle.zeb_engine.proofs.RenewalTexts.{ready_held}
 use Rattle.zeb_engine.proofs.ServesLemmas.{keeps_still}
@@ -29,10 +28,6 @@ module _ (c : Conditions) (version : List ℕ) (old mid : State) (still : mid.no
 
   pub tells_none : IsReadyFor version c.profile old.now.trees → it ≡ false → TellsImage old.now.trees (Err refusal.Damaged)
   tells_none texts none = inr (inl (λ some. told_none none (image_for c version old.now.trees texts some), refl))
-
--- a fault that is no damage
-pub tells_failure : (trees : Trees) (fault : RegFault) → (fault ≡ register.Damaged → ⊥) → TellsImage trees (Err (register_refusal fault))
-tells_failure trees fault whole = inr (inr (fault_fails fault whole))
 
 -- ---- a register that was found not to be ready, and is
 

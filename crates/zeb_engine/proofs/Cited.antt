@@ -91,7 +91,7 @@ pub use Rattle.zeb_engine.specs.Changing.{AreFewRecords, EachFindsWhole, ElderOv
 pub use Rattle.zeb_engine.specs.Causes.{HasStoreCause}
 pub use Rattle.zeb_engine.specs.Checking.{IsSomeImage, TellsImage, CheckDoes}
 pub use Rattle.zeb_engine.specs.Reindexing.{CanBeRemade, IsRemade, ReindexLeaves, TellsSound, IsReadyToReindex, RefusesReindex, KeepsRule}
-pub use Rattle.zeb_engine.specs.Upgrading.{UpgradeLeaves, RefusesUpgrade, KeepsUpgradable}
+pub use Rattle.zeb_engine.specs.Upgrading.{UpgradeDoes, UpgradeLeaves, RefusesUpgrade, KeepsUpgradable}
 pub use Rattle.zeb_engine.specs.Costs.{no_work, Costs, CostsAlone}
 pub use Rattle.zeb_engine.specs.Counts.{CommandCounts}
 pub use Rattle.zeb_engine.specs.Crashes.{Accepts, Bears, KeepsDisk, IsStoreDisk, Stands, Leaves, CommitsBy, CommitsAdopted, Endures, IsRefused, CommitsReindex, CommitsCommand, MayCommit, CommitsOne, IsCarriedOut, LeavesOne, AreRefused, EnduresRun, RunLeft, AdoptLasts, CommandLasts, RunLasts}
@@ -99,13 +99,14 @@ pub use Rattle.zeb_engine.specs.Does.{AnswersAnyway, CommandOverTables, Does, In
 pub use Rattle.zeb_engine.specs.PrivateAdopting.{HoldsNothing, MayBeTaken}
 pub use Rattle.zeb_engine.specs.PrivateChanging.{MayBeginUnder, MayBegin, BeginsWith, last_of, IsMissedFor, comes_to}
 pub use Rattle.zeb_engine.specs.PrivateCrashes.{IsEmptyDisk, Commits, CommitsTables}
-pub use Rattle.zeb_engine.specs.PrivateDone.{CommandDone, IsSettled}
+pub use Rattle.zeb_engine.specs.PrivateConnections.{IsSettled, LooksReady, ReadsAlone, TellsReady}
+pub use Rattle.zeb_engine.specs.PrivateDone.{CommandDone, ReadersDone}
 pub use Rattle.zeb_engine.specs.PrivateDumping.{KeepsBase}
 pub use Rattle.zeb_engine.specs.PrivateLooking.{MissesDatabase, IsUnready, FindsStanding, IsLook, RefusesText, RefusesVersion, TellsStanding, TellsText}
 pub use Rattle.zeb_engine.specs.PrivateNumbers.{AreGiven, AreWellNumbered, IsMisnumbered}
 pub use Rattle.zeb_engine.specs.PrivateSteps.{found_or, existing}
 pub use Rattle.zeb_engine.specs.PrivateWorks.{Always, Serves, ReachesOutcome, ShowsStore, IsReady, Asks, Finds, ScansFrom}
-pub use Rattle.zeb_engine.specs.PrivateWriting.{AreOf, PutsTexts, Fits, IsReached, written, IsKnown, reply_of_work, DoneOrFails, MakesOrTakes, IsFree, CommitsRemade, HoldsRemade, Remakes, AreUnder, IsRuled, IsUpgradable, Begins, ReadsSound}
+pub use Rattle.zeb_engine.specs.PrivateWriting.{AreOf, PutsTexts, Fits, IsReached, written, IsKnown, reply_of_work, DoneOrFails, IsFree, CommitsRemade, HoldsRemade, AreUnder, IsRuled, IsUpgradable, WorkDone, WriteDone, WriteLeaves, WriteTells}
 pub use Rattle.zeb_engine.specs.Readiness.{IsReadyFor, IsRefusedOver, GoesByTexts, HidesText, KeepsText}
 pub use Rattle.zeb_engine.specs.Replies.{shown_number, record_lines, records_text, holding_line, entry_line, hits_text, hit_line}
 pub use Rattle.zeb_engine.specs.Rules.{same_rule, are_same, is_rule_line, rule_line}

@@ -1,5 +1,5 @@
 -- What a command did to a connection, by whether it asked the store.
-use Rattle.zeb_engine.proofs.Cited.{◌≡◌, ◌⊎◌, Result, Ok, Err, IfErr, OnErr, OnOk, inl, inr, refl, rules, subst, sym, Held, state, State, HasCleanDisk, Survives, Ghosts, ChangesNothing, Command, Init, Check, Reindex, Upgrade, Create, Drop, Stat, Dump, Change, Find, Scan, Analyse, Refusal, StaysOpen, Answer, Conditions, Holdings, Step, AsksStore, Commanded, CommandedBy, EnduresRefusal, LeavesNoMore}
+use Rattle.zeb_engine.proofs.Cited.{◌≡◌, ◌⊎◌, Result, Ok, Err, IfErr, OnErr, OnOk, inl, inr, refl, rules, subst, sym, Held, state, State, HasCleanDisk, Survives, Ghosts, ChangesNothing, nothing_then, Command, Init, Check, Reindex, Upgrade, Create, Drop, Stat, Dump, Change, Find, Scan, Analyse, Refusal, StaysOpen, Answer, Conditions, Holdings, Step, AsksStore, Commanded, CommandedBy, EnduresRefusal, LeavesNoMore}
 
 -- the connection is as it was
 pub record IsAsItWas (old new : State) : Type 0 where
@@ -68,4 +68,18 @@ reads_command old new result opens same survives = record {
   accepted = opens;
   refused = λ clean. on_any result (ChangesNothing old new) (same clean);
   endures = λ clean. if_any result (EnduresRefusal old new) (λ why other db left. elim (survives.crash clean db left) [ inl was ↦ was | inr none ↦ absurd none ]);
+}
+
+-- a command that goes on behind a call which reads
+pub commanded_then : {T : Type 0} (old mid new : State) (result : Result T Refusal) → (HasCleanDisk new → HasCleanDisk mid) → Survives old mid (λ _. ⊥) → (HasCleanDisk mid → StaysOpen old mid) → (HasCleanDisk mid → ChangesNothing old mid)
+    → Commanded mid new result → Commanded old new result
+commanded_then old mid new (Ok x) first quiet opens same did = record {
+  accepted = λ clean. ((opens (first clean)).0, (did.accepted clean).1);
+  refused = λ clean. tt;
+  endures = λ clean. tt;
+}
+commanded_then old mid new (Err why) first quiet opens same did = record {
+  accepted = λ clean. tt;
+  refused = λ clean. nothing_then old mid new (same (first clean)) (did.refused clean);
+  endures = λ clean other db left. elim (quiet.crash (first clean) db (did.endures clean other db left)) [ inl was ↦ was | inr none ↦ absurd none ];
 }

@@ -20,6 +20,7 @@ pub mod CheckAnswers
 pub mod RenewalAnswers
 pub mod ReadyCommands
 pub mod CommandsDone
+pub mod ReadyDone
 pub mod TakenStores
 pub mod ReadyQueries
 pub mod RunLemmas

@@ -1,6 +1,5 @@
 -- What a create makes and a drop takes, from the rows that are written up to the command.
-use Rattle.zeb_engine.proofs.Cited.{◌≡◌, ℕ, ℤ, pos, List, true, false, None, Result, Ok, Err, OnOk, refl, sym, ap, subst₂, Database, Held, state, State, Shows, Ghosts, Trees, ChangesNothing, IsDatabaseOf, PutsDatabase, TakesWhole, KeepsOthers, Loses, Changes, HasDatabase, IsPostingIn, IsRecordIn, IsStore, TakesDatabase, blocks_tree, databases_tree, dict_tree, meta_tree, postings_tree, records_tree, store_schema, store_same, one_name, Refusal, name_bytes, Write, StaysOpen, DropsDatabase, OnAccepted, MakesDatabase, MakesOrTakes, subst}
-use Rattle.zeb_engine.specs.declared.writes.Write.TheVariants as write
+use Rattle.zeb_engine.proofs.Cited.{◌≡◌, ℕ, ℤ, pos, List, None, Result, Ok, Err, OnOk, refl, sym, subst₂, Database, State, Trees, ChangesNothing, IsDatabaseOf, PutsDatabase, TakesWhole, KeepsOthers, Loses, Changes, HasDatabase, IsPostingIn, IsRecordIn, IsStore, TakesDatabase, blocks_tree, databases_tree, dict_tree, meta_tree, postings_tree, records_tree, store_schema, store_same, one_name, Refusal, StaysOpen, DropsDatabase, OnAccepted, MakesDatabase}
 use Rattle.zeb_engine.proofs.ServesLemmas.{on_ok}
 
 -- the row of the database is written, and no other table
@@ -40,21 +39,6 @@ module _ (old mid now new : State) (before : mid.now ≡ old.now) (after : new.n
     none = moved (λ a b. IsDatabaseOf b name None) dropped.none;
     taken = taken_between dropped.id dropped.taken;
   }
-
--- ---- the transaction
-
--- what the work left is what was committed
-pub makes_over : {S : Type 0} (g : Ghosts S) (w : Write) (old inside : Held S) (mid new : State) → inside ≡ record old { in_transaction = true } → Shows mid new mid.now mid.now false
-    → MakesOrTakes w (state g inside) mid → MakesOrTakes w (state g old) new
-makes_over g (write.Init profile pattern) old inside mid new begins commits did = tt
-makes_over g (write.Create name) old inside mid new begins commits did = λ store.
-    let same : (state g inside).now ≡ (state g old).now = ap (λ (held : Held _). (state g held).now) begins in
-    made_between (state g old) (state g inside) mid new same commits.now_is (name_bytes name.now) (did (store_same (state g old) (state g inside) same store))
-makes_over g (write.Drop name id) old inside mid new begins commits did = λ store.
-    let same : (state g inside).now ≡ (state g old).now = ap (λ (held : Held _). (state g held).now) begins in
-    taken_between (state g old) (state g inside) mid new same commits.now_is id.0 (did (store_same (state g old) (state g inside) same store))
-makes_over g (write.Reindex alloc profile) old inside mid new begins commits did = tt
-makes_over g (write.Upgrade alloc profile) old inside mid new begins commits did = tt
 
 -- ---- after a look at the tables
 

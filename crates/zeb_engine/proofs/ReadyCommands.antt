@@ -1,9 +1,7 @@
 -- What a session's commands come to after a look at whether the register is ready.
-use Rattle.zeb_engine.proofs.Cited.{◌≡◌, ◌⊎◌, ℕ, List, Result, Ok, Err, IsTrue, Vec, map, inl, inr, refl, sym, ap, subst, subst₂, Global, State, ChangesNothing, Analyse, Reply, Refusal, Answer, answer_of, IsFailure, Why, why_of, Meets, Conditions, Holdings, Base, Keeps, Turn, Outcome, Ends, OnlyAnswers, checked, checked_from, ServesBy, ServesCommand, Always, Asks, Serves, Format, IsAnalysis, refused}
-use Rattle.zeb_change.specs.declared.refusals.Refusal.TheVariants as refusal
-use Rattle.zeb_engine.specs.Steps.{ready, turned}
-use Rattle.zeb_engine.proofs.ServesLemmas.{early_serves, keeps_still}
-use Rattle.zeb_engine.proofs.TurnedOutcomes.{turn_refused}
+use Rattle.zeb_engine.proofs.Cited.{◌≡◌, ℕ, List, Result, Ok, Err, IsTrue, Vec, map, inl, inr, refl, sym, ap, subst, Global, State, ChangesNothing, Analyse, Reply, Refusal, Answer, answer_of, IsFailure, Why, Meets, Conditions, Holdings, Base, Keeps, Outcome, Ends, OnlyAnswers, ServesBy, ServesCommand, Always, Asks, Serves, IsAnalysis}
+use Rattle.zeb_engine.specs.Steps.{ready}
+use Rattle.zeb_engine.proofs.ServesLemmas.{keeps_still}
 
 pub ready_met : {X : Type 0} (Good : List Base → X → Type 0) (said : Result (List Base) Why) (x : X) → Meets Good said (Ok x) → (bases : List Base) × (said ≡ Ok bases) × Good bases x
 ready_met Good (Ok bases) x met = (bases, refl, met)
@@ -14,21 +12,6 @@ pub ready_kept : (c : Conditions) (old mid : State) (before : Holdings) → Meet
     → ChangesNothing old mid → Keeps old before → (bases : List Base) × (ready c before ≡ Ok bases) × (IsTrue old.is_open × IsTrue mid.is_open) × Keeps mid before
 ready_kept c old mid before met nothing keeps =
     let it = ready_met {X = Unit {0}} (λ (bases : List Base) x. IsTrue old.is_open × IsTrue mid.is_open) (ready c before) tt met in (it.0, it.1, it.2, keeps_still before old mid nothing keeps)
-
-module _ (format : Format) (c : Conditions) (old new : State) (refusal : Refusal) (nothing : ChangesNothing old new)
-    (told : (before : Holdings) → Keeps old before → IsFailure (refused (why_of refusal)) ⊎ (ready c before ≡ Err (why_of refusal))) where
-  -- a register that isn't ready
-  pub unready_serves : (turn : Turn) → Serves Always (turned c turn) old new (Err refusal)
-  unready_serves turn = early_serves (turned c turn) Always old new refusal nothing (λ before fits keeps. elim (told before keeps) [
-    | inl failed ↦ inl failed
-    | inr said ↦ inr (turn_refused c before turn (why_of refusal) said)
-  ])
-
-  pub unready_checks : Serves Always (checked c) old new (Err refusal)
-  unready_checks = early_serves (checked c) Always old new refusal nothing (λ before fits keeps. elim (told before keeps) [
-    | inl failed ↦ inl failed
-    | inr said ↦ inr (ap (λ r. (checked_from r, before)) said)
-  ])
 
 -- an answer that is described
 pub asks_serve : (Says : Holdings → Answer → Type 0) (old new : State) (result : Result Reply Refusal) → Asks Says old new result → ServesBy (λ before. OnlyAnswers (Says before) before) old new result
@@ -50,7 +33,3 @@ ends_serve does old new result serves before keeps = elim (serves before (λ _. 
 pub analysis_serves : (result : Result Reply Refusal) (files : Vec (Vec ℕ Global) Global) (c : Conditions) (s : State) → IsAnalysis c (map (λ file. file.items) files.items) result → ServesCommand c (Analyse files) s s result
 analysis_serves result files c s (inl is) before keeps = (before, inl (is, refl), keeps)
 analysis_serves result files c s (inr is) before keeps = (before, inr (subst IsFailure (sym (ap answer_of is)) (inr refl), refl), keeps)
-
--- what is said of three things is said of those that they are
-pub each_so : {A B C : Type 0} (a a' : A) (b b' : B) (d d' : C) → a ≡ a' → b ≡ b' → d ≡ d' → (Says : A → B → C → Type 0) → Says a b d → Says a' b' d'
-each_so a a' b b' d d' one two three Says said = subst (λ x. Says a' b' x) three (subst₂ (λ x y. Says x y d) one two said)

@@ -1,7 +1,6 @@
 -- A query of a database: what each refusal answers before the database is asked, and what a look at the register comes to.
-use Rattle.zeb_engine.proofs.Cited.{◌≡◌, ◌⊎◌, ℕ, List, Option, Some, None, Result, Ok, Err, IfErr, OnOk, refl, sym, ap, subst, inl, inr, Database, State, QueryFault, Diagnostic, Memory, IsFaultOf, IsReadable, ChangesNothing, Trees, Content, Format, holds_in, store_same, Refusal, Reply, StaysOpen, Alone, IsSaid, RefusedAlone, Said, Answer, answer_of, refused, IsFailure, Why, diagnostic, why_of, Meets, Conditions, Holdings, base_named, Base, Keeps, query_refusal, AskedAmong, AskedFrom, AskedIn, no_database, existing, found_or, Asks}
+use Rattle.zeb_engine.proofs.Cited.{◌≡◌, ◌⊎◌, ℕ, List, Option, Some, None, Result, Ok, Err, IfErr, OnOk, refl, sym, ap, subst, inl, inr, Database, State, QueryFault, Diagnostic, Memory, IsFaultOf, IsReadable, ChangesNothing, Trees, Content, Format, holds_in, store_same, Refusal, Reply, StaysOpen, Alone, IsSaid, RefusedAlone, Said, Answer, answer_of, refused, IsFailure, Why, diagnostic, why_of, Meets, Conditions, Holdings, base_named, Base, query_refusal, AskedAmong, AskedFrom, AskedIn, no_database, existing, found_or}
 use Rattle.zeb_engine.specs.Steps.{ready}
-use Rattle.zeb_engine.proofs.ServesLemmas.{keeps_still}
 
 -- ---- the answers
 
@@ -36,17 +35,6 @@ module _ (Says : Base → Answer → Type 0) (name query : List ℕ) (bases : Li
     said_ends base named answer is = in_base answer (subst (λ (o : Option Base). AskedIn Says name o answer) (sym named) is)
 
 -- ---- after a look at whether the register is ready
-
--- a register that isn't ready
-pub unready_asked : (c : Conditions) (old new : State) (refusal : Refusal) → ChangesNothing old new
-    → ((before : Holdings) → Keeps old before → IsFailure (refused (why_of refusal)) ⊎ (ready c before ≡ Err (why_of refusal)))
-    → (Says : Base → Answer → Type 0) (name query : List ℕ) → Asks (λ before answer. AskedFrom Says name query (ready c before) answer) old new (Err refusal)
-unready_asked c old new refusal nothing told Says name query before keeps =
-    let still = keeps_still before old new nothing keeps in
-    elim (told before keeps) [
-      | inl failed ↦ inr (failed, still)
-      | inr said ↦ inl (subst (λ (r : Result (List Base) Why). AskedFrom Says name query r (refused (why_of refusal))) (sym said) refl, still)
-    ]
 
 -- what was answered on a register that is ready
 pub ready_asked : (c : Conditions) (before : Holdings) (bases : List Base) (Says : Base → Answer → Type 0) (name query : List ℕ) (answer : Answer) (Kept : Type 0) → ready c before ≡ Ok bases → Kept

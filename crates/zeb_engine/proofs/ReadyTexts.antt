@@ -1,5 +1,5 @@
 -- What a look at the texts of a store tells, and what is said of them after a command.
-use Rattle.zeb_engine.proofs.Cited.{◌≡◌, ◌≢◌, ℕ, Bool, false, not, List, Option, Some, None, Result, Ok, Err, String, codes, string_bytes, refl, subst, inl, inr, Global, bytes_eq, Trees, State, Directive, RegFault, IsStore, IsValueOf, one_text, Refusal, register_refusal, NeverUnready, why_of, IsFailure, refused, IsUnready, GoesByTexts, HidesText, IsReadyFor, IsRefusedOver, KeepsText}
+use Rattle.zeb_engine.proofs.Cited.{◌≡◌, ◌≢◌, ℕ, Bool, false, not, List, Option, Some, None, Result, Ok, Err, String, codes, string_bytes, refl, subst, inl, inr, Global, bytes_eq, Trees, State, Directive, RegFault, IsStore, IsValueOf, one_text, Refusal, register_refusal, NeverUnready, NoReadFault, why_of, IsFailure, refused, IsUnready, GoesByTexts, HidesText, IsReadyFor, IsRefusedOver, KeepsText}
 use Rattle.zeb_register.specs.declared.RegFault.TheVariants as register
 use Rattle.zeb_change.specs.declared.refusals.Refusal.TheVariants as refusal
 use Rattle.zeb_engine.proofs.Ready.{texts_agree}
@@ -89,3 +89,9 @@ pub fault_never : {T : Type 0} (fault : RegFault) → NeverUnready {T = T} (Err 
 fault_never register.Damaged = (λ is. cc, λ is. cc, λ is. cc)
 fault_never register.Store = (λ is. cc, λ is. cc, λ is. cc)
 fault_never register.Memory = (λ is. cc, λ is. cc, λ is. cc)
+
+-- nor that of a reader
+pub fault_reads : {T : Type 0} (fault : RegFault) → NoReadFault {T = T} (Err (register_refusal fault))
+fault_reads register.Damaged file is = cc
+fault_reads register.Store file is = cc
+fault_reads register.Memory file is = cc

@@ -1,5 +1,5 @@
 -- What a reindex leaves over any tables of a store, and what of that is committed.
-use Rattle.zeb_engine.proofs.Cited.{◌≡◌, ◌∙◌, true, false, List, codes, Result, Ok, Err, OnOk, IsTrue, IsUtf8, inl, inr, ap, ap₂, arith, sym, subst, subst₂, refl, Text, Database, Held, state, HasCleanDisk, Shows, State, Survives, Ghosts, Trees, Directive, canonical_text, IsProfile, Format, version_of, IsStore, entry, store_same, one_text, Base, under, HasTexts, IsImage, Write, CanBeRemade, IsRemade, ReindexLeaves, CommitsReindex, IsStoreDisk, CommitsRemade, HoldsRemade, Remakes, IsReadyToReindex, KeepsText}
+use Rattle.zeb_engine.proofs.Cited.{◌≡◌, ◌∙◌, true, List, codes, Result, Ok, Err, OnOk, IsTrue, IsUtf8, inl, inr, ap, ap₂, arith, sym, subst, subst₂, refl, Text, Database, Held, state, HasCleanDisk, State, Survives, Ghosts, Trees, Directive, canonical_text, IsProfile, Format, version_of, IsStore, entry, store_same, one_text, Base, under, HasTexts, IsImage, Write, CanBeRemade, IsRemade, ReindexLeaves, CommitsReindex, IsStoreDisk, CommitsRemade, HoldsRemade, WriteLeaves, IsReadyToReindex, KeepsText}
 use Rattle.zeb_engine.specs.declared.writes.Write.TheVariants as write
 use Rattle.zeb_engine.proofs.CommitCrashes.{commit_survives, store_disk}
 use Rattle.zeb_engine.proofs.RenewedImages.{apart}
@@ -53,23 +53,13 @@ module _ (format : Format) (profile : List Directive) (readable : IsUtf8 (versio
 -- ---- the transaction
 
 module _ (format : Format) {S : Type 0} (g : Ghosts S) (old inside : Held S) (mid : State) (begins : inside ≡ record old { in_transaction = true }) where
-  remade_inside : (profile : List Directive) → (IsStore (state g inside) → IsStore mid × IsRemade format profile (state g inside).now.trees mid.now.trees)
+  pub remade_inside : (profile : List Directive) → (IsStore (state g inside) → IsStore mid × IsRemade format profile (state g inside).now.trees mid.now.trees)
       → IsStore (state g old) → IsStore mid × IsRemade format profile (state g old).now.trees mid.now.trees
   remade_inside profile did store =
       let began = subst (λ (held : Held _). IsStore (state g held) → IsStore mid × IsRemade format profile (state g held).now.trees mid.now.trees) begins did in
       began (record { is = store.is; sound = store.sound; keyed = store.keyed })
 
-  -- what the work left is what was committed
-  pub remakes_over : (w : Write) (new : State) → Shows mid new mid.now mid.now false → Remakes format w (state g inside) mid → Remakes format w (state g old) new
-  remakes_over (write.Init profile pattern) new commits did = tt
-  remakes_over (write.Create name) new commits did = tt
-  remakes_over (write.Drop name id) new commits did = tt
-  remakes_over (write.Reindex alloc profile) new commits did = λ store.
-      let left = remade_inside profile.now did store in
-      (store_same mid new commits.now_is left.0, subst (λ (d : Database). IsRemade format profile.now (state g old).now.trees d.trees) (sym commits.now_is) left.1)
-  remakes_over (write.Upgrade alloc profile) new commits did = tt
-
-  commits_remade : (w : Write) → Remakes format w (state g inside) mid → CommitsRemade format w (state g old) mid.now.trees
+  commits_remade : (w : Write) → WriteLeaves format w (state g inside) mid → CommitsRemade format w (state g old) mid.now.trees
   commits_remade (write.Init profile pattern) did = tt
   commits_remade (write.Create name) did = tt
   commits_remade (write.Drop name id) did = tt
@@ -78,7 +68,7 @@ module _ (format : Format) {S : Type 0} (g : Ghosts S) (old inside : Held S) (mi
 
   -- `end` is the connection as the commit leaves it, and `given` as it is given back
   pub remade_survives : (w : Write) (end given : Held S) → end ≡ given → Survives (state g inside) mid (λ _. ⊥) → Survives mid (state g end) (λ db. db ≡ mid.now.trees)
-      → (HasCleanDisk mid → IsTrue (state g inside).in_transaction → Remakes format w (state g inside) mid) → Survives (state g old) (state g given) (CommitsRemade format w (state g old))
+      → (HasCleanDisk mid → IsTrue (state g inside).in_transaction → WriteLeaves format w (state g inside) mid) → Survives (state g old) (state g given) (CommitsRemade format w (state g old))
   remade_survives w end given same work commits did =
       subst (λ (h : Held _). Survives (state g old) (state g h) (CommitsRemade format w (state g old))) same
       (commit_survives g old inside mid (state g end) _ begins work commits (λ clean db is.

@@ -1,5 +1,5 @@
 -- How a command ends that was refused, and what follows where it began with a look at the tables.
-use Rattle.zeb_engine.proofs.Cited.{◌≡◌, ◌⊎◌, ◌∙◌, ℕ, true, false, List, [], Result, Ok, Err, OnOk, inl, inr, refl, sym, ap, subst, IsTrue, Trees, Ghosts, Database, State, IsRolledBack, Shows, Held, state, ChangesNothing, IsStore, store_same, Reply, Refusal, refused, IsFailure, why_of, Holdings, IsImage, Keeps, Outcome, holding, ReachesOutcome, Serves, Write, TellsSound, Begins, DoneOrFails, IsReached, ReadsSound, Format}
+use Rattle.zeb_engine.proofs.Cited.{◌≡◌, ◌⊎◌, ◌∙◌, true, false, Result, Ok, Err, OnOk, inl, inr, refl, sym, ap, subst, IsTrue, Trees, Ghosts, State, IsRolledBack, Shows, Held, state, ChangesNothing, IsStore, Reply, Refusal, refused, IsFailure, why_of, Holdings, Keeps, Outcome, ReachesOutcome, Serves, Write, TellsSound, DoneOrFails, IsReached, WriteTells}
 use Rattle.zeb_change.specs.declared.refusals.Refusal.TheVariants as refusal
 use Rattle.zeb_engine.specs.declared.writes.Write.TheVariants as write
 use Rattle.zeb_engine.proofs.Ready.{image_still}
@@ -59,18 +59,6 @@ reached_inside g (write.Drop name id) old inside begins reached = subst (λ (hel
 reached_inside g (write.Reindex alloc profile) old inside begins reached = subst (λ (held : Held _). IsTrue (state g held).is_open) (sym begins) reached
 reached_inside g (write.Upgrade alloc profile) old inside begins reached = subst (λ (held : Held _). IsTrue (state g held).is_open) (sym begins) reached
 
--- what the work of `init` left is what was committed
-pub begins_over : (format : Format) (version : List ℕ) {S : Type 0} (g : Ghosts S) (w : Write) (old inside : Held S) (mid new : State) → inside ≡ record old { in_transaction = true } → Shows mid new mid.now mid.now false
-    → Begins version w (state g inside) mid → Begins version w (state g old) new
-begins_over format version g (write.Init profile pattern) old inside mid new begins commits did = λ store.
-    let began = subst (λ (held : Held _). Begins version (write.Init profile pattern) (state g held) mid) begins did in
-    let left = began (record { is = store.is; sound = store.sound; keyed = store.keyed }) in
-    (store_same mid new commits.now_is left.0, λ c of. subst (λ (d : Database). IsImage d.trees (holding c [])) (sym commits.now_is) (left.1 c of))
-begins_over format version g (write.Create name) old inside mid new begins commits did = tt
-begins_over format version g (write.Drop name id) old inside mid new begins commits did = tt
-begins_over format version g (write.Reindex alloc profile) old inside mid new begins commits did = tt
-begins_over format version g (write.Upgrade alloc profile) old inside mid new begins commits did = tt
-
 pub on_ok : {A E : Type 0} (r : Result A E) (P Q : Type 0) → (P → Q) → OnOk r P → OnOk r Q
 on_ok (Ok x) P Q so p = so p
 on_ok (Err e) P Q so p = p
@@ -87,20 +75,21 @@ done_over g old inside result begins did store =
     let began = subst (λ (held : Held _). IsStore (state g held) → DoneOrFails result) begins did in
     began (record { is = store.is; sound = store.sound; keyed = store.keyed })
 
--- what a write read sound is read sound before it begins
-pub sound_over : {S : Type 0} (g : Ghosts S) (w : Write) (old inside : Held S) (result : Result Reply Refusal) → inside ≡ record old { in_transaction = true } → ReadsSound w (state g inside) result → ReadsSound w (state g old) result
-sound_over g (write.Init profile pattern) old inside result begins did = tt
-sound_over g (write.Create name) old inside result begins did = done_over g old inside result begins did
-sound_over g (write.Drop name id) old inside result begins did = done_over g old inside result begins did
-sound_over g (write.Reindex alloc profile) old inside result begins did = λ store.
-    let began = subst (λ (held : Held _). IsStore (state g held) → TellsSound profile.now (state g held).now.trees result) begins did in
+-- what a write tells is told of the tables before it begins
+pub tells_over : {S : Type 0} (g : Ghosts S) (w : Write) (Inner Outer : Type 0) → (Outer → Inner) → (old inside : Held S) (result : Result Reply Refusal) → inside ≡ record old { in_transaction = true }
+    → WriteTells Inner w (state g inside) result → WriteTells Outer w (state g old) result
+tells_over g (write.Init profile pattern) Inner Outer known old inside result begins did = did
+tells_over g (write.Create name) Inner Outer known old inside result begins did = λ outer. done_over g old inside result begins (did (known outer))
+tells_over g (write.Drop name id) Inner Outer known old inside result begins did = λ outer. done_over g old inside result begins (did (known outer))
+tells_over g (write.Reindex alloc profile) Inner Outer known old inside result begins did = λ outer store.
+    let began = subst (λ (held : Held _). IsStore (state g held) → TellsSound profile.now (state g held).now.trees result) begins (did (known outer)) in
     began (record { is = store.is; sound = store.sound; keyed = store.keyed })
-sound_over g (write.Upgrade alloc profile) old inside result begins did = tt
+tells_over g (write.Upgrade alloc profile) Inner Outer known old inside result begins did = tt
 
 -- a commit that failed tells nothing
-pub sound_failed : (w : Write) (s : State) → ReadsSound w s (Err refusal.Store)
-sound_failed (write.Init profile pattern) s = tt
-sound_failed (write.Create name) s = λ store. inr (inl refl)
-sound_failed (write.Drop name id) s = λ store. inr (inl refl)
-sound_failed (write.Reindex alloc profile) s = λ store. inr (inr (inl refl))
-sound_failed (write.Upgrade alloc profile) s = tt
+pub tells_failed : (w : Write) (Known : Type 0) (s : State) → WriteTells Known w s (Err refusal.Store)
+tells_failed (write.Init profile pattern) Known s = inl refl
+tells_failed (write.Create name) Known s = λ known store. inr (inl refl)
+tells_failed (write.Drop name id) Known s = λ known store. inr (inl refl)
+tells_failed (write.Reindex alloc profile) Known s = λ known store. inr (inr (inl refl))
+tells_failed (write.Upgrade alloc profile) Known s = tt

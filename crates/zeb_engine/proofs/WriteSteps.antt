@@ -1,11 +1,15 @@
 -- What each command that writes leaves in the tables is the image of its outcome.
-use Rattle.zeb_engine.proofs.Cited.{◌≡◌, ◌∙◌, ℕ, ℤ, pos, List, [], Result, Ok, Err, IfErr, OnOk, refl, sym, subst, inl, arith, State, Directive, RegFault, GoesOn, PutsDatabase, canonical_text, one_format, registers_stay, Content, IsWithout, TakesWhole, IsStore, Changes, KeepsRegisters, databases_tree, Reply, Done, refused, reply_answer, IsFailure, why_of, Conditions, Holdings, new_base, without_base, IsDatabaseName, IsImage, Outcome, holding, StaysInside, ReachesOutcome, AreOf, IsFree, IsKnown, reply_of_work, Format, holds_in, version_of}
+use Rattle.zeb_engine.proofs.Cited.{◌≡◌, ◌∙◌, ℕ, ℤ, pos, true, false, ap, IsTrue, Database, Held, state, HasCleanDisk, Shows, Survives, Ghosts, store_same, name_bytes, Write, WriteLeaves, WorkDone, IsRemade, Commits, CommitsRemade, Fits, IsReached, written, List, [], Result, Ok, Err, IfErr, OnOk, refl, sym, subst, inl, arith, State, Directive, RegFault, GoesOn, PutsDatabase, canonical_text, one_format, registers_stay, Content, IsWithout, TakesWhole, IsStore, Changes, KeepsRegisters, databases_tree, Reply, Done, refused, reply_answer, IsFailure, why_of, Conditions, Holdings, new_base, without_base, IsDatabaseName, IsImage, Outcome, holding, StaysInside, ReachesOutcome, AreOf, IsFree, IsKnown, reply_of_work, Format, holds_in, version_of}
 use Rattle.zeb_image.specs.Holdings.{with_base}
 use Rattle.zeb_engine.specs.Steps.{initialised, turned, created, dropped}
+use Rattle.zeb_engine.specs.declared.writes.Write.TheVariants as write
 use Rattle.zeb_engine.proofs.Beginning.{texts_still}
+use Rattle.zeb_engine.proofs.CommitCrashes.{survives_both, write_survives}
 use Rattle.zeb_engine.proofs.Creating.{with_new_base, created_image}
 use Rattle.zeb_engine.proofs.Dropping.{without_bases, dropped_image}
+use Rattle.zeb_engine.proofs.MadeTables.{made_between, taken_between}
 use Rattle.zeb_engine.proofs.ReadyImages.{image_some, image_with_bases}
+use Rattle.zeb_engine.proofs.ReindexedTables.{remade_inside, remade_survives}
 use Rattle.zeb_engine.proofs.TurnedOutcomes.{step_init, step_created, step_dropped}
 
 -- what is left after an outcome
@@ -53,3 +57,31 @@ begun_so (Err e) P Q so = tt
 pub nothing_so : {A E : Type 0} (r : Result A E) → OnOk r (Unit {0})
 nothing_so (Ok x) = tt
 nothing_so (Err e) = tt
+
+-- ---- the transaction of a write
+
+-- what the work left is what was committed
+pub leaves_over : {S : Type 0} (format : Format) (g : Ghosts S) (w : Write) (old inside : Held S) (mid new : State) → inside ≡ record old { in_transaction = true } → Shows mid new mid.now mid.now false
+    → WriteLeaves format w (state g inside) mid → WriteLeaves format w (state g old) new
+leaves_over format g (write.Init profile pattern) old inside mid new begins commits did = λ store.
+    let began = subst (λ (held : Held _). WriteLeaves format (write.Init profile pattern) (state g held) mid) begins did in
+    let left = began (record { is = store.is; sound = store.sound; keyed = store.keyed }) in
+    (store_same mid new commits.now_is left.0, λ c of. subst (λ (d : Database). IsImage d.trees (holding c [])) (sym commits.now_is) (left.1 c of))
+leaves_over format g (write.Create name) old inside mid new begins commits did = λ store.
+    let same : (state g inside).now ≡ (state g old).now = ap (λ (held : Held _). (state g held).now) begins in
+    made_between (state g old) (state g inside) mid new same commits.now_is (name_bytes name.now) (did (store_same (state g old) (state g inside) same store))
+leaves_over format g (write.Drop name id) old inside mid new begins commits did = λ store.
+    let same : (state g inside).now ≡ (state g old).now = ap (λ (held : Held _). (state g held).now) begins in
+    taken_between (state g old) (state g inside) mid new same commits.now_is id.0 (did (store_same (state g old) (state g inside) same store))
+leaves_over format g (write.Reindex alloc profile) old inside mid new begins commits did = λ store.
+    let left = remade_inside format g old inside mid begins profile.now did store in
+    (store_same mid new commits.now_is left.0, subst (λ (d : Database). IsRemade format profile.now (state g old).now.trees d.trees) (sym commits.now_is) left.1)
+leaves_over format g (write.Upgrade alloc profile) old inside mid new begins commits did = tt
+
+-- what a crash leaves, whether the commit failed or not
+pub work_survives : {S : Type 0} (format : Format) (g : Ghosts S) (w : Write) (old inside : Held S) (mid : State) (end : Held S) → inside ≡ record old { in_transaction = true } → Survives (state g inside) mid (λ _. ⊥)
+    → Survives mid (state g end) (λ db. db ≡ mid.now.trees) → (HasCleanDisk mid → IsTrue (state g inside).in_transaction → WorkDone format w (state g inside) mid (Ok tt))
+    → Survives (state g old) (state g end) (λ db. ((c : Conditions) → IsReached w (state g old) → Commits (Fits (version_of format) c w) (written c w) (state g old) db) × CommitsRemade format w (state g old) db)
+work_survives format g w old inside mid end begins quiet commits did =
+    survives_both (state g old) (state g end) _ _ (write_survives format (version_of format) g w old inside mid end end refl Done begins quiet commits (λ clean entered. (did clean entered).works))
+    (remade_survives format g old inside mid begins w end end refl quiet commits (λ clean entered. (did clean entered).leaves))

@@ -1,22 +1,24 @@
 -- What only the contracts of private functions speak of; no public clause reaches it.
 -- What a call does to its connection, and how a refusal goes by what the connection shows.
-use Rattle.std.specs.Prelude.{ℕ, List, IsTrue, OnOk, Result}
+use Rattle.std.specs.Prelude.{◌≡◌, ◌≢◌, ℕ, List, Err, IfErr, IsTrue, OnOk, Result}
 use Rattle.sqlite.specs.Held.{Held, state}
-use Rattle.sqlite.specs.State.{HasCleanDisk, Survives}
+use Rattle.sqlite.specs.State.{HasCleanDisk, State, Survives}
 use Rattle.sqlite.specs.Store.{Ghosts}
 use Rattle.zeb_profile.specs.declared.directives.Directive.{Directive}
 use Rattle.zeb_register.specs.Calls.{ChangesNothing}
+use Rattle.zeb_register.specs.Store.{IsStore}
 use Rattle.zeb_change.specs.declared.refusals.Refusal.{Refusal}
+use Rattle.zeb_change.specs.declared.refusals.Refusal.TheVariants.{Damaged}
 use Rattle.zeb_change.specs.declared.settings.Limits.{Limits}
-use Rattle.zeb_change.specs.Conditions.{Conditions, conditions}
+use Rattle.zeb_change.specs.Conditions.{conditions}
+use Rattle.zeb_change.specs.Refused.{Meets}
 use Rattle.zeb_image.specs.Holdings.{Holdings}
+use Rattle.zeb_image.specs.Image.{Keeps}
 use Rattle.zeb_engine.specs.Adopting.{StaysOpen}
-use Rattle.zeb_engine.specs.declared.replies.Reply.{Reply}
 use Rattle.zeb_engine.specs.Causes.{HasStoreCause}
-use Rattle.zeb_engine.specs.PrivateCrashes.{Commits}
-use Rattle.zeb_engine.specs.Readiness.{GoesByTexts}
-use Rattle.zeb_engine.specs.Steps.{Outcome}
-use Rattle.zeb_engine.specs.PrivateWorks.{Always, Serves}
+use Rattle.zeb_engine.specs.PrivateLooking.{IsUnready}
+use Rattle.zeb_engine.specs.Readiness.{GoesByTexts, IsReadyFor}
+use Rattle.zeb_engine.specs.Steps.{ready}
 
 -- nothing changes
 abbrev pub LeavesAsIs : {S : Type 0} → Ghosts S → Held S → Held S → Type 0
@@ -38,18 +40,30 @@ LeavesOpen g old new result = HasCleanDisk (state g new) → OnOk result (IsTrue
 abbrev pub FailsForCause : {S T : Type 0} → Ghosts S → Held S → Held S → Result T Refusal → Type 0
 FailsForCause g old new result = HasCleanDisk (state g new) → HasStoreCause (state g old) (state g new) result
 
+-- A call that reads: nothing changes; accepted, it found the connection open and left it so; a crash leaves what it left before; and the
+-- store is found failed only for a cause.
+pub record ReadsAlone {S T : Type 0} (g : Ghosts S) (old new : Held S) (result : Result T Refusal) : Type 0 where
+  pub same : LeavesAsIs g old new
+  pub opened : FindsOpen g old new result
+  pub crash : CommitsNothing g old new
+  pub caused : FailsForCause g old new result
+
 -- the texts of the store tell whether the register was ready
 abbrev pub TellsReady : {S T : Type 0} → Ghosts S → (version : List ℕ) → List Directive → Held S → Held S → Result T Refusal → Type 0
 TellsReady g version profile old new result = HasCleanDisk (state g new) → GoesByTexts version profile (state g old) result
 
--- ---- a command that goes by the version and the profile alone, under any limits
+-- what an open connection shows is what was committed
+abbrev pub IsSettled : State → Type 0
+IsSettled s = IsTrue s.is_open → s.committed ≡ s.now
 
--- only this outcome is committed
-abbrev pub CommitsUnder : {S : Type 0} → Ghosts S → (Conditions → Holdings → Outcome) → (version : List ℕ) → List Directive → Held S → Held S → Type 0
-CommitsUnder g outcome version profile old new =
-    Survives (state g old) (state g new) (λ db. (limits : Limits) → Commits Always (outcome (conditions version profile limits)) (state g old) db)
-
--- it takes what is held to this outcome
-abbrev pub ServesUnder : {S : Type 0} → Ghosts S → (Conditions → Holdings → Outcome) → (version : List ℕ) → List Directive → Held S → Held S → Result Reply Refusal → Type 0
-ServesUnder g outcome version profile old new result =
-    HasCleanDisk (state g new) → (limits : Limits) → Serves Always (outcome (conditions version profile limits)) (state g old) (state g new) result
+-- A look whether the register is ready: the texts of the store tell it, and what is held tells the same. It is refused for nothing else, and
+-- as damage not where the register is ready.
+pub record LooksReady {S : Type 0} (g : Ghosts S) (version : List ℕ) (profile : List Directive) (old new : Held S)
+    (result : Result (Unit {0}) Refusal) : Type 0 where
+  pub settled : IsSettled (state g old)
+  pub reads : ReadsAlone g old new result
+  pub texts : TellsReady g version profile old new result
+  pub held : HasCleanDisk (state g new) → (limits : Limits) (before : Holdings) → Keeps (state g old) before
+      → Meets (λ bases _. IsTrue (state g old).is_open × IsTrue (state g new).is_open) (ready (conditions version profile limits) before) result
+  pub few : IfErr result IsUnready
+  pub whole : HasCleanDisk (state g new) → IsStore (state g old) → IsReadyFor version profile (state g old).now.trees → result ≢ Err Damaged

@@ -1,9 +1,11 @@
 -- What only the contracts of private functions speak of; no public clause reaches it.
 -- The commands that write without reading records: what each makes of what is held, and what was found out before it began.
-use Rattle.std.specs.Prelude.{◌≡◌, ◌⊎◌, ℕ, ℤ, pos, List, [], Some, None, Result, Ok, Err, IfErr, IsTrue}
+use Rattle.std.specs.Prelude.{◌≡◌, ◌⊎◌, ℕ, ℤ, pos, List, [], Some, None, Result, Ok, Err, IfErr, IsTrue, OnOk}
 use Rattle.std.specs.Option.{option_map}
 use Rattle.sqlite.specs.Tree.{Trees}
-use Rattle.sqlite.specs.State.{State}
+use Rattle.sqlite.specs.Held.{Held, state}
+use Rattle.sqlite.specs.State.{HasCleanDisk, State, Survives}
+use Rattle.sqlite.specs.Store.{Ghosts}
 use Rattle.zeb_profile.specs.declared.directives.Directive.{Directive}
 use Rattle.zeb_profile.specs.Indexes.{identifier_pattern}
 use Rattle.zeb_profile.specs.Canonical.{canonical_text, pattern_text}
@@ -28,6 +30,8 @@ use Rattle.zeb_image.specs.Image.{HasTexts, IsImage}
 use Rattle.zeb_image.specs.NameOf.{name_bytes}
 use Rattle.zeb_engine.specs.Reindexing.{CanBeRemade, IsRemade, TellsSound}
 use Rattle.zeb_engine.specs.Crashes.{IsStoreDisk}
+use Rattle.zeb_engine.specs.PrivateCrashes.{Commits}
+use Rattle.zeb_engine.specs.PrivateWorks.{ReachesOutcome, Serves}
 use Rattle.zeb_engine.specs.Steps.{Outcome, holding, ready, initialised, turned, created, dropped, reindexed, ruled, upgradable, upgraded}
 
 -- these conditions are those of a layout's version and of a profile, whose identifier rule has this pattern
@@ -97,51 +101,30 @@ pub record PutsTexts (version text pattern : List ℕ) (old new : State) : Type 
   pub texts : HasTexts new.now.trees version text pattern
   pub others : KeepsBesideTexts old.now.trees new.now.trees
 
--- `init` leaves the image of no database, whatever rows the tables held
-abbrev pub Begins : List ℕ → Write → State → State → Type 0
-Begins version (write.Init profile pattern) old new = IsStore old → IsStore new × ((c : Conditions) → AreOf version profile.now pattern.now c → IsImage new.now.trees (holding c []))
-Begins version (write.Create name) old new = Unit {0}
-Begins version (write.Drop name id) old new = Unit {0}
-Begins version (write.Reindex alloc profile) old new = Unit {0}
-Begins version (write.Upgrade alloc profile) old new = Unit {0}
-
--- only a failure refuses an `init`
-abbrev pub FailsAlone : Write → Result Reply Refusal → Type 0
-FailsAlone (write.Init profile pattern) result = IfErr result (λ refusal. IsFailure (refused (why_of refusal)))
-FailsAlone (write.Create name) result = Unit {0}
-FailsAlone (write.Drop name id) result = Unit {0}
-FailsAlone (write.Reindex alloc profile) result = Unit {0}
-FailsAlone (write.Upgrade alloc profile) result = Unit {0}
-
 -- it is done, or it failed
 abbrev pub DoneOrFails : Result Reply Refusal → Type 0
 DoneOrFails result = (answer_of result ≡ done) ⊎ IsFailure (answer_of result)
 
--- a reindex goes by the kept records; a create and a drop meet no damage, once the row of the name is read
-abbrev pub ReadsSound : Write → State → Result Reply Refusal → Type 0
-ReadsSound (write.Init profile pattern) s result = Unit {0}
-ReadsSound (write.Create name) s result = IsStore s → DoneOrFails result
-ReadsSound (write.Drop name id) s result = IsStore s → DoneOrFails result
-ReadsSound (write.Reindex alloc profile) s result = IsStore s → TellsSound profile.now s.now.trees result
-ReadsSound (write.Upgrade alloc profile) s result = Unit {0}
+-- Only a failure refuses an `init`. Where what is `Known` holds, a reindex goes by the kept records, and a create and a drop meet no damage, once
+-- the row of the name is read.
+abbrev pub WriteTells : (Known : Type 0) → Write → State → Result Reply Refusal → Type 0
+WriteTells Known (write.Init profile pattern) s result = IfErr result (λ refusal. IsFailure (refused (why_of refusal)))
+WriteTells Known (write.Create name) s result = Known → IsStore s → DoneOrFails result
+WriteTells Known (write.Drop name id) s result = Known → IsStore s → DoneOrFails result
+WriteTells Known (write.Reindex alloc profile) s result = Known → IsStore s → TellsSound profile.now s.now.trees result
+WriteTells Known (write.Upgrade alloc profile) s result = Unit {0}
 
--- a create makes its database, and a drop takes it whole, whatever rows the tables held
-abbrev pub MakesOrTakes : Write → State → State → Type 0
-MakesOrTakes (write.Init profile pattern) old new = Unit {0}
-MakesOrTakes (write.Create name) old new = IsStore old → MakesDatabase (name_bytes name.now) old new
-MakesOrTakes (write.Drop name id) old new = IsStore old → TakesWhole id.0 old new
-MakesOrTakes (write.Reindex alloc profile) old new = Unit {0}
-MakesOrTakes (write.Upgrade alloc profile) old new = Unit {0}
+-- What an accepted write leaves of the tables of a store, whatever rows they had: `init` the image of no database, and a reindex the registers made
+-- anew; a create makes its database, and a drop takes it whole.
+abbrev pub WriteLeaves : Format → Write → State → State → Type 0
+WriteLeaves format (write.Init profile pattern) old new =
+    IsStore old → IsStore new × ((c : Conditions) → AreOf (version_of format) profile.now pattern.now c → IsImage new.now.trees (holding c []))
+WriteLeaves format (write.Create name) old new = IsStore old → MakesDatabase (name_bytes name.now) old new
+WriteLeaves format (write.Drop name id) old new = IsStore old → TakesWhole id.0 old new
+WriteLeaves format (write.Reindex alloc profile) old new = IsStore old → IsStore new × IsRemade format profile.now old.now.trees new.now.trees
+WriteLeaves format (write.Upgrade alloc profile) old new = Unit {0}
 
--- a reindex makes the registers anew, whatever rows the tables held
-abbrev pub Remakes : Format → Write → State → State → Type 0
-Remakes format (write.Init profile pattern) old new = Unit {0}
-Remakes format (write.Create name) old new = Unit {0}
-Remakes format (write.Drop name id) old new = Unit {0}
-Remakes format (write.Reindex alloc profile) old new = IsStore old → IsStore new × IsRemade format profile.now old.now.trees new.now.trees
-Remakes format (write.Upgrade alloc profile) old new = Unit {0}
-
--- and these tables are what it commits
+-- what a reindex commits of such tables, beside what holds of those that are an image
 abbrev pub CommitsRemade : Format → Write → State → Trees → Type 0
 CommitsRemade format (write.Init profile pattern) old db = Unit {0}
 CommitsRemade format (write.Create name) old db = Unit {0}
@@ -154,3 +137,18 @@ abbrev pub HoldsRemade : Format → List Directive → State → State → Type 
 HoldsRemade format profile old new = IsStore old →
     IsStore new × IsRemade format profile old.now.trees new.now.trees
     × ((bases : List Base) → CanBeRemade profile old.now.trees bases → IsImage new.now.trees (under (version_of format) (canonical_text profile) bases))
+
+-- what a write has done inside its transaction
+pub record WorkDone (format : Format) (write : Write) (old new : State) (result : Result (Unit {0}) RegFault) : Type 0 where
+  pub works : (c : Conditions) → IsReached write old → ReachesOutcome (Fits (version_of format) c write) (written c write) old new (reply_of_work result)
+  pub leaves : OnOk result (WriteLeaves format write old new)
+
+-- what a write has done, whose transaction has ended
+pub record WriteDone {S : Type 0} (g : Ghosts S) (format : Format) (write : Write) (old new : Held S) (result : Result Reply Refusal) : Type 0 where
+  pub survives : Survives (state g old) (state g new) (λ db.
+      ((c : Conditions) → IsReached write (state g old) → Commits (Fits (version_of format) c write) (written c write) (state g old) db)
+      × CommitsRemade format write (state g old) db)
+  pub serves : HasCleanDisk (state g new) → (c : Conditions) → IsReached write (state g old)
+      → Serves (Fits (version_of format) c write) (written c write) (state g old) (state g new) result
+  pub leaves : HasCleanDisk (state g new) → OnOk result (WriteLeaves format write (state g old) (state g new))
+  pub tells : WriteTells (HasCleanDisk (state g new)) write (state g old) result

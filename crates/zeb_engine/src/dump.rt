@@ -20,7 +20,7 @@ ghost use Rattle.zeb_engine.specs.Steps.{dumped_by};
 ghost use Rattle.zeb_engine.specs.PrivateWorks.{Always, Serves, ShowsStore};
 ghost use Rattle.zeb_engine.specs.PrivateConnections.{CommitsNothing, FailsForCause, FindsOpen, LeavesAsIs, LeavesOpen, TellsReady};
 
-use crate::readiness::{check_ready, existing_database};
+use crate::readiness::{check_texts, existing_database};
 use crate::replies::Reply;
 use sqlite::{Alter, Connection};
 use std::alloc::Global;
@@ -98,7 +98,7 @@ pub(crate) fn dump<S: Alter, L: Layout>(
 {
     // Its profile is some text's.
     profile.is_of_some_text();
-    check_ready::<S, L>(connection, profile)?;
+    check_texts::<S, L>(connection, profile)?;
     let database = existing_database::<S, L>(alloc, connection, name)?;
     let bytes = bytes_of(alloc, connection, database.id)?;
     Ok(Reply::Dumped(bytes))

@@ -18,7 +18,7 @@ ghost use Rattle.zeb_engine.specs.Readiness.{IsReadyFor};
 ghost use Rattle.zeb_change.specs.Reading.{NoReadFault};
 ghost use Rattle.zeb_engine.specs.Steps.{ready};
 ghost use Rattle.zeb_engine.specs.PrivateSteps.{existing};
-ghost use Rattle.zeb_engine.specs.PrivateConnections.{CommitsNothing, FailsForCause, FindsOpen, LeavesAsIs, TellsReady};
+ghost use Rattle.zeb_engine.specs.PrivateConnections.{CommitsNothing, FailsForCause, FindsOpen, LeavesAsIs, LooksReady, TellsReady};
 
 use sqlite::{Alter, Connection};
 use std::alloc::Global;
@@ -41,6 +41,21 @@ const NO_DATABASE: u32 = 235;
 
 /// Refuses a register that was never initialised, has another layout, or was initialised under another profile.
 pub(crate) fn check_ready<S: Alter, L: Layout>(
+    connection: &mut Connection<S>,
+    profile: &Profile,
+) -> Result<(), Refusal>
+    requires idle { connection.old.in_transaction ≡ false }
+    ensures idle { connection.new.in_transaction ≡ false }
+    ensures looks { LooksReady S.Store (version_of L.format) profile.now connection.old
+        connection.new result }
+{
+    // What is shown is what was committed.
+    let _settled = connection.is_autocommit();
+    check_texts::<S, L>(connection, profile)
+}
+
+/// Refuses texts of a store that aren't those of a register which is ready.
+pub(crate) fn check_texts<S: Alter, L: Layout>(
     connection: &mut Connection<S>,
     profile: &Profile,
 ) -> Result<(), Refusal>

@@ -1,18 +1,13 @@
 //! The commands that make the registers anew from the kept records, each in one transaction.
 
-ghost use Rattle.std.specs.Prelude.{◌≡◌, false, OnOk};
-ghost use Rattle.sqlite.specs.Held.{state};
-ghost use Rattle.sqlite.specs.State.{HasCleanDisk, Survives};
+ghost use Rattle.std.specs.Prelude.{◌≡◌, false};
 ghost use Rattle.zeb_register.specs.Formats.{version_of};
-ghost use Rattle.zeb_change.specs.Reading.{NoReadFault};
-ghost use Rattle.zeb_engine.specs.Reindexing.{ReindexesTables};
-ghost use Rattle.zeb_engine.specs.Upgrading.{StaysUpgraded, UpgradeLeaves, UpgradesTables};
-ghost use Rattle.zeb_engine.specs.Crashes.{CommitsReindex};
-ghost use Rattle.zeb_engine.specs.PrivateWriting.{HoldsRemade};
-ghost use Rattle.zeb_engine.specs.Steps.{reindexed, upgraded};
-ghost use Rattle.zeb_engine.specs.Transactions.{Commanded};
-ghost use Rattle.zeb_engine.specs.PrivateConnections.{CommitsUnder, ServesUnder};
+ghost use Rattle.zeb_change.specs.declared.settings.Limits.{Limits};
+ghost use Rattle.zeb_change.specs.Conditions.{conditions};
+ghost use Rattle.zeb_engine.specs.Costs.{no_work};
+ghost use Rattle.zeb_engine.specs.PrivateDone.{CommandDone};
 
+use crate::commands::Command;
 use crate::looks::{Standing, check_layout, check_rule};
 use crate::replies::Reply;
 use crate::writes::{Write, transact};
@@ -32,20 +27,10 @@ pub(crate) fn reindex<S: Alter, L: Layout>(
     profile: &Profile,
 ) -> Result<Reply, Refusal>
     requires idle { connection.old.in_transaction ≡ false }
-    ensures serves { ServesUnder S.Store reindexed (version_of L.format) profile.now connection.old
-        connection.new result }
-    ensures told { HasCleanDisk (state S.Store connection.new)
-        → ReindexesTables (version_of L.format) profile.now (state S.Store connection.old) result }
     ensures idle { connection.new.in_transaction ≡ false }
-    ensures call { Commanded (state S.Store connection.old) (state S.Store connection.new) result }
-    ensures survives { CommitsUnder S.Store reindexed (version_of L.format) profile.now
-        connection.old connection.new }
-    ensures remade { HasCleanDisk (state S.Store connection.new)
-        → OnOk result (HoldsRemade L.format profile.now (state S.Store connection.old)
-        (state S.Store connection.new)) }
-    ensures survives_remade { Survives (state S.Store connection.old) (state S.Store connection.new)
-        (CommitsReindex L.format profile.now (state S.Store connection.old)) }
-    ensures unread { NoReadFault result }
+    ensures done { (limits : Limits) → CommandDone S.Store L.format L.row_work L.block_rows
+        (conditions (version_of L.format) profile.now limits) Command.Reindex connection.old connection.new
+        result no_work }
 {
     // Its profile is some text's, both texts of the session are UTF-8, and it has a rule for identifiers.
     profile.is_of_some_text();
@@ -64,20 +49,10 @@ pub(crate) fn upgrade<S: Alter, L: Layout>(
     profile: &Profile,
 ) -> Result<Reply, Refusal>
     requires idle { connection.old.in_transaction ≡ false }
-    ensures serves { ServesUnder S.Store upgraded (version_of L.format) profile.now connection.old
-        connection.new result }
-    ensures told { HasCleanDisk (state S.Store connection.new)
-        → UpgradesTables (version_of L.format) profile.now (state S.Store connection.old) result }
-    ensures stays { HasCleanDisk (state S.Store connection.new)
-        → StaysUpgraded (version_of L.format) profile.now (state S.Store connection.old)
-        (state S.Store connection.new) result }
-    ensures leaves { HasCleanDisk (state S.Store connection.new)
-        → OnOk result (UpgradeLeaves (state S.Store connection.old) (state S.Store connection.new)) }
     ensures idle { connection.new.in_transaction ≡ false }
-    ensures call { Commanded (state S.Store connection.old) (state S.Store connection.new) result }
-    ensures survives { CommitsUnder S.Store upgraded (version_of L.format) profile.now
-        connection.old connection.new }
-    ensures unread { NoReadFault result }
+    ensures done { (limits : Limits) → CommandDone S.Store L.format L.row_work L.block_rows
+        (conditions (version_of L.format) profile.now limits) Command.Upgrade connection.old connection.new
+        result no_work }
 {
     // What is shown is what was committed.
     let _settled = connection.is_autocommit();

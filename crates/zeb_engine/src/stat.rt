@@ -19,7 +19,7 @@ ghost use Rattle.zeb_engine.specs.Steps.{CountedFrom, ready};
 ghost use Rattle.zeb_engine.specs.PrivateWorks.{Asks, ShowsStore};
 ghost use Rattle.zeb_engine.specs.PrivateConnections.{CommitsNothing, FailsForCause, FindsOpen, LeavesAsIs, LeavesOpen, TellsReady};
 
-use crate::readiness::{check_ready, existing_database};
+use crate::readiness::{check_texts, existing_database};
 use crate::replies::{Holding, Reply};
 use sqlite::{Alter, Connection};
 use std::alloc::{AllocError, Global};
@@ -177,7 +177,7 @@ pub(crate) fn stat<S: Alter, L: Layout>(
 {
     // Its profile is some text's.
     profile.is_of_some_text();
-    check_ready::<S, L>(connection, profile)?;
+    check_texts::<S, L>(connection, profile)?;
     let database = existing_database::<S, L>(alloc, connection, name)?;
     let kept = record_count(connection, database.id)?;
     let targets = targets_of(alloc, profile)?;

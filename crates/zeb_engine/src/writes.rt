@@ -19,13 +19,16 @@ ghost use Rattle.zeb_engine.specs.PrivateCrashes.{Commits};
 ghost use Rattle.zeb_image.specs.Image.{IsImage};
 ghost use Rattle.zeb_image.specs.NameOf.{name_bytes};
 ghost use Rattle.zeb_change.specs.Reading.{NoReadFault};
-ghost use Rattle.zeb_engine.specs.Steps.{holding, initialised, turned, created, dropped, reindexed, upgraded};
+ghost use Rattle.zeb_engine.specs.Steps.{holding, turned, created, dropped, reindexed, upgraded};
 ghost use Rattle.zeb_engine.specs.Transactions.{Commanded};
 ghost use Rattle.zeb_change.specs.Inside.{StaysInside};
 ghost use Rattle.zeb_engine.specs.PrivateWorks.{IsReady, Serves, ReachesOutcome};
-ghost use Rattle.zeb_engine.specs.PrivateWriting.{AreOf, Begins, CommitsRemade, IsFree, IsKnown, FailsAlone, Fits, IsReached, IsRuled, IsUpgradable, MakesOrTakes, PutsTexts, ReadsSound, Remakes, reply_of_work, written};
-ghost use Rattle.zeb_engine.specs.PrivateConnections.{CommitsNothing, CommitsUnder, ServesUnder};
+ghost use Rattle.zeb_engine.specs.PrivateWriting.{AreOf, IsFree, IsKnown, IsRuled, IsUpgradable, PutsTexts, WorkDone, WriteDone, WriteTells, reply_of_work};
+ghost use Rattle.zeb_engine.specs.Costs.{no_work};
+ghost use Rattle.zeb_engine.specs.PrivateConnections.{CommitsNothing};
+ghost use Rattle.zeb_engine.specs.PrivateDone.{CommandDone};
 
+use crate::commands::Command;
 use crate::readiness::{IDENTIFIER, PROFILE, VERSION, existing_database};
 use crate::replies::Reply;
 use sqlite::{Alter, Connection, Transaction};
@@ -201,20 +204,11 @@ fn apply<S: Alter, L: Layout>(
     ensures same { tx.new.conn.ghost_name ≡ tx.old.conn.ghost_name }
     ensures stays { HasCleanDisk (state S.Store tx.new.conn.now) → IsTrue (state S.Store tx.old.conn.now).in_transaction
         → StaysInside (state S.Store tx.old.conn.now) (state S.Store tx.new.conn.now) result }
-    ensures works { HasCleanDisk (state S.Store tx.new.conn.now) → IsTrue (state S.Store tx.old.conn.now).in_transaction
-        → (c : Conditions) → IsReached write.now (state S.Store tx.old.conn.now)
-        → ReachesOutcome (Fits (version_of L.format) c write.now) (written c write.now) (state S.Store tx.old.conn.now)
-        (state S.Store tx.new.conn.now) (reply_of_work result) }
-    ensures begun { HasCleanDisk (state S.Store tx.new.conn.now) → IsTrue (state S.Store tx.old.conn.now).in_transaction
-        → OnOk result (Begins (version_of L.format) write.now (state S.Store tx.old.conn.now) (state S.Store tx.new.conn.now)) }
-    ensures failed { FailsAlone write.now (reply_of_work result) }
+    ensures done { HasCleanDisk (state S.Store tx.new.conn.now) → IsTrue (state S.Store tx.old.conn.now).in_transaction
+        → WorkDone L.format write.now (state S.Store tx.old.conn.now) (state S.Store tx.new.conn.now) result }
+    ensures tells { WriteTells (HasCleanDisk (state S.Store tx.new.conn.now) × IsTrue (state S.Store tx.old.conn.now).in_transaction)
+        write.now (state S.Store tx.old.conn.now) (reply_of_work result) }
     ensures crash { CommitsNothing S.Store tx.old.conn.now tx.new.conn.now }
-    ensures sound { HasCleanDisk (state S.Store tx.new.conn.now) → IsTrue (state S.Store tx.old.conn.now).in_transaction
-        → ReadsSound write.now (state S.Store tx.old.conn.now) (reply_of_work result) }
-    ensures remade { HasCleanDisk (state S.Store tx.new.conn.now) → IsTrue (state S.Store tx.old.conn.now).in_transaction
-        → OnOk result (Remakes L.format write.now (state S.Store tx.old.conn.now) (state S.Store tx.new.conn.now)) }
-    ensures makes { HasCleanDisk (state S.Store tx.new.conn.now) → IsTrue (state S.Store tx.old.conn.now).in_transaction
-        → OnOk result (MakesOrTakes write.now (state S.Store tx.old.conn.now) (state S.Store tx.new.conn.now)) }
 {
     match write {
         Write::Init { profile, pattern } => init::<S, L>(tx, profile, pattern),
@@ -233,24 +227,9 @@ pub(crate) fn transact<S: Alter, L: Layout>(
     requires idle { connection.old.in_transaction ≡ false }
     ensures idle { connection.new.in_transaction ≡ false }
     ensures call { Commanded (state S.Store connection.old) (state S.Store connection.new) result }
-    ensures survives { Survives (state S.Store connection.old) (state S.Store connection.new) (λ db. (c : Conditions)
-        → IsReached write.now (state S.Store connection.old)
-        → Commits (Fits (version_of L.format) c write.now) (written c write.now) (state S.Store connection.old) db) }
-    ensures begun { HasCleanDisk (state S.Store connection.new)
-        → OnOk result (Begins (version_of L.format) write.now (state S.Store connection.old) (state S.Store connection.new)) }
-    ensures failed { FailsAlone write.now result }
-    ensures serves { HasCleanDisk (state S.Store connection.new) → (c : Conditions) → IsReached write.now (state S.Store connection.old)
-        → Serves (Fits (version_of L.format) c write.now) (written c write.now) (state S.Store connection.old)
-        (state S.Store connection.new) result }
     ensures unread { NoReadFault result }
     ensures ready { NeverUnready result }
-    ensures sound { HasCleanDisk (state S.Store connection.new) → ReadsSound write.now (state S.Store connection.old) result }
-    ensures remade { HasCleanDisk (state S.Store connection.new)
-        → OnOk result (Remakes L.format write.now (state S.Store connection.old) (state S.Store connection.new)) }
-    ensures makes { HasCleanDisk (state S.Store connection.new)
-        → OnOk result (MakesOrTakes write.now (state S.Store connection.old) (state S.Store connection.new)) }
-    ensures survives_remade { Survives (state S.Store connection.old) (state S.Store connection.new)
-        (CommitsRemade L.format write.now (state S.Store connection.old)) }
+    ensures done { WriteDone S.Store L.format write.now connection.old connection.new result }
 {
     let _settled = connection.is_autocommit();
     let mut tx = connection.transaction();
@@ -266,15 +245,10 @@ pub(crate) fn init_register<S: Alter, L: Layout>(
     profile: &Profile,
 ) -> Result<Reply, Refusal>
     requires idle { connection.old.in_transaction ≡ false }
-    ensures serves { ServesUnder S.Store initialised (version_of L.format) profile.now connection.old connection.new result }
-    ensures begun { HasCleanDisk (state S.Store connection.new) → OnOk result (IsStore (state S.Store connection.old) → (limits : Limits)
-        → IsStore (state S.Store connection.new)
-        × IsImage (state S.Store connection.new).now.trees (holding (conditions (version_of L.format) profile.now limits) [])) }
-    ensures failed { IfErr result (λ refusal. IsFailure (refused (why_of refusal))) }
     ensures idle { connection.new.in_transaction ≡ false }
-    ensures call { Commanded (state S.Store connection.old) (state S.Store connection.new) result }
-    ensures survives { CommitsUnder S.Store initialised (version_of L.format) profile.now connection.old connection.new }
-    ensures unread { NoReadFault result }
+    ensures done { (limits : Limits) → CommandDone S.Store L.format L.row_work L.block_rows
+        (conditions (version_of L.format) profile.now limits) Command.Init connection.old connection.new
+        result no_work }
 {
     // Its profile is some text's.
     profile.is_of_some_text();

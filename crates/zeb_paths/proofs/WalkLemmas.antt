@@ -1,39 +1,60 @@
 -- What a walk has left, where steps are put behind the others, turned round, and taken off.
-use Rattle.std.proofs.Common.{◌≡◌, ◌≢◌, ◌≤◌, ◌<◌, ◌+◌, ◌-◌, ◌*◌, ◌^◌, ℕ, List, [], ◌∷◌, ◌++◌, arith, inl, inr, map, reverse, suc, refl, ap, sym, subst, ◌∙◌}
-use Rattle.std.specs.Prelude.{◌⊎◌, Option, Some, Result, Ok, Err, String, string_bytes}
+use Rattle.std.proofs.Common.{◌≡◌, ◌≢◌, ◌≤◌, ◌<◌, ◌+◌, ◌-◌, ◌*◌, ◌^◌, ℕ, Bool, true, false, List, [], ◌∷◌, ◌++◌, arith, inl, inr, map, nat_eq, reverse, suc, refl, ap, sym, subst, ◌∙◌}
+use Rattle.std.specs.Prelude.{◌⊎◌, Contains, IfErr, IfSome, Option, None, Some, Result, Ok, Err, String, codes, string_bytes}
+use Rattle.std.specs.List.{ends_with}
 use Rattle.std.specs.declared.alloc.Global.{Global}
 use Rattle.std.proofs.Math.Nat.{mul-add, mul-lt-mul_of_pos_left, mul-one, one-le-pow, pow-suc}
 use Rattle.std.proofs.lemmas.List.Sums.{sum_by-append}
-use Rattle.std.proofs.lemmas.List.{map-append, reverse-append, reverse-reverse}
+use Rattle.std.proofs.lemmas.List.{append-nil, append_assoc, map-append, reverse-append, reverse-reverse}
 use Rattle.zeb_paths.specs.declared.walk.Step.{Step}
-use Rattle.std.proofs.lemmas.List.{append_assoc}
-use Rattle.zeb_paths.specs.PrivateWalks.{Begins, IsFaultAt, Sees, fault_at}
-use Rattle.zeb_paths.specs.Walks.{AreUnder, IsFaultUntold, IsUnder, IsUntold, level_weight, paths_left, step_path, step_weight, walk_weight}
+use Rattle.zeb_paths.specs.PrivateWalks.{Sees}
+use Rattle.zeb_paths.specs.Walks.{AreUnder, Due, GivesFile, IsBelow, IsEntered, IsFaultUntold, IsRefused, IsUnder, IsUntold, MayStand, Tells, WalksOn, due, due_of, dues_in, dues_left, fault_at, level_weight, paths_left, slashed, step_path, step_weight, walk_weight}
+use Rattle.zeb_paths.specs.Walks.{at_end, at_fault, at_file, at_folder, not_given, not_there, too_deep}
 use Rattle.zeb_paths.specs.declared.causes.PathCause.{PathCause}
 use Rattle.zeb_paths.specs.declared.causes.PathCause.TheVariants as cause
+use Rattle.zeb_paths.specs.declared.paths.PathKind.{PathKind}
+use Rattle.zeb_paths.specs.declared.paths.PathKind.TheVariants as kind
 use Rattle.zeb_paths.specs.declared.walk.Seen.{Seen}
 use Rattle.zeb_paths.specs.declared.walk.Seen.TheVariants.{File, Folder, End}
 use Rattle.zeb_paths.specs.declared.walk.WalkFault.{WalkFault}
-use Rattle.zeb_paths.specs.declared.walk.WalkFault.TheVariants.{Unreadable, Memory}
+use Rattle.zeb_paths.specs.declared.walk.WalkFault.TheVariants.{Memory}
 
-map_reversed : (steps : List Step) → map step_path (reverse steps) ≡ reverse (map step_path steps)
-map_reversed [] = refl
-map_reversed (step ∷ steps) =
-    ap (map step_path) (reverse-append (step ∷ []) steps)
-    ∙ map-append step_path (reverse steps) (step ∷ [])
-    ∙ ap (λ (front : List (List ℕ)). front ++ step_path step ∷ []) (map_reversed steps)
-    ∙ sym (reverse-append (step_path step ∷ []) (map step_path steps))
+map_reversed : {X Y : Type 0} (f : X → Y) (xs : List X) → map f (reverse xs) ≡ reverse (map f xs)
+map_reversed f [] = refl
+map_reversed f (x ∷ xs) =
+    ap (map f) (reverse-append (x ∷ []) xs) ∙ map-append f (reverse xs) (x ∷ []) ∙ ap (λ front. front ++ f x ∷ []) (map_reversed f xs) ∙ sym (reverse-append (f x ∷ []) (map f xs))
+
+turned_back : {X Y : Type 0} (f : X → Y) (xs turned : List X) → turned ≡ reverse xs → reverse (map f turned) ≡ map f xs
+turned_back f xs turned e = ap (λ all. reverse (map f all)) e ∙ ap reverse (map_reversed f xs) ∙ reverse-reverse (map f xs)
 
 -- steps that are turned round have their paths left from the left
 pub left_turned : (steps turned : List Step) → turned ≡ reverse steps → paths_left turned ≡ map step_path steps
-left_turned steps turned e =
-    ap paths_left e ∙ ap reverse (map_reversed steps) ∙ reverse-reverse (map step_path steps)
+left_turned = turned_back step_path
+
+pub dues_turned : (steps turned : List Step) → turned ≡ reverse steps → dues_left turned ≡ map due_of steps
+dues_turned = turned_back due_of
+
+last_first : {X Y : Type 0} (f : X → Y) (xs : List X) (last : X) → reverse (map f (xs ++ last ∷ [])) ≡ f last ∷ reverse (map f xs)
+last_first f xs last = ap reverse (map-append f xs (last ∷ [])) ∙ reverse-append (map f xs) (f last ∷ [])
 
 -- the last step is the next
-pub left_last : (steps : List Step) (last : Step) → paths_left (steps ++ last ∷ []) ≡ step_path last ∷ paths_left steps
-left_last steps last =
-    ap reverse (map-append step_path steps (last ∷ []))
-    ∙ reverse-append (map step_path steps) (step_path last ∷ [])
+left_last : (steps : List Step) (last : Step) → paths_left (steps ++ last ∷ []) ≡ step_path last ∷ paths_left steps
+left_last = last_first step_path
+
+pub dues_last : (before after : List Step) (last : Step) → before ≡ after ++ last ∷ [] → dues_left before ≡ due_of last ∷ dues_left after
+dues_last before after last e = ap dues_left e ∙ last_first due_of after last
+
+due_path : Due → List ℕ
+due_path here = here.path
+
+paths_same : (steps : List Step) → map due_path (map due_of steps) ≡ map step_path steps
+unfolding due_path
+paths_same [] = refl
+paths_same (step ∷ steps) = ap (λ rest. step_path step ∷ rest) (paths_same steps)
+
+-- the paths of what is left
+paths_of_dues : (steps : List Step) → map due_path (dues_left steps) ≡ paths_left steps
+paths_of_dues steps = map_reversed due_path (map due_of steps) ∙ ap reverse (paths_same steps)
 
 parts : (a b : List ℕ) (xs ys : List (List ℕ)) → a ∷ xs ≡ b ∷ ys → (a ≡ b) × (xs ≡ ys)
 parts a b xs ys e = (cc, cc)
@@ -41,21 +62,29 @@ parts a b xs ys e = (cc, cc)
 some_is_not_none : (a : List ℕ) (xs : List (List ℕ)) → a ∷ xs ≢ []
 some_is_not_none a xs e = absurd (cc)
 
-pub left_parts : (before after : List Step) (last : Step) (path : List ℕ) (rest : List (List ℕ)) → before ≡ after ++ last ∷ [] → paths_left before ≡ path ∷ rest
-    → (step_path last ≡ path) × (paths_left after ≡ rest)
-left_parts before after last path rest e h =
-    let both : step_path last ∷ paths_left after ≡ path ∷ rest = sym (left_last after last) ∙ ap paths_left (sym e) ∙ h in
-    parts (step_path last) path (paths_left after) rest both
+-- what stands below a folder's path stands below what the folder stands below
+slashed_on : (folder behind : List ℕ) → (more : List ℕ) × (slashed folder ++ behind ≡ folder ++ more)
+slashed_on folder behind = by_slash (ends_with nat_eq folder (codes "/")) refl
+  where
+    by_slash : (ends : Bool) → ends_with nat_eq folder (codes "/") ≡ ends → (more : List ℕ) × (slashed folder ++ behind ≡ folder ++ more)
+    by_slash true e = (behind, rw e refl)
+    by_slash false e = (codes "/" ++ behind, rw e (append_assoc folder (codes "/") behind))
 
--- with a step there is a path left
-pub left_some : (before after : List Step) (last : Step) → before ≡ after ++ last ∷ [] → paths_left before ≢ []
-left_some before after last e h =
-    some_is_not_none (step_path last) (paths_left after) (sym (left_last after last) ∙ ap paths_left (sym e) ∙ h)
+pub slash_none : (folder between : List ℕ) → ends_with nat_eq folder (codes "/") ≡ true → between ≡ [] → slashed folder ≡ folder ++ between
+slash_none folder between e is = rw e (sym (ap (λ rest. folder ++ rest) is ∙ append-nil folder))
 
--- what stands below a path that begins so begins so
-pub under_below : (named : List (List ℕ)) (folder path : List ℕ) → Begins folder path → IsUnder named folder → IsUnder named path
-under_below named folder path below under =
-    (under.0, under.1 ++ below.0, under.2, below.1 ∙ ap (λ front. front ++ below.0) under.3 ∙ append_assoc under.0 under.1 below.0)
+pub slash_some : (folder between : List ℕ) → ends_with nat_eq folder (codes "/") ≡ false → between ≡ codes "/" → slashed folder ≡ folder ++ between
+slash_some folder between e is = rw e (ap (λ rest. folder ++ rest) (sym is))
+
+below_below : (one folder path : List ℕ) → IsBelow one folder → IsBelow folder path → IsBelow one path
+below_below one folder path (front, is) (behind, same) =
+    let on = slashed_on folder behind in
+    (front ++ on.0, same ∙ on.1 ∙ ap (λ start. start ++ on.0) is ∙ append_assoc (slashed one) front on.0)
+
+-- what stands below such a folder stands below one of these
+pub under_below : (named : List (List ℕ)) (folder path : List ℕ) → IsBelow folder path → IsUnder named folder → IsUnder named path
+under_below named folder path below (one, has, inl same) = (one, has, inr (subst (λ f. IsBelow f path) same below))
+under_below named folder path below (one, has, inr under) = (one, has, inr (below_below one folder path under below))
 
 -- the last step, and those before it
 pub under_popped : (named : List (List ℕ)) (before after : List Step) (last : Step) → before ≡ after ++ last ∷ [] → AreUnder named (paths_left before) → IsUnder named (step_path last) × AreUnder named (paths_left after)
@@ -66,67 +95,111 @@ under_pushed named before after last e one all = subst (AreUnder named) (sym (ap
 
 -- ---- what is seen
 
+-- what may stand at a path that is shown
+pub may_stand : (at : Tells) (path shown : List ℕ) (found : Result PathKind PathCause) → shown ≡ path → ((bytes : List ℕ) → at.bytes shown ≡ Some bytes → found ≡ Ok kind.File)
+    → IfSome (at.stands shown) (λ told. found ≡ told) → MayStand at path found
+may_stand at path shown found same file stands = subst (λ p. MayStand at p found) same (file, stands)
+
 -- at a step that is taken off
-pub sees_popped : (tells : List ℕ → Option (List ℕ)) (before after : List Step) (last : Step) (later : List (List ℕ)) (result : Result Seen WalkFault) → before ≡ after ++ last ∷ []
-    → Sees tells (step_path last ∷ paths_left after) later result → Sees tells (paths_left before) later result
-sees_popped tells before after last later result e sees =
-    subst (λ left. Sees tells left later result) (sym (ap paths_left e ∙ left_last after last)) sees
+pub sees_popped : (at : Tells) (before after : List Step) (last : Step) (later : List Due) (result : Result Seen WalkFault) → before ≡ after ++ last ∷ []
+    → Sees at (due_of last ∷ dues_left after) result later → Sees at (dues_left before) result later
+sees_popped at before after last later result e sees = subst (λ left. Sees at left result later) (sym (dues_last before after last e)) sees
 
--- a path that can't be read is told by itself
-pub sees_fault : (tells : List ℕ → Option (List ℕ)) (path : String Global) (rest later : List (List ℕ)) (why : WalkFault) → IsFaultAt path why → IsUntold tells (string_bytes path)
-    → Sees tells (string_bytes path ∷ rest) later (Err why)
-sees_fault tells path rest later (Unreadable given) at untold = (ap string_bytes at, untold)
-sees_fault tells path rest later Memory at untold = untold
+starved_anyway : (told : Option (List (List ℕ))) → IfSome told (λ names. (cause.Memory ≡ cause.Memory) ⊎ Contains names [])
+starved_anyway None = tt
+starved_anyway (Some names) = inl refl
 
-pub fault_is_at : (path : String Global) (why : PathCause) (fault : WalkFault) → fault ≡ fault_at path why → IsFaultAt path fault
-fault_is_at path cause.Absent fault e = subst (IsFaultAt path) (sym e) refl
-fault_is_at path cause.Forbidden fault e = subst (IsFaultAt path) (sym e) refl
-fault_is_at path cause.Neither fault e = subst (IsFaultAt path) (sym e) refl
-fault_is_at path cause.Folder fault e = subst (IsFaultAt path) (sym e) refl
-fault_is_at path cause.Content fault e = subst (IsFaultAt path) (sym e) refl
-fault_is_at path cause.Name fault e = subst (IsFaultAt path) (sym e) refl
-fault_is_at path cause.Failed fault e = subst (IsFaultAt path) (sym e) refl
-fault_is_at path cause.Memory fault e = subst (IsFaultAt path) (sym e) tt
+pub refused_starved : {X : Type 0} (given : String Global) (told : Option (List (List ℕ))) (r : Result X WalkFault) → r ≡ Err Memory
+    → IfErr r (λ met. (why : PathCause) × (met ≡ fault_at given why) × IfSome told (λ names. (why ≡ cause.Memory) ⊎ Contains names []))
+refused_starved given told r is =
+    subst (λ r. IfErr r (λ met. (why : PathCause) × (met ≡ fault_at given why) × IfSome told (λ names. (why ≡ cause.Memory) ⊎ Contains names []))) (sym is)
+    (cause.Memory, refl, starved_anyway told)
 
--- the file of this path is seen
-abbrev pub SeesFile : List ℕ → Result Seen WalkFault → Type 0
-SeesFile path (Ok (File given)) = string_bytes given ≡ path
-SeesFile path other = ⊥
+-- a folder's names are put before what is left, the last one first
+pub entered_on : (folder : Due) (names : List (String Global)) (name : String Global) (before after : List Step) (last : Step) → after ≡ before ++ last ∷ []
+    → due_of last ≡ due (slashed folder.path ++ string_bytes name) (folder.level + 1)
+    → dues_in folder (map string_bytes names) ++ dues_left after ≡ dues_in folder (map string_bytes (names ++ name ∷ [])) ++ dues_left before
+entered_on folder names name before after last e is =
+    let place = λ (n : List ℕ). due (slashed folder.path ++ n) (folder.level + 1) in
+    let split : dues_in folder (map string_bytes (names ++ name ∷ [])) ≡ dues_in folder (map string_bytes names) ++ place (string_bytes name) ∷ [] =
+    ap (map place) (map-append string_bytes names (name ∷ [])) ∙ map-append place (map string_bytes names) (string_bytes name ∷ []) in
+    ap (λ left. dues_in folder (map string_bytes names) ++ left) (dues_last after before last e ∙ ap (λ first. first ∷ dues_left before) is)
+    ∙ sym (append_assoc (dues_in folder (map string_bytes names)) (place (string_bytes name) ∷ []) (dues_left before)) ∙ ap (λ front. front ++ dues_left before) (sym split)
 
--- Of the paths that were left at first, these are: all of them, or the first was no file of which the paths tell the bytes.
-abbrev pub Walked : (List ℕ → Option (List ℕ)) → List (List ℕ) → List (List ℕ) → Type 0
-Walked tells first left = (left ≡ first) ⊎ ((path : List ℕ) × (rest : List (List ℕ)) × (first ≡ path ∷ rest) × IsUntold tells path)
+-- ---- a walk
 
-pub walked_on : (tells : List ℕ → Option (List ℕ)) (first left later : List (List ℕ)) → Walked tells first left → Sees tells left later (Ok Folder) → Walked tells first later
-walked_on tells first [] later walked sees = absurd cc
-walked_on tells first (path ∷ rest) later (inl same) sees = inr (path, rest, sym same, sees)
-walked_on tells first (path ∷ rest) later (inr walked) sees = inr walked
+pub sees_folder : (at : Tells) (left next : List Due) (result : Result (Option (String Global)) WalkFault) (later : List Due) → Sees at left (Ok Folder) next → WalksOn at next result later → WalksOn at left result later
+sees_folder at [] next result later sees on = absurd (let same = sees.0 in cc)
+sees_folder at (here ∷ rest) next result later (names, entered, is) on = at_folder entered (subst (λ left. WalksOn at left result later) is on)
 
-sees_told : (tells : List ℕ → Option (List ℕ)) (path bytes : List ℕ) (rest later : List (List ℕ)) (result : Result Seen WalkFault) → tells path ≡ Some bytes → Sees tells (path ∷ rest) later result
-    → SeesFile path result × (later ≡ rest)
-sees_told tells path bytes rest later (Ok (File given)) told sees = sees
-sees_told tells path bytes rest later (Ok Folder) told sees = absurd (sees bytes told)
-sees_told tells path bytes rest later (Ok End) told sees = absurd sees
-sees_told tells path bytes rest later (Err (Unreadable given)) told sees = absurd (sees.1 bytes told)
-sees_told tells path bytes rest later (Err Memory) told sees = absurd (sees bytes told)
+pub sees_file : (at : Tells) (left later : List Due) (given : String Global) → Sees at left (Ok (File given)) later → WalksOn at left (Ok (Some given)) later
+sees_file at [] later given sees = absurd (let same = sees.0 in cc)
+sees_file at (here ∷ rest) later given (stands, same, is) = subst (λ left. WalksOn at (here ∷ rest) (Ok (Some given)) left) (sym is) (at_file stands same)
 
-pub walked_told : (tells : List ℕ → Option (List ℕ)) (first left later : List (List ℕ)) (result : Result Seen WalkFault) → Walked tells first left → Sees tells left later result
-    → (path bytes : List ℕ) (rest : List (List ℕ)) → first ≡ path ∷ rest → tells path ≡ Some bytes → SeesFile path result × (later ≡ rest)
-walked_told tells first left later result (inl same) sees path bytes rest is told =
-    sees_told tells path bytes rest later result told (subst (λ l. Sees tells l later result) (same ∙ is) sees)
-walked_told tells first left later result (inr walked) sees path bytes rest is told =
-    let same = parts walked.0 path walked.1 rest (sym walked.2 ∙ is) in
-    absurd (walked.3 bytes (ap tells same.0 ∙ told))
+pub sees_end : (at : Tells) (left later : List Due) → Sees at left (Ok End) later → WalksOn at left (Ok None) later
+sees_end at [] later sees = subst (λ left. WalksOn at [] (Ok None) left) (sym sees.1) at_end
+sees_end at (here ∷ rest) later sees = absurd sees
 
-pub walked_ended : (tells : List ℕ → Option (List ℕ)) (first left later : List (List ℕ)) (result : Result Seen WalkFault) → Walked tells first left → Sees tells left later result → first ≡ [] → result ≡ Ok End
-walked_ended tells first left later result (inl same) sees none = subst (λ l. Sees tells l later result) (same ∙ none) sees
-walked_ended tells first left later result (inr walked) sees none = absurd (some_is_not_none walked.0 walked.1 (sym walked.2 ∙ none))
+pub sees_fault : (at : Tells) (left later : List Due) (met : WalkFault) → Sees at left (Err met) later → WalksOn at left (Err met) later
+sees_fault at [] later met sees = absurd (let same = sees.0 in cc)
+sees_fault at (here ∷ rest) later met (given, why, refused, same, is) = at_fault given why refused same is
+
+-- at a refused path no file's bytes are told
+refused_untold : (at : Tells) (here : Due) (why : PathCause) → IsRefused at here why → IsUntold at.bytes here.path
+refused_untold at here why (not_there stands) bytes told = let both = stands.0 bytes told in absurd cc
+refused_untold at here why (too_deep stands below) bytes told = let both = stands.0 bytes told in absurd cc
+refused_untold at here why (not_given stands refuses) bytes told = let both = stands.0 bytes told in absurd cc
+
+entered_untold : (at : Tells) (here : Due) (names : List (List ℕ)) → IsEntered at here names → IsUntold at.bytes here.path
+entered_untold at here names entered bytes told = let both = entered.0.0 bytes told in absurd cc
+
+first_told : (at : Tells) (dues : List Due) (result : Result (Option (String Global)) WalkFault) (later : List Due) → WalksOn at dues result later → (path bytes : List ℕ) (rest : List (List ℕ))
+    → map due_path dues ≡ path ∷ rest → at.bytes path ≡ Some bytes → GivesFile path result × (map due_path later ≡ rest)
+unfolding due_path
+first_told at dues result later at_end path bytes rest is told = absurd cc
+first_told at dues result later (at_file {here = here} {rest = others} {given = given} stands same) path bytes rest is told =
+    let both = parts here.path path (map due_path others) rest is in
+    (same ∙ both.0, both.1)
+first_told at dues result later (at_folder {here = here} {rest = others} {names = names} entered on) path bytes rest is told =
+    let both = parts here.path path (map due_path others) rest is in
+    absurd (entered_untold at here names entered bytes (ap at.bytes both.0 ∙ told))
+first_told at dues result later (at_fault {here = here} {rest = others} given why refused same met) path bytes rest is told =
+    let both = parts here.path path (map due_path others) rest is in
+    absurd (refused_untold at here why refused bytes (ap at.bytes both.0 ∙ told))
+
+pub walks_told : (at : Tells) (steps later : List Step) (result : Result (Option (String Global)) WalkFault) → WalksOn at (dues_left steps) result (dues_left later) → (path bytes : List ℕ) (rest : List (List ℕ))
+    → paths_left steps ≡ path ∷ rest → at.bytes path ≡ Some bytes → GivesFile path result × (paths_left later ≡ rest)
+walks_told at steps later result on path bytes rest is told =
+    let met = first_told at (dues_left steps) result (dues_left later) on path bytes rest (paths_of_dues steps ∙ is) told in
+    (met.0, sym (paths_of_dues later) ∙ met.1)
+
+none_ended : (at : Tells) (dues : List Due) (result : Result (Option (String Global)) WalkFault) (later : List Due) → WalksOn at dues result later → map due_path dues ≡ [] → result ≡ Ok None
+unfolding due_path
+none_ended at dues result later at_end none = refl
+none_ended at dues result later (at_file stands same) none = absurd cc
+none_ended at dues result later (at_folder entered on) none = absurd cc
+none_ended at dues result later (at_fault given why refused same met) none = absurd cc
+
+pub walks_ended : (at : Tells) (steps later : List Step) (result : Result (Option (String Global)) WalkFault) → WalksOn at (dues_left steps) result (dues_left later) → paths_left steps ≡ [] → result ≡ Ok None
+walks_ended at steps later result on none = none_ended at (dues_left steps) result (dues_left later) on (paths_of_dues steps ∙ none)
+
+fault_untold : (tells : List ℕ → Option (List ℕ)) (given : String Global) (why : PathCause) → IsUntold tells (string_bytes given) → IsFaultUntold tells (fault_at given why)
+fault_untold tells given cause.Absent untold = untold
+fault_untold tells given cause.Forbidden untold = untold
+fault_untold tells given cause.Neither untold = untold
+fault_untold tells given cause.Folder untold = untold
+fault_untold tells given cause.Content untold = untold
+fault_untold tells given cause.Name untold = untold
+fault_untold tells given cause.Failed untold = untold
+fault_untold tells given cause.Memory untold = tt
 
 -- a fault is of a path that isn't told
-pub fault_untold : (tells : List ℕ → Option (List ℕ)) (left later : List (List ℕ)) (why : WalkFault) → Sees tells left later (Err why) → IsFaultUntold tells why
-fault_untold tells [] later why sees = absurd cc
-fault_untold tells (path ∷ rest) later (Unreadable given) sees = subst (IsUntold tells) (sym sees.0) sees.1
-fault_untold tells (path ∷ rest) later Memory sees = tt
+pub walks_untold : (at : Tells) (dues : List Due) (result : Result (Option (String Global)) WalkFault) (later : List Due) → WalksOn at dues result later → IfErr result (IsFaultUntold at.bytes)
+walks_untold at dues result later at_end = tt
+walks_untold at dues result later (at_file stands same) = tt
+walks_untold at dues result later (at_folder {here = here} {rest = others} {names = names} entered on) = walks_untold at (dues_in here names ++ others) result later on
+walks_untold at dues result later (at_fault {here = here} given why refused same met) =
+    subst (IsFaultUntold at.bytes) (sym met) (fault_untold at.bytes given why (subst (IsUntold at.bytes) (sym same) (refused_untold at here why refused)))
 
 -- ---- weights
 

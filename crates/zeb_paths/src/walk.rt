@@ -1,10 +1,14 @@
 //! The files at and below the paths that a user names.
 
-ghost use Rattle.std.specs.Prelude.{◌≡◌, ◌≤◌, ◌<◌, ◌+◌, ◌∷◌, [], ℕ, List, Some, None, Ok, IfErr, IfOk, IfSome, map, string_bytes};
-ghost use Rattle.zeb_paths.specs.Walks.{AreUnder, GivesFile, GivesUnder, IsFaultUnder, IsFaultUntold, IsUnder, paths_left};
+ghost use Rattle.std.specs.Prelude.{◌≡◌, ◌⊎◌, ◌≤◌, ◌<◌, ◌+◌, ◌∷◌, ◌++◌, [], ℕ, Contains, List, Some, None, Ok, map, string_bytes};
+ghost use Rattle.std.specs.Prelude.{IfErr, IfOk, IfSome};
+ghost use Rattle.zeb_paths.specs.Walks.{AreInOrder, AreUnder, GivesFile, GivesUnder, IsFaultUnder, IsFaultUntold, IsUnder};
+ghost use Rattle.zeb_paths.specs.Walks.{WalksOn, due, due_of, dues_in, dues_left, fault_at, paths_left, slashed, telling};
 ghost use Rattle.zeb_paths.specs.Walks.{step_weight, walk_weight};
+ghost use Rattle.zeb_paths.specs.declared.causes.PathCause.{PathCause as Cause};
+ghost use Rattle.zeb_paths.specs.declared.causes.PathCause.TheVariants.{Memory as NoMemory};
 ghost use Rattle.zeb_paths.specs.declared.walk.WalkFault.TheVariants.{Memory as Starved};
-ghost use Rattle.zeb_paths.specs.PrivateWalks.{Begins, IsFaultAt, IsLighter, Sees, SeesUnder, fault_at};
+ghost use Rattle.zeb_paths.specs.PrivateWalks.{IsLighter, Sees, SeesUnder};
 
 use crate::causes::PathCause;
 use crate::paths::{PathKind, Paths};
@@ -81,6 +85,8 @@ impl<'a, P: Paths> Walk<'a, P> {
     pub fn new(alloc: Global, paths: &'a P, named: &[String]) -> Result<Walk<'a, P>, AllocError>
         ensures paths { IfOk result (λ walk. walk.paths ≡ paths.entry) }
         ensures left { IfOk result (λ walk. paths_left walk.steps.items ≡ map string_bytes named.now) }
+        ensures levels { IfOk result (λ walk. dues_left walk.steps.items
+            ≡ map (λ path. due (string_bytes path) 1) named.now) }
     {
         let mut steps = Vec::new(alloc);
         for path in named {
@@ -95,10 +101,13 @@ impl<'a, P: Paths> Walk<'a, P> {
         })
     }
 
-    /// The path of the next file, or `None` behind the last. After a fault the walk is of no use. A file of which the paths
-    /// tell the bytes is given by its own path, and is never a path that can't be read.
+    /// The path of the next file, or `None` behind the last: what stands in a folder comes in the folder's place, in the
+    /// order of the names. After a fault the walk is of no use. A file of which the paths tell the bytes is given by its own
+    /// path, and is never a path that can't be read.
     pub fn next_file(&mut self) -> Result<Option<String>, WalkFault>
         ensures paths { self.new.paths ≡ self.old.paths }
+        ensures walks { WalksOn (telling (P.tells self.old.paths.now) (P.stands self.old.paths.now)
+            (P.lists self.old.paths.now)) (dues_left self.old.steps.items) result (dues_left self.new.steps.items) }
         ensures told { (path bytes : List ℕ) (rest : List (List ℕ)) → paths_left self.old.steps.items ≡ path ∷ rest
             → P.tells self.old.paths.now path ≡ Some bytes → GivesFile path result × (paths_left self.new.steps.items ≡ rest) }
         ensures ended { paths_left self.old.steps.items ≡ [] → result ≡ Ok None }
@@ -121,7 +130,8 @@ impl<'a, P: Paths> Walk<'a, P> {
     /// Looks at the next path.
     fn look(&mut self) -> Result<Seen, WalkFault>
         ensures paths { self.new.paths ≡ self.old.paths }
-        ensures sees { Sees (P.tells self.old.paths.now) (paths_left self.old.steps.items) (paths_left self.new.steps.items) result }
+        ensures sees { Sees (telling (P.tells self.old.paths.now) (P.stands self.old.paths.now)
+            (P.lists self.old.paths.now)) (dues_left self.old.steps.items) result (dues_left self.new.steps.items) }
         ensures under { (named : List (List ℕ)) → AreUnder named (paths_left self.old.steps.items)
             → SeesUnder named result × AreUnder named (paths_left self.new.steps.items) }
         ensures lighter { IfOk result (IsLighter self.old.steps.items self.new.steps.items) }
@@ -147,7 +157,14 @@ impl<'a, P: Paths> Walk<'a, P> {
         ensures under { (named : List (List ℕ)) → IsUnder named (string_bytes folder.path)
             → AreUnder named (paths_left self.old.steps.items)
             → IfErr result (IsFaultUnder named) × AreUnder named (paths_left self.new.steps.items) }
-        ensures at { IfErr result (IsFaultAt folder.path) }
+        ensures refused { IfErr result (λ met. (why : Cause) × (met ≡ fault_at folder.path why)
+            × IfSome (P.lists self.old.paths.now (string_bytes folder.path))
+            (λ told. (why ≡ NoMemory) ⊎ Contains told [])) }
+        ensures entered { IfOk result (λ _. (names : List (List ℕ))
+            × AreInOrder (telling (P.tells self.old.paths.now) (P.stands self.old.paths.now)
+            (P.lists self.old.paths.now)) (string_bytes folder.path) names
+            × (dues_left self.new.steps.items
+            ≡ dues_in (due_of folder) names ++ dues_left self.old.steps.items)) }
         ensures lighter { IfOk result (λ _. walk_weight self.new.steps.items < walk_weight self.old.steps.items + step_weight folder) }
     {
         let mut names = match self.paths.names(self.alloc, folder.path.as_str()) {
@@ -168,8 +185,8 @@ impl<'a, P: Paths> Walk<'a, P> {
 
 /// The path of a name in a folder.
 fn path_in(alloc: Global, folder: &str, name: &str) -> Result<String, AllocError>
-    ensures { IfOk result (λ path. Begins folder.now (string_bytes path)) }
+    ensures { IfOk result (λ path. string_bytes path ≡ slashed folder.now ++ name.now) }
 {
-    let between = if folder.ends_with('/') { "" } else { "/" };
+    let between = if folder.ends_with("/") { "" } else { "/" };
     format!(in alloc; "{folder}{between}{name}")
 }

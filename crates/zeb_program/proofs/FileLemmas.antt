@@ -1,11 +1,10 @@
 -- What is answered where the profile in a file is read.
-use Rattle.std.proofs.Common.{◌≡◌, ◌≤◌, ◌∙◌, ℕ, Bool, true, false, List, Vec, arith, refl, subst, sym}
-use Rattle.std.specs.Prelude.{Option, Some, None, Result, Ok, Err, IfOk, IfSome, String, string_bytes, string_len, vec_len}
+use Rattle.std.proofs.Common.{◌≡◌, ◌≤◌, ℕ, Bool, true, false, List, Vec, arith, refl, subst, sym}
+use Rattle.std.specs.Prelude.{Option, Some, None, Result, Ok, Err, IfOk, IfSome, String, string_bytes, string_len}
 use Rattle.std.specs.declared.alloc.Global.{Global}
 use Rattle.std.proofs.lemmas.Str.{IsUtf8-string_bytes}
-use Rattle.zeb_profile.specs.declared.directives.Directive.{Directive}
-use Rattle.zeb_program.specs.Inputs.{IsTextWithin}
-use Rattle.zeb_program.specs.PrivateFiles.{IsShort, ReadsContent}
+use Rattle.zeb_program.specs.Inputs.{IsShort, IsTextWithin}
+use Rattle.zeb_program.specs.PrivateFiles.{ReadsContent}
 use Rattle.zeb_program.specs.ProfileFiles.{IsProfileText, ReadsProfile}
 use Rattle.zeb_program.specs.declared.faults.Fault.{Fault}
 use Rattle.zeb_program.specs.declared.faults.Fault.TheVariants as fault

@@ -1,6 +1,6 @@
 -- What is written for a command, a change by a path and a line is their answer on any tables.
 use Rattle.std.proofs.Common.{◌≡◌, ◌⊎◌, inl, inr, ℕ, Bool, false, List, [], ◌∷◌, ◌++◌, Vec, ap, map, refl, subst, sym}
-use Rattle.std.specs.Prelude.{Option, Some, Result, Ok, Err, IfOk, OnErr, String, string_bytes}
+use Rattle.std.specs.Prelude.{Option, Some, Result, Ok, Err, IfErr, IfOk, OnErr, String, string_bytes}
 use Rattle.std.specs.declared.alloc.AllocError.{AllocError}
 use Rattle.std.specs.declared.alloc.Global.{Global}
 use Rattle.std.specs.Io.KnownBytes.{Appends}
@@ -42,9 +42,9 @@ use Rattle.zeb_program.specs.declared.tasks.Task.TheVariants.{Ask, Change, Analy
 use Rattle.zeb_program.specs.Answers.{ChangesBy, Writes}
 use Rattle.zeb_program.specs.FaultLines.{TellsFault}
 use Rattle.zeb_program.specs.PrivateFaults.{IsUnread}
-use Rattle.zeb_program.specs.FaultAnswers.{GivesAnswer}
-use Rattle.zeb_program.specs.PrivateFiles.{AreShort}
-use Rattle.zeb_program.specs.PrivateOverTables.{AnalysesOver, CommandOver, LineOver, PathOver, PathsLeave, PathsOver, SaysOver, ServesOver, TaskOver}
+use Rattle.zeb_program.specs.FaultAnswers.{GivesAnswer, NamesUnder, NamesUntold}
+use Rattle.zeb_program.specs.Inputs.{AreShort}
+use Rattle.zeb_program.specs.OverTables.{AnalysesOver, CommandOver, LineOver, PathOver, PathsLeave, PathsOver, SaysOver, ServesOver, TaskOver}
 use Rattle.zeb_program.specs.TaskAnswers.{AreTold}
 use Rattle.zeb_program.specs.Says.{Says}
 use Rattle.zeb_program.specs.declared.statuses.Status.{Status}
@@ -87,6 +87,10 @@ given_refused : (P : Type 0) (r : Result Reply Refusal) → OnErr r P → OnErr 
 given_refused P (Ok reply) p = p
 given_refused P (Err refusal) p = p
 
+given_untold : (told : List ℕ → Option (List ℕ)) (r : Result Reply Refusal) → IfErr (given r) (NamesUntold told)
+given_untold told (Ok reply) = tt
+given_untold told (Err refusal) = tt
+
 damaged : (r : Result Reply Refusal) → given r ≡ Err (fault.Refused Damaged) → r ≡ Err Damaged
 damaged (Ok reply) is = absurd (cc is)
 damaged (Err refusal) is = cc is
@@ -102,15 +106,16 @@ module _ (told : List ℕ → Option (List ℕ)) (format : Format) (profile : Li
   changed_over remaining has_failed before after r all ready elder honest = record {
     ready = inr (gives (GoesByTexts (version_of format) profile s) r ready);
     changes = λ files known. let tell = all files known in gives (ChangesReady (version_of format) profile kind limits name files s) r (elder files tell.0 tell.1);
+    untold = given_untold told r;
     honest = λ is. honest (damaged r is);
   }
 
   -- a path couldn't be read, or memory ran out in the program itself
-  pub unread_over : (why : Fault) → IsUnread why → ((files : List (List ℕ)) → AreTold told paths files → why ≡ fault.Memory) → PathsOver told format profile kind limits name paths s (Err why)
-  unread_over (fault.Unreadable path) unread memory = record { ready = inl tt; changes = λ files known. absurd (cc (memory files known)); honest = λ is. absurd (cc is) }
-  unread_over fault.Memory unread memory = record { ready = inr tt; changes = λ files known. tt; honest = λ is. absurd (cc is) }
-  unread_over (fault.Profile file why) unread memory = absurd unread
-  unread_over (fault.Refused refusal) unread memory = absurd unread
+  pub unread_over : (why : Fault) → IsUnread why → NamesUntold told why → ((files : List (List ℕ)) → AreTold told paths files → why ≡ fault.Memory) → PathsOver told format profile kind limits name paths s (Err why)
+  unread_over (fault.Unreadable path) unread untold memory = record { ready = inl tt; untold = untold; changes = λ files known. absurd (cc (memory files known)); honest = λ is. absurd (cc is) }
+  unread_over fault.Memory unread untold memory = record { ready = inr tt; untold = tt; changes = λ files known. tt; honest = λ is. absurd (cc is) }
+  unread_over (fault.Profile file why) unread untold memory = absurd unread
+  unread_over (fault.Refused refusal) unread untold memory = absurd unread
 
 -- what is left of the tables
 module _ (told : List ℕ → Option (List ℕ)) (c : Conditions) (kind : Kind) (name : List ℕ) (paths : List (List ℕ)) (old new : State) where
@@ -219,21 +224,24 @@ module _ (told : List ℕ → Option (List ℕ)) (format : Format) (c : Conditio
       → PathsLeave told c change.kind (name_bytes change.database) (string_bytes change.path ∷ []) old new result
   leaves_path result is leaves = subst (λ paths. PathsLeave told c change.kind (name_bytes change.database) paths old new result) (ap (map string_bytes) is) leaves
 
+  named_under : (why : Fault) → named ≡ change.path ∷ [] → NamesUnder (map string_bytes named) why → NamesUnder (string_bytes change.path ∷ []) why
+  named_under why is under = subst (λ paths. NamesUnder paths why) (ap (map string_bytes) is) under
+
   pub replied_path : (reply : Reply) (bytes : List ℕ) → named ≡ change.path ∷ [] → (Clean → PathsOver told format c.profile change.kind c.limits (name_bytes change.database) (map string_bytes named) old (Ok reply))
       → (Clean → PathsLeave told c change.kind (name_bytes change.database) (map string_bytes named) old new (Ok reply))
       → bytes ≡ reply_text reply → (failed ≡ false → Appends wrote writes bytes)
       → failed ≡ false → Clean → Writes wrote writes (λ given. PathOver told format c change old given Answered new)
-  replied_path reply bytes one over leaves is grew sound clean = (bytes, (Ok reply, (is, refl), named_over (Ok reply) one (over clean), leaves_path (Ok reply) one (leaves clean)), grew sound)
+  replied_path reply bytes one over leaves is grew sound clean = (bytes, (Ok reply, (is, refl), tt, named_over (Ok reply) one (over clean), leaves_path (Ok reply) one (leaves clean)), grew sound)
 
-  pub refused_path : (why : Fault) (r : Result Status AllocError) → named ≡ change.path ∷ [] → (Clean → PathsOver told format c.profile change.kind c.limits (name_bytes change.database) (map string_bytes named) old (Err why))
+  pub refused_path : (why : Fault) (r : Result Status AllocError) → named ≡ change.path ∷ [] → NamesUnder (map string_bytes named) why → (Clean → PathsOver told format c.profile change.kind c.limits (name_bytes change.database) (map string_bytes named) old (Err why))
       → (Clean → PathsLeave told c change.kind (name_bytes change.database) (map string_bytes named) old new (Err why))
       → IfOk r (λ status. failed ≡ false → Writes wrote writes (λ line. TellsFault why line status))
       → IfOk r (λ status. failed ≡ false → Clean → Writes wrote writes (λ bytes. PathOver told format c change old bytes status new))
-  refused_path why (Err e) one over leaves tells = tt
-  refused_path why (Ok status) one over leaves tells = λ sound clean.
+  refused_path why (Err e) one under over leaves tells = tt
+  refused_path why (Ok status) one under over leaves tells = λ sound clean.
       let w = tells sound in
       let result : Result Reply Fault = Err why in
-      (w.0, (result, w.1, named_over result one (over clean), leaves_path result one (leaves clean)), w.2)
+      (w.0, (result, w.1, named_under why one under, named_over result one (over clean), leaves_path result one (leaves clean)), w.2)
 
 -- ---- a line
 

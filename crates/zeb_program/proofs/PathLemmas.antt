@@ -1,6 +1,6 @@
 -- Changes by a path of which the file's bytes are told.
-use Rattle.std.proofs.Common.{◌≡◌, ◌∙◌, inl, ℕ, zero, suc, Bool, false, List, [], ◌∷◌, ap, refl, subst}
-use Rattle.std.specs.Prelude.{Option, Some, Result, Ok, Err, IfOk, codes, string_bytes}
+use Rattle.std.proofs.Common.{◌≡◌, ◌∙◌, inl, inr, ℕ, zero, suc, Bool, false, List, [], ◌∷◌, ap, refl, subst}
+use Rattle.std.specs.Prelude.{Option, Some, None, Result, Ok, Err, IfOk, codes, string_bytes}
 use Rattle.std.specs.declared.alloc.AllocError.{AllocError}
 use Rattle.std.specs.Io.KnownBytes.{Appends}
 use Rattle.std.specs.Str.{IsUtf8}
@@ -13,13 +13,14 @@ use Rattle.zeb_program.specs.declared.faults.Fault.{Fault}
 use Rattle.zeb_program.specs.declared.faults.Fault.TheVariants as fault
 use Rattle.zeb_program.specs.declared.lines.Line.TheVariants.{Path}
 use Rattle.zeb_program.specs.declared.path_changes.PathChange.{PathChange}
-use Rattle.zeb_program.specs.Answers.{AnswersLine, ChangesBy, IsFileAnswer, Writes}
+use Rattle.zeb_program.specs.Answers.{AnswersAsTold, ChangesBy, IsFileAnswer, IsLineUntold, Writes}
 use Rattle.zeb_program.specs.FaultLines.{TellsFault}
 use Rattle.zeb_program.specs.Lines.{first_line, after_first_line}
 use Rattle.zeb_program.specs.PathChanges.{AreFilesTold, IsLineTold, HasPath, NamesPath}
 use Rattle.zeb_program.specs.Says.{SaysText}
 use Rattle.zeb_program.specs.Scripts.{BeginsRegister, after_lines}
-use Rattle.zeb_program.specs.PrivateServing.{AnswersFrom, Leads}
+use Rattle.zeb_program.specs.PrivateServing.{Leads}
+use Rattle.zeb_program.specs.Serving.{AnswersFrom, LeadsOn}
 use Rattle.zeb_program.specs.Words.{without_blanks}
 use Rattle.zeb_program.specs.declared.statuses.Status.{Status}
 use Rattle.zeb_program.specs.declared.statuses.Status.TheVariants.{Answered}
@@ -88,13 +89,26 @@ has_path : (text : List ℕ) (change : PathChange) → NamesPath text change →
 has_path text change named = record { kind = change.kind; word = named.word; name = named.name.0; some = named.some; other = named.other }
 
 -- what is said of a line that names a change by a path
-pub path_line : (told : List ℕ → Option (List ℕ)) (c : Conditions) (change : PathChange) (number : ℕ) (text : List ℕ) (old new : State) (wrote writes : Option (List ℕ)) (failed : Bool) (Clean : Type 0) (r : Result Status AllocError)
+pub path_line : (told : List ℕ → Option (List ℕ)) (c : Conditions) (change : PathChange) (number : ℕ) (text : List ℕ) (old new : State) (wrote writes : Option (List ℕ)) (failed : Bool) (Clean : Type 0) (Over : Status → List ℕ → Type 0) (r : Result Status AllocError)
     → IsUtf8 text → SaysText text (Path change)
     → IfOk r (λ status. failed ≡ false → Clean → OfFile told change (λ file. Leads old new wrote writes (λ before bytes later. IsFileAnswer c change file before bytes status later)))
-    → IfOk r (λ status. failed ≡ false → Clean → IsLineTold told text → Leads old new wrote writes (λ before bytes later. AnswersLine told c number text before bytes status later))
-path_line told c change number text old new wrote writes failed Clean (Err e) utf8 says h = h
-path_line told c change number text old new wrote writes failed Clean (Ok status) utf8 says h = λ sound clean known before keeps.
+    → IfOk r (λ status. failed ≡ false → Clean → Writes wrote writes (Over status))
+    → IfOk r (λ status. failed ≡ false → Clean → LeadsOn old new wrote writes (λ before bytes later. AnswersAsTold told c number text before bytes status later))
+path_line told c change number text old new wrote writes failed Clean Over (Err e) utf8 says h over = h
+path_line told c change number text old new wrote writes failed Clean Over (Ok status) utf8 says h over = λ sound clean. known (told (string_bytes change.path)) refl (h sound clean) (over sound clean)
+  where
+    known : (found : Option (List ℕ)) → told (string_bytes change.path) ≡ found → OfFile told change (λ file. Leads old new wrote writes (λ before bytes later. IsFileAnswer c change file before bytes status later))
+        → Writes wrote writes (Over status) → LeadsOn old new wrote writes (λ before bytes later. AnswersAsTold told c number text before bytes status later)
+    known found is leads wrote_some None _ = (None, tt, (wrote_some.0, refl, wrote_some.2))
+    known None is leads wrote_some (Some before) _ = (None, tt, (wrote_some.0, (change, inl (utf8, says), is), wrote_some.2))
+    known (Some file) is leads wrote_some (Some before) keeps =
+        let w = leads file is before keeps in
+        (Some w.0, w.1, (w.2.0, (Path change, inl (utf8, says), (file, is, w.2.1)), w.2.2))
+
+-- a line of which the file is told names none that isn't
+pub told_or_untold : (told : List ℕ → Option (List ℕ)) (text : List ℕ) → IsLineTold told text → ¬ IsLineUntold told text
+told_or_untold told text known (change, inl (utf8, says), none) =
     let at = known utf8 (has_path (without_blanks text) change says.1) in
     let there : told (string_bytes change.path) ≡ Some at.0 = ap told says.1.rest ∙ at.1 in
-    let w = h sound clean at.0 there before keeps in
-    (w.0, w.1, (w.2.0, (Path change, inl (utf8, says), (at.0, there, w.2.1)), w.2.2))
+    absurd cc
+told_or_untold told text known (change, inr (other, is), none) = absurd cc

@@ -5,13 +5,14 @@ use Rattle.std.specs.declared.alloc.Global.{Global}
 use Rattle.std.proofs.lemmas.List.{append-nil, map-append}
 use Rattle.std.proofs.lemmas.List.Elements.{Contains-append_right}
 use Rattle.zeb_change.specs.Reading.{NoneFailed, StayAble}
-use Rattle.zeb_program.specs.PrivateFiles.{AreShort, IsShort, ReadsContent, sure_bytes}
-use Rattle.zeb_paths.specs.Walks.{AreUnder, GivesFile, IsFaultUnder, IsUnder}
+use Rattle.zeb_program.specs.PrivateFiles.{ReadsContent, sure_bytes}
+use Rattle.zeb_program.specs.Inputs.{AreShort, IsShort}
+use Rattle.zeb_paths.specs.Walks.{AreUnder, GivesFile, IsFaultUnder, IsFaultUntold, IsUnder}
 use Rattle.zeb_paths.specs.declared.walk.WalkFault.{WalkFault}
 use Rattle.zeb_paths.specs.declared.walk.WalkFault.TheVariants as walk
 use Rattle.zeb_program.specs.declared.faults.Fault.{Fault}
 use Rattle.zeb_program.specs.declared.faults.Fault.TheVariants as reason
-use Rattle.zeb_program.specs.FaultAnswers.{NamesUnder}
+use Rattle.zeb_program.specs.FaultAnswers.{NamesUnder, NamesUntold}
 use Rattle.zeb_program.specs.PrivateFaults.{IsUnread, fault_of}
 
 -- what has been made has the bytes of the first of these files, and the paths that are left lead to the others
@@ -161,7 +162,7 @@ all_in : (front rest : List (List ℕ)) → AreUnder (front ++ rest) rest
 all_in front [] = tt
 all_in front (path ∷ rest) =
     let here : Contains (front ++ path ∷ rest) path = Contains-append_right front (path ∷ rest) path (0, omega arith, refl) in
-    ((path, [], here, sym (append-nil path)), subst (λ named. AreUnder named rest) (append_assoc front (path ∷ []) rest) (all_in (front ++ path ∷ []) rest))
+    ((path, here, inl refl), subst (λ named. AreUnder named rest) (append_assoc front (path ∷ []) rest) (all_in (front ++ path ∷ []) rest))
 
 -- the paths of a walk that begins
 pub under_start : (named left : List (List ℕ)) → left ≡ named → AreUnder named left
@@ -180,6 +181,14 @@ under_file named path given (inr is) under = subst (NamesUnder named) (sym is) t
 pub under_faults : {X : Type 0} (named : List (List ℕ)) (why : WalkFault) (r : Result X Fault) → IfErr r (λ given. IsUnread given × (given ≡ fault_of why)) → IsFaultUnder named why → IfErr r (NamesUnder named)
 under_faults named why (Ok x) is under = tt
 under_faults named why (Err given) is under = under_fault named why given is.1 under
+
+untold_fault : (tells : List ℕ → Option (List ℕ)) (why : WalkFault) (given : Fault) → given ≡ fault_of why → IsFaultUntold tells why → NamesUntold tells given
+untold_fault tells (walk.Unreadable path) given is untold = subst (NamesUntold tells) (sym is) untold
+untold_fault tells walk.Memory given is untold = subst (NamesUntold tells) (sym is) tt
+
+pub untold_faults : {X : Type 0} (tells : List ℕ → Option (List ℕ)) (why : WalkFault) (r : Result X Fault) → IfErr r (λ given. IsUnread given × (given ≡ fault_of why)) → IsFaultUntold tells why → IfErr r (NamesUntold tells)
+untold_faults tells why (Ok x) is untold = tt
+untold_faults tells why (Err given) is untold = untold_fault tells why given is.1 untold
 
 pub under_files : {X : Type 0} (named : List (List ℕ)) (path : String Global) (r : Result X Fault) (why : Fault) → r ≡ Err why → (why ≡ reason.Unreadable path) ⊎ (why ≡ reason.Memory) → IsUnder named (string_bytes path) → IfErr r (NamesUnder named)
 under_files named path r why same is under = subst (λ it. IfErr it (NamesUnder named)) (sym same) (under_file named path why is under)

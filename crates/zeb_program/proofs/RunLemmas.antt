@@ -1,6 +1,6 @@
--- A batch is one run.
+-- A batch is one run, and known to be where its files are told.
 use Rattle.std.proofs.Common.{◌≡◌, ◌<◌, ◌+◌, ◌^◌, inl, inr, ℕ, List, [], ◌∷◌, ◌++◌, length, map, ap, arith, refl, subst, sym, Vec}
-use Rattle.std.specs.Prelude.{Option, Result, string_bytes}
+use Rattle.std.specs.Prelude.{IsSome, Option, Some, None, Result, string_bytes}
 use Rattle.zeb_change.specs.Conditions.{Conditions}
 use Rattle.zeb_change.specs.declared.refusals.Refusal.{Refusal}
 use Rattle.zeb_engine.specs.Answers.{Answer, answer_of}
@@ -10,9 +10,10 @@ use Rattle.zeb_engine.specs.declared.commands.Command.TheVariants.{Change}
 use Rattle.zeb_engine.specs.declared.replies.Reply.{Reply}
 use Rattle.zeb_image.specs.Holdings.{Holdings}
 use Rattle.zeb_image.specs.NameOf.{name_bytes}
-use Rattle.zeb_program.specs.Answers.{AnswersLine, AnswersLines, ChangesBy, IsAnswerTo, answer_status, answer_text, none as no_lines, more}
-use Rattle.zeb_program.specs.BatchRuns.{AreFilesShort, BatchIsOneRun, IsOneRun, TellsLines, MakesChange, NamesCommand, NamesFile, none, remark, mark, bad, command}
+use Rattle.zeb_program.specs.Answers.{AnswersAsTold, AnswersLine, AnswersLines, ChangesBy, IsAnswerTo, answer_status, answer_text, none as no_lines, more}
+use Rattle.zeb_program.specs.BatchRuns.{AreFilesShort, BatchIsOneRun, IsOneRun, TellsLines, ToldIsKnown, MakesChange, NamesCommand, NamesFile, none, remark, mark, bad, command}
 use Rattle.zeb_program.specs.Lines.{first_line, after_first_line}
+use Rattle.zeb_program.specs.PathChanges.{AreFilesTold}
 use Rattle.zeb_program.specs.Says.{Says}
 use Rattle.zeb_program.specs.declared.lines.Line.{Line}
 use Rattle.zeb_program.specs.declared.lines.Line.TheVariants.{Remark, Command as Order, Path, Mark, Bad}
@@ -20,6 +21,7 @@ use Rattle.zeb_program.specs.declared.path_changes.PathChange.{PathChange}
 use Rattle.zeb_program.specs.declared.statuses.Status.{Status}
 use Rattle.zeb_program.specs.declared.statuses.Status.TheVariants.{Answered}
 use Rattle.zeb_program.specs.Statuses.{greater}
+use Rattle.zeb_program.proofs.PathLemmas.{told_first, told_or_untold, told_rest}
 
 -- ---- a change by the bytes of a file, as a command
 
@@ -42,6 +44,27 @@ takes_change c change file (Change kind database files) makes before answer late
     let based = subst (λ n. TellsOrFails (TakesFiles c change.kind n (map (λ given. given.items) files.items)) before answer later) makes.1 named in
     subst (λ t. TellsOrFails (TakesFiles c change.kind (name_bytes change.database) t) before answer later) makes.2 based
 takes_change c change file _ makes before answer later h = absurd makes
+
+-- ---- what is known of what the register holds
+
+-- from where nothing is known nothing gets known
+unknown_lines : (told : List ℕ → Option (List ℕ)) (c : Conditions) (n : ℕ) (text : List ℕ) (from : Option Holdings) (bytes : List ℕ) (status : Status) (rest : List ℕ) (to : Option Holdings)
+    → AnswersLines told c n text from bytes status rest to → from ≡ None → to ≡ None
+unknown_lines told c n text from bytes status rest to no_lines is = is
+unknown_lines told c n text from bytes status rest to (more {here = here} {there = there} {status = top} {greatest = greatest} {next = next} some answer later) is =
+    unknown_lines told c (n + 1) (after_first_line text) next there greatest rest to later (subst (λ held. AnswersAsTold told c (n + 1) (first_line text) held here top next) is answer)
+
+-- where each file is told, all stays known
+known_lines : (told : List ℕ → Option (List ℕ)) (c : Conditions) (n : ℕ) (text : List ℕ) (from : Option Holdings) (bytes : List ℕ) (status : Status) (rest : List ℕ) (to : Option Holdings)
+    → AreFilesTold told text → AnswersLines told c n text from bytes status rest to → IsSome from → IsSome to
+known_lines told c n text from bytes status rest to known no_lines is = is
+known_lines told c n text None bytes status rest to known (more some answer later) is = absurd cc
+known_lines told c n text (Some before) bytes status rest to known (more {next = None} some answer later) is = absurd (told_or_untold told (first_line text) (told_first told text known) answer)
+known_lines told c n text (Some before) bytes status rest to known (more {there = there} {greatest = greatest} {next = Some held} some answer later) is =
+    known_lines told c (n + 1) (after_first_line text) (Some held) there greatest rest to (told_rest told text known) later refl
+
+pub told_is_known : ToldIsKnown
+told_is_known told c n text before bytes status last known answers = known_lines told c n text (Some before) bytes status [] last known answers refl
 
 -- ---- from the answers of lines to a run
 
@@ -92,11 +115,18 @@ module _ (told : List ℕ → Option (List ℕ)) (c : Conditions) (short : AreFi
       run_passed n text before next last (here ++ there) there (greater status greatest) greatest
       (λ commands answers w. rw (answer.0, answer.1) (bad some says w)) answer.2 rest
 
-  run_lines : (n : ℕ) (text : List ℕ) (before : Holdings) (bytes : List ℕ) (status : Status) (rest : List ℕ) (last : Holdings) → AnswersLines told c n text before bytes status rest last
-      → rest ≡ [] → IsOneRun told c n text before bytes status last
-  run_lines n text before bytes status rest last no_lines ended = ([], [], subst (λ t. TellsLines told n t [] [] [] Answered) (sym ended) none, refl)
-  run_lines n text before bytes status rest last (more {here = here} {there = there} {status = top} {greatest = greatest} {next = next} some (line, says, answer) later) ended =
-      run_line n text line before next last here there top greatest some says answer (run_lines (n + 1) (after_first_line text) next there greatest rest last later ended)
+  run_lines : (n : ℕ) (text : List ℕ) (from : Option Holdings) (bytes : List ℕ) (status : Status) (rest : List ℕ) (to : Option Holdings) → AnswersLines told c n text from bytes status rest to
+      → (before last : Holdings) → from ≡ Some before → to ≡ Some last → rest ≡ [] → IsOneRun told c n text before bytes status last
+  run_lines n text from bytes status rest to no_lines before last is_first is_last ended =
+      let same : last ≡ before = cc in
+      ([], [], subst (λ t. TellsLines told n t [] [] [] Answered) (sym ended) none, same)
+  run_lines n text from bytes status rest to (more {there = there} {greatest = greatest} {next = None} some answer later) before last is_first is_last ended =
+      let lost : to ≡ None = unknown_lines told c (n + 1) (after_first_line text) None there greatest rest to later refl in
+      absurd cc
+  run_lines n text from bytes status rest to (more {here = here} {there = there} {status = top} {greatest = greatest} {next = Some held} some answer later) before last is_first is_last ended =
+      let line = subst (λ held_before. AnswersAsTold told c (n + 1) (first_line text) held_before here top (Some held)) is_first answer in
+      run_line n text line.0 before held last here there top greatest some line.1 line.2
+      (run_lines (n + 1) (after_first_line text) (Some held) there greatest rest to later held last refl is_last ended)
 
 -- ---- from a run to the answers of lines
 
@@ -108,20 +138,20 @@ module _ (told : List ℕ → Option (List ℕ)) (c : Conditions) where
       (Path change, names.0, (file, names.1, (answer, refl, refl, takes_change c change file order makes before (answer_of answer) next step)))
 
   answers_lines : (n : ℕ) (text : List ℕ) (commands : List Command) (answers : List (Result Reply Refusal)) (before : Holdings) (bytes : List ℕ) (status : Status) (last : Holdings)
-      → TellsLines told n text commands answers bytes status → Run c before commands (map answer_of answers) last → AnswersLines told c n text before bytes status [] last
-  answers_lines n text commands answers before bytes status last none run = subst (λ held. AnswersLines told c n [] before [] Answered [] held) (sym run) no_lines
+      → TellsLines told n text commands answers bytes status → Run c before commands (map answer_of answers) last → AnswersLines told c n text (Some before) bytes status [] (Some last)
+  answers_lines n text commands answers before bytes status last none run = subst (λ held. AnswersLines told c n [] (Some before) [] Answered [] (Some held)) (sym run) no_lines
   answers_lines n text commands answers before bytes status last (remark some says w) run =
-      more some (Remark, says, (refl, refl, refl)) (answers_lines (n + 1) (after_first_line text) commands answers before bytes status last w run)
+      more {next = Some before} some (Remark, says, (refl, refl, refl)) (answers_lines (n + 1) (after_first_line text) commands answers before bytes status last w run)
   answers_lines n text commands answers before bytes status last (mark {bytes = there} marked some says w) run =
-      more some (Mark marked, says, (refl, refl, refl)) (answers_lines (n + 1) (after_first_line text) commands answers before there status last w run)
+      more {next = Some before} some (Mark marked, says, (refl, refl, refl)) (answers_lines (n + 1) (after_first_line text) commands answers before there status last w run)
   answers_lines n text commands answers before bytes status last (bad {bytes = there} {status = greatest} some says w) run =
-      more some (Bad, says, (refl, refl, refl)) (answers_lines (n + 1) (after_first_line text) commands answers before there greatest last w run)
+      more {next = Some before} some (Bad, says, (refl, refl, refl)) (answers_lines (n + 1) (after_first_line text) commands answers before there greatest last w run)
   answers_lines n text commands answers before bytes status last (command {commands = orders} {answers = others} {bytes = there} {status = greatest} order answer some names w) run =
-      more some (answers_command (n + 1) (first_line text) order answer before run.0 names run.1)
+      more {next = Some run.0} some (answers_command (n + 1) (first_line text) order answer before run.0 names run.1)
       (answers_lines (n + 1) (after_first_line text) orders others run.0 there greatest last w run.2)
 
 pub batch_is_one_run : BatchIsOneRun
 batch_is_one_run told c n text before bytes status last short = (
-  λ answers. run_lines told c short n text before bytes status [] last answers refl,
+  λ answers. run_lines told c short n text (Some before) bytes status [] (Some last) answers before last refl refl refl,
   λ run. answers_lines told c n text run.0 run.1 before bytes status last run.2 run.3,
 )

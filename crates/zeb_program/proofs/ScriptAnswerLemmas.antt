@@ -6,6 +6,8 @@ use Rattle.std.proofs.lemmas.Str.{IsUtf8-string_bytes}
 use Rattle.zeb_program.specs.declared.input.TheConstants.{GREATEST_INPUT}
 use Rattle.std.specs.declared.alloc.AllocError.{AllocError}
 use Rattle.std.specs.Io.KnownBytes.{Appends, Keeps}
+use Rattle.sqlite.specs.Held.{Held}
+use Rattle.sqlite.specs.Store.{Ghosts}
 use Rattle.sqlite.specs.State.{State}
 use Rattle.zeb_change.specs.Conditions.{Conditions, conditions}
 use Rattle.zeb_change.specs.declared.settings.Limits.{Limits}
@@ -20,11 +22,14 @@ use Rattle.zeb_profile.specs.Profiles.{profile_of}
 use Rattle.zeb_program.specs.declared.script.Batch.{Batch}
 use Rattle.zeb_program.specs.FaultAnswers.{IsOpeningFailure}
 use Rattle.zeb_program.specs.Inputs.{IsInput}
-use Rattle.zeb_program.specs.PathChanges.{AreFilesTold}
 use Rattle.zeb_program.specs.Scripts.{DividesAt, HasNoDivider}
 use Rattle.zeb_program.specs.Answers.{Writes, AnswersBatch, AnswersPart}
-use Rattle.zeb_program.specs.PrivateServing.{Leads, Stops}
-use Rattle.zeb_program.specs.ScriptAnswers.{AnswersScript, EndsEarly, EndsScript, unreadable, faulty, alone, ran, stopped, silent, AreScriptConditions, AnswersOpened, AnswersStopped, IsUnopened, IsProfileOf, unreadable_line, refusal_line, fault_line}
+use Rattle.zeb_register.specs.Formats.{packed_blocks}
+use Rattle.zeb_program.specs.Doing.{RunsText}
+use Rattle.zeb_program.specs.OverTables.{LinesOver}
+use Rattle.zeb_program.specs.Serving.{LeadsOn, Stops}
+use Rattle.zeb_program.specs.ScriptAnswers.{AnswersScript, EndsEarly, EndsScript, unreadable, faulty, alone, ran, stopped, silent, AreScriptConditions, AnswersOpened, AnswersStopped, RunsFromNothing, IsUnopened, IsProfileOf, fault_line}
+use Rattle.zeb_program.specs.FixedLines.{unreadable_line, refusal_line}
 use Rattle.zeb_program.proofs.AnswerLemmas.{Appends-nil}
 use Rattle.zeb_program.specs.declared.statuses.Status.{Status}
 use Rattle.zeb_program.specs.Statuses.{EndsWith, fault_status, refusal_status, status_code}
@@ -36,30 +41,36 @@ unopened refusal bytes status (inr is) said = (inr (said.0 ∙ ap refusal_line i
 
 pub refused_opening : (tells : List ℕ → Option (List ℕ)) (failed : Bool) (old new : Option (List ℕ)) (directives : List Directive) (n : ℕ) (batch : List ℕ) (refusal : Refusal) (r : Result Status AllocError) → IsOpeningFailure refusal
     → IfOk r (λ status. failed ≡ false → Writes old new (λ bytes. (bytes ≡ refusal_text refusal ++ 10 ∷ []) × (status ≡ refusal_status refusal)))
-    → IfOk r (λ status. failed ≡ false → AreFilesTold tells batch → AnswersOpened tells directives n batch old new status)
+    → IfOk r (λ status. failed ≡ false → AnswersOpened tells directives n batch old new status)
 refused_opening tells failed old new directives n batch refusal (Err e) is h = h
-refused_opening tells failed old new directives n batch refusal (Ok status) is h = λ sound _. let w = h sound in inr (w.0, unopened refusal w.0 status is w.1, w.2)
+refused_opening tells failed old new directives n batch refusal (Ok status) is h = λ sound. let w = h sound in inr (w.0, unopened refusal w.0 status is w.1, w.2)
 
 pub script_conditions : (directives profile : List Directive) (limits : Limits) → profile ≡ directives → limits.records ≡ 1000000 → limits.numbers ≡ 999999999 → AreScriptConditions directives (conditions (codes "2") profile limits)
 script_conditions directives profile limits same records numbers = record { version = refl; profile = same; records = records; numbers = numbers }
 
 -- a register that holds nothing yet answers the lines
-pub opened_batch : (tells : List ℕ → Option (List ℕ)) (c : Conditions) (directives : List Directive) (old new : State) (wrote writes : Option (List ℕ)) (n : ℕ) (batch : List ℕ) (failed : Bool) (Clean : Type 0) (r : Result Status AllocError)
+pub run_from_nothing : (tells : List ℕ → Option (List ℕ)) (c : Conditions) (directives : List Directive) (old new : State) (wrote writes : Option (List ℕ)) (n : ℕ) (batch : List ℕ) (failed : Bool) (Clean : Type 0) (r : Result Status AllocError)
     → AreScriptConditions directives c → Holding old nothing_yet → Clean
-    → IfOk r (λ status. failed ≡ false → Clean → AreFilesTold tells batch → Leads old new wrote writes (λ before bytes last. AnswersBatch tells c n batch before bytes status last))
-    → IfOk r (λ status. failed ≡ false → AreFilesTold tells batch → AnswersOpened tells directives n batch wrote writes status)
-opened_batch tells c directives old new wrote writes n batch failed Clean (Err e) under keeps clean h = h
-opened_batch tells c directives old new wrote writes n batch failed Clean (Ok status) under keeps clean h = λ sound known.
-    let w = h sound clean known nothing_yet keeps in
-    inl (w.2.0, (c, under, w.0, w.2.1), w.2.2)
+    → IfOk r (λ status. failed ≡ false → Clean → LeadsOn old new wrote writes (λ before bytes last. AnswersBatch tells c n batch before bytes status last))
+    → IfOk r (λ status. failed ≡ false → RunsFromNothing tells directives n batch wrote writes status)
+run_from_nothing tells c directives old new wrote writes n batch failed Clean (Err e) under keeps clean h = h
+run_from_nothing tells c directives old new wrote writes n batch failed Clean (Ok status) under keeps clean h = λ sound.
+    let w = h sound clean (Some nothing_yet) keeps in
+    (w.2.0, (c, under, w.0, w.2.1), w.2.2)
+
+pub opened_batch : (tells : List ℕ → Option (List ℕ)) (directives : List Directive) (wrote writes : Option (List ℕ)) (n : ℕ) (batch : List ℕ) (failed : Bool) (r : Result Status AllocError)
+    → IfOk r (λ status. failed ≡ false → RunsFromNothing tells directives n batch wrote writes status)
+    → IfOk r (λ status. failed ≡ false → AnswersOpened tells directives n batch wrote writes status)
+opened_batch tells directives wrote writes n batch failed (Err e) h = h
+opened_batch tells directives wrote writes n batch failed (Ok status) h = λ sound. inl (h sound)
 
 pub stopped_batch : (tells : List ℕ → Option (List ℕ)) (c : Conditions) (directives : List Directive) (old : State) (wrote writes : Option (List ℕ)) (n : ℕ) (batch : List ℕ) (failed : Bool) (Clean : Type 0) (r : Result Status AllocError)
     → AreScriptConditions directives c → Holding old nothing_yet → Clean
-    → OnErr r (failed ≡ false → Clean → AreFilesTold tells batch → Stops old wrote writes (AnswersPart tells c n batch))
-    → OnErr r (failed ≡ false → AreFilesTold tells batch → AnswersStopped tells directives n batch wrote writes)
+    → OnErr r (failed ≡ false → Clean → Stops old wrote writes (AnswersPart tells c n batch))
+    → OnErr r (failed ≡ false → AnswersStopped tells directives n batch wrote writes)
 stopped_batch tells c directives old wrote writes n batch failed Clean (Ok status) under keeps clean h = h
-stopped_batch tells c directives old wrote writes n batch failed Clean (Err e) under keeps clean h = λ sound known.
-    let w = h sound clean known nothing_yet keeps in
+stopped_batch tells c directives old wrote writes n batch failed Clean (Err e) under keeps clean h = λ sound.
+    let w = h sound clean (Some nothing_yet) keeps in
     inl (w.0, (c, under, w.1), w.2)
 
 -- nothing was written
@@ -68,9 +79,9 @@ silent_batch tells directives n batch old = inr ([], refl, Appends-nil old)
 
 -- the same where what writes is as it was
 pub silent_refusal : {A : Type 0} (tells : List ℕ → Option (List ℕ)) (shows : A → Option (List ℕ)) (failed : Bool) (old new : A) (directives : List Directive) (n : ℕ) (batch : List ℕ) (r : Result Status AllocError) → OnErr r (new ≡ old)
-    → OnErr r (failed ≡ false → AreFilesTold tells batch → AnswersStopped tells directives n batch (shows old) (shows new))
+    → OnErr r (failed ≡ false → AnswersStopped tells directives n batch (shows old) (shows new))
 silent_refusal tells shows failed old new directives n batch (Ok status) same = tt
-silent_refusal tells shows failed old new directives n batch (Err e) same = λ _ _. subst (λ it. AnswersStopped tells directives n batch (shows old) (shows it)) (sym same) (silent_batch tells directives n batch (shows old))
+silent_refusal tells shows failed old new directives n batch (Err e) same = λ _. subst (λ it. AnswersStopped tells directives n batch (shows old) (shows it)) (sym same) (silent_batch tells directives n batch (shows old))
 
 pub unreadable_script : (tells : List ℕ → Option (List ℕ)) (told old new : Option (List ℕ)) → IfSome told (λ text. ¬ IsInput text) → Appends old new unreadable_line → IfSome told (λ text. AnswersScript tells text old new Failed)
 unreadable_script tells None old new h grew = h
@@ -101,7 +112,7 @@ alone_script tells (Some text) old read h input none sound = alone (subst IsInpu
 
 pub ran_script : (tells : List ℕ → Option (List ℕ)) (told old new : Option (List ℕ)) (read profile batch : List ℕ) (directives : List Directive) (n : ℕ) (unread failed : Bool) (r : Result Status AllocError)
     → IfSome told (λ text. read ≡ text) → IsInput read → DividesAt n read profile batch → profile_of profile ≡ Ok directives
-    → IfOk r (λ status. failed ≡ false → AreFilesTold tells batch → AnswersOpened tells directives n batch old new status)
+    → IfOk r (λ status. failed ≡ false → AnswersOpened tells directives n batch old new status)
     → IfOk r (λ status. unread ≡ false → failed ≡ false → IfSome told (λ text. AnswersScript tells text old new status))
 ran_script tells told old new read profile batch directives n unread failed (Err e) h input divides given answer = answer
 ran_script tells None old new read profile batch directives n unread failed (Ok status) h input divides given answer = λ _ _. tt
@@ -109,7 +120,7 @@ ran_script tells (Some text) old new read profile batch directives n unread fail
 
 pub stopped_script : (tells : List ℕ → Option (List ℕ)) (told old new : Option (List ℕ)) (read profile batch : List ℕ) (directives : List Directive) (n : ℕ) (unread failed : Bool) (r : Result Status AllocError)
     → IfSome told (λ text. read ≡ text) → IsInput read → DividesAt n read profile batch → profile_of profile ≡ Ok directives
-    → OnErr r (failed ≡ false → AreFilesTold tells batch → AnswersStopped tells directives n batch old new)
+    → OnErr r (failed ≡ false → AnswersStopped tells directives n batch old new)
     → OnErr r (unread ≡ false → failed ≡ false → IfSome told (λ text. EndsEarly tells text old new))
 stopped_script tells told old new read profile batch directives n unread failed (Ok status) h input divides given answer = answer
 stopped_script tells None old new read profile batch directives n unread failed (Err e) h input divides given answer = λ _ _. tt
@@ -129,8 +140,21 @@ Appends-kept (Some xs) (Some ys) (Some zs) bytes h kept = kept ∙ h
 pub Writes-kept : (old mid new : Option (List ℕ)) (P : List ℕ → Type 0) → Keeps mid new → Writes old mid P → Writes old new P
 Writes-kept old mid new P kept w = (w.0, w.1, Appends-kept old mid new w.0 w.2 kept)
 
+pub RunsText-kept : {S : Type 0} (g : Ghosts S) (tells : List ℕ → Option (List ℕ)) (c : Conditions) (n : ℕ) (batch : List ℕ) (old mid new : Option (List ℕ)) (status : Status) (first last : Held S) → Keeps mid new
+    → RunsText g tells c n batch old mid status first last → RunsText g tells c n batch old new status first last
+RunsText-kept g tells c n batch old mid new status first last kept runs = record {
+  over = Writes-kept old mid new (λ bytes. LinesOver g tells packed_blocks c n batch first bytes status last) kept runs.over;
+  answers = λ before keeps.
+      let w = runs.answers before keeps in
+      (w.0, w.1, Writes-kept old mid new (λ bytes. AnswersBatch tells c n batch before bytes status w.0) kept w.2);
+}
+
+pub RunsFromNothing-kept : (tells : List ℕ → Option (List ℕ)) (directives : List Directive) (n : ℕ) (batch : List ℕ) (old mid new : Option (List ℕ)) (status : Status) → Keeps mid new
+    → RunsFromNothing tells directives n batch old mid status → RunsFromNothing tells directives n batch old new status
+RunsFromNothing-kept tells directives n batch old mid new status kept w = (w.0, w.1, Appends-kept old mid new w.0 w.2 kept)
+
 pub AnswersOpened-kept : (tells : List ℕ → Option (List ℕ)) (directives : List Directive) (n : ℕ) (batch : List ℕ) (old mid new : Option (List ℕ)) (status : Status) → Keeps mid new → AnswersOpened tells directives n batch old mid status → AnswersOpened tells directives n batch old new status
-AnswersOpened-kept tells directives n batch old mid new status kept (inl w) = inl (w.0, w.1, Appends-kept old mid new w.0 w.2 kept)
+AnswersOpened-kept tells directives n batch old mid new status kept (inl w) = inl (RunsFromNothing-kept tells directives n batch old mid new status kept w)
 AnswersOpened-kept tells directives n batch old mid new status kept (inr w) = inr (w.0, w.1, Appends-kept old mid new w.0 w.2 kept)
 
 pub AnswersStopped-kept : (tells : List ℕ → Option (List ℕ)) (directives : List Directive) (n : ℕ) (batch : List ℕ) (old mid new : Option (List ℕ)) → Keeps mid new → AnswersStopped tells directives n batch old mid → AnswersStopped tells directives n batch old new
@@ -141,10 +165,10 @@ AnswersScript-kept : (tells : List ℕ → Option (List ℕ)) (text : List ℕ) 
 AnswersScript-kept tells text old mid new _ kept (unreadable long w) = unreadable long (Writes-kept old mid new (λ bytes. bytes ≡ unreadable_line) kept w)
 AnswersScript-kept tells text old mid new _ kept (faulty fault input is fails w) = faulty fault input is fails (Writes-kept old mid new (λ bytes. bytes ≡ fault_line fault) kept w)
 AnswersScript-kept tells text old mid new _ kept (alone input none sound w) = alone input none sound (Writes-kept old mid new (λ bytes. bytes ≡ []) kept w)
-AnswersScript-kept tells text old mid new status kept (ran {batch = batch} {directives = directives} {n = n} input divides given w) = ran input divides given (λ known. AnswersOpened-kept tells directives n batch old mid new status kept (w known))
+AnswersScript-kept tells text old mid new status kept (ran {batch = batch} {directives = directives} {n = n} input divides given w) = ran input divides given (AnswersOpened-kept tells directives n batch old mid new status kept w)
 
 EndsEarly-kept : (tells : List ℕ → Option (List ℕ)) (text : List ℕ) (old mid new : Option (List ℕ)) → Keeps mid new → EndsEarly tells text old mid → EndsEarly tells text old new
-EndsEarly-kept tells text old mid new kept (stopped {batch = batch} {directives = directives} {n = n} input divides given w) = stopped input divides given (λ known. AnswersStopped-kept tells directives n batch old mid new kept (w known))
+EndsEarly-kept tells text old mid new kept (stopped {batch = batch} {directives = directives} {n = n} input divides given w) = stopped input divides given (AnswersStopped-kept tells directives n batch old mid new kept w)
 EndsEarly-kept tells text old mid new kept (silent w) = silent (Writes-kept old mid new (λ bytes. bytes ≡ []) kept w)
 
 EndsScript-kept : (tells : List ℕ → Option (List ℕ)) (text : List ℕ) (old mid new : Option (List ℕ)) (status : Status) → Keeps mid new → EndsScript tells text old mid status → EndsScript tells text old new status

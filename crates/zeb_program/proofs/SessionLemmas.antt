@@ -36,3 +36,7 @@ ended_err (Err e) result failed old new P Q ends said so = subst (λ r. OnErr r 
 pub both_err : (r : Result Status AllocError) (P Q : Type 0) → OnErr r P → OnErr r Q → OnErr r (P × Q)
 both_err (Ok top) P Q first second = tt
 both_err (Err e) P Q first second = (first, second)
+
+pub both_ok : (r : Result Status AllocError) (P Q : Status → Type 0) → IfOk r P → IfOk r Q → IfOk r (λ status. P status × Q status)
+both_ok (Ok top) P Q first second = (first, second)
+both_ok (Err e) P Q first second = tt

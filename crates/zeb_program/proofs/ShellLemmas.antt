@@ -7,16 +7,14 @@ use Rattle.std.specs.Str.{IsUtf8}
 use Rattle.std.proofs.KnownBytes.{Appends-kept, Keeps-refl}
 use Rattle.sqlite.specs.State.{State}
 use Rattle.zeb_change.specs.Conditions.{Conditions}
-use Rattle.zeb_program.specs.Answers.{AnswersBatch, AnswersLine, bad_line}
+use Rattle.zeb_program.specs.Answers.{AnswersAsTold, AnswersBatch, bad_line}
 use Rattle.zeb_program.specs.FirstAnswers.{AnswersFirst}
 use Rattle.zeb_program.specs.Inputs.{TakesAtMost}
 use Rattle.zeb_program.specs.Lines.{first_line, after_first_line}
 use Rattle.zeb_program.specs.PrivateLines.{whole_first_line}
-use Rattle.zeb_program.specs.PathChanges.{AreFilesTold, IsLineTold}
-use Rattle.zeb_program.specs.ScriptAnswers.{unreadable_line}
-use Rattle.zeb_program.specs.PrivateServing.{Leads, ServesLines, Stops}
+use Rattle.zeb_program.specs.FixedLines.{unreadable_line}
+use Rattle.zeb_program.specs.Serving.{LeadsOn, ServesLines, Stops}
 use Rattle.zeb_program.proofs.AnswerLemmas.{answered_lines}
-use Rattle.zeb_program.proofs.PathLemmas.{told_first, told_rest}
 use Rattle.zeb_program.proofs.ScriptLemmas.{not_empty}
 use Rattle.zeb_program.proofs.ServingLemmas.{Reaches, bad_line_answer, reaches_start, reaches_line, reaches_end}
 use Rattle.zeb_program.proofs.WholeLineLemmas.{after_whole, first_of_whole, left_after_line, line_is_text, no_line_no_text}
@@ -29,32 +27,31 @@ use Rattle.zeb_program.specs.declared.statuses.Status.TheVariants.{Answered, Mis
 -- what is said of the first line of what is left of an input
 abbrev pub AnswersNext : (List ℕ → Option (List ℕ)) → Conditions → State → State → Option (List ℕ) → Option (List ℕ) → ℕ → Status → List ℕ → Type 0
 AnswersNext told c old new wrote writes number status left =
-    IsLineTold told (first_line left) → Leads old new wrote writes (λ before bytes later. AnswersLine told c number (first_line left) before bytes status later)
+    LeadsOn old new wrote writes (λ before bytes later. AnswersAsTold told c number (first_line left) before bytes status later)
 
 -- bytes that aren't text are no command
 pub no_text_answer : (told : List ℕ → Option (List ℕ)) (c : Conditions) (number : ℕ) (bytes : List ℕ) (old : State) (wrote writes : Option (List ℕ)) (status : Status)
     → ¬ IsUtf8 bytes → status ≡ Misused → Appends wrote writes (bad_line number) → after_first_line bytes ≡ [] → AnswersNext told c old old wrote writes number status bytes
-no_text_answer told c number bytes old wrote writes status other misused grew alone _ =
+no_text_answer told c number bytes old wrote writes status other misused grew alone =
     bad_line_answer told c number (first_line bytes) old wrote writes status (inr (λ text. other (line_is_text bytes alone text), refl)) misused grew
 
 -- text is answered as its line
 pub text_answer : (told : List ℕ → Option (List ℕ)) (c : Conditions) (number : ℕ) (line bytes : List ℕ) (old new : State) (wrote writes : Option (List ℕ)) (failed : Bool) (Clean : Type 0) (r : Result Status AllocError) → line ≡ first_line bytes
-    → IfOk r (λ status. failed ≡ false → Clean → IsLineTold told line → Leads old new wrote writes (λ before written later. AnswersLine told c number line before written status later))
+    → IfOk r (λ status. failed ≡ false → Clean → LeadsOn old new wrote writes (λ before written later. AnswersAsTold told c number line before written status later))
     → IfOk r (λ status. failed ≡ false → Clean → after_first_line bytes ≡ [] → AnswersNext told c old new wrote writes number status bytes)
 text_answer told c number line bytes old new wrote writes failed Clean (Err e) is h = h
 text_answer told c number line bytes old new wrote writes failed Clean (Ok status) is h = λ sound clean _.
-    subst (λ l. IsLineTold told l → Leads old new wrote writes (λ before written later. AnswersLine told c number l before written status later)) is (h sound clean)
+    subst (λ l. LeadsOn old new wrote writes (λ before written later. AnswersAsTold told c number l before written status later)) is (h sound clean)
 
 -- a line that was read is the first of what was left, and what is passed on stays what it was
 pub next_answer : (told : List ℕ → Option (List ℕ)) (c : Conditions) (number : ℕ) (status : Status) (bytes : List ℕ) (left : Option (List ℕ)) (old new : State) (wrote mid writes : Option (List ℕ))
     → IfSome left (λ l. bytes ≡ whole_first_line l) → (after_first_line bytes ≡ [] → AnswersNext told c old new wrote mid number status bytes) → Keeps mid writes
     → IfSome left (AnswersNext told c old new wrote writes number status)
 next_answer told c number status bytes None old new wrote mid writes is answer kept = tt
-next_answer told c number status bytes (Some l) old new wrote mid writes is answer kept = λ known before keeps.
+next_answer told c number status bytes (Some l) old new wrote mid writes is answer kept = λ before keeps.
     let same : first_line bytes ≡ first_line l = ap first_line is ∙ first_of_whole l in
-    let told_line = subst (IsLineTold told) (sym same) known in
-    let w = answer (ap after_first_line is ∙ after_whole l) told_line before keeps in
-    let here = subst (λ line. AnswersLine told c number line before w.2.0 status w.0) same w.2.1 in
+    let w = answer (ap after_first_line is ∙ after_whole l) before keeps in
+    let here = subst (λ line. AnswersAsTold told c number line before w.2.0 status w.0) same w.2.1 in
     (w.0, w.1, (w.2.0, here, Appends-kept wrote mid writes w.2.0 w.2.2 kept))
 
 -- a line has a byte, and there is none at the end
@@ -69,16 +66,16 @@ next_none bytes (Some l) is none = no_line_no_text l (sym is ∙ none)
 
 -- ---- the lines so far
 
--- Of an input that told its bytes first, and has these left: the lines up to these are answered, and each file that one of them names is told.
+-- Of an input that told its bytes first, and has these left: the lines up to these are answered.
 abbrev pub Serves : (List ℕ → Option (List ℕ)) → Conditions → State → State → Option (List ℕ) → Option (List ℕ) → Option (List ℕ) → Option (List ℕ) → ℕ → Status → Type 0
 Serves told c old now wrote writes None left n greatest = ⊤
 Serves told c old now wrote writes (Some text) None n greatest = ⊥
 Serves told c old now wrote writes (Some text) (Some rest) n greatest =
-    AreFilesTold told text → AreFilesTold told rest × Reaches told c old now wrote writes 0 text n rest greatest
+    Reaches told c old now wrote writes 0 text n rest greatest
 
 pub serves_start : (told : List ℕ → Option (List ℕ)) (c : Conditions) (old : State) (wrote : Option (List ℕ)) (first : Option (List ℕ)) → Serves told c old old wrote wrote first first 0 Answered
 serves_start told c old wrote None = tt
-serves_start told c old wrote (Some text) = λ known. (known, reaches_start told c old wrote 0 text)
+serves_start told c old wrote (Some text) = reaches_start told c old wrote 0 text
 
 pub serves_line : (told : List ℕ → Option (List ℕ)) (c : Conditions) (old now next : State) (wrote mid writes : Option (List ℕ)) (first left later : Option (List ℕ)) (n : ℕ) (greatest status top : Status)
     → top ≡ greater greatest status → IfSome left (λ l. 0 < length l) → IfSome left (λ l. Consumes (Some l) later (whole_first_line l))
@@ -86,12 +83,8 @@ pub serves_line : (told : List ℕ → Option (List ℕ)) (c : Conditions) (old 
 serves_line told c old now next wrote mid writes None left later n greatest status top is_max some taken step far = tt
 serves_line told c old now next wrote mid writes (Some text) None later n greatest status top is_max some taken step far = absurd far
 serves_line told c old now next wrote mid writes (Some text) (Some l) None n greatest status top is_max some taken step far = absurd taken
-serves_line told c old now next wrote mid writes (Some text) (Some l) (Some rest) n greatest status top is_max some taken step far = λ known.
-    let was = far known in
-    let is_rest = left_after_line l rest taken in (
-      subst (AreFilesTold told) (sym is_rest) (told_rest told l was.0),
-      reaches_line told c old now next wrote mid writes 0 text n l (first_line l) rest greatest status top some refl is_rest is_max was.1 (step (told_first told l was.0)),
-    )
+serves_line told c old now next wrote mid writes (Some text) (Some l) (Some rest) n greatest status top is_max some taken step far =
+    reaches_line told c old now next wrote mid writes 0 text n l (first_line l) rest greatest status top some refl (left_after_line l rest taken) is_max far step
 
 -- the same, of what was found
 pub serves_found : (told : List ℕ → Option (List ℕ)) (c : Conditions) (old now next : State) (wrote mid writes : Option (List ℕ)) (first left later : Option (List ℕ)) (n : ℕ) (greatest status top : Status) (failed : Bool) (Clean : Type 0) (found : Option Status)
@@ -105,26 +98,26 @@ serves_found told c old now next wrote mid writes first left later n greatest st
 
 pub serves_end : (told : List ℕ → Option (List ℕ)) (c : Conditions) (old now : State) (wrote writes : Option (List ℕ)) (first left : Option (List ℕ)) (n : ℕ) (greatest : Status)
     → IsAtEnd left → Serves told c old now wrote writes first left n greatest
-    → IfSome first (λ text. AreFilesTold told text → Leads old now wrote writes (λ before bytes last. AnswersBatch told c 0 text before bytes greatest last))
+    → IfSome first (λ text. LeadsOn old now wrote writes (λ before bytes last. AnswersBatch told c 0 text before bytes greatest last))
 serves_end told c old now wrote writes None left n greatest end far = tt
 serves_end told c old now wrote writes (Some text) None n greatest end far = absurd far
-serves_end told c old now wrote writes (Some text) (Some rest) n greatest end far = λ known. reaches_end told c old now wrote writes 0 text n rest greatest end (far known).1
+serves_end told c old now wrote writes (Some text) (Some rest) n greatest end far = reaches_end told c old now wrote writes 0 text n rest greatest end far
 
 -- where it ends before, no more is gone of the lines that aren't answered than one line may take
 pub serves_stop : (told : List ℕ → Option (List ℕ)) (c : Conditions) (old now : State) (wrote writes : Option (List ℕ)) (first left later : Option (List ℕ)) (n : ℕ) (greatest : Status)
     → TakesAtMost 16777217 left later → Serves told c old now wrote writes first left n greatest
-    → IfSome first (λ text. AreFilesTold told text → Stops old wrote writes (AnswersFirst told c 0 text later))
+    → IfSome first (λ text. Stops old wrote writes (AnswersFirst told c 0 text later))
 serves_stop told c old now wrote writes None left later n greatest taken far = tt
 serves_stop told c old now wrote writes (Some text) None later n greatest taken far = absurd far
-serves_stop told c old now wrote writes (Some text) (Some rest) later n greatest taken far = λ known before keeps.
-    let here = (far known).1 before keeps in
-    let w = answered_lines (AnswersLine told c) wrote writes 0 text before n rest greatest here.0 here.2 in
+serves_stop told c old now wrote writes (Some text) (Some rest) later n greatest taken far = λ before keeps.
+    let here = far before keeps in
+    let w = answered_lines (AnswersAsTold told c) wrote writes 0 text before n rest greatest here.0 here.2 in
     (w.0, (greatest, rest, here.0, w.1, taken), w.2)
 
 -- where a line isn't answered
 pub serves_failure : {T E : Type 0} (told : List ℕ → Option (List ℕ)) (c : Conditions) (old now : State) (wrote writes : Option (List ℕ)) (first left later : Option (List ℕ)) (n : ℕ) (greatest : Status) (r : Result T E) (failed : Bool) (Clean : Type 0)
     → TakesAtMost 16777217 left later → (failed ≡ false → Clean → Serves told c old now wrote writes first left n greatest)
-    → OnErr r (failed ≡ false → Clean → IfSome first (λ text. AreFilesTold told text → Stops old wrote writes (AnswersFirst told c 0 text later)))
+    → OnErr r (failed ≡ false → Clean → IfSome first (λ text. Stops old wrote writes (AnswersFirst told c 0 text later)))
 serves_failure told c old now wrote writes first left later n greatest (Ok x) failed Clean taken far = tt
 serves_failure told c old now wrote writes first left later n greatest (Err e) failed Clean taken far = λ sound clean. serves_stop told c old now wrote writes first left later n greatest taken (far sound clean)
 
@@ -136,13 +129,13 @@ found_none (Some status) P is h = absurd cc
 -- ---- the whole
 
 pub served_all : (told : List ℕ → Option (List ℕ)) (c : Conditions) (first left : Option (List ℕ)) (old new : State) (wrote writes fault : Option (List ℕ)) (status : Status)
-    → IfSome first (λ text. AreFilesTold told text → Leads old new wrote writes (λ before bytes last. AnswersBatch told c 0 text before bytes status last))
-    → IfSome first (λ text. AreFilesTold told text → ServesLines told c text left old new wrote writes fault fault status)
+    → IfSome first (λ text. LeadsOn old new wrote writes (λ before bytes last. AnswersBatch told c 0 text before bytes status last))
+    → IfSome first (λ text. ServesLines told c text left old new wrote writes fault fault status)
 served_all told c None left old new wrote writes fault status led = tt
-served_all told c (Some text) left old new wrote writes fault status led = λ known. inl (led known, Keeps-refl fault)
+served_all told c (Some text) left old new wrote writes fault status led = inl (led, Keeps-refl fault)
 
 pub served_part : (told : List ℕ → Option (List ℕ)) (c : Conditions) (first left : Option (List ℕ)) (old new : State) (wrote writes fault_old fault_new : Option (List ℕ))
-    → IfSome first (λ text. AreFilesTold told text → Stops old wrote writes (AnswersFirst told c 0 text left)) → Appends fault_old fault_new unreadable_line
-    → IfSome first (λ text. AreFilesTold told text → ServesLines told c text left old new wrote writes fault_old fault_new Failed)
+    → IfSome first (λ text. Stops old wrote writes (AnswersFirst told c 0 text left)) → Appends fault_old fault_new unreadable_line
+    → IfSome first (λ text. ServesLines told c text left old new wrote writes fault_old fault_new Failed)
 served_part told c None left old new wrote writes fault_old fault_new stops grew = tt
-served_part told c (Some text) left old new wrote writes fault_old fault_new stops grew = λ known. inr (stops known, refl, grew)
+served_part told c (Some text) left old new wrote writes fault_old fault_new stops grew = inr (stops, refl, grew)

@@ -10,11 +10,11 @@ use Rattle.sqlite.specs.Store.{Ghosts}
 use Rattle.zeb_change.specs.Conditions.{Conditions}
 use Rattle.zeb_register.specs.Formats.{Format}
 use Rattle.zeb_program.specs.Answers.{EachLine, Writes, bad_line}
+use Rattle.zeb_program.specs.OverTables.{FirstOver, LineOver, LinesOver, ServesOverLines}
 use Rattle.zeb_program.specs.Lines.{first_line, after_first_line}
 use Rattle.zeb_program.specs.PrivateLines.{whole_first_line}
-use Rattle.zeb_program.specs.PrivateOverTables.{FirstOver, LineOver, LinesOver, ServesOverLines}
 use Rattle.zeb_program.specs.Inputs.{TakesAtMost}
-use Rattle.zeb_program.specs.ScriptAnswers.{unreadable_line}
+use Rattle.zeb_program.specs.FixedLines.{unreadable_line}
 use Rattle.zeb_program.specs.declared.lines.Line.TheVariants.{Bad}
 use Rattle.zeb_program.proofs.AnswerLemmas.{IsAnswered, answered_all, answered_line, answered_lines, answered_start}
 use Rattle.zeb_program.proofs.OverLemmas.{still}

@@ -1,6 +1,6 @@
 -- What is written where memory runs out for the program itself, while a batch or a shell is run.
 use Rattle.std.proofs.Common.{◌≡◌, ℕ, Bool, false, List, subst, sym}
-use Rattle.std.specs.Prelude.{Option, Result, Ok, Err, OnErr, String}
+use Rattle.std.specs.Prelude.{IfSome, Option, Result, Ok, Err, OnErr, String}
 use Rattle.std.specs.declared.alloc.AllocError.{AllocError}
 use Rattle.std.specs.declared.alloc.Global.{Global}
 use Rattle.std.specs.Io.KnownBytes.{Keeps}
@@ -9,17 +9,16 @@ use Rattle.sqlite.specs.Held.{Held, state}
 use Rattle.zeb_change.specs.Conditions.{Conditions}
 use Rattle.zeb_profile.specs.declared.directives.Directive.{Directive}
 use Rattle.zeb_program.specs.declared.statuses.Status.{Status}
-use Rattle.zeb_program.specs.Answers.{AnswersPart, Writes}
+use Rattle.zeb_program.specs.Answers.{AnswersPart}
 use Rattle.zeb_program.specs.FirstAnswers.{AnswersFirst}
-use Rattle.zeb_program.specs.PathChanges.{AreFilesTold}
-use Rattle.zeb_program.specs.PrivateServing.{Stops}
+use Rattle.zeb_program.specs.Serving.{Stops}
 use Rattle.zeb_program.specs.PrivateWordRuns.{OpensUnder, StopsIn, StopsServing, TakesStore}
 use Rattle.zeb_program.specs.Registers.{LacksStore, Places}
 use Rattle.zeb_program.specs.Scripts.{BeginsRegister}
 use Rattle.zeb_program.specs.ScriptAnswers.{AnswersStopped, AreScriptConditions}
 use Rattle.zeb_program.specs.WordRuns.{IsText, ReadsAt, StopsBatch, batch_silent, batch_part, StopsLines, part_on_store, part_in_memory, no_line, StopsShell, shell_silent, shell_part}
 use Rattle.zeb_program.proofs.ScriptAnswerLemmas.{AnswersStopped-kept, Writes-kept}
-use Rattle.zeb_program.proofs.WordRunLemmas.{TellsClosed-kept, some_kept}
+use Rattle.zeb_program.proofs.WordRunLemmas.{TellsClosed-kept, from_kept, from_taken, some_kept}
 
 -- what is the same keeps what it holds
 kept_by : {T : Type 0} (shows : T → Option (List ℕ)) (old new : T) → new ≡ old → Keeps (shows old) (shows new)
@@ -34,8 +33,7 @@ part_kept : {S : Type 0} (at : Places S) (profile : List Directive) (text : List
 part_kept at profile text tells c held n old new fault_old fault_new first same under takes stops =
     let r = subst (λ t. StopsIn at.store t c 0 text held old new fault_old fault_new) same (subst (λ k. StopsIn at.store tells c k text held old new fault_old fault_new) first stops) in
     let whole = r.1 in
-    part_on_store c takes.0 whole.last r.0 under takes.1
-    (λ clean before bears known. whole.lines clean known before (takes.2 (whole.clean clean) before bears)) whole.closes
+    part_on_store c r.0 under (from_taken at profile held whole.last (λ first _. Stops (state at.store first) old new (AnswersPart at.tells c 0 text)) takes whole.clean whole.lines) whole.closes
 
 pub stop_kept : {S : Type 0} (at : Places S) (profile : List Directive) (text : List ℕ) (tells : List ℕ → Option (List ℕ)) (c : Conditions) (held : Held S) (n : ℕ) (old new fault_old fault_new : Option (List ℕ)) (failed fault_failed : Bool) (r : Result Status AllocError)
     → n ≡ 0 → tells ≡ at.tells → AreScriptConditions profile c → TakesStore at profile held
@@ -46,12 +44,12 @@ stop_kept at profile text tells c held n old new fault_old fault_new failed faul
     part_kept at profile text tells c held n old new fault_old fault_new first same under takes (stops sound quiet)
 
 -- on one in memory
-pub stop_none : {S : Type 0} (at : Places S) (profile : List Directive) (text : List ℕ) (n : ℕ) (old new fault_old : Option (List ℕ)) (failed fault_failed : Bool) (r : Result Status AllocError)
-    → n ≡ 0 → LacksStore at profile → ¬ BeginsRegister text → OnErr r (failed ≡ false → AreFilesTold at.tells text → AnswersStopped at.tells profile n text old new)
-    → OnErr r (failed ≡ false → fault_failed ≡ false → StopsLines at profile text old new fault_old fault_old)
-stop_none at profile text n old new fault_old failed fault_failed (Ok status) first lacks unmade stopped = tt
-stop_none at profile text n old new fault_old failed fault_failed (Err e) first lacks unmade stopped = λ sound _.
-    part_in_memory lacks unmade (Keeps-refl fault_old) (λ known. subst (λ k. AnswersStopped at.tells profile k text old new) first (stopped sound known))
+pub stop_none : {S T : Type 0} (at : Places S) (profile : List Directive) (text : List ℕ) (n : ℕ) (old new : Option (List ℕ)) (shows : T → Option (List ℕ)) (fault_old fault_new : T) (failed fault_failed : Bool) (r : Result Status AllocError)
+    → n ≡ 0 → LacksStore at profile → ¬ BeginsRegister text → OnErr r (fault_new ≡ fault_old) → OnErr r (failed ≡ false → AnswersStopped at.tells profile n text old new)
+    → OnErr r (failed ≡ false → fault_failed ≡ false → StopsLines at profile text old new (shows fault_old) (shows fault_new))
+stop_none at profile text n old new shows fault_old fault_new failed fault_failed (Ok status) first lacks unmade silent stopped = tt
+stop_none at profile text n old new shows fault_old fault_new failed fault_failed (Err e) first lacks unmade silent stopped = λ sound _.
+    part_in_memory lacks unmade (kept_by shows fault_old fault_new silent) (subst (λ k. AnswersStopped at.tells profile k text old new) first (stopped sound))
 
 -- or none is opened
 pub stop_unopened : {S T : Type 0} (at : Places S) (profile : List Directive) (text : List ℕ) (old : Option (List ℕ)) (shows : T → Option (List ℕ)) (fault_old fault_new : T) (failed fault_failed : Bool) (r : Result Status AllocError)
@@ -78,10 +76,9 @@ serving_kept at config tells c held given left old new fault_old fault_new same 
     let s = subst (λ t. StopsServing at.store t c given left held old new fault_old fault_new) same stops in
     let takes = under.3 in
     let whole = s.1 in
-    shell_part under.0 c takes.0 whole.last s.0 under.1 under.2 takes.1
-    (λ clean before bears. some_kept given (λ text. AreFilesTold at.tells text → Stops (state at.store held) old new (AnswersFirst at.tells c 0 text left))
-    (λ text. AreFilesTold at.tells text → Writes old new (AnswersFirst at.tells c 0 text left before))
-    (λ text h known. h known before (takes.2 (whole.clean clean) before bears)) (whole.lines clean)) whole.closes
+    shell_part under.0 c s.0 under.1 under.2
+    (from_taken at under.0 held whole.last (λ first _. IfSome given (λ text. Stops (state at.store first) old new (AnswersFirst at.tells c 0 text left))) takes whole.clean whole.lines)
+    whole.closes
 
 pub stop_serving : {S : Type 0} (at : Places S) (config : String Global) (tells : List ℕ → Option (List ℕ)) (c : Conditions) (held : Held S) (given left old new fault_old fault_new : Option (List ℕ)) (failed fault_failed : Bool) (r : Result Status AllocError)
     → tells ≡ at.tells → OpensUnder at config c held → OnErr r (failed ≡ false → fault_failed ≡ false → StopsServing at.store tells c given left held old new fault_old fault_new)
@@ -99,12 +96,13 @@ stop_unserved at config given left old shows fault_old fault_new failed fault_fa
 
 StopsLines-kept : {S : Type 0} (at : Places S) (profile : List Directive) (text : List ℕ) (old mid new fault_old fault_mid fault_new : Option (List ℕ)) → Keeps mid new → Keeps fault_mid fault_new
     → StopsLines at profile text old mid fault_old fault_mid → StopsLines at profile text old new fault_old fault_new
-StopsLines-kept at profile text old mid new fault_old fault_mid fault_new stays fault_stays (part_on_store c opened last closed under opens from closes) =
-    part_on_store c opened last closed under opens
-    (λ clean before bears known. Writes-kept old mid new (AnswersPart at.tells c 0 text before) stays (from clean before bears known))
+StopsLines-kept at profile text old mid new fault_old fault_mid fault_new stays fault_stays (part_on_store c closed under from closes) =
+    part_on_store c closed under
+    (from_kept at profile (λ first _. Stops (state at.store first) old mid (AnswersPart at.tells c 0 text)) (λ first _. Stops (state at.store first) old new (AnswersPart at.tells c 0 text))
+    (λ first last stops before keeps. Writes-kept old mid new (AnswersPart at.tells c 0 text before) stays (stops before keeps)) from)
     (TellsClosed-kept fault_old fault_mid fault_new closed fault_stays closes)
 StopsLines-kept at profile text old mid new fault_old fault_mid fault_new stays fault_stays (part_in_memory lacks unmade quiet stopped) =
-    part_in_memory lacks unmade (Keeps-trans fault_old fault_mid fault_new quiet fault_stays) (λ known. AnswersStopped-kept at.tells profile 0 text old mid new stays (stopped known))
+    part_in_memory lacks unmade (Keeps-trans fault_old fault_mid fault_new quiet fault_stays) (AnswersStopped-kept at.tells profile 0 text old mid new stays stopped)
 StopsLines-kept at profile text old mid new fault_old fault_mid fault_new stays fault_stays (no_line same quiet) =
     no_line (Keeps-trans old mid new same stays) (Keeps-trans fault_old fault_mid fault_new quiet fault_stays)
 
@@ -119,9 +117,10 @@ pub StopsShell-kept : {S : Type 0} (at : Places S) (config : String Global) (giv
     → StopsShell at config given left old mid fault_old fault_mid → StopsShell at config given left old new fault_old fault_new
 StopsShell-kept at config given left old mid new fault_old fault_mid fault_new stays fault_stays (shell_silent same quiet) =
     shell_silent (Keeps-trans old mid new same stays) (Keeps-trans fault_old fault_mid fault_new quiet fault_stays)
-StopsShell-kept at config given left old mid new fault_old fault_mid fault_new stays fault_stays (shell_part profile c opened last closed read under opens from closes) =
-    shell_part profile c opened last closed read under opens
-    (λ clean before bears. some_kept given (λ text. AreFilesTold at.tells text → Writes old mid (AnswersFirst at.tells c 0 text left before))
-    (λ text. AreFilesTold at.tells text → Writes old new (AnswersFirst at.tells c 0 text left before))
-    (λ text h known. Writes-kept old mid new (AnswersFirst at.tells c 0 text left before) stays (h known)) (from clean before bears))
+StopsShell-kept at config given left old mid new fault_old fault_mid fault_new stays fault_stays (shell_part profile c closed read under from closes) =
+    shell_part profile c closed read under
+    (from_kept at profile (λ first _. IfSome given (λ text. Stops (state at.store first) old mid (AnswersFirst at.tells c 0 text left)))
+    (λ first _. IfSome given (λ text. Stops (state at.store first) old new (AnswersFirst at.tells c 0 text left)))
+    (λ first last. some_kept given (λ text. Stops (state at.store first) old mid (AnswersFirst at.tells c 0 text left)) (λ text. Stops (state at.store first) old new (AnswersFirst at.tells c 0 text left))
+    (λ text stops before keeps. Writes-kept old mid new (AnswersFirst at.tells c 0 text left before) stays (stops before keeps))) from)
     (TellsClosed-kept fault_old fault_mid fault_new closed fault_stays closes)

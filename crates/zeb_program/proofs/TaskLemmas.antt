@@ -19,7 +19,8 @@ use Rattle.zeb_image.specs.declared.names.DbName.{DbName}
 use Rattle.zeb_program.specs.Answers.{ChangesBy}
 use Rattle.zeb_program.specs.PrivateFaults.{IsUnread}
 use Rattle.zeb_program.specs.FaultAnswers.{IsUnreadable, NamesUnder}
-use Rattle.zeb_program.specs.PrivateServing.{AnswersFrom, ServesTask, replied}
+use Rattle.zeb_program.specs.PrivateServing.{replied}
+use Rattle.zeb_program.specs.Serving.{AnswersFrom, ServesTask}
 use Rattle.zeb_program.specs.TaskAnswers.{AnalysesFiles, AnswersCommand, AreTold, paths_of}
 use Rattle.zeb_program.specs.declared.faults.Fault.{Fault}
 use Rattle.zeb_program.specs.declared.faults.Fault.TheVariants as fault

@@ -6,6 +6,7 @@ use Rattle.std.specs.declared.alloc.Global.{Global}
 use Rattle.std.specs.Io.KnownBytes.{Appends, Keeps}
 use Rattle.std.proofs.KnownBytes.{Appends-kept, Keeps-refl, Keeps-trans}
 use Rattle.sqlite.specs.Held.{Held, state}
+use Rattle.sqlite.specs.Store.{Ghosts}
 use Rattle.sqlite.specs.State.{HasCleanDisk, State}
 use Rattle.zeb_change.specs.Conditions.{Conditions}
 use Rattle.zeb_change.specs.declared.refusals.Refusal.{Refusal}
@@ -29,24 +30,27 @@ use Rattle.zeb_program.specs.declared.tasks.Served.{Served}
 use Rattle.zeb_program.specs.declared.tasks.Task.{Task}
 use Rattle.zeb_program.specs.declared.tasks.Task.TheVariants.{Ask}
 use Rattle.zeb_program.specs.Answers.{AnswersBatch, Writes}
-use Rattle.zeb_program.specs.FaultAnswers.{GivesAnswer, IsUnreadable, NamesUnder}
+use Rattle.zeb_register.specs.Formats.{packed_blocks}
+use Rattle.zeb_program.specs.Doing.{DoesTask, RunsText, ServesText}
+use Rattle.zeb_program.specs.FaultAnswers.{GivesAnswer, IsOpeningFailure, IsUnreadable, NamesUnder}
+use Rattle.zeb_program.specs.OverTables.{FirstOver, LinesOver, ServesOverLines, TaskOver}
 use Rattle.zeb_program.specs.FaultLines.{IsUnclosed, TellsFailure}
 use Rattle.zeb_program.specs.FirstAnswers.{AnswersFirst}
 use Rattle.zeb_program.specs.Inputs.{IsInput}
-use Rattle.zeb_program.specs.PathChanges.{AreFilesTold}
 use Rattle.zeb_program.specs.PrivateFaults.{IsOpeningFault}
-use Rattle.zeb_program.specs.PrivateServing.{AnswersFrom, ServesLines, ServesTask, replied}
-use Rattle.zeb_program.specs.PrivateWordRuns.{GivesFor, IsOwnOr, OpensUnder, RunsIn, ServesIn, ServesOnNothing, TakesStore, TellsDone}
-use Rattle.zeb_program.specs.Registers.{LacksStore, kept, none, Places}
-use Rattle.zeb_program.specs.ScriptAnswers.{AnswersOpened, AreScriptConditions}
+use Rattle.zeb_program.specs.PrivateServing.{replied}
+use Rattle.zeb_program.specs.Serving.{AnswersFrom, ServesLines, ServesTask}
+use Rattle.zeb_program.specs.PrivateWordRuns.{GivesFor, IsOwnOr, OpensUnder, RunsIn, RunsOnNothing, ServesIn, ServesOnNothing, TakesStore, TellsDone}
+use Rattle.zeb_program.specs.Registers.{FromStore, LacksStore, kept, none, Places}
+use Rattle.zeb_program.specs.ScriptAnswers.{AnswersStopped, AreScriptConditions, RunsFromNothing}
 use Rattle.zeb_program.specs.TaskAnswers.{AnswersOn, AnswersTask, ReadsWhole, paths_of}
 use Rattle.zeb_program.specs.WordAnswers.{TellsApart, WarnsAtMost}
-use Rattle.zeb_program.specs.WordRuns.{AnswersShell, IsInputFault, IsText, Performs, ReadsAt, RunsBatch, batch_stopped, batch_ran, RunsLines, on_store, in_memory, no_register, RunsShell, shell_stopped, shell_ran}
-use Rattle.zeb_program.specs.WordRuns.{ServesUnder, answered, unopened, StopsOpening, not_opened, TellsClosed, TellsWhy, WritesReply}
+use Rattle.zeb_program.specs.WordRuns.{IsInputFault, IsText, Performs, ReadsAt, RunsBatch, batch_stopped, batch_ran, RunsLines, on_store, in_memory, no_register, RunsShell, shell_stopped, shell_ran}
+use Rattle.zeb_program.specs.WordRuns.{ServesUnder, answered, starved, unopened, StopsOpening, StopsReading, not_opened, TellsClosed, TellsWhy, WritesReply}
 use Rattle.zeb_program.specs.declared.statuses.Status.{Status}
 use Rattle.zeb_program.specs.Statuses.{IsFaultStatus}
 use Rattle.zeb_program.specs.declared.statuses.Status.TheVariants.{Answered, Failed}
-use Rattle.zeb_program.proofs.ScriptAnswerLemmas.{AnswersOpened-kept, Writes-kept}
+use Rattle.zeb_program.proofs.ScriptAnswerLemmas.{RunsFromNothing-kept, RunsText-kept, Writes-kept, silent_batch}
 use Rattle.zeb_program.specs.Scripts.{BeginsRegister}
 
 -- ---- what is passed on stays what it was
@@ -74,14 +78,37 @@ pub TellsClosed-kept : (old mid new : Option (List ℕ)) (status : Status) → K
 TellsClosed-kept old mid new status stays (inl t) = inl (t.0, Keeps-trans old mid new t.1 stays)
 TellsClosed-kept old mid new status stays (inr t) = inr (t.0, Writes-kept old mid new IsUnclosed stays t.1)
 
+-- what is said of a store's tables
+pub from_kept : {S : Type 0} (at : Places S) (profile : List Directive) (P Q : Held S → Held S → Type 0) → ((first last : Held S) → P first last → Q first last) → FromStore at profile P → FromStore at profile Q
+from_kept at profile P Q so from = record {
+  opened = from.opened;
+  taken = from.taken;
+  last = from.last;
+  opens = from.opens;
+  takes = from.takes;
+  does = λ clean. so from.taken from.last (from.does clean);
+}
+
+-- of the store that was taken over
+pub from_taken : {S : Type 0} (at : Places S) (profile : List Directive) (held last : Held S) (P : Held S → Held S → Type 0) → TakesStore at profile held
+    → (HasCleanDisk (state at.store last) → HasCleanDisk (state at.store held)) → (HasCleanDisk (state at.store last) → P held last) → FromStore at profile P
+from_taken at profile held last P takes clean does = record {
+  opened = takes.0;
+  taken = held;
+  last = last;
+  opens = takes.1;
+  takes = λ whole. takes.2 (clean whole);
+  does = does;
+}
+
 RunsLines-kept : {S : Type 0} (at : Places S) (profile : List Directive) (text : List ℕ) (old mid new fault_old fault_mid fault_new : Option (List ℕ)) (status : Status) → Keeps mid new → Keeps fault_mid fault_new
     → RunsLines at profile text old mid fault_old fault_mid status → RunsLines at profile text old new fault_old fault_new status
-RunsLines-kept at profile text old mid new fault_old fault_mid fault_new _ same fault_same (on_store c opened last here closed under opens from closes) =
-    on_store c opened last here closed under opens
-    (λ clean before bears known. Writes-kept old mid new (λ bytes. (later : Holdings) × AnswersBatch at.tells c 0 text before bytes here later) same (from clean before bears known))
+RunsLines-kept at profile text old mid new fault_old fault_mid fault_new _ same fault_same (on_store c here closed under from closes) =
+    on_store c here closed under
+    (from_kept at profile (RunsText at.store at.tells c 0 text old mid here) (RunsText at.store at.tells c 0 text old new here) (λ first last. RunsText-kept at.store at.tells c 0 text old mid new here first last same) from)
     (TellsClosed-kept fault_old fault_mid fault_new closed fault_same closes)
 RunsLines-kept at profile text old mid new fault_old fault_mid fault_new status same fault_same (in_memory lacks unmade quiet opened) =
-    in_memory lacks unmade (Keeps-trans fault_old fault_mid fault_new quiet fault_same) (λ known. AnswersOpened-kept at.tells profile 0 text old mid new status same (opened known))
+    in_memory lacks unmade (Keeps-trans fault_old fault_mid fault_new quiet fault_same) (RunsFromNothing-kept at.tells profile 0 text old mid new status same opened)
 RunsLines-kept at profile text old mid new fault_old fault_mid fault_new status same fault_same (no_register {why = why} failure quiet tells) =
     no_register failure (Keeps-trans old mid new quiet same) (Writes-kept fault_old fault_mid fault_new (λ bytes. TellsFailure (fault.Refused why) bytes status) fault_same tells)
 
@@ -92,12 +119,26 @@ RunsBatch-kept at config given failed old mid new fault_old fault_mid fault_new 
 RunsBatch-kept at config given failed old mid new fault_old fault_mid fault_new status same fault_same (batch_ran profile text read is runs) =
     batch_ran profile text read is (RunsLines-kept at profile text old mid new fault_old fault_mid fault_new status same fault_same runs)
 
-AnswersShell-kept : (told : List ℕ → Option (List ℕ)) (c : Conditions) (text : List ℕ) (left old mid new fault_old fault_new : Option (List ℕ)) (status : Status) (before : Holdings) → Keeps mid new
-    → AnswersShell told c text left old mid fault_old fault_new status before → AnswersShell told c text left old new fault_old fault_new status before
-AnswersShell-kept told c text left old mid new fault_old fault_new status before same (inl w) =
-    inl (Writes-kept old mid new (λ bytes. (later : Holdings) × AnswersBatch told c 0 text before bytes status later) same w.0, w.1)
-AnswersShell-kept told c text left old mid new fault_old fault_new status before same (inr w) =
-    inr (Writes-kept old mid new (AnswersFirst told c 0 text left before) same w.0, w.1, w.2)
+ServesText-kept : {S : Type 0} (g : Ghosts S) (told : List ℕ → Option (List ℕ)) (c : Conditions) (text : List ℕ) (left old mid new fault_old fault_new : Option (List ℕ)) (status : Status) (first last : Held S) → Keeps mid new
+    → ServesText g told c text left old mid fault_old fault_new status first last → ServesText g told c text left old new fault_old fault_new status first last
+ServesText-kept g told c text left old mid new fault_old fault_new status first last same serves = record { over = over serves.over; answers = answers serves.answers }
+  where
+    over : ServesOverLines g told packed_blocks c text left first last old mid fault_old fault_new status → ServesOverLines g told packed_blocks c text left first last old new fault_old fault_new status
+    over (inl all) = inl (Writes-kept old mid new (λ bytes. LinesOver g told packed_blocks c 0 text first bytes status last) same all.0, all.1)
+    over (inr part) = inr (Writes-kept old mid new (FirstOver g told packed_blocks c text left first) same part.0, part.1, part.2)
+
+    answers : ServesLines told c text left (state g first) (state g last) old mid fault_old fault_new status → ServesLines told c text left (state g first) (state g last) old new fault_old fault_new status
+    answers (inl all) =
+        inl (λ before keeps. let w = all.0 before keeps in (w.0, w.1, Writes-kept old mid new (λ bytes. AnswersBatch told c 0 text before bytes status w.0) same w.2), all.1)
+    answers (inr part) = inr (λ before keeps. Writes-kept old mid new (AnswersFirst told c 0 text left before) same (part.0 before keeps), part.1, part.2)
+
+-- what is said of a shell's lines on any tables, and on such that keep what a register holds
+pub text_served : {S : Type 0} (g : Ghosts S) (told : List ℕ → Option (List ℕ)) (c : Conditions) (given left : Option (List ℕ)) (old new : Held S) (wrote writes fault_old fault_new : Option (List ℕ)) (status : Status)
+    → IfSome given (λ text. ServesOverLines g told packed_blocks c text left old new wrote writes fault_old fault_new status)
+    → IfSome given (λ text. ServesLines told c text left (state g old) (state g new) wrote writes fault_old fault_new status)
+    → IfSome given (λ text. ServesText g told c text left wrote writes fault_old fault_new status old new)
+text_served g told c None left old new wrote writes fault_old fault_new status over answers = tt
+text_served g told c (Some text) left old new wrote writes fault_old fault_new status over answers = record { over = over; answers = answers }
 
 -- what is said of an input that is told
 pub some_kept : (given : Option (List ℕ)) (P Q : List ℕ → Type 0) → ((text : List ℕ) → P text → Q text) → IfSome given P → IfSome given Q
@@ -108,55 +149,31 @@ pub RunsShell-kept : {S : Type 0} (at : Places S) (config : String Global) (give
     → RunsShell at config given left old mid fault_old fault_mid status → RunsShell at config given left old new fault_old fault_new status
 RunsShell-kept at config given left old mid new fault_old fault_mid fault_new status same fault_same (shell_stopped why is quiet tells) =
     shell_stopped why is (Keeps-trans old mid new quiet same) (Writes-kept fault_old fault_mid fault_new (λ bytes. TellsFailure why bytes status) fault_same tells)
-RunsShell-kept at config given left old mid new fault_old fault_mid fault_new _ same fault_same (shell_ran profile c opened last between here closed read under opens from closes) =
-    shell_ran profile c opened last between here closed read under opens
-    (λ clean before bears. some_kept given (λ text. AreFilesTold at.tells text → AnswersShell at.tells c text left old mid fault_old between here before)
-    (λ text. AreFilesTold at.tells text → AnswersShell at.tells c text left old new fault_old between here before)
-    (λ text h known. AnswersShell-kept at.tells c text left old mid new fault_old between here before same (h known)) (from clean before bears))
+RunsShell-kept at config given left old mid new fault_old fault_mid fault_new _ same fault_same (shell_ran profile c between here closed read under from closes) =
+    shell_ran profile c between here closed read under
+    (from_kept at profile (λ first last. IfSome given (λ text. ServesText at.store at.tells c text left old mid fault_old between here first last))
+    (λ first last. IfSome given (λ text. ServesText at.store at.tells c text left old new fault_old between here first last))
+    (λ first last. some_kept given (λ text. ServesText at.store at.tells c text left old mid fault_old between here first last) (λ text. ServesText at.store at.tells c text left old new fault_old between here first last)
+    (λ text. ServesText-kept at.store at.tells c text left old mid new fault_old between here first last same)) from)
     (TellsClosed-kept between fault_mid fault_new closed fault_same closes)
 
 -- ---- a task
 
--- what is answered on what a connection keeps is the answer on what the store bears that it took over
-given_answer : (r : Result Reply Fault) (P Q : Result Reply Refusal → Type 0) → ((answer : Result Reply Refusal) → P answer → Q answer) → GivesAnswer P r → GivesAnswer Q r
-given_answer (Ok reply) P Q so h = so (Ok reply) h
-given_answer (Err (fault.Profile file why)) P Q so h = h
-given_answer (Err (fault.Unreadable path)) P Q so h = h
-given_answer (Err (fault.Refused why)) P Q so h = so (Err why) h
-given_answer (Err fault.Memory) P Q so h = tt
-
-served_on : (told : List ℕ → Option (List ℕ)) (c : Conditions) (task : Task) (held last : State) (r : Result Reply Fault) (before : Holdings) → ServesTask told c task held last r → Holding held before → AnswersOn told c task r before
-served_on told c task held last r before serves keeps files known = go (serves files known)
-  where
-    go : AnswersFrom held last r (AnswersTask c task files) ⊎ (ReadsWhole task × IsUnreadable r)
-        → GivesAnswer (λ answer. (later : Holdings) × AnswersTask c task files before answer later) r ⊎ (ReadsWhole task × IsUnreadable r)
-    go (inl from) = inl (given_answer r (λ answer. (later : Holdings) × AnswersTask c task files before answer later × Holding last later) (λ answer. (later : Holdings) × AnswersTask c task files before answer later)
-        (λ answer h. (h.0, h.1)) (from before keeps))
-    go (inr unread) = inr unread
-
--- want of memory in the program itself is one of the answers
-starved_on : (told : List ℕ → Option (List ℕ)) (c : Conditions) (task : Task) (before : Holdings) → AnswersOn told c task (Err fault.Memory) before
-starved_on told c task before files known = inl tt
-
-own_or : (told : List ℕ → Option (List ℕ)) (c : Conditions) (task : Task) (own answer : Result Reply Fault) (before : Holdings) → IsOwnOr answer own → AnswersOn told c task own before → AnswersOn told c task answer before
-own_or told c task own answer before (inl is) h = subst (λ r. AnswersOn told c task r before) (sym is) h
-own_or told c task own answer before (inr is) h = subst (λ r. AnswersOn told c task r before) (sym is) (starved_on told c task before)
-
--- the fault of one that has its own answer
-own_under : (task : Task) (own answer : Result Reply Fault) → IsOwnOr answer own → IfErr own (NamesUnder (paths_of task)) → IfErr answer (NamesUnder (paths_of task))
-own_under task own answer (inl is) h = subst (λ r. IfErr r (NamesUnder (paths_of task))) (sym is) h
-own_under task own answer (inr is) h = subst (λ r. IfErr r (NamesUnder (paths_of task))) (sym is) tt
+-- a task that has its own answer, or memory ran out in the program itself
+own_served : {S : Type 0} (at : Places S) (profile : List Directive) (task : Task) (own answer : Result Reply Fault) → IsOwnOr answer own → ServesUnder at profile task own → ServesUnder at profile task answer
+own_served at profile task own answer (inl is) serves = subst (ServesUnder at profile task) (sym is) serves
+own_served at profile task own answer (inr is) serves = subst (ServesUnder at profile task) (sym is) starved
 
 -- a task on the register in the store
 pub answered_kept : {S : Type 0} (at : Places S) (profile : List Directive) (task : Task) (tells : List ℕ → Option (List ℕ)) (c : Conditions) (held last : Held S) (own answer : Result Reply Fault)
     → tells ≡ at.tells → AreScriptConditions profile c → TakesStore at profile held
-    → (HasCleanDisk (state at.store last) → HasCleanDisk (state at.store held)) → (HasCleanDisk (state at.store last) → ServesTask tells c task (state at.store held) (state at.store last) own)
+    → (HasCleanDisk (state at.store last) → HasCleanDisk (state at.store held)) → (HasCleanDisk (state at.store last) → TaskOver tells packed_blocks c task (state at.store held) (state at.store last) own)
+    → (HasCleanDisk (state at.store last) → ServesTask tells c task (state at.store held) (state at.store last) own)
     → IfErr own (NamesUnder (paths_of task)) → IsOwnOr answer own → ServesUnder at profile task answer
-answered_kept at profile task tells c held last own answer same under takes clean serves named is =
-    answered c under (own_under task own answer is named) (kept takes.0 last takes.1
-    (λ whole before bears. own_or at.tells c task own answer before is
-    (served_on at.tells c task (state at.store held) (state at.store last) own before
-    (subst (λ t. ServesTask t c task (state at.store held) (state at.store last) own) same (serves whole)) (takes.2 (clean whole) before bears))))
+answered_kept at profile task tells c held last own answer same under takes clean over serves named is =
+    let does : HasCleanDisk (state at.store last) → DoesTask at.store at.tells c task own held last =
+    subst (λ t. HasCleanDisk (state at.store last) → DoesTask at.store t c task own held last) same (λ whole. record { over = over whole; names = named; serves = serves whole }) in
+    own_served at profile task own answer is (answered c under (kept (from_taken at profile held last (DoesTask at.store at.tells c task own) takes clean does)))
 
 -- what comes of it, by its parts
 pub gives_for : (r : Result Told Failure) (P Q : Result Reply Fault → Type 0) → ((answer : Result Reply Fault) → P answer → Q answer) → GivesFor r P → GivesFor r Q
@@ -173,15 +190,34 @@ unopened_register at profile task fault.Memory is = absurd is
 -- a task on nothing, where no store stands
 pub on_nothing : {S : Type 0} (at : Places S) (profile : List Directive) (task : Task) (tells : List ℕ → Option (List ℕ)) (answer : Result Reply Fault) → tells ≡ at.tells → LacksStore at profile → ¬ (task ≡ Ask Init)
     → ServesOnNothing tells profile task answer → ServesUnder at profile task answer
-on_nothing at profile task tells answer same lacks other (inl h) =
-    answered h.0 h.1 h.2 (none lacks other (subst (λ t. AnswersOn t h.0 task answer nothing_yet) same h.3))
+on_nothing at profile task tells answer same lacks other (inl h) = answered h.0 h.1 (none lacks other (h.2, subst (λ t. AnswersOn t h.0 task answer nothing_yet) same h.3))
 on_nothing at profile task tells answer same lacks other (inr h) = subst (ServesUnder at profile task) (sym h.2) (unopened h.1)
+
+-- what is answered on what a connection keeps is the answer on it
+given_answer : (r : Result Reply Fault) (P Q : Result Reply Refusal → Type 0) → ((answer : Result Reply Refusal) → P answer → Q answer) → GivesAnswer P r → GivesAnswer Q r
+given_answer (Ok reply) P Q so h = so (Ok reply) h
+given_answer (Err (fault.Profile file why)) P Q so h = h
+given_answer (Err (fault.Unreadable path)) P Q so h = h
+given_answer (Err (fault.Refused why)) P Q so h = so (Err why) h
+given_answer (Err fault.Memory) P Q so h = tt
+
+served_on : (told : List ℕ → Option (List ℕ)) (c : Conditions) (task : Task) (held last : State) (r : Result Reply Fault) (before : Holdings) → ServesTask told c task held last r → Holding held before → AnswersOn told c task r before
+served_on told c task held last r before serves keeps files known = go (serves files known)
+  where
+    go : AnswersFrom held last r (AnswersTask c task files) ⊎ (ReadsWhole task × IsUnreadable r)
+        → GivesAnswer (λ answer. (later : Holdings) × AnswersTask c task files before answer later) r ⊎ (ReadsWhole task × IsUnreadable r)
+    go (inl from) = inl (given_answer r (λ answer. (later : Holdings) × AnswersTask c task files before answer later × Holding last later) (λ answer. (later : Holdings) × AnswersTask c task files before answer later)
+        (λ answer h. (h.0, h.1)) (from before keeps))
+    go (inr unread) = inr unread
 
 -- a task on a register in memory
 pub served_nothing : (tells : List ℕ → Option (List ℕ)) (profile : List Directive) (task : Task) (c : Conditions) (held last : State) (own answer : Result Reply Fault)
-    → AreScriptConditions profile c → Holding held nothing_yet → ServesTask tells c task held last own → IfErr own (NamesUnder (paths_of task)) → IsOwnOr answer own → ServesOnNothing tells profile task answer
-served_nothing tells profile task c held last own answer under keeps serves named is =
-    inl (c, under, own_under task own answer is named, own_or tells c task own answer nothing_yet is (served_on tells c task held last own nothing_yet serves keeps))
+    → AreScriptConditions profile c → Holding held nothing_yet → ServesTask tells c task held last own → IfErr own (NamesUnder (paths_of task))
+    → IsOwnOr answer own → ServesOnNothing tells profile task answer
+served_nothing tells profile task c held last own answer under keeps serves named (inl is) =
+    subst (ServesOnNothing tells profile task) (sym is) (inl (c, under, named, served_on tells c task held last own nothing_yet serves keeps))
+served_nothing tells profile task c held last own answer under keeps serves named (inr is) =
+    subst (ServesOnNothing tells profile task) (sym is) (inl (c, under, tt, λ files known. inl tt))
 
 -- ---- what is told of a task
 
@@ -217,8 +253,7 @@ lines_kept at profile text tells c held n old new fault_old fault_new status fir
     let r = subst (λ t. RunsIn at.store t c 0 text held old new fault_old fault_new status) same (subst (λ k. RunsIn at.store tells c k text held old new fault_old fault_new status) first runs) in
     let whole = r.3 in
     subst (RunsLines at profile text old new fault_old fault_new) (sym r.2)
-    (on_store c takes.0 whole.last r.0 r.1 under takes.1
-    (λ clean before bears known. let w = whole.lines clean known before (takes.2 (whole.clean clean) before bears) in (w.2.0, (w.0, w.2.1), w.2.2)) whole.closes)
+    (on_store c r.0 r.1 under (from_taken at profile held whole.last (RunsText at.store at.tells c 0 text old new r.0) takes whole.clean whole.lines) whole.closes)
 
 pub run_kept : {S : Type 0} (at : Places S) (profile : List Directive) (text : List ℕ) (tells : List ℕ → Option (List ℕ)) (c : Conditions) (held : Held S) (n : ℕ) (old new fault_old fault_new : Option (List ℕ)) (failed fault_failed : Bool) (r : Result Status AllocError)
     → n ≡ 0 → tells ≡ at.tells → AreScriptConditions profile c → TakesStore at profile held
@@ -229,12 +264,36 @@ run_kept at profile text tells c held n old new fault_old fault_new failed fault
     lines_kept at profile text tells c held n old new fault_old fault_new status first same under takes (runs sound quiet)
 
 -- on one in memory
-pub run_none : {S : Type 0} (at : Places S) (profile : List Directive) (text : List ℕ) (n : ℕ) (old new fault_old : Option (List ℕ)) (failed fault_failed : Bool) (r : Result Status AllocError)
-    → n ≡ 0 → LacksStore at profile → ¬ BeginsRegister text → IfOk r (λ status. failed ≡ false → AreFilesTold at.tells text → AnswersOpened at.tells profile n text old new status)
-    → IfOk r (λ status. failed ≡ false → fault_failed ≡ false → RunsLines at profile text old new fault_old fault_old status)
-run_none at profile text n old new fault_old failed fault_failed (Err e) first lacks unmade opened = tt
-run_none at profile text n old new fault_old failed fault_failed (Ok status) first lacks unmade opened = λ sound _.
-    in_memory lacks unmade (Keeps-refl fault_old) (λ known. subst (λ k. AnswersOpened at.tells profile k text old new status) first (opened sound known))
+pub ran_on_nothing : (tells : List ℕ → Option (List ℕ)) (profile : List Directive) (n : ℕ) (text : List ℕ) (old new fault_old : Option (List ℕ)) (failed fault_failed : Bool) (r : Result Status AllocError)
+    → IfOk r (λ status. failed ≡ false → RunsFromNothing tells profile n text old new status)
+    → IfOk r (λ status. failed ≡ false → fault_failed ≡ false → RunsOnNothing tells profile n text old new fault_old fault_old status)
+ran_on_nothing tells profile n text old new fault_old failed fault_failed (Err e) runs = tt
+ran_on_nothing tells profile n text old new fault_old failed fault_failed (Ok status) runs = λ sound _. inl (runs sound, Keeps-refl fault_old)
+
+-- or none was opened, for this refusal
+pub refused_on_nothing : (tells : List ℕ → Option (List ℕ)) (profile : List Directive) (n : ℕ) (text : List ℕ) (old fault_old fault_new : Option (List ℕ)) (why : Refusal) (failure : Failure) (failed fault_failed : Bool) (r : Result Status AllocError)
+    → IsOpeningFailure why → failure.fault ≡ fault.Refused why → IfOk r (λ status. fault_failed ≡ false → Writes fault_old fault_new (λ bytes. TellsFailure failure.fault bytes status))
+    → IfOk r (λ status. failed ≡ false → fault_failed ≡ false → RunsOnNothing tells profile n text old old fault_old fault_new status)
+refused_on_nothing tells profile n text old fault_old fault_new why failure failed fault_failed (Err e) is same told = tt
+refused_on_nothing tells profile n text old fault_old fault_new why failure failed fault_failed (Ok status) is same told = λ _ sound.
+    inr (why, is, Keeps-refl old, subst (λ it. Writes fault_old fault_new (λ bytes. TellsFailure it bytes status)) same (told sound))
+
+pub stopped_on_nothing : (tells : List ℕ → Option (List ℕ)) (profile : List Directive) (n : ℕ) (text : List ℕ) (old : Option (List ℕ)) (failed : Bool) (r : Result Status AllocError)
+    → OnErr r (failed ≡ false → AnswersStopped tells profile n text old old)
+stopped_on_nothing tells profile n text old failed (Ok status) = tt
+stopped_on_nothing tells profile n text old failed (Err e) = λ _. silent_batch tells profile n text old
+
+nothing_run : {S : Type 0} (at : Places S) (profile : List Directive) (text : List ℕ) (old new fault_old fault_new : Option (List ℕ)) (status : Status) → LacksStore at profile → ¬ BeginsRegister text
+    → RunsOnNothing at.tells profile 0 text old new fault_old fault_new status → RunsLines at profile text old new fault_old fault_new status
+nothing_run at profile text old new fault_old fault_new status lacks unmade (inl ran) = in_memory lacks unmade ran.1 ran.0
+nothing_run at profile text old new fault_old fault_new status lacks unmade (inr (why, is, same, told)) = no_register is same told
+
+pub run_none : {S : Type 0} (at : Places S) (profile : List Directive) (text : List ℕ) (n : ℕ) (old new fault_old fault_new : Option (List ℕ)) (failed fault_failed : Bool) (r : Result Status AllocError)
+    → n ≡ 0 → LacksStore at profile → ¬ BeginsRegister text → IfOk r (λ status. failed ≡ false → fault_failed ≡ false → RunsOnNothing at.tells profile n text old new fault_old fault_new status)
+    → IfOk r (λ status. failed ≡ false → fault_failed ≡ false → RunsLines at profile text old new fault_old fault_new status)
+run_none at profile text n old new fault_old fault_new failed fault_failed (Err e) first lacks unmade runs = tt
+run_none at profile text n old new fault_old fault_new failed fault_failed (Ok status) first lacks unmade runs = λ sound quiet.
+    nothing_run at profile text old new fault_old fault_new status lacks unmade (subst (λ k. RunsOnNothing at.tells profile k text old new fault_old fault_new status) first (runs sound quiet))
 
 -- or none is opened
 pub run_unopened : {S : Type 0} (at : Places S) (profile : List Directive) (text : List ℕ) (old fault_old fault_new : Option (List ℕ)) (why : Fault) (failed fault_failed : Bool) (r : Result Status AllocError) → IsOpeningFault why
@@ -248,7 +307,7 @@ run_unopened at profile text old fault_old fault_new fault.Memory failed fault_f
 
 -- a batch that isn't run
 pub batch_refused : {S : Type 0} (at : Places S) (config : String Global) (given : Option (List ℕ)) (read_failed : Bool) (old fault_old fault_new : Option (List ℕ)) (why : Fault) (failed fault_failed : Bool) (r : Result Status AllocError)
-    → ReadsAt at config (Err why) ⊎ IsInputFault given read_failed why → IfOk r (λ status. fault_failed ≡ false → Writes fault_old fault_new (λ bytes. TellsFailure why bytes status))
+    → StopsReading at config given read_failed why → IfOk r (λ status. fault_failed ≡ false → Writes fault_old fault_new (λ bytes. TellsFailure why bytes status))
     → IfOk r (λ status. failed ≡ false → fault_failed ≡ false → RunsBatch at config given read_failed old old fault_old fault_new status)
 batch_refused at config given read_failed old fault_old fault_new why failed fault_failed (Err e) is tells = tt
 batch_refused at config given read_failed old fault_old fault_new why failed fault_failed (Ok status) is tells = λ _ sound. batch_stopped why is (Keeps-refl old) (tells sound)
@@ -275,11 +334,6 @@ pub shell_unopened : {S : Type 0} (at : Places S) (config : String Global) (give
 shell_unopened at config given left old fault_old fault_new why failed fault_failed (Err e) is tells = tt
 shell_unopened at config given left old fault_old fault_new why failed fault_failed (Ok status) is tells = λ _ sound. shell_stopped why is (Keeps-refl old) (tells sound)
 
-served_shell : (told : List ℕ → Option (List ℕ)) (c : Conditions) (text : List ℕ) (left : Option (List ℕ)) (held last : State) (old new fault_old fault_new : Option (List ℕ)) (status : Status) (before : Holdings) → Holding held before
-    → ServesLines told c text left held last old new fault_old fault_new status → AnswersShell told c text left old new fault_old fault_new status before
-served_shell told c text left held last old new fault_old fault_new status before keeps (inl all) = let w = all.0 before keeps in inl ((w.2.0, (w.0, w.2.1), w.2.2), all.1)
-served_shell told c text left held last old new fault_old fault_new status before keeps (inr part) = inr (part.0 before keeps, part.1, part.2)
-
 -- its lines, on the register in the store
 shell_kept : {S : Type 0} (at : Places S) (config : String Global) (tells : List ℕ → Option (List ℕ)) (c : Conditions) (held : Held S) (given left old new fault_old fault_new : Option (List ℕ)) (status : Status)
     → tells ≡ at.tells → OpensUnder at config c held → ServesIn at.store tells c given left held old new fault_old fault_new status → RunsShell at config given left old new fault_old fault_new status
@@ -288,10 +342,8 @@ shell_kept at config tells c held given left old new fault_old fault_new status 
     let takes = under.3 in
     let whole = s.4 in
     subst (RunsShell at config given left old new fault_old fault_new) (sym s.3)
-    (shell_ran under.0 c takes.0 whole.last s.0 s.1 s.2 under.1 under.2 takes.1
-    (λ clean before bears. some_kept given (λ text. AreFilesTold at.tells text → ServesLines at.tells c text left (state at.store held) (state at.store whole.last) old new fault_old s.0 s.1)
-    (λ text. AreFilesTold at.tells text → AnswersShell at.tells c text left old new fault_old s.0 s.1 before)
-    (λ text h known. served_shell at.tells c text left (state at.store held) (state at.store whole.last) old new fault_old s.0 s.1 before (takes.2 (whole.clean clean) before bears) (h known)) (whole.lines clean))
+    (shell_ran under.0 c s.0 s.1 s.2 under.1 under.2
+    (from_taken at under.0 held whole.last (λ first last. IfSome given (λ text. ServesText at.store at.tells c text left old new fault_old s.0 s.1 first last)) takes whole.clean whole.lines)
     whole.closes)
 
 pub shell_served : {S : Type 0} (at : Places S) (config : String Global) (tells : List ℕ → Option (List ℕ)) (c : Conditions) (held : Held S) (given left old new fault_old fault_new : Option (List ℕ)) (failed fault_failed : Bool) (r : Result Status AllocError)
@@ -328,10 +380,12 @@ done_told shows task old mid new failed status whole part (inr is) sound warns =
     inr (is, (shows mid, warns, part is sound))
 
 -- an input that can't be read
-pub input_fault : (told : Option (List ℕ)) (config : String Global) (given : Option (List ℕ)) (failed : Bool) (why : InputFault) (gives : Fault) (path : String Global) → (why ≡ Unreadable → gives ≡ fault.Unreadable path) → (why ≡ Starved → gives ≡ fault.Memory)
-    → string_bytes path ≡ codes "input" → (why ≡ Unreadable → failed ≡ false → IfSome given (λ bytes. ¬ IsInput bytes)) → ReadsProfile told config (Err gives) ⊎ IsInputFault given failed gives
-input_fault told config given failed Unreadable gives path at starved is bytes = inr (path, at refl, is, bytes refl)
-input_fault told config given failed Starved gives path at starved is bytes = inl (subst (λ it. ReadsProfile told config (Err it)) (sym (starved refl)) tt)
+pub input_fault : (told : Option (List ℕ)) (config : String Global) (profile : List Directive) (given : Option (List ℕ)) (failed : Bool) (why : InputFault) (gives : Fault) (path : String Global)
+    → ReadsProfile told config (Ok profile) → (why ≡ Unreadable → gives ≡ fault.Unreadable path) → (why ≡ Starved → gives ≡ fault.Memory)
+    → string_bytes path ≡ codes "input" → (why ≡ Unreadable → failed ≡ false → IfSome given (λ bytes. ¬ IsInput bytes))
+    → ReadsProfile told config (Err gives) ⊎ ((profile : List Directive) × ReadsProfile told config (Ok profile) × IsInputFault given failed gives)
+input_fault told config profile given failed Unreadable gives path read at empty is bytes = inr (profile, read, (path, at refl, is, bytes refl))
+input_fault told config profile given failed Starved gives path read at empty is bytes = inl (subst (λ it. ReadsProfile told config (Err it)) (sym (empty refl)) tt)
 
 -- what a task is answered names paths as its reply does
 pub replied_under : (named : List (List ℕ)) (r : Result Served Fault) → IfErr r (NamesUnder named) → IfErr (replied r) (NamesUnder named)

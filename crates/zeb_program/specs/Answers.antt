@@ -2,7 +2,7 @@
 -- them.
 -- Line after line the commands are a run from what the register held before it. `told` gives the bytes of the file at a path, where they
 -- are known.
-use Rattle.std.specs.Prelude.{◌≡◌, ◌<◌, ◌+◌, ℕ, Option, Some, Result, Ok, Err, List, [], ◌∷◌, ◌++◌, length, codes, string_bytes}
+use Rattle.std.specs.Prelude.{◌≡◌, ◌<◌, ◌+◌, ℕ, Option, Some, None, Result, Ok, Err, List, [], ◌∷◌, ◌++◌, length, codes, string_bytes}
 use Rattle.std.specs.Fmt.{decimal}
 use Rattle.std.specs.Io.KnownBytes.{Appends}
 use Rattle.zeb_engine.specs.declared.commands.Command.{Command}
@@ -73,6 +73,17 @@ IsAnswerTo told c number Bad before bytes status later = (bytes ≡ bad_line num
 abbrev pub AnswersLine : (List ℕ → Option (List ℕ)) → Conditions → ℕ → List ℕ → Holdings → List ℕ → Status → Holdings → Type 0
 AnswersLine told c number text before bytes status later = (line : Line) × Says text line × IsAnswerTo told c number line before bytes status later
 
+-- the line names a change by a path, and the bytes of the file there aren't told
+abbrev pub IsLineUntold : (List ℕ → Option (List ℕ)) → List ℕ → Type 0
+IsLineUntold told text = (change : PathChange) × Says text (Path change) × (told (string_bytes change.path) ≡ None)
+
+-- The answer to a line from and to what is known of what the register holds. Such a line ends that: of it and of the lines behind it nothing
+-- is said.
+abbrev pub AnswersAsTold : (List ℕ → Option (List ℕ)) → Conditions → ℕ → List ℕ → Option Holdings → List ℕ → Status → Option Holdings → Type 0
+AnswersAsTold told c number text (Some before) bytes status (Some later) = AnswersLine told c number text before bytes status later
+AnswersAsTold told c number text (Some before) bytes status None = IsLineUntold told text
+AnswersAsTold told c number text None bytes status later = later ≡ None
+
 -- The first lines of a text, which n lines of the input stand before, are answered as far as the rest, which is not answered. `Answers` says
 -- of the number and the text of each line what is written for it and its status, and leads from what is there before it to what is there
 -- then, which the next line finds.
@@ -82,14 +93,14 @@ pub data EachLine {X : Type 0} (Answers : ℕ → List ℕ → X → List ℕ �
       → Answers (n + 1) (first_line text) before here status next → EachLine Answers (n + 1) (after_first_line text) next there greatest rest last
       → EachLine Answers n text before (here ++ there) (greater status greatest) rest last
 
--- the lines of a text are answered so from what a register holds
-abbrev pub AnswersLines : (List ℕ → Option (List ℕ)) → Conditions → ℕ → List ℕ → Holdings → List ℕ → Status → List ℕ → Holdings → Type 0
-AnswersLines told c = EachLine (AnswersLine told c)
+-- the lines of a text are answered so from what a register holds, as far as it is known
+abbrev pub AnswersLines : (List ℕ → Option (List ℕ)) → Conditions → ℕ → List ℕ → Option Holdings → List ℕ → Status → List ℕ → Option Holdings → Type 0
+AnswersLines told c = EachLine (AnswersAsTold told c)
 
 -- every line of the text is answered
-abbrev pub AnswersBatch : (List ℕ → Option (List ℕ)) → Conditions → ℕ → List ℕ → Holdings → List ℕ → Status → Holdings → Type 0
+abbrev pub AnswersBatch : (List ℕ → Option (List ℕ)) → Conditions → ℕ → List ℕ → Option Holdings → List ℕ → Status → Option Holdings → Type 0
 AnswersBatch told c n text before bytes status last = AnswersLines told c n text before bytes status [] last
 
 -- the lines before one of the text are answered, and that line and those after it are not
-abbrev pub AnswersPart : (List ℕ → Option (List ℕ)) → Conditions → ℕ → List ℕ → Holdings → List ℕ → Type 0
-AnswersPart told c n text before bytes = (status : Status) × (rest : List ℕ) × (last : Holdings) × (0 < length rest) × AnswersLines told c n text before bytes status rest last
+abbrev pub AnswersPart : (List ℕ → Option (List ℕ)) → Conditions → ℕ → List ℕ → Option Holdings → List ℕ → Type 0
+AnswersPart told c n text before bytes = (status : Status) × (rest : List ℕ) × (last : Option Holdings) × (0 < length rest) × AnswersLines told c n text before bytes status rest last

@@ -1,5 +1,5 @@
 -- A batch as one run: the commands that its lines name, in their order, with the answer to each (this program's own).
-use Rattle.std.specs.Prelude.{◌≡◌, ◌⊎◌, ◌↔◌, ◌<◌, ◌+◌, ◌^◌, ℕ, map, Option, Some, Result, List, [], ◌∷◌, ◌++◌, length, String, string_bytes}
+use Rattle.std.specs.Prelude.{◌≡◌, ◌⊎◌, ◌↔◌, ◌<◌, ◌+◌, ◌^◌, ℕ, map, IsSome, Option, Some, Result, List, [], ◌∷◌, ◌++◌, length, String, string_bytes}
 use Rattle.std.specs.declared.alloc.Global.{Global}
 use Rattle.zeb_change.specs.Conditions.{Conditions}
 use Rattle.zeb_change.specs.declared.refusals.Refusal.{Refusal}
@@ -12,6 +12,7 @@ use Rattle.zeb_image.specs.Holdings.{Holdings}
 use Rattle.zeb_image.specs.NameOf.{name_bytes}
 use Rattle.zeb_program.specs.Answers.{AnswersBatch, answer_status, answer_text, bad_line, mark_line}
 use Rattle.zeb_program.specs.Lines.{first_line, after_first_line}
+use Rattle.zeb_program.specs.PathChanges.{AreFilesTold}
 use Rattle.zeb_program.specs.Says.{Says}
 use Rattle.zeb_program.specs.Statuses.{greater}
 use Rattle.zeb_program.specs.declared.statuses.Status.{Status}
@@ -65,4 +66,9 @@ AreFilesShort told = (path file : List ℕ) → told path ≡ Some file → leng
 -- a batch is answered just as one run of the commands that its lines name
 abbrev pub BatchIsOneRun : Type 0
 BatchIsOneRun = (told : List ℕ → Option (List ℕ)) (c : Conditions) (n : ℕ) (text : List ℕ) (before : Holdings) (bytes : List ℕ) (status : Status) (last : Holdings)
-    → AreFilesShort told → AnswersBatch told c n text before bytes status last ↔ IsOneRun told c n text before bytes status last
+    → AreFilesShort told → AnswersBatch told c n text (Some before) bytes status (Some last) ↔ IsOneRun told c n text before bytes status last
+
+-- where the bytes of the file are told that each line names, it is known behind every line what the register holds
+abbrev pub ToldIsKnown : Type 0
+ToldIsKnown = (told : List ℕ → Option (List ℕ)) (c : Conditions) (n : ℕ) (text : List ℕ) (before : Holdings) (bytes : List ℕ) (status : Status) (last : Option Holdings)
+    → AreFilesTold told text → AnswersBatch told c n text (Some before) bytes status last → IsSome last

@@ -1,9 +1,9 @@
 -- Why a command that words or a line name has no answer of a register (this program's own).
-use Rattle.std.specs.Prelude.{◌≡◌, ◌⊎◌, ⊤, ℕ, List, Result, Ok, Err, string_bytes}
+use Rattle.std.specs.Prelude.{◌≡◌, ◌⊎◌, ⊤, ℕ, List, Option, Result, Ok, Err, string_bytes}
 use Rattle.zeb_change.specs.declared.refusals.Refusal.{Refusal}
 use Rattle.zeb_change.specs.declared.refusals.Refusal.TheVariants as refusal
 use Rattle.zeb_engine.specs.declared.replies.Reply.{Reply}
-use Rattle.zeb_paths.specs.Walks.{IsUnder}
+use Rattle.zeb_paths.specs.Walks.{IsUnder, IsUntold}
 use Rattle.zeb_program.specs.declared.faults.Fault.{Fault}
 use Rattle.zeb_program.specs.declared.faults.Fault.TheVariants.{Profile, Unreadable, Refused, Memory}
 
@@ -33,3 +33,10 @@ NamesUnder named (Unreadable path) = IsUnder named (string_bytes path)
 NamesUnder named (Profile file fault) = ⊤
 NamesUnder named (Refused refusal) = ⊤
 NamesUnder named Memory = ⊤
+
+-- a path that can't be read is none at which a file's bytes are told
+abbrev pub NamesUntold : (List ℕ → Option (List ℕ)) → Fault → Type 0
+NamesUntold told (Unreadable path) = IsUntold told (string_bytes path)
+NamesUntold told (Profile file fault) = ⊤
+NamesUntold told (Refused refusal) = ⊤
+NamesUntold told Memory = ⊤

@@ -8,7 +8,7 @@ use Rattle.std.specs.Fmt.{decimal}
 use Rattle.zeb_paths.specs.Causes.{path_cause_text, store_cause_text}
 use Rattle.zeb_program.specs.declared.failures.Cause.{Cause}
 use Rattle.zeb_program.specs.declared.failures.Cause.TheVariants.{Path, Store, File}
-use Rattle.zeb_program.specs.ScriptAnswers.{refusal_line}
+use Rattle.zeb_program.specs.FixedLines.{refusal_line}
 use Rattle.zeb_program.specs.Statuses.{fault_status, refusal_status}
 use Rattle.zeb_program.specs.declared.statuses.Status.{Status}
 use Rattle.zeb_program.specs.declared.statuses.Status.TheVariants.{Failed}

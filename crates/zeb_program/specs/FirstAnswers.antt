@@ -9,6 +9,6 @@ use Rattle.zeb_program.specs.declared.statuses.Status.{Status}
 
 -- The first lines of the text are answered, maybe all, and this is left of it: of the lines behind them no more is gone than one line may
 -- take.
-abbrev pub AnswersFirst : (List ℕ → Option (List ℕ)) → Conditions → ℕ → List ℕ → Option (List ℕ) → Holdings → List ℕ → Type 0
+abbrev pub AnswersFirst : (List ℕ → Option (List ℕ)) → Conditions → ℕ → List ℕ → Option (List ℕ) → Option Holdings → List ℕ → Type 0
 AnswersFirst told c n text left before bytes =
-    (status : Status) × (rest : List ℕ) × (last : Holdings) × AnswersLines told c n text before bytes status rest last × TakesAtMost 16777217 (Some rest) left
+    (status : Status) × (rest : List ℕ) × (last : Option Holdings) × AnswersLines told c n text before bytes status rest last × TakesAtMost 16777217 (Some rest) left

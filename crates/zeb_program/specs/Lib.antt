@@ -1,7 +1,10 @@
 pub mod Answers
 pub mod FirstAnswers
 pub mod Numbers
-pub mod PrivateOverTables
+pub mod OverTables
+pub mod Doing
+pub mod FixedLines
+pub mod Serving
 pub mod Batches
 pub mod PrivateBatches
 pub mod BatchRuns

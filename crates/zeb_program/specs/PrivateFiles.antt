@@ -1,18 +1,10 @@
 -- What only the contracts of private functions speak of; no public clause reaches it.
 -- What is read of files that are read whole, those of an analysis, and what their readers are sure to give (this program's own).
-use Rattle.std.specs.Prelude.{◌≡◌, ◌≤◌, ◌||◌, ⊤, Bool, ℕ, List, length, Option, None, IfSome, Result, Ok, Err, String, Vec, if◌then◌else◌}
-use Rattle.std.specs.List.{AllByRecursion}
+use Rattle.std.specs.Prelude.{◌≡◌, ◌||◌, ⊤, Bool, ℕ, List, Option, None, IfSome, Result, Ok, Err, String, Vec, if◌then◌else◌}
 use Rattle.std.specs.declared.alloc.Global.{Global}
+use Rattle.zeb_program.specs.Inputs.{IsShort}
 use Rattle.zeb_program.specs.declared.faults.Fault.{Fault}
 use Rattle.zeb_program.specs.declared.faults.Fault.TheVariants.{Profile, Unreadable, Refused, Memory}
-
--- a file that is read whole may have so many bytes
-abbrev pub IsShort : List ℕ → Type 0
-IsShort bytes = length bytes ≤ 16777216
-
--- so it is of each of these files
-abbrev pub AreShort : List (List ℕ) → Type 0
-AreShort = AllByRecursion IsShort
 
 -- What is answered where the file at a path is read whole, of which these bytes are told, if any: they, or others that aren't too many; or
 -- the path can't be read, where bytes that are told are too many; or memory ran out.

@@ -4,7 +4,7 @@ use Rattle.std.specs.Prelude.{◌≡◌, ◌⊎◌, ℕ, Bool, false, Option, If
 use Rattle.std.specs.declared.alloc.AllocError.{AllocError}
 use Rattle.std.specs.declared.alloc.Global.{Global}
 use Rattle.sqlite.specs.Held.{Held, state}
-use Rattle.sqlite.specs.State.{HasCleanDisk, State}
+use Rattle.sqlite.specs.State.{HasCleanDisk}
 use Rattle.sqlite.specs.Store.{Ghosts}
 use Rattle.zeb_change.specs.Conditions.{Conditions}
 use Rattle.zeb_change.specs.declared.refusals.Refusal.{Refusal}
@@ -19,15 +19,17 @@ use Rattle.zeb_program.specs.declared.faults.Fault.{Fault}
 use Rattle.zeb_program.specs.declared.faults.Fault.TheVariants.{Refused, Memory}
 use Rattle.zeb_program.specs.declared.performing.Told.{Told}
 use Rattle.zeb_program.specs.declared.tasks.Task.{Task}
-use Rattle.zeb_program.specs.Answers.{AnswersBatch, AnswersPart}
+use Rattle.zeb_program.specs.Answers.{AnswersPart, Writes}
+use Rattle.zeb_program.specs.Doing.{RunsText, ServesText}
 use Rattle.zeb_program.specs.FaultAnswers.{IsOpeningFailure, NamesUnder}
 use Rattle.zeb_program.specs.FirstAnswers.{AnswersFirst}
-use Rattle.zeb_program.specs.PathChanges.{AreFilesTold}
-use Rattle.zeb_program.specs.PrivateServing.{Leads, ServesLines, Stops}
-use Rattle.zeb_program.specs.Registers.{OpensStore, Places}
-use Rattle.zeb_program.specs.ScriptAnswers.{AreScriptConditions}
-use Rattle.zeb_program.specs.Statuses.{greater}
+use Rattle.zeb_program.specs.Serving.{Stops}
 use Rattle.zeb_program.specs.TaskAnswers.{AnswersOn, paths_of}
+use Rattle.zeb_program.specs.Registers.{OpensStore, Places}
+use Rattle.zeb_program.specs.ScriptAnswers.{AreScriptConditions, RunsFromNothing}
+use Rattle.std.specs.Io.KnownBytes.{Keeps as Stays}
+use Rattle.zeb_program.specs.FaultLines.{TellsFailure}
+use Rattle.zeb_program.specs.Statuses.{greater}
 use Rattle.zeb_program.specs.declared.statuses.Status.{Status}
 use Rattle.zeb_program.specs.declared.statuses.Status.TheVariants.{Answered, Failed}
 use Rattle.zeb_program.specs.WordAnswers.{WarnsAtMost, WarnsUnclosed}
@@ -78,10 +80,10 @@ TellsDone task fault_old fault_new status =
 -- ---- the lines of the input
 
 -- Lines are run over a connection, which is then closed. What is said of them is said of the connection as it was before.
-pub record Closes {S : Type 0} (g : Ghosts S) (held : Held S) (Said : State → Type 0) (fault_old fault_new : Option (List ℕ)) (closed : Status) : Type 0 where
+pub record Closes {S : Type 0} (g : Ghosts S) (held : Held S) (Said : Held S → Type 0) (fault_old fault_new : Option (List ℕ)) (closed : Status) : Type 0 where
   pub last : Held S
   pub clean : HasCleanDisk (state g last) → HasCleanDisk (state g held)
-  pub lines : HasCleanDisk (state g last) → Said (state g last)
+  pub lines : HasCleanDisk (state g last) → Said last
   pub closes : TellsClosed fault_old fault_new closed
 
 -- The lines of a session are answered so, and what is told of its close behind them gives the other status, where no write has failed.
@@ -92,23 +94,27 @@ EndsSession (Err error) result failed old new = (closed : Status) × (result ≡
 -- the lines of a batch are run so
 abbrev pub RunsIn : {S : Type 0} → Ghosts S → (List ℕ → Option (List ℕ)) → Conditions → ℕ → List ℕ → Held S → Option (List ℕ) → Option (List ℕ) → Option (List ℕ) → Option (List ℕ) → Status → Type 0
 RunsIn g told c n text held old new fault_old fault_new status = (answered : Status) × (closed : Status) × (status ≡ greater answered closed)
-    × Closes g held (λ last. AreFilesTold told text
-    → Leads (state g held) last old new (λ before bytes later. AnswersBatch told c n text before bytes answered later)) fault_old fault_new closed
+    × Closes g held (RunsText g told c n text old new answered held) fault_old fault_new closed
+
+-- The lines of a batch are run on a register in memory that holds nothing yet, and the fault output is left alone; or why none was opened is told
+-- there, and nothing else.
+abbrev pub RunsOnNothing : (List ℕ → Option (List ℕ)) → List Directive → ℕ → List ℕ → Option (List ℕ) → Option (List ℕ) → Option (List ℕ) → Option (List ℕ) → Status → Type 0
+RunsOnNothing told profile n text old new fault_old fault_new status =
+    (RunsFromNothing told profile n text old new status × Stays fault_old fault_new)
+    ⊎ ((why : Refusal) × IsOpeningFailure why × Stays old new × Writes fault_old fault_new (λ bytes. TellsFailure (Refused why) bytes status))
 
 -- and those of a shell
 abbrev pub ServesIn : {S : Type 0} → Ghosts S → (List ℕ → Option (List ℕ)) → Conditions → Option (List ℕ) → Option (List ℕ) → Held S → Option (List ℕ) → Option (List ℕ) → Option (List ℕ) → Option (List ℕ) → Status → Type 0
 ServesIn g told c given left held old new fault_old fault_new status =
     (between : Option (List ℕ)) × (answered : Status) × (closed : Status) × (status ≡ greater answered closed)
-    × Closes g held (λ last. IfSome given (λ text. AreFilesTold told text
-    → ServesLines told c text left (state g held) last old new fault_old between answered)) between fault_new closed
+    × Closes g held (λ last. IfSome given (λ text. ServesText g told c text left old new fault_old between answered held last)) between fault_new closed
 
 -- Where memory runs out for the program itself, the first lines of a batch are answered so, or none, and the rest are not.
 abbrev pub StopsIn : {S : Type 0} → Ghosts S → (List ℕ → Option (List ℕ)) → Conditions → ℕ → List ℕ → Held S → Option (List ℕ) → Option (List ℕ) → Option (List ℕ) → Option (List ℕ) → Type 0
 StopsIn g told c n text held old new fault_old fault_new =
-    (closed : Status) × Closes g held (λ last. AreFilesTold told text → Stops (state g held) old new (AnswersPart told c n text)) fault_old fault_new closed
+    (closed : Status) × Closes g held (λ last. Stops (state g held) old new (AnswersPart told c n text)) fault_old fault_new closed
 
 -- and those of a shell
 abbrev pub StopsServing : {S : Type 0} → Ghosts S → (List ℕ → Option (List ℕ)) → Conditions → Option (List ℕ) → Option (List ℕ) → Held S → Option (List ℕ) → Option (List ℕ) → Option (List ℕ) → Option (List ℕ) → Type 0
 StopsServing g told c given left held old new fault_old fault_new =
-    (closed : Status) × Closes g held (λ last. IfSome given (λ text. AreFilesTold told text
-    → Stops (state g held) old new (AnswersFirst told c 0 text left))) fault_old fault_new closed
+    (closed : Status) × Closes g held (λ last. IfSome given (λ text. Stops (state g held) old new (AnswersFirst told c 0 text left))) fault_old fault_new closed

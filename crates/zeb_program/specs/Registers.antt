@@ -5,6 +5,7 @@ use Rattle.sqlite.specs.State.{HasCleanDisk}
 use Rattle.sqlite.specs.Store.{Ghosts}
 use Rattle.zeb_engine.specs.Crashes.{Bears}
 use Rattle.zeb_image.specs.Holdings.{Holdings, nothing_yet}
+use Rattle.zeb_image.specs.Image.{Keeps}
 use Rattle.zeb_profile.specs.declared.directives.Directive.{Directive}
 use Rattle.zeb_profile.specs.Indexes.{store_path}
 
@@ -27,13 +28,19 @@ OpensStore at profile opened = (path : List ℕ) × (store_path profile ≡ Some
 abbrev pub LacksStore : {S : Type 0} → Places S → List Directive → Type 0
 LacksStore at profile = (path : List ℕ) × (store_path profile ≡ Some path) × at.lacks path
 
--- P is so of each register that the store bears which this connection opened, if the disk has given back what was written: that is seen on
--- the connection as it was at the end, before it was closed. All that is said of a store's register is said so.
-abbrev pub FromStore : {S : Type 0} → Places S → Held S → Held S → (Holdings → Type 0) → Type 0
-FromStore at opened last P = HasCleanDisk (state at.store last) → (before : Holdings) → Bears (state at.store opened) before → P before
+-- The store at the profile's path is opened by this connection and taken over, and at the end, before it is closed, it is as the last one. P is so
+-- from the one that was taken over to the last, if the disk has given back what was written: each register that the store bore is kept by the
+-- first.
+pub record FromStore {S : Type 0} (at : Places S) (profile : List Directive) (P : Held S → Held S → Type 0) : Type 0 where
+  pub opened : Held S
+  pub taken : Held S
+  pub last : Held S
+  pub opens : OpensStore at profile opened
+  pub takes : HasCleanDisk (state at.store last) → (before : Holdings) → Bears (state at.store opened) before → Keeps (state at.store taken) before
+  pub does : HasCleanDisk (state at.store last) → P taken last
 
--- P is so of the register that is begun with: of that in the store, or, where none stands there and none is to be made, of one that holds
+-- P is so of the store of the register that is begun with, or, where none stands there and none is to be made, Q is of one in memory that holds
 -- nothing yet
-pub data OnRegister {S : Type 0} (at : Places S) (profile : List Directive) (Makes : Type 0) (P : Holdings → Type 0) : Type 0 where
-  kept : (opened : Held S) → (last : Held S) → OpensStore at profile opened → FromStore at opened last P → OnRegister at profile Makes P
-  none : LacksStore at profile → ¬ Makes → P nothing_yet → OnRegister at profile Makes P
+pub data OnRegister {S : Type 0} (at : Places S) (profile : List Directive) (Makes : Type 0) (P : Held S → Held S → Type 0) (Q : Holdings → Type 0) : Type 0 where
+  kept : FromStore at profile P → OnRegister at profile Makes P Q
+  none : LacksStore at profile → ¬ Makes → Q nothing_yet → OnRegister at profile Makes P Q

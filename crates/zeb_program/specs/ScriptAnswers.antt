@@ -1,35 +1,24 @@
 -- What a script writes, and its status (this program's own).
-use Rattle.std.specs.Prelude.{◌≡◌, ◌⊎◌, ℕ, Option, Ok, IsOk, List, [], ◌∷◌, ◌++◌, codes}
+use Rattle.std.specs.Prelude.{◌≡◌, ◌⊎◌, ℕ, Option, Some, Ok, IsOk, List, [], ◌∷◌, ◌++◌, codes}
 use Rattle.zeb_change.specs.Conditions.{Conditions}
 use Rattle.zeb_image.specs.Holdings.{Holdings, nothing_yet}
-use Rattle.zeb_change.specs.declared.refusals.Refusal.{Refusal}
 use Rattle.zeb_change.specs.declared.refusals.Refusal.TheVariants as refusal
-use Rattle.zeb_engine.specs.Refusals.{refusal_text}
 use Rattle.zeb_profile.specs.declared.directives.Directive.{Directive}
 use Rattle.zeb_profile.specs.declared.faults.ProfileFault.{ProfileFault}
 use Rattle.zeb_profile.specs.Faults.{fault_text}
 use Rattle.zeb_profile.specs.Outcomes.{FailsPlaced}
 use Rattle.zeb_profile.specs.Profiles.{profile_of}
+use Rattle.zeb_program.specs.FixedLines.{refusal_line, unreadable_line}
 use Rattle.zeb_program.specs.Inputs.{IsInput}
-use Rattle.zeb_program.specs.PathChanges.{AreFilesTold}
 use Rattle.zeb_program.specs.Scripts.{DividesAt, HasNoDivider}
 use Rattle.zeb_program.specs.Answers.{Writes, AnswersBatch, AnswersPart}
 use Rattle.zeb_program.specs.Statuses.{fault_status}
 use Rattle.zeb_program.specs.declared.statuses.Status.{Status}
 use Rattle.zeb_program.specs.declared.statuses.Status.TheVariants.{Answered, Failed}
 
-abbrev pub refusal_line : Refusal → List ℕ
-refusal_line why = refusal_text why ++ 10 ∷ []
-
 -- a register can't be opened: the store or the memory failed
 abbrev pub IsUnopened : List ℕ → Status → Type 0
 IsUnopened bytes status = ((bytes ≡ refusal_line refusal.Store) ⊎ (bytes ≡ refusal_line refusal.Memory)) × (status ≡ Failed)
-
-abbrev pub unreadable_line : List ℕ
-unreadable_line = codes "zebraidx: cannot read input" ++ 10 ∷ []
-
-abbrev pub usage_line : List ℕ
-usage_line = codes "zebraidx: bad usage" ++ 10 ∷ []
 
 -- what is written for a profile that is refused
 abbrev pub fault_line : ProfileFault → List ℕ
@@ -43,17 +32,19 @@ pub record AreScriptConditions (directives : List Directive) (c : Conditions) : 
   pub records : c.limits.records ≡ 1000000
   pub numbers : c.limits.numbers ≡ 999999999
 
--- what the lines of a batch add to a writer's known bytes, from a register that holds nothing yet: their answers, or the failure of the
--- store or the memory by which no register was opened
+-- what the lines of a batch add to a writer's known bytes, from a register that holds nothing yet: their answers
+abbrev pub RunsFromNothing : (List ℕ → Option (List ℕ)) → List Directive → ℕ → List ℕ → Option (List ℕ) → Option (List ℕ) → Status → Type 0
+RunsFromNothing told directives n batch old new status =
+    Writes old new (λ bytes. (c : Conditions) × AreScriptConditions directives c × (last : Option Holdings) × AnswersBatch told c n batch (Some nothing_yet) bytes status last)
+
+-- the same, or the failure of the store or the memory by which no register was opened
 abbrev pub AnswersOpened : (List ℕ → Option (List ℕ)) → List Directive → ℕ → List ℕ → Option (List ℕ) → Option (List ℕ) → Status → Type 0
-AnswersOpened told directives n batch old new status =
-    Writes old new (λ bytes. (c : Conditions) × AreScriptConditions directives c × (last : Holdings) × AnswersBatch told c n batch nothing_yet bytes status last)
-    ⊎ Writes old new (λ bytes. IsUnopened bytes status)
+AnswersOpened told directives n batch old new status = RunsFromNothing told directives n batch old new status ⊎ Writes old new (λ bytes. IsUnopened bytes status)
 
 -- what they add where memory runs out between two lines of output: the answers of the first lines, or nothing
 abbrev pub AnswersStopped : (List ℕ → Option (List ℕ)) → List Directive → ℕ → List ℕ → Option (List ℕ) → Option (List ℕ) → Type 0
 AnswersStopped told directives n batch old new =
-    Writes old new (λ bytes. (c : Conditions) × AreScriptConditions directives c × AnswersPart told c n batch nothing_yet bytes) ⊎ Writes old new (λ bytes. bytes ≡ [])
+    Writes old new (λ bytes. (c : Conditions) × AreScriptConditions directives c × AnswersPart told c n batch (Some nothing_yet) bytes) ⊎ Writes old new (λ bytes. bytes ≡ [])
 
 -- the profile of a script: what stands before its divider, or the whole text
 abbrev pub IsProfileOf : List ℕ → List ℕ → Type 0
@@ -69,15 +60,15 @@ pub data AnswersScript : (List ℕ → Option (List ℕ)) → List ℕ → Optio
       → AnswersScript told text old new (fault_status fault.kind)
   -- a profile alone
   alone : {told : List ℕ → Option (List ℕ)} {text : List ℕ} {old new : Option (List ℕ)} → IsInput text → HasNoDivider text → IsOk (profile_of text) → Writes old new (λ bytes. bytes ≡ []) → AnswersScript told text old new Answered
-  -- a profile, and the lines of a batch; what is said of them is said where the bytes of each file that a line names by a path are told
+  -- a profile, and the lines of a batch
   ran : {told : List ℕ → Option (List ℕ)} {text profile batch : List ℕ} {directives : List Directive} {n : ℕ} {status : Status} {old new : Option (List ℕ)} → IsInput text → DividesAt n text profile batch → profile_of profile ≡ Ok directives
-      → (AreFilesTold told batch → AnswersOpened told directives n batch old new status) → AnswersScript told text old new status
+      → AnswersOpened told directives n batch old new status → AnswersScript told text old new status
 
 -- what it adds where memory runs out for the program itself
 pub data EndsEarly : (List ℕ → Option (List ℕ)) → List ℕ → Option (List ℕ) → Option (List ℕ) → Type 0 where
   -- before the last line of the batch is answered
   stopped : {told : List ℕ → Option (List ℕ)} {text profile batch : List ℕ} {directives : List Directive} {n : ℕ} {old new : Option (List ℕ)} → IsInput text → DividesAt n text profile batch → profile_of profile ≡ Ok directives
-      → (AreFilesTold told batch → AnswersStopped told directives n batch old new) → EndsEarly told text old new
+      → AnswersStopped told directives n batch old new → EndsEarly told text old new
   -- while the input is read
   silent : {told : List ℕ → Option (List ℕ)} {text : List ℕ} {old new : Option (List ℕ)} → Writes old new (λ bytes. bytes ≡ []) → EndsEarly told text old new
 

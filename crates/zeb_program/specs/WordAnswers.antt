@@ -13,13 +13,17 @@ use Rattle.zeb_program.specs.Answers.{Writes}
 use Rattle.zeb_program.specs.Errands.{IsTaskOf}
 use Rattle.zeb_program.specs.FaultLines.{IsUnclosed}
 use Rattle.zeb_program.specs.Registers.{Places}
-use Rattle.zeb_program.specs.ScriptAnswers.{usage_line}
+use Rattle.zeb_program.specs.FixedLines.{usage_line}
 use Rattle.zeb_program.specs.Statuses.{IsFaultStatus}
 use Rattle.zeb_program.specs.TaskAnswers.{ReadsWhole}
 use Rattle.zeb_program.specs.declared.statuses.Status.{Status}
 use Rattle.zeb_program.specs.declared.statuses.Status.TheVariants.{Answered, Misused, Failed}
 use Rattle.zeb_program.specs.Warnings.{IsWarning}
 use Rattle.zeb_program.specs.WordRuns.{RunsBatch, RunsShell, StopsBatch, StopsShell, TellsWhy, WritesReply}
+
+-- words that name no command
+abbrev pub NamesNothing : List (List ℕ) → Type 0
+NamesNothing words = (named : Words) → ¬ NamesWords words named
 
 -- words that name this task
 abbrev pub NamesTask : List (List ℕ) → Task → Type 0

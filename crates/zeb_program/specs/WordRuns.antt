@@ -3,29 +3,29 @@
 use Rattle.std.specs.Prelude.{◌≡◌, ◌⊎◌, ℕ, Bool, false, codes, Option, IfSome, IfErr, Result, Ok, Err, List, String, string_bytes}
 use Rattle.std.specs.declared.alloc.Global.{Global}
 use Rattle.std.specs.Io.KnownBytes.{Appends, Keeps}
-use Rattle.sqlite.specs.Held.{Held}
+use Rattle.sqlite.specs.Held.{state}
 use Rattle.zeb_change.specs.Conditions.{Conditions}
 use Rattle.zeb_change.specs.declared.refusals.Refusal.{Refusal}
 use Rattle.zeb_engine.specs.declared.commands.Command.TheVariants.{Init}
 use Rattle.zeb_engine.specs.declared.replies.Reply.{Reply}
 use Rattle.zeb_engine.specs.Replies.{reply_text}
-use Rattle.zeb_image.specs.Holdings.{Holdings}
 use Rattle.zeb_profile.specs.declared.directives.Directive.{Directive}
 use Rattle.zeb_program.specs.declared.faults.Fault.{Fault}
-use Rattle.zeb_program.specs.declared.faults.Fault.TheVariants.{Unreadable, Refused}
+use Rattle.zeb_program.specs.declared.faults.Fault.TheVariants.{Unreadable, Refused, Memory}
 use Rattle.zeb_program.specs.declared.tasks.Task.{Task}
 use Rattle.zeb_program.specs.declared.tasks.Task.TheVariants.{Ask}
-use Rattle.zeb_program.specs.Answers.{AnswersBatch, AnswersPart, Writes}
+use Rattle.zeb_program.specs.Answers.{AnswersPart, Writes}
+use Rattle.zeb_program.specs.Doing.{DoesTask, RunsText, ServesText}
 use Rattle.zeb_program.specs.FaultAnswers.{IsOpeningFailure, NamesUnder}
 use Rattle.zeb_program.specs.FaultLines.{IsUnclosed, TellsFailure}
 use Rattle.zeb_program.specs.FirstAnswers.{AnswersFirst}
 use Rattle.zeb_program.specs.Inputs.{IsInput}
-use Rattle.zeb_program.specs.PathChanges.{AreFilesTold}
 use Rattle.zeb_program.specs.ProfileFiles.{ReadsProfile}
-use Rattle.zeb_program.specs.Registers.{FromStore, LacksStore, OnRegister, OpensStore, Places}
-use Rattle.zeb_program.specs.ScriptAnswers.{AnswersOpened, AnswersStopped, AreScriptConditions, unreadable_line}
+use Rattle.zeb_program.specs.Registers.{FromStore, LacksStore, OnRegister, Places}
+use Rattle.zeb_program.specs.ScriptAnswers.{AnswersStopped, AreScriptConditions, RunsFromNothing}
 use Rattle.zeb_program.specs.Scripts.{BeginsRegister}
 use Rattle.zeb_program.specs.Statuses.{greater}
+use Rattle.zeb_program.specs.Serving.{Stops}
 use Rattle.zeb_program.specs.TaskAnswers.{AnswersOn, paths_of}
 use Rattle.zeb_program.specs.declared.statuses.Status.{Status}
 use Rattle.zeb_program.specs.declared.statuses.Status.TheVariants.{Answered, Failed}
@@ -39,8 +39,11 @@ ReadsAt at config read = ReadsProfile (at.tells (string_bytes config)) config re
 -- what comes of a task under a profile
 pub data ServesUnder {S : Type 0} (at : Places S) (profile : List Directive) (task : Task) : Result Reply Fault → Type 0 where
   -- the answer of the register, or that one of the task's paths can't be read, or one below them
-  answered : {result : Result Reply Fault} → (c : Conditions) → AreScriptConditions profile c → IfErr result (NamesUnder (paths_of task))
-      → OnRegister at profile (task ≡ Ask Init) (AnswersOn at.tells c task result) → ServesUnder at profile task result
+  answered : {result : Result Reply Fault} → (c : Conditions) → AreScriptConditions profile c
+      → OnRegister at profile (task ≡ Ask Init) (DoesTask at.store at.tells c task result)
+      (λ before. IfErr result (NamesUnder (paths_of task)) × AnswersOn at.tells c task result before) → ServesUnder at profile task result
+  -- or memory ran out for the program itself
+  starved : ServesUnder at profile task (Err Memory)
   -- or why none is opened
   unopened : {why : Refusal} → IsOpeningFailure why → ServesUnder at profile task (Err (Refused why))
 
@@ -74,6 +77,11 @@ abbrev pub IsInputFault : Option (List ℕ) → Bool → Fault → Type 0
 IsInputFault given failed fault =
     (path : String Global) × (fault ≡ Unreadable path) × (string_bytes path ≡ codes "input") × (failed ≡ false → IfSome given (λ bytes. ¬ IsInput bytes))
 
+-- why no line of a batch is run: the profile isn't read; or it is, and the input can't be
+abbrev pub StopsReading : {S : Type 0} → Places S → String Global → Option (List ℕ) → Bool → Fault → Type 0
+StopsReading at config given failed fault =
+    ReadsAt at config (Err fault) ⊎ ((profile : List Directive) × ReadsAt at config (Ok profile) × IsInputFault given failed fault)
+
 -- the lines of an input, which are these where it tells its bytes
 abbrev pub IsText : Option (List ℕ) → List ℕ → Type 0
 IsText given text = IsInput text × IfSome given (λ bytes. text ≡ bytes)
@@ -81,37 +89,27 @@ IsText given text = IsInput text × IfSome given (λ bytes. text ≡ bytes)
 -- The lines of a text are run as a batch, numbered from 1: on the register in the store, or, where none stands there and no line begins one, on one in
 -- memory as those of a script. This is the greatest status met.
 pub data RunsLines {S : Type 0} (at : Places S) (profile : List Directive) (text : List ℕ) (old new fault_old fault_new : Option (List ℕ)) : Status → Type 0 where
-  on_store : (c : Conditions) → (opened : Held S) → (last : Held S) → (answered : Status) → (closed : Status) → AreScriptConditions profile c → OpensStore at profile opened
-      → FromStore at opened last (λ before. AreFilesTold at.tells text
-      → Writes old new (λ bytes. (later : Holdings) × AnswersBatch at.tells c 0 text before bytes answered later))
+  on_store : (c : Conditions) → (answered : Status) → (closed : Status) → AreScriptConditions profile c → FromStore at profile (RunsText at.store at.tells c 0 text old new answered)
       → TellsClosed fault_old fault_new closed → RunsLines at profile text old new fault_old fault_new (greater answered closed)
   in_memory : {status : Status} → LacksStore at profile → ¬ BeginsRegister text → Keeps fault_old fault_new
-      → (AreFilesTold at.tells text → AnswersOpened at.tells profile 0 text old new status) → RunsLines at profile text old new fault_old fault_new status
+      → RunsFromNothing at.tells profile 0 text old new status → RunsLines at profile text old new fault_old fault_new status
   no_register : {why : Refusal} → {status : Status} → IsOpeningFailure why → Keeps old new → Writes fault_old fault_new (λ bytes. TellsFailure (Refused why) bytes status)
       → RunsLines at profile text old new fault_old fault_new status
 
 -- what is written for a batch, and its status, where `failed` says whether a read of the input failed
 pub data RunsBatch {S : Type 0} (at : Places S) (config : String Global) (given : Option (List ℕ)) (failed : Bool) (old new fault_old fault_new : Option (List ℕ)) (status : Status) : Type 0 where
-  batch_stopped : (fault : Fault) → ReadsAt at config (Err fault) ⊎ IsInputFault given failed fault → Keeps old new
+  batch_stopped : (fault : Fault) → StopsReading at config given failed fault → Keeps old new
       → Writes fault_old fault_new (λ bytes. TellsFailure fault bytes status) → RunsBatch at config given failed old new fault_old fault_new status
   batch_ran : (profile : List Directive) → (text : List ℕ) → ReadsAt at config (Ok profile) → IsText given text
       → RunsLines at profile text old new fault_old fault_new status → RunsBatch at config given failed old new fault_old fault_new status
-
--- The lines of a shell are answered, and nothing goes to the fault output; or one can't be read, which is told there, and those before it are answered,
--- where this is left of the input.
-abbrev pub AnswersShell : (List ℕ → Option (List ℕ)) → Conditions → List ℕ → Option (List ℕ) → Option (List ℕ) → Option (List ℕ) → Option (List ℕ) → Option (List ℕ) → Status → Holdings → Type 0
-AnswersShell told c text left old new fault_old fault_new status before =
-    (Writes old new (λ bytes. (later : Holdings) × AnswersBatch told c 0 text before bytes status later) × Keeps fault_old fault_new)
-    ⊎ (Writes old new (AnswersFirst told c 0 text left before) × (status ≡ Failed) × Appends fault_old fault_new unreadable_line)
 
 -- what is written for a shell, and its status, where this is left of the input
 pub data RunsShell {S : Type 0} (at : Places S) (config : String Global) (given left old new fault_old fault_new : Option (List ℕ)) : Status → Type 0 where
   shell_stopped : {status : Status} → (fault : Fault) → StopsOpening at config fault → Keeps old new
       → Writes fault_old fault_new (λ bytes. TellsFailure fault bytes status) → RunsShell at config given left old new fault_old fault_new status
-  shell_ran : (profile : List Directive) → (c : Conditions) → (opened : Held S) → (last : Held S) → (between : Option (List ℕ)) → (answered : Status) → (closed : Status)
-      → ReadsAt at config (Ok profile) → AreScriptConditions profile c → OpensStore at profile opened
-      → FromStore at opened last (λ before. IfSome given (λ text. AreFilesTold at.tells text
-      → AnswersShell at.tells c text left old new fault_old between answered before))
+  shell_ran : (profile : List Directive) → (c : Conditions) → (between : Option (List ℕ)) → (answered : Status) → (closed : Status)
+      → ReadsAt at config (Ok profile) → AreScriptConditions profile c
+      → FromStore at profile (λ first last. IfSome given (λ text. ServesText at.store at.tells c text left old new fault_old between answered first last))
       → TellsClosed between fault_new closed → RunsShell at config given left old new fault_old fault_new (greater answered closed)
 
 -- ---- where memory runs out for the program itself
@@ -119,11 +117,11 @@ pub data RunsShell {S : Type 0} (at : Places S) (config : String Global) (given 
 -- Of the lines of a text that are run as a batch the first are answered, or none, and the rest are not: on the register in the store, on one in
 -- memory, or before one is opened.
 pub data StopsLines {S : Type 0} (at : Places S) (profile : List Directive) (text : List ℕ) (old new fault_old fault_new : Option (List ℕ)) : Type 0 where
-  part_on_store : (c : Conditions) → (opened : Held S) → (last : Held S) → (closed : Status) → AreScriptConditions profile c → OpensStore at profile opened
-      → FromStore at opened last (λ before. AreFilesTold at.tells text → Writes old new (AnswersPart at.tells c 0 text before))
+  part_on_store : (c : Conditions) → (closed : Status) → AreScriptConditions profile c
+      → FromStore at profile (λ first _. Stops (state at.store first) old new (AnswersPart at.tells c 0 text))
       → TellsClosed fault_old fault_new closed → StopsLines at profile text old new fault_old fault_new
   part_in_memory : LacksStore at profile → ¬ BeginsRegister text → Keeps fault_old fault_new
-      → (AreFilesTold at.tells text → AnswersStopped at.tells profile 0 text old new) → StopsLines at profile text old new fault_old fault_new
+      → AnswersStopped at.tells profile 0 text old new → StopsLines at profile text old new fault_old fault_new
   no_line : Keeps old new → Keeps fault_old fault_new → StopsLines at profile text old new fault_old fault_new
 
 -- what is written for a batch then: nothing, or the answers of its first lines
@@ -135,7 +133,6 @@ pub data StopsBatch {S : Type 0} (at : Places S) (config : String Global) (given
 -- and for a shell, where this is left of the input
 pub data StopsShell {S : Type 0} (at : Places S) (config : String Global) (given left old new fault_old fault_new : Option (List ℕ)) : Type 0 where
   shell_silent : Keeps old new → Keeps fault_old fault_new → StopsShell at config given left old new fault_old fault_new
-  shell_part : (profile : List Directive) → (c : Conditions) → (opened : Held S) → (last : Held S) → (closed : Status)
-      → ReadsAt at config (Ok profile) → AreScriptConditions profile c → OpensStore at profile opened
-      → FromStore at opened last (λ before. IfSome given (λ text. AreFilesTold at.tells text → Writes old new (AnswersFirst at.tells c 0 text left before)))
+  shell_part : (profile : List Directive) → (c : Conditions) → (closed : Status) → ReadsAt at config (Ok profile) → AreScriptConditions profile c
+      → FromStore at profile (λ first _. IfSome given (λ text. Stops (state at.store first) old new (AnswersFirst at.tells c 0 text left)))
       → TellsClosed fault_old fault_new closed → StopsShell at config given left old new fault_old fault_new

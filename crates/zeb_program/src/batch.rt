@@ -8,12 +8,14 @@ ghost use Rattle.zeb_change.specs.Conditions.{conditions};
 ghost use Rattle.zeb_engine.specs.Refusals.{refusal_text};
 ghost use Rattle.zeb_program.specs.ScriptAnswers.{AnswersOpened, AnswersStopped};
 ghost use Rattle.std.specs.Io.KnownBytes.{Appends};
-ghost use Rattle.zeb_program.specs.Answers.{Writes, bad_line, mark_line, IsAnswer, AnswersLine, AnswersBatch, AnswersPart};
-ghost use Rattle.zeb_program.specs.PrivateOverTables.{CommandOver, LineOver, LinesOver};
-ghost use Rattle.zeb_program.specs.PathChanges.{AreFilesTold, IsLineTold};
-ghost use Rattle.zeb_program.specs.PrivateServing.{Leads, Stops};
+ghost use Rattle.zeb_program.specs.Answers.{Writes, bad_line, mark_line, IsAnswer, AnswersAsTold, AnswersBatch, AnswersPart};
+ghost use Rattle.zeb_program.specs.OverTables.{CommandOver, LineOver, LinesOver};
+ghost use Rattle.zeb_program.specs.PrivateServing.{Leads};
+ghost use Rattle.zeb_program.specs.PrivateWordRuns.{RunsOnNothing};
+ghost use Rattle.zeb_program.specs.Serving.{LeadsOn, Stops};
 ghost use Rattle.zeb_program.specs.Statuses.{IsFaultStatus, refusal_status};
 
+use crate::failures::{Failure, tell_failure};
 use crate::lines::Line;
 use crate::memory::open_in_memory;
 use crate::opening::session_over;
@@ -40,11 +42,10 @@ pub fn run_in_memory<P: Paths, W: Write>(
 ) -> Result<Status, AllocError>
     ensures sound { output.new.failed ≡ false → output.old.failed ≡ false }
     ensures answer { IfOk result (λ status. output.new.failed ≡ false
-        → AreFilesTold (P.tells paths.now) batch.entry.text.now → AnswersOpened (P.tells paths.now)
-        profile batch.entry.lines_before batch.entry.text.now (W.contents output.old.writer)
-        (W.contents output.new.writer) status) }
-    ensures stopped { OnErr result (output.new.failed ≡ false → AreFilesTold (P.tells paths.now)
-        batch.entry.text.now → AnswersStopped (P.tells paths.now) profile batch.entry.lines_before
+        → AnswersOpened (P.tells paths.now) profile batch.entry.lines_before batch.entry.text.now
+        (W.contents output.old.writer) (W.contents output.new.writer) status) }
+    ensures stopped { OnErr result (output.new.failed ≡ false
+        → AnswersStopped (P.tells paths.now) profile batch.entry.lines_before
         batch.entry.text.now (W.contents output.old.writer) (W.contents output.new.writer)) }
 {
     match session_over(alloc, open_in_memory(alloc), profile) {
@@ -53,8 +54,33 @@ pub fn run_in_memory<P: Paths, W: Write>(
     }
 }
 
-/// Runs the lines of a batch in a session, and answers the greatest status met. What is said of the answers is said where the
-/// paths tell the bytes of each file that a line names by its path.
+/// Runs them so too, but tells on the fault output why no register is opened, and then writes nothing to the output.
+pub fn run_on_nothing<P: Paths, W: Write, V: Write>(
+    alloc: Global,
+    profile: Profile,
+    paths: &P,
+    batch: Batch<'_>,
+    output: &mut Sink<W>,
+    fault_output: &mut Sink<V>,
+) -> Result<Status, AllocError>
+    ensures answer { IfOk result (λ status. output.new.failed ≡ false
+        → fault_output.new.failed ≡ false → RunsOnNothing (P.tells paths.now) profile
+        batch.entry.lines_before batch.entry.text.now (W.contents output.old.writer)
+        (W.contents output.new.writer) (V.contents fault_output.old.writer)
+        (V.contents fault_output.new.writer) status) }
+    ensures stopped { OnErr result (output.new.failed ≡ false
+        → AnswersStopped (P.tells paths.now) profile batch.entry.lines_before
+        batch.entry.text.now (W.contents output.old.writer) (W.contents output.new.writer)) }
+    ensures silent { OnErr result (fault_output.new ≡ fault_output.old) }
+{
+    match session_over(alloc, open_in_memory(alloc), profile) {
+        Ok(mut session) => run_lines(alloc, &mut session, paths, batch, output),
+        Err(refusal) => tell_failure(alloc, &Failure::from(refusal), fault_output),
+    }
+}
+
+/// Runs the lines of a batch in a session, and answers the greatest status met. What is said of the answers is said up to the first line
+/// that names a file by its path of which the paths don't tell the bytes.
 pub fn run_lines<S: Alter, L: Layout, P: Paths, W: Write>(
     alloc: Global,
     session: &mut Session<S, L>,
@@ -64,8 +90,8 @@ pub fn run_lines<S: Alter, L: Layout, P: Paths, W: Write>(
 ) -> Result<Status, AllocError>
     ensures sound { output.new.failed ≡ false → output.old.failed ≡ false }
     ensures answer { IfOk result (λ status. output.new.failed ≡ false
-        → HasCleanDisk (state S.Store session.new.connection) → AreFilesTold (P.tells paths.now)
-        batch.entry.text.now → Leads (state S.Store session.old.connection)
+        → HasCleanDisk (state S.Store session.new.connection)
+        → LeadsOn (state S.Store session.old.connection)
         (state S.Store session.new.connection) (W.contents output.old.writer)
         (W.contents output.new.writer) (λ before bytes last. AnswersBatch (P.tells paths.now)
         (conditions (version_of L.format) session.old.profile session.old.limits)
@@ -79,8 +105,8 @@ pub fn run_lines<S: Alter, L: Layout, P: Paths, W: Write>(
         batch.entry.lines_before batch.entry.text.now session.old.connection bytes status
         session.new.connection)) }
     ensures stopped { OnErr result (output.new.failed ≡ false
-        → HasCleanDisk (state S.Store session.new.connection) → AreFilesTold (P.tells paths.now)
-        batch.entry.text.now → Stops (state S.Store session.old.connection)
+        → HasCleanDisk (state S.Store session.new.connection)
+        → Stops (state S.Store session.old.connection)
         (W.contents output.old.writer) (W.contents output.new.writer)
         (AnswersPart (P.tells paths.now) (conditions (version_of L.format) session.old.profile
         session.old.limits) batch.entry.lines_before batch.entry.text.now)) }
@@ -110,10 +136,10 @@ pub fn run_line<S: Alter, L: Layout, P: Paths, W: Write>(
 ) -> Result<Status, AllocError>
     ensures sound { output.new.failed ≡ false → output.old.failed ≡ false }
     ensures answer { IfOk result (λ status. output.new.failed ≡ false
-        → HasCleanDisk (state S.Store session.new.connection) → IsLineTold (P.tells paths.now)
-        line.now → Leads (state S.Store session.old.connection)
+        → HasCleanDisk (state S.Store session.new.connection)
+        → LeadsOn (state S.Store session.old.connection)
         (state S.Store session.new.connection) (W.contents output.old.writer)
-        (W.contents output.new.writer) (λ before bytes later. AnswersLine (P.tells paths.now)
+        (W.contents output.new.writer) (λ before bytes later. AnswersAsTold (P.tells paths.now)
         (conditions (version_of L.format) session.old.profile session.old.limits) number line.now
         before bytes status later)) }
     // It is answered as the engine says of it on any tables.

@@ -1,24 +1,24 @@
 //! The words of a command line: what they ask for is done, and its answer or why there is none is written.
 
-ghost use Rattle.std.specs.Prelude.{◌≡◌, ◌≢◌, ◌⊎◌, ◌+◌, ◌++◌, false, true, map, string_bytes, Ok, Err, IfErr, IfOk};
+ghost use Rattle.std.specs.Prelude.{◌≡◌, ◌≢◌, ◌⊎◌, ◌+◌, ◌++◌, false, true, map, string_bytes, Ok, IfErr, IfOk};
 ghost use Rattle.std.specs.Prelude.{OnErr, IsErrAnd};
 ghost use Rattle.zeb_change.specs.Conditions.{conditions};
 ghost use Rattle.zeb_register.specs.Formats.{packed_blocks, version_of};
 ghost use Rattle.zeb_program.specs.PrivateWordRuns.{EndsSession, OpensUnder, RunsIn, ServesIn, StopsIn, StopsServing, TellsDone};
 ghost use Rattle.zeb_program.specs.ProfileFiles.{ReadsProfile};
 ghost use Rattle.zeb_program.specs.Registers.{places};
-ghost use Rattle.zeb_program.specs.WordRuns.{IsInputFault, IsText, RunsBatch, RunsLines, RunsShell};
-ghost use Rattle.zeb_program.specs.WordRuns.{StopsBatch, StopsLines, StopsOpening, StopsShell};
+ghost use Rattle.zeb_program.specs.WordRuns.{IsText, RunsBatch, RunsLines, RunsShell};
+ghost use Rattle.zeb_program.specs.WordRuns.{StopsBatch, StopsLines, StopsOpening, StopsReading, StopsShell};
 ghost use Rattle.std.specs.Io.KnownBytes.{Appends, IsAtEnd};
 ghost use Rattle.zeb_program.specs.PrivateFaults.{IsUnread};
 ghost use Rattle.zeb_program.specs.Inputs.{TakesAtMost};
-ghost use Rattle.zeb_program.specs.ScriptAnswers.{usage_line};
-ghost use Rattle.zeb_program.specs.WordAnswers.{AnswersWords, NamesLines, NamesShell, StopsWords, TellsApart, TellsUsage, WarnsAtMost};
+ghost use Rattle.zeb_program.specs.FixedLines.{usage_line};
+ghost use Rattle.zeb_program.specs.WordAnswers.{AnswersWords, NamesLines, NamesNothing, NamesShell, StopsWords, TellsApart, TellsUsage, WarnsAtMost};
 ghost use Rattle.zeb_program.specs.PrivateWarnings.{MayWarn};
 ghost use Rattle.zeb_program.specs.declared.tasks.Task.{Task as Asked};
 ghost use Rattle.std.specs.Option.{option_map};
 
-use crate::batch::{run_in_memory, run_lines};
+use crate::batch::{run_lines, run_on_nothing};
 use crate::failures::{Failure, tell_closed, tell_failure};
 use crate::files::unread;
 use crate::input::{GREATEST_INPUT, read_text};
@@ -51,6 +51,7 @@ pub fn run_words<R: Source, W: Output, V: Write, P: Paths>(
     ensures bounded { ¬ NamesShell (map string_bytes words.now) →
         TakesAtMost (GREATEST_INPUT + 1) (R.remaining input.old) (R.remaining input.new) }
     ensures unread { ¬ NamesLines (map string_bytes words.now) → input.new ≡ input.old }
+    ensures untouched { NamesNothing (map string_bytes words.now) → paths.new ≡ paths.old }
     ensures failed_read { R.has_failed input.new ≡ true
         → IfOk result (λ status. status ≡ Status.Failed) }
     ensures answer { IfOk result (λ status. output.new.failed ≡ false
@@ -220,8 +221,8 @@ fn begin_batch<R: Source, P: Paths>(
     ensures begun { IfOk result (λ begun. ReadsProfile (P.tells paths.now (string_bytes config))
         config (Ok begun.0) × IsText (R.remaining input.old) (string_bytes begun.1)) }
     ensures refused { IfErr result
-        (λ failure. ReadsProfile (P.tells paths.now (string_bytes config)) config
-        (Err failure.fault) ⊎ IsInputFault (R.remaining input.old) (R.has_failed input.new)
+        (λ failure. StopsReading (places P.Store.Store (P.tells paths.now) (P.opens paths.now)
+        (P.lacks paths.now)) config (R.remaining input.old) (R.has_failed input.new)
         failure.fault) }
 {
     let profile = profile_at(alloc, paths, config)?;
@@ -260,7 +261,7 @@ fn serve_batch<W: Write, V: Write, P: Paths>(
         (V.contents fault_output.old.writer) (V.contents fault_output.new.writer)) }
 {
     if !batch.begins() && !paths.has_store(profile.store_path()) {
-        return run_in_memory(alloc, profile, paths, batch, output);
+        return run_on_nothing(alloc, profile, paths, batch, output, fault_output);
     }
     match open_register(alloc, paths, profile) {
         Ok(session) => run_in(alloc, session, paths, batch, output, fault_output),

@@ -1,10 +1,10 @@
 //! The files at the paths that words or a line name.
 
 ghost use Rattle.std.specs.Prelude.{◌≡◌, ◌⊎◌, ◌+◌, ℕ, List, Some, map, string_bytes, Err, IfErr, IfOk, false, true};
-ghost use Rattle.zeb_program.specs.Inputs.{TakesAtMost};
-ghost use Rattle.zeb_program.specs.FaultAnswers.{NamesUnder};
+ghost use Rattle.zeb_program.specs.Inputs.{AreShort, TakesAtMost};
+ghost use Rattle.zeb_program.specs.FaultAnswers.{NamesUnder, NamesUntold};
 ghost use Rattle.zeb_program.specs.PrivateFaults.{IsUnread};
-ghost use Rattle.zeb_program.specs.PrivateFiles.{AreShort, ReadsContent, sure_bytes};
+ghost use Rattle.zeb_program.specs.PrivateFiles.{ReadsContent, sure_bytes};
 ghost use Rattle.zeb_program.specs.ProfileFiles.{ReadsProfile};
 ghost use Rattle.zeb_program.specs.TaskAnswers.{AreTold};
 ghost use Rattle.zeb_program.specs.declared.faults.Fault.TheVariants.{Memory, Unreadable};
@@ -71,6 +71,7 @@ pub fn readers_of<P: Paths>(
         map (sure_bytes P.Reader.remaining P.Reader.may_fail P.Reader.has_failed) readers.items ≡ map Some files) }
     ensures memory { (files : List (List ℕ)) → AreTold (P.tells paths.now) (map string_bytes named.now) files
         → IfErr result (λ fault. fault ≡ Memory) }
+    ensures untold { IfErr result (NamesUntold (P.tells paths.now)) }
     ensures unread { IfErr result IsUnread }
     ensures under { IfErr result (NamesUnder (map string_bytes named.now)) }
 {

@@ -1,5 +1,5 @@
-//! A law of batches. It is a function with no code, whose contract is the law.
-ghost use Rattle.zeb_program.specs.BatchRuns.{BatchIsOneRun};
+//! Laws of batches. They are functions with no code, whose contracts are the laws.
+ghost use Rattle.zeb_program.specs.BatchRuns.{BatchIsOneRun, ToldIsKnown};
 
 /// A batch is one run. Where the lines of a text are answered, the answers are those of one run of the commands that the lines name, in
 /// their order: so each is the definition's on what the commands before it left. What is written is just the texts of these answers, each
@@ -7,4 +7,10 @@ ghost use Rattle.zeb_program.specs.BatchRuns.{BatchIsOneRun};
 /// round, what is written for such a run is an answer of the batch.
 pub fn a_batch_is_one_run()
     ensures { BatchIsOneRun }
+{}
+
+/// Where the paths tell the bytes of each file that a line of a text names, it is known behind each of its lines what the register holds:
+/// so all of them are answered, as the law of one run says.
+pub fn told_files_leave_nothing_unknown()
+    ensures { ToldIsKnown }
 {}

@@ -9,7 +9,7 @@ ghost use Rattle.zeb_register.specs.Formats.{version_of};
 ghost use Rattle.zeb_program.specs.Answers.{IsFileAnswer, Writes};
 ghost use Rattle.zeb_program.specs.Batches.{kind_word};
 ghost use Rattle.zeb_program.specs.PrivateServing.{Leads};
-ghost use Rattle.zeb_program.specs.PrivateOverTables.{PathOver};
+ghost use Rattle.zeb_program.specs.OverTables.{PathOver};
 
 use crate::faults::tell;
 use crate::sinks::Sink;

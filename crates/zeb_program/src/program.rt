@@ -6,7 +6,7 @@ ghost use Rattle.zeb_program.specs.Inputs.{TakesAtMost};
 ghost use Rattle.zeb_program.specs.Registers.{places};
 ghost use Rattle.zeb_program.specs.ScriptAnswers.{AnswersScript, EndsEarly, EndsScript, fault_line};
 ghost use Rattle.zeb_program.specs.Statuses.{EndsWith, fault_status, status_code};
-ghost use Rattle.zeb_program.specs.WordAnswers.{EndsWords, NamesLines, NamesShell};
+ghost use Rattle.zeb_program.specs.WordAnswers.{EndsWords, NamesLines, NamesNothing, NamesShell};
 
 use crate::batch::run_in_memory;
 use crate::command_line::run_words;
@@ -54,6 +54,10 @@ pub fn run<R: Source, W: Output, V: Output, P: Paths>(
         TakesAtMost (GREATEST_INPUT + 1) (R.remaining input.old) (R.remaining input.new) }
     ensures unread { words.now ≢ [] → ¬ NamesLines (map string_bytes words.now)
         → input.new ≡ input.old }
+
+    // No store is opened without a word, nor for words that name no command.
+    ensures kept { words.now ≡ [] → files.new ≡ files.old }
+    ensures untouched { NamesNothing (map string_bytes words.now) → files.new ≡ files.old }
 
     // A failed read of the input, and a failed write, show in the status.
     ensures failed_read { R.has_failed input.new ≡ true → result ≡ status_code Status.Failed }

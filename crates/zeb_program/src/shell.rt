@@ -6,14 +6,13 @@ ghost use Rattle.sqlite.specs.Held.{state};
 ghost use Rattle.sqlite.specs.State.{HasCleanDisk};
 ghost use Rattle.zeb_change.specs.Conditions.{conditions};
 ghost use Rattle.zeb_register.specs.Formats.{version_of};
-ghost use Rattle.zeb_program.specs.Answers.{AnswersBatch, AnswersLine, Writes};
+ghost use Rattle.zeb_program.specs.Answers.{AnswersAsTold, AnswersBatch, Writes};
 ghost use Rattle.zeb_program.specs.FirstAnswers.{AnswersFirst};
 ghost use Rattle.zeb_program.specs.Inputs.{TakesAtMost};
 ghost use Rattle.zeb_program.specs.Lines.{first_line, after_first_line};
 ghost use Rattle.zeb_program.specs.PrivateLines.{whole_first_line};
-ghost use Rattle.zeb_program.specs.PathChanges.{AreFilesTold, IsLineTold};
-ghost use Rattle.zeb_program.specs.PrivateOverTables.{FirstOver, LineOver, LinesOver, ServesOverLines};
-ghost use Rattle.zeb_program.specs.PrivateServing.{Leads, ServesLines, Stops};
+ghost use Rattle.zeb_program.specs.OverTables.{FirstOver, LineOver, LinesOver, ServesOverLines};
+ghost use Rattle.zeb_program.specs.Serving.{LeadsOn, ServesLines, Stops};
 ghost use Rattle.zeb_program.specs.declared.input.InputFault.TheVariants.{Unreadable};
 
 use crate::batch::{refuse_line, run_line};
@@ -44,8 +43,8 @@ pub fn serve_lines<R: Source, S: Alter, L: Layout, P: Paths, W: Output, V: Write
     requires { R.has_failed input.old ≡ false }
     ensures answer { IfOk result (λ status. output.new.failed ≡ false
         → fault_output.new.failed ≡ false → HasCleanDisk (state S.Store session.new.connection)
-        → IfSome (R.remaining input.old) (λ text. AreFilesTold (P.tells paths.now) text
-        → ServesLines (P.tells paths.now) (conditions (version_of L.format) session.old.profile
+        → IfSome (R.remaining input.old)
+        (λ text. ServesLines (P.tells paths.now) (conditions (version_of L.format) session.old.profile
         session.old.limits) text (R.remaining input.new) (state S.Store session.old.connection)
         (state S.Store session.new.connection) (W.contents output.old.writer)
         (W.contents output.new.writer) (V.contents fault_output.old.writer)
@@ -66,8 +65,7 @@ pub fn serve_lines<R: Source, S: Alter, L: Layout, P: Paths, W: Output, V: Write
         (R.remaining input.new) session.old.connection))) }
     ensures stopped { OnErr result (output.new.failed ≡ false
         → HasCleanDisk (state S.Store session.new.connection) → IfSome (R.remaining input.old)
-        (λ text. AreFilesTold (P.tells paths.now) text
-        → Stops (state S.Store session.old.connection) (W.contents output.old.writer)
+        (λ text. Stops (state S.Store session.old.connection) (W.contents output.old.writer)
         (W.contents output.new.writer)
         (AnswersFirst (P.tells paths.now) (conditions (version_of L.format) session.old.profile
         session.old.limits) 0 text (R.remaining input.new)))) }
@@ -96,7 +94,8 @@ pub fn serve_lines<R: Source, S: Alter, L: Layout, P: Paths, W: Output, V: Write
 /// no line is read whose answer could not be seen. A failed read, and a line that is longer than an input may be, are
 /// `Unreadable`; the answers of the lines before stay.
 ///
-/// What is said of the answers is said of an input that tells its bytes, where the paths tell those of each file that a line names.
+/// What is said of the answers is said of an input that tells its bytes, up to the first line that names a file of which the paths
+/// don't tell them.
 pub fn run_shell_lines<R: Source, S: Alter, L: Layout, P: Paths, W: Output>(
     alloc: Global,
     session: &mut Session<S, L>,
@@ -108,8 +107,7 @@ pub fn run_shell_lines<R: Source, S: Alter, L: Layout, P: Paths, W: Output>(
     ensures sound { output.new.failed ≡ false → output.old.failed ≡ false }
     ensures answer { IfOk result (λ status. output.new.failed ≡ false
         → HasCleanDisk (state S.Store session.new.connection) → IfSome (R.remaining input.old)
-        (λ text. AreFilesTold (P.tells paths.now) text
-        → Leads (state S.Store session.old.connection) (state S.Store session.new.connection)
+        (λ text. LeadsOn (state S.Store session.old.connection) (state S.Store session.new.connection)
         (W.contents output.old.writer) (W.contents output.new.writer)
         (λ before bytes last. AnswersBatch (P.tells paths.now)
         (conditions (version_of L.format) session.old.profile session.old.limits) 0 text before
@@ -123,8 +121,7 @@ pub fn run_shell_lines<R: Source, S: Alter, L: Layout, P: Paths, W: Output>(
         session.old.connection bytes status session.new.connection))) }
     ensures stopped { OnErr result (output.new.failed ≡ false
         → HasCleanDisk (state S.Store session.new.connection) → IfSome (R.remaining input.old)
-        (λ text. AreFilesTold (P.tells paths.now) text
-        → Stops (state S.Store session.old.connection) (W.contents output.old.writer)
+        (λ text. Stops (state S.Store session.old.connection) (W.contents output.old.writer)
         (W.contents output.new.writer)
         (AnswersFirst (P.tells paths.now) (conditions (version_of L.format) session.old.profile
         session.old.limits) 0 text (R.remaining input.new)))) }
@@ -169,10 +166,10 @@ fn run_next_line<R: Source, S: Alter, L: Layout, P: Paths, W: Output>(
     ensures sound { output.new.failed ≡ false → output.old.failed ≡ false }
     ensures answer { IfOk result (λ found. IfSome found (λ status. output.new.failed ≡ false
         → HasCleanDisk (state S.Store session.new.connection) → IfSome (R.remaining input.old)
-        (λ left. IsLineTold (P.tells paths.now) (first_line left)
-        → Leads (state S.Store session.old.connection) (state S.Store session.new.connection)
+        (λ left. LeadsOn (state S.Store session.old.connection)
+        (state S.Store session.new.connection)
         (W.contents output.old.writer) (W.contents output.new.writer)
-        (λ before bytes later. AnswersLine (P.tells paths.now)
+        (λ before bytes later. AnswersAsTold (P.tells paths.now)
         (conditions (version_of L.format) session.old.profile session.old.limits) number
         (first_line left) before bytes status later)))) }
     ensures over { IfOk result (λ found. IfSome found (λ status. output.new.failed ≡ false
@@ -222,10 +219,9 @@ fn run_bytes<S: Alter, L: Layout, P: Paths, W: Write>(
     // Of bytes that are one line.
     ensures answer { IfOk result (λ status. output.new.failed ≡ false
         → HasCleanDisk (state S.Store session.new.connection) → after_first_line bytes.items ≡ []
-        → IsLineTold (P.tells paths.now) (first_line bytes.items)
-        → Leads (state S.Store session.old.connection) (state S.Store session.new.connection)
+        → LeadsOn (state S.Store session.old.connection) (state S.Store session.new.connection)
         (W.contents output.old.writer) (W.contents output.new.writer)
-        (λ before written later. AnswersLine (P.tells paths.now)
+        (λ before written later. AnswersAsTold (P.tells paths.now)
         (conditions (version_of L.format) session.old.profile session.old.limits) number
         (first_line bytes.items) before written status later)) }
     ensures over { IfOk result (λ status. output.new.failed ≡ false

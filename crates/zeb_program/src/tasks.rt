@@ -11,8 +11,9 @@ ghost use Rattle.zeb_register.specs.Formats.{version_of};
 ghost use Rattle.zeb_engine.specs.Does.{AnswersAnyway};
 ghost use Rattle.zeb_program.specs.PrivateFaults.{IsUnread};
 ghost use Rattle.zeb_program.specs.FaultAnswers.{GivesAnswer, IsUnreadable, NamesUnder};
-ghost use Rattle.zeb_program.specs.PrivateOverTables.{AnalysesOver, PathsLeave, PathsOver, ServesOver, TaskOver};
-ghost use Rattle.zeb_program.specs.PrivateServing.{AnswersFrom, ServesTask, replied};
+ghost use Rattle.zeb_program.specs.OverTables.{AnalysesOver, PathsLeave, PathsOver, ServesOver, TaskOver};
+ghost use Rattle.zeb_program.specs.PrivateServing.{replied};
+ghost use Rattle.zeb_program.specs.Serving.{AnswersFrom, ServesTask};
 ghost use Rattle.zeb_program.specs.TaskAnswers.{AnalysesFiles, AnswersCommand, AreTold, ReadsWhole, paths_of};
 ghost use Rattle.zeb_program.specs.PrivateWarnings as spec;
 

@@ -18,7 +18,7 @@ use Rattle.zeb_query.specs.declared.values.Subject.{Subject}
 use Rattle.zeb_query.specs.declared.values.Subject.TheVariants.{Entries, Record}
 use Rattle.zeb_query.specs.declared.values.Values.{Values}
 use Rattle.zeb_query.specs.Grammar.{HeadValue, TermValue, heads, no_head}
-use Rattle.zeb_query.specs.Attributes.{HoldingValue, asks_number, holding_of, joined_if_any, joined_words_if_any, order_of, patterns_asked, register_of, values_held, words_if_any}
+use Rattle.zeb_query.specs.Attributes.{HoldingValue, asks_number, holding_of, joined_if_any, order_of, patterns_asked, register_of, values_held, words_if_any}
 use Rattle.zeb_query.specs.Checks.{find_checks, first_that_applies}
 use Rattle.zeb_query.specs.Plans.{entries_asked, plan_asked, plan_of, subject_asked, texts_asked, words_asked}
 use Rattle.zeb_query.proofs.CheckLemmas.{answered_ok}

@@ -27,6 +27,7 @@ pub mod TermLemmas
 pub mod WordCounts
 pub mod ToldLemmas
 pub mod UnitLemmas
+pub mod KeptValues
 pub mod KeyReads
 pub mod EntryReads
 pub mod EntryLaws

@@ -2,11 +2,12 @@
 -- the values for which it stands, in the words of the tables of `zeb_query`, and what a record has to have. No plan is named.
 -- Own rules of this project: that structure 107 asks for a system number, that a find takes no other values than these, which register is
 -- searched, and that a term without words holds on no record but where its words aren't compared.
-use Rattle.std.specs.Prelude.{◌≡◌, ◌≢◌, ◌⊎◌, ◌↔◌, ℕ, List, [], Some, false, chars}
+use Rattle.std.specs.Prelude.{◌≡◌, ◌≢◌, ◌⊎◌, ◌↔◌, ℕ, List, [], None, Some, true, false, chars}
 use Rattle.std.specs.Str.Parse.{digits_value}
 use Rattle.sqlite_rules.specs.Lists.{Has}
 use Rattle.zeb_keys.specs.declared.Register.TheVariants as register
 use Rattle.zeb_keys.specs.declared.keys.Occurrence.{Occurrence}
+use Rattle.zeb_profile.specs.declared.Profile.{Profile}
 use Rattle.zeb_text.specs.Symbols.{Symbol}
 use Rattle.zeb_text.specs.Truncation.{joined_patterns}
 use Rattle.zeb_text.specs.Words.{words_of}
@@ -17,15 +18,36 @@ use Rattle.zeb_query.specs.declared.attributes.Structure.TheVariants.{FreeForm, 
 use Rattle.zeb_query.specs.declared.plans.Order.{Order}
 use Rattle.zeb_query.specs.declared.plans.Relation.{Relation}
 use Rattle.zeb_query.specs.declared.plans.Relation.TheVariants.{Equal}
+use Rattle.zeb_query.specs.declared.values.Subject.{Subject}
 use Rattle.zeb_query.specs.declared.values.Subject.TheVariants.{Entries, Record}
 use Rattle.zeb_query.specs.declared.values.Values.{Values}
-use Rattle.zeb_query.specs.Attributes.{asks_number, is_first, joined_words, order_of, patterns_asked, register_of}
+use Rattle.zeb_query.specs.Attributes.{HoldingValue, asks_number, completeness_of, index_used, is_first, is_local_number, joined_words, order_of, patterns_asked, position_of, register_of, relation_of, structure_of, truncation_of}
 use Rattle.zeb_search.specs.Comparing.{StandsInOrder}
 use Rattle.zeb_search.specs.Holds.{Fits, HasEntry, HasMatch, HasPhrase, IsNumberAt}
 
 -- these are the occurrences that records have, each with the record's number
 abbrev pub occurs_in : List (ℕ × Occurrence) → ℕ → Occurrence → Type 0
 occurs_in occurrences n occurrence = Has occurrences (n, occurrence)
+
+-- ---- the values of the attributes
+
+-- structure 107; or another one that is kept, and the index of the use attribute
+abbrev pub IsNamed : Profile → HoldingValue → Subject → Type 0
+IsNamed profile h Record = is_local_number h.structure ≡ true
+IsNamed profile h (Entries index structure) =
+    (is_local_number h.structure ≡ false)
+    × ((structure_of h.structure ≡ Some structure) × (index_used profile h.use_attribute ≡ Some index))
+
+-- Each value is what the table of its type has for the attribute that holds, or for the default where none does: no attribute has a value
+-- that isn't kept, and none is of another set or another type.
+pub record AreKept (profile : Profile) (h : HoldingValue) (v : Values) : Type 0 where
+  pub set : h.other_set ≡ None
+  pub kind : h.other_kind ≡ None
+  pub subject : IsNamed profile h v.subject
+  pub relation : relation_of h.relation ≡ Some v.relation
+  pub position : position_of h.position ≡ Some v.position
+  pub truncation : truncation_of h.truncation ≡ Some v.truncation
+  pub completeness : completeness_of h.completeness ≡ Some v.completeness
 
 -- ---- the rows, by their values
 

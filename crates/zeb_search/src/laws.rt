@@ -9,7 +9,7 @@ ghost use Rattle.zeb_query.specs.Attributes.{HoldingValue, holding_of, values_he
 ghost use Rattle.zeb_query.specs.Plans.{PlanValue, TermOf, plan_asked, plan_of};
 ghost use Rattle.zeb_register.specs.Content.{Content, IsStorable, posted};
 ghost use Rattle.zeb_register.specs.Formats.{Format, holds_in};
-ghost use Rattle.zeb_search.specs.ByAttributes.{HasRow, HoldsByAttributes, occurs_in};
+ghost use Rattle.zeb_search.specs.ByAttributes.{AreKept, HasRow, HoldsByAttributes, occurs_in};
 ghost use Rattle.zeb_search.specs.Finds.{PlanFinds, PlanHides};
 ghost use Rattle.zeb_search.specs.Holds.{TreeHolds};
 ghost use Rattle.zeb_search.specs.Lists.{AreNumbers};
@@ -18,7 +18,8 @@ ghost use Rattle.zeb_search.specs.SearchRows.{ArePlanRowsSound};
 
 /// A term holds on just the records that the rows of Bib-1's attributes say: a query that is one term by its plan, whatever records are
 /// kept and whatever occurrences they have (`query`); and by the tables each term of any query, by what its attributes ask for
-/// (`tables`). Some row stands for the values of each term (`rows`).
+/// (`tables`). The values of a query's term are those of its attributes or of their defaults, by the table of each type (`kept`), and some
+/// row stands for them (`rows`).
 pub fn a_term_holds_by_its_attributes()
     ensures query { (occurrences : List (ℕ × Occurrence)) (kept : List ℕ) (profile : Profile)
         (set : Option (List ℕ)) (place : ℕ)
@@ -31,6 +32,11 @@ pub fn a_term_holds_by_its_attributes()
         (h : HoldingValue) (text : List ℕ)
         → HoldsByAttributes (posted content db) (is_kept_in trees db) (values_held profile h) text
         (HoldsIn trees content db (TermOf (plan_asked profile h text))) }
+    ensures kept { (profile : Profile) (set : Option (List ℕ)) (place : ℕ)
+        (head : HeadValue) (text : List ℕ) (plan : PlanValue)
+        → plan_of profile record { attrset = set; tree = TermValue place head text } ≡ Ok plan
+        → AreKept profile (holding_of set (heads no_head head))
+        (values_held profile (holding_of set (heads no_head head))) }
     ensures rows { (profile : Profile) (h : HoldingValue) → HasRow (values_held profile h) }
 {}
 

@@ -1,6 +1,6 @@
 #!/usr/bin/env python3
-"""Prints the rows of `TEXTS` in crates/vectors/src/texts/samples.rt: texts, and by Python's own tables what each folds to, its words with a
-comma after each, and its numbers with a comma after each.
+"""Prints the rows of `READINGS` in crates/vectors/src/texts/samples.rt: texts, and by Python's own tables what each folds to, its words and
+its numbers. In a row an LF is `%0a`.
 
 A text is folded (NFD, full case folding, NFD, the marks U+0300 to U+036F dropped), its words are the longest runs of
 letters, marks and numbers in the folded text, and its numbers are the longest runs of ASCII digits in the text itself, but
@@ -16,7 +16,7 @@ TEXTS = [
     "\u0301", "\u0301\u0300 \u0301", "e\u20dd", "\u05d0\u05b7\u05d1", "\u0e44\u0e17\u0e22", "a\u0315\u0300\u05ae\u05bfb",
     "a\u0591\u034f\u05b0", "a\u0591\u05b0",
     # case folding that lengthens, and letters of more than two cases
-    "Stra\u00dfe", "STRASSE", "\u1e9e", "\ufb03x", "\u0531\u0587", "\u0130stanbul", "\u0131", "\u01c5 \u01c4 \u01c6",
+    "Stra\u00dfe", "STRASSE", "\u1e9e", "\ufb03x", "\u0531\u0587", "\u0130stanbul", "\u0130", "\u0131", "\u01c5 \u01c4 \u01c6",
     "\u039f\u0394\u039f\u03a3 \u03bf\u03b4\u03bf\u03c2", "\u1fb3 \u03b1\u0345", "\u13a0 \uab70",
     # scripts without case
     "\ud55c\uae00", "\u1112\u1161\u11ab\u1100\u1173\u11af", "\u4e2d\u6587", "\uf900",
@@ -50,10 +50,11 @@ def numbers(text):
 
 
 def rust(text):
-    return '"' + "".join(c if 32 <= ord(c) < 127 and c not in '"\\' else "\\u{%x}" % ord(c) for c in text) + '"'
+    escaped = (c if 32 <= ord(c) < 127 and c not in '"\\' else "\\u{%x}" % ord(c) for c in text.replace("\n", "%0a"))
+    return "".join(escaped)
 
 
 if __name__ == "__main__":
     for text in TEXTS:
-        columns = [text, fold(text), "".join(word + "," for word in words(text)), "".join("%d," % n for n in numbers(text))]
-        print("    (%s)," % ", ".join(rust(column) for column in columns))
+        columns = [fold(text), ",".join(words(text)), ",".join("%d" % n for n in numbers(text))]
+        print("read %s -> %s" % (rust(text), rust("|".join(columns))))

@@ -2,7 +2,7 @@
 #![tactic(auto)]
 
 use std::env;
-use std::io::{self, BufReader, BufWriter, ErrorKind, Write};
+use std::io::{self, BufReader, BufWriter, ErrorKind, IsTerminal, Write};
 use std::process::ExitCode;
 use zeb_marc::FromRead;
 use zeb_paths::{Disk, Tally};
@@ -35,6 +35,12 @@ fn run_outside(rt: &HostRuntime) -> io::Result<u8> {
     let mut words = Vec::new(rt.alloc());
     for word in env::args(rt)?.skip(1) {
         words.push(word)?;
+    }
+    if words.is_empty() && rt.stdin().is_terminal() {
+        complain(
+            rt,
+            "waiting for a script; zebraidx --help lists the commands",
+        );
     }
     let mut input = FromRead::new(BufReader::new(rt.alloc(), rt.reader())?);
     let mut output = Sink::new(BufWriter::new(rt.alloc(), rt.stdout())?);

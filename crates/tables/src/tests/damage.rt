@@ -1,150 +1,68 @@
 //! Rows that no call writes: the calls that read them answer so, and the others as before.
 
-use super::calls::{Call, Under};
-use super::readings::{In, Read};
-use super::{Part, Script, Step};
-use zeb_keys::Register;
+/// Texts, databases and records.
+pub static TABLES: &str = "\
+with begun default filled
+UPDATE meta SET value = CAST(x'ff' AS TEXT) WHERE name = 'profile' -> 1
+meta_of profile -> Damaged
+plain meta_of version -> 1
 
-const TITLES: In = (0, Register::Word);
+with begun default filled
+UPDATE databases SET last = -1 -> 1
+database_of Default -> Damaged
+database_of Other -> none
 
-const MOBY: Under<'static> = (0, Register::Word, "moby");
+# The last four don't read the damaged record.
+with begun default filled
+UPDATE records SET ident = CAST(x'ff' AS TEXT) WHERE sysno = 1 -> 1
+ident_of 1 -> Damaged
+records -> Damaged
+record_from 1 -> Damaged
+record_from 2 -> 2 b2 64
+record_count -> 2
+ident_of 2 -> b2
+do record_of_ident b2 -> 2 64
 
-/// Each damages the rows of the two records.
-pub static SCRIPTS: [Script; 7] = [TEXT, LAST, IDENT, NUMBER, POSTING, TERM, PLACE];
+# A number below 0 is passed over, and its row is counted.
+with begun default filled
+UPDATE records SET sysno = -1 WHERE sysno = 1 -> 1
+do record_of_ident a1 -> Damaged
+records -> Damaged
+record_from 0 -> 2 b2 64
+record_count -> 2
+ident_of 2 -> b2
+do record_of_ident b2 -> 2 64";
 
-const TEXT: Script = &[
-    Part::Begun,
-    Part::Default,
-    Part::Filled,
-    Part::Rows(&[
-        (
-            Step::Execute("UPDATE meta SET value = CAST(x'ff' AS TEXT) WHERE name = 'profile'"),
-            "1",
-        ),
-        (Step::Read(Read::Text("profile")), "Damaged"),
-        (Step::Read(Read::Text("version")), "1"),
-    ]),
-];
+/// The rows of `postings`.
+pub static OF_POSTINGS: &str = "\
+with begun default filled
+UPDATE postings SET sysno = -1 WHERE idx = 0 AND term = 'moby' -> 1
+key_list 0:w <moby> -> Damaged
+terms_of 0:w -> Damaged
+totals 0:w -> Damaged
+terms_from 0:w <m> 1 -> Damaged
+terms_before 0:w <n> 1 -> Damaged
+key_list 0:w <whale> -> 1:3.3,
+terms_from 0:w <o> 2 -> or 1,the 1,
+terms_before 0:w <moby> 9 -> cafe 1,dick 1,
+totals 2:w -> 7 7
 
-const LAST: Script = &[
-    Part::Begun,
-    Part::Default,
-    Part::Filled,
-    Part::Rows(&[
-        (Step::Execute("UPDATE databases SET last = -1"), "1"),
-        (Step::Read(Read::Last("Default")), "Damaged"),
-        (Step::Read(Read::Last("Other")), "none"),
-    ]),
-];
+with begun default filled
+UPDATE postings SET term = CAST(x'ff' AS TEXT) WHERE idx = 0 AND term = 'whale' -> 1
+terms_of 0:w -> Damaged
+totals 0:w -> Damaged
+terms_from 0:w <the> 2 -> Damaged
+key_list 0:w <moby> -> 1:2.1,
+terms_from 0:w <the> 1 -> the 1,
+terms_before 0:w <the> 1 -> or 1,
 
-const IDENT: Script = &[
-    Part::Begun,
-    Part::Default,
-    Part::Filled,
-    Part::Rows(&[
-        (
-            Step::Execute("UPDATE records SET ident = CAST(x'ff' AS TEXT) WHERE sysno = 1"),
-            "1",
-        ),
-        (Step::Read(Read::Ident(1)), "Damaged"),
-        (Step::Read(Read::Records), "Damaged"),
-        (Step::Read(Read::FirstFrom(1)), "Damaged"),
-        // Neither reads the damaged record.
-        (Step::Read(Read::FirstFrom(2)), "2 b2 64"),
-        (Step::Read(Read::Count), "2"),
-        (Step::Read(Read::Ident(2)), "b2"),
-        (Step::Commit(Call::Elder("b2")), "2 64"),
-    ]),
-];
-
-const NUMBER: Script = &[
-    Part::Begun,
-    Part::Default,
-    Part::Filled,
-    Part::Rows(&[
-        (
-            Step::Execute("UPDATE records SET sysno = -1 WHERE sysno = 1"),
-            "1",
-        ),
-        (Step::Commit(Call::Elder("a1")), "Damaged"),
-        (Step::Read(Read::Records), "Damaged"),
-        // A number below 0 is passed over, and its row is counted.
-        (Step::Read(Read::FirstFrom(0)), "2 b2 64"),
-        (Step::Read(Read::Count), "2"),
-        (Step::Read(Read::Ident(2)), "b2"),
-        (Step::Commit(Call::Elder("b2")), "2 64"),
-    ]),
-];
-
-const POSTING: Script = &[
-    Part::Begun,
-    Part::Default,
-    Part::Filled,
-    Part::Rows(&[
-        (
-            Step::Execute("UPDATE postings SET sysno = -1 WHERE idx = 0 AND term = 'moby'"),
-            "1",
-        ),
-        (Step::Read(Read::List(MOBY)), "Damaged"),
-        (Step::Read(Read::Terms(TITLES)), "Damaged"),
-        (Step::Read(Read::Totals(TITLES)), "Damaged"),
-        (Step::Read(Read::From(TITLES, "m", 1)), "Damaged"),
-        (Step::Read(Read::Before(TITLES, "n", 1)), "Damaged"),
-        (
-            Step::Read(Read::List((0, Register::Word, "whale"))),
-            "1:3.3,",
-        ),
-        (Step::Read(Read::From(TITLES, "o", 2)), "or 1,the 1,"),
-        (
-            Step::Read(Read::Before(TITLES, "moby", 9)),
-            "cafe 1,dick 1,",
-        ),
-        (Step::Read(Read::Totals((2, Register::Word))), "7 7"),
-    ]),
-];
-
-const TERM: Script = &[
-    Part::Begun,
-    Part::Default,
-    Part::Filled,
-    Part::Rows(&[
-        (
-            Step::Execute(
-                "UPDATE postings SET term = CAST(x'ff' AS TEXT) WHERE idx = 0 AND term = 'whale'",
-            ),
-            "1",
-        ),
-        (Step::Read(Read::Terms(TITLES)), "Damaged"),
-        (Step::Read(Read::Totals(TITLES)), "Damaged"),
-        (Step::Read(Read::From(TITLES, "the", 2)), "Damaged"),
-        (Step::Read(Read::List(MOBY)), "1:2.1,"),
-        (Step::Read(Read::From(TITLES, "the", 1)), "the 1,"),
-        (Step::Read(Read::Before(TITLES, "the", 1)), "or 1,"),
-    ]),
-];
-
-/// A damaged place is not replaced.
-const PLACE: Script = &[
-    Part::Begun,
-    Part::Default,
-    Part::Filled,
-    Part::Rows(&[
-        (
-            Step::Execute("UPDATE postings SET pos = -1 WHERE idx = 0 AND term = 'moby'"),
-            "1",
-        ),
-        (
-            Step::Commit(Call::Places(MOBY, 1, &[(2, 1)], &[])),
-            "Damaged",
-        ),
-        (Step::Read(Read::Last("Default")), "2"),
-        (Step::Read(Read::Records), "1 a1 109,2 b2 64,"),
-        (Step::Read(Read::Terms(TITLES)), "Damaged"),
-        (Step::Read(Read::Totals(TITLES)), "Damaged"),
-        (Step::Read(Read::Totals((2, Register::Word))), "7 7"),
-        (
-            Step::Read(Read::List((2, Register::Word, "moby"))),
-            "1:2.1,",
-        ),
-    ]),
-];
+# A damaged place is not replaced.
+with begun default filled
+UPDATE postings SET pos = -1 WHERE idx = 0 AND term = 'moby' -> 1
+do key_change 0:w <moby> 1 2.1 - -> Damaged
+database_of Default -> 2
+records -> 1 a1 109,2 b2 64,
+terms_of 0:w -> Damaged
+totals 0:w -> Damaged
+totals 2:w -> 7 7
+key_list 2:w <moby> -> 1:2.1,";

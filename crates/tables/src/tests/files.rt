@@ -1,11 +1,7 @@
 //! Tables that one run makes in files and the next run finds there.
 
-use super::calls::{Call, Under};
-use super::moby_dick::ROWS;
-use super::readings::Read;
-use super::{Part, Script, Step, run};
+use super::{Opened, Outcome};
 use crate::disks::connected;
-use crate::queries::POSTINGS;
 use sqlite::{Alter, Connection, Error, File, FileStore, Files};
 use sqlite_disk::Memory;
 use std::alloc::{AllocGlobal, Global};
@@ -14,46 +10,33 @@ use std::process::Abort;
 use std::test::Fail;
 use std::time::SystemTime;
 use std::{env, fs};
-use zeb_keys::Register;
-
-const WHALE: Under<'static> = (0, Register::Word, "whale");
+use zeb_register::Rows;
 
 /// The first run fills the tables. The second finds what it left, and changes a list: once for good, once in a transaction
 /// that is given up. The third finds the list that the second left, and all else as before.
-static RUNS: [Script; 3] = [FIRST, SECOND, THIRD];
+static RUNS: &str = "\
+with begun default filled
 
-const FIRST: Script = &[Part::Begun, Part::Default, Part::Filled];
+do make_tables
+use Default
+with posted answers
+do key_change 0:w <whale> 2 - 2.7
+undo key_change 0:w <whale> 1 3.3 9.9
 
-const SECOND: Script = &[
-    Part::Rows(&[
-        (Step::Commit(Call::Tables), ""),
-        (Step::Use("Default"), ""),
-        (Step::Rows(POSTINGS), ROWS),
-    ]),
-    Part::Answers,
-    Part::Rows(&[
-        (Step::Commit(Call::Places(WHALE, 2, &[], &[(2, 7)])), ""),
-        (
-            Step::GiveUp(Call::Places(WHALE, 1, &[(3, 3)], &[(9, 9)])),
-            "",
-        ),
-    ]),
-];
+use Default
+key_list 0:w <whale> -> 1:3.3,2:2.7,
+do key_change 0:w <whale> 2 2.7 -
+with posted";
 
-const THIRD: Script = &[Part::Rows(&[
-    (Step::Use("Default"), ""),
-    (Step::Read(Read::List(WHALE)), "1:3.3,2:2.7,"),
-    (Step::Commit(Call::Places(WHALE, 2, &[(2, 7)], &[])), ""),
-    (Step::Rows(POSTINGS), ROWS),
-])];
-
-/// Runs a script over a connection, which is given back.
+/// Runs a table over a connection, which is given back.
 fn run_over<S: Alter + Drop>(
     rt: &(impl Abort + AllocGlobal),
-    mut conn: Connection<S>,
-    script: Script,
+    conn: Connection<S>,
+    table: &str,
 ) -> Result<Connection<S>, Fail> {
-    run(rt, &mut conn, script)?;
+    let mut opened = Opened { conn, db: None };
+    opened.run::<Rows>(rt, table)?;
+    let Opened { conn, db: _ } = opened;
     Ok(conn)
 }
 
@@ -72,13 +55,13 @@ fn closed(conn: Connection<FileStore<Memory>>) -> Result<Files<Memory>, Error> {
 }
 
 #[test]
-fn the_next_run_finds_the_tables_in_files_in_memory(rt: HostRuntime) -> Result<(), Fail> {
+fn the_next_run_finds_the_tables_in_files_in_memory(rt: HostRuntime) -> Outcome {
     let mut files = Files {
         log: Memory::new(rt.alloc()),
         db: Memory::new(rt.alloc()),
     };
-    for script in &RUNS {
-        files = closed(run_over(&rt, opened(rt.alloc(), files)?, script)?)?;
+    for table in RUNS.split("\n\n") {
+        files = closed(run_over(&rt, opened(rt.alloc(), files)?, table)?)?;
     }
     Ok(())
 }
@@ -101,35 +84,19 @@ fn new_folder(rt: &HostRuntime) -> Result<PathBuf, Fail> {
     Ok(folder)
 }
 
-/// One run, which may leave the file open.
-fn run_in_file(
-    host: &HostRuntime,
-    rt: &(impl Abort + AllocGlobal),
-    path: &str,
-    script: Script,
-    is_closed: bool,
-) -> Result<(), Fail> {
-    let conn = run_over(rt, open_file(host, path)?, script)?;
-    if is_closed {
-        close_file(conn)?;
-    }
-    Ok(())
-}
-
 /// The second run leaves the file open: what it committed is there all the same.
-fn run_all_in_file(
-    host: &HostRuntime,
-    rt: &(impl Abort + AllocGlobal),
-    path: &str,
-) -> Result<(), Fail> {
-    for (place, script) in RUNS.iter().enumerate() {
-        run_in_file(host, rt, path, script, place == 0)?;
+fn run_all_in_file(host: &HostRuntime, rt: &(impl Abort + AllocGlobal), path: &str) -> Outcome {
+    for (place, table) in RUNS.split("\n\n").enumerate() {
+        let conn = run_over(rt, open_file(host, path)?, table)?;
+        if place == 0 {
+            close_file(conn)?;
+        }
     }
     Ok(())
 }
 
 #[test]
-fn the_next_run_finds_the_tables_in_a_file(rt: HostRuntime) -> Result<(), Fail> {
+fn the_next_run_finds_the_tables_in_a_file(rt: HostRuntime) -> Outcome {
     let folder = new_folder(&rt)?;
     let path = format!(in rt.alloc(); "{}/books.db", folder.display())?;
     run_all_in_file(&rt, &rt, &path)?;

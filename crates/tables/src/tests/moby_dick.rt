@@ -1,241 +1,117 @@
 //! Two records as the tables hold them, and what each call reads there.
 
-use super::calls::Call;
-use super::readings::Read;
-use super::{Part, Row, Script, Step};
-use crate::queries::POSTINGS;
-use worked_samples::{CAFE, MOBY};
-use zeb_keys::Register;
-
-/// The canonical text of a profile with the indexes Title (0), Date (1) and Any (2).
-const PROFILE: &str =
-    "identifier 001\natt 4 Title\natt 31 Date\natt 1016 Any\nmelm 245$a Title:w,Title:p\nmelm 245 Title:w\nmelm 260$c Date:n\nall Any:w\n";
-
-/// The tables, and the texts that the store keeps of itself under the profile.
-pub static BEGUN: &[Row<'static>] = &[
-    (Step::Commit(Call::Tables), ""),
-    (Step::Commit(Call::Version), ""),
-    (Step::Commit(Call::Text("profile", PROFILE)), ""),
-    (Step::Commit(Call::Text("identifier", "001")), ""),
-];
-
-/// A database without records, numbered from 3 on.
-pub static DEFAULT: &[Row<'static>] = &[(Step::Commit(Call::Database("Default", 2)), "")];
+/// The tables, and the texts that the store keeps of itself under a profile with the indexes Title (0), Date (1) and Any (2).
+pub static BEGUN: &str = "\
+do make_tables
+do version
+do meta_put profile identifier 001;att 4 Title;att 31 Date;att 1016 Any;\
+melm 245$a Title:w,Title:p;melm 245 Title:w;melm 260$c Date:n;all Any:w;
+do meta_put identifier 001";
 
 /// The two records, and what they are found by. Unit 1 is their field 001, unit 2 is 245$a, and in the first record unit 3 is
 /// 245$b and unit 4 is 260$c.
-pub static FILLED: &[Row<'static>] = &[
-    (Step::Commit(Call::Record(1, "a1", MOBY)), ""),
-    (Step::Commit(Call::Record(2, "b2", CAFE)), ""),
-    (
-        Step::Commit(Call::Places((0, Register::Word, "cafe"), 2, &[], &[(2, 1)])),
-        "",
-    ),
-    (
-        Step::Commit(Call::Places((0, Register::Word, "dick"), 1, &[], &[(2, 2)])),
-        "",
-    ),
-    (
-        Step::Commit(Call::Places((0, Register::Word, "moby"), 1, &[], &[(2, 1)])),
-        "",
-    ),
-    (
-        Step::Commit(Call::Places((0, Register::Word, "or"), 1, &[], &[(3, 1)])),
-        "",
-    ),
-    (
-        Step::Commit(Call::Places((0, Register::Word, "the"), 1, &[], &[(3, 2)])),
-        "",
-    ),
-    (
-        Step::Commit(Call::Places((0, Register::Word, "whale"), 1, &[], &[(3, 3)])),
-        "",
-    ),
-    (
-        Step::Commit(Call::Places((0, Register::Phrase, "cafe"), 2, &[], &[(2, 1)])),
-        "",
-    ),
-    (
-        Step::Commit(Call::Places((0, Register::Phrase, "moby dick"), 1, &[], &[(2, 1)])),
-        "",
-    ),
-    (
-        Step::Commit(Call::Places(
-            (1, Register::Number, "000000000000001851"),
-            1,
-            &[],
-            &[(4, 1)],
-        )),
-        "",
-    ),
-    (
-        Step::Commit(Call::Places((2, Register::Word, "c1851"), 1, &[], &[(4, 1)])),
-        "",
-    ),
-    (
-        Step::Commit(Call::Places((2, Register::Word, "cafe"), 2, &[], &[(2, 1)])),
-        "",
-    ),
-    (
-        Step::Commit(Call::Places((2, Register::Word, "dick"), 1, &[], &[(2, 2)])),
-        "",
-    ),
-    (
-        Step::Commit(Call::Places((2, Register::Word, "moby"), 1, &[], &[(2, 1)])),
-        "",
-    ),
-    (
-        Step::Commit(Call::Places((2, Register::Word, "or"), 1, &[], &[(3, 1)])),
-        "",
-    ),
-    (
-        Step::Commit(Call::Places((2, Register::Word, "the"), 1, &[], &[(3, 2)])),
-        "",
-    ),
-    (
-        Step::Commit(Call::Places((2, Register::Word, "whale"), 1, &[], &[(3, 3)])),
-        "",
-    ),
-];
+pub static FILLED: &str = "\
+do record_put 1 a1 MOBY
+do record_put 2 b2 CAFE
+do key_change 0:w <cafe> 2 - 2.1
+do key_change 0:w <dick> 1 - 2.2
+do key_change 0:w <moby> 1 - 2.1
+do key_change 0:w <or> 1 - 3.1
+do key_change 0:w <the> 1 - 3.2
+do key_change 0:w <whale> 1 - 3.3
+do key_change 0:p <cafe> 2 - 2.1
+do key_change 0:p <moby dick> 1 - 2.1
+do key_change 1:n <000000000000001851> 1 - 4.1
+do key_change 2:w <c1851> 1 - 4.1
+do key_change 2:w <cafe> 2 - 2.1
+do key_change 2:w <dick> 1 - 2.2
+do key_change 2:w <moby> 1 - 2.1
+do key_change 2:w <or> 1 - 3.1
+do key_change 2:w <the> 1 - 3.2
+do key_change 2:w <whale> 1 - 3.3";
 
-/// The rows of `postings`, with the database's name for its number.
-pub const ROWS: &str = "\
-Default|0|0|cafe|2|2|1
-Default|0|0|dick|1|2|2
-Default|0|0|moby|1|2|1
-Default|0|0|or|1|3|1
-Default|0|0|the|1|3|2
-Default|0|0|whale|1|3|3
-Default|0|1|cafe|2|2|1
-Default|0|1|moby dick|1|2|1
-Default|1|2|000000000000001851|1|4|1
-Default|2|0|c1851|1|4|1
-Default|2|0|cafe|2|2|1
-Default|2|0|dick|1|2|2
-Default|2|0|moby|1|2|1
-Default|2|0|or|1|3|1
-Default|2|0|the|1|3|2
-Default|2|0|whale|1|3|3
-";
-
-/// What the tables then have.
-const TABLES: &[Row<'static>] = &[
-    (
-        Step::Rows("SELECT name, value FROM meta WHERE name <> 'profile' ORDER BY name"),
-        "identifier|001\nversion|1\n",
-    ),
-    (
-        Step::Rows("SELECT name, last FROM databases"),
-        "Default|2\n",
-    ),
-    (
-        Step::Rows(
-            "SELECT name, sysno, ident, length(bytes) FROM records JOIN databases ON id = db ORDER BY sysno",
-        ),
-        "Default|1|a1|109\nDefault|2|b2|64\n",
-    ),
-    (Step::Rows(POSTINGS), ROWS),
-    (Step::Rows("SELECT db FROM blocks"), ""),
-    (Step::Rows("SELECT db FROM dict"), ""),
-];
+/// Their postings as rows; in packed tables one row of `dict` and one block for each key.
+pub static POSTED: &str = "\
+plain postings -> \
+Default|0|0|cafe|2|2|1;Default|0|0|dick|1|2|2;\
+Default|0|0|moby|1|2|1;Default|0|0|or|1|3|1;\
+Default|0|0|the|1|3|2;Default|0|0|whale|1|3|3;\
+Default|0|1|cafe|2|2|1;Default|0|1|moby dick|1|2|1;\
+Default|1|2|000000000000001851|1|4|1;Default|2|0|c1851|1|4|1;\
+Default|2|0|cafe|2|2|1;Default|2|0|dick|1|2|2;\
+Default|2|0|moby|1|2|1;Default|2|0|or|1|3|1;\
+Default|2|0|the|1|3|2;\
+Default|2|0|whale|1|3|3;
+packed postings ->
+packed SELECT count(*) FROM dict WHERE records = 1 -> 16;
+packed SELECT count(*) FROM blocks WHERE block = 0 -> 16;";
 
 /// What is read where the two records are.
-pub static ANSWERS: &[Row<'static>] = &[
-    (Step::Read(Read::Text("version")), "1"),
-    (Step::Read(Read::Text("profile")), PROFILE),
-    (Step::Read(Read::Text("identifier")), "001"),
-    (Step::Read(Read::Text("Version")), "none"),
-    (Step::Read(Read::Text("")), "none"),
-    (Step::Read(Read::Last("Default")), "2"),
-    (Step::Read(Read::Last("default")), "none"),
-    (Step::Read(Read::Last("Defaul")), "none"),
-    (Step::Read(Read::Last("")), "none"),
-    (Step::Commit(Call::Elder("a1")), "1 109"),
-    (Step::Commit(Call::Elder("b2")), "2 64"),
-    (Step::Commit(Call::Elder("A1")), "none"),
-    (Step::Commit(Call::Elder("")), "none"),
-    (Step::Read(Read::Ident(1)), "a1"),
-    (Step::Read(Read::Ident(2)), "b2"),
-    (Step::Read(Read::Ident(3)), "none"),
-    (Step::Read(Read::Records), "1 a1 109,2 b2 64,"),
-    (Step::Read(Read::Count), "2"),
-    (Step::Read(Read::FirstFrom(0)), "1 a1 109"),
-    (Step::Read(Read::FirstFrom(1)), "1 a1 109"),
-    (Step::Read(Read::FirstFrom(2)), "2 b2 64"),
-    (Step::Read(Read::FirstFrom(3)), "none"),
-    (
-        Step::Read(Read::List((0, Register::Word, "moby"))),
-        "1:2.1,",
-    ),
-    (
-        Step::Read(Read::List((0, Register::Word, "cafe"))),
-        "2:2.1,",
-    ),
-    (Step::Read(Read::List((0, Register::Phrase, "moby"))), ""),
-    (
-        Step::Read(Read::List((0, Register::Phrase, "moby dick"))),
-        "1:2.1,",
-    ),
-    (
-        Step::Read(Read::List((1, Register::Number, "000000000000001851"))),
-        "1:4.1,",
-    ),
-    (Step::Read(Read::List((1, Register::Number, "1851"))), ""),
-    (
-        Step::Read(Read::List((2, Register::Word, "c1851"))),
-        "1:4.1,",
-    ),
-    (Step::Read(Read::List((3, Register::Word, "moby"))), ""),
-    (
-        Step::Read(Read::Terms((0, Register::Word))),
-        "cafe 1,dick 1,moby 1,or 1,the 1,whale 1,",
-    ),
-    (
-        Step::Read(Read::Terms((0, Register::Phrase))),
-        "cafe 1,moby dick 1,",
-    ),
-    (Step::Read(Read::Terms((0, Register::Number))), ""),
-    (
-        Step::Read(Read::Terms((1, Register::Number))),
-        "000000000000001851 1,",
-    ),
-    (
-        Step::Read(Read::From((0, Register::Word), "d", 2)),
-        "dick 1,moby 1,",
-    ),
-    (
-        Step::Read(Read::Before((0, Register::Word), "p", 2)),
-        "moby 1,or 1,",
-    ),
-    (Step::Read(Read::Totals((0, Register::Word))), "6 6"),
-    (Step::Read(Read::Totals((0, Register::Phrase))), "2 2"),
-    (Step::Read(Read::Totals((0, Register::Number))), "0 0"),
-    (Step::Read(Read::Totals((1, Register::Number))), "1 1"),
-    (Step::Read(Read::Totals((2, Register::Word))), "7 7"),
-    (Step::Read(Read::Totals((3, Register::Word))), "0 0"),
-    (Step::Read(Read::Bytes(0, MOBY)), "true"),
-    (Step::Read(Read::Bytes(1, CAFE)), "true"),
-];
+pub static ANSWERS: &str = "\
+plain meta_of version -> 1
+packed meta_of version -> 2
+meta_of profile -> identifier 001;att 4 Title;att 31 Date;att 1016 Any;\
+melm 245$a Title:w,Title:p;melm 245 Title:w;melm 260$c Date:n;all Any:w;
+meta_of identifier -> 001
+meta_of Version -> none
+meta_of -> none
+database_of Default -> 2
+database_of default -> none
+database_of Defaul -> none
+database_of -> none
+do record_of_ident a1 -> 1 109
+do record_of_ident b2 -> 2 64
+do record_of_ident A1 -> none
+do record_of_ident -> none
+ident_of 1 -> a1
+ident_of 2 -> b2
+ident_of 3 -> none
+records -> 1 a1 109,2 b2 64,
+record_count -> 2
+record_from 0 -> 1 a1 109
+record_from 1 -> 1 a1 109
+record_from 2 -> 2 b2 64
+record_from 3 -> none
+key_list 0:w <moby> -> 1:2.1,
+key_list 0:w <cafe> -> 2:2.1,
+key_list 0:p <moby> ->
+key_list 0:p <moby dick> -> 1:2.1,
+key_list 1:n <000000000000001851> -> 1:4.1,
+key_list 1:n <1851> ->
+key_list 2:w <c1851> -> 1:4.1,
+key_list 3:w <moby> ->
+terms_of 0:w -> cafe 1,dick 1,moby 1,or 1,the 1,whale 1,
+terms_of 0:p -> cafe 1,moby dick 1,
+terms_of 0:n ->
+terms_of 1:n -> 000000000000001851 1,
+terms_from 0:w <d> 2 -> dick 1,moby 1,
+terms_before 0:w <p> 2 -> moby 1,or 1,
+totals 0:w -> 6 6
+totals 0:p -> 2 2
+totals 0:n -> 0 0
+totals 1:n -> 1 1
+totals 2:w -> 7 7
+totals 3:w -> 0 0
+has_bytes 0 MOBY -> true
+has_bytes 1 CAFE -> true";
 
-/// Each call reads what the tables hold.
-pub const HELD: Script = &[
-    Part::Begun,
-    Part::Default,
-    Part::Filled,
-    Part::Rows(TABLES),
-    Part::Answers,
-];
+pub static TABLES: &str = "\
+# Each call reads what the tables hold.
+with begun default filled
+plain SELECT name, value FROM meta WHERE name <> 'profile' ORDER BY name -> \
+identifier|001;version|1;
+SELECT name, last FROM databases -> Default|2;
+SELECT name, sysno, ident, length(bytes) FROM records JOIN databases ON id = db ORDER BY sysno -> \
+Default|1|a1|109;Default|2|b2|64;
+with posted
+plain SELECT db FROM blocks ->
+plain SELECT db FROM dict ->
+with answers
 
-/// A name keeps its database.
-pub const NAMED: Script = &[
-    Part::Begun,
-    Part::Default,
-    Part::Filled,
-    Part::Rows(&[
-        (Step::Commit(Call::IsSame("Default", 7)), "true"),
-        (Step::Commit(Call::IsSame("default", 0)), "false"),
-        (Step::Read(Read::Last("Default")), "7"),
-        (Step::Read(Read::Last("default")), "0"),
-        (Step::Read(Read::Ident(2)), "b2"),
-    ]),
-];
+# A name keeps its database.
+with begun default filled
+do is_same Default 7 -> true
+do is_same default 0 -> false
+database_of Default -> 7
+database_of default -> 0
+ident_of 2 -> b2";

@@ -1,24 +1,21 @@
 //! The commands of a session that change a database by records.
 
-ghost use Rattle.std.specs.Prelude.{◌≡◌, ◌≢◌, ◌⊎◌, ℕ, List, map, Some, Err, IsErrAnd};
+ghost use Rattle.std.specs.Prelude.{◌≡◌, ℕ, Vec};
+ghost use Rattle.std.specs.declared.alloc.Global.{Global};
 ghost use Rattle.sqlite.specs.Held.{state};
-ghost use Rattle.sqlite.specs.State.{HasCleanDisk, Survives};
+ghost use Rattle.sqlite.specs.State.{HasCleanDisk};
 ghost use Rattle.zeb_register.specs.Formats.{version_of};
 ghost use Rattle.zeb_change.specs.Conditions.{conditions};
-ghost use Rattle.zeb_change.specs.Reading.{HasFailedAt, NamesFailed, NoneFailed, NoReadFault, StayAble};
-ghost use Rattle.zeb_image.specs.Holdings.{Holdings};
-ghost use Rattle.zeb_image.specs.Image.{Keeps};
 ghost use Rattle.zeb_image.specs.NameOf.{name_bytes};
-ghost use Rattle.zeb_engine.specs.Changing.{ChangesReady, LeavesWhole, LosesNamed};
-ghost use Rattle.zeb_engine.specs.Costs.{CostsAlone, no_work};
-ghost use Rattle.zeb_engine.specs.Crashes.{CommitsBy};
+ghost use Rattle.zeb_engine.specs.Costs.{no_work};
 ghost use Rattle.zeb_engine.specs.FromReaders.{Give, NamesFaults, ReadersChange, ReadersCount, ReadersLast};
+ghost use Rattle.zeb_engine.specs.PrivateDone.{CommandDone, ReadersDone};
 ghost use Rattle.zeb_engine.specs.Steps.{TakesFiles};
-ghost use Rattle.zeb_engine.specs.Transactions.{CallHolds, Commanded};
+ghost use Rattle.zeb_engine.specs.Transactions.{CallHolds};
 ghost use Rattle.zeb_engine.specs.Works.{ServesBy};
-ghost use Rattle.zeb_engine.specs.PrivateConnections.{TellsReady};
 
 use crate::changes::change_database;
+use crate::commands::Command;
 use crate::readiness::check_ready;
 use crate::replies::Reply;
 use crate::session::Session;
@@ -36,41 +33,14 @@ impl<S: Alter, L: Layout> Session<S, L> {
         database: &DbName,
         files: &[Vec<u8>],
     ) -> Result<Reply, Refusal>
-        ensures call { Commanded (state S.Store self.old.connection)
-            (state S.Store self.new.connection) result }
-        ensures survives { Survives (state S.Store self.old.connection)
-            (state S.Store self.new.connection)
-            (CommitsBy (TakesFiles (conditions (version_of L.format) self.old.profile
-            self.old.limits) kind (name_bytes database.now) (map
-            (λ file. file.items) files.now)) (state S.Store self.old.connection)) }
+        requires fresh { self.old.work ≡ no_work }
+        ensures done { (given : Vec (Vec ℕ Global) Global) → given.items ≡ files.now
+            → CommandDone S.Store L.format L.row_work L.block_rows
+            (conditions (version_of L.format) self.old.profile self.old.limits)
+            (Command.Change kind database.now given)
+            self.old.connection self.new.connection result self.new.work }
         ensures under { (self.new.profile ≡ self.old.profile)
             × (self.new.limits ≡ self.old.limits) }
-        ensures serves { HasCleanDisk (state S.Store self.new.connection)
-            → ServesBy (TakesFiles (conditions (version_of L.format) self.old.profile
-            self.old.limits) kind (name_bytes database.now)
-            (map (λ file. file.items) files.now)) (state S.Store self.old.connection)
-            (state S.Store self.new.connection) result }
-        ensures unread { NoReadFault result }
-        ensures ready { TellsReady S.Store (version_of L.format) self.old.profile
-            self.old.connection self.new.connection result }
-        ensures work { HasCleanDisk (state S.Store self.new.connection)
-            → CostsAlone L.row_work (conditions (version_of L.format) self.old.profile
-            self.old.limits) kind (name_bytes database.now)
-            (map (λ file. file.items) files.now) (state S.Store self.old.connection) result
-            self.new.work }
-        ensures no_work { L.row_work ≡ 0 → self.old.work ≡ no_work → self.new.work ≡ no_work }
-        ensures elder { HasCleanDisk (state S.Store self.new.connection)
-            → ChangesReady (version_of L.format) self.old.profile kind self.old.limits
-            (name_bytes database.now) (map (λ file. file.items) files.now)
-            (state S.Store self.old.connection) result }
-        ensures loses { HasCleanDisk (state S.Store self.new.connection)
-            → LeavesWhole self.old.profile kind (name_bytes database.now)
-            (state S.Store self.old.connection)
-            (state S.Store self.new.connection) result }
-        ensures named { HasCleanDisk (state S.Store self.new.connection)
-            → LosesNamed self.old.profile (name_bytes database.now)
-            (map (λ file. file.items) files.now)
-            (state S.Store self.old.connection) (state S.Store self.new.connection) result }
     {
         let mut readers = Vec::with_capacity(self.alloc, files.len())?;
         for file in files {
@@ -128,52 +98,12 @@ impl<S: Alter, L: Layout> Session<S, L> {
         kind: Kind,
         readers: &mut [R],
     ) -> Result<Reply, Refusal>
-        ensures call { Commanded (state S.Store self.old.connection)
-            (state S.Store self.new.connection) result }
-        ensures survives { Survives (state S.Store self.old.connection)
-            (state S.Store self.new.connection) (λ db. (texts : List (List ℕ))
-            → map R.remaining readers.old ≡ map Some texts → NoneFailed R.has_failed readers.new
-            → CommitsBy (TakesFiles (conditions (version_of L.format) self.old.profile
-            self.old.limits) kind
-            (name_bytes database.now) texts) (state S.Store self.old.connection) db) }
+        ensures done { ReadersDone S.Store R.remaining R.may_fail R.has_failed readers.old readers.new
+            L.row_work (conditions (version_of L.format) self.old.profile self.old.limits) kind
+            (name_bytes database.now)
+            self.old.connection self.new.connection result self.new.work }
         ensures under { (self.new.profile ≡ self.old.profile)
             × (self.new.limits ≡ self.old.limits) }
-        ensures serves { HasCleanDisk (state S.Store self.new.connection) → (texts : List (List ℕ))
-            → map R.remaining readers.old ≡ map Some texts → NoneFailed R.has_failed readers.new
-            → ServesBy (TakesFiles (conditions (version_of L.format) self.old.profile
-            self.old.limits) kind
-            (name_bytes database.now) texts) (state S.Store self.old.connection)
-            (state S.Store self.new.connection) result }
-        ensures sound { NoneFailed R.has_failed readers.new
-            ⊎ IsErrAnd result (NamesFailed R.has_failed readers.new) }
-        ensures fault { (file : ℕ) → result ≡ Err (Refusal.ReadFault file)
-            → HasFailedAt R.has_failed readers.new file }
-        ensures able { StayAble R.may_fail R.has_failed readers.old readers.new }
-        ensures ready { TellsReady S.Store (version_of L.format) self.old.profile
-            self.old.connection self.new.connection result }
-        ensures honest { HasCleanDisk (state S.Store self.new.connection)
-            → (before : Holdings) → Keeps (state S.Store self.old.connection) before
-            → result ≢ Err Refusal.Damaged }
-        ensures work { HasCleanDisk (state S.Store self.new.connection) → (texts : List (List ℕ))
-            → map R.remaining readers.old ≡ map Some texts
-            → CostsAlone L.row_work (conditions (version_of L.format) self.old.profile
-            self.old.limits) kind
-            (name_bytes database.now) texts (state S.Store self.old.connection) result self.new.work }
-        ensures no_work { L.row_work ≡ 0 → self.new.work ≡ no_work }
-        ensures elder { HasCleanDisk (state S.Store self.new.connection) → (texts : List (List ℕ))
-            → map R.remaining readers.old ≡ map Some texts → NoneFailed R.has_failed readers.new
-            → ChangesReady (version_of L.format) self.old.profile kind self.old.limits
-            (name_bytes database.now) texts
-            (state S.Store self.old.connection) result }
-        ensures loses { HasCleanDisk (state S.Store self.new.connection)
-            → LeavesWhole self.old.profile kind (name_bytes database.now)
-            (state S.Store self.old.connection)
-            (state S.Store self.new.connection) result }
-        ensures named { HasCleanDisk (state S.Store self.new.connection) → (texts : List (List ℕ))
-            → map R.remaining readers.old ≡ map Some texts
-            → LosesNamed self.old.profile (name_bytes database.now) texts
-            (state S.Store self.old.connection)
-            (state S.Store self.new.connection) result }
     {
         self.work = Work::default();
         check_readers(readers)?;

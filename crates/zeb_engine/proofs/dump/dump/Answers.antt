@@ -9,32 +9,32 @@ use Rattle.zeb_engine.proofs.ReadyBases.{Tells, ready_base, ready_still}
 use Rattle.zeb_engine.proofs.dump.dump.Goals as goal
 use Rattle.zeb_engine.proofs.ReadyTexts.{fault_never, passed_texts, passed_then}
 
-pub returns-in_err-check_ready-clause-ready : goal.returns-in_err-check_ready-clause-ready
-returns-in_err-check_ready-clause-ready g c clean = passed_texts (version_of g.L.Layout.format) c.args.profile.now (state g.S.Store c.args.connection.now) c.in_err-check_ready.field-0.0 c.from_residual.result (search rules) (c.in_err-check_ready.ensures.texts clean)
+pub returns-in_err-check_texts-clause-ready : goal.returns-in_err-check_texts-clause-ready
+returns-in_err-check_texts-clause-ready g c clean = passed_texts (version_of g.L.Layout.format) c.args.profile.now (state g.S.Store c.args.connection.now) c.in_err-check_texts.field-0.0 c.from_residual.result (search rules) (c.in_err-check_texts.ensures.texts clean)
 
-pub returns-in_err-check_ready-clause-serves : goal.returns-in_err-check_ready-clause-serves
-returns-in_err-check_ready-clause-serves g c clean limits =
+pub returns-in_err-check_texts-clause-serves : goal.returns-in_err-check_texts-clause-serves
+returns-in_err-check_texts-clause-serves g c clean limits =
     let k = conditions (version_of g.L.Layout.format) c.args.profile.now limits in
     let s0 = state g.S.Store c.args.connection.now in
-    let s1 = state g.S.Store c.check_ready.new.connection in
-    let refusal = c.in_err-check_ready.field-0.0 in
+    let s1 = state g.S.Store c.check_texts.new.connection in
+    let refusal = c.in_err-check_texts.field-0.0 in
     let told : c.from_residual.result ≡ Err refusal = search rules in
     subst (Serves Always (dumped_by k (name_bytes c.args.name.now)) s0 s1) (sym told)
-    (unready_dumps g.L.Layout.format k (name_bytes c.args.name.now) s0 s1 (c.check_ready.ensures.same clean) refusal (λ before keeps. c.in_err-check_ready.ensures.ready clean limits before keeps))
+    (unready_dumps g.L.Layout.format k (name_bytes c.args.name.now) s0 s1 (c.check_texts.ensures.same clean) refusal (λ before keeps. c.in_err-check_texts.ensures.ready clean limits before keeps))
 
-pub returns-in_err-check_ready-clause-caused : goal.returns-in_err-check_ready-clause-caused
-returns-in_err-check_ready-clause-caused g c clean = passed_cause (state g.S.Store c.args.connection.now) (state g.S.Store c.check_ready.new.connection) c.in_err-check_ready.field-0.0 c.from_residual.result (search rules) (c.in_err-check_ready.ensures.caused clean)
+pub returns-in_err-check_texts-clause-caused : goal.returns-in_err-check_texts-clause-caused
+returns-in_err-check_texts-clause-caused g c clean = passed_cause (state g.S.Store c.args.connection.now) (state g.S.Store c.check_texts.new.connection) c.in_err-check_texts.field-0.0 c.from_residual.result (search rules) (c.in_err-check_texts.ensures.caused clean)
 
 pub returns-in_err-database-clause-ready : goal.returns-in_err-database-clause-ready
-returns-in_err-database-clause-ready g c clean = passed_then (version_of g.L.Layout.format) c.args.profile.now {X = Unit {0}} (state g.S.Store c.args.connection.now) tt (c.in_ok-check_ready.ensures.texts (clean_before (state g.S.Store c.check_ready.new.connection) (state g.S.Store c.existing_database.new.connection) c.existing_database.ensures.crash clean)) c.in_err-database.field-0.0 c.from_residual-in_err-database.result (search rules) c.in_err-database.ensures.ready
+returns-in_err-database-clause-ready g c clean = passed_then (version_of g.L.Layout.format) c.args.profile.now {X = Unit {0}} (state g.S.Store c.args.connection.now) tt (c.in_ok-check_texts.ensures.texts (clean_before (state g.S.Store c.check_texts.new.connection) (state g.S.Store c.existing_database.new.connection) c.existing_database.ensures.crash clean)) c.in_err-database.field-0.0 c.from_residual-in_err-database.result (search rules) c.in_err-database.ensures.ready
 
 pub returns-in_err-database-clause-serves : goal.returns-in_err-database-clause-serves
 returns-in_err-database-clause-serves g c clean limits before fits keeps =
     let k = conditions (version_of g.L.Layout.format) c.args.profile.now limits in
     let s0 = state g.S.Store c.args.connection.now in
-    let s1 = state g.S.Store c.check_ready.new.connection in
+    let s1 = state g.S.Store c.check_texts.new.connection in
     let s2 = state g.S.Store c.existing_database.new.connection in
-    let met = ready_still k s0 s1 s2 before c.existing_database.ensures.crash clean c.check_ready.ensures.same (λ first. c.in_ok-check_ready.ensures.ready first limits before keeps) c.existing_database.ensures.same keeps in
+    let met = ready_still k s0 s1 s2 before c.existing_database.ensures.crash clean c.check_texts.ensures.same (λ first. c.in_ok-check_texts.ensures.ready first limits before keeps) c.existing_database.ensures.same keeps in
     let refusal = c.in_err-database.field-0.0 in
     let told : c.from_residual-in_err-database.result ≡ Err refusal = search rules in
     subst (Dumps g.L.Layout.format k (name_bytes c.args.name.now) s0 s2 met.nothing before met.bases met.is keeps) (sym told)
@@ -42,22 +42,22 @@ returns-in_err-database-clause-serves g c clean limits before fits keeps =
 
 pub returns-in_err-database-clause-caused : goal.returns-in_err-database-clause-caused
 returns-in_err-database-clause-caused g c clean =
-    look_caused (state g.S.Store c.args.connection.now) (state g.S.Store c.check_ready.new.connection) (state g.S.Store c.existing_database.new.connection) c.existing_database.ensures.crash clean
-    c.check_ready.ensures.crash c.in_ok-check_ready.ensures.open c.check_ready.ensures.same c.in_err-database.field-0.0 c.from_residual-in_err-database.result (search rules) (c.in_err-database.ensures.caused clean)
+    look_caused (state g.S.Store c.args.connection.now) (state g.S.Store c.check_texts.new.connection) (state g.S.Store c.existing_database.new.connection) c.existing_database.ensures.crash clean
+    c.check_texts.ensures.crash c.in_ok-check_texts.ensures.open c.check_texts.ensures.same c.in_err-database.field-0.0 c.from_residual-in_err-database.result (search rules) (c.in_err-database.ensures.caused clean)
 
 pub returns-in_err-bytes-clause-ready : goal.returns-in_err-bytes-clause-ready
 returns-in_err-bytes-clause-ready g c clean =
     let clean2 : HasCleanDisk (state g.S.Store c.existing_database.new.connection) = omega (arith, c.bytes_of.ensures.crash.clean) in
-    let clean1 = clean_before (state g.S.Store c.check_ready.new.connection) (state g.S.Store c.existing_database.new.connection) c.existing_database.ensures.crash clean2 in
-    passed_then (version_of g.L.Layout.format) c.args.profile.now {X = Unit {0}} (state g.S.Store c.args.connection.now) tt (c.in_ok-check_ready.ensures.texts clean1) (register_refusal c.in_err-bytes.field-0.0) c.from_residual-in_err-bytes.result (search rules) (fault_never {T = Reply} c.in_err-bytes.field-0.0)
+    let clean1 = clean_before (state g.S.Store c.check_texts.new.connection) (state g.S.Store c.existing_database.new.connection) c.existing_database.ensures.crash clean2 in
+    passed_then (version_of g.L.Layout.format) c.args.profile.now {X = Unit {0}} (state g.S.Store c.args.connection.now) tt (c.in_ok-check_texts.ensures.texts clean1) (register_refusal c.in_err-bytes.field-0.0) c.from_residual-in_err-bytes.result (search rules) (fault_never {T = Reply} c.in_err-bytes.field-0.0)
 
 pub returns-in_err-bytes-clause-serves : goal.returns-in_err-bytes-clause-serves
 returns-in_err-bytes-clause-serves g c clean limits before fits keeps =
     let k = conditions (version_of g.L.Layout.format) c.args.profile.now limits in
     let s0 = state g.S.Store c.args.connection.now in
-    let s1 = state g.S.Store c.check_ready.new.connection in
+    let s1 = state g.S.Store c.check_texts.new.connection in
     let clean2 : HasCleanDisk (state g.S.Store c.existing_database.new.connection) = omega (arith, c.bytes_of.ensures.crash.clean) in
-    let it = ready_base k s0 s1 (state g.S.Store c.existing_database.new.connection) before c.existing_database.ensures.crash clean2 c.check_ready.ensures.same (λ first. c.in_ok-check_ready.ensures.ready first limits before keeps) c.existing_database.ensures.same keeps g.L.Layout.format (record { version_is = refl; sound = c.is_of_some_text.ensures }) (name_bytes c.args.name.now) c.in_ok-database.database c.in_ok-database.ensures.exists in
+    let it = ready_base k s0 s1 (state g.S.Store c.existing_database.new.connection) before c.existing_database.ensures.crash clean2 c.check_texts.ensures.same (λ first. c.in_ok-check_texts.ensures.ready first limits before keeps) c.existing_database.ensures.same keeps g.L.Layout.format (record { version_is = refl; sound = c.is_of_some_text.ensures }) (name_bytes c.args.name.now) c.in_ok-database.database c.in_ok-database.ensures.exists in
     let fault = c.in_err-bytes.field-0.0 in
     let told : c.from_residual-in_err-bytes.result ≡ Err (register_refusal fault) = search rules in
     let s3 = state g.S.Store c.bytes_of.new.connection in
@@ -71,7 +71,7 @@ returns-in_err-bytes-clause-caused g c clean =
     let s0 = state g.S.Store c.args.connection.now in
     let s2 = state g.S.Store c.existing_database.new.connection in
     let clean2 : HasCleanDisk s2 = omega (arith, c.bytes_of.ensures.crash.clean) in
-    let looked = two_leave s0 (state g.S.Store c.check_ready.new.connection) s2 clean2 c.check_ready.ensures.crash c.in_ok-check_ready.ensures.open c.check_ready.ensures.same c.existing_database.ensures.crash c.in_ok-database.ensures.found c.existing_database.ensures.same in
+    let looked = two_leave s0 (state g.S.Store c.check_texts.new.connection) s2 clean2 c.check_texts.ensures.crash c.in_ok-check_texts.ensures.open c.check_texts.ensures.same c.existing_database.ensures.crash c.in_ok-database.ensures.found c.existing_database.ensures.same in
     let new = state g.S.Store c.bytes_of.new.connection in
     let fault = c.in_err-bytes.field-0.0 in
     passed_cause s0 new (register_refusal fault) c.from_residual-in_err-bytes.result (search rules) (fault_after s0 s2 new looked fault clean c.in_err-bytes.ensures.caused)
@@ -79,16 +79,16 @@ returns-in_err-bytes-clause-caused g c clean =
 pub returns-clause-ready : goal.returns-clause-ready
 returns-clause-ready g c clean =
     let clean2 : HasCleanDisk (state g.S.Store c.existing_database.new.connection) = omega (arith, c.bytes_of.ensures.crash.clean) in
-    let clean1 = clean_before (state g.S.Store c.check_ready.new.connection) (state g.S.Store c.existing_database.new.connection) c.existing_database.ensures.crash clean2 in
-    c.in_ok-check_ready.ensures.texts clean1
+    let clean1 = clean_before (state g.S.Store c.check_texts.new.connection) (state g.S.Store c.existing_database.new.connection) c.existing_database.ensures.crash clean2 in
+    c.in_ok-check_texts.ensures.texts clean1
 
 pub returns-clause-serves : goal.returns-clause-serves
 returns-clause-serves g c clean limits before fits keeps =
     let k = conditions (version_of g.L.Layout.format) c.args.profile.now limits in
     let s0 = state g.S.Store c.args.connection.now in
-    let s1 = state g.S.Store c.check_ready.new.connection in
+    let s1 = state g.S.Store c.check_texts.new.connection in
     let clean2 : HasCleanDisk (state g.S.Store c.existing_database.new.connection) = omega (arith, c.bytes_of.ensures.crash.clean) in
-    let it = ready_base k s0 s1 (state g.S.Store c.existing_database.new.connection) before c.existing_database.ensures.crash clean2 c.check_ready.ensures.same (λ first. c.in_ok-check_ready.ensures.ready first limits before keeps) c.existing_database.ensures.same keeps g.L.Layout.format (record { version_is = refl; sound = c.is_of_some_text.ensures }) (name_bytes c.args.name.now) c.in_ok-database.database c.in_ok-database.ensures.exists in
+    let it = ready_base k s0 s1 (state g.S.Store c.existing_database.new.connection) before c.existing_database.ensures.crash clean2 c.check_texts.ensures.same (λ first. c.in_ok-check_texts.ensures.ready first limits before keeps) c.existing_database.ensures.same keeps g.L.Layout.format (record { version_is = refl; sound = c.is_of_some_text.ensures }) (name_bytes c.args.name.now) c.in_ok-database.database c.in_ok-database.ensures.exists in
     let bytes = c.in_ok-bytes.bytes in
     let kept = base_kept g.L.Layout.format c.args.profile.now s1.now.trees c.in_ok-database.database.id.0 it.at.base it.at.held in
     let told = c.in_ok-bytes.ensures.joined clean s1.now.trees it.at.still.shows it.opened it.at.base.records kept in
@@ -98,33 +98,33 @@ returns-clause-serves g c clean limits before fits keeps =
 
 -- ---- on any tables
 
-pub returns-in_err-check_ready-clause-tables : goal.returns-in_err-check_ready-clause-tables
-returns-in_err-check_ready-clause-tables g c clean store texts =
-    let refusal = c.in_err-check_ready.field-0.0 in
+pub returns-in_err-check_texts-clause-tables : goal.returns-in_err-check_texts-clause-tables
+returns-in_err-check_texts-clause-tables g c clean store texts =
+    let refusal = c.in_err-check_texts.field-0.0 in
     let told : c.from_residual.result ≡ Err refusal = search rules in
     let name = name_bytes c.args.name.now in
-    rw told (unready_hidden (DumpOver name) (HidesRecords name) (version_of g.L.Layout.format) c.args.profile.now (state g.S.Store c.args.connection.now) refusal c.in_err-check_ready.ensures.few (c.in_err-check_ready.ensures.texts clean)
-    (c.in_err-check_ready.ensures.whole clean) store texts)
+    rw told (unready_hidden (DumpOver name) (HidesRecords name) (version_of g.L.Layout.format) c.args.profile.now (state g.S.Store c.args.connection.now) refusal c.in_err-check_texts.ensures.few (c.in_err-check_texts.ensures.texts clean)
+    (c.in_err-check_texts.ensures.whole clean) store texts)
 
 pub returns-in_err-database-clause-tables : goal.returns-in_err-database-clause-tables
 returns-in_err-database-clause-tables g c clean store texts =
     let s0 = state g.S.Store c.args.connection.now in
-    let s1 = state g.S.Store c.check_ready.new.connection in
+    let s1 = state g.S.Store c.check_texts.new.connection in
     let clean1 = clean_before s1 (state g.S.Store c.existing_database.new.connection) c.existing_database.ensures.crash clean in
     let refusal = c.in_err-database.field-0.0 in
     let told : c.from_residual-in_err-database.result ≡ Err refusal = search rules in
     let name = name_bytes c.args.name.now in
-    rw told (hidden_after (DumpOver name) (HidesRecords name) s0 s1 (Err refusal) (c.check_ready.ensures.same clean1) (c.in_ok-check_ready.ensures.«open» clean1)
+    rw told (hidden_after (DumpOver name) (HidesRecords name) s0 s1 (Err refusal) (c.check_texts.ensures.same clean1) (c.in_ok-check_texts.ensures.«open» clean1)
     (λ there. misses_hidden (DumpTells s1.now.trees) name (HidesRecords name) s1.now.trees (λ hides. inl hides) refusal (c.in_err-database.ensures.misses clean there)) store)
 
 pub returns-in_err-bytes-clause-tables : goal.returns-in_err-bytes-clause-tables
 returns-in_err-bytes-clause-tables g c clean store texts =
     let s0 = state g.S.Store c.args.connection.now in
-    let s1 = state g.S.Store c.check_ready.new.connection in
+    let s1 = state g.S.Store c.check_texts.new.connection in
     let s2 = state g.S.Store c.existing_database.new.connection in
     let clean2 : HasCleanDisk s2 = omega (arith, c.bytes_of.ensures.crash.clean) in
     let clean1 : HasCleanDisk s1 = omega (arith, clean2, c.existing_database.ensures.crash.clean) in
-    let at1 = still_shows s0 s1 s0.now.trees (c.check_ready.ensures.same clean1) (λ _. (store, refl)) in
+    let at1 = still_shows s0 s1 s0.now.trees (c.check_texts.ensures.same clean1) (λ _. (store, refl)) in
     let at2 = still_shows s1 s2 s0.now.trees (c.existing_database.ensures.same clean2) at1 in
     let opened = c.in_ok-database.ensures.found clean2 in
     let first = at1 opened.0 in
@@ -139,11 +139,11 @@ returns-in_err-bytes-clause-tables g c clean store texts =
 pub returns-clause-tables : goal.returns-clause-tables
 returns-clause-tables g c clean store texts =
     let s0 = state g.S.Store c.args.connection.now in
-    let s1 = state g.S.Store c.check_ready.new.connection in
+    let s1 = state g.S.Store c.check_texts.new.connection in
     let s2 = state g.S.Store c.existing_database.new.connection in
     let clean2 : HasCleanDisk s2 = omega (arith, c.bytes_of.ensures.crash.clean) in
     let clean1 : HasCleanDisk s1 = omega (arith, clean2, c.existing_database.ensures.crash.clean) in
-    let at1 = still_shows s0 s1 s0.now.trees (c.check_ready.ensures.same clean1) (λ _. (store, refl)) in
+    let at1 = still_shows s0 s1 s0.now.trees (c.check_texts.ensures.same clean1) (λ _. (store, refl)) in
     let at2 = still_shows s1 s2 s0.now.trees (c.existing_database.ensures.same clean2) at1 in
     let opened = c.in_ok-database.ensures.found clean2 in
     let first = at1 opened.0 in

@@ -11,56 +11,56 @@ use Rattle.zeb_engine.proofs.ReadyBases.{Tells, ready_base, ready_still}
 use Rattle.zeb_engine.proofs.stat.stat.Goals as goal
 use Rattle.zeb_engine.proofs.ReadyTexts.{fault_never, passed_texts, passed_then}
 
-pub returns-in_err-check_ready-clause-ready : goal.returns-in_err-check_ready-clause-ready
-returns-in_err-check_ready-clause-ready g c clean = passed_texts (version_of g.L.Layout.format) c.args.profile.now (state g.S.Store c.args.connection.now) c.in_err-check_ready.field-0.0 c.from_residual.result (search rules) (c.in_err-check_ready.ensures.texts clean)
+pub returns-in_err-check_texts-clause-ready : goal.returns-in_err-check_texts-clause-ready
+returns-in_err-check_texts-clause-ready g c clean = passed_texts (version_of g.L.Layout.format) c.args.profile.now (state g.S.Store c.args.connection.now) c.in_err-check_texts.field-0.0 c.from_residual.result (search rules) (c.in_err-check_texts.ensures.texts clean)
 
-pub returns-in_err-check_ready-clause-serves : goal.returns-in_err-check_ready-clause-serves
-returns-in_err-check_ready-clause-serves g c clean limits before keeps =
+pub returns-in_err-check_texts-clause-serves : goal.returns-in_err-check_texts-clause-serves
+returns-in_err-check_texts-clause-serves g c clean limits before keeps =
     let k = conditions (version_of g.L.Layout.format) c.args.profile.now limits in
     let s0 = state g.S.Store c.args.connection.now in
-    let s1 = state g.S.Store c.check_ready.new.connection in
-    let refusal = c.in_err-check_ready.field-0.0 in
+    let s1 = state g.S.Store c.check_texts.new.connection in
+    let refusal = c.in_err-check_texts.field-0.0 in
     let told : c.from_residual.result ≡ Err refusal = search rules in
-    let nothing = c.check_ready.ensures.same clean in
+    let nothing = c.check_texts.ensures.same clean in
     subst (Counts k (name_bytes c.args.name.now) s0 s1 nothing before) (sym told)
-    (unready_counts k (name_bytes c.args.name.now) s0 s1 nothing refusal (λ before keeps. c.in_err-check_ready.ensures.ready clean limits before keeps) before keeps)
+    (unready_counts k (name_bytes c.args.name.now) s0 s1 nothing refusal (λ before keeps. c.in_err-check_texts.ensures.ready clean limits before keeps) before keeps)
 
-pub returns-in_err-check_ready-clause-caused : goal.returns-in_err-check_ready-clause-caused
-returns-in_err-check_ready-clause-caused g c clean = passed_cause (state g.S.Store c.args.connection.now) (state g.S.Store c.check_ready.new.connection) c.in_err-check_ready.field-0.0 c.from_residual.result (search rules) (c.in_err-check_ready.ensures.caused clean)
+pub returns-in_err-check_texts-clause-caused : goal.returns-in_err-check_texts-clause-caused
+returns-in_err-check_texts-clause-caused g c clean = passed_cause (state g.S.Store c.args.connection.now) (state g.S.Store c.check_texts.new.connection) c.in_err-check_texts.field-0.0 c.from_residual.result (search rules) (c.in_err-check_texts.ensures.caused clean)
 
 pub returns-in_err-database-clause-ready : goal.returns-in_err-database-clause-ready
-returns-in_err-database-clause-ready g c clean = passed_then (version_of g.L.Layout.format) c.args.profile.now {X = Unit {0}} (state g.S.Store c.args.connection.now) tt (c.in_ok-check_ready.ensures.texts (clean_before (state g.S.Store c.check_ready.new.connection) (state g.S.Store c.existing_database.new.connection) c.existing_database.ensures.crash clean)) c.in_err-database.field-0.0 c.from_residual-in_err-database.result (search rules) c.in_err-database.ensures.ready
+returns-in_err-database-clause-ready g c clean = passed_then (version_of g.L.Layout.format) c.args.profile.now {X = Unit {0}} (state g.S.Store c.args.connection.now) tt (c.in_ok-check_texts.ensures.texts (clean_before (state g.S.Store c.check_texts.new.connection) (state g.S.Store c.existing_database.new.connection) c.existing_database.ensures.crash clean)) c.in_err-database.field-0.0 c.from_residual-in_err-database.result (search rules) c.in_err-database.ensures.ready
 
 pub returns-in_err-database-clause-serves : goal.returns-in_err-database-clause-serves
 returns-in_err-database-clause-serves g c clean limits before keeps =
     let k = conditions (version_of g.L.Layout.format) c.args.profile.now limits in
     let s0 = state g.S.Store c.args.connection.now in
-    let s1 = state g.S.Store c.check_ready.new.connection in
+    let s1 = state g.S.Store c.check_texts.new.connection in
     let s2 = state g.S.Store c.existing_database.new.connection in
-    let met = ready_still k s0 s1 s2 before c.existing_database.ensures.crash clean c.check_ready.ensures.same (λ first. c.in_ok-check_ready.ensures.ready first limits before keeps) c.existing_database.ensures.same keeps in
+    let met = ready_still k s0 s1 s2 before c.existing_database.ensures.crash clean c.check_texts.ensures.same (λ first. c.in_ok-check_texts.ensures.ready first limits before keeps) c.existing_database.ensures.same keeps in
     let told : c.from_residual-in_err-database.result ≡ Err c.in_err-database.field-0.0 = search rules in
     subst (Counts k (name_bytes c.args.name.now) s0 s2 met.nothing before) (sym told)
     (count_unknown k (name_bytes c.args.name.now) s0 s2 met.nothing before met.bases met.is keeps {X = Database} (Tells s1 s2) c.in_err-database.field-0.0 (c.in_err-database.ensures.exists clean met.opened k before met.bases met.is met.kept))
 
 pub returns-in_err-database-clause-caused : goal.returns-in_err-database-clause-caused
 returns-in_err-database-clause-caused g c clean =
-    look_caused (state g.S.Store c.args.connection.now) (state g.S.Store c.check_ready.new.connection) (state g.S.Store c.existing_database.new.connection) c.existing_database.ensures.crash clean
-    c.check_ready.ensures.crash c.in_ok-check_ready.ensures.open c.check_ready.ensures.same c.in_err-database.field-0.0 c.from_residual-in_err-database.result (search rules) (c.in_err-database.ensures.caused clean)
+    look_caused (state g.S.Store c.args.connection.now) (state g.S.Store c.check_texts.new.connection) (state g.S.Store c.existing_database.new.connection) c.existing_database.ensures.crash clean
+    c.check_texts.ensures.crash c.in_ok-check_texts.ensures.open c.check_texts.ensures.same c.in_err-database.field-0.0 c.from_residual-in_err-database.result (search rules) (c.in_err-database.ensures.caused clean)
 
 pub returns-in_err-kept-clause-ready : goal.returns-in_err-kept-clause-ready
 returns-in_err-kept-clause-ready g c clean =
     let clean2 : HasCleanDisk (state g.S.Store c.existing_database.new.connection) = omega (arith, c.record_count.ensures.call.crash.clean) in
-    let clean1 = clean_before (state g.S.Store c.check_ready.new.connection) (state g.S.Store c.existing_database.new.connection) c.existing_database.ensures.crash clean2 in
+    let clean1 = clean_before (state g.S.Store c.check_texts.new.connection) (state g.S.Store c.existing_database.new.connection) c.existing_database.ensures.crash clean2 in
     let fault = c.in_err-kept.field-0.0 in
-    passed_then (version_of g.L.Layout.format) c.args.profile.now {A = Reply} {X = Unit {0}} (state g.S.Store c.args.connection.now) tt (c.in_ok-check_ready.ensures.texts clean1) (register_refusal fault) c.from_residual-in_err-kept.result (search rules) (fault_never {T = Reply} fault)
+    passed_then (version_of g.L.Layout.format) c.args.profile.now {A = Reply} {X = Unit {0}} (state g.S.Store c.args.connection.now) tt (c.in_ok-check_texts.ensures.texts clean1) (register_refusal fault) c.from_residual-in_err-kept.result (search rules) (fault_never {T = Reply} fault)
 
 pub returns-in_err-kept-clause-serves : goal.returns-in_err-kept-clause-serves
 returns-in_err-kept-clause-serves g c clean limits before keeps =
     let k = conditions (version_of g.L.Layout.format) c.args.profile.now limits in
     let s0 = state g.S.Store c.args.connection.now in
-    let s1 = state g.S.Store c.check_ready.new.connection in
+    let s1 = state g.S.Store c.check_texts.new.connection in
     let clean2 : HasCleanDisk (state g.S.Store c.existing_database.new.connection) = omega (arith, c.record_count.ensures.call.crash.clean) in
-    let it = ready_base k s0 s1 (state g.S.Store c.existing_database.new.connection) before c.existing_database.ensures.crash clean2 c.check_ready.ensures.same (λ first. c.in_ok-check_ready.ensures.ready first limits before keeps) c.existing_database.ensures.same keeps g.L.Layout.format (record { version_is = refl; sound = c.is_of_some_text.ensures }) (name_bytes c.args.name.now) c.in_ok-database.database c.in_ok-database.ensures.exists in
+    let it = ready_base k s0 s1 (state g.S.Store c.existing_database.new.connection) before c.existing_database.ensures.crash clean2 c.check_texts.ensures.same (λ first. c.in_ok-check_texts.ensures.ready first limits before keeps) c.existing_database.ensures.same keeps g.L.Layout.format (record { version_is = refl; sound = c.is_of_some_text.ensures }) (name_bytes c.args.name.now) c.in_ok-database.database c.in_ok-database.ensures.exists in
     let fault = c.in_err-kept.field-0.0 in
     let told : c.from_residual-in_err-kept.result ≡ Err (register_refusal fault) = search rules in
     let nothing = nothing_then s0 (state g.S.Store c.existing_database.new.connection) (state g.S.Store c.record_count.new.conn) it.still.nothing (c.record_count.ensures.call.same clean c.existing_database.ensures.idle) in
@@ -72,7 +72,7 @@ returns-in_err-kept-clause-caused g c clean =
     let s0 = state g.S.Store c.args.connection.now in
     let s2 = state g.S.Store c.existing_database.new.connection in
     let clean2 : HasCleanDisk s2 = omega (arith, c.record_count.ensures.call.crash.clean) in
-    let looked = two_leave s0 (state g.S.Store c.check_ready.new.connection) s2 clean2 c.check_ready.ensures.crash c.in_ok-check_ready.ensures.open c.check_ready.ensures.same c.existing_database.ensures.crash c.in_ok-database.ensures.found c.existing_database.ensures.same in
+    let looked = two_leave s0 (state g.S.Store c.check_texts.new.connection) s2 clean2 c.check_texts.ensures.crash c.in_ok-check_texts.ensures.open c.check_texts.ensures.same c.existing_database.ensures.crash c.in_ok-database.ensures.found c.existing_database.ensures.same in
     let fault = c.in_err-kept.field-0.0 in
     passed_cause s0 (state g.S.Store c.record_count.new.conn) (register_refusal fault) c.from_residual-in_err-kept.result (search rules) (fault_after s0 s2 (state g.S.Store c.record_count.new.conn) looked fault clean c.in_err-kept.ensures.refused)
 
@@ -80,16 +80,16 @@ pub returns-in_err-holdings-clause-ready : goal.returns-in_err-holdings-clause-r
 returns-in_err-holdings-clause-ready g c clean =
     let clean3 : HasCleanDisk (state g.S.Store c.record_count.new.conn) = omega (arith, c.holdings_of.ensures.crash.clean) in
     let clean2 : HasCleanDisk (state g.S.Store c.existing_database.new.connection) = (omega (arith, clean3, c.record_count.ensures.call.crash.clean)) in
-    let clean1 = clean_before (state g.S.Store c.check_ready.new.connection) (state g.S.Store c.existing_database.new.connection) c.existing_database.ensures.crash clean2 in
-    passed_then (version_of g.L.Layout.format) c.args.profile.now {X = Unit {0}} (state g.S.Store c.args.connection.now) tt (c.in_ok-check_ready.ensures.texts clean1) c.in_err-holdings.field-0.0 c.from_residual-in_err-holdings.result (search rules) c.in_err-holdings.ensures.ready
+    let clean1 = clean_before (state g.S.Store c.check_texts.new.connection) (state g.S.Store c.existing_database.new.connection) c.existing_database.ensures.crash clean2 in
+    passed_then (version_of g.L.Layout.format) c.args.profile.now {X = Unit {0}} (state g.S.Store c.args.connection.now) tt (c.in_ok-check_texts.ensures.texts clean1) c.in_err-holdings.field-0.0 c.from_residual-in_err-holdings.result (search rules) c.in_err-holdings.ensures.ready
 
 pub returns-in_err-holdings-clause-serves : goal.returns-in_err-holdings-clause-serves
 returns-in_err-holdings-clause-serves g c clean limits before keeps =
     let k = conditions (version_of g.L.Layout.format) c.args.profile.now limits in
     let s0 = state g.S.Store c.args.connection.now in
-    let s1 = state g.S.Store c.check_ready.new.connection in
+    let s1 = state g.S.Store c.check_texts.new.connection in
     let clean3 : HasCleanDisk (state g.S.Store c.record_count.new.conn) = omega (arith, c.holdings_of.ensures.crash.clean) in
-    let it = ready_base k s0 s1 (state g.S.Store c.existing_database.new.connection) before c.existing_database.ensures.crash (omega (arith, clean3, c.record_count.ensures.call.crash.clean)) c.check_ready.ensures.same (λ first. c.in_ok-check_ready.ensures.ready first limits before keeps) c.existing_database.ensures.same keeps g.L.Layout.format (record { version_is = refl; sound = c.is_of_some_text.ensures }) (name_bytes c.args.name.now) c.in_ok-database.database c.in_ok-database.ensures.exists in
+    let it = ready_base k s0 s1 (state g.S.Store c.existing_database.new.connection) before c.existing_database.ensures.crash (omega (arith, clean3, c.record_count.ensures.call.crash.clean)) c.check_texts.ensures.same (λ first. c.in_ok-check_texts.ensures.ready first limits before keeps) c.existing_database.ensures.same keeps g.L.Layout.format (record { version_is = refl; sound = c.is_of_some_text.ensures }) (name_bytes c.args.name.now) c.in_ok-database.database c.in_ok-database.ensures.exists in
     let refusal = c.in_err-holdings.field-0.0 in
     let told : c.from_residual-in_err-holdings.result ≡ Err refusal = search rules in
     let read = c.record_count.ensures.call.same clean3 c.existing_database.ensures.idle in
@@ -105,7 +105,7 @@ returns-in_err-holdings-clause-caused g c clean =
     let s3 = state g.S.Store c.record_count.new.conn in
     let clean3 : HasCleanDisk s3 = omega (arith, c.holdings_of.ensures.crash.clean) in
     let clean2 : HasCleanDisk s2 = omega (arith, clean3, c.record_count.ensures.call.crash.clean) in
-    let looked = two_leave s0 (state g.S.Store c.check_ready.new.connection) s2 clean2 c.check_ready.ensures.crash c.in_ok-check_ready.ensures.open c.check_ready.ensures.same c.existing_database.ensures.crash c.in_ok-database.ensures.found c.existing_database.ensures.same in
+    let looked = two_leave s0 (state g.S.Store c.check_texts.new.connection) s2 clean2 c.check_texts.ensures.crash c.in_ok-check_texts.ensures.open c.check_texts.ensures.same c.existing_database.ensures.crash c.in_ok-database.ensures.found c.existing_database.ensures.same in
     let refusal = c.in_err-holdings.field-0.0 in
     let counted : LeavesAll s2 s3 = record { survives = c.record_count.ensures.call.crash; opened = λ _. (c.in_ok-kept.ensures.call.ok clean3).0.is_open; nothing = c.record_count.ensures.call.same clean3 c.existing_database.ensures.idle } in
     passed_cause s0 (state g.S.Store c.holdings_of.new.connection) refusal c.from_residual-in_err-holdings.result (search rules) (refusal_after s0 s3 (state g.S.Store c.holdings_of.new.connection) (leaves_then s0 s2 s3 looked counted) refusal (c.in_err-holdings.ensures.caused clean))
@@ -114,16 +114,16 @@ pub returns-clause-ready : goal.returns-clause-ready
 returns-clause-ready g c clean =
     let clean3 : HasCleanDisk (state g.S.Store c.record_count.new.conn) = omega (arith, c.holdings_of.ensures.crash.clean) in
     let clean2 : HasCleanDisk (state g.S.Store c.existing_database.new.connection) = (omega (arith, clean3, c.record_count.ensures.call.crash.clean)) in
-    let clean1 = clean_before (state g.S.Store c.check_ready.new.connection) (state g.S.Store c.existing_database.new.connection) c.existing_database.ensures.crash clean2 in
-    c.in_ok-check_ready.ensures.texts clean1
+    let clean1 = clean_before (state g.S.Store c.check_texts.new.connection) (state g.S.Store c.existing_database.new.connection) c.existing_database.ensures.crash clean2 in
+    c.in_ok-check_texts.ensures.texts clean1
 
 pub returns-clause-serves : goal.returns-clause-serves
 returns-clause-serves g c clean limits before keeps =
     let k = conditions (version_of g.L.Layout.format) c.args.profile.now limits in
     let s0 = state g.S.Store c.args.connection.now in
-    let s1 = state g.S.Store c.check_ready.new.connection in
+    let s1 = state g.S.Store c.check_texts.new.connection in
     let clean3 : HasCleanDisk (state g.S.Store c.record_count.new.conn) = omega (arith, c.holdings_of.ensures.crash.clean) in
-    let it = ready_base k s0 s1 (state g.S.Store c.existing_database.new.connection) before c.existing_database.ensures.crash (omega (arith, clean3, c.record_count.ensures.call.crash.clean)) c.check_ready.ensures.same (λ first. c.in_ok-check_ready.ensures.ready first limits before keeps) c.existing_database.ensures.same keeps g.L.Layout.format (record { version_is = refl; sound = c.is_of_some_text.ensures }) (name_bytes c.args.name.now) c.in_ok-database.database c.in_ok-database.ensures.exists in
+    let it = ready_base k s0 s1 (state g.S.Store c.existing_database.new.connection) before c.existing_database.ensures.crash (omega (arith, clean3, c.record_count.ensures.call.crash.clean)) c.check_texts.ensures.same (λ first. c.in_ok-check_texts.ensures.ready first limits before keeps) c.existing_database.ensures.same keeps g.L.Layout.format (record { version_is = refl; sound = c.is_of_some_text.ensures }) (name_bytes c.args.name.now) c.in_ok-database.database c.in_ok-database.ensures.exists in
     let held = it.at.held in
     let id = c.in_ok-database.database.id.0 in
     let read = c.record_count.ensures.call.same clean3 c.existing_database.ensures.idle in
@@ -147,13 +147,13 @@ pub returns-clause-alone : goal.returns-clause-alone
 returns-clause-alone g c clean store content has =
     let profile = c.args.profile.now in
     let s0 = state g.S.Store c.args.connection.now in
-    let s1 = state g.S.Store c.check_ready.new.connection in
+    let s1 = state g.S.Store c.check_texts.new.connection in
     let s2 = state g.S.Store c.existing_database.new.connection in
     let s3 = state g.S.Store c.record_count.new.conn in
     let clean3 : HasCleanDisk s3 = omega (arith, c.holdings_of.ensures.crash.clean) in
     let clean2 : HasCleanDisk s2 = omega (arith, clean3, c.record_count.ensures.call.crash.clean) in
     let clean1 : HasCleanDisk s1 = omega (arith, clean2, c.existing_database.ensures.crash.clean) in
-    let at1 = still_shows s0 s1 s0.now.trees (c.check_ready.ensures.same clean1) (λ _. (store, refl)) in
+    let at1 = still_shows s0 s1 s0.now.trees (c.check_texts.ensures.same clean1) (λ _. (store, refl)) in
     let at2 = still_shows s1 s2 s0.now.trees (c.existing_database.ensures.same clean2) at1 in
     let at3 = still_shows s2 s3 s0.now.trees (c.record_count.ensures.call.same clean3 c.existing_database.ensures.idle) at2 in
     let first = at1 (c.in_ok-database.ensures.found clean2).0 in
@@ -183,34 +183,34 @@ returns-clause-alone g c clean store content has =
 
 -- ---- on any tables
 
-pub returns-in_err-check_ready-clause-tables : goal.returns-in_err-check_ready-clause-tables
-returns-in_err-check_ready-clause-tables g c clean store texts =
-    let refusal = c.in_err-check_ready.field-0.0 in
+pub returns-in_err-check_texts-clause-tables : goal.returns-in_err-check_texts-clause-tables
+returns-in_err-check_texts-clause-tables g c clean store texts =
+    let refusal = c.in_err-check_texts.field-0.0 in
     let told : c.from_residual.result ≡ Err refusal = search rules in
     let name = name_bytes c.args.name.now in
-    rw told (unready_hidden (StatOver g.L.Layout.format c.args.profile.now name) (HidesRegisters g.L.Layout.format c.args.profile.now name) (version_of g.L.Layout.format) c.args.profile.now (state g.S.Store c.args.connection.now) refusal c.in_err-check_ready.ensures.few
-    (c.in_err-check_ready.ensures.texts clean) (c.in_err-check_ready.ensures.whole clean) store texts)
+    rw told (unready_hidden (StatOver g.L.Layout.format c.args.profile.now name) (HidesRegisters g.L.Layout.format c.args.profile.now name) (version_of g.L.Layout.format) c.args.profile.now (state g.S.Store c.args.connection.now) refusal c.in_err-check_texts.ensures.few
+    (c.in_err-check_texts.ensures.texts clean) (c.in_err-check_texts.ensures.whole clean) store texts)
 
 pub returns-in_err-database-clause-tables : goal.returns-in_err-database-clause-tables
 returns-in_err-database-clause-tables g c clean store texts =
     let s0 = state g.S.Store c.args.connection.now in
-    let s1 = state g.S.Store c.check_ready.new.connection in
+    let s1 = state g.S.Store c.check_texts.new.connection in
     let clean1 = clean_before s1 (state g.S.Store c.existing_database.new.connection) c.existing_database.ensures.crash clean in
     let refusal = c.in_err-database.field-0.0 in
     let told : c.from_residual-in_err-database.result ≡ Err refusal = search rules in
     let name = name_bytes c.args.name.now in
     let Hides = HidesRegisters g.L.Layout.format c.args.profile.now name in
-    rw told (hidden_after (StatOver g.L.Layout.format c.args.profile.now name) Hides s0 s1 (Err refusal) (c.check_ready.ensures.same clean1) (c.in_ok-check_ready.ensures.«open» clean1)
+    rw told (hidden_after (StatOver g.L.Layout.format c.args.profile.now name) Hides s0 s1 (Err refusal) (c.check_texts.ensures.same clean1) (c.in_ok-check_texts.ensures.«open» clean1)
     (λ there. misses_hidden (StatTells g.L.Layout.format c.args.profile.now s1.now.trees) name Hides s1.now.trees (λ hides. inl hides) refusal (c.in_err-database.ensures.misses clean there)) store)
 
 pub returns-in_err-kept-clause-tables : goal.returns-in_err-kept-clause-tables
 returns-in_err-kept-clause-tables g c clean store texts =
     let s0 = state g.S.Store c.args.connection.now in
-    let s1 = state g.S.Store c.check_ready.new.connection in
+    let s1 = state g.S.Store c.check_texts.new.connection in
     let s2 = state g.S.Store c.existing_database.new.connection in
     let clean2 : HasCleanDisk s2 = omega (arith, c.record_count.ensures.call.crash.clean) in
     let clean1 : HasCleanDisk s1 = omega (arith, clean2, c.existing_database.ensures.crash.clean) in
-    let at1 = still_shows s0 s1 s0.now.trees (c.check_ready.ensures.same clean1) (λ _. (store, refl)) in
+    let at1 = still_shows s0 s1 s0.now.trees (c.check_texts.ensures.same clean1) (λ _. (store, refl)) in
     let second = still_shows s1 s2 s0.now.trees (c.existing_database.ensures.same clean2) at1 (c.in_ok-database.ensures.found clean2).1 in
     let fault = c.in_err-kept.field-0.0 in
     let told : c.from_residual-in_err-kept.result ≡ Err (register_refusal fault) = search rules in
@@ -221,12 +221,12 @@ returns-in_err-holdings-clause-tables g c clean store texts =
     let format = g.L.Layout.format in
     let profile = c.args.profile.now in
     let s0 = state g.S.Store c.args.connection.now in
-    let s1 = state g.S.Store c.check_ready.new.connection in
+    let s1 = state g.S.Store c.check_texts.new.connection in
     let s2 = state g.S.Store c.existing_database.new.connection in
     let clean3 : HasCleanDisk (state g.S.Store c.record_count.new.conn) = omega (arith, c.holdings_of.ensures.crash.clean) in
     let clean2 : HasCleanDisk s2 = omega (arith, clean3, c.record_count.ensures.call.crash.clean) in
     let clean1 : HasCleanDisk s1 = omega (arith, clean2, c.existing_database.ensures.crash.clean) in
-    let at1 = still_shows s0 s1 s0.now.trees (c.check_ready.ensures.same clean1) (λ _. (store, refl)) in
+    let at1 = still_shows s0 s1 s0.now.trees (c.check_texts.ensures.same clean1) (λ _. (store, refl)) in
     let at2 = still_shows s1 s2 s0.now.trees (c.existing_database.ensures.same clean2) at1 in
     let first = at1 (c.in_ok-database.ensures.found clean2).0 in
     let at3 = still_shows s2 (state g.S.Store c.record_count.new.conn) s0.now.trees (c.record_count.ensures.call.same clean3 c.existing_database.ensures.idle) at2 in
@@ -244,12 +244,12 @@ pub returns-clause-tables : goal.returns-clause-tables
 returns-clause-tables g c clean store texts =
     let profile = c.args.profile.now in
     let s0 = state g.S.Store c.args.connection.now in
-    let s1 = state g.S.Store c.check_ready.new.connection in
+    let s1 = state g.S.Store c.check_texts.new.connection in
     let s2 = state g.S.Store c.existing_database.new.connection in
     let clean3 : HasCleanDisk (state g.S.Store c.record_count.new.conn) = omega (arith, c.holdings_of.ensures.crash.clean) in
     let clean2 : HasCleanDisk s2 = omega (arith, clean3, c.record_count.ensures.call.crash.clean) in
     let clean1 : HasCleanDisk s1 = omega (arith, clean2, c.existing_database.ensures.crash.clean) in
-    let at1 = still_shows s0 s1 s0.now.trees (c.check_ready.ensures.same clean1) (λ _. (store, refl)) in
+    let at1 = still_shows s0 s1 s0.now.trees (c.check_texts.ensures.same clean1) (λ _. (store, refl)) in
     let at2 = still_shows s1 s2 s0.now.trees (c.existing_database.ensures.same clean2) at1 in
     let first = at1 (c.in_ok-database.ensures.found clean2).0 in
     let at3 = still_shows s2 (state g.S.Store c.record_count.new.conn) s0.now.trees (c.record_count.ensures.call.same clean3 c.existing_database.ensures.idle) at2 in

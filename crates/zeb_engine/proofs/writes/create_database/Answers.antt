@@ -48,10 +48,10 @@ returns-in-None-clause-serves g c clean k before fits keeps =
     let old = state g.S.Store c.args.connection.now in
     let mid = state g.S.Store c.database_of.new.conn in
     let name = name_bytes c.args.name.now in
-    let first : HasCleanDisk mid = omega (arith, c.transact.ensures.survives.clean) in
+    let first : HasCleanDisk mid = omega (arith, c.transact.ensures.done.survives.clean) in
     let still = c.in_ok-found.ensures.call.ok first in
     let free = free_there k old before name c.as_str.result.now c.in_ok-found.found c.as_str.ensures c.in-None.is (fits still.0.was_open) (keeps still.0.was_open).0 (c.in_ok-found.ensures.value first) in
-    c.transact.ensures.serves clean k still.0.is_open before (λ _. free) (keeps_still before old mid (c.database_of.ensures.call.same first c.requires.idle) keeps)
+    c.transact.ensures.done.serves clean k still.0.is_open before (λ _. free) (keeps_still before old mid (c.database_of.ensures.call.same first c.requires.idle) keeps)
 
 pub returns-in-None-clause-survives : goal.returns-in-None-clause-survives
 returns-in-None-clause-survives g c =
@@ -59,11 +59,11 @@ returns-in-None-clause-survives g c =
     let mid = state g.S.Store c.database_of.new.conn in
     let new = state g.S.Store c.transact.new.connection in
     let name = name_bytes c.args.name.now in
-    survives_after old mid new _ _ c.database_of.ensures.call.crash c.transact.ensures.survives (λ clean db made k before fits keeps.
-    let first : HasCleanDisk mid = omega (arith, c.transact.ensures.survives.clean) in
+    survives_after old mid new _ _ c.database_of.ensures.call.crash c.transact.ensures.done.survives (λ clean db made k before fits keeps.
+    let first : HasCleanDisk mid = omega (arith, c.transact.ensures.done.survives.clean) in
     let still = c.in_ok-found.ensures.call.ok first in
     let free = free_there k old before name c.as_str.result.now c.in_ok-found.found c.as_str.ensures c.in-None.is (fits still.0.was_open) (keeps still.0.was_open).0 (c.in_ok-found.ensures.value first) in
-    made k still.0.is_open before (λ _. free) (keeps_still before old mid (c.database_of.ensures.call.same first c.requires.idle) keeps))
+    made.0 k still.0.is_open before (λ _. free) (keeps_still before old mid (c.database_of.ensures.call.same first c.requires.idle) keeps))
 
 -- ---- on any tables
 
@@ -83,14 +83,14 @@ pub returns-in-None-clause-tables : goal.returns-in-None-clause-tables
 returns-in-None-clause-tables g c clean store =
     let old = state g.S.Store c.args.connection.now in
     let mid = state g.S.Store c.database_of.new.conn in
-    let first : HasCleanDisk mid = omega (arith, c.transact.ensures.survives.clean) in
+    let first : HasCleanDisk mid = omega (arith, c.transact.ensures.done.survives.clean) in
     let there : IsStore mid = store_same old mid (c.in_ok-found.ensures.call.ok first).0.now_is store in
     create_free (name_bytes c.args.name.now) c.as_str.result.now c.as_str.ensures old.now.trees c.in_ok-found.found c.in-None.is (c.in_ok-found.ensures.value first store) c.transact.result
-    (c.transact.ensures.sound clean there)
+    (c.transact.ensures.done.tells clean there)
 
 pub returns-in-None-clause-makes : goal.returns-in-None-clause-makes
 returns-in-None-clause-makes g c clean =
     let old = state g.S.Store c.args.connection.now in
     let mid = state g.S.Store c.database_of.new.conn in
-    let first : HasCleanDisk mid = omega (arith, c.transact.ensures.survives.clean) in
-    made_after (name_bytes c.args.name.now) old mid (state g.S.Store c.transact.new.connection) (c.in_ok-found.ensures.call.ok first).0.now_is c.transact.result (c.transact.ensures.makes clean)
+    let first : HasCleanDisk mid = omega (arith, c.transact.ensures.done.survives.clean) in
+    made_after (name_bytes c.args.name.now) old mid (state g.S.Store c.transact.new.connection) (c.in_ok-found.ensures.call.ok first).0.now_is c.transact.result (c.transact.ensures.done.leaves clean)

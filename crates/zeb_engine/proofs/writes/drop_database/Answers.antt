@@ -30,11 +30,11 @@ returns-clause-serves g c clean k home before fits keeps =
     let old = state g.S.Store c.args.connection.now in
     let mid = state g.S.Store c.existing_database.new.connection in
     let name = name_bytes c.args.name.now in
-    let first : HasCleanDisk mid = omega (arith, c.transact.ensures.survives.clean) in
+    let first : HasCleanDisk mid = omega (arith, c.transact.ensures.done.survives.clean) in
     let opened = (c.in_ok-database.ensures.found first).0 in
     let ready = fits opened in
     let known = known_there k old mid before name c.in_ok-database.database ready (c.existing_database.ensures.same first) (c.in_ok-database.ensures.exists first opened k before ready.0 ready.1 keeps) in
-    c.transact.ensures.serves clean k known.0 before (λ _. (home, known.1)) (keeps_still before old mid (c.existing_database.ensures.same first) keeps)
+    c.transact.ensures.done.serves clean k known.0 before (λ _. (home, known.1)) (keeps_still before old mid (c.existing_database.ensures.same first) keeps)
 
 pub returns-clause-survives : goal.returns-clause-survives
 returns-clause-survives g c =
@@ -42,12 +42,12 @@ returns-clause-survives g c =
     let mid = state g.S.Store c.existing_database.new.connection in
     let new = state g.S.Store c.transact.new.connection in
     let name = name_bytes c.args.name.now in
-    survives_after old mid new _ _ c.existing_database.ensures.crash c.transact.ensures.survives (λ clean db made k home before fits keeps.
-    let first : HasCleanDisk mid = omega (arith, c.transact.ensures.survives.clean) in
+    survives_after old mid new _ _ c.existing_database.ensures.crash c.transact.ensures.done.survives (λ clean db made k home before fits keeps.
+    let first : HasCleanDisk mid = omega (arith, c.transact.ensures.done.survives.clean) in
     let opened = (c.in_ok-database.ensures.found first).0 in
     let ready = fits opened in
     let known = known_there k old mid before name c.in_ok-database.database ready (c.existing_database.ensures.same first) (c.in_ok-database.ensures.exists first opened k before ready.0 ready.1 keeps) in
-    made k known.0 before (λ _. (home, known.1)) (keeps_still before old mid (c.existing_database.ensures.same first) keeps))
+    made.0 k known.0 before (λ _. (home, known.1)) (keeps_still before old mid (c.existing_database.ensures.same first) keeps))
 
 -- ---- on any tables
 
@@ -63,16 +63,16 @@ pub returns-clause-tables : goal.returns-clause-tables
 returns-clause-tables g c clean store =
     let old = state g.S.Store c.args.connection.now in
     let mid = state g.S.Store c.existing_database.new.connection in
-    let first : HasCleanDisk mid = omega (arith, c.transact.ensures.survives.clean) in
+    let first : HasCleanDisk mid = omega (arith, c.transact.ensures.done.survives.clean) in
     let opened = c.in_ok-database.ensures.found first in
     let there : IsStore mid = store_same old mid (c.existing_database.ensures.same first opened.1).1 store in
-    drop_there (name_bytes c.args.name.now) old.now.trees c.in_ok-database.database (c.in_ok-database.ensures.row first store) c.transact.result (c.transact.ensures.sound clean there)
+    drop_there (name_bytes c.args.name.now) old.now.trees c.in_ok-database.database (c.in_ok-database.ensures.row first store) c.transact.result (c.transact.ensures.done.tells clean there)
 
 pub returns-clause-drops : goal.returns-clause-drops
 returns-clause-drops g c clean store =
     let old = state g.S.Store c.args.connection.now in
     let mid = state g.S.Store c.existing_database.new.connection in
     let found = c.in_ok-database.database in
-    let first : HasCleanDisk mid = omega (arith, c.transact.ensures.survives.clean) in
+    let first : HasCleanDisk mid = omega (arith, c.transact.ensures.done.survives.clean) in
     let still = (c.existing_database.ensures.same first (c.in_ok-database.ensures.found first).1).1 in
-    dropped_after (name_bytes c.args.name.now) old mid (state g.S.Store c.transact.new.connection) still found.id.0 (pos found.last) (c.in_ok-database.ensures.row first store) c.transact.result (c.transact.ensures.makes clean) store
+    dropped_after (name_bytes c.args.name.now) old mid (state g.S.Store c.transact.new.connection) still found.id.0 (pos found.last) (c.in_ok-database.ensures.row first store) c.transact.result (c.transact.ensures.done.leaves clean) store

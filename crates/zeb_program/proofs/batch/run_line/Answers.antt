@@ -7,7 +7,6 @@ use Rattle.std.specs.Io.KnownBytes.{Appends}
 use Rattle.zeb_program.specs.Answers.{bad_line, mark_line}
 use Rattle.zeb_program.specs.Says.{SaysText}
 use Rattle.zeb_program.specs.declared.lines.Line.TheVariants.{Remark, Command as Order, Path, Mark, Bad}
-use Rattle.zeb_program.specs.PathChanges.{IsLineTold}
 use Rattle.zeb_program.proofs.AnswerLemmas.{Appends-nil}
 use Rattle.zeb_program.proofs.OverLemmas.{said_over, still}
 use Rattle.zeb_program.proofs.PathLemmas.{path_line}
@@ -19,7 +18,7 @@ pub returns-in-Remark-clause-answer : goal.returns-in-Remark-clause-answer
 returns-in-Remark-clause-answer g c =
     let k = conditions (version_of g.L.Layout.format) c.args.session.now.profile c.args.session.now.limits in
     let old = state g.S.Store c.args.session.now.connection in
-    λ _ _ _. remark_line (g.P.Paths.tells c.args.paths.now) k c.args.number c.args.line.now old (g.W.Write.contents c.args.output.now.writer) (inl (c.utf8.line, subst (SaysText c.args.line.now) c.in-Remark.is c.in_ok-read.ensures))
+    λ _ _. remark_line (g.P.Paths.tells c.args.paths.now) k c.args.number c.args.line.now old (g.W.Write.contents c.args.output.now.writer) (inl (c.utf8.line, subst (SaysText c.args.line.now) c.in-Remark.is c.in_ok-read.ensures))
 
 pub returns-in-Command-clause-answer : goal.returns-in-Command-clause-answer
 returns-in-Command-clause-answer g c =
@@ -27,7 +26,7 @@ returns-in-Command-clause-answer g c =
     let old = state g.S.Store c.args.session.now.connection in
     let new = state g.S.Store c.run_command.new.session.connection in
     ordered_line (g.P.Paths.tells c.args.paths.now) k c.in-Command.command c.args.number c.args.line.now old new (g.W.Write.contents c.args.output.now.writer) (g.W.Write.contents c.run_command.new.output.writer)
-    c.run_command.new.output.failed (HasCleanDisk new) (IsLineTold (g.P.Paths.tells c.args.paths.now) c.args.line.now) c.run_command.result (inl (c.utf8.line, subst (SaysText c.args.line.now) c.in-Command.is c.in_ok-read.ensures)) c.run_command.ensures.answer
+    c.run_command.new.output.failed (HasCleanDisk new) _ c.run_command.result (inl (c.utf8.line, subst (SaysText c.args.line.now) c.in-Command.is c.in_ok-read.ensures)) c.run_command.ensures.answer c.run_command.ensures.over
 
 pub returns-in-Path-clause-answer : goal.returns-in-Path-clause-answer
 returns-in-Path-clause-answer g c =
@@ -35,13 +34,13 @@ returns-in-Path-clause-answer g c =
     let old = state g.S.Store c.args.session.now.connection in
     let new = state g.S.Store c.run_path_change.new.session.connection in
     path_line (g.P.Paths.tells c.args.paths.now) k c.in-Path.change c.args.number c.args.line.now old new (g.W.Write.contents c.args.output.now.writer) (g.W.Write.contents c.run_path_change.new.output.writer)
-    c.run_path_change.new.output.failed (HasCleanDisk new) c.run_path_change.result c.utf8.line (subst (SaysText c.args.line.now) c.in-Path.is c.in_ok-read.ensures) c.run_path_change.ensures.answer
+    c.run_path_change.new.output.failed (HasCleanDisk new) _ c.run_path_change.result c.utf8.line (subst (SaysText c.args.line.now) c.in-Path.is c.in_ok-read.ensures) c.run_path_change.ensures.answer c.run_path_change.ensures.over
 
 pub returns-in-Bad-clause-answer : goal.returns-in-Bad-clause-answer
 returns-in-Bad-clause-answer g c =
     let k = conditions (version_of g.L.Layout.format) c.args.session.now.profile c.args.session.now.limits in
     let old = state g.S.Store c.args.session.now.connection in
-    λ sound _ _. bad_line_answer (g.P.Paths.tells c.args.paths.now) k c.args.number c.args.line.now old (g.W.Write.contents c.args.output.now.writer) (g.W.Write.contents c.refuse_line.new.output.writer)
+    λ sound _. bad_line_answer (g.P.Paths.tells c.args.paths.now) k c.args.number c.args.line.now old (g.W.Write.contents c.args.output.now.writer) (g.W.Write.contents c.refuse_line.new.output.writer)
     c.refuse_line.result (inl (c.utf8.line, subst (SaysText c.args.line.now) c.in-Bad.is c.in_ok-read.ensures)) c.refuse_line.ensures.status (c.refuse_line.ensures.line sound)
 
 pub returns-in-Remark-clause-over : goal.returns-in-Remark-clause-over
@@ -70,7 +69,7 @@ pub returns-in-Mark-clause-answer : goal.returns-in-Mark-clause-answer
 returns-in-Mark-clause-answer g c =
     let k = conditions (version_of g.L.Layout.format) c.args.session.now.profile c.args.session.now.limits in
     let old = state g.S.Store c.args.session.now.connection in
-    λ sound _ _. mark_answer (g.P.Paths.tells c.args.paths.now) k c.args.number c.args.line.now old (g.W.Write.contents c.args.output.now.writer) (g.W.Write.contents c.write_mark.new.output.writer)
+    λ sound _. mark_answer (g.P.Paths.tells c.args.paths.now) k c.args.number c.args.line.now old (g.W.Write.contents c.args.output.now.writer) (g.W.Write.contents c.write_mark.new.output.writer)
     c.in-Mark.text c.write_mark.result (inl (c.utf8.line, subst (SaysText c.args.line.now) c.in-Mark.is c.in_ok-read.ensures)) c.write_mark.ensures.status (subst (λ t. Appends (g.W.Write.contents c.args.output.now.writer) (g.W.Write.contents c.write_mark.new.output.writer) (mark_line t)) c.as_str.ensures.value (c.write_mark.ensures.line sound))
 
 pub returns-in-Mark-clause-over : goal.returns-in-Mark-clause-over

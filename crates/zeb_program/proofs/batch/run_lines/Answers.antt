@@ -3,12 +3,10 @@ use Rattle.std.specs.Str.{IsUtf8}
 use Rattle.sqlite.specs.Held.{state}
 use Rattle.sqlite.specs.State.{HasCleanDisk}
 use Rattle.zeb_change.specs.Conditions.{conditions}
-use Rattle.zeb_program.specs.Answers.{AnswersLine, Writes}
-use Rattle.zeb_program.specs.PrivateOverTables.{LineOver}
-use Rattle.zeb_program.specs.PrivateServing.{Leads}
-use Rattle.zeb_program.specs.PathChanges.{AreFilesTold, IsLineTold}
+use Rattle.zeb_program.specs.Answers.{AnswersAsTold, Writes}
+use Rattle.zeb_program.specs.OverTables.{LineOver}
+use Rattle.zeb_program.specs.Serving.{LeadsOn}
 use Rattle.zeb_program.proofs.AnswerLemmas.{answered_all, answered_line, answered_start}
-use Rattle.zeb_program.proofs.PathLemmas.{told_first, told_rest}
 use Rattle.zeb_program.proofs.ServingLemmas.{reaches_start, reaches_line, reaches_end, reaches_failure}
 use Rattle.zeb_program.proofs.ScriptLemmas.{after_first_line-IsUtf8, not_empty, is_empty, length-after_first_line}
 use Rattle.zeb_program.proofs.batch.run_lines.Goals as goal
@@ -25,9 +23,8 @@ loop-rest-init g c =
       sound = λ sound. sound;
       under = (refl, refl);
       clean = λ clean. clean;
-      told = λ known. known;
       over = λ sound clean. answered_start (LineOver g.S.Store (g.P.Paths.tells c.args.paths.now) g.L.Layout.format (conditions (version_of g.L.Layout.format) c.args.session.now.profile c.args.session.now.limits)) (g.W.Write.contents c.args.output.now.writer) c.args.batch.lines_before c.args.batch.text.now c.args.session.now.connection;
-      answers = λ sound clean known. reaches_start (g.P.Paths.tells c.args.paths.now) k old (g.W.Write.contents c.args.output.now.writer) c.args.batch.lines_before c.args.batch.text.now;
+      answers = λ sound clean. reaches_start (g.P.Paths.tells c.args.paths.now) k old (g.W.Write.contents c.args.output.now.writer) c.args.batch.lines_before c.args.batch.text.now;
     }
 
 pub loop-rest-preserved : goal.loop-rest-preserved
@@ -48,26 +45,24 @@ loop-rest-preserved g c =
       sound = λ sound. c.loop-rest.invariant.sound (c.run_line.ensures.sound sound);
       under = (c.run_line.ensures.under.0 ∙ same.0, c.run_line.ensures.under.1 ∙ same.1);
       clean = λ clean. c.loop-rest.invariant.clean (c.run_line.ensures.clean clean);
-      told = λ known. subst (AreFilesTold tells) (sym c.cut_line.ensures.rest) (told_rest tells rest (c.loop-rest.invariant.told known));
       over = λ sound clean.
           let was = c.loop-rest.invariant.over (c.run_line.ensures.sound sound) (c.run_line.ensures.clean clean) in
           let step = subst₂ (λ p l. Writes (g.W.Write.contents c.loop-rest.output.writer) (g.W.Write.contents c.run_line.new.output.writer)
           (λ bytes. LineOver g.S.Store tells g.L.Layout.format (conditions (version_of g.L.Layout.format) p l) (number + 1) line c.loop-rest.session.connection bytes c.in_ok-run_line.field-0 c.run_line.new.session.connection)) same.0 same.1 (c.in_ok-run_line.ensures.over sound clean) in
           answered_line (LineOver g.S.Store tells g.L.Layout.format k) _ _ _ _ _ _ number rest line c.cut_line.result.1.now c.loop-rest.greatest c.in_ok-run_line.field-0 c.max-greatest.result
           c.loop-rest.session.connection c.run_line.new.session.connection some c.cut_line.ensures.line c.cut_line.ensures.rest (c.max-greatest.ensures ∙ max_greater c.loop-rest.greatest c.in_ok-run_line.field-0) was step;
-      answers = λ sound clean known.
-          let was = c.loop-rest.invariant.answers (c.run_line.ensures.sound sound) (c.run_line.ensures.clean clean) known in
-          let here = subst (IsLineTold tells) (sym c.cut_line.ensures.line) (told_first tells rest (c.loop-rest.invariant.told known)) in
-          let step = subst₂ (λ p l. Leads now next (g.W.Write.contents c.loop-rest.output.writer) (g.W.Write.contents c.run_line.new.output.writer)
-          (λ held bytes then. AnswersLine tells (conditions (version_of g.L.Layout.format) p l) (number + 1) line held bytes c.in_ok-run_line.field-0 then)) same.0 same.1 (c.in_ok-run_line.ensures.answer sound clean here) in
+      answers = λ sound clean.
+          let was = c.loop-rest.invariant.answers (c.run_line.ensures.sound sound) (c.run_line.ensures.clean clean) in
+          let step = subst₂ (λ p l. LeadsOn now next (g.W.Write.contents c.loop-rest.output.writer) (g.W.Write.contents c.run_line.new.output.writer)
+          (λ held bytes then. AnswersAsTold tells (conditions (version_of g.L.Layout.format) p l) (number + 1) line held bytes c.in_ok-run_line.field-0 then)) same.0 same.1 (c.in_ok-run_line.ensures.answer sound clean) in
           reaches_line tells k old now next _ _ _ _ _ number rest line c.cut_line.result.1.now c.loop-rest.greatest c.in_ok-run_line.field-0 c.max-greatest.result some
           c.cut_line.ensures.line c.cut_line.ensures.rest (c.max-greatest.ensures ∙ max_greater c.loop-rest.greatest c.in_ok-run_line.field-0) was step;
     }
 
 pub returns-clause-answer : goal.returns-clause-answer
-returns-clause-answer g c = λ sound clean known.
+returns-clause-answer g c = λ sound clean.
     let k = conditions (version_of g.L.Layout.format) c.args.session.now.profile c.args.session.now.limits in
-    reaches_end (g.P.Paths.tells c.args.paths.now) k (state g.S.Store c.args.session.now.connection) (state g.S.Store c.loop-rest.session.connection) _ _ _ _ c.loop-rest.number c.loop-rest.rest.now _ (is_empty c.loop-rest.rest.now c.loop-rest-test.ensures) (c.loop-rest.invariant.answers sound clean known)
+    reaches_end (g.P.Paths.tells c.args.paths.now) k (state g.S.Store c.args.session.now.connection) (state g.S.Store c.loop-rest.session.connection) _ _ _ _ c.loop-rest.number c.loop-rest.rest.now _ (is_empty c.loop-rest.rest.now c.loop-rest-test.ensures) (c.loop-rest.invariant.answers sound clean)
 
 pub returns-clause-over : goal.returns-clause-over
 returns-clause-over g c = λ sound clean.
@@ -82,4 +77,4 @@ returns-in_err-run_line-clause-stopped g c =
     let clean = HasCleanDisk (state g.S.Store c.run_line.new.session.connection) in
     rw c.in_err-run_line.ensures.stopped
     (reaches_failure (g.P.Paths.tells c.args.paths.now) k old now (g.W.Write.contents c.args.output.now.writer) (g.W.Write.contents c.loop-rest.output.writer) c.args.batch.lines_before c.args.batch.text.now c.loop-rest.number rest c.loop-rest.greatest
-    c.from_residual.result c.loop-rest.output.failed clean (AreFilesTold (g.P.Paths.tells c.args.paths.now) c.args.batch.text.now) (not_empty rest c.loop-rest-test.ensures) (λ sound clean known. c.loop-rest.invariant.answers sound (c.run_line.ensures.clean clean) known))
+    c.from_residual.result c.loop-rest.output.failed clean (not_empty rest c.loop-rest-test.ensures) (λ sound clean. c.loop-rest.invariant.answers sound (c.run_line.ensures.clean clean)))

@@ -2,8 +2,7 @@ use Rattle.std.proofs.Common.{◌≡◌, ◌+◌, ◌<◌, ◌^◌, false, lengt
 use Rattle.sqlite.specs.Held.{state}
 use Rattle.sqlite.specs.State.{HasCleanDisk}
 use Rattle.zeb_change.specs.Conditions.{conditions}
-use Rattle.zeb_program.specs.PathChanges.{AreFilesTold}
-use Rattle.zeb_program.specs.PrivateOverTables.{LineOver}
+use Rattle.zeb_program.specs.OverTables.{LineOver}
 use Rattle.zeb_program.proofs.AnswerLemmas.{IsAnswered}
 use Rattle.zeb_program.proofs.ServingLemmas.{Reaches}
 use denote.Text.{Utf8}
@@ -11,7 +10,7 @@ use denote.Shadow.{shadow}
 use Rattle.zeb_program.proofs.batch.run_lines.Given as goal
 use Rattle.zeb_register.specs.Formats.{version_of}
 
--- Each line takes a byte at least, so their numbers fit. What was written answers the lines so far, where the files that lines name are told.
+-- Each line takes a byte at least, so their numbers fit. What was written answers the lines so far.
 abbrev pub invariant-loop-rest : goal.invariant-loop-rest
 invariant-loop-rest g l =
     let before = l.initial.session in
@@ -21,11 +20,10 @@ invariant-loop-rest g l =
       sound : l.output.failed ≡ false → l.initial.output.failed ≡ false;
       under : (l.session.profile ≡ before.profile) × (l.session.limits ≡ before.limits);
       clean : HasCleanDisk (state g.S.Store l.session.connection) → HasCleanDisk (state g.S.Store before.connection);
-      told : AreFilesTold (g.P.Paths.tells l.paths) l.batch.text.now → AreFilesTold (g.P.Paths.tells l.paths) l.rest;
       over : l.output.failed ≡ false → HasCleanDisk (state g.S.Store l.session.connection)
           → IsAnswered (LineOver g.S.Store (g.P.Paths.tells l.paths) g.L.Layout.format (conditions (version_of g.L.Layout.format) before.profile before.limits))
           (g.W.Write.contents l.initial.output.writer) (g.W.Write.contents l.output.writer) l.batch.lines_before l.batch.text.now before.connection l.number l.rest l.greatest l.session.connection;
-      answers : l.output.failed ≡ false → HasCleanDisk (state g.S.Store l.session.connection) → AreFilesTold (g.P.Paths.tells l.paths) l.batch.text.now
+      answers : l.output.failed ≡ false → HasCleanDisk (state g.S.Store l.session.connection)
           → Reaches (g.P.Paths.tells l.paths) (conditions (version_of g.L.Layout.format) before.profile before.limits) (state g.S.Store before.connection) (state g.S.Store l.session.connection)
           (g.W.Write.contents l.initial.output.writer) (g.W.Write.contents l.output.writer) l.batch.lines_before l.batch.text.now l.number l.rest l.greatest;
     }

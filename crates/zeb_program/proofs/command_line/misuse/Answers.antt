@@ -1,7 +1,7 @@
 use Rattle.std.proofs.Common.{subst}
 use Rattle.std.proofs.KnownBytes.{Appends-trans}
 use Rattle.std.specs.Io.KnownBytes.{Appends}
-use Rattle.zeb_program.specs.ScriptAnswers.{usage_line}
+use Rattle.zeb_program.specs.FixedLines.{usage_line}
 use Rattle.zeb_program.proofs.command_line.misuse.Goals as goal
 
 pub returns-clause-line : goal.returns-clause-line

@@ -52,3 +52,12 @@ returns-in-Shell-clause-answer g c =
 pub returns-in-Shell-clause-stopped : goal.returns-in-Shell-clause-stopped
 returns-in-Shell-clause-stopped g c =
     stopped_shell_words (places g.P.Store.Store (g.P.Paths.tells c.args.paths.now) (g.P.Paths.opens c.args.paths.now) (g.P.Paths.lacks c.args.paths.now)) (map string_bytes c.args.words.now) _ _ _ _ _ _ c.in-Ok.words _ _ c.run_shell.result c.in-Ok.ensures.named c.in-Shell.ensures c.run_shell.ensures.stopped
+
+pub returns-in-Task-clause-untouched : goal.returns-in-Task-clause-untouched
+returns-in-Task-clause-untouched g c = λ none. absurd (none c.in-Ok.words c.in-Ok.ensures.named)
+
+pub returns-in-Batch-clause-untouched : goal.returns-in-Batch-clause-untouched
+returns-in-Batch-clause-untouched g c = λ none. absurd (none c.in-Ok.words c.in-Ok.ensures.named)
+
+pub returns-in-Shell-clause-untouched : goal.returns-in-Shell-clause-untouched
+returns-in-Shell-clause-untouched g c = λ none. absurd (none c.in-Ok.words c.in-Ok.ensures.named)

@@ -10,8 +10,8 @@ pub returns-then-not-has_store-clause-answer : goal.returns-then-not-has_store-c
 returns-then-not-has_store-clause-answer g c = λ first.
     let lacking : c.has_store.result ≡ false = search rules in
     let unmade : c.begins.result ≡ false = search rules in
-    run_none (places g.P.Store.Store (g.P.Paths.tells c.args.paths.now) (g.P.Paths.opens c.args.paths.now) (g.P.Paths.lacks c.args.paths.now)) c.args.profile c.args.batch.text.now c.args.batch.lines_before _ _ _ _ _ c.run_in_memory.result first
-    (c.store_path.result.now, c.store_path.ensures, c.has_store.ensures lacking) (c.begins.ensures unmade) c.run_in_memory.ensures.answer
+    run_none (places g.P.Store.Store (g.P.Paths.tells c.args.paths.now) (g.P.Paths.opens c.args.paths.now) (g.P.Paths.lacks c.args.paths.now)) c.args.profile c.args.batch.text.now c.args.batch.lines_before _ _ _ _ _ _ c.run_on_nothing.result first
+    (c.store_path.result.now, c.store_path.ensures, c.has_store.ensures lacking) (c.begins.ensures unmade) c.run_on_nothing.ensures.answer
 
 pub returns-in-Ok-clause-answer : goal.returns-in-Ok-clause-answer
 returns-in-Ok-clause-answer g c = λ first.
@@ -27,8 +27,8 @@ pub returns-then-not-has_store-clause-stopped : goal.returns-then-not-has_store-
 returns-then-not-has_store-clause-stopped g c = λ first.
     let lacking : c.has_store.result ≡ false = search rules in
     let unmade : c.begins.result ≡ false = search rules in
-    stop_none (places g.P.Store.Store (g.P.Paths.tells c.args.paths.now) (g.P.Paths.opens c.args.paths.now) (g.P.Paths.lacks c.args.paths.now)) c.args.profile c.args.batch.text.now c.args.batch.lines_before _ _ _ _ _ c.run_in_memory.result first
-    (c.store_path.result.now, c.store_path.ensures, c.has_store.ensures lacking) (c.begins.ensures unmade) c.run_in_memory.ensures.stopped
+    stop_none (places g.P.Store.Store (g.P.Paths.tells c.args.paths.now) (g.P.Paths.opens c.args.paths.now) (g.P.Paths.lacks c.args.paths.now)) c.args.profile c.args.batch.text.now c.args.batch.lines_before _ _ (λ sink. g.V.Write.contents sink.writer) c.args.fault_output.now c.run_on_nothing.new.fault_output _ _ c.run_on_nothing.result first
+    (c.store_path.result.now, c.store_path.ensures, c.has_store.ensures lacking) (c.begins.ensures unmade) c.run_on_nothing.ensures.silent c.run_on_nothing.ensures.stopped
 
 pub returns-in-Ok-clause-stopped : goal.returns-in-Ok-clause-stopped
 returns-in-Ok-clause-stopped g c = λ first.

@@ -2,7 +2,7 @@ use Rattle.std.proofs.Common.{Err, Ok, Some, ap, map, rules, string_bytes, subst
 use Rattle.std.specs.Prelude.{IfErr}
 use Rattle.std.specs.Prelude.{◌⊎◌}
 use Rattle.zeb_program.specs.PrivateFaults.{IsUnread, fault_of}
-use Rattle.zeb_program.specs.PrivateFiles.{AreShort}
+use Rattle.zeb_program.specs.Inputs.{AreShort}
 use Rattle.zeb_program.specs.declared.faults.Fault.TheVariants.{Memory}
 use Rattle.zeb_program.proofs.FileLemmas.{content_told}
 use Rattle.zeb_paths.specs.Walks.{GivesUnder, paths_left}

@@ -1,7 +1,7 @@
 use Rattle.std.proofs.Common.{◌≡◌, List, ℕ, Some, map, string_bytes}
 use Rattle.zeb_paths.specs.Walks.{AreUnder, paths_left, walk_weight}
 use Rattle.zeb_program.specs.TaskAnswers.{AreTold}
-use Rattle.zeb_program.specs.PrivateFiles.{AreShort}
+use Rattle.zeb_program.specs.Inputs.{AreShort}
 use Rattle.zeb_program.proofs.ReaderLemmas.{IsMet}
 use Rattle.zeb_program.proofs.files.contents_of.Given as goal
 

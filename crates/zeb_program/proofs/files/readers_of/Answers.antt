@@ -1,9 +1,9 @@
 use Rattle.std.proofs.Common.{Err, Ok, ap, map, rules, string_bytes, subst, ◌∙◌, ◌≡◌}
 use Rattle.std.specs.Prelude.{IfErr}
 use Rattle.zeb_program.specs.PrivateFaults.{IsUnread, fault_of}
-use Rattle.zeb_paths.specs.Walks.{paths_left}
+use Rattle.zeb_paths.specs.Walks.{IsFaultUntold, paths_left}
 use Rattle.zeb_program.specs.PrivateFiles.{sure_bytes}
-use Rattle.zeb_program.proofs.ReaderLemmas.{under_faults, under_start, GivesNext, Ends, met_start, met_fault, met_end, met_next, sure_of}
+use Rattle.zeb_program.proofs.ReaderLemmas.{untold_faults, under_faults, under_start, GivesNext, Ends, met_start, met_fault, met_end, met_next, sure_of}
 use Rattle.zeb_program.proofs.files.readers_of.Goals as goal
 
 pub loop-walk-init : goal.loop-walk-init
@@ -52,3 +52,9 @@ returns-in_err-path-clause-under g c =
     let why = c.in_err-path.field-0.0 in
     let from : IfErr c.from_residual-in_err-path.result (λ given. IsUnread given × (given ≡ fault_of why)) = search rules in
     under_faults (map string_bytes c.args.named.now) why c.from_residual-in_err-path.result from (c.in_err-path.ensures.under (map string_bytes c.args.named.now) c.loop-walk.invariant.under).0
+
+pub returns-in_err-path-clause-untold : goal.returns-in_err-path-clause-untold
+returns-in_err-path-clause-untold g c =
+    let why = c.in_err-path.field-0.0 in
+    let from : IfErr c.from_residual-in_err-path.result (λ given. IsUnread given × (given ≡ fault_of why)) = search rules in
+    untold_faults (g.P.Paths.tells c.args.paths.now) why c.from_residual-in_err-path.result from (subst (λ p. IsFaultUntold (g.P.Paths.tells p) why) c.loop-walk.invariant.paths c.in_err-path.ensures.untold)

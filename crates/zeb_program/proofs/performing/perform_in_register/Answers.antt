@@ -21,4 +21,4 @@ returns-clause-serves g c =
     let own = replied c.carry_out-served.result in
     gives_for c.told_of.result (λ answer. IsOwnOr answer own) (ServesUnder (places g.P.Store.Store (g.P.Paths.tells c.args.paths.now) (g.P.Paths.opens c.args.paths.now) (g.P.Paths.lacks c.args.paths.now)) c.args.profile c.args.task.now)
     (λ answer. answered_kept (places g.P.Store.Store (g.P.Paths.tells c.args.paths.now) (g.P.Paths.opens c.args.paths.now) (g.P.Paths.lacks c.args.paths.now)) c.args.profile c.args.task.now (g.P.Paths.tells c.open_register.new.paths) (conditions (version_of packed_blocks) session.profile session.limits) session.connection c.carry_out-served.new.session.connection own answer
-    c.open_register.ensures.told c.in_ok-session.ensures.under c.in_ok-session.ensures.opened c.carry_out-served.ensures.clean c.carry_out-served.ensures.answer (replied_under _ c.carry_out-served.result c.carry_out-served.ensures.names)) c.told_of.ensures.gives
+    c.open_register.ensures.told c.in_ok-session.ensures.under c.in_ok-session.ensures.opened c.carry_out-served.ensures.clean c.carry_out-served.ensures.over c.carry_out-served.ensures.answer (replied_under _ c.carry_out-served.result c.carry_out-served.ensures.names)) c.told_of.ensures.gives

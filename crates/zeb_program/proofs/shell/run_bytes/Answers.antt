@@ -4,7 +4,7 @@ use Rattle.sqlite.specs.State.{HasCleanDisk}
 use Rattle.zeb_change.specs.Conditions.{conditions}
 use Rattle.zeb_register.specs.Formats.{version_of}
 use Rattle.zeb_program.specs.Lines.{first_line}
-use Rattle.zeb_program.specs.PrivateOverTables.{LineOver}
+use Rattle.zeb_program.specs.OverTables.{LineOver}
 use Rattle.zeb_program.proofs.ShellLemmas.{no_text_answer, text_answer}
 use Rattle.zeb_program.proofs.ShellOverLemmas.{no_text_over, text_over}
 use Rattle.zeb_program.proofs.shell.run_bytes.Goals as goal

@@ -1,7 +1,7 @@
 use Rattle.sqlite.specs.Held.{state}
 use Rattle.zeb_change.specs.Conditions.{conditions}
 use Rattle.zeb_register.specs.Formats.{version_of}
-use Rattle.zeb_program.specs.PrivateOverTables.{LineOver}
+use Rattle.zeb_program.specs.OverTables.{LineOver}
 use Rattle.zeb_program.proofs.ShellLemmas.{next_answer}
 use Rattle.zeb_program.proofs.ShellOverLemmas.{next_over}
 use Rattle.zeb_program.proofs.shell.run_next_line.Goals as goal

@@ -7,7 +7,7 @@ use Rattle.zeb_change.specs.Conditions.{conditions}
 use Rattle.zeb_register.specs.Formats.{version_of}
 use Rattle.zeb_program.specs.Answers.{Writes}
 use Rattle.zeb_program.specs.Lines.{first_line}
-use Rattle.zeb_program.specs.PrivateOverTables.{LineOver}
+use Rattle.zeb_program.specs.OverTables.{LineOver}
 use Rattle.zeb_program.proofs.ShellOverLemmas.{goes_start, goes_found, goes_end, over_failure, over_stop}
 use Rattle.zeb_program.proofs.ShellLemmas.{AnswersNext, serves_start, serves_found, serves_end, serves_failure, serves_stop, found_none}
 use Rattle.zeb_program.proofs.shell.run_shell_lines.Goals as goal

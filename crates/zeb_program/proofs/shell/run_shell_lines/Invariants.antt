@@ -3,7 +3,7 @@ use Rattle.sqlite.specs.Held.{state}
 use Rattle.sqlite.specs.State.{HasCleanDisk}
 use Rattle.zeb_change.specs.Conditions.{conditions}
 use Rattle.zeb_register.specs.Formats.{version_of}
-use Rattle.zeb_program.specs.PrivateOverTables.{LineOver}
+use Rattle.zeb_program.specs.OverTables.{LineOver}
 use Rattle.zeb_program.proofs.ShellLemmas.{Serves}
 use Rattle.zeb_program.proofs.ShellOverLemmas.{Goes}
 use Rattle.zeb_program.proofs.shell.run_shell_lines.Given as goal

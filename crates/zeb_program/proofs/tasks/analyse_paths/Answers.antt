@@ -3,10 +3,11 @@ use Rattle.sqlite.specs.Held.{state}
 use Rattle.zeb_change.specs.Conditions.{conditions}
 use Rattle.zeb_register.specs.Formats.{version_of}
 use Rattle.zeb_program.specs.FaultAnswers.{IsUnreadable}
-use Rattle.zeb_program.specs.PrivateServing.{AnswersFrom, replied}
+use Rattle.zeb_program.specs.PrivateServing.{replied}
+use Rattle.zeb_program.specs.Serving.{AnswersFrom}
 use Rattle.zeb_program.specs.TaskAnswers.{AnalysesFiles}
 use Rattle.zeb_program.specs.declared.faults.Fault.TheVariants.{Memory}
-use Rattle.zeb_program.specs.PrivateOverTables.{AnalysesOver}
+use Rattle.zeb_program.specs.OverTables.{AnalysesOver}
 use Rattle.zeb_program.proofs.OverLemmas.{analysed_over, unanalysed_over}
 use Rattle.zeb_program.proofs.TaskLemmas.{analysed_files, read_under, served_under, unread_files}
 use Rattle.zeb_program.proofs.tasks.analyse_paths.Goals as goal

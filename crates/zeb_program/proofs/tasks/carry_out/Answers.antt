@@ -2,9 +2,10 @@ use Rattle.std.proofs.Common.{ap, subst, sym}
 use Rattle.sqlite.specs.Held.{state}
 use Rattle.zeb_change.specs.Conditions.{conditions}
 use Rattle.zeb_register.specs.Formats.{version_of}
-use Rattle.zeb_program.specs.PrivateOverTables.{TaskOver}
+use Rattle.zeb_program.specs.OverTables.{TaskOver}
 use Rattle.sqlite.specs.State.{HasCleanDisk}
-use Rattle.zeb_program.specs.PrivateServing.{ServesTask, replied}
+use Rattle.zeb_program.specs.PrivateServing.{replied}
+use Rattle.zeb_program.specs.Serving.{ServesTask}
 use Rattle.zeb_program.specs.TaskAnswers.{paths_of}
 use Rattle.zeb_program.proofs.OverLemmas.{analysed_task_over, asked_task_over, changed_task_over}
 use Rattle.zeb_program.proofs.TaskLemmas.{analysed_task, analysis_under, asked_task, change_under, changed_task, read_under, served_under}

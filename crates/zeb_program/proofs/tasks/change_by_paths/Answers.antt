@@ -4,8 +4,8 @@ use Rattle.zeb_change.specs.Conditions.{conditions}
 use Rattle.zeb_image.specs.NameOf.{name_bytes}
 use Rattle.zeb_register.specs.Formats.{version_of}
 use Rattle.zeb_program.specs.PrivateFiles.{sure_bytes}
-use Rattle.zeb_program.specs.PrivateOverTables.{PathsLeave}
-use Rattle.zeb_program.proofs.OverLemmas.{changed_leaves, changed_over, still, unread_leaves}
+use Rattle.zeb_program.specs.OverTables.{PathsLeave, PathsOver}
+use Rattle.zeb_program.proofs.OverLemmas.{changed_leaves, changed_over, still, unread_leaves, unread_over}
 use Rattle.zeb_program.proofs.ReaderLemmas.{sure_files}
 use Rattle.zeb_program.proofs.tasks.change_by_paths.Goals as goal
 
@@ -57,3 +57,17 @@ returns-clause-over g c = λ clean.
     (λ files known. sure_files g.P.Reader.Source.remaining g.P.Reader.Source.may_fail g.P.Reader.Source.has_failed c.deref_mut.result.now c.update_from.new.readers files
     (ap (map (sure_bytes g.P.Reader.Source.remaining g.P.Reader.Source.may_fail g.P.Reader.Source.has_failed)) c.deref_mut.ensures.value ∙ c.in_ok-readers.ensures.told files known) c.in-Err.ensures.faults.able)
     (c.in-Err.ensures.tables clean).ready (c.in-Err.ensures.tables clean).told (c.in-Err.ensures.tables clean).honest
+
+pub returns-in_err-readers-clause-over : goal.returns-in_err-readers-clause-over
+returns-in_err-readers-clause-over g c = λ clean.
+    let told = g.P.Paths.tells c.args.paths.now in
+    let format = g.L.Layout.format in
+    let profile = c.args.session.now.profile in
+    let limits = c.args.session.now.limits in
+    let name = name_bytes c.args.database.now in
+    let held = state g.S.Store c.args.session.now.connection in
+    let paths = map string_bytes c.args.named.now in
+    let why = c.in_err-readers.field-0.0 in
+    let is : c.from_residual.result ≡ Err why = search rules in
+    subst (PathsOver told format profile c.args.kind limits name paths held) (sym is)
+    (unread_over told format profile c.args.kind limits name paths held why c.in_err-readers.ensures.unread c.in_err-readers.ensures.untold c.in_err-readers.ensures.memory)

@@ -3,6 +3,7 @@ use Rattle.zeb_register.specs.Content.{posted}
 use Rattle.zeb_search.specs.ByAttributes.{occurs_in}
 use Rattle.zeb_search.specs.Registers.{is_kept_in}
 use Rattle.zeb_search.proofs.AttributeRows.{has_row, held_by, held_by_query}
+use Rattle.zeb_search.proofs.KeptValues.{kept_by_query}
 use Rattle.zeb_search.proofs.laws.a_term_holds_by_its_attributes.Goals as goal
 
 pub returns-clause-query : goal.returns-clause-query
@@ -13,3 +14,6 @@ returns-clause-tables c = λ trees content db. held_by (posted content db) (is_k
 
 pub returns-clause-rows : goal.returns-clause-rows
 returns-clause-rows c = has_row
+
+pub returns-clause-kept : goal.returns-clause-kept
+returns-clause-kept c = kept_by_query

@@ -3,28 +3,20 @@ use Rattle.zeb_engine.proofs.CommitCrashes.{endures, survives_as}
 use Rattle.zeb_engine.proofs.session.Session.update_from.Goals as goal
 
 pub returns-clause-step : goal.returns-clause-step
-returns-clause-step g c clean texts told fine = c.change_from-answer.ensures.serves clean texts told fine
+returns-clause-step g c clean = c.change_from-answer.ensures.done.step clean
 
 pub returns-clause-tables : goal.returns-clause-tables
-returns-clause-tables g c clean =
-    let did = c.change_from-answer.ensures in
-    record {
-      ready = did.ready clean;
-      told = did.elder clean;
-      leaves = did.loses clean;
-      loses = did.named clean;
-      honest = λ is before keeps. did.honest clean before keeps is;
-    }
+returns-clause-tables g c clean = c.change_from-answer.ensures.done.does clean
 
 pub returns-clause-faults : goal.returns-clause-faults
-returns-clause-faults g c = record { sound = c.change_from-answer.ensures.sound; fault = c.change_from-answer.ensures.fault; able = c.change_from-answer.ensures.able }
+returns-clause-faults g c = c.change_from-answer.ensures.done.faults
 
 pub returns-clause-holds : goal.returns-clause-holds
 returns-clause-holds g c =
     let end = c.change_from-answer.new.self.connection in
     let idle : IsTrue c.is_autocommit-settled.result = search rules in (
       record {
-        call = c.change_from-answer.ensures.call;
+        call = c.change_from-answer.ensures.done.call;
         durable = λ clean is_open db left. g.met.S.Store.settled end.store db is_open left ∙ ap (λ (d : Database). d.trees) (sym (c.is_autocommit-settled.ensures.settled idle is_open));
       },
       c.change_from-answer.ensures.under,
@@ -36,7 +28,7 @@ returns-clause-lasts g c =
     let old = state g.S.Store c.args.self.now.connection in
     let end = c.change_from-answer.new.self.connection in
     let idle : IsTrue c.is_autocommit-settled.result = search rules in
-    let did = c.change_from-answer.ensures in
+    let did = c.change_from-answer.ensures.done in
     record {
       survives = did.survives;
       crash = λ clean texts told fine.
@@ -44,8 +36,8 @@ returns-clause-lasts g c =
           (λ is_open db left. g.met.S.Store.settled end.store db is_open left ∙ ap (λ (d : Database). d.trees) (sym (c.is_autocommit-settled.ensures.settled idle is_open)))
           (did.call.accepted clean) (did.call.endures clean)
           (survives_as old (state g.S.Store end) _ _ (λ late db made. made texts told fine) did.survives)
-          (did.serves clean texts told fine);
+          (did.step clean texts told fine);
     }
 
 pub returns-clause-counts : goal.returns-clause-counts
-returns-clause-counts g c = record { costs = c.change_from-answer.ensures.work; none = c.change_from-answer.ensures.no_work }
+returns-clause-counts g c = c.change_from-answer.ensures.done.counts

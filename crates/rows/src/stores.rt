@@ -1,0 +1,94 @@
+//! A store in memory, whose tables either layout has.
+
+use crate::faults::Fault;
+use sqlite::{Connection, MemStore};
+use std::alloc::Global;
+use zeb_engine::{Command, Limits, Refusal, Reply, Session};
+use zeb_packed::Blocks;
+use zeb_profile::Profile;
+use zeb_register::{Layout, Rows, Work};
+
+/// A layout of the tables: a posting a row, or packed into blocks.
+#[derive(Clone, Copy)]
+pub enum Kept {
+    Plain,
+    Packed,
+}
+
+/// A store, and the session that has it, if there is one.
+#[derive(Drop)]
+pub enum Store {
+    Free(Connection<MemStore>),
+    Plain(Session<MemStore, Rows>),
+    Packed(Session<MemStore, Blocks>),
+}
+
+impl Store {
+    /// A store without a table.
+    pub fn new(alloc: Global) -> Result<Store, Fault> {
+        match Connection::open_in_memory(alloc) {
+            Ok(connection) => Ok(Store::Free(connection)),
+            Err(_) => Err(Fault::Line("no store could be opened")),
+        }
+    }
+
+    /// Ends the session.
+    pub fn connection(self) -> Connection<MemStore> {
+        match self {
+            Store::Free(connection) => connection,
+            Store::Plain(session) => session.release(),
+            Store::Packed(session) => session.release(),
+        }
+    }
+
+    /// Begins a session of this layout under a profile; there is none where the store is refused.
+    pub fn begun(self, alloc: Global, kept: Kept, profile: &str) -> Result<Store, Fault> {
+        let connection = self.connection();
+        let Ok(profile) = Profile::read(alloc, profile) else {
+            return Err(Fault::Line("the profile is refused"));
+        };
+        match kept {
+            Kept::Plain => match adopted::<Rows>(alloc, connection, profile) {
+                Ok(session) => Ok(Store::Plain(session)),
+                Err(connection) => Ok(Store::Free(connection)),
+            },
+            Kept::Packed => match adopted::<Blocks>(alloc, connection, profile) {
+                Ok(session) => Ok(Store::Packed(session)),
+                Err(connection) => Ok(Store::Free(connection)),
+            },
+        }
+    }
+
+    /// What the session answers to a command.
+    pub fn answer(&mut self, command: &Command) -> Result<Result<Reply, Refusal>, Fault> {
+        match self {
+            Store::Free(_) => Err(Fault::Line("a command without a session")),
+            Store::Plain(session) => Ok(session.command(command)),
+            Store::Packed(session) => Ok(session.command(command)),
+        }
+    }
+
+    /// What the session counted for its last command.
+    pub fn work(&self) -> Work {
+        match self {
+            Store::Free(_) => Work::default(),
+            Store::Plain(session) => session.work(),
+            Store::Packed(session) => session.work(),
+        }
+    }
+}
+
+/// A session over the connection, which is given back where it is refused.
+fn adopted<L: Layout>(
+    alloc: Global,
+    connection: Connection<MemStore>,
+    profile: Profile,
+) -> Result<Session<MemStore, L>, Connection<MemStore>> {
+    if !connection.is_autocommit() {
+        return Err(connection);
+    }
+    match Session::adopt(alloc, connection, profile, Limits::GREATEST) {
+        Ok(session) => Ok(session),
+        Err((connection, _)) => Err(connection),
+    }
+}

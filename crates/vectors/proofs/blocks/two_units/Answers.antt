@@ -1,6 +1,0 @@
--- The list is that of a worked block.
-use Rattle.zeb_blocks.proofs.WorkedBlocks.{spelled_next_unit}
-use Rattle.vectors.proofs.blocks.two_units.Goals as goal
-
-pub assert_spelled-requires : goal.assert_spelled-requires
-assert_spelled-requires g c = rw (c.posting.ensures, c.posting-2.ensures) spelled_next_unit

@@ -1,0 +1,10 @@
+pub mod Cited
+pub mod KeyOrder
+pub mod LeafReadings
+pub mod LeafSums
+pub mod LeafContents
+pub mod SameLeaves
+pub mod TakenLeaves
+pub mod LeafTerms
+pub mod HeldRegisters
+pub mod WorkedRegisters

@@ -1,0 +1,5 @@
+pub mod Covering
+pub mod Readings
+pub mod LeafUnits
+pub mod HeldLeaves
+pub mod Worked

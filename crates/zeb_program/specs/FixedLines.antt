@@ -1,0 +1,13 @@
+-- The lines of a refusal, of an input that can't be read, and of words that aren't understood (this program's own).
+use Rattle.std.specs.Prelude.{ℕ, List, [], ◌∷◌, ◌++◌, codes}
+use Rattle.zeb_change.specs.declared.refusals.Refusal.{Refusal}
+use Rattle.zeb_engine.specs.Refusals.{refusal_text}
+
+abbrev pub refusal_line : Refusal → List ℕ
+refusal_line why = refusal_text why ++ 10 ∷ []
+
+abbrev pub unreadable_line : List ℕ
+unreadable_line = codes "zebraidx: cannot read input" ++ 10 ∷ []
+
+abbrev pub usage_line : List ℕ
+usage_line = codes "zebraidx: bad usage" ++ 10 ∷ []

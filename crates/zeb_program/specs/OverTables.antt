@@ -1,0 +1,155 @@
+-- What a command or a change by paths is answered on any tables, whatever these hold, where words or a line name it (this program's own).
+use Rattle.std.specs.Prelude.{◌≡◌, ◌⊎◌, ℕ, Option, Some, Result, Ok, Err, IfErr, OnErr, List, [], ◌∷◌, map, string_bytes}
+use Rattle.std.specs.Io.KnownBytes.{Appends, Keeps as Stays}
+use Rattle.sqlite.specs.Held.{Held, state}
+use Rattle.sqlite.specs.State.{State}
+use Rattle.sqlite.specs.Store.{Ghosts}
+use Rattle.zeb_profile.specs.declared.directives.Directive.{Directive}
+use Rattle.zeb_register.specs.Calls.{ChangesNothing}
+use Rattle.zeb_register.specs.Formats.{Format, version_of}
+use Rattle.zeb_change.specs.Conditions.{Conditions}
+use Rattle.zeb_change.specs.declared.settings.Kind.{Kind}
+use Rattle.zeb_change.specs.declared.settings.Limits.{Limits}
+use Rattle.zeb_change.specs.declared.refusals.Refusal.{Refusal}
+use Rattle.zeb_change.specs.declared.refusals.Refusal.TheVariants.{Damaged, Memory as OutOfMemory}
+use Rattle.zeb_image.specs.Holdings.{Holdings}
+use Rattle.zeb_image.specs.Image.{Keeps}
+use Rattle.zeb_image.specs.NameOf.{name_bytes}
+use Rattle.zeb_engine.specs.Analysed.{IsAnalysed}
+use Rattle.zeb_engine.specs.Answers.{answer_of}
+use Rattle.zeb_engine.specs.Changing.{ChangesReady, LeavesWhole, LosesNamed}
+use Rattle.zeb_engine.specs.Does.{CommandOverTables}
+use Rattle.zeb_engine.specs.Readiness.{GoesByTexts}
+use Rattle.zeb_engine.specs.Works.{ServesCommand}
+use Rattle.zeb_engine.specs.declared.commands.Command.{Command}
+use Rattle.zeb_engine.specs.declared.replies.Reply.{Reply}
+use Rattle.zeb_program.specs.declared.faults.Fault.{Fault}
+use Rattle.zeb_program.specs.declared.faults.Fault.TheVariants.{Refused}
+use Rattle.zeb_program.specs.declared.lines.Line.{Line}
+use Rattle.zeb_program.specs.declared.lines.Line.TheVariants.{Remark, Command as Order, Path, Mark, Bad}
+use Rattle.zeb_program.specs.declared.path_changes.PathChange.{PathChange}
+use Rattle.zeb_program.specs.declared.tasks.Task.{Task}
+use Rattle.zeb_program.specs.declared.tasks.Task.TheVariants.{Ask, Change, Analyse}
+use Rattle.zeb_program.specs.Answers.{ChangesBy, EachLine, Writes, answer_status, answer_text, bad_line, mark_line}
+use Rattle.zeb_program.specs.Inputs.{AreShort, TakesAtMost}
+use Rattle.zeb_program.specs.FaultLines.{TellsFault}
+use Rattle.zeb_program.specs.FixedLines.{unreadable_line}
+use Rattle.zeb_program.specs.FaultAnswers.{GivesAnswer, IsUnreadable, NamesUnder, NamesUntold}
+use Rattle.zeb_program.specs.Serving.{AnswersFrom}
+use Rattle.zeb_program.specs.TaskAnswers.{AreTold}
+use Rattle.zeb_program.specs.Says.{Says}
+use Rattle.zeb_program.specs.TaskAnswers.{ReadsWhole}
+use Rattle.zeb_program.specs.declared.statuses.Status.{Status}
+use Rattle.zeb_program.specs.declared.statuses.Status.TheVariants.{Answered, Misused, Failed}
+
+-- ---- a task
+
+-- what is said of the answer to a change of the database of this name by the files at these paths
+pub record PathsOver (told : List ℕ → Option (List ℕ)) (format : Format) (profile : List Directive) (kind : Kind) (limits : Limits) (name : List ℕ) (paths : List (List ℕ)) (s : State) (result : Result Reply Fault) : Type 0 where
+  -- a path can't be read, or the texts of the store tell whether the register was ready
+  pub ready : IsUnreadable result ⊎ GivesAnswer (GoesByTexts (version_of format) profile s) result
+  -- Where the bytes of a file at each path are told: what is kept under the first record's identifier is whole, or the change is refused as damage or by a failure; and any other refusal has a reason that the files and the limits give.
+  pub changes : (files : List (List ℕ)) → AreTold told paths files
+      → GivesAnswer (ChangesReady (version_of format) profile kind limits name files s) result
+  -- a path that can't be read is none at which a file's bytes are told
+  pub untold : IfErr result (NamesUntold told)
+  -- damage is told only of the image of nothing that can be held
+  pub honest : result ≡ Err (Refused Damaged) → (before : Holdings) → ¬ Keeps s before
+
+-- What is said of the answer to an analysis of the files at these paths, of at most so many records.
+pub record IsAnalysisOver (told : List ℕ → Option (List ℕ)) (profile : List Directive) (limit : ℕ) (paths : List (List ℕ)) (answer : Result Reply Refusal) : Type 0 where
+  -- it is that of files with these texts, or memory ran out
+  pub texts : List (List ℕ)
+  pub analysed : IsAnalysed profile limit texts (answer_of answer) ⊎ (answer ≡ Err OutOfMemory)
+  -- none of them has too many bytes, and where the bytes of a file at each path are told, they are these
+  pub short : AreShort texts
+  pub these : (files : List (List ℕ)) → AreTold told paths files → texts ≡ files
+
+-- what a change of the database of this name by the files at these paths leaves of any tables
+pub record PathsLeave (told : List ℕ → Option (List ℕ)) (c : Conditions) (kind : Kind) (name : List ℕ) (paths : List (List ℕ)) (old new : State) (result : Result Reply Fault) : Type 0 where
+  -- nothing changes where it isn't accepted
+  pub refused : OnErr result (ChangesNothing old new)
+  -- a path can't be read, or of an accepted one the engine says what the tables have lost and kept
+  pub loses : IsUnreadable result ⊎ GivesAnswer (LeavesWhole c.profile kind name old new) result
+  -- Where the bytes of a file at each path are told, it is answered from tables that keep what a register holds as a change by these, and they
+  -- keep what is held then.
+  pub serves : (files : List (List ℕ)) → AreTold told paths files → AnswersFrom old new result (ChangesBy c kind name files)
+  -- Then it has lost no record but under identifiers that records of the files have.
+  pub named : (files : List (List ℕ)) → AreTold told paths files → GivesAnswer (LosesNamed c.profile name files old new) result
+
+-- a path of an analysis can't be read, or it is answered so
+abbrev pub AnalysesOver : (List ℕ → Option (List ℕ)) → List Directive → ℕ → List (List ℕ) → Result Reply Fault → Type 0
+AnalysesOver told profile limit paths result = IsUnreadable result ⊎ GivesAnswer (IsAnalysisOver told profile limit paths) result
+
+-- A command is answered, and leaves the tables, as the engine says: of those that keep what a register holds, and of any.
+abbrev pub ServesOver : Format → Conditions → Command → State → State → Result Reply Refusal → Type 0
+ServesOver format c command old new answer = ServesCommand c command old new answer × CommandOverTables format c command old new answer
+
+-- A task of one command is answered as the engine says of it on any tables, and this is what it leaves of them; so it is of a change by paths. An
+-- analysis by paths is answered as above.
+abbrev pub AnswersOver : (List ℕ → Option (List ℕ)) → Format → Conditions → Task → State → State → Result Reply Fault → Type 0
+AnswersOver told format c (Ask command) old new result = GivesAnswer (ServesOver format c command old new) result
+AnswersOver told format c (Change kind database paths) old new result =
+    PathsOver told format c.profile kind c.limits (name_bytes database) (map string_bytes paths.items) old result
+    × PathsLeave told c kind (name_bytes database) (map string_bytes paths.items) old new result
+AnswersOver told format c (Analyse paths) old new result = AnalysesOver told c.profile c.limits.records (map string_bytes paths.items) result
+
+-- what is said of a task, from these tables to those
+pub record TaskOver (told : List ℕ → Option (List ℕ)) (format : Format) (c : Conditions) (task : Task) (old new : State) (result : Result Reply Fault) : Type 0 where
+  pub answer : AnswersOver told format c task old new result
+  -- nothing changes where it isn't accepted, nor where it is an analysis
+  pub refused : OnErr result (ChangesNothing old new)
+  pub reads : ReadsWhole task → ChangesNothing old new
+
+-- ---- a line: from which tables, what is written, its status, and the tables then
+
+-- what is written for a command, and its status, are those of its answer on any tables, and this is what it leaves of them
+abbrev pub CommandOver : Format → Conditions → Command → State → List ℕ → Status → State → Type 0
+CommandOver format c command old bytes status new =
+    (answer : Result Reply Refusal) × (bytes ≡ answer_text answer) × (status ≡ answer_status answer)
+    × ServesOver format c command old new answer
+
+-- This is written for an answer, or for the fault by which there is none, and this is the status.
+abbrev pub IsTold : Result Reply Fault → List ℕ → Status → Type 0
+IsTold (Ok reply) bytes status = (bytes ≡ answer_text (Ok reply)) × (status ≡ answer_status (Ok reply))
+IsTold (Err fault) bytes status = TellsFault fault bytes status
+
+-- the same of a change by a path; a path that can't be read is the one that is named, or stands below it
+abbrev pub PathOver : (List ℕ → Option (List ℕ)) → Format → Conditions → PathChange → State → List ℕ → Status → State → Type 0
+PathOver told format c change old bytes status new =
+    (result : Result Reply Fault) × IsTold result bytes status × IfErr result (NamesUnder (string_bytes change.path ∷ []))
+    × PathsOver told format c.profile change.kind c.limits (name_bytes change.database) (string_bytes change.path ∷ []) old result
+    × PathsLeave told c change.kind (name_bytes change.database) (string_bytes change.path ∷ []) old new result
+
+-- of a line that says this
+abbrev pub SaysOver : (List ℕ → Option (List ℕ)) → Format → Conditions → ℕ → Line → State → List ℕ → Status → State → Type 0
+SaysOver told format c number Remark old bytes status new = (bytes ≡ []) × (status ≡ Answered) × ChangesNothing old new
+SaysOver told format c number (Order command) old bytes status new = CommandOver format c command old bytes status new
+SaysOver told format c number (Path change) old bytes status new = PathOver told format c change old bytes status new
+SaysOver told format c number (Mark text) old bytes status new = (bytes ≡ mark_line (string_bytes text)) × (status ≡ Answered) × ChangesNothing old new
+SaysOver told format c number Bad old bytes status new = (bytes ≡ bad_line number) × (status ≡ Misused) × ChangesNothing old new
+
+-- the same for a line, by its text and its number, and by the connection
+abbrev pub LineOver : {S : Type 0} → Ghosts S → (List ℕ → Option (List ℕ)) → Format → Conditions → ℕ → List ℕ → Held S → List ℕ → Status → Held S → Type 0
+LineOver g told format c number text old bytes status new =
+    (line : Line) × Says text line × SaysOver told format c number line (state g old) bytes status (state g new)
+
+-- every line of a text is answered so, each on the tables that the one before it left
+abbrev pub LinesOver : {S : Type 0} → Ghosts S → (List ℕ → Option (List ℕ)) → Format → Conditions → ℕ → List ℕ → Held S → List ℕ → Status → Held S → Type 0
+LinesOver g told format c n text old bytes status new = EachLine (LineOver g told format c) n text old bytes status [] new
+
+-- The first lines of a text are answered so, maybe all, and this is left of it: of the lines behind them no more is gone than one line may
+-- take.
+pub record FirstOver {S : Type 0} (g : Ghosts S) (told : List ℕ → Option (List ℕ)) (format : Format) (c : Conditions) (text : List ℕ) (left : Option (List ℕ)) (old : Held S) (bytes : List ℕ) : Type 0 where
+  pub status : Status
+  pub rest : List ℕ
+  pub last : Held S
+  pub lines : EachLine (LineOver g told format c) 0 text old bytes status rest last
+  pub behind : TakesAtMost 16777217 (Some rest) left
+
+-- A shell of these lines: all are answered so, and nothing goes to the fault output; or one can't be read, which is told there, and the lines
+-- before it are answered so, where this is left of the input.
+abbrev pub ServesOverLines : {S : Type 0} → Ghosts S → (List ℕ → Option (List ℕ)) → Format → Conditions → List ℕ → Option (List ℕ) → Held S → Held S → Option (List ℕ) → Option (List ℕ) → Option (List ℕ) → Option (List ℕ) → Status → Type 0
+ServesOverLines g told format c text left old new wrote writes fault_old fault_new status =
+    (Writes wrote writes (λ bytes. LinesOver g told format c 0 text old bytes status new) × Stays fault_old fault_new)
+    ⊎ (Writes wrote writes (FirstOver g told format c text left old) × (status ≡ Failed) × Appends fault_old fault_new unreadable_line)
