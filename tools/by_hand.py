@@ -22,7 +22,7 @@ NO_FAILURE = "Directive::Store"
 # text without clauses and spaces adds up to. Where that differs, look again at what it fails for, and write the new sum.
 MADE_BY_HAND = {
     "crates/zeb_marc/src/sources.rt": (["passed_on d701f525", "read a600243e"], "a read that failed for a reader, and each later one, as clauses say"),
-    "crates/zeb_marc/src/stream.rt": (["make_room 044e00c2"], "no failure: as many bytes as the longest record has"),
+    "crates/zeb_marc/src/stream.rt": (["new 509c503c"], "no failure: as many bytes as the longest record has"),
     "crates/zeb_profile/src/faults.rt": (["MEMORY 1437066d"], "the one value that all conversions give"),
     "crates/zeb_query/src/diagnostics.rt": (["about 67ee6bdb"], "an addinfo that there is no memory for"),
     "crates/zeb_register/src/values.rt": (["stored aaab8d06"], "a number that no column stores"),
@@ -35,6 +35,7 @@ MADE_BY_HAND = {
     "crates/zeb_paths/src/disk.rt": (["store 82d8eb71", "read b7b8174b"], "whatever fails as a store is opened, and a read behind one that failed"),
     "crates/zeb_paths/src/looks.rt": (["use_file 3c271fc1", "use_file 3c271fc1"], "no memory for the name of a file beside the store"),
     "crates/zeb_paths/src/shelf.rt": (["read 47e3c23b", "store 6bbb2170", "store 6bbb2170"], "a file that fails when it is read, and a shelf without a store under the path, or one that fails"),
+    "crates/zeb_program/src/analyses.rt": (["analyse_files 02a34eb7"], "more files than a number counts"),
     "crates/zeb_program/src/command_line.rt": (["refuse_words c10a8481"], "the status of words that memory ran out for"),
     "crates/zeb_program/src/faults.rt": (["tell 440384c5"], "the status of a path that can't be read, as a clause says"),
     "crates/zeb_program/src/failures.rt": (
@@ -44,7 +45,10 @@ MADE_BY_HAND = {
     "crates/zeb_program/src/memory.rt": (["open_in_memory ce0a36a4", "open_in_memory ce0a36a4"], "whatever fails as a store is opened"),
     "crates/zeb_program/src/opening.rt": (["session_over 8bfe0300"], "an open that failed, as a clause says"),
     "crates/zeb_program/src/program.rt": (["run 51ed80bc", "run 51ed80bc", "finish c2331064", "run_script 99a2903b"], "the status of want of memory, of a failed write, of an input that is no text"),
-    "crates/zeb_program/src/shell.rt": (["serve_lines dbc56f68", "run_shell_lines ce339861"], "the status of a failed read and of a failed write, as clauses say"),
+    "crates/zeb_program/src/shell.rt": (
+        ["serve_lines 92da5107", "run_shell_lines caad2aff", "run_shell_lines caad2aff"],
+        "the status of an input that can't be read on and of a failed write, as clauses say; and more lines than there are numbers",
+    ),
     "crates/zeb_program/src/statuses.rt": (["code 347a2f2f", "of_refusal 38553881", "of_profile 90a15a5f"], "the numbers of the statuses, and the statuses of a refusal and of a profile's fault"),
     "crates/zebraidx/src/main.rt": (["main b220bb15"], "an outside that failed"),
     "crates/small_catalogue/src/lib.rt": (["open cb1c9c16"], "an open that failed"),

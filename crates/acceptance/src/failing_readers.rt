@@ -1,23 +1,50 @@
 //! Readers that fail, or had failed: which is named, and that nothing is changed.
 
-use crate::streams::{Memory, changed, opened_under};
-use command_rows::commands::{Row, Step, answers, is_refused_with, prints};
-use std::alloc::AllocGlobal;
+use command_rows::commands::{Row, Step, adopted, answers, is_refused_with, name, prints};
+use sqlite::{Connection, MemStore};
+use std::alloc::{AllocError, AllocGlobal, Global};
 use std::process::Abort;
 use std::test::Fail;
 use worked_samples::{BARE, BOOKS, CAFE, DOCK, MOBY, MOBY_CAFE};
-use zeb_engine::Kind;
+use zeb_engine::{Kind, Limits, Refusal, Reply, Session};
 use zeb_marc::{ReadFailed, Source};
+use zeb_packed::Blocks;
+
+/// `DOCK` and then `CAFE`.
+const BOTH: &str = "\
+00109nam a2200061 a 4500001000300000245003300003260001100036\x1ea1\x1e10\x1faMoby Dock :\x1fbor, the whale /\x1e  \x1fcc1851.\x1e\x1d\
+00064nam a2200049 a 4500001000300000245001100003\x1eb2\x1e00\x1faCafe\u{301}\x1e\x1d";
+
+/// Readers of a change, and why it is refused: of those that had failed the first is named, whatever the ones before it would give. `dock` gives
+/// that record and ends, `cafe!` fails behind it, and `cafe?` had failed.
+static HAD_FAILED: &str = "\
+cafe? -> file 1: read fault
+dock cafe? -> file 2: read fault
+cafe? dock -> file 1: read fault
+cafe? cafe? -> file 1: read fault
+dock cafe? dock cafe? -> file 2: read fault
+dock dock cafe? cafe? dock -> file 3: read fault
+cafe! cafe? -> file 2: read fault
+cafe! dock cafe? cafe? -> file 3: read fault
+cafe? cafe! -> file 1: read fault
+bare cafe! cafe? -> file 3: read fault";
+
+/// The same of readers that fail as they are read, `both!#` behind each of so many first bytes, from none on. What the change would do is to
+/// replace or to delete the records that are kept.
+static FAIL: &str = "\
+174 both!# ! -> file 1: read fault
+65 dock cafe!# ! -> file 2: read fault
+1 bare! -> file 1 record 1: NoIdentifier";
 
 /// Gives bytes one at a time, and then ends or fails.
 #[derive(Clone, Copy)]
-struct Stream<'a> {
-    bytes: &'a [u8],
+struct Stream {
+    bytes: &'static [u8],
     breaks: bool,
     failed: bool,
 }
 
-impl Source for Stream<'_> {
+impl Source for Stream {
     ghost use Rattle.std.specs.Prelude.{None, true};
 
     ghost remaining = { λ _. None };
@@ -52,86 +79,74 @@ impl Source for Stream<'_> {
     }
 }
 
-/// A reader that gives the bytes, and then fails.
-fn torn<'a>(bytes: &'a [u8]) -> Stream<'a> {
-    Stream {
-        bytes,
-        breaks: true,
-        failed: false,
+fn sample(name: &str) -> &'static [u8] {
+    match name {
+        "both" => BOTH.as_bytes(),
+        "dock" => DOCK,
+        "cafe" | "cafe?" => CAFE,
+        "bare" => BARE,
+        _ => b"",
     }
 }
 
-/// A reader that gives the bytes, and then ends.
-fn whole<'a>(bytes: &'a [u8]) -> Stream<'a> {
+/// The reader that a word names.
+fn stream_of(word: &str) -> Stream {
+    let (name, count) = word.split_once('!').unwrap_or((word, ""));
+    let whole = sample(name);
+    let count = count.parse().unwrap_or(whole.len());
     Stream {
-        bytes,
-        breaks: false,
-        failed: false,
+        bytes: whole.get(..count).unwrap_or(whole),
+        breaks: word.contains('!'),
+        failed: word.ends_with('?'),
     }
 }
 
-/// A change from these readers is refused so, whatever its kind.
-fn is_refused_so(
+fn streams_of(alloc: Global, words: &str) -> Result<Vec<Stream>, AllocError> {
+    let mut streams = Vec::new(alloc);
+    for word in words.split(' ') {
+        streams.push(stream_of(word))?;
+    }
+    Ok(streams)
+}
+
+pub type Memory = Session<MemStore, Blocks>;
+
+/// A session over a new register in memory.
+pub fn opened(alloc: Global) -> Result<Memory, Fail> {
+    let connection = Connection::open_in_memory(alloc)?;
+    match adopted(alloc, connection, BOOKS, Limits::GREATEST) {
+        Ok(session) => Ok(session),
+        Err(_) => Err(Fail::new("the register is refused")),
+    }
+}
+
+/// The answer to a change. No clause is stated here, so that a test holds no more than what is printed.
+fn changed(session: &mut Memory, kind: Kind, readers: &mut [Stream]) -> Result<Reply, Refusal> {
+    session.update_from(&name("Default")?, kind, readers)
+}
+
+/// A change from the readers of a row is refused as it says, whatever its kind.
+fn is_refused(
     rt: &(impl Abort + AllocGlobal),
     session: &mut Memory,
-    readers: &[Stream<'_>],
-    wanted: &str,
+    row: &str,
 ) -> Result<(), Fail> {
-    let kinds = [Kind::Update, Kind::Delete, Kind::Adelete];
-    for (place, kind) in kinds.iter().enumerate() {
-        let mut given = Vec::from_slice(rt.alloc(), readers)?;
-        prints(rt, &changed(session, *kind, &mut given), wanted, place)?;
+    let (words, wanted) = row.split_once(" -> ").ok_or("no arrow")?;
+    let status = if wanted.ends_with("read fault") { 3 } else { 1 };
+    let wanted = ["zebraidx: ", wanted].concat(rt.alloc())?;
+    for (place, kind) in [Kind::Update, Kind::Delete, Kind::Adelete]
+        .iter()
+        .enumerate()
+    {
+        let mut readers = streams_of(rt.alloc(), words)?;
+        let given = changed(session, *kind, &mut readers);
+        prints(rt, &given, &wanted, place)?;
+        assert!(rt; is_refused_with(&given, status), "{row}");
     }
     Ok(())
 }
 
-/// A register of two records, and what it is after a change that is refused.
-const LOADED: &[Row<'static>] = &[
-    (Step::Init, "ok\n"),
-    (
-        Step::Update(&[&[MOBY, CAFE]]),
-        "inserted 2 updated 0 deleted 0\n",
-    ),
-];
-
-const STILL_LOADED: &[Row<'static>] = &[
-    (Step::Check, "ok\n"),
-    (Step::Dump("Default"), MOBY_CAFE),
-    (
-        Step::Stat("Default"),
-        "records 2\nlast 2\nTitle:w 6 6\nTitle:p 2 2\nDate:n 1 1\nAny:w 7 7\n",
-    ),
-];
-
-/// Wherever a reader of two records fails, which replace or delete those that are kept.
-#[test]
-fn a_reader_that_fails_is_named(rt: HostRuntime) -> Result<(), Fail> {
-    let mut session = opened_under(rt.alloc(), BOOKS)?;
-    answers(&rt, &mut session, LOADED)?;
-    let mut both = Vec::from_slice(rt.alloc(), DOCK)?;
-    both.extend_from_slice(CAFE)?;
-    for place in 0..=both.len() {
-        let readers = [torn(&both[..place]), torn(b"")];
-        is_refused_so(&rt, &mut session, &readers, "zebraidx: file 1: read fault")?;
-        answers(&rt, &mut session, STILL_LOADED)?;
-    }
-    Ok(())
-}
-
-/// Wherever the second of three readers fails, of which the third would.
-#[test]
-fn a_second_reader_that_fails_is_named(rt: HostRuntime) -> Result<(), Fail> {
-    let mut session = opened_under(rt.alloc(), BOOKS)?;
-    answers(&rt, &mut session, LOADED)?;
-    for place in 0..=CAFE.len() {
-        let readers = [whole(DOCK), torn(&CAFE[..place]), torn(b"")];
-        is_refused_so(&rt, &mut session, &readers, "zebraidx: file 2: read fault")?;
-        answers(&rt, &mut session, STILL_LOADED)?;
-    }
-    Ok(())
-}
-
-/// What is printed before changes from readers that had failed.
+/// What is asked before changes from readers, of which the last leaves two records.
 const BEFORE: [Row<'static>; 4] = [
     (
         Step::Find("@attr 1=4 moby"),
@@ -148,74 +163,50 @@ const BEFORE: [Row<'static>; 4] = [
     ),
 ];
 
-/// A reader that ends, one that fails as it is read, one that had failed, and one whose record is refused.
-const WHOLE: Stream<'static> = Stream {
-    bytes: DOCK,
-    breaks: false,
-    failed: false,
-};
-
-const TORN: Stream<'static> = Stream {
-    bytes: CAFE,
-    breaks: true,
-    failed: false,
-};
-
-const FAILED: Stream<'static> = Stream {
-    bytes: CAFE,
-    breaks: true,
-    failed: true,
-};
-
-const NAMELESS: Stream<'static> = Stream {
-    bytes: BARE,
-    breaks: false,
-    failed: false,
-};
-
-/// Readers, and the file that is named: of those that had failed the first, whatever the ones before it would give.
-const HAD_FAILED: [(&[Stream<'static>], &str); 10] = [
-    (&[FAILED], "zebraidx: file 1: read fault"),
-    (&[WHOLE, FAILED], "zebraidx: file 2: read fault"),
-    (&[FAILED, WHOLE], "zebraidx: file 1: read fault"),
-    (&[FAILED, FAILED], "zebraidx: file 1: read fault"),
+/// What these are after a change that is refused.
+const STILL_LOADED: &[Row<'static>] = &[
+    (Step::Check, "ok\n"),
+    (Step::Dump("Default"), MOBY_CAFE),
     (
-        &[WHOLE, FAILED, WHOLE, FAILED],
-        "zebraidx: file 2: read fault",
+        Step::Stat("Default"),
+        "records 2\nlast 2\nTitle:w 6 6\nTitle:p 2 2\nDate:n 1 1\nAny:w 7 7\n",
     ),
-    (
-        &[WHOLE, WHOLE, FAILED, FAILED, WHOLE],
-        "zebraidx: file 3: read fault",
-    ),
-    (&[TORN, FAILED], "zebraidx: file 2: read fault"),
-    (
-        &[TORN, WHOLE, FAILED, FAILED],
-        "zebraidx: file 3: read fault",
-    ),
-    (&[FAILED, TORN], "zebraidx: file 1: read fault"),
-    (&[NAMELESS, TORN, FAILED], "zebraidx: file 3: read fault"),
 ];
 
-/// The readers of each row are refused so, before the register is begun, before it has the database, and beside two records.
+/// Before the register is begun, before it has the database, and beside two records.
 #[test]
 fn a_reader_that_had_failed_is_named(rt: HostRuntime) -> Result<(), Fail> {
-    let mut session = opened_under(rt.alloc(), BOOKS)?;
+    let mut session = opened(rt.alloc())?;
     for rows in BEFORE.chunks(1) {
         answers(&rt, &mut session, rows)?;
-        for (readers, wanted) in &HAD_FAILED {
-            is_refused_so(&rt, &mut session, readers, wanted)?;
+        for row in HAD_FAILED.split('\n') {
+            is_refused(&rt, &mut session, row)?;
         }
     }
     answers(&rt, &mut session, STILL_LOADED)
 }
 
+/// A row's changes are refused, wherever the readers fail, and leave the two records.
+fn is_refused_anywhere(
+    rt: &(impl Abort + AllocGlobal),
+    session: &mut Memory,
+    row: &str,
+) -> Result<(), Fail> {
+    let (count, row) = row.split_once(' ').ok_or("no count")?;
+    for place in 0..count.parse::<u64>()? {
+        let digits = place.to_string(rt.alloc())?;
+        is_refused(rt, session, &row.replace(rt.alloc(), '#', &digits)?)?;
+        answers(rt, session, STILL_LOADED)?;
+    }
+    Ok(())
+}
+
 #[test]
-fn a_record_is_refused_before_the_read_that_fails(rt: HostRuntime) -> Result<(), Fail> {
-    let mut session = opened_under(rt.alloc(), BOOKS)?;
-    answers(&rt, &mut session, LOADED)?;
-    let bare = "zebraidx: file 1 record 1: NoIdentifier";
-    is_refused_so(&rt, &mut session, &[torn(BARE)], bare)?;
-    let given = changed(&mut session, Kind::Update, &mut [torn(b"")]);
-    assert!(rt; is_refused_with(&given, 3));
+fn a_reader_that_fails_is_named(rt: HostRuntime) -> Result<(), Fail> {
+    let mut session = opened(rt.alloc())?;
+    answers(&rt, &mut session, &BEFORE)?;
+    for row in FAIL.split('\n') {
+        is_refused_anywhere(&rt, &mut session, row)?;
+    }
     Ok(())
 }

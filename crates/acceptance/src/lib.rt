@@ -1,18 +1,10 @@
-//! Tests over the public names of several crates, and no product code: what is asked of a register and changed in it, and words, as
-//! rows and the answers that they have to get.
+//! Tests over the public names of several crates, and no product code: readers that fail, limits, commands that are given together, and
+//! words, as rows and the answers that they have to get.
 #![tactic(auto)]
 
 #[cfg(test)]
-mod analyses;
-#[cfg(test)]
 mod failing_readers;
 #[cfg(test)]
-mod limits;
-#[cfg(test)]
-mod steps;
-#[cfg(test)]
-mod streams;
-#[cfg(test)]
-mod together;
+mod sessions;
 #[cfg(test)]
 mod words;

@@ -2,101 +2,65 @@
 
 use std::alloc::{AllocError, AllocGlobal};
 use std::process::Abort;
-use zeb_words::{Act, Usage, Words, read_words};
+use zeb_words::{Usage, Words, read_words};
 
-/// Lines of words with one space between, and what is read: the profile's file, the database and the command, or why there is none.
-const ROWS: [(&str, &str); 43] = [
-    ("init", "zebra.cfg Default Init"),
-    ("stat", "zebra.cfg Default Stat"),
-    ("dump", "zebra.cfg Default Dump"),
-    ("check", "zebra.cfg Default Check"),
-    ("reindex", "zebra.cfg Default Reindex"),
-    ("upgrade", "zebra.cfg Default Upgrade"),
-    ("batch", "zebra.cfg Default Batch"),
-    ("shell", "zebra.cfg Default Shell"),
-    (
-        "update a b",
-        "zebra.cfg Default Update { paths: [\"a\", \"b\"], shows: false }",
-    ),
-    (
-        "-s update a",
-        "zebra.cfg Default Update { paths: [\"a\"], shows: true }",
-    ),
-    ("delete a", "zebra.cfg Default Delete([\"a\"])"),
-    (
-        "adelete a b c",
-        "zebra.cfg Default Adelete([\"a\", \"b\", \"c\"])",
-    ),
-    (
-        "find x",
-        "zebra.cfg Default Find { query: \"x\", first: 1, count: 20 }",
-    ),
-    (
-        "find --first 2 --count 0 x",
-        "zebra.cfg Default Find { query: \"x\", first: 2, count: 0 }",
-    ),
-    (
-        "find x --first=999999999",
-        "zebra.cfg Default Find { query: \"x\", first: 999999999, count: 20 }",
-    ),
-    (
-        "scan x",
-        "zebra.cfg Default Scan { query: \"x\", number: 20, position: 1 }",
-    ),
-    (
-        "scan --number 3 --position 3 x",
-        "zebra.cfg Default Scan { query: \"x\", number: 3, position: 3 }",
-    ),
-    ("-c other.cfg -d Books stat", "other.cfg Books Stat"),
-    (
-        "-sdBooks -c=other.cfg update a",
-        "other.cfg Books Update { paths: [\"a\"], shows: true }",
-    ),
-    // A query or a path that begins with a hyphen stands behind `--`.
-    (
-        "find -- -x",
-        "zebra.cfg Default Find { query: \"-x\", first: 1, count: 20 }",
-    ),
-    ("find -x", "refused"),
-    (
-        "update -- -a b",
-        "zebra.cfg Default Update { paths: [\"-a\", \"b\"], shows: false }",
-    ),
-    ("update -a", "refused"),
-    // The program's own checks.
-    ("-d a:b stat", "bad usage"),
-    ("create a:b", "bad usage"),
-    ("scan --number 3 --position 4 x", "bad usage"),
-    ("-s stat", "bad usage"),
-    ("-s shell", "bad usage"),
-    ("reindex Default", "refused"),
-    // The parser's.
-    ("find", "refused"),
-    ("find x y", "refused"),
-    ("find --first 0 x", "refused"),
-    ("find --count 1000001 x", "refused"),
-    ("scan --number 1001 x", "refused"),
-    ("update", "refused"),
-    ("stat -d Books", "refused"),
-    ("nothing", "refused"),
-    ("-V", "refused"),
-    ("find --version x", "refused"),
-    ("--help", "help"),
-    ("find --help", "help"),
-    ("--version", "zebraidx 0.1.0\n"),
-    ("-d Books --version find", "zebraidx 0.1.0\n"),
-];
+/// Words with one space between, and what is read: the profile's file, the database and the command, or why there is none.
+static ROWS: &str = r#"init -> zebra.cfg Default Init
+stat -> zebra.cfg Default Stat
+dump -> zebra.cfg Default Dump
+check -> zebra.cfg Default Check
+reindex -> zebra.cfg Default Reindex
+upgrade -> zebra.cfg Default Upgrade
+batch -> zebra.cfg Default Batch
+shell -> zebra.cfg Default Shell
+create Books -> zebra.cfg Default Create(DbName { text: "Books" })
+create a -> zebra.cfg Default Create(DbName { text: "a" })
+create A-1_b.c -> zebra.cfg Default Create(DbName { text: "A-1_b.c" })
+drop Books -> zebra.cfg Default Drop(DbName { text: "Books" })
+update a b -> zebra.cfg Default Update { paths: ["a", "b"], shows: false }
+-s update a -> zebra.cfg Default Update { paths: ["a"], shows: true }
+delete a -> zebra.cfg Default Delete(["a"])
+adelete a b c -> zebra.cfg Default Adelete(["a", "b", "c"])
+find x -> zebra.cfg Default Find { query: "x", first: 1, count: 20 }
+find --first 2 --count 0 x -> zebra.cfg Default Find { query: "x", first: 2, count: 0 }
+find x --first=999999999 -> zebra.cfg Default Find { query: "x", first: 999999999, count: 20 }
+scan x -> zebra.cfg Default Scan { query: "x", number: 20, position: 1 }
+scan --number 3 --position 3 x -> zebra.cfg Default Scan { query: "x", number: 3, position: 3 }
+-c other.cfg -d Books stat -> other.cfg Books Stat
+-sdBooks -c=other.cfg update a -> other.cfg Books Update { paths: ["a"], shows: true }
+# A query or a path that begins with a hyphen stands behind `--`.
+find -- -x -> zebra.cfg Default Find { query: "-x", first: 1, count: 20 }
+find -x -> refused
+update -- -a b -> zebra.cfg Default Update { paths: ["-a", "b"], shows: false }
+update -a -> refused
+# The program's own checks.
+-d a:b stat -> bad usage
+create a:b -> bad usage
+create café -> bad usage
+create / -> bad usage
+create  -> bad usage
+scan --number 3 --position 4 x -> bad usage
+-s stat -> bad usage
+-s shell -> bad usage
+reindex Default -> refused
+# The parser's.
+find -> refused
+find x y -> refused
+find --first 0 x -> refused
+find --count 1000001 x -> refused
+scan --number 1001 x -> refused
+update -> refused
+stat -d Books -> refused
+nothing -> refused
+-V -> refused
+find --version x -> refused
+--help -> help
+find --help -> help
+--version -> version
+-d Books --version find -> version"#;
 
-/// The words with one space between are read. A refused allocation is answered by `Memory`, and the same call is then made once
-/// more: so the tests pass with any one allocation refused, and don't where `Memory` is answered without need.
-fn read(rt: &(impl Abort + AllocGlobal), line: &str) -> Result<Words, Usage> {
-    match read_once(rt, line) {
-        Err(Usage::Memory) => read_once(rt, line),
-        answer => answer,
-    }
-}
-
-fn read_once(rt: &(impl Abort + AllocGlobal), line: &str) -> Result<Words, Usage> {
+/// What the words of a line are read as.
+fn read(rt: &impl AllocGlobal, line: &str) -> Result<Words, Usage> {
     let mut words = Vec::new(rt.alloc());
     for word in line.split(' ') {
         words
@@ -106,8 +70,8 @@ fn read_once(rt: &(impl Abort + AllocGlobal), line: &str) -> Result<Words, Usage
     read_words(rt.alloc(), words.as_slice())
 }
 
-/// What is read, as text.
-fn shown(rt: &(impl Abort + AllocGlobal), line: &str) -> Result<String, AllocError> {
+/// The same as a text.
+fn shown(rt: &impl AllocGlobal, line: &str) -> Result<String, AllocError> {
     match read(rt, line) {
         Ok(words) => format!(in rt.alloc();
             "{} {} {:?}",
@@ -115,49 +79,39 @@ fn shown(rt: &(impl Abort + AllocGlobal), line: &str) -> Result<String, AllocErr
             words.database.as_str(),
             words.act
         ),
-        Err(Usage::BadUsage) => format!(in rt.alloc(); "bad usage"),
-        Err(Usage::Refused(_)) => format!(in rt.alloc(); "refused"),
+        Err(Usage::BadUsage) => String::from_str(rt.alloc(), "bad usage"),
+        Err(Usage::Refused(_)) => String::from_str(rt.alloc(), "refused"),
         Err(Usage::Help(text)) => help_or_version(rt, text),
-        Err(Usage::Memory) => format!(in rt.alloc(); "memory"),
+        Err(Usage::Memory) => Err(AllocError),
     }
 }
 
-/// That it is help, or else the version as it is printed.
-fn help_or_version(rt: &(impl Abort + AllocGlobal), text: String) -> Result<String, AllocError> {
+/// That it is help or the version, or else the text itself.
+fn help_or_version(rt: &impl AllocGlobal, text: String) -> Result<String, AllocError> {
+    if text.as_str() == "zebraidx 0.1.0\n" {
+        return String::from_str(rt.alloc(), "version");
+    }
     if text.as_str().contains("Usage: ") {
-        return format!(in rt.alloc(); "help");
+        return String::from_str(rt.alloc(), "help");
     }
     Ok(text)
 }
 
+/// A line is read as it says. One that is refused memory is read once more: so the test passes with any one allocation refused, and
+/// doesn't where want of memory is answered without need.
+fn is_read(rt: &(impl Abort + AllocGlobal), row: &str) {
+    let (line, wanted) = row.split_once(" -> ").unwrap_or((row, "an arrow"));
+    let mut text = shown(rt, line);
+    if text.is_err() {
+        text = shown(rt, line);
+    }
+    let text = text.expect(rt, "a text");
+    assert!(rt; text.as_str() == wanted, "{row}: {text}");
+}
+
 #[test]
 fn each_line_is_read(rt: HostRuntime) {
-    for (line, expected) in ROWS {
-        let mut text = shown(&rt, line);
-        if text.is_err() {
-            text = shown(&rt, line);
-        }
-        let text = text.expect(&rt, "a text");
-        assert!(rt; text.as_str() == expected, "{line}: {text}");
-    }
-}
-
-/// The command makes or takes away the database `Books`.
-fn names_books(answer: &Result<Words, Usage>) -> bool {
-    match answer {
-        Ok(words) => match &words.act {
-            Act::Create(name) => name.as_str() == "Books",
-            Act::Drop(name) => name.as_str() == "Books",
-            _ => false,
-        },
-        Err(_) => false,
-    }
-}
-
-#[test]
-fn names_of_databases_are_read(rt: HostRuntime) {
-    for line in ["create Books", "drop Books"] {
-        let answer = read(&rt, line);
-        assert!(rt; names_books(&answer), "{line}");
+    for row in ROWS.split('\n').filter(|row| !row.starts_with('#')) {
+        is_read(&rt, row);
     }
 }

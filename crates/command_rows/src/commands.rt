@@ -7,9 +7,8 @@ use std::test::Fail;
 use zeb_engine::{
     Command, DbName, Kind, Limits, Refusal, Reply, Session, refusal_line, render, status,
 };
-use zeb_packed::Blocks;
 use zeb_profile::Profile;
-use zeb_register::{Layout, Rows};
+use zeb_register::Layout;
 
 /// Titles by their words, records named by their control number.
 pub const TITLES: &str = "store books.db\nidentifier 001\natt 4 Title\nmelm 245 Title\n";
@@ -225,15 +224,6 @@ pub fn run_in_memory<L: Layout>(
     let mut connection = Connection::open_in_memory(rt.alloc())?;
     for (profile, rows) in script {
         connection = run::<MemStore, L>(rt, connection, limits, profile, rows)?;
-    }
-    Ok(())
-}
-
-/// Runs each script over either layout.
-pub fn run_each(rt: &impl AllocGlobal, scripts: &[Script]) -> Result<(), Fail> {
-    for script in scripts {
-        run_in_memory::<Rows>(rt, Limits::GREATEST, script)?;
-        run_in_memory::<Blocks>(rt, Limits::GREATEST, script)?;
     }
     Ok(())
 }

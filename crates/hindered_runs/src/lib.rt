@@ -5,14 +5,10 @@
 #[cfg(test)]
 mod failing;
 #[cfg(test)]
-mod fakes;
-#[cfg(test)]
 mod folder;
 #[cfg(test)]
 mod memory;
 #[cfg(test)]
-mod records;
+mod rows;
 #[cfg(test)]
 mod runs;
-#[cfg(test)]
-mod words;

@@ -3,14 +3,10 @@
 #![tactic(auto)]
 
 #[cfg(test)]
-mod answers;
-#[cfg(test)]
-mod asking;
+mod lines;
 #[cfg(test)]
 mod lists;
 #[cfg(test)]
-mod queries;
+mod stories;
 #[cfg(test)]
-mod readers;
-#[cfg(test)]
-mod refusals;
+mod telling;

@@ -4,7 +4,7 @@ use crate::damages::Damages;
 use crate::faults::Fault;
 use crate::folder::Folder;
 use crate::outcomes::{Outcome, shown};
-use crate::records::Fields;
+use crate::records::record_of;
 use crate::rows::{Line, Row, lines_of, script_of};
 use crate::runs::{run_input, run_words};
 use crate::stores::Kept;
@@ -88,11 +88,11 @@ impl<'a> Book<'a> {
         match part.head {
             "text" => self.put_text(part),
             "bytes" => self.add_bytes(part),
-            "record" => self.add_record(part),
+            "record" => self.add_records(part),
             "sql" => self.set_statements(part),
             "script" => self.run_script(part),
-            "inputs" => self.run_inputs(part),
-            "words" => self.run_words(part),
+            "inputs" => self.run_each(part, false),
+            "words" => self.run_each(part, true),
             "story" => self.run_story(part, None),
             "both" => {
                 self.run_story(part, Some(Kept::Plain))?;
@@ -113,8 +113,8 @@ impl<'a> Book<'a> {
                 self.folder = Folder::new(self.alloc);
                 Ok(())
             }
-            "register" => self.folder.set_register(self.alloc, part.name),
-            "lost" => self.folder.put(self.alloc, part.name, None),
+            "register" => self.folder.set_register(part.name),
+            "lost" => self.folder.put(part.name, None),
             _ => Err(Fault::Line("no such head")),
         }
     }
@@ -122,13 +122,13 @@ impl<'a> Book<'a> {
     /// Puts a file of these lines there.
     fn put_text(&mut self, part: &Part<'_>) -> Result<(), Fault> {
         let bytes = self.bytes_of_lines(part, b"\n")?;
-        self.folder.put(self.alloc, part.name, Some(bytes))
+        self.folder.put(part.name, Some(bytes))
     }
 
     /// Adds the bytes of these lines to a file.
     fn add_bytes(&mut self, part: &Part<'_>) -> Result<(), Fault> {
         let bytes = self.bytes_of_lines(part, b"")?;
-        self.folder.add(self.alloc, part.name, &bytes)
+        self.folder.add(part.name, &bytes)
     }
 
     /// What the lines of a part stand for, with these bytes behind each.
@@ -136,23 +136,44 @@ impl<'a> Book<'a> {
         let mut bytes = Vec::new(self.alloc);
         for line in &part.lines {
             self.number = line.number;
-            let text = expanded(self.alloc, &self.folder, line.text)?;
+            let text = expanded(&self.folder, line.text)?;
             bytes.extend_from_slice(&bytes_of(self.alloc, &text)?)?;
             bytes.extend_from_slice(behind)?;
         }
         Ok(bytes)
     }
 
-    /// Adds the record of these fields to a file.
-    fn add_record(&mut self, part: &Part<'_>) -> Result<(), Fault> {
-        let mut fields = Fields::new(self.alloc);
+    /// Adds the record of these fields to a file, or behind `FILE FIRST LAST` one for each number from the first to the last.
+    fn add_records(&mut self, part: &Part<'_>) -> Result<(), Fault> {
+        let (path, numbers) = part.name.split_once(' ').unwrap_or((part.name, "0 0"));
+        let (first, last) = numbers.split_once(' ').unwrap_or((numbers, ""));
+        let (Ok(first), Ok(last)) = (first.parse::<u64>(), last.parse::<u64>()) else {
+            return Err(Fault::Line("no numbers of records"));
+        };
+        let mut records = Vec::new(self.alloc);
+        for step in 0..=first.abs_diff(last) {
+            let up = first.saturating_add(step);
+            let number = if first < last {
+                up
+            } else {
+                first.saturating_sub(step)
+            };
+            let fields = self.fields_of(part, number)?;
+            records.extend_from_slice(&record_of(self.alloc, &fields)?)?;
+        }
+        self.folder.add(path, &records)
+    }
+
+    /// The fields of a part, with the four digits of a number for each `####`.
+    fn fields_of(&mut self, part: &Part<'_>, number: u64) -> Result<Vec<String>, Fault> {
+        let digits = format!(in self.alloc; "{number:04}")?;
+        let mut fields = Vec::new(self.alloc);
         for line in &part.lines {
             self.number = line.number;
-            let text = expanded(self.alloc, &self.folder, line.text)?;
-            fields.add(self.alloc, &text)?;
+            let text = line.text.replace(self.alloc, "####", &digits)?;
+            fields.push(expanded(&self.folder, &text)?)?;
         }
-        let record = fields.record(self.alloc)?;
-        self.folder.add(self.alloc, part.name, &record)
+        Ok(fields)
     }
 
     /// Has these lines alter the register, a statement each.
@@ -168,32 +189,23 @@ impl<'a> Book<'a> {
     /// The rows of a part.
     fn rows_of(&mut self, part: &Part<'_>, is_words: bool) -> Result<Vec<Row>, Fault> {
         let mut rows = Vec::new(self.alloc);
-        for line in &part.lines {
+        for line in part.lines.iter().filter(|line| !line.text.starts_with('#')) {
             self.number = line.number;
-            if !line.text.starts_with('#') {
-                rows.push(Row::read(self.alloc, &self.folder, line.number, line.text, is_words)?)?;
-            }
+            rows.push(Row::read(&self.folder, line, is_words)?)?;
         }
         self.rows = self.rows.saturating_add(rows.len());
         Ok(rows)
     }
 
-    /// Runs each row by words.
-    fn run_words(&mut self, part: &Part<'_>) -> Result<(), Fault> {
-        let rows = self.rows_of(part, true)?;
+    /// Runs each row, by words or as a whole input.
+    fn run_each(&mut self, part: &Part<'_>, is_words: bool) -> Result<(), Fault> {
+        let rows = self.rows_of(part, is_words)?;
         for row in &rows {
-            let found = run_words(self.alloc, &self.folder, &row.input)?;
-            self.compare(part.name, slice::from_ref(row), &found)?;
-        }
-        Ok(())
-    }
-
-    /// Runs each row as a whole input.
-    fn run_inputs(&mut self, part: &Part<'_>) -> Result<(), Fault> {
-        let rows = self.rows_of(part, false)?;
-        for row in &rows {
-            let input = bytes_of(self.alloc, &row.input)?;
-            let found = run_input(self.alloc, &self.folder, &input)?;
+            let found = if is_words {
+                run_words(&self.folder, &row.input)?
+            } else {
+                run_input(&self.folder, &bytes_of(self.alloc, &row.input)?)?
+            };
             self.compare(part.name, slice::from_ref(row), &found)?;
         }
         Ok(())
@@ -202,8 +214,7 @@ impl<'a> Book<'a> {
     /// Runs all rows as the lines of one script.
     fn run_script(&mut self, part: &Part<'_>) -> Result<(), Fault> {
         let rows = self.rows_of(part, false)?;
-        let script = script_of(self.alloc, self.folder.profile()?, &rows)?;
-        let found = run_input(self.alloc, &self.folder, &script)?;
+        let found = run_input(&self.folder, &script_of(&self.folder, &rows)?)?;
         self.compare(part.name, &rows, &found)
     }
 
@@ -219,7 +230,7 @@ impl<'a> Book<'a> {
         let Some(damages) = Damages::read(part.name) else {
             return Err(Fault::Line("no damages"));
         };
-        for line in &part.lines {
+        for line in part.lines.iter().filter(|line| !line.text.starts_with('#')) {
             self.number = line.number;
             self.run_damage(&damages, line, Kept::Plain)?;
             self.run_damage(&damages, line, Kept::Packed)?;
@@ -229,7 +240,7 @@ impl<'a> Book<'a> {
 
     /// Has a statement alter a register of this layout, where it is one of those that are asked for.
     fn run_damage(&mut self, all: &Damages<'_>, line: &Line<'_>, kept: Kept) -> Result<(), Fault> {
-        if line.text.starts_with('#') || !all.has(kept) {
+        if !all.has(kept) {
             return Ok(());
         }
         let story = all.story(self.alloc, kept, line.text)?;
@@ -246,7 +257,7 @@ impl<'a> Book<'a> {
         lines: &[Line<'_>],
         either: Option<Kept>,
     ) -> Result<usize, Fault> {
-        let (answered, number, result) = told(self.alloc, &self.folder, either, lines);
+        let (answered, number, result) = told(&self.folder, either, lines)?;
         self.number = number;
         for (row, found) in &answered {
             self.compare(name, slice::from_ref(row), found)?;

@@ -8,7 +8,7 @@ use zeb_engine::{Command, DbName, Kind};
 const SHOWN: u32 = 20;
 
 /// The command of a line: that of a batch, but that behind the database of a change there may be any number of files, each `hex:` and the
-/// digits of its bytes.
+/// digits of its bytes; and `analyse` with such files.
 pub fn command_of(alloc: Global, line: &str) -> Result<Command, Fault> {
     match read_command(alloc, line)? {
         Some(command) => Ok(command),
@@ -30,6 +30,7 @@ fn read_command(alloc: Global, line: &str) -> Result<Option<Command>, AllocError
         "update" => read_change(alloc, Kind::Update, rest),
         "delete" => read_change(alloc, Kind::Delete, rest),
         "adelete" => read_change(alloc, Kind::Adelete, rest),
+        "analyse" => Ok(read_files(alloc, rest)?.map(|files| Command::Analyse { files })),
         "find" => read_find(alloc, rest),
         "scan" => read_scan(alloc, rest),
         _ => Ok(None),

@@ -4,7 +4,7 @@ use crate::commands::command_of;
 use crate::faults::Fault;
 use crate::stores::{Kept, Store};
 use sqlite::{Connection, MemStore};
-use std::alloc::Global;
+use std::alloc::{AllocError, Global};
 use std::str;
 use zeb_paths::Shelved;
 
@@ -21,6 +21,7 @@ struct Filed {
 /// Files in memory.
 #[derive(Drop)]
 pub struct Folder {
+    pub alloc: Global,
     files: Vec<Filed>,
     /// Empty where there is none, `new` without tables, `begun` without a record, or the file whose records are kept.
     register: String,
@@ -32,6 +33,7 @@ impl Folder {
     /// An empty folder, where no register can be opened.
     pub fn new(alloc: Global) -> Folder {
         Folder {
+            alloc,
             files: Vec::new(alloc),
             register: String::new(alloc),
             statements: Vec::new(alloc),
@@ -39,9 +41,9 @@ impl Folder {
     }
 
     /// Has words find this register, not altered.
-    pub fn set_register(&mut self, alloc: Global, register: &str) -> Result<(), Fault> {
-        self.register = String::from_str(alloc, register)?;
-        self.set_statements(Vec::new(alloc));
+    pub fn set_register(&mut self, register: &str) -> Result<(), Fault> {
+        self.register = String::from_str(self.alloc, register)?;
+        self.set_statements(Vec::new(self.alloc));
         Ok(())
     }
 
@@ -51,16 +53,16 @@ impl Folder {
     }
 
     /// Adds bytes to a file, which is made where it is absent.
-    pub fn add(&mut self, alloc: Global, path: &str, bytes: &[u8]) -> Result<(), Fault> {
-        let mut whole = Vec::from_slice(alloc, self.bytes(path).unwrap_or(&[]))?;
+    pub fn add(&mut self, path: &str, bytes: &[u8]) -> Result<(), Fault> {
+        let mut whole = Vec::from_slice(self.alloc, self.bytes(path).unwrap_or(&[]))?;
         whole.extend_from_slice(bytes)?;
-        self.put(alloc, path, Some(whole))
+        self.put(path, Some(whole))
     }
 
     /// Puts a file there, in the place of one of this path; without bytes each read of it fails.
-    pub fn put(&mut self, alloc: Global, path: &str, bytes: Option<Vec<u8>>) -> Result<(), Fault> {
+    pub fn put(&mut self, path: &str, bytes: Option<Vec<u8>>) -> Result<(), Fault> {
         self.files.retain(|file| file.path.as_str() != path);
-        let path = String::from_str(alloc, path)?;
+        let path = String::from_str(self.alloc, path)?;
         self.files.push(Filed { path, bytes })?;
         Ok(())
     }
@@ -73,6 +75,15 @@ impl Folder {
             }
         }
         Err(Fault::Line("no such file"))
+    }
+
+    /// The bytes of some files, one behind the other.
+    pub fn joined(&self, paths: &str) -> Result<Vec<u8>, Fault> {
+        let mut joined = Vec::new(self.alloc);
+        for path in paths.split(' ') {
+            joined.extend_from_slice(self.bytes(path)?)?;
+        }
+        Ok(joined)
     }
 
     /// The input of words: the file `input`, or nothing.
@@ -94,8 +105,8 @@ impl Folder {
     }
 
     /// The files as paths have them.
-    pub fn shelved(&self, alloc: Global) -> Result<Vec<Shelved<'_>>, Fault> {
-        let mut shelved = Vec::new(alloc);
+    pub fn shelved(&self) -> Result<Vec<Shelved<'_>>, AllocError> {
+        let mut shelved = Vec::new(self.alloc);
         for file in &self.files {
             let path = file.path.as_str();
             let bytes = file.bytes.as_ref().map(|bytes| bytes.as_slice());
@@ -105,8 +116,8 @@ impl Folder {
     }
 
     /// A new store with the folder's register in it, altered, or `None` where no store can be opened.
-    pub fn store(&self, alloc: Global) -> Result<Option<Connection<MemStore>>, Fault> {
-        let Some(mut connection) = self.register(alloc)? else {
+    pub fn store(&self) -> Result<Option<Connection<MemStore>>, Fault> {
+        let Some(mut connection) = self.register()? else {
             return Ok(None);
         };
         for statement in &self.statements {
@@ -116,29 +127,30 @@ impl Folder {
     }
 
     /// The same, as it was before it was altered.
-    fn register(&self, alloc: Global) -> Result<Option<Connection<MemStore>>, Fault> {
+    fn register(&self) -> Result<Option<Connection<MemStore>>, Fault> {
         match self.register.as_str() {
             "" => Ok(None),
-            "new" => Ok(Some(Store::new(alloc)?.connection())),
-            "begun" => Ok(Some(filled(alloc, self.profile()?, &["init"])?)),
+            "new" => Ok(Some(Store::new(self.alloc)?.take()?)),
+            "begun" => Ok(Some(self.filled(&["init"])?)),
             path => {
-                let digits = hex::encode(alloc, self.bytes(path)?)?;
-                let update = format!(in alloc; "update Default hex:{digits}")?;
-                Ok(Some(filled(alloc, self.profile()?, &["init", &update])?))
+                let digits = hex::encode(self.alloc, self.bytes(path)?)?;
+                let update = ["update Default hex:", &digits].concat(self.alloc)?;
+                Ok(Some(self.filled(&["init", &update])?))
             }
         }
     }
-}
 
-/// A new store after these commands under a profile.
-fn filled(alloc: Global, profile: &str, lines: &[&str]) -> Result<Connection<MemStore>, Fault> {
-    let mut store = Store::new(alloc)?.begun(alloc, Kept::Packed, profile)?;
-    for line in lines {
-        if store.answer(&command_of(alloc, line)?)?.is_err() {
-            return Err(Fault::Line("the register is refused"));
+    /// A new store after these commands under the profile.
+    fn filled(&self, lines: &[&str]) -> Result<Connection<MemStore>, Fault> {
+        let mut store = Store::new(self.alloc)?;
+        store.begin(self.alloc, Kept::Packed, self.profile()?)?;
+        for line in lines {
+            if store.answer(&command_of(self.alloc, line)?)?.is_err() {
+                return Err(Fault::Line("the register is refused"));
+            }
         }
+        store.take()
     }
-    Ok(store.connection())
 }
 
 /// Runs a statement, which has to change some row.

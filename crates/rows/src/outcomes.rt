@@ -16,71 +16,50 @@ pub struct Outcome {
 }
 
 impl Outcome {
-    /// Nothing, with status 0.
-    pub fn new(alloc: Global) -> Outcome {
+    /// This status and output.
+    pub fn new(alloc: Global, status: u8, output: Vec<u8>) -> Outcome {
         Outcome {
-            status: 0,
-            output: Vec::new(alloc),
+            status,
+            output,
             faults: Vec::new(alloc),
             is_open: false,
         }
     }
 
-    /// Adds what an answer says: lines with `; ` between, or `nothing`. `S: TEXT` is the status S and a line `zebraidx: TEXT`, on the
-    /// fault output where words are run, and `status S` that status alone; `bytes of FILE` are those, and at `...` lines may follow.
-    pub fn add(
-        &mut self,
-        alloc: Global,
-        folder: &Folder,
-        answer: &str,
-        is_words: bool,
-    ) -> Result<(), Fault> {
+    /// What an answer says: lines with `; ` between, or `nothing`. `S: TEXT` is the status S and a line `zebraidx: TEXT`, on the fault output
+    /// where words are run, and `status S` that status alone; `bytes of FILE` are those, and at `...` lines may follow.
+    pub fn read(folder: &Folder, answer: &str, is_words: bool) -> Result<Outcome, Fault> {
+        let mut wanted = Outcome::new(folder.alloc, 0, Vec::new(folder.alloc));
         if answer == "nothing" {
-            return Ok(());
+            return Ok(wanted);
         }
         for line in answer.split("; ") {
-            self.add_line(alloc, folder, line, is_words)?;
+            wanted.add_line(folder, line, is_words)?;
         }
-        Ok(())
+        Ok(wanted)
     }
 
-    fn add_line(
-        &mut self,
-        alloc: Global,
-        folder: &Folder,
-        line: &str,
-        is_words: bool,
-    ) -> Result<(), Fault> {
+    fn add_line(&mut self, folder: &Folder, line: &str, is_words: bool) -> Result<(), Fault> {
         if line == "..." {
             self.is_open = true;
             return Ok(());
         }
         if let Some(paths) = line.strip_prefix("bytes of ") {
-            return self.add_files(folder, paths);
+            self.output.extend_from_slice(&folder.joined(paths)?)?;
+            return Ok(());
         }
         if let Some(digit) = line.strip_prefix("status ") {
             return self.raise(digit);
         }
-        if let Some((digit, text)) = refusal(line) {
-            self.raise(digit)?;
-            return self.add_refusal(alloc, text, is_words);
-        }
-        add_ended(alloc, &mut self.output, line)
-    }
-
-    fn add_files(&mut self, folder: &Folder, paths: &str) -> Result<(), Fault> {
-        for path in paths.split(' ') {
-            self.output.extend_from_slice(folder.bytes(path)?)?;
-        }
-        Ok(())
-    }
-
-    fn add_refusal(&mut self, alloc: Global, text: &str, is_words: bool) -> Result<(), Fault> {
-        let line = format!(in alloc; "zebraidx: {text}")?;
+        let Some((digit, text)) = refusal(line) else {
+            return add_ended(folder.alloc, &mut self.output, line);
+        };
+        self.raise(digit)?;
+        let line = ["zebraidx: ", text].concat(folder.alloc)?;
         if is_words {
-            add_ended(alloc, &mut self.faults, &line)
+            add_ended(folder.alloc, &mut self.faults, &line)
         } else {
-            add_ended(alloc, &mut self.output, &line)
+            add_ended(folder.alloc, &mut self.output, &line)
         }
     }
 
@@ -104,21 +83,16 @@ impl Outcome {
     }
 }
 
-/// What was answered and written, for a reader.
+/// What was answered and written, for a reader: the first bytes.
 pub fn shown(
     alloc: Global,
     status: u8,
     output: &[u8],
     faults: &[u8],
 ) -> Result<String, AllocError> {
-    let output = begun(alloc, output)?;
-    let faults = begun(alloc, faults)?;
+    let output = String::from_utf8_lossy(alloc, output.get(..300).unwrap_or(output))?;
+    let faults = String::from_utf8_lossy(alloc, faults.get(..300).unwrap_or(faults))?;
     format!(in alloc; "status {status} {output:?} {faults:?}")
-}
-
-/// The first bytes as a text.
-fn begun(alloc: Global, bytes: &[u8]) -> Result<String, AllocError> {
-    String::from_utf8_lossy(alloc, bytes.get(..300).unwrap_or(bytes))
 }
 
 /// Adds the bytes of a text, and an LF.

@@ -32,47 +32,28 @@ pub struct Row {
 }
 
 impl Row {
-    /// The row of a line; of one that is run by words, where this is said.
-    pub fn read(
-        alloc: Global,
-        folder: &Folder,
-        number: usize,
-        line: &str,
-        is_words: bool,
-    ) -> Result<Row, Fault> {
-        let Some((input, answer)) = line.split_once(" -> ") else {
-            return Err(Fault::Line("a row without ` -> `"));
-        };
-        Row::new(alloc, folder, number, input, answer, is_words)
-    }
-
-    /// The row of an input and its answer.
-    pub fn new(
-        alloc: Global,
-        folder: &Folder,
-        number: usize,
-        input: &str,
-        answer: &str,
-        is_words: bool,
-    ) -> Result<Row, Fault> {
-        let input = expanded(alloc, folder, input)?;
-        let answer = expanded(alloc, folder, answer)?;
-        let mut wanted = Outcome::new(alloc);
-        wanted.add(alloc, folder, &answer, is_words)?;
+    /// The row of a line; of one that is run by words, where this is said. One without an arrow is to be answered with nothing.
+    pub fn read(folder: &Folder, line: &Line<'_>, is_words: bool) -> Result<Row, Fault> {
+        let (input, answer) = line
+            .text
+            .split_once(" -> ")
+            .unwrap_or((line.text, "nothing"));
+        let input = expanded(folder, input)?;
+        let answer = expanded(folder, answer)?;
         Ok(Row {
-            number,
+            number: line.number,
             input,
-            wanted,
+            wanted: Outcome::read(folder, &answer, is_words)?,
         })
     }
 }
 
-/// The input of a script of these rows under a profile.
-pub fn script_of(alloc: Global, profile: &str, rows: &[Row]) -> Result<Vec<u8>, Fault> {
-    let mut script = Vec::from_slice(alloc, profile.as_bytes())?;
+/// The input of a script of these rows under the profile.
+pub fn script_of(folder: &Folder, rows: &[Row]) -> Result<Vec<u8>, Fault> {
+    let mut script = Vec::from_slice(folder.alloc, folder.profile()?.as_bytes())?;
     script.extend_from_slice(b".\n")?;
     for row in rows {
-        script.extend_from_slice(&bytes_of(alloc, &row.input)?)?;
+        script.extend_from_slice(&bytes_of(folder.alloc, &row.input)?)?;
         script.push(b'\n')?;
     }
     Ok(script)

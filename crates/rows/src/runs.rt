@@ -4,38 +4,36 @@ use crate::faults::Fault;
 use crate::folder::Folder;
 use crate::outcomes::Outcome;
 use crate::texts::text_of;
-use sqlite::{Alter, Connection, MemStore};
+use sqlite::{Connection, MemStore};
 use std::alloc::Global;
 use zeb_marc::Slice;
 use zeb_paths::{Paths, Shelf};
 use zeb_program::{Sink, run};
 
 /// Runs the program without words on an input.
-pub fn run_input(alloc: Global, folder: &Folder, input: &[u8]) -> Result<Outcome, Fault> {
-    run_over::<MemStore>(alloc, folder, None, &[], input)
+pub fn run_input(folder: &Folder, input: &[u8]) -> Result<Outcome, Fault> {
+    run_over(folder, None, &[], input)
 }
 
 /// Runs the program on words, with blanks between, over the folder's register. Its input is the folder's file `input`, if there is one.
-pub fn run_words(alloc: Global, folder: &Folder, line: &str) -> Result<Outcome, Fault> {
-    let mut words = Vec::new(alloc);
+pub fn run_words(folder: &Folder, line: &str) -> Result<Outcome, Fault> {
+    let mut words = Vec::new(folder.alloc);
     for word in line.split(' ') {
-        words.push(text_of(alloc, word)?)?;
+        words.push(text_of(folder.alloc, word)?)?;
     }
-    let store = folder.store(alloc)?;
-    run_over(alloc, folder, store, &words, folder.input())
+    run_over(folder, folder.store()?, &words, folder.input())
 }
 
 /// Runs the program over the folder's files and a store.
-fn run_over<S: Alter + Drop>(
-    alloc: Global,
+fn run_over(
     folder: &Folder,
-    store: Option<Connection<S>>,
+    store: Option<Connection<MemStore>>,
     words: &[String],
     input: &[u8],
 ) -> Result<Outcome, Fault> {
-    let files = folder.shelved(alloc)?;
+    let files = folder.shelved()?;
     let mut shelf = Shelf::new(&files, store);
-    Ok(run_on(alloc, words, &mut shelf, input))
+    Ok(run_on(folder.alloc, words, &mut shelf, input))
 }
 
 fn run_on<P: Paths>(alloc: Global, words: &[String], files: &mut P, input: &[u8]) -> Outcome {

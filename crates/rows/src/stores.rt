@@ -3,6 +3,7 @@
 use crate::faults::Fault;
 use sqlite::{Connection, MemStore};
 use std::alloc::Global;
+use std::mem;
 use zeb_engine::{Command, Limits, Refusal, Reply, Session};
 use zeb_packed::Blocks;
 use zeb_profile::Profile;
@@ -18,6 +19,8 @@ pub enum Kept {
 /// A store, and the session that has it, if there is one.
 #[derive(Drop)]
 pub enum Store {
+    /// It was taken out.
+    Taken,
     Free(Connection<MemStore>),
     Plain(Session<MemStore, Rows>),
     Packed(Session<MemStore, Blocks>),
@@ -32,48 +35,50 @@ impl Store {
         }
     }
 
-    /// Ends the session.
-    pub fn connection(self) -> Connection<MemStore> {
-        match self {
-            Store::Free(connection) => connection,
-            Store::Plain(session) => session.release(),
-            Store::Packed(session) => session.release(),
+    /// Ends the session, and takes the connection out.
+    pub fn take(&mut self) -> Result<Connection<MemStore>, Fault> {
+        match mem::replace(self, Store::Taken) {
+            Store::Taken => Err(Fault::Line("no store")),
+            Store::Free(connection) => Ok(connection),
+            Store::Plain(session) => Ok(session.release()),
+            Store::Packed(session) => Ok(session.release()),
         }
     }
 
     /// Begins a session of this layout under a profile; there is none where the store is refused.
-    pub fn begun(self, alloc: Global, kept: Kept, profile: &str) -> Result<Store, Fault> {
-        let connection = self.connection();
+    pub fn begin(&mut self, alloc: Global, kept: Kept, profile: &str) -> Result<(), Fault> {
+        let connection = self.take()?;
         let Ok(profile) = Profile::read(alloc, profile) else {
             return Err(Fault::Line("the profile is refused"));
         };
-        match kept {
-            Kept::Plain => match adopted::<Rows>(alloc, connection, profile) {
-                Ok(session) => Ok(Store::Plain(session)),
-                Err(connection) => Ok(Store::Free(connection)),
+        *self = match kept {
+            Kept::Plain => match adopted(alloc, connection, profile) {
+                Ok(session) => Store::Plain(session),
+                Err(connection) => Store::Free(connection),
             },
-            Kept::Packed => match adopted::<Blocks>(alloc, connection, profile) {
-                Ok(session) => Ok(Store::Packed(session)),
-                Err(connection) => Ok(Store::Free(connection)),
+            Kept::Packed => match adopted(alloc, connection, profile) {
+                Ok(session) => Store::Packed(session),
+                Err(connection) => Store::Free(connection),
             },
-        }
+        };
+        Ok(())
     }
 
     /// What the session answers to a command.
     pub fn answer(&mut self, command: &Command) -> Result<Result<Reply, Refusal>, Fault> {
         match self {
-            Store::Free(_) => Err(Fault::Line("a command without a session")),
             Store::Plain(session) => Ok(session.command(command)),
             Store::Packed(session) => Ok(session.command(command)),
+            _ => Err(Fault::Line("a command without a session")),
         }
     }
 
     /// What the session counted for its last command.
     pub fn work(&self) -> Work {
         match self {
-            Store::Free(_) => Work::default(),
             Store::Plain(session) => session.work(),
             Store::Packed(session) => session.work(),
+            _ => Work::default(),
         }
     }
 }

@@ -10,32 +10,31 @@ use crate::texts::text_of;
 use sqlite::{Connection, MemStore};
 use std::alloc::Global;
 use tables::queries::{execute, rows};
-use zeb_engine::{refusal_line, render, status};
-use zeb_register::Work;
+use zeb_engine::{Refusal, Reply, refusal_line, render, status};
 
 /// The rows of a story, one for each line, with what the line was answered; the number of the last line that was carried out; and why no
 /// further one was.
 pub type Told = (Vec<(Row, Outcome)>, usize, Result<(), Fault>);
 
 /// Takes a new store through these lines, of which `either` stands for this layout, if for one.
-pub fn told(alloc: Global, folder: &Folder, either: Option<Kept>, lines: &[Line<'_>]) -> Told {
-    let mut story = Story::new(alloc, folder, either);
+pub fn told(folder: &Folder, either: Option<Kept>, lines: &[Line<'_>]) -> Result<Told, Fault> {
+    let mut story = Story::new(folder, either)?;
     let result = story.tell(lines);
     let Story {
         answered,
         number,
         ..
     } = story;
-    (answered, number, result)
+    Ok((answered, number, result))
 }
 
-/// What is known of a story beside its store.
+/// A store, and what is known of its story.
 #[derive(Drop)]
 struct Story<'a> {
-    alloc: Global,
     folder: &'a Folder,
     /// The layout of `either`, where there is one.
     either: Option<Kept>,
+    store: Store,
     /// Queries that were noted, and the rows that they found then.
     queries: &'a str,
     noted: String,
@@ -44,119 +43,123 @@ struct Story<'a> {
 }
 
 impl<'a> Story<'a> {
-    /// A story of which nothing is told yet.
-    fn new(alloc: Global, folder: &'a Folder, either: Option<Kept>) -> Story<'a> {
-        Story {
-            alloc,
+    /// A new store, of which nothing is told yet.
+    fn new(folder: &'a Folder, either: Option<Kept>) -> Result<Story<'a>, Fault> {
+        Ok(Story {
             folder,
             either,
+            store: Store::new(folder.alloc)?,
             queries: "",
-            noted: String::new(alloc),
+            noted: String::new(folder.alloc),
             number: 0,
-            answered: Vec::new(alloc),
-        }
+            answered: Vec::new(folder.alloc),
+        })
     }
 
+    /// Takes the store through these lines.
     fn tell(&mut self, lines: &[Line<'_>]) -> Result<(), Fault> {
-        let mut store = Store::new(self.alloc)?;
         for line in lines {
             self.number = line.number;
-            store = match line.text.strip_prefix("as ") {
-                Some(paths) => self.tell_files(store, paths)?,
-                None => self.tell_line(store, line.text)?,
-            };
+            match line.text.strip_prefix("as ") {
+                Some(paths) => self.tell_files(paths)?,
+                None => self.tell_line(line.text)?,
+            }
         }
         Ok(())
     }
 
-    fn tell_files(&mut self, store: Store, paths: &str) -> Result<Store, Fault> {
-        let folder = self.folder;
-        let mut store = store;
-        for path in paths.split(' ') {
-            store = self.tell_file(store, folder.text(path)?)?;
-        }
-        Ok(store)
-    }
-
-    fn tell_file(&mut self, store: Store, text: &str) -> Result<Store, Fault> {
-        let mut store = store;
+    fn tell_files(&mut self, paths: &str) -> Result<(), Fault> {
+        let Ok(text) = String::from_utf8(self.folder.joined(paths)?) else {
+            return Err(Fault::Line("the files are no text"));
+        };
         for line in text.split_terminator('\n') {
-            store = self.tell_line(store, line)?;
+            self.tell_line(line)?;
         }
-        Ok(store)
+        Ok(())
     }
 
-    /// Carries out a line, unless it is a remark. One without an answer is to be answered with nothing.
-    fn tell_line(&mut self, store: Store, line: &str) -> Result<Store, Fault> {
-        if line.starts_with('#') {
-            return Ok(store);
+    /// Carries out a line, unless it is a remark.
+    fn tell_line(&mut self, text: &str) -> Result<(), Fault> {
+        if text.starts_with('#') {
+            return Ok(());
         }
-        let (input, answer) = line.split_once(" -> ").unwrap_or((line, "nothing"));
-        let row = Row::new(self.alloc, self.folder, self.number, input, answer, false)?;
-        let mut found = Outcome::new(self.alloc);
-        let store = self.carry_out(store, &row, &mut found)?;
+        let number = self.number;
+        let row = Row::read(self.folder, &Line { number, text }, false)?;
+        let found = self.answer(&text_of(self.folder.alloc, &row.input)?)?;
         self.answered.push((row, found))?;
-        Ok(store)
+        Ok(())
     }
 
-    /// Carries out a row, and adds what it is answered.
-    fn carry_out(&mut self, store: Store, row: &Row, found: &mut Outcome) -> Result<Store, Fault> {
-        let input = text_of(self.alloc, &row.input)?;
-        let (word, rest) = input.split_once(' ').unwrap_or((input.as_str(), ""));
+    /// Carries out an input.
+    fn answer(&mut self, input: &str) -> Result<Outcome, Fault> {
+        let either = self.either;
+        let (word, rest) = input.split_once(' ').unwrap_or((input, ""));
         match word {
-            "plain" => self.begin(store, Some(Kept::Plain), rest, found),
-            "packed" => self.begin(store, Some(Kept::Packed), rest, found),
-            "either" => self.begin(store, self.either, rest, found),
-            "work" => command(self.alloc, store, rest, true, found),
-            "sql" | "alter" | "SELECT" | "note" | "same" => {
-                let mut connection = store.connection();
-                self.look(&mut connection, &input, found)?;
-                Ok(Store::Free(connection))
+            "plain" => self.begin(Some(Kept::Plain), rest),
+            "packed" => self.begin(Some(Kept::Packed), rest),
+            "either" => self.begin(either, rest),
+            "work" => self.count(rest),
+            "sql" | "alter" | "SELECT" | "note" | "same" | "limit" => {
+                let mut connection = self.store.take()?;
+                let found = self.look(&mut connection, input)?;
+                self.store = Store::Free(connection);
+                written(self.folder.alloc, &found)
             }
-            _ => command(self.alloc, store, &input, false, found),
+            _ => self.command(input),
         }
     }
 
     /// Begins a session of a layout under the profile of a file. It is told where the store is refused.
-    fn begin(
-        &self,
-        store: Store,
-        kept: Option<Kept>,
-        path: &str,
-        found: &mut Outcome,
-    ) -> Result<Store, Fault> {
+    fn begin(&mut self, kept: Option<Kept>, path: &str) -> Result<Outcome, Fault> {
         let Some(kept) = kept else {
             return Err(Fault::Line("no layout"));
         };
-        let store = store.begun(self.alloc, kept, self.folder.text(path)?)?;
-        if matches!(store, Store::Free(_)) {
-            found.output.extend_from_slice(b"refused\n")?;
-        }
-        Ok(store)
+        let folder = self.folder;
+        self.store.begin(folder.alloc, kept, folder.text(path)?)?;
+        let is_refused = matches!(self.store, Store::Free(_));
+        written(folder.alloc, if is_refused { "refused\n" } else { "" })
     }
 
-    /// Alters the tables, or looks at them.
+    /// What is printed for a command, and its status.
+    fn command(&mut self, line: &str) -> Result<Outcome, Fault> {
+        let command = command_of(self.folder.alloc, line)?;
+        answered(self.folder.alloc, &self.store.answer(&command)?)
+    }
+
+    /// The same, and in the last line how many rows of `dict` it read and wrote, and how many of `blocks`.
+    fn count(&mut self, line: &str) -> Result<Outcome, Fault> {
+        let mut found = self.command(line)?;
+        let work = self.store.work();
+        let counts = format!(in self.folder.alloc;
+            ", {} {} {} {}\n",
+            work.dict_read, work.dict_written, work.block_read, work.block_written
+        )?;
+        found.output.pop();
+        found.output.extend_from_slice(counts.as_bytes())?;
+        Ok(found)
+    }
+
+    /// Alters the tables, looks at them, or limits the steps of a statement.
     fn look(
         &mut self,
         connection: &mut Connection<MemStore>,
         input: &str,
-        found: &mut Outcome,
-    ) -> Result<(), Fault> {
+    ) -> Result<String, Fault> {
+        let folder = self.folder;
+        let alloc = folder.alloc;
         let (word, rest) = input.split_once(' ').unwrap_or((input, ""));
-        let text = match word {
-            "sql" => executed(self.alloc, connection, rest)?,
-            "alter" => altered(self.alloc, connection, rest)?,
-            "SELECT" => all_found(self.alloc, connection, input)?,
-            "note" => {
-                let folder = self.folder;
+        match word {
+            "sql" => return executed(alloc, connection, rest),
+            "alter" => return altered(alloc, connection, rest),
+            "SELECT" => return selected(alloc, connection, input),
+            "same" => return self.differing(connection),
+            "limit" => connection.set_step_limit(rest.parse().ok()),
+            _ => {
                 self.queries = folder.text(rest)?;
-                self.noted = all_found(self.alloc, connection, self.queries)?;
-                String::new(self.alloc)
+                self.noted = all_found(alloc, connection, self.queries)?;
             }
-            _ => self.differing(connection)?,
-        };
-        found.output.extend_from_slice(text.as_bytes())?;
-        Ok(())
+        }
+        Ok(String::new(alloc))
     }
 
     /// What the queries that were noted find now, or nothing where they find the same.
@@ -164,27 +167,45 @@ impl<'a> Story<'a> {
         if self.queries.is_empty() {
             return Err(Fault::Line("nothing was noted"));
         }
-        let found = all_found(self.alloc, connection, self.queries)?;
+        let found = all_found(self.folder.alloc, connection, self.queries)?;
         if found.as_str() == self.noted.as_str() {
-            Ok(String::new(self.alloc))
+            Ok(String::new(self.folder.alloc))
         } else {
             Ok(found)
         }
     }
 }
 
-/// The line of how many rows a statement changes.
+/// This text, with status 0.
+fn written(alloc: Global, text: &str) -> Result<Outcome, Fault> {
+    Ok(Outcome::new(alloc, 0, Vec::from_slice(alloc, text.as_bytes())?))
+}
+
+/// What is printed for an answer, and its status.
+fn answered(alloc: Global, answer: &Result<Reply, Refusal>) -> Result<Outcome, Fault> {
+    match answer {
+        Ok(reply) => Ok(Outcome::new(alloc, 0, render(alloc, reply)?)),
+        Err(refusal) => {
+            let mut found = written(alloc, &refusal_line(alloc, refusal)?)?;
+            found.output.push(b'\n')?;
+            found.status = status(refusal);
+            Ok(found)
+        }
+    }
+}
+
+/// The line of how many rows a statement changes, or that it is refused.
 fn executed(
     alloc: Global,
     connection: &mut Connection<MemStore>,
     statement: &str,
 ) -> Result<String, Fault> {
-    let mut count = String::new(alloc);
-    if execute(connection, statement, &mut count).is_err() {
-        return Err(Fault::Line("a statement that is refused"));
+    let mut line = String::new(alloc);
+    if execute(connection, statement, &mut line).is_err() {
+        line.push_str("refused")?;
     }
-    count.push_str("\n")?;
-    Ok(count)
+    line.push_str("\n")?;
+    Ok(line)
 }
 
 /// The same, or nothing where it changes some row.
@@ -193,11 +214,23 @@ fn altered(
     connection: &mut Connection<MemStore>,
     statement: &str,
 ) -> Result<String, Fault> {
-    let count = executed(alloc, connection, statement)?;
-    if count.as_str() == "0\n" {
-        Ok(count)
+    let line = executed(alloc, connection, statement)?;
+    if matches!(line.as_str(), "0\n" | "refused\n") {
+        Ok(line)
     } else {
         Ok(String::new(alloc))
+    }
+}
+
+/// The rows that a query finds, or that it is refused.
+fn selected(
+    alloc: Global,
+    connection: &mut Connection<MemStore>,
+    query: &str,
+) -> Result<String, Fault> {
+    match all_found(alloc, connection, query) {
+        Err(Fault::Line(_)) => Ok(String::from_str(alloc, "refused\n")?),
+        found => found,
     }
 }
 
@@ -214,40 +247,4 @@ fn all_found(
         }
     }
     Ok(found)
-}
-
-/// Carries out a command, and adds what is printed for it and its status, and in the last line how many rows of `dict` it read and wrote,
-/// and how many of `blocks`, where this is asked.
-fn command(
-    alloc: Global,
-    store: Store,
-    line: &str,
-    is_counted: bool,
-    found: &mut Outcome,
-) -> Result<Store, Fault> {
-    let mut store = store;
-    let command = command_of(alloc, line)?;
-    match store.answer(&command)? {
-        Ok(reply) => found.output = render(alloc, &reply)?,
-        Err(refusal) => {
-            found.status = status(&refusal);
-            let line = refusal_line(alloc, &refusal)?;
-            found.output.extend_from_slice(line.as_bytes())?;
-            found.output.push(b'\n')?;
-        }
-    }
-    if is_counted {
-        add_work(alloc, &store.work(), found)?;
-    }
-    Ok(store)
-}
-
-fn add_work(alloc: Global, work: &Work, found: &mut Outcome) -> Result<(), Fault> {
-    let counts = format!(in alloc;
-        ", {} {} {} {}\n",
-        work.dict_read, work.dict_written, work.block_read, work.block_written
-    )?;
-    found.output.pop();
-    found.output.extend_from_slice(counts.as_bytes())?;
-    Ok(())
 }

@@ -24,9 +24,7 @@ pub fn text_of(alloc: Global, text: &str) -> Result<String, Fault> {
 
 /// Adds the byte that two digits stand for, and what stands behind them.
 fn add_coded(alloc: Global, bytes: &mut Vec<u8>, part: &str) -> Result<(), Fault> {
-    let (Some(digits), Some(rest)) = (part.get(..2), part.get(2..)) else {
-        return Err(Fault::Line("a % without two digits"));
-    };
+    let (digits, rest) = (part.get(..2).unwrap_or("none"), part.get(2..).unwrap_or(""));
     let Ok(decoded) = hex::decode(alloc, digits) else {
         return Err(Fault::Line("a % without two digits"));
     };
@@ -36,26 +34,26 @@ fn add_coded(alloc: Global, bytes: &mut Vec<u8>, part: &str) -> Result<(), Fault
 }
 
 /// A text with what each `<..>` stands for: `<FILE>` for the digits of that file's bytes, `<100 @and >` for `@and ` a hundred times.
-pub fn expanded(alloc: Global, folder: &Folder, text: &str) -> Result<String, Fault> {
+pub fn expanded(folder: &Folder, text: &str) -> Result<String, Fault> {
     let (first, _) = text.split_once('<').unwrap_or((text, ""));
-    let mut filled = String::from_str(alloc, first)?;
+    let mut filled = String::from_str(folder.alloc, first)?;
     for part in text.split('<').skip(1) {
         let Some((name, behind)) = part.split_once('>') else {
             return Err(Fault::Line("a < without its >"));
         };
-        filled.push_str(&meaning(alloc, folder, name)?)?;
+        filled.push_str(&meaning(folder, name)?)?;
         filled.push_str(behind)?;
     }
     Ok(filled)
 }
 
 /// What stands for a name in brackets.
-fn meaning(alloc: Global, folder: &Folder, name: &str) -> Result<String, Fault> {
-    if let Some((count, text)) = name.split_once(' ') {
-        return match count.parse::<usize>() {
-            Ok(count) => Ok(text.repeat(alloc, count)?),
-            Err(_) => Err(Fault::Line("no number of times")),
-        };
+fn meaning(folder: &Folder, name: &str) -> Result<String, Fault> {
+    let Some((count, text)) = name.split_once(' ') else {
+        return Ok(hex::encode(folder.alloc, folder.bytes(name)?)?);
+    };
+    match count.parse::<usize>() {
+        Ok(count) => Ok(text.repeat(folder.alloc, count)?),
+        Err(_) => Err(Fault::Line("no number of times")),
     }
-    Ok(hex::encode(alloc, folder.bytes(name)?)?)
 }

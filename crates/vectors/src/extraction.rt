@@ -11,9 +11,10 @@ use zeb_marc::Marc;
 use zeb_profile::Profile;
 
 /// What the sample record has under the sample profile: its identifier, and its occurrences in their order, each with index, register, unit,
-/// place and term, of a number with all the digits that are kept. And what is printed of a term.
+/// place and term, of a number with all the digits that are kept. And what is printed of a term, and of want of memory.
 static ROWS: &str = "\
 identifier -> a1
+memory -> Memory
 occurrences -> \
 Title:w 2 2 dick; Title:w 2 1 moby; Title:w 3 1 or; Title:w 3 2 the; Title:w 3 3 whale; \
 Title:p 2 1 moby dick; Date:n 4 1 000000000000001851; \
@@ -50,6 +51,9 @@ fn extracted(alloc: Global, asked: &str, marc: &Marc<'_>) -> Result<String, Allo
 }
 
 fn answer(alloc: Global, text: &str) -> Result<String, AllocError> {
+    if text == "memory" {
+        return IdentFault::Memory.to_string(alloc);
+    }
     match (text.strip_prefix("term "), Marc::read(MOBY)) {
         (Some(text), _) => Term::new(String::from_str(alloc, text)?).to_string(alloc),
         (None, Ok(marc)) => extracted(alloc, text, &marc),
@@ -60,19 +64,6 @@ fn answer(alloc: Global, text: &str) -> Result<String, AllocError> {
 #[test]
 fn records_are_extracted(rt: HostRuntime) -> Result<(), Fail> {
     rows_hold(rt.alloc(), ROWS, answer)
-}
-
-#[test]
-fn faults_are_printed(rt: HostRuntime) -> Result<(), Fail> {
-    let names = [
-        (IdentFault::NoIdentifier, "NoIdentifier"),
-        (IdentFault::BadIdentifier, "BadIdentifier"),
-        (IdentFault::Memory, "Memory"),
-    ];
-    for (fault, name) in names {
-        assert!(rt; fault.to_string(rt.alloc())?.as_str() == name, "{name}");
-    }
-    Ok(())
 }
 
 #[test]

@@ -7,8 +7,8 @@ use worked_samples::BOOKS;
 use zeb_keys::Register;
 use zeb_profile::{Profile, ProfileFault, ProfileFaultKind, UnitPattern};
 
-/// What is asked of a profile: whether it is read, or what it says. `books` is the sample, `moved` says the same in other
-/// words, and any other text is the profile itself. A profile that isn't read is answered with its fault.
+/// What is asked of a profile: whether it is read, or what it says. `books` is the sample, and any other text the profile itself. A profile
+/// that isn't read is answered with its fault.
 static ROWS: &str = "\
 # The smallest text with each fault. What further texts are refused with stands in `crates/rows`.
 reading of foo 1 -> line 1: Directive
@@ -59,9 +59,13 @@ targets 245$a of identifier 001%0astore x%0amelm 245 U%0amelm 245$a V -> 0:w
 targets 245$a of identifier 001%0astore x%0aatt 1016 Any%0amelm 245$a Any%0aall ANY,Any:p -> 0:w 0:p
 targets 001 of identifier 001%0astore x%0amelm 001$a T%0amelm 001 U%0aall V -> 1:w
 # The text from its own lines, and from lines that say the same in other words.
-text of books -> canonical
-text of moved -> canonical
-store of moved -> other books.db
+text of books -> identifier 001%0aatt 4 Title%0aatt 31 Date%0aatt 1016 Any%0a\
+melm 245$a Title:w,Title:p%0amelm 245 Title:w%0amelm 260$c Date:n%0aall Any:w%0a
+text of # moved%0a\tstore  other books.db \r%0aidentifier\t001%0aatt 004 Title%0aatt 31 Date%0aatt 1016 Any%0a\
+melm 245$a Title,Title:p%0amelm 245 Title%0amelm 260$c  Date:n%0aall Any -> \
+identifier 001%0aatt 4 Title%0aatt 31 Date%0aatt 1016 Any%0a\
+melm 245$a Title:w,Title:p%0amelm 245 Title:w%0amelm 260$c Date:n%0aall Any:w%0a
+store of # moved%0a\tstore  other books.db \r%0aidentifier\t001 -> other books.db
 # What a pattern fits, the numbers of registers, and faults on line 7 that no small text has.
 fit 245$a of 245$a -> true
 fit 245 of 245$a -> false
@@ -73,31 +77,6 @@ code of n -> 2
 fault of many indexes -> line 7: TooManyIndexes
 fault of memory -> line 7: Memory
 ";
-
-/// The sample's canonical text.
-static CANONICAL: &str = "\
-identifier 001
-att 4 Title
-att 31 Date
-att 1016 Any
-melm 245$a Title:w,Title:p
-melm 245 Title:w
-melm 260$c Date:n
-all Any:w
-";
-
-/// The sample in other words, over another store.
-static MOVED: &str = "\
-# moved
-\tstore  other books.db \r
-identifier\t001
-att 004 Title
-att 31 Date
-att 1016 Any
-melm 245$a Title,Title:p
-melm 245 Title
-melm 260$c  Date:n
-all Any:w";
 
 fn unit_of(name: &str) -> UnitPattern {
     let (tag, code) = match name.as_bytes() {
@@ -149,7 +128,6 @@ fn text_in<'a>(profile: &'a Profile, asked: &str, index: &str) -> &'a str {
     match asked {
         "reading" => "sound",
         "store" => profile.store_path(),
-        "text" if profile.text() == CANONICAL => "canonical",
         "text" => profile.text(),
         _ => profile
             .index_name(index.parse().unwrap_or(0))
@@ -172,11 +150,7 @@ fn said(alloc: Global, profile: &Profile, asked: &str, of: &str) -> Result<Strin
 
 /// What the profile of a text says, or its fault.
 fn told(alloc: Global, text: &str, asked: &str, of: &str) -> Result<String, AllocError> {
-    let text = match text {
-        "books" => BOOKS,
-        "moved" => MOVED,
-        other => other,
-    };
+    let text = if text == "books" { BOOKS } else { text };
     let memory = ProfileFaultKind::Memory;
     match Profile::read(alloc, text) {
         Ok(profile) => said(alloc, &profile, asked, of),

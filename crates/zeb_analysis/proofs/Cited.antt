@@ -1,5 +1,5 @@
 -- What this crate's proofs cite of std, of the kit, of the crates below and of its own specs, passed on from one place. Declares nothing.
-pub use Rattle.std.proofs.Common.{◌≡◌, ◌∙◌, ℕ, ◌+◌, ◌≤◌, ◌<◌, suc, true, false, cond, leb, List, [], ◌∷◌, length, length-append, Option, Some, None, Result, Ok, Err, refl, sym, ap, arith, ◌++◌, append_assoc, subst, subst₂, map, drop, get_or, ◌↔◌, zero, take, ◌≢◌, ◌==◌, ◌&&◌, ◌^◌, Bool, inl, inr, ◌⊎◌, rules, IfErr, MatchResult, ◌*◌, string_bytes}
+pub use Rattle.std.proofs.Common.{◌≡◌, ◌∙◌, ℕ, ◌+◌, ◌≤◌, ◌<◌, suc, true, false, cond, leb, List, [], ◌∷◌, length, length-append, Option, Some, None, Result, Ok, Err, refl, sym, ap, arith, ◌++◌, append_assoc, subst, subst₂, map, drop, get_or, ◌↔◌, zero, take, ◌≢◌, ◌==◌, ◌&&◌, ◌^◌, Bool, inl, inr, ◌⊎◌, rules, IfErr, ◌*◌, string_bytes}
 pub use Rattle.std.proofs.Math.Seq.{take-suc}
 pub use Rattle.std.proofs.lemmas.Bool.{leb-false, and_parts, and_from, cases_Bool, eqb-true, eq-eqb, le-leb, lt-leb}
 pub use Rattle.std.proofs.lemmas.Grind.{flat_map-append}
@@ -12,10 +12,16 @@ pub use Rattle.std.specs.Prelude.{slice_get, ⊤}
 pub use Rattle.std.specs.Str.Lossy.{utf8_lossy}
 pub use Rattle.std.specs.Str.Parse.{digits_value}
 pub use Rattle.zeb_analysis.specs.Analysing.{Analysed, AnalysesTo, Standing, first_refusal, refused_content, refused_record, standing_from, standing_in_all, IsAnalysisOf, at_place, place_at, AreAnalysesOf, refused_name, units_in, analysed}
-pub use Rattle.zeb_analysis.specs.Laws.{slices_of, IsWhole, IsFirstRefused, IsRefusal}
+pub use Rattle.zeb_analysis.specs.Laws.{IsFirstRefused, IsRefusal}
 pub use Rattle.zeb_analysis.specs.Printing.{printed_number, occurrence_line, record_line}
 pub use Rattle.zeb_analysis.specs.PrivateRefusals.{ident_fault}
-pub use Rattle.zeb_analysis.specs.PrivateWalk.{Extends, ReadsPlace}
+pub use Rattle.zeb_analysis.specs.Lines.{AreLines, GivesLines, lines_of}
+pub use Rattle.zeb_analysis.specs.PrivateLines.{AddsFile, AddsLines, StandBehind}
+pub use Rattle.zeb_analysis.specs.PrivateWalk.{AnalysesNext, Extends, IsTaken, ReadsPlace}
+pub use Rattle.zeb_analysis.specs.declared.analysing.Analysis.{Analysis}
+pub use Rattle.zeb_analysis.specs.declared.analysing.Setting.{Setting}
+pub use Rattle.zeb_analysis.specs.declared.faults.Place.{Place}
+pub use Rattle.zeb_analysis.specs.declared.lines.AnalysedLines.{AnalysedLines}
 pub use Rattle.zeb_analysis.specs.declared.faults.AnalysisFault.{AnalysisFault}
 pub use Rattle.zeb_analysis.specs.declared.faults.AnalysisFault.TheVariants.{TooManyRecords, Marc, Ident, Memory}
 pub use Rattle.zeb_extract.specs.Identifier.{checked, first_fitting, held_in, identifier_of, is_bad, without_spaces}

@@ -1,11 +1,13 @@
 pub mod Refused
 pub mod SoFar
+pub mod WithinLimit
 pub mod FileWalk
+pub mod AnalysesWalk
 pub mod FilesWalk
+pub mod LinesWalk
 pub mod PrintedNumbers
 pub mod PrintedLines
 pub mod ToldOnce
 pub mod FirstRefusals
 pub mod RefusalKinds
-pub mod Accepted
 pub mod Cited

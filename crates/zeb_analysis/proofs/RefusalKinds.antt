@@ -1,5 +1,5 @@
 -- Which refusals there are.
-use Rattle.zeb_analysis.proofs.Cited.{◌≡◌, ◌≢◌, ◌⊎◌, ℕ, ◌+◌, zero, suc, true, false, cond, leb, ◌==◌, length, List, [], ◌∷◌, ◌++◌, Option, Some, None, Result, Ok, Err, inl, inr, refl, sym, ap, subst, slice_get, ⊤, AllByRecursion, option_and_then, utf8_lossy, Directive, identifier_pattern, MarcFault, ReadFault, UnitText, Check, first_failing, slice_checks, first_fault, IsRecordFault, IsNoSlice, IsSplit, IsTooLong, split_of, record_faults, IsSplit-split_of, IdentFault, checked, first_fitting, held_in, identifier_of, is_bad, without_spaces, AnalysisFault, Marc, Ident, TooManyRecords, Standing, refused_content, refused_name, refused_record, standing_from, standing_in_all, units_in, IsRefusal, place_at}
+use Rattle.zeb_analysis.proofs.Cited.{◌≡◌, ◌≢◌, ◌⊎◌, ℕ, ◌+◌, zero, suc, true, false, cond, leb, ◌==◌, length, List, [], ◌∷◌, ◌++◌, Option, Some, None, Result, Ok, Err, inl, inr, refl, sym, ap, subst, slice_get, AllByRecursion, option_and_then, utf8_lossy, Directive, identifier_pattern, MarcFault, ReadFault, UnitText, Check, first_failing, slice_checks, first_fault, IsRecordFault, IsNoSlice, IsSplit, IsTooLong, split_of, record_faults, IsSplit-split_of, IdentFault, checked, first_fitting, held_in, identifier_of, is_bad, without_spaces, AnalysisFault, Marc, Ident, TooManyRecords, Standing, refused_content, refused_name, refused_record, standing_from, standing_in_all, units_in, IsRefusal, place_at}
 use Rattle.zeb_extract.specs.declared.naming.IdentFault.TheVariants as ident
 use Rattle.zeb_analysis.specs.Analysing.{refusal_at, standing_in}
 

@@ -1,14 +1,15 @@
 -- What only the contracts of private functions speak of; no public clause reaches it.
 -- How the records of a file are read and analysed, one after the other.
-use Rattle.std.specs.Prelude.{◌≡◌, ℕ, true, false, Bool, List, ◌++◌, length, Option, None, Result, Ok, Err}
+use Rattle.std.specs.Prelude.{◌≡◌, ◌≢◌, ℕ, true, false, Bool, List, ◌++◌, length, Option, Some, None, Result, Ok, Err}
 use Rattle.zeb_profile.specs.declared.directives.Directive.{Directive}
 use Rattle.zeb_marc.specs.Splits.{Next, at_end, a_slice, a_fault}
 use Rattle.zeb_analysis.specs.declared.faults.Place.{Place}
 use Rattle.zeb_analysis.specs.declared.faults.AnalysisFault.{AnalysisFault}
-use Rattle.zeb_analysis.specs.declared.faults.AnalysisFault.TheVariants.{Marc}
+use Rattle.zeb_analysis.specs.declared.faults.AnalysisFault.TheVariants.{Marc, Memory}
+use Rattle.zeb_analysis.specs.declared.analysing.Analysis.{Analysis}
 use Rattle.zeb_analysis.specs.declared.analysing.Incoming.{Incoming}
 use Rattle.zeb_analysis.specs.declared.analysing.Setting.{Setting}
-use Rattle.zeb_analysis.specs.Analysing.{Analysed, AreAnalysesOf, Standing, at_place, first_refusal, refusal_at}
+use Rattle.zeb_analysis.specs.Analysing.{Analysed, AreAnalysesOf, IsAnalysisOf, Standing, analysed, at_place, first_refusal, refusal_at}
 
 -- a record of a file, as what stands at its place
 abbrev pub record_at : Incoming → Standing
@@ -23,6 +24,19 @@ abbrev pub ReadsPlace : Place → Next → Result Bool AnalysisFault → List �
 ReadsPlace place at_end answer kept left = answer ≡ Ok false
 ReadsPlace place (a_slice slice rest) answer kept left = (answer ≡ Ok true) × (kept ≡ slice) × (left ≡ rest)
 ReadsPlace place (a_fault fault) answer kept left = answer ≡ Err (Marc place fault)
+
+-- the record that stands there, before which so many were analysed, is analysed or refused, or memory ran out
+abbrev pub IsTaken : Setting → ℕ → Standing → Result (Option Analysis) AnalysisFault → Type 0
+IsTaken setting before standing (Ok None) = ⊥
+IsTaken setting before standing (Ok (Some analysis)) =
+    (refusal_at setting.profile.now setting.limit before standing ≡ None) × IsAnalysisOf setting.profile.now standing (analysed analysis)
+IsTaken setting before standing (Err fault) = fault ≢ Memory → refusal_at setting.profile.now setting.limit before standing ≡ Some fault
+
+-- what is answered where this stands next, and what is left unread
+abbrev pub AnalysesNext : Setting → ℕ → Place → Next → Result (Option Analysis) AnalysisFault → List ℕ → Type 0
+AnalysesNext setting before place at_end answer left = answer ≡ Ok None
+AnalysesNext setting before place (a_slice slice rest) answer left = (left ≡ rest) × IsTaken setting before (at_place place.file place.nth (Ok slice)) answer
+AnalysesNext setting before place (a_fault fault) answer left = answer ≡ Err (Marc place fault)
 
 -- none of these is refused behind the first analyses, and theirs are put behind them
 pub record Extends (profile : List Directive) (limit : ℕ) (these : List Standing) (old new : List Analysed) : Type 0 where

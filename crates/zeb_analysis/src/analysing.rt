@@ -2,7 +2,7 @@
 ghost use Rattle.std.specs.Prelude.{◌≡◌, ◌≢◌, IfOk, IfErr, OnOk, length, map};
 ghost use Rattle.zeb_marc.specs.Splits.{next_of};
 ghost use Rattle.zeb_analysis.specs.Analysing.{AnalysesTo, IsAnalysisOf, analysed, first_refusal, standing_in};
-ghost use Rattle.zeb_analysis.specs.PrivateWalk.{Extends, ReadsPlace, record_at, refused_in};
+ghost use Rattle.zeb_analysis.specs.PrivateWalk.{AnalysesNext, Extends, ReadsPlace, record_at, refused_in};
 
 use crate::faults::{AnalysisFault, Place};
 use std::alloc::Global;
@@ -24,10 +24,10 @@ pub struct Analysis {
 
 /// What the records of all files are analysed by.
 #[derive(Clone, Copy, Debug)]
-struct Setting<'a> {
-    alloc: Global,
-    profile: &'a Profile,
-    limit: u64,
+pub(crate) struct Setting<'a> {
+    pub(crate) alloc: Global,
+    pub(crate) profile: &'a Profile,
+    pub(crate) limit: u64,
 }
 
 /// One record of a file.
@@ -82,6 +82,26 @@ fn analyse_record(
     })
 }
 
+/// The analysis of the next record of a file, which has this place, and before which so many were analysed; `None` behind the last.
+pub(crate) fn analyse_next(
+    setting: &Setting<'_>,
+    before: u64,
+    place: Place,
+    left: &mut Slice<'_>,
+    buffer: &mut RecordBuf,
+) -> Result<Option<Analysis>, AnalysisFault>
+    ensures { AnalysesNext setting.now before place (next_of left.old) result left.new }
+{
+    if !read_record(left, buffer, place)? {
+        return Ok(None);
+    }
+    let incoming = Incoming {
+        place,
+        bytes: buffer.bytes(),
+    };
+    Ok(Some(analyse_record(setting, before, incoming)?))
+}
+
 /// Puts the analyses of one file's records behind the others.
 fn analyse_file(
     setting: &Setting<'_>,
@@ -99,12 +119,13 @@ fn analyse_file(
 {
     let mut left = Slice::new(bytes);
     let mut nth = 1;
-    while read_record(&mut left, buffer, Place { file, nth })? {
-        let incoming = Incoming {
-            place: Place { file, nth },
-            bytes: buffer.bytes(),
-        };
-        let analysis = analyse_record(setting, analyses.len() as u64, incoming)?;
+    while let Some(analysis) = analyse_next(
+        setting,
+        analyses.len() as u64,
+        Place { file, nth },
+        &mut left,
+        buffer,
+    )? {
         analyses.push(analysis)?;
         nth += 1;
     }

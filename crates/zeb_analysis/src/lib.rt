@@ -4,13 +4,10 @@
 
 mod analysing;
 mod faults;
-mod laws;
+mod lines;
 mod printing;
 
 pub use analysing::{Analysis, analyse};
 pub use faults::{AnalysisFault, Place};
-pub use laws::{
-    an_analysis_is_told_once, each_record_has_one_analysis, refusals_are_of_records,
-    the_first_refusal_counts,
-};
+pub use lines::AnalysedLines;
 pub use printing::analysis_lines;

@@ -24,53 +24,28 @@ impl Gaps {
         requires { Follows before posting }
         ensures { result ≡ gaps_of before posting }
     {
-        if posting.sysno != before.sysno {
-            Gaps {
-                sysno: posting.sysno - before.sysno,
-                seq: posting.seq,
-                pos: posting.pos,
-            }
+        let (sysno, seq, pos) = if posting.sysno != before.sysno {
+            (posting.sysno - before.sysno, posting.seq, posting.pos)
         } else if posting.seq != before.seq {
-            Gaps {
-                sysno: 0,
-                seq: posting.seq - before.seq,
-                pos: posting.pos,
-            }
+            (0, posting.seq - before.seq, posting.pos)
         } else {
-            Gaps {
-                sysno: 0,
-                seq: 0,
-                pos: posting.pos - before.pos,
-            }
-        }
+            (0, 0, posting.pos - before.pos)
+        };
+        Gaps { sysno, seq, pos }
     }
 
     /// The posting that is as far above another as these gaps say; `None` where one of its numbers doesn't fit 64 bits.
     fn added_to(self, before: Posting) -> Option<Posting>
         ensures { SomeIff result (Fits (posting_after before self)) (posting_after before self) }
     {
-        if self.sysno != 0 {
-            let sysno = before.sysno.checked_add(self.sysno)?;
-            return Some(Posting {
-                sysno,
-                seq: self.seq,
-                pos: self.pos,
-            });
-        }
-        if self.seq != 0 {
-            let seq = before.seq.checked_add(self.seq)?;
-            return Some(Posting {
-                sysno: before.sysno,
-                seq,
-                pos: self.pos,
-            });
-        }
-        let pos = before.pos.checked_add(self.pos)?;
-        Some(Posting {
-            sysno: before.sysno,
-            seq: before.seq,
-            pos,
-        })
+        let (sysno, seq, pos) = if self.sysno != 0 {
+            (before.sysno.checked_add(self.sysno)?, self.seq, self.pos)
+        } else if self.seq != 0 {
+            (before.sysno, before.seq.checked_add(self.seq)?, self.pos)
+        } else {
+            (before.sysno, before.seq, before.pos.checked_add(self.pos)?)
+        };
+        Some(Posting { sysno, seq, pos })
     }
 
     /// The numbered posting that has these gaps from another, which may be the start of a block; `None` where there is none.

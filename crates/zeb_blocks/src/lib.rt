@@ -4,15 +4,11 @@
 #![tactic(auto)]
 
 mod gaps;
-mod laws;
 mod numbers;
 mod postings;
 mod reading;
 mod writing;
 
-pub use laws::{
-    numbers_are_in_their_shortest_form, spellings_and_lists_are_one_to_one, worked_examples,
-};
 pub use numbers::{read_number, write_number};
 pub use postings::{BLOCK_RECORDS, Posting};
 pub use reading::{Damaged, Postings, push_block};

@@ -43,7 +43,7 @@ abbrev pub AreKept : Trees → (ℤ → List Kept) → Type 0
 AreKept trees records_of = (id sysno : ℤ) (ident bytes : List ℕ) → HasRecord trees id sysno ident bytes
     ↔ ((kept : Kept) × Contains (records_of id) kept × (sysno ≡ pos kept.sysno) × (ident ≡ kept.ident) × (bytes ≡ kept.bytes))
 
--- `holds` is what a layout says of registers
+-- the table of records has these, and the registers have their postings in this format
 pub record AreStored (format : Format) (profile : List Directive) (trees : Trees) (records_of : ℤ → List Kept) : Type 0 where
   pub kept : AreKept trees records_of
   pub content : Content

@@ -41,10 +41,14 @@ pub use Rattle.std.specs.Str.Lossy.{utf8_lossy}
 pub use Rattle.std.specs.Str.Parse.{digits_value}
 pub use Rattle.std.specs.declared.alloc.Global.{Global}
 pub use Rattle.zeb_analysis.proofs.FirstRefusals.{first_counts}
+pub use Rattle.zeb_analysis.proofs.LinesWalk.{refused_still}
 pub use Rattle.zeb_analysis.proofs.RefusalKinds.{refusal_at_place}
 pub use Rattle.zeb_analysis.proofs.ToldOnce.{told_once as analyses_once}
+pub use Rattle.zeb_analysis.proofs.WithinLimit.{few_analyses}
 pub use Rattle.zeb_analysis.specs.Analysing.{AnalysesTo, standing_in_all, Analysed}
 pub use Rattle.zeb_analysis.specs.Laws.{IsRefusal}
+pub use Rattle.zeb_analysis.specs.Lines.{AreLines, GivesLines}
+pub use Rattle.zeb_analysis.specs.declared.lines.AnalysedLines.{AnalysedLines}
 pub use Rattle.zeb_analysis.specs.declared.faults.AnalysisFault.{AnalysisFault}
 pub use Rattle.zeb_change.proofs.BaseLemmas.{base_numbered}
 pub use Rattle.zeb_change.proofs.ElderSteps.{files_find}
@@ -82,7 +86,7 @@ pub use Rattle.zeb_engine.specs.Finding.{FindSays, HidesHit, HidesOne, MeetsDama
 pub use Rattle.zeb_engine.specs.Asking.{IsSaidOrMissed, OfDatabase, IsAsked, Alone, IsSaid, Said}
 pub use Rattle.zeb_engine.specs.Scanning.{ScanSays, HidesAround, HidesPlanned, HidesTerms, ScanOver, TellsAround, ScanTells, ScanDoes, ScanReads, IsScanned, IsScanPlanned, around, IsScannedBy, IsScanPlannedBy, AreAround}
 pub use Rattle.zeb_engine.specs.Counting.{StatSays, HidesRegisters, HidesRegister, StatOver, IsSummedUp, StatTells, IsCounted, IsExtent, Paired, Target, target_list, targets_below}
-pub use Rattle.zeb_engine.specs.Analysed.{IsAnalysed, analysis_answer, IsAnalysis}
+pub use Rattle.zeb_engine.specs.Analysed.{HasLines, IsAnalysed, analysis_answer, IsAnalysis}
 pub use Rattle.zeb_engine.specs.Answers.{refused, IsFailure, changed, reply_answer, Answer, answer_of, found, scanned, Extent, done, extent_of, analysed, dumped, no_database}
 pub use Rattle.zeb_engine.specs.Making.{DropsDatabase, OnAccepted, MakesDatabase, CreateOver, DropOver, CountedAnswers, CreateDoes, DropDoes}
 pub use Rattle.zeb_engine.specs.Hidden.{HidesDatabase, HidesOf, TellsUnlessHidden, UnlessHidden}

@@ -28,6 +28,7 @@ pub mod StepLemmas
 pub mod AnalysisAnswers
 pub mod CommandedConnections
 pub mod AnalysisRefusals
+pub mod AnalysedReplies
 pub mod RefusedSteps
 pub mod RunCrashes
 pub mod CommitCrashes

@@ -7,7 +7,9 @@ use Rattle.std.specs.Prelude.{◌≡◌, ℕ, List, Result, Ok, Err, ◌⊎◌}
 use Rattle.zeb_profile.specs.declared.directives.Directive.{Directive}
 use Rattle.zeb_profile.specs.Indexes.{index_names}
 use Rattle.zeb_analysis.specs.declared.faults.AnalysisFault.{AnalysisFault}
+use Rattle.zeb_analysis.specs.declared.lines.AnalysedLines.{AnalysedLines}
 use Rattle.zeb_analysis.specs.Analysing.{Analysed, AnalysesTo}
+use Rattle.zeb_analysis.specs.Lines.{AreLines}
 use Rattle.zeb_engine.specs.Answers.{Answer, analysed, refused, answer_of}
 use Rattle.zeb_change.specs.Refused.{why_of}
 use Rattle.zeb_change.specs.Outcomes.{analysis_refusal}
@@ -24,3 +26,9 @@ IsAnalysed profile limit texts answer = (said : Result (List Analysed) AnalysisF
 -- an analysis is answered by its files alone, or memory ran out
 abbrev pub IsAnalysis : Conditions → List (List ℕ) → Result Reply Refusal → Type 0
 IsAnalysis c texts answer = IsAnalysed c.profile c.limits.records texts (answer_of answer) ⊎ (answer ≡ Err Memory)
+
+-- what comes of files with these texts that are analysed one after the other: the lines of their records, or the first refusal, or memory
+-- ran out
+abbrev pub HasLines : List Directive → ℕ → List (List ℕ) → Result AnalysedLines Refusal → Type 0
+HasLines profile limit texts (Ok lines) = AreLines (index_names profile) profile limit texts lines
+HasLines profile limit texts (Err refusal) = IsAnalysed profile limit texts (refused (why_of refusal)) ⊎ (refusal ≡ Memory)

@@ -160,7 +160,7 @@ HidesFound format trees db plan first count =
     (hits : List ℕ) × (asked : List ℕ) × PlanFinds format trees db plan hits × (asked_of hits first count ≡ Ok asked)
     × (((n : ℕ) → Has asked n → n < 2 ^ 63) → HidesOne trees db asked)
 
--- something that the plan of the query asks for is malformed, or a hit can't be shown
+-- something that the plan of the query asks for is malformed, or a row of a stray entry between two of these is, or a hit can't be shown
 abbrev pub HidesPlan : Format → List Directive → (text : List ℕ) → (first count : ℕ) → Trees → ℤ → Type 0
 HidesPlan format profile text first count trees id =
     (plan : PlanValue) × IsPlanOf profile text plan × (PlanHides format trees id plan ⊎ HidesFound format trees id plan first count)

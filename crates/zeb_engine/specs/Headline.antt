@@ -1,6 +1,7 @@
--- The headline: after any list of commands the kept records are those that the accepted commands leave, each replacement
--- keeping its number; the registers hold exactly the kept records' postings; every answered find, scan and stat is what
--- reading all kept records from nothing gives; and a refused command changes nothing.
+-- The headline, on a disk that is clean at the end: after any list of commands the kept records are those that the accepted commands
+-- leave, each replacement keeping its number. Every accepted find and scan is what reading all kept records from nothing gives, and so is a
+-- stat but for the last number, which it tells too. A command may be refused for want of memory or as a failed store, and a refused one
+-- changes nothing of what is held. If the connection is open at the end, the registers hold exactly the kept records' postings.
 use Rattle.std.specs.Prelude.{List, map, Result}
 use Rattle.sqlite.specs.State.{State, HasCleanDisk}
 use Rattle.zeb_engine.specs.declared.commands.Command.{Command}

@@ -1,14 +1,14 @@
 //! The analysis of files, with nothing asked of a store.
 
-ghost use Rattle.std.specs.Prelude.{◌≡◌, ◌⊎◌, Err, IfOk, map, string_bytes};
+ghost use Rattle.std.specs.Prelude.{◌≡◌, ◌⊎◌, [], ℕ, Err, IfOk, map, string_bytes};
 ghost use Rattle.zeb_profile.specs.Indexes as indexes;
-ghost use Rattle.zeb_engine.specs.Analysed.{IsAnalysed};
+ghost use Rattle.zeb_engine.specs.Analysed.{HasLines, IsAnalysed};
 ghost use Rattle.zeb_engine.specs.Answers.{answer_of};
 ghost use Rattle.zeb_change.specs.Reading.{NoReadFault};
 
 use crate::replies::Reply;
 use std::alloc::{AllocError, Global};
-use zeb_analysis::analyse;
+use zeb_analysis::{AnalysedLines, analyse};
 use zeb_change::{Limits, Refusal};
 use zeb_profile::Profile;
 
@@ -39,4 +39,12 @@ pub(crate) fn analyse_files(
     let records = analyse(alloc, profile, limits.records, files)?;
     let names = index_names(alloc, profile)?;
     Ok(Reply::Analysed { names, records })
+}
+
+/// The lines of no file, under the names of a profile's indexes.
+pub(crate) fn no_lines(alloc: Global, profile: &Profile) -> Result<AnalysedLines, Refusal>
+    ensures { (limit : ℕ) → HasLines profile.now limit [] result }
+{
+    let names = index_names(alloc, profile)?;
+    Ok(AnalysedLines::new(alloc, names))
 }

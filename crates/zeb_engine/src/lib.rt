@@ -22,5 +22,6 @@ pub use commands::Command;
 pub use refusals::{refusal_line, status};
 pub use replies::{Hit, Holding, Reply, render};
 pub use session::Session;
+pub use zeb_analysis::AnalysedLines;
 pub use zeb_change::{Kind, Limits, RecordFault, Refusal};
 pub use zeb_image::DbName;

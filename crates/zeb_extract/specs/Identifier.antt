@@ -4,17 +4,12 @@
 -- a control character (General_Category Cc, section 4.5).
 -- This project's own rules: that the first unit counts, also where nothing is left of its text; that the bytes are read as
 -- UTF-8, whatever the leader says of them; what is taken off the ends, what is refused as bad, and the two faults.
-use Rattle.std.specs.Prelude.{ℕ, Bool, ◌||◌, List, [], ◌∷◌, length, reverse, Option, None, Some, Result, Ok, Err, ◌==◌, nat_lt, if◌then◌else◌, chars, find}
-use Rattle.std.specs.List.{list_any}
+use Rattle.std.specs.Prelude.{ℕ, Bool, ◌||◌, List, [], ◌∷◌, length, reverse, Option, None, Some, Result, Ok, Err, ◌==◌, nat_lt, if◌then◌else◌, chars, find, option_and_then}
+use Rattle.zeb_extract.specs.Cited.{list_any, utf8_lossy, UnitText, IdentFault, NoIdentifier, BadIdentifier}
 use Rattle.std.specs.Char.{is_control}
-use Rattle.std.specs.Str.Lossy.{utf8_lossy}
-use Rattle.std.specs.Option.{option_and_then}
-use Rattle.zeb_marc.specs.Contents.{UnitText}
 use Rattle.zeb_profile.specs.declared.directives.Directive.{Directive}
 use Rattle.zeb_profile.specs.declared.patterns.UnitPattern.{UnitPattern}
 use Rattle.zeb_profile.specs.Indexes.{fits, identifier_pattern}
-use Rattle.zeb_extract.specs.declared.naming.IdentFault.{IdentFault}
-use Rattle.zeb_extract.specs.declared.naming.IdentFault.TheVariants.{NoIdentifier, BadIdentifier}
 
 abbrev pub without_leading_spaces : List ℕ → List ℕ
 without_leading_spaces [] = []

@@ -1,6 +1,5 @@
+pub mod Cited
 pub mod Identifier
-pub mod Stripped
 pub mod Names
 pub mod Occurrences
 pub mod PrivateListing
-pub mod Sample

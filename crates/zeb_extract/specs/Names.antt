@@ -1,7 +1,6 @@
 -- The names of the faults of an identifier, as they are printed (this project's own).
 use Rattle.std.specs.Prelude.{ℕ, List, codes}
-use Rattle.zeb_extract.specs.declared.naming.IdentFault.{IdentFault}
-use Rattle.zeb_extract.specs.declared.naming.IdentFault.TheVariants.{NoIdentifier, BadIdentifier, Memory}
+use Rattle.zeb_extract.specs.Cited.{IdentFault, NoIdentifier, BadIdentifier, Memory}
 
 abbrev pub fault_name : IdentFault → List ℕ
 fault_name NoIdentifier = codes "NoIdentifier"

@@ -5,15 +5,11 @@
 -- This project's own rules: what words, joined words, numbers and keys are (see zeb_text), and that a unit is the text that is cut;
 -- that terms are numbered from 1 in each unit, and a phrase stands at 1; that bytes are read as UTF-8, whatever the leader says of
 -- them; and that what two targets or two lines add alike is there once.
-use Rattle.std.specs.Prelude.{◌≡◌, ℕ, List, [], ◌∷◌, map, chars, encode_utf8_all, Option}
-use Rattle.std.specs.List.{Contains, enumerate_from}
-use Rattle.std.specs.Str.Lossy.{utf8_lossy}
+use Rattle.std.specs.Prelude.{◌≡◌, ℕ, List, [], ◌∷◌, map, chars, encode_utf8_all, Option, Contains}
+use Rattle.zeb_extract.specs.Cited.{enumerate_from, utf8_lossy, UnitText, Register, Occurrence}
 use Rattle.zeb_text.specs.Words.{joined_text, words_of}
 use Rattle.zeb_text.specs.Numbers.{numbers_of, number_key}
-use Rattle.zeb_marc.specs.Contents.{UnitText}
-use Rattle.zeb_keys.specs.declared.registers.Register.{Register}
 use Rattle.zeb_keys.specs.declared.registers.Register.TheVariants.{Word, Phrase, Number}
-use Rattle.zeb_keys.specs.declared.keys.Occurrence.{Occurrence}
 
 -- the characters that bytes are read as
 abbrev pub text_of : List ℕ → List ℕ

@@ -1,10 +1,7 @@
 -- What only the contracts of private functions speak of; no public clause reaches it.
 -- The occurrences of a record as they are found, as a list: unit after unit, target after target, term after term.
-use Rattle.std.specs.Prelude.{ℕ, List, map}
-use Rattle.std.specs.List.{enumerate_from, flat_map}
-use Rattle.zeb_marc.specs.Contents.{UnitText}
-use Rattle.zeb_keys.specs.declared.registers.Register.{Register}
-use Rattle.zeb_keys.specs.declared.keys.Occurrence.{Occurrence}
+use Rattle.std.specs.Prelude.{ℕ, List, map, flat_map}
+use Rattle.zeb_extract.specs.Cited.{enumerate_from, UnitText, Register, Occurrence}
 use Rattle.zeb_extract.specs.Occurrences.{Targets, terms_of, text_of}
 
 -- the numbered term in this register of this index, from this unit

@@ -1,6 +1,5 @@
 //! The occurrences of a record.
-ghost use Rattle.std.specs.Prelude.{◌≡◌, ◌↔◌, ◌++◌, IfOk, OnOk, OnErr, chars, map, string_bytes};
-ghost use Rattle.std.specs.List.{Contains};
+ghost use Rattle.std.specs.Prelude.{◌≡◌, ◌↔◌, ◌++◌, IfOk, OnOk, OnErr, chars, map, string_bytes, Contains};
 ghost use Rattle.std.specs.List.Sorted.{IsStrictlySortedBy};
 ghost use Rattle.zeb_marc.specs.Contents.{units_of};
 ghost use Rattle.zeb_marc.specs.Units.{unit_text};

@@ -3,12 +3,8 @@
 #![tactic(auto)]
 
 mod entries;
-mod laws;
 mod naming;
 
 pub use entries::occurrences;
-pub use laws::{
-    moby_dick_has_its_date, moby_dick_is_analysed, spaces_go_from_both_ends, terms_at_examples,
-};
 pub use naming::{IdentFault, identifier};
 pub use zeb_keys::{Key, Occurrence};

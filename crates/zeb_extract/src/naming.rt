@@ -1,7 +1,9 @@
 //! The identifier of a record.
-ghost use Rattle.std.specs.Prelude.{◌≡◌, ◌≢◌, IfOk, IfErr, string_bytes};
+ghost use Rattle.std.specs.Prelude.{◌≡◌, ◌≢◌, Some, IfOk, IfErr, string_bytes};
 ghost use Rattle.zeb_marc.specs.Contents.{units_of};
+ghost use Rattle.zeb_extract.specs.declared.naming.IdentFault.TheVariants.{Memory};
 ghost use Rattle.zeb_extract.specs.Identifier.{has_control, identifier_in, identifier_of, is_bad, without_spaces};
+ghost use Rattle.zeb_extract.specs.Names.{fault_name};
 
 use std::alloc::{AllocError, Global};
 use std::fmt;
@@ -23,9 +25,6 @@ pub enum IdentFault {
 }
 
 impl fmt::Display for IdentFault {
-    ghost use Rattle.std.specs.Prelude.{Some};
-    ghost use Rattle.zeb_extract.specs.Names.{fault_name};
-
     ghost output = { λ fault. Some (fault_name fault) };
 
     fn fmt<W: fmt::Write>(&self, f: &mut fmt::Formatter<W>) -> fmt::Result {
@@ -38,9 +37,6 @@ impl fmt::Display for IdentFault {
 }
 
 impl From<AllocError> for IdentFault {
-    ghost use Rattle.std.specs.Prelude.{◌≡◌};
-    ghost use Rattle.zeb_extract.specs.declared.naming.IdentFault.TheVariants.{Memory};
-
     ghost from_gives = { λ _ fault. fault ≡ Memory };
 
     fn from(_: AllocError) -> IdentFault {

@@ -1,4 +1,5 @@
--- The tables as the image of what a register holds: they have the rows that follow from it, and no others.
+-- The tables as the image of what a register holds. It is said of tables that obey the store's schema: they have the rows that follow from
+-- it, and no others, whatever their rowids.
 use Rattle.std.specs.Prelude.{◌≡◌, ◌≢◌, ◌↔◌, ◌⊎◌, ℕ, ℤ, pos, List, codes, Some, IsTrue, IsUtf8}
 use Rattle.std.specs.List.{Contains}
 use Rattle.std.specs.Option.{option_map}
@@ -77,7 +78,7 @@ abbrev pub IsImage : Trees → Holdings → Type 0
 IsImage trees nothing_yet = LacksLists trees × LacksRegisters trees
 IsImage trees (under version text bases) = (profile : List Directive) × IsImageUnder profile trees version text bases
 
--- An open connection shows the image of this, and that is also what was committed: so it is outside a transaction. A shut one shows
--- nothing.
+-- An open connection shows the image of this, and that is also what was committed: so it is outside a transaction. Of a shut one this is so
+-- of every holding.
 abbrev pub Keeps : State → Holdings → Type 0
 Keeps s held = IsTrue s.is_open → (IsStore s × IsImage s.now.trees held) × (s.committed ≡ s.now)

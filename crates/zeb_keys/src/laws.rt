@@ -1,39 +1,14 @@
-//! Laws of the order of keys and occurrences, and of equality. Each is a function with no code, whose contract is the law.
-ghost use Rattle.std.specs.Prelude.{◌≡◌, ◌↔◌, ℕ, List, true};
-ghost use Rattle.std.specs.Cmp.{IsTotalOrder};
-ghost use Rattle.std.specs.List.{Contains};
+//! A law of the order of keys and occurrences, which programs call where they compare them.
+ghost use Rattle.std.specs.Prelude.{◌≡◌};
 ghost use Rattle.zeb_keys.specs.declared.keys.Key.{Key};
 ghost use Rattle.zeb_keys.specs.declared.keys.Occurrence.{Occurrence};
-ghost use Rattle.zeb_keys.specs.Order.{key_order, occurrence_order, IsRising, TellsApart};
+ghost use Rattle.zeb_keys.specs.Order.{key_order, occurrence_order};
 
-use crate::{Key, Occurrence, Term};
+use crate::{Key, Occurrence};
 
 /// Keys compare by index, then register, then the bytes of the term; occurrences by key, then unit, then place.
 pub fn order_is_by_parts()
     ensures keys { (a b : Key) → ⟦<Key as Ord>⟧.cmp a b ≡ key_order a b }
     ensures occurrences { (a b : Occurrence)
         → ⟦<Occurrence as Ord>⟧.cmp a b ≡ occurrence_order a b }
-{}
-
-/// Both orders are total, and answer `Equal` of equal values alone.
-pub fn order_is_total()
-    ensures keys { IsTotalOrder key_order }
-    ensures keys_apart { TellsApart key_order }
-    ensures occurrences { IsTotalOrder occurrence_order }
-    ensures occurrences_apart { TellsApart occurrence_order }
-{}
-
-/// Keys, occurrences and terms are equal as the program compares them exactly where they are the same.
-pub fn equality_is_identity()
-    ensures terms { (a b : List ℕ) → (⟦<Term as PartialEq>⟧.eq a b ≡ true) ↔ (a ≡ b) }
-    ensures keys { (a b : Key) → (⟦<Key as PartialEq>⟧.eq a b ≡ true) ↔ (a ≡ b) }
-    ensures occurrences { (a b : Occurrence)
-        → (⟦<Occurrence as PartialEq>⟧.eq a b ≡ true) ↔ (a ≡ b) }
-{}
-
-/// Two rising lists of occurrences that have the same members are the same list.
-pub fn rising_list_is_one()
-    ensures { (xs ys : List Occurrence) → IsRising xs → IsRising ys
-        → ((o : Occurrence) → Contains xs o ↔ Contains ys o)
-        → xs ≡ ys }
 {}

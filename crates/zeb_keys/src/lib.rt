@@ -8,6 +8,6 @@ mod registers;
 mod terms;
 
 pub use keys::{Key, Occurrence};
-pub use laws::{equality_is_identity, order_is_by_parts, order_is_total, rising_list_is_one};
+pub use laws::order_is_by_parts;
 pub use registers::Register;
 pub use terms::Term;

@@ -1,7 +1,7 @@
 //! The three registers that an index may have: words, phrases and numbers.
 
-ghost use Rattle.std.specs.Prelude.{◌≡◌};
-ghost use Rattle.zeb_keys.specs.Registers.{register_code};
+ghost use Rattle.std.specs.Prelude.{◌≡◌, Some};
+ghost use Rattle.zeb_keys.specs.Registers.{register_code, register_text};
 
 use std::fmt;
 
@@ -30,9 +30,6 @@ impl Register {
 }
 
 impl fmt::Display for Register {
-    ghost use Rattle.std.specs.Prelude.{Some};
-    ghost use Rattle.zeb_keys.specs.Registers.{register_text};
-
     ghost output = { λ register. Some (register_text register) };
 
     fn fmt<W: fmt::Write>(&self, f: &mut fmt::Formatter<W>) -> fmt::Result {

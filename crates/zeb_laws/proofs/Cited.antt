@@ -56,13 +56,13 @@ pub use Rattle.zeb_engine.specs.Steps.{change_ends, change_from, ends, start_of,
 pub use Rattle.zeb_engine.specs.Transactions.{AsksStore}
 pub use Rattle.zeb_engine.specs.declared.commands.Command.{Command}
 pub use Rattle.zeb_engine.specs.declared.commands.Command.TheVariants.{Init, Check, Reindex, Upgrade, Create, Drop, Stat, Dump, Change, Find, Scan, Analyse}
-pub use Rattle.zeb_extract.proofs.Analysis.{called, members}
+pub use Rattle.zeb_lower_laws.proofs.SampleAnalysis.{called, members}
 pub use Rattle.zeb_extract.proofs.Listed.{occurrences_are_listed}
 pub use Rattle.zeb_extract.proofs.Members.{Contains-flat_map, Contains-map, from_flat_map, from_map}
 pub use Rattle.zeb_extract.specs.Identifier.{identifier_of}
 pub use Rattle.zeb_extract.specs.Occurrences.{IsOccurrence}
 pub use Rattle.zeb_extract.specs.PrivateListing.{listing}
-pub use Rattle.zeb_extract.specs.Sample.{moby_dick, moby_dick_analysis, title_profile, term_at}
+pub use Rattle.zeb_lower_laws.specs.Sample.{moby_dick, moby_dick_analysis, title_profile, term_at}
 pub use Rattle.zeb_extract.specs.declared.naming.IdentFault.{IdentFault}
 pub use Rattle.zeb_image.proofs.Bases.{named_there, with_base_has, with_base_in_order}
 pub use Rattle.zeb_image.proofs.OneText.{under_other}
@@ -78,7 +78,7 @@ pub use Rattle.zeb_laws.specs.Counts.{IsAccepted, FoldsTo, records_in, HasNamesa
 pub use Rattle.zeb_laws.specs.Lasting.{NoneHas, slices_in, IsLastOf, KeepsIdent, SomeHas}
 pub use Rattle.zeb_laws.specs.Worked.{book, book_base, book_conditions, faulty_file, no_books, one_book, title_plan, title_word, IsUpdateBy, IsFindBy}
 pub use Rattle.zeb_marc.specs.Splits.{Split}
-pub use Rattle.zeb_marc.specs.Worked.{worked_record, worked_fields}
+pub use Rattle.zeb_lower_laws.specs.WorkedRecord.{worked_record, worked_fields}
 pub use Rattle.zeb_marc.specs.declared.faults.MarcFault.{MarcFault}
 pub use Rattle.zeb_marc.specs.declared.faults.MarcFault.TheVariants.{LengthDigits}
 pub use Rattle.zeb_profile.specs.Canonical.{canonical_text}

@@ -3,11 +3,11 @@
 use Rattle.std.specs.Prelude.{◌≡◌, ◌↔◌, ℕ, false, List, [], ◌∷◌, ◌++◌, map, codes, chars, string_bytes}
 use Rattle.zeb_keys.specs.declared.registers.Register.TheVariants.{Word}
 use Rattle.zeb_profile.specs.Canonical.{canonical_text}
-use Rattle.zeb_marc.specs.Worked.{worked_record}
+use Rattle.zeb_lower_laws.specs.WorkedRecord.{worked_record}
 use Rattle.zeb_text.specs.Symbols.{literal}
 use Rattle.zeb_query.specs.Plans.{PlanValue, TermOf, PhraseOf}
 use Rattle.zeb_keys.specs.declared.keys.Key.{Key}
-use Rattle.zeb_extract.specs.Sample.{title_profile}
+use Rattle.zeb_lower_laws.specs.Sample.{title_profile}
 use Rattle.zeb_engine.specs.declared.commands.Command.{Command}
 use Rattle.zeb_engine.specs.declared.commands.Command.TheVariants.{Change, Find}
 use Rattle.zeb_change.specs.declared.settings.Kind.TheVariants.{Update}

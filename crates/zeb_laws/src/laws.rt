@@ -1,7 +1,7 @@
 //! The definitions that the contracts cite, tried on a worked example: a function with no code, whose contract is the example.
 ghost use Rattle.std.specs.Prelude.{◌≡◌, ◌↔◌, ℕ, List, [], ◌∷◌, codes};
-ghost use Rattle.zeb_marc.specs.Worked.{worked_record};
-ghost use Rattle.zeb_extract.specs.Sample.{title_profile};
+ghost use Rattle.zeb_lower_laws.specs.WorkedRecord.{worked_record};
+ghost use Rattle.zeb_lower_laws.specs.Sample.{title_profile};
 ghost use Rattle.zeb_engine.specs.Answers.{Answer, done, changed, refused, found};
 ghost use Rattle.zeb_change.specs.Refused.{faulty};
 ghost use Rattle.zeb_engine.specs.Finding.{IsFound, has_name};

@@ -1,5 +1,9 @@
 pub mod Cited
 pub mod KeyOrder
+pub mod LeafStatements
+pub mod LeafShapes
+pub mod CoveringLeaves
+pub mod CoveringCalls
 pub mod LeafReadings
 pub mod LeafSums
 pub mod LeafContents

@@ -3,3 +3,4 @@ pub mod Readings
 pub mod LeafUnits
 pub mod HeldLeaves
 pub mod Worked
+pub mod PrivateLeafReads

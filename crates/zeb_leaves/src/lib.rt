@@ -3,7 +3,9 @@
 //! No command uses it yet. It is the layout to come, whose registers have few rows.
 #![tactic(auto)]
 
+mod covering;
 mod laws;
+mod statements;
 
 pub use laws::{
     held_registers_have_no_spare_leaf, leaves_hold_one_content, leaves_read_in_one_way,

@@ -7,8 +7,5 @@ pub mod ReadingLemmas
 pub mod SplitLaws
 pub mod PartLaws
 pub mod Unread
-pub mod LayoutLaws
-pub mod LayoutChecks
 pub mod FaultLaws
-pub mod TakenLaws
 pub mod Cited

@@ -4,8 +4,8 @@
 -- unit, a subfield, its first byte the code and the rest its text. The units of all fields are numbered from 1.
 -- This project's own rules: that a record is read as units, and their numbers; that indicators may be any bytes, of any number;
 -- that any byte may be a code; that an empty piece is passed over; and that only a tag makes a control field, whatever its bytes.
-use Rattle.std.specs.Prelude.{ℕ, suc, Bool, ◌&&◌, List, [], ◌∷◌, drop, Option, Some, None, ◌==◌, if◌then◌else◌, slice_index}
-use Rattle.std.specs.List.{slice_split, flat_map}
+use Rattle.std.specs.Prelude.{ℕ, suc, Bool, ◌&&◌, List, [], ◌∷◌, drop, Option, Some, None, ◌==◌, if◌then◌else◌, slice_index, flat_map}
+use Rattle.std.specs.List.{slice_split}
 use Rattle.zeb_marc.specs.Directory.{FieldText}
 
 -- a unit without its number

@@ -3,10 +3,8 @@
 -- field terminator, and where it starts, of five digits, from the base address of data on.
 -- This project's own rules: that entries may come in any order, overlap and leave gaps; that a tag may mix capitals and small
 -- letters; which fault a check has, and the order of the checks.
-use Rattle.std.specs.Prelude.{ℕ, ◌+◌, ◌-◌, Bool, ◌&&◌, List, [], ◌∷◌, length, map, nat_lt, nat_le, ◌==◌, slice_range, slice_index}
-use Rattle.std.specs.List.{list_all, flat_map}
-use Rattle.std.specs.Char.{is_ascii_alphanumeric}
-use Rattle.zeb_marc.specs.declared.faults.MarcFault.TheVariants.{EntryDigits, EntryTag, EntryRange, FieldEnd}
+use Rattle.std.specs.Prelude.{ℕ, ◌+◌, ◌-◌, Bool, ◌&&◌, List, [], ◌∷◌, length, map, nat_lt, nat_le, ◌==◌, slice_range, slice_index, flat_map}
+use Rattle.zeb_marc.specs.Cited.{list_all, is_ascii_alphanumeric, EntryDigits, EntryTag, EntryRange, FieldEnd}
 use Rattle.zeb_marc.specs.Leader.{Check, check, are_digits, number_of}
 
 -- an entry's three parts, as they stand in the directory

@@ -6,11 +6,8 @@
 -- This project's own rules: that other bytes than digits are taken there, that the other positions are not looked at, which
 -- fault a check has, and the order of the checks.
 use Rattle.std.specs.Prelude.{ℕ, ◌-◌, ◌%◌, Bool, not, ◌&&◌, ◌||◌, List, [], ◌∷◌, ◌++◌, length, take, Option, Some, None, nat_lt, nat_le, ◌==◌, if◌then◌else◌, slice_index, slice_range}
-use Rattle.std.specs.List.{list_all}
-use Rattle.std.specs.Char.{is_ascii_digit}
+use Rattle.zeb_marc.specs.Cited.{list_all, is_ascii_digit, MarcFault, LengthDigits, LengthRange, Truncated, NoTerminator, LeaderCounts, BaseAddress, DirectoryLength}
 use Rattle.std.specs.Str.Parse.{digits_value}
-use Rattle.zeb_marc.specs.declared.faults.MarcFault.{MarcFault}
-use Rattle.zeb_marc.specs.declared.faults.MarcFault.TheVariants.{LengthDigits, LengthRange, Truncated, NoTerminator, LeaderCounts, BaseAddress, DirectoryLength}
 
 -- ---- checks
 

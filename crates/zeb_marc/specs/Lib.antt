@@ -1,3 +1,4 @@
+pub mod Cited
 pub mod Names
 pub mod Asking
 pub mod Leader
@@ -6,13 +7,10 @@ pub mod Directory
 pub mod PrivateDirectory
 pub mod Fields
 pub mod Records
-pub mod Layout
 pub mod Contents
 pub mod Splits
 pub mod Reading
 pub mod PrivateReading
 pub mod Units
 pub mod PrivateUnits
-pub mod Worked
-pub mod Parts
 pub mod Unread

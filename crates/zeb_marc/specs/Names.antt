@@ -1,7 +1,6 @@
 -- The names of the faults of a record, as they are printed. This project's own rule: ISO 2709 and MARC 21 name no faults.
 use Rattle.std.specs.Prelude.{ℕ, List, codes}
-use Rattle.zeb_marc.specs.declared.faults.MarcFault.{MarcFault}
-use Rattle.zeb_marc.specs.declared.faults.MarcFault.TheVariants.{LengthDigits, LengthRange, Truncated, NoTerminator, LeaderCounts, BaseAddress, DirectoryLength, EntryDigits, EntryTag, EntryRange, FieldEnd, TooManySeparators, ReadFault}
+use Rattle.zeb_marc.specs.Cited.{MarcFault, LengthDigits, LengthRange, Truncated, NoTerminator, LeaderCounts, BaseAddress, DirectoryLength, EntryDigits, EntryTag, EntryRange, FieldEnd, TooManySeparators, ReadFault}
 
 abbrev pub fault_name : MarcFault → List ℕ
 fault_name LengthDigits = codes "LengthDigits"

@@ -3,9 +3,7 @@
 -- to a length. `text` is what the source tells that it has left; where it tells nothing, nothing is said of the bytes.
 -- This project's own rules: the separators (see Splits), and which fault is answered.
 use Rattle.std.specs.Prelude.{◌≡◌, ℕ, suc, ◌<◌, ◌≤◌, Bool, true, List, [], ◌∷◌, length, take, drop, Option, Some, None, Result, Ok, Err, ⊤}
-use Rattle.std.specs.List.{prefix_len}
-use Rattle.zeb_marc.specs.declared.faults.MarcFault.{MarcFault}
-use Rattle.zeb_marc.specs.declared.faults.MarcFault.TheVariants.{Truncated, TooManySeparators, ReadFault}
+use Rattle.zeb_marc.specs.Cited.{prefix_len, MarcFault, Truncated, TooManySeparators, ReadFault}
 use Rattle.zeb_marc.specs.Leader.{first_failing, announced_checks, slice_checks, record_length}
 use Rattle.zeb_marc.specs.Splits.{is_separator}
 

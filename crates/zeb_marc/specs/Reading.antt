@@ -1,8 +1,7 @@
 -- Reading one record from a source (ISO 2709: a record begins with its length): the faults, and what a buffer keeps. This
 -- project's own rules: the separators (see Splits), and which fault is answered.
 use Rattle.std.specs.Prelude.{◌≡◌, ℕ, Bool, false, List, [], length, Option, Some, None, Result, Ok, Err, ⊤}
-use Rattle.zeb_marc.specs.declared.faults.MarcFault.{MarcFault}
-use Rattle.zeb_marc.specs.declared.faults.MarcFault.TheVariants.{LengthDigits, LengthRange, Truncated, TooManySeparators, ReadFault}
+use Rattle.zeb_marc.specs.Cited.{MarcFault, LengthDigits, LengthRange, Truncated, TooManySeparators, ReadFault}
 use Rattle.zeb_marc.specs.Splits.{IsSlice}
 
 -- the faults of reading

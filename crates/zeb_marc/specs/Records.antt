@@ -5,9 +5,8 @@
 -- This project's own rules: which check comes first, which fault it has (see Leader and Directory), and that the text has to be
 -- the record alone, with nothing behind it.
 use Rattle.std.specs.Prelude.{◌≡◌, ℕ, ◌-◌, List, ◌++◌, length, Option, None, slice_range, ⊤}
-use Rattle.zeb_marc.specs.declared.faults.MarcFault.{MarcFault}
-use Rattle.zeb_marc.specs.declared.faults.MarcFault.TheVariants.{TooManySeparators, ReadFault}
-use Rattle.zeb_marc.specs.Leader.{Check, first_failing, leader_checks, base_address}
+use Rattle.zeb_marc.specs.Cited.{MarcFault, TooManySeparators, ReadFault}
+use Rattle.zeb_marc.specs.Leader.{first_failing, leader_checks, base_address}
 use Rattle.zeb_marc.specs.Directory.{FieldText, directory_checks, fields_in}
 
 -- what stands between the leader and the directory's field terminator
@@ -18,11 +17,8 @@ directory_of text = slice_range text 24 (base_address text - 1)
 abbrev pub data_area : List ℕ → List ℕ
 data_area text = slice_range text (base_address text) (length text - 1)
 
-abbrev pub record_checks : List ℕ → List Check
-record_checks text = leader_checks text ++ directory_checks (data_area text) (directory_of text)
-
 unfoldable pub first_fault : List ℕ → Option MarcFault
-first_fault text = first_failing (record_checks text)
+first_fault text = first_failing (leader_checks text ++ directory_checks (data_area text) (directory_of text))
 
 unfoldable pub fields_of : List ℕ → List FieldText
 fields_of text = fields_in (data_area text) (directory_of text)

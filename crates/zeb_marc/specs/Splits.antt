@@ -4,9 +4,7 @@
 -- or is too small for a record, or a run that is too long. ISO 2709 knows no separators: that they may stand there, how many, and
 -- the faults of a stream are this project's own rules.
 use Rattle.std.specs.Prelude.{◌≡◌, ℕ, zero, suc, ◌≤◌, Bool, true, false, ◌||◌, List, [], ◌∷◌, ◌++◌, length, take, drop, Option, Some, None, nat_lt, ◌==◌, if◌then◌else◌, Result, Ok, Err, ◌⊎◌}
-use Rattle.std.specs.List.{list_all, prefix_len}
-use Rattle.zeb_marc.specs.declared.faults.MarcFault.{MarcFault}
-use Rattle.zeb_marc.specs.declared.faults.MarcFault.TheVariants.{TooManySeparators}
+use Rattle.zeb_marc.specs.Cited.{list_all, prefix_len, MarcFault, TooManySeparators}
 use Rattle.zeb_marc.specs.Leader.{record_length, first_failing, slice_checks}
 
 abbrev pub is_separator : ℕ → Bool

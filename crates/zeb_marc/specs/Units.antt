@@ -1,6 +1,5 @@
 -- Units as contracts see them: without where their bytes lie.
-use Rattle.std.specs.Prelude.{List, ◌++◌}
-use Rattle.std.specs.List.{flat_map}
+use Rattle.std.specs.Prelude.{List, ◌++◌, flat_map}
 use Rattle.zeb_marc.specs.declared.units.Unit.{Unit as MarcUnit}
 use Rattle.zeb_marc.specs.declared.units.Begun.{Begun}
 use Rattle.zeb_marc.specs.Directory.{FieldText}

@@ -2,8 +2,7 @@
 -- in five digits). It reads no further than it has to: so what stands in the bytes before a read that fails, a record or
 -- a fault, wins over the failure. This project's own rule: what is taken off where a fault is answered, and that it wins.
 use Rattle.std.specs.Prelude.{◌≡◌, ℕ, true, List, [], ◌++◌, length, Option, Some, None, Result, Ok, Err, ◌⊎◌}
-use Rattle.zeb_marc.specs.declared.faults.MarcFault.{MarcFault}
-use Rattle.zeb_marc.specs.declared.faults.MarcFault.TheVariants.{Truncated, TooManySeparators, ReadFault}
+use Rattle.zeb_marc.specs.Cited.{MarcFault, Truncated, TooManySeparators, ReadFault}
 use Rattle.zeb_marc.specs.Leader.{first_failing, announced_checks}
 use Rattle.zeb_marc.specs.Splits.{are_separators, IsRun, IsSlice, EndsAs}
 

@@ -4,7 +4,6 @@
 mod digits;
 mod directory;
 mod faults;
-mod laws;
 mod leader;
 mod records;
 mod sources;
@@ -14,7 +13,6 @@ mod units;
 
 pub use directory::{Field, Fields};
 pub use faults::MarcFault;
-pub use laws::{fault_examples, few_bytes_are_taken, record_laws, split_laws, worked_examples};
 pub use records::Marc;
 pub use sources::{Ask, FromRead, ReadFailed, Slice, Source, passed_on};
 pub use stream::{RecordBuf, next_record};

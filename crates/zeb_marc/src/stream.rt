@@ -37,18 +37,12 @@ impl Model for RecordBuf {
     ghost invariant = { λ b. (vec_len b.room ≡ 99999) × (b.len ≤ 99999) };
 }
 
-fn make_room(alloc: Global, len: usize) -> Result<Vec<u8>, AllocError>
-    ensures { IfOk result (λ room. vec_len room ≡ len) }
-{
-    vec![in alloc; 0; len]
-}
-
 impl RecordBuf {
     /// Makes room for the longest record, of 99,999 bytes; nothing else takes memory.
     pub fn new(alloc: Global) -> Result<RecordBuf, AllocError>
         ensures { IfOk result (λ buffer. buffer ≡ []) }
     {
-        let room = make_room(alloc, GREATEST_LENGTH)?;
+        let room = vec![in alloc; 0; GREATEST_LENGTH]?;
         Ok(RecordBuf { room, len: 0 })
     }
 

@@ -1,7 +1,7 @@
 //! The units of a record: MARC 21 Specifications for Record Structure, "Variable fields".
-ghost use Rattle.std.specs.Prelude.{◌≡◌, ◌==◌, ◌<◌, ◌^◌, ◌≤◌, ◌∷◌, [], List, ℕ, length, position, MatchOption};
+ghost use Rattle.std.specs.Prelude.{◌≡◌, ◌==◌, ◌<◌, ◌^◌, ◌≤◌, ◌∷◌, [], List, ℕ, length, position, MatchOption, flat_map};
 ghost use Rattle.std.specs.Iterator.{YieldsFirstBy, item_count};
-ghost use Rattle.std.specs.List.{flat_map, position_or_len};
+ghost use Rattle.std.specs.List.{position_or_len};
 ghost use Rattle.zeb_marc.specs.Contents.{contents_of, subfields_of, units_of};
 ghost use Rattle.zeb_marc.specs.Units.{left_of, unit_text};
 ghost use Rattle.zeb_marc.specs.PrivateUnits.{content_of, subfield_content};

@@ -1,5 +1,5 @@
 -- What this crate's proofs cite of std, of the kit, of the crates below and of its own specs, passed on from one place. Declares nothing.
-pub use Rattle.std.proofs.Common.{◌≡◌, ℕ, List, [], ◌∷◌, ◌++◌, ap, sym, true, false, Bool, cond, Option, Some, None, refl, ◌∙◌, if◌then◌else◌, map, Ok, subst, ◌+◌, ◌-◌, ◌<◌, ◌≤◌, length, take, drop, get_or, not, nat_lt, nat_eq, arith, suc, inl, inr, codes, ◌⊎◌, Result, Err, append_assoc, add-one, drop-cons, unwrap_or, ◌||◌, ◌&&◌, String, string_bytes, ◌≢◌, option_map, ◌^◌, ◌==◌, zero, Bor, IsSome, length-append, nat_le, reverse, rules, lit<, IfSome}
+pub use Rattle.std.proofs.Common.{◌≡◌, ℕ, List, [], ◌∷◌, ◌++◌, ap, sym, true, false, Bool, cond, Option, Some, None, refl, ◌∙◌, if◌then◌else◌, map, Ok, subst, ◌+◌, ◌-◌, ◌<◌, ◌≤◌, length, take, drop, get_or, not, nat_lt, nat_eq, arith, suc, inl, inr, codes, Result, Err, append_assoc, add-one, drop-cons, unwrap_or, ◌||◌, ◌&&◌, String, string_bytes, ◌≢◌, option_map, ◌^◌, ◌==◌, zero, Bor, length-append, nat_le, reverse, rules, lit<, IfSome}
 pub use Rattle.std.proofs.Math.Logic.{∥∥₁_elim}
 pub use Rattle.std.proofs.Math.Path.{fun_ext}
 pub use Rattle.std.proofs.Math.Seq.{drop-length, take-suc}
@@ -13,12 +13,12 @@ pub use Rattle.std.proofs.lemmas.List.Concat.{flat_map-append}
 pub use Rattle.std.proofs.lemmas.List.Elements.{All-cons, All-drop, All-head, All-nil, All-tail, All-take, All-get_or, All-weaker, All-filter, filter-append, All-append}
 pub use Rattle.std.proofs.lemmas.List.Folds.{list_any-append, find-append, list_all-append}
 pub use Rattle.std.proofs.lemmas.List.Splits.{slice_split_at, slice_split_none, slice_split-cons_no, slice_split-cons_yes, length-slice_split}
-pub use Rattle.std.proofs.lemmas.List.Sums.{fails_before_first, passes_at_first, prefix_len-le-length, position_or_len_is, AllPass-from_list_all, suffix_len_is, prefix_len_passes, prefix_len_stops, list_all-from_AllPass}
+pub use Rattle.std.proofs.lemmas.List.Sums.{passes_at_first, prefix_len-le-length, position_or_len_is, AllPass-from_list_all, suffix_len_is, prefix_len_passes, prefix_len_stops, list_all-from_AllPass}
 pub use Rattle.std.proofs.lemmas.Map.Text.{btree_set_updates_text, btree_map_updates_text}
 pub use Rattle.std.proofs.lemmas.Map.Views.{any-filter_same}
 pub use Rattle.std.proofs.lemmas.Slice.Eq.{bytes_eq-Decides}
 pub use Rattle.std.proofs.lemmas.Str.Pattern.{drop_at_char}
-pub use Rattle.std.proofs.lemmas.Str.{IsCharBoundary-start, IsCharBoundary-after_ascii, encode_ascii}
+pub use Rattle.std.proofs.lemmas.Str.{encode_ascii}
 pub use Rattle.std.proofs.lemmas.Str.Parse.{IsNumeralModel, numerals_by_value, parse_gives, digits_value_short}
 pub use Rattle.std.specs.BTreeMap.{BTreeMap, get_by_text}
 pub use Rattle.std.specs.BTreeSet.{BTreeSet, Updates, UpdatesBy, contains, contains_text, IsUnchanged}
@@ -44,11 +44,10 @@ pub use Rattle.zeb_marc.specs.Directory.{has_tag_bytes}
 pub use Rattle.zeb_profile.specs.Canonical.{target_text, targets_text, pattern_text, canonical_text, canonical_line}
 pub use Rattle.zeb_profile.specs.Directives.{directive_of, all_of, att_of, directive_from, identifier_of, melm_of, one_word, store_of, two_words}
 pub use Rattle.zeb_profile.specs.Indexes.{names_in, first_spelling, first_told, identifier_pattern, identifier_told, index_names, path_told, store_path, pair_of, all_pairs, index_by_use, unit_targets, all_line_targets, all_told, further_pairs, has_pair, melm_targets, melm_told, same_pair, index_by_name, name_told, use_name, fits}
-pub use Rattle.zeb_profile.specs.Laws.{CommentsSayNothing, AreSaid, FirstFaultIsAnswered, IsFirstFaulty, LacksSomething, said_alone, said_soundly, CanonicalTextReadsBack, IsProfile, OneTextSaysTheSame, SaysTheSame, text_with_store, without_store, StoreSaysNothingElse, EachTargetOnce, AreTargets, IsFaultyPart, IsFirstFaultyPart, TargetsAreRead, read_soundly}
+pub use Rattle.zeb_profile.specs.Laws.{IsProfile, SaysTheSame, without_store}
 pub use Rattle.zeb_profile.specs.Lines.{is_blank, is_no_blank, without_leading_blanks, words_of, after_word, trimmed, without_trailing_blanks, says_something}
 pub use Rattle.zeb_profile.specs.Outcomes.{◌>>=◌, FailsPlaced, GivesPlaced}
-pub use Rattle.zeb_profile.specs.PrivateIndexes.{numbered}
-pub use Rattle.zeb_profile.specs.PrivateKeys.{HoldsKeys, name_key, target_key, NotesNumber, NumbersNames, has_number, NotesSpellings, spelled_at, spelled_with, HasIndexKeys, ties_beside, spelled}
+pub use Rattle.zeb_profile.specs.PrivateKeys.{HoldsKeys, name_key, target_key, NotesNumber, NumbersNames, has_number, NotesSpellings, spelled_at, spelled_with, HasIndexKeys, spelled, numbered}
 pub use Rattle.zeb_profile.specs.PrivateOutcomes.{Fails}
 pub use Rattle.zeb_profile.specs.PrivateRepeats.{NotesAlso, NotesClashes, directive_beside, noted_clash}
 pub use Rattle.zeb_profile.specs.PrivateResolved.{AreResolved, any_pair, directives_on, first_pairs, is_all, is_melm_for, line_value, resolved, unit_pairs}

@@ -18,9 +18,6 @@ pub mod WrittenLines
 pub mod SoundLists
 pub mod ProfilesBack
 pub mod SaysProps
-pub mod Comments
-pub mod FirstFault
-pub mod TargetsRead
 pub mod KnownKeys
 pub mod NumberedKeys
 pub mod Spellings

@@ -1,5 +1,5 @@
 -- What a read profile meets, and the reading of its canonical text.
-use Rattle.zeb_profile.proofs.Cited.{◌≡◌, ℕ, codes, ◌+◌, List, [], ◌∷◌, ◌++◌, Bool, true, false, ◌||◌, Option, Some, None, Result, Ok, Err, refl, ap, subst, sym, ◌∙◌, map, append_assoc, arith, inl, inr, length-append, All, enumerate_from, filter, find, list_any, lines, cases_Bool, append-nil, append_cancel_right, map-append, All-cons, All-filter, All-head, All-nil, All-tail, Directive, Store, Identifier, Att, Melm, AllUnits, Placed, ProfileFault, ProfileFaultKind, canonical_text, directive_of, all_pairs, identifier_pattern, index_by_use, index_names, store_path, unit_targets, CanonicalTextReadsBack, IsProfile, OneTextSaysTheSame, SaysTheSame, text_with_store, without_store, says_something, trimmed, ◌>>=◌, at_line, directive_after, directives_in, first_clash, first_lack, has_room, is_identifier, is_store, lack_of, placed_after, placed_lines, profile_of, telling_lines, ties_unknown, unless}
+use Rattle.zeb_profile.proofs.Cited.{◌≡◌, ℕ, codes, ◌+◌, List, [], ◌∷◌, ◌++◌, Bool, true, false, ◌||◌, Option, Some, None, Result, Ok, Err, refl, ap, subst, sym, ◌∙◌, map, append_assoc, arith, inl, inr, length-append, All, enumerate_from, filter, find, list_any, lines, cases_Bool, append-nil, append_cancel_right, map-append, All-cons, All-filter, All-head, All-nil, All-tail, Directive, Store, Identifier, Att, Melm, AllUnits, Placed, ProfileFault, ProfileFaultKind, canonical_text, directive_of, all_pairs, identifier_pattern, index_by_use, index_names, store_path, unit_targets, IsProfile, SaysTheSame, without_store, says_something, trimmed, ◌>>=◌, at_line, directive_after, directives_in, first_clash, first_lack, has_room, is_identifier, is_store, lack_of, placed_after, placed_lines, profile_of, telling_lines, ties_unknown, unless}
 use Rattle.zeb_profile.proofs.DirectivesBack.{IsRead, line_read}
 use Rattle.zeb_profile.proofs.Lacks.{lack_none}
 use Rattle.zeb_profile.proofs.LinesBack.{IsOneLine, lines_one_line, trimmed_one_line}
@@ -169,7 +169,8 @@ store_moved ds path h one = record {
 }
 
 -- ---- the laws
-pub canonical_text_reads_back : CanonicalTextReadsBack
+pub canonical_text_reads_back : (directives other : List Directive) (path : List ℕ) → IsProfile directives → IsProfile other → store_path other ≡ Some path
+    → profile_of (canonical_text directives ++ codes "store " ++ path) ≡ Ok (without_store directives ++ Store path ∷ [])
 canonical_text_reads_back directives other path one two at =
     let sound : IsSound directives = profile_sound directives one in
     let store : IsRead (Store path) = path_read other path (profile_sound other two).read at in
@@ -206,11 +207,12 @@ same_read one other path said h k =
     let joined : one ++ Store path ∷ [] ≡ other ++ Store path ∷ [] = cc in
     append_cancel_right one other (Store path ∷ []) joined
 
-pub one_text_says_the_same : OneTextSaysTheSame
+pub one_text_says_the_same : (one other : List Directive) → IsProfile one → IsProfile other → canonical_text one ≡ canonical_text other
+    → (without_store one ≡ without_store other) × SaysTheSame one other
 one_text_says_the_same one other first second text =
     let path = some_path one (profile_sound one first).stored in
     let same : without_store one ≡ without_store other =
-    same_read (without_store one) (without_store other) path.0 (profile_of (text_with_store one path.0))
+    same_read (without_store one) (without_store other) path.0 (profile_of (canonical_text one ++ codes "store " ++ path.0))
     (canonical_text_reads_back one one path.0 first first path.1)
     (ap (λ front. profile_of (front ++ codes "store " ++ path.0)) text ∙ canonical_text_reads_back other one path.0 second first path.1) in
     (same, same_say one other same)

@@ -1,5 +1,5 @@
 -- What a `store` line doesn't touch.
-use Rattle.zeb_profile.proofs.Cited.{◌≡◌, ℕ, List, [], ◌∷◌, ◌++◌, map, Option, None, unwrap_or, refl, ap, sym, ◌∙◌, if◌then◌else◌, Directive, Store, Identifier, Att, Melm, Target, flat_map, position, option_and_then, option_or, canonical_line, canonical_text, all_line_targets, all_told, first_spelling, first_told, further_pairs, identifier_told, index_by_name, index_names, is_control, melm_targets, melm_told, name_told, names_in, pair_of, use_name, SaysTheSame, StoreSaysNothingElse, without_store, Register, same_name, all_targets, targets_in}
+use Rattle.zeb_profile.proofs.Cited.{◌≡◌, ℕ, List, [], ◌∷◌, ◌++◌, map, Option, None, unwrap_or, refl, ap, sym, ◌∙◌, if◌then◌else◌, Directive, Store, Identifier, Att, Melm, Target, flat_map, position, option_and_then, option_or, canonical_line, canonical_text, all_line_targets, all_told, first_spelling, first_told, further_pairs, identifier_told, index_by_name, index_names, is_control, melm_targets, melm_told, name_told, names_in, pair_of, use_name, SaysTheSame, without_store, Register, same_name, all_targets, targets_in}
 use Rattle.zeb_profile.specs.declared.directives.Directive.TheVariants.{All}
 
 -- a function that goes over a list and passes over `store` lines
@@ -52,5 +52,5 @@ says_the_same ds =
       identifier = first_told-without_store identifier_told (λ path. refl) ds;
     }
 
-pub store_says_nothing_else : StoreSaysNothingElse
+pub store_says_nothing_else : (ds : List Directive) → (canonical_text (without_store ds) ≡ canonical_text ds) × SaysTheSame (without_store ds) ds
 store_says_nothing_else ds = (canonical_text-without_store ds, says_the_same ds)

@@ -1,5 +1,5 @@
 -- The targets of a unit are each there once.
-use Rattle.zeb_profile.proofs.Cited.{◌≡◌, ℕ, ◌+◌, ◌==◌, List, [], ◌∷◌, ◌++◌, Bool, true, false, not, ◌&&◌, ◌||◌, Option, Ok, Err, refl, ap, arith, sym, ◌∙◌, append_assoc, cond, map, inl, inr, subst, if◌then◌else◌, AllByRecursion, filter, list_any, position_or_len, slice_split, and_from, and_parts, cases_Bool, eq-eqb, eqb-false, eqb-true, false_from_ne_true, ne_eqb, or_parts, list_any-append, any-filter_same, Directive, Store, Identifier, Att, Melm, AllUnits, Target, DuplicateTarget, Register, Word, Phrase, Number, targets_text, all_line_targets, first_spelling, fits, further_pairs, index_names, is_control, melm_targets, pair_of, same_pair, EachTargetOnce, all_targets, distinct_names, is_comma, same_name, same_register, same_target, target_of, targets_after, targets_of}
+use Rattle.zeb_profile.proofs.Cited.{◌≡◌, ℕ, ◌+◌, ◌==◌, List, [], ◌∷◌, ◌++◌, Bool, true, false, not, ◌&&◌, ◌||◌, Option, Ok, Err, refl, ap, arith, sym, ◌∙◌, append_assoc, cond, map, inl, inr, subst, if◌then◌else◌, AllByRecursion, filter, list_any, position_or_len, slice_split, and_from, and_parts, cases_Bool, eq-eqb, eqb-false, eqb-true, false_from_ne_true, ne_eqb, or_parts, list_any-append, any-filter_same, Directive, Store, Identifier, Att, Melm, AllUnits, Target, DuplicateTarget, Register, Word, Phrase, Number, targets_text, all_line_targets, first_spelling, fits, further_pairs, index_names, is_control, melm_targets, pair_of, same_pair, unit_targets, IsProfile, all_targets, distinct_names, is_comma, same_name, same_register, same_target, target_of, targets_after, targets_of}
 use Rattle.std.specs.List.{IsDistinct}
 use Rattle.zeb_profile.proofs.Numbering.{first_spelling-same, same_name-along, same_name-refl, same_name-sym}
 use Rattle.zeb_profile.proofs.ProfilesBack.{profile_sound}
@@ -220,7 +220,7 @@ joined_once names first further one other =
     (distinct_kept same_pair same_pair-sym (λ pair. not (list_any (same_pair pair) pairs)) others (distinct_pairs names further other.known other.apart))
     (all_lost (λ pair. list_any (same_pair pair) pairs) others)
 
-pub each_target_once : EachTargetOnce
+pub each_target_once : (ds : List Directive) (tag : List ℕ) (code : Option ℕ) → IsProfile ds → IsDistinct same_pair (unit_targets ds tag code)
 each_target_once ds tag code profile =
     let sound = profile_sound ds profile in
     let names = index_names ds in

@@ -1,13 +1,7 @@
 -- The canonical text of a profile: each directive but `store`, in order, on a line of its own, with one space between
 -- words, registers written, names as their line spells them and numbers without leading zeros (this project's own).
-use Rattle.std.specs.Prelude.{ℕ, List, [], ◌∷◌, ◌++◌, codes, map, Option, Some, None, encode_utf8_all}
-use Rattle.std.specs.List.{flat_map, join_with_byte}
-use Rattle.std.specs.Fmt.{decimal}
-use Rattle.zeb_profile.specs.declared.directives.Directive.{Directive}
-use Rattle.zeb_profile.specs.declared.directives.Directive.TheVariants.{Store, Identifier, Att, Melm, All}
-use Rattle.zeb_profile.specs.declared.directives.Target.{Target}
-use Rattle.zeb_profile.specs.declared.patterns.UnitPattern.{UnitPattern}
-use Rattle.zeb_keys.specs.Registers.{register_text}
+use Rattle.std.specs.Prelude.{ℕ, List, [], ◌∷◌, ◌++◌, codes, map, Option, Some, None, encode_utf8_all, flat_map, decimal}
+use Rattle.zeb_profile.specs.Cited.{join_with_byte, Directive, Store, Identifier, Att, Melm, All, Target, UnitPattern, register_text}
 
 abbrev pub code_text : Option ℕ → List ℕ
 code_text None = []

@@ -3,12 +3,8 @@
 -- of a field or subfield; `all` gives targets of every unit of a data field.
 -- Own rules of this project, which the manual leaves open or has otherwise: the directives `store` and `identifier`; what `all` takes;
 -- that one text has them all; and which fault a line has: how many words there are is asked first, and then they from left to right.
-use Rattle.std.specs.Prelude.{ℕ, List, [], ◌∷◌, codes, Option, Some, None, Result, Ok, Err, if◌then◌else◌}
-use Rattle.std.specs.Option.{ok_or}
-use Rattle.std.specs.Str.{bytes_eq}
-use Rattle.zeb_profile.specs.declared.directives.Directive.{Directive}
-use Rattle.zeb_profile.specs.declared.directives.Directive.TheVariants.{Store, Identifier, Att, Melm, All}
-use Rattle.zeb_profile.specs.declared.faults.ProfileFaultKind.{ProfileFaultKind}
+use Rattle.std.specs.Prelude.{ℕ, List, [], ◌∷◌, codes, Option, Some, None, Result, Ok, Err, if◌then◌else◌, ok_or, bytes_eq}
+use Rattle.zeb_profile.specs.Cited.{Directive, Store, Identifier, Att, Melm, All, ProfileFaultKind}
 use Rattle.zeb_profile.specs.declared.faults.ProfileFaultKind.TheVariants.{Directive as FaultyDirective}
 use Rattle.zeb_profile.specs.Lines.{words_of, after_word, trimmed}
 use Rattle.zeb_profile.specs.Outcomes.{◌>>=◌}

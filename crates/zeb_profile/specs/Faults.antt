@@ -1,8 +1,6 @@
 -- The text of a profile's fault, as it is printed (this project's own).
-use Rattle.std.specs.Prelude.{ℕ, List, ◌++◌, codes}
-use Rattle.std.specs.Fmt.{decimal}
-use Rattle.zeb_profile.specs.declared.faults.ProfileFault.{ProfileFault}
-use Rattle.zeb_profile.specs.declared.faults.ProfileFaultKind.{ProfileFaultKind}
+use Rattle.std.specs.Prelude.{ℕ, List, ◌++◌, codes, decimal}
+use Rattle.zeb_profile.specs.Cited.{ProfileFault, ProfileFaultKind}
 use Rattle.zeb_profile.specs.declared.faults.ProfileFaultKind.TheVariants.{Directive, Name, Register, Pattern, DuplicateTarget, DuplicateUse, UnknownIndex, NoIdentifier, TwoIdentifiers, TwoAlls, TwoStores, NoStore, TooManyIndexes, Memory}
 
 abbrev pub fault_name : ProfileFaultKind → List ℕ

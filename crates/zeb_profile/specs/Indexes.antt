@@ -2,15 +2,8 @@
 -- Own rules of this project, which the manual leaves open or has otherwise: which indexes there are, their order and their spelling; that
 -- `all` adds to every unit of a data field what its `melm` line lacks, so that a unit has each target once; and what `store` and
 -- `identifier` say.
-use Rattle.std.specs.Prelude.{ℕ, Bool, true, false, not, ◌&&◌, List, [], ◌∷◌, ◌++◌, ◌==◌, map, filter, Option, Some, None, unwrap_or, if◌then◌else◌}
-use Rattle.std.specs.List.{find, list_any, flat_map, position, position_or_len}
-use Rattle.std.specs.Option.{option_and_then, option_or}
-use Rattle.std.specs.Str.{bytes_eq}
-use Rattle.zeb_marc.specs.Contents.{is_control}
-use Rattle.zeb_profile.specs.declared.directives.Directive.{Directive}
-use Rattle.zeb_profile.specs.declared.directives.Directive.TheVariants.{Store, Identifier, Att, Melm, All}
-use Rattle.zeb_profile.specs.declared.directives.Target.{Target}
-use Rattle.zeb_profile.specs.declared.patterns.UnitPattern.{UnitPattern}
+use Rattle.std.specs.Prelude.{ℕ, Bool, true, false, not, ◌&&◌, List, [], ◌∷◌, ◌++◌, ◌==◌, map, filter, Option, Some, None, unwrap_or, if◌then◌else◌, find, flat_map, position, option_and_then, bytes_eq}
+use Rattle.zeb_profile.specs.Cited.{list_any, position_or_len, option_or, is_control, Directive, Store, Identifier, Att, Melm, All, Target, UnitPattern}
 use Rattle.zeb_keys.specs.declared.registers.Register.{Register}
 use Rattle.zeb_profile.specs.Profiles.{targets_in, all_targets}
 use Rattle.zeb_profile.specs.Words.{same_name, same_register, target_names}

@@ -1,9 +1,9 @@
+pub mod Clauses
+pub mod Cited
 pub mod Canonical
 pub mod Directives
-pub mod Examples
 pub mod Faults
 pub mod Indexes
-pub mod PrivateIndexes
 pub mod PrivateKeys
 pub mod Laws
 pub mod Lines

@@ -1,7 +1,7 @@
 -- What a call answered, beside what a definition says. A definition answers a value or the first fault; a call
 -- may also run out of memory.
 use Rattle.std.specs.Prelude.{◌≡◌, ◌≢◌, Result, Ok, Err}
-use Rattle.zeb_profile.specs.declared.faults.ProfileFault.{ProfileFault}
+use Rattle.zeb_profile.specs.Cited.{ProfileFault}
 use Rattle.zeb_profile.specs.declared.faults.ProfileFaultKind.TheVariants.{Memory}
 
 -- the value goes on to the next step, the first fault stays

@@ -1,24 +1,23 @@
 -- What only the contracts of private functions speak of; no public clause reaches it.
 -- The keys by which names and targets are looked up while a profile is read: a name in lower case, and a target as its
--- register's letter with the key of its name behind it. And the numbers of names, each at its key.
-use Rattle.std.specs.Prelude.{◌≡◌, ℕ, Bool, false, not, List, ◌++◌, Option, Some, None, option_map, unwrap_or, String, if◌then◌else◌}
+-- register's letter with the key of its name behind it. And the numbers of names, each at its key, and how they are given: each name joins
+-- the list of indexes once.
+use Rattle.std.specs.Prelude.{◌≡◌, ℕ, Bool, false, not, List, ◌++◌, Option, Some, None, option_map, unwrap_or, String, if◌then◌else◌, find, position, bytes_eq, [], ◌∷◌}
 use Rattle.std.specs.Borrow.{Bor}
 use Rattle.std.specs.BTreeMap.{BTreeMap, get_by_text}
-use Rattle.std.specs.BTreeSet.{BTreeSet, contains_text}
-use Rattle.std.specs.List.{find, list_any, position}
-use Rattle.std.specs.Option.{is_some, option_or}
-use Rattle.std.specs.Str.{bytes_eq, str_to_ascii_lowercase}
-use Rattle.zeb_keys.specs.Registers.{register_text}
-use Rattle.zeb_profile.specs.declared.directives.Directive.{Directive}
-use Rattle.zeb_profile.specs.declared.directives.Directive.TheVariants.{Att}
-use Rattle.zeb_profile.specs.declared.directives.Target.{Target}
+use Rattle.zeb_profile.specs.Cited.{BTreeSet, contains_text, list_any, is_some, option_or, str_to_ascii_lowercase, register_text, Directive, Att, Target}
 use Rattle.zeb_profile.specs.Profiles.{ties_unknown}
+use Rattle.zeb_profile.specs.Words.{same_name}
 
 abbrev pub name_key : List ℕ → List ℕ
 name_key name = str_to_ascii_lowercase name
 
 abbrev pub target_key : Target → List ℕ
 target_key target = register_text target.register ++ name_key target.name
+
+-- the names with one more, unless it is among them
+abbrev pub numbered : (List ℕ → List ℕ) → List (List ℕ) → List ℕ → List (List ℕ)
+numbered spell names name = if list_any (same_name name) names then names else (names ++ spell name ∷ [])
 
 module _ {Y : Type 0} where
   -- the set has just the keys of the list

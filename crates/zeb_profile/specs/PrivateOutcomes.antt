@@ -2,7 +2,7 @@
 -- What a call answered, beside what a definition says. A definition answers a value or the first fault; a call
 -- may also run out of memory.
 use Rattle.std.specs.Prelude.{◌≡◌, ◌≢◌, Result, Ok, Err}
-use Rattle.zeb_profile.specs.declared.faults.ProfileFaultKind.{ProfileFaultKind}
+use Rattle.zeb_profile.specs.Cited.{ProfileFaultKind}
 use Rattle.zeb_profile.specs.declared.faults.ProfileFaultKind.TheVariants.{Memory}
 
 -- a fault other than want of memory is the definition's

@@ -2,12 +2,9 @@
 -- What is noted of the lines read so far: of each kind of directive that may not stand twice, whether one was read, and
 -- the numbers of the use attributes.
 use Rattle.std.specs.Prelude.{◌≡◌, ℕ, List, Option, Some, None, Result, if◌then◌else◌}
-use Rattle.std.specs.BTreeSet.{contains}
-use Rattle.std.specs.Ordering.{nat_cmp}
-use Rattle.zeb_profile.specs.declared.directives.Directive.{Directive}
-use Rattle.zeb_profile.specs.declared.directives.Directive.TheVariants.{Store, Identifier, Att, Melm, All}
-use Rattle.zeb_profile.specs.declared.faults.ProfileFaultKind.{ProfileFaultKind}
+use Rattle.zeb_profile.specs.Cited.{contains, Directive, Store, Identifier, Att, Melm, All, ProfileFaultKind}
 use Rattle.zeb_profile.specs.declared.faults.ProfileFaultKind.TheVariants.{DuplicateUse, TwoIdentifiers, TwoAlls, TwoStores}
+use Rattle.std.specs.Ordering.{nat_cmp}
 use Rattle.zeb_profile.specs.declared.repeats.Repeats.{Repeats}
 use Rattle.zeb_profile.specs.Directives.{directive_of}
 use Rattle.zeb_profile.specs.Outcomes.{◌>>=◌}

@@ -1,12 +1,9 @@
 -- What only the contracts of private functions speak of; no public clause reaches it.
 -- The lines of a profile with their targets as pairs of an index's number and a register.
 use Rattle.std.specs.Prelude.{◌≡◌, ℕ, Bool, true, false, List, [], ◌∷◌, ◌++◌, map, Option, if◌then◌else◌}
-use Rattle.std.specs.List.{list_any}
+use Rattle.zeb_profile.specs.Cited.{list_any, Directive, All, Melm, is_control}
 use Rattle.zeb_keys.specs.declared.registers.Register.{Register}
-use Rattle.zeb_profile.specs.declared.directives.Directive.{Directive}
-use Rattle.zeb_profile.specs.declared.directives.Directive.TheVariants.{All, Melm}
 use Rattle.zeb_profile.specs.declared.resolved.Line.{Line}
-use Rattle.zeb_marc.specs.Contents.{is_control}
 use Rattle.zeb_profile.specs.Indexes.{fits, further_pairs, pair_of, same_pair}
 use Rattle.zeb_profile.specs.Profiles.{targets_in}
 

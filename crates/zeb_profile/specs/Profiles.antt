@@ -2,16 +2,11 @@
 -- Own rules of this project: all that is refused here, its faults and their order. A line's own fault comes before what it repeats, and
 -- both before what all lines together lack; a use attribute is tied once, to an index that some line fills; `identifier` and `store`
 -- stand just once, and `all` at most once; indexes are at most as many as 32 bits count.
-use Rattle.std.specs.Prelude.{ℕ, Bool, true, false, not, List, [], ◌∷◌, ◌++◌, ◌==◌, ◌-◌, ◌^◌, nat_le, length, map, filter, Option, Some, None, Result, Ok, Err, if◌then◌else◌}
-use Rattle.std.specs.List.{find, list_any, flat_map, enumerate_from}
-use Rattle.std.specs.Str.Lines.{lines}
-use Rattle.zeb_profile.specs.declared.directives.Directive.{Directive}
-use Rattle.zeb_profile.specs.declared.directives.Directive.TheVariants.{Store, Identifier, Att, Melm, All}
-use Rattle.zeb_profile.specs.declared.directives.Placed.{Placed}
-use Rattle.zeb_profile.specs.declared.directives.Target.{Target}
-use Rattle.zeb_profile.specs.declared.faults.ProfileFault.{ProfileFault}
-use Rattle.zeb_profile.specs.declared.faults.ProfileFaultKind.{ProfileFaultKind}
+use Rattle.std.specs.Prelude.{ℕ, Bool, true, false, not, List, [], ◌∷◌, ◌++◌, ◌==◌, ◌-◌, ◌^◌, nat_le, length, map, filter, Option, Some, None, Result, Ok, Err, if◌then◌else◌, find, flat_map}
+use Rattle.zeb_profile.specs.Cited.{list_any, enumerate_from, Directive, Store, Identifier, Att, Melm, All, Target, ProfileFault, ProfileFaultKind}
 use Rattle.zeb_profile.specs.declared.faults.ProfileFaultKind.TheVariants.{DuplicateUse, UnknownIndex, NoIdentifier, TwoIdentifiers, TwoAlls, TwoStores, NoStore, TooManyIndexes}
+use Rattle.std.specs.Str.Lines.{lines}
+use Rattle.zeb_profile.specs.declared.directives.Placed.{Placed}
 use Rattle.zeb_profile.specs.Directives.{directive_of}
 use Rattle.zeb_profile.specs.Lines.{trimmed, says_something}
 use Rattle.zeb_profile.specs.Outcomes.{◌>>=◌}
@@ -70,11 +65,8 @@ targets_in _ = []
 abbrev pub all_targets : List Directive → List Target
 all_targets directives = flat_map targets_in directives
 
-abbrev pub has_index : List Directive → List ℕ → Bool
-has_index directives name = list_any (λ target. same_name name target.name) (all_targets directives)
-
 abbrev pub ties_unknown : List Directive → Directive → Bool
-ties_unknown directives (Att number name) = not (has_index directives name)
+ties_unknown directives (Att number name) = not (list_any (λ target. same_name name target.name) (all_targets directives))
 ties_unknown directives _ = false
 
 abbrev pub is_identifier : Directive → Bool

@@ -2,16 +2,12 @@
 -- Own rules of this project, which the manual leaves open or has otherwise: which bytes a tag, a code and a name have; that a name has at
 -- most 64 bytes, and a use number at most nine digits and isn't 0; that names are compared without regard to the case of ASCII letters;
 -- that the registers are these three; that a line has each target once; and which fault a word has.
-use Rattle.std.specs.Prelude.{ℕ, Bool, true, false, ◌&&◌, ◌||◌, not, List, [], ◌∷◌, ◌++◌, length, map, filter, ◌==◌, nat_lt, nat_le, codes, Some, None, Result, Ok, Err, if◌then◌else◌}
-use Rattle.std.specs.List.{list_all, list_any, slice_split, before_first, after_first, position_or_len}
+use Rattle.std.specs.Prelude.{ℕ, Bool, true, false, ◌&&◌, ◌||◌, not, List, [], ◌∷◌, ◌++◌, length, map, filter, ◌==◌, nat_lt, nat_le, codes, Some, None, Result, Ok, Err, if◌then◌else◌, bytes_eq}
+use Rattle.zeb_profile.specs.Cited.{list_all, list_any, slice_split, before_first, after_first, position_or_len, str_eq_ignore_ascii_case, Target, ProfileFaultKind, UnitPattern}
+use Rattle.zeb_profile.specs.declared.faults.ProfileFaultKind.TheVariants.{Directive as FaultyDirective, Name, Register as FaultyRegister, Pattern, DuplicateTarget}
 use Rattle.std.specs.Char.{is_ascii_alphabetic, is_ascii_alphanumeric, is_ascii_digit, is_ascii_graphic}
-use Rattle.std.specs.Str.{bytes_eq, str_eq_ignore_ascii_case}
 use Rattle.std.specs.Str.Parse.{digits_value}
 use Rattle.zeb_marc.specs.Directory.{has_tag_bytes}
-use Rattle.zeb_profile.specs.declared.directives.Target.{Target}
-use Rattle.zeb_profile.specs.declared.faults.ProfileFaultKind.{ProfileFaultKind}
-use Rattle.zeb_profile.specs.declared.faults.ProfileFaultKind.TheVariants.{Directive as FaultyDirective, Name, Register as FaultyRegister, Pattern, DuplicateTarget}
-use Rattle.zeb_profile.specs.declared.patterns.UnitPattern.{UnitPattern}
 use Rattle.zeb_keys.specs.declared.registers.Register.{Register}
 use Rattle.zeb_keys.specs.declared.registers.Register.TheVariants.{Word, Phrase, Number}
 use Rattle.zeb_profile.specs.Outcomes.{◌>>=◌}
@@ -27,11 +23,8 @@ pattern_of (a ∷ b ∷ c ∷ sign ∷ code ∷ []) =
 pattern_of _ = Err Pattern
 
 -- NUMBER: one to nine ASCII digits that do not stand for 0
-abbrev pub most_digits : ℕ
-most_digits = 9
-
 abbrev pub is_use_number : List ℕ → Bool
-is_use_number word = ((list_all is_ascii_digit word && nat_lt 0 (length word)) && nat_le (length word) most_digits) && nat_lt 0 (digits_value 10 word)
+is_use_number word = ((list_all is_ascii_digit word && nat_lt 0 (length word)) && nat_le (length word) 9) && nat_lt 0 (digits_value 10 word)
 
 abbrev pub number_of : List ℕ → Result ℕ ProfileFaultKind
 number_of word = if is_use_number word then Ok (digits_value 10 word) else Err FaultyDirective

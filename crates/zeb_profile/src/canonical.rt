@@ -1,8 +1,7 @@
 //! The canonical text of a profile, written line by line.
 
 ghost use Rattle.std.specs.Prelude.{◌≡◌, ◌++◌, IfOk, OnOk, string_bytes};
-ghost use Rattle.zeb_profile.specs.Canonical.{canonical_line, canonical_text, target_text, targets_text};
-ghost use Rattle.zeb_profile.specs.Profiles.{directives_in};
+ghost use Rattle.zeb_profile.specs.Clauses.{canonical_line, canonical_text, target_text, targets_text, directives_in};
 
 use crate::UnitPattern;
 use crate::directives::{Directive, Placed, Target};

@@ -1,17 +1,7 @@
 //! What one line of a profile says: the directives, and how each is read from its words.
 
-ghost use Rattle.std.specs.Prelude.{◌≡◌, List, ℕ, map, IfOk, option_map, string_bytes};
-ghost use Rattle.std.specs.Option.{option_copied};
-ghost use Rattle.std.specs.List.{list_all, slice_split};
-ghost use Rattle.std.specs.Char.{is_ascii_digit};
-ghost use Rattle.zeb_profile.specs.PrivateKeys.{target_key};
-ghost use Rattle.zeb_profile.specs.PrivateOutcomes.{Gives};
-ghost use Rattle.zeb_profile.specs.Lines.{words_of, trimmed};
-ghost use Rattle.zeb_profile.specs.Words.{target_of, targets_of as targets_in_word, number_of, is_comma, register_of};
-ghost use Rattle.zeb_profile.specs.Directives.{one_word, two_words, store_of, identifier_of, att_of, melm_of, all_of, directive_of};
-ghost use Rattle.zeb_profile.specs.Indexes.{identifier_told, name_told, path_told};
-ghost use Rattle.zeb_profile.specs.PrivateResolved.{is_all as all_test, is_melm_for as melm_for};
-ghost use Rattle.zeb_profile.specs.Profiles.{targets_in};
+ghost use Rattle.std.specs.Prelude.{◌≡◌, List, ℕ, map, IfOk, option_map, string_bytes, option_copied};
+ghost use Rattle.zeb_profile.specs.Clauses.{list_all, slice_split, is_ascii_digit, target_key, Gives, words_of, trimmed, target_of, targets_of as targets_in_word, number_of, is_comma, register_of, one_word, two_words, store_of, identifier_of, att_of, melm_of, all_of, directive_of, identifier_told, name_told, path_told, is_all as all_test, is_melm_for as melm_for, targets_in};
 
 use crate::lines::{first_word, trim};
 use crate::names::Name;

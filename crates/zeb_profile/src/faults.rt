@@ -1,7 +1,8 @@
 //! The faults of a profile, their printed names, and how want of memory becomes one.
 
 ghost use Rattle.zeb_profile.specs.declared.faults.ProfileFaultKind.TheVariants.{Memory};
-ghost use Rattle.std.specs.Prelude.{◌≡◌, ◌≢◌};
+ghost use Rattle.std.specs.Prelude.{◌≡◌, ◌≢◌, Some};
+ghost use Rattle.zeb_profile.specs.Faults.{fault_name, fault_text};
 
 use std::alloc::{AllocError, AllocFailed};
 use std::error::Error;
@@ -41,9 +42,6 @@ pub enum ProfileFaultKind {
 }
 
 impl fmt::Display for ProfileFaultKind {
-    ghost use Rattle.std.specs.Prelude.{Some};
-    ghost use Rattle.zeb_profile.specs.Faults.{fault_name};
-
     ghost output = { λ kind. Some (fault_name kind) };
 
     fn fmt<W: fmt::Write>(&self, f: &mut fmt::Formatter<W>) -> fmt::Result {
@@ -95,9 +93,6 @@ impl ProfileFault {
 }
 
 impl fmt::Display for ProfileFault {
-    ghost use Rattle.std.specs.Prelude.{Some};
-    ghost use Rattle.zeb_profile.specs.Faults.{fault_text};
-
     ghost output = { λ fault. Some (fault_text fault) };
 
     fn fmt<W: fmt::Write>(&self, f: &mut fmt::Formatter<W>) -> fmt::Result {

@@ -1,12 +1,7 @@
 //! The indexes of a profile: their names by number, and the number of a name.
 
-ghost use Rattle.std.specs.Prelude.{◌≡◌, ◌<◌, ◌^◌, ◌∷◌, [], List, ℕ, length, map, IfOk, OnOk, true, unwrap_or};
-ghost use Rattle.std.specs.List.{position};
-ghost use Rattle.zeb_profile.specs.Indexes.{index_names as index_names_of, first_spelling as first_spelling_of, names_in};
-ghost use Rattle.zeb_profile.specs.PrivateIndexes.{numbered};
-ghost use Rattle.zeb_profile.specs.PrivateKeys.{HasIndexKeys, HoldsKeys, NotesSpellings, name_key, spelled, spelled_at};
-ghost use Rattle.zeb_profile.specs.Profiles.{directives_in};
-ghost use Rattle.zeb_profile.specs.Words.{same_name};
+ghost use Rattle.std.specs.Prelude.{◌≡◌, ◌<◌, ◌^◌, ◌∷◌, [], List, ℕ, length, map, IfOk, OnOk, true, unwrap_or, position};
+ghost use Rattle.zeb_profile.specs.Clauses.{index_names as index_names_of, first_spelling as first_spelling_of, names_in, numbered, HasIndexKeys, HoldsKeys, NotesSpellings, name_key, spelled, spelled_at, directives_in, same_name};
 
 use crate::directives::{Directive, Placed, Target};
 use crate::names::Name;

@@ -8,7 +8,6 @@ mod canonical;
 mod directives;
 mod faults;
 mod indexes;
-mod laws;
 mod lines;
 mod lookups;
 mod names;
@@ -19,10 +18,6 @@ mod resolved;
 mod unit_targets;
 
 pub use faults::{ProfileFault, ProfileFaultKind};
-pub use laws::{
-    canonical_text_reads_back, comments_say_nothing, each_target_once, examples,
-    first_fault_is_answered, one_text_says_the_same, store_says_nothing_else, targets_are_read,
-};
 pub use lookups::Profile;
 pub use patterns::UnitPattern;
 pub use unit_targets::Targets;

@@ -1,8 +1,7 @@
 //! Blanks of a line: what stands between them, and the first word.
 
 ghost use Rattle.std.specs.Prelude.{◌≡◌, ◌∷◌, [], IfSome, IfNone, position};
-ghost use Rattle.std.specs.List.{position_or_len};
-ghost use Rattle.zeb_profile.specs.Lines.{is_blank as blank_test, without_leading_blanks, without_trailing_blanks, trimmed, words_of, after_word};
+ghost use Rattle.zeb_profile.specs.Clauses.{position_or_len, is_blank as blank_test, without_leading_blanks, without_trailing_blanks, trimmed, words_of, after_word};
 
 /// The blanks of a line: a space and a tab, and no other.
 const BLANKS: [char; 2] = [' ', '\t'];

@@ -1,13 +1,8 @@
 //! A profile that was read, and what may be asked of it.
 
-ghost use Rattle.std.specs.Prelude.{◌≡◌, length, Some, slice_get};
-ghost use Rattle.std.specs.Option.{option_copied};
+ghost use Rattle.std.specs.Prelude.{◌≡◌, length, Some, slice_get, option_copied};
 ghost use Rattle.zeb_profile.specs.Indexes as indexes;
-ghost use Rattle.zeb_profile.specs.Canonical.{canonical_text};
-ghost use Rattle.zeb_profile.specs.Laws.{IsProfile, SaysTheSame};
-ghost use Rattle.zeb_profile.specs.Outcomes.{GivesPlaced};
-ghost use Rattle.zeb_profile.specs.Profiles.{profile_of};
-ghost use Rattle.zeb_profile.specs.TargetsLeft.{targets_left};
+ghost use Rattle.zeb_profile.specs.Clauses.{canonical_text, IsProfile, SaysTheSame, GivesPlaced, profile_of, targets_left};
 
 use crate::canonical::canonical;
 use crate::indexes::{index_names, position_of};

@@ -1,10 +1,7 @@
 //! Names of indexes, in which the case of letters doesn't matter.
 
 ghost use Rattle.std.specs.Prelude.{◌≡◌, List, ℕ, IfOk, string_bytes};
-ghost use Rattle.std.specs.List.{list_all};
-ghost use Rattle.zeb_profile.specs.PrivateKeys.{name_key};
-ghost use Rattle.zeb_profile.specs.PrivateOutcomes.{Gives};
-ghost use Rattle.zeb_profile.specs.Words.{is_name as name_test, is_name_byte as name_byte_test, name_of, same_name as names_agree};
+ghost use Rattle.zeb_profile.specs.Clauses.{list_all, name_key, Gives, is_name as name_test, is_name_byte as name_byte_test, name_of, same_name as names_agree};
 
 use crate::ProfileFaultKind;
 use std::alloc::{AllocError, Global};

@@ -1,8 +1,7 @@
 //! Patterns of units: a tag, or a tag and a subfield code.
 
-ghost use Rattle.std.specs.Prelude.{◌≡◌};
-ghost use Rattle.zeb_profile.specs.Words.{pattern_of};
-ghost use Rattle.zeb_profile.specs.Indexes.{fits as pattern_fits};
+ghost use Rattle.std.specs.Prelude.{◌≡◌, Some};
+ghost use Rattle.zeb_profile.specs.Clauses.{pattern_of, pattern_text, fits as pattern_fits};
 
 use crate::ProfileFaultKind;
 use std::fmt;
@@ -47,9 +46,6 @@ impl UnitPattern {
 }
 
 impl fmt::Display for UnitPattern {
-    ghost use Rattle.std.specs.Prelude.{Some};
-    ghost use Rattle.zeb_profile.specs.Canonical.{pattern_text};
-
     ghost output = { λ pattern. Some (pattern_text pattern) };
 
     fn fmt<W: fmt::Write>(&self, f: &mut fmt::Formatter<W>) -> fmt::Result {

@@ -1,17 +1,7 @@
 //! Reading a profile line by line, and what its lines lack together.
 
-ghost use Rattle.std.specs.Prelude.{◌≡◌, length, map, IfOk, IfErr, option_map};
-ghost use Rattle.std.specs.List.{find};
-ghost use Rattle.std.specs.Str.Lines.{lines as lines_of};
-ghost use Rattle.std.specs.Option.{option_copied};
-ghost use Rattle.zeb_profile.specs.Indexes.{identifier_pattern as identifier_in, index_names, store_path as path_in};
-ghost use Rattle.zeb_profile.specs.PrivateKeys.{HasIndexKeys, ties_beside};
-ghost use Rattle.zeb_profile.specs.Lines.{says_something as tells};
-ghost use Rattle.zeb_profile.specs.Outcomes.{FailsPlaced, GivesPlaced};
-ghost use Rattle.zeb_profile.specs.PrivateOutcomes.{Gives};
-ghost use Rattle.zeb_profile.specs.Profiles.{directives_in, placed_lines, ties_unknown as ties_unknown_index, lack_of, unless};
-ghost use Rattle.zeb_profile.specs.PrivateSettled.{Settles};
-ghost use Rattle.zeb_profile.specs.PrivateRepeats.{NotesAlso, directive_beside};
+ghost use Rattle.std.specs.Prelude.{◌≡◌, length, map, IfOk, IfErr, option_map, find, option_copied};
+ghost use Rattle.zeb_profile.specs.Clauses.{lines as lines_of, identifier_pattern as identifier_in, index_names, store_path as path_in, HasIndexKeys, ties_beside, says_something as tells, FailsPlaced, GivesPlaced, Gives, directives_in, placed_lines, ties_unknown as ties_unknown_index, lack_of, unless, Settles, NotesAlso, directive_beside};
 
 use crate::directives::{Directive, Placed};
 use crate::lines::trim;

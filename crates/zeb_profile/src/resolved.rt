@@ -1,13 +1,7 @@
 //! The lines of a profile with their targets resolved: each index by its number.
 
-ghost use Rattle.std.specs.Prelude.{◌≡◌, ◌<◌, ◌^◌, List, ℕ, length, map, IfOk, OnOk, true, All};
-ghost use Rattle.std.specs.BTreeMap.{get_by_text};
-ghost use Rattle.std.specs.List.{list_any};
-ghost use Rattle.std.specs.Option.{option_copied};
-ghost use Rattle.zeb_profile.specs.Indexes.{index_names, pair_of as pair_in, same_pair, use_name as name_of_use};
-ghost use Rattle.zeb_profile.specs.PrivateKeys.{NotesNumber, NumbersNames, has_number, name_key};
-ghost use Rattle.zeb_profile.specs.PrivateResolved.{any_pair, directives_on, first_pairs, is_all, is_melm_for, line_value, resolved};
-ghost use Rattle.zeb_profile.specs.Profiles.{directives_in};
+ghost use Rattle.std.specs.Prelude.{◌≡◌, ◌<◌, ◌^◌, List, ℕ, length, map, IfOk, OnOk, true, All, option_copied};
+ghost use Rattle.zeb_profile.specs.Clauses.{get_by_text, list_any, index_names, pair_of as pair_in, same_pair, use_name as name_of_use, NotesNumber, NumbersNames, has_number, name_key, any_pair, directives_on, first_pairs, is_all, is_melm_for, line_value, resolved, directives_in};
 
 use crate::directives::{Directive, Placed, Target};
 use crate::names::Name;

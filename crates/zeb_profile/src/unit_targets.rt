@@ -1,8 +1,8 @@
 //! The targets of a unit, one after the other.
 
 ghost use Rattle.std.specs.Prelude.{◌≡◌, ◌∷◌, [], IfSome, IfNone};
-ghost use Rattle.zeb_profile.specs.Indexes.{further_pairs};
-ghost use Rattle.zeb_profile.specs.PrivateResolved.{unit_pairs};
+ghost use Rattle.zeb_profile.specs.Clauses.{further_pairs, targets_left, unit_pairs};
+ghost use Rattle.std.specs.Iterator.{item_count, YieldsFirst};
 
 use crate::resolved::{Line, Pair, all_pairs, is_among, melm_pairs};
 use zeb_keys::Register;
@@ -19,8 +19,6 @@ pub struct Targets<'a> {
 }
 
 impl<'a> Targets<'a> {
-    ghost use Rattle.zeb_profile.specs.TargetsLeft.{targets_left};
-
     /// The targets of the first `melm` line that fits a unit, and then, for a data field, those of the `all` line that are
     /// not among them.
     pub(crate) fn of_unit(lines: &'a [Line], tag: &[u8; 3], code: Option<u8>) -> Targets<'a>
@@ -42,9 +40,6 @@ impl<'a> Targets<'a> {
 
 impl<'a> Iterator for Targets<'a> {
     type Item = (u32, Register);
-
-    ghost use Rattle.std.specs.Iterator.{item_count, YieldsFirst};
-    ghost use Rattle.zeb_profile.specs.TargetsLeft.{targets_left};
 
     ghost next_gives = { YieldsFirst targets_left };
 

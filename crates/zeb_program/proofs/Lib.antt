@@ -1,3 +1,4 @@
+pub mod AnalysisLemmas
 pub mod AnswerLemmas
 pub mod BatchLemmas
 pub mod FailureLemmas
@@ -16,6 +17,7 @@ pub mod ServingLemmas
 pub mod SessionLemmas
 pub mod ShellLemmas
 pub mod ShellOverLemmas
+pub mod ShellTextLemmas
 pub mod StatusLemmas
 pub mod StopLemmas
 pub mod TaskLemmas

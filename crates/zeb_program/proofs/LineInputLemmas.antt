@@ -1,14 +1,19 @@
 -- How far a line has been read from a source.
-use Rattle.std.proofs.Common.{◌≡◌, ◌≢◌, ◌<◌, ◌+◌, ◌++◌, ◌∙◌, ℕ, List, [], ◌∷◌, length, take, get_or, refl, ap, sym, subst, arith, cond, eq-eqb, ne_eqb, append_assoc, not}
-use Rattle.std.specs.Prelude.{Option, Some, None, IfSome}
-use Rattle.std.specs.Io.KnownBytes.{Consumes, IsAtEnd}
+use Rattle.std.proofs.Common.{◌≡◌, ◌≢◌, ◌≤◌, ◌+◌, ◌++◌, ◌∙◌, ℕ, List, [], ◌∷◌, length, length-take, take, get_or, refl, ap, sym, subst, arith, cond, eq-eqb, ne_eqb, append_assoc, not}
+use Rattle.std.specs.Prelude.{Option, Some, None, Result, Ok, Err, IfErr, IfSome}
+use Rattle.std.specs.Io.KnownBytes.{Consumes, IsAtEnd, Keeps}
 use Rattle.std.specs.List.{position_or_len}
-use Rattle.std.proofs.KnownBytes.{Consumes-trans}
+use Rattle.std.proofs.KnownBytes.{Consumes-kept, Consumes-nil, Consumes-trans}
 use Rattle.std.proofs.lemmas.List.{length-append, append-nil, take_all}
 use Rattle.std.proofs.lemmas.List.Folds.{prefix_len-append}
 use Rattle.std.proofs.Math.Seq.{take-append_seam}
 use Rattle.zeb_program.specs.Lines.{is_lf}
+use Rattle.zeb_program.specs.InputCauses.{EndsInLine}
+use Rattle.zeb_program.specs.Inputs.{TakesAtMost}
 use Rattle.zeb_program.specs.PrivateLines.{whole_first_line}
+use Rattle.zeb_program.specs.declared.line_input.InputCause.TheVariants.{LongLine, FailedRead}
+use Rattle.zeb_program.specs.declared.line_input.LineFault.{LineFault}
+use Rattle.zeb_program.specs.declared.line_input.LineFault.TheVariants.{Unreadable, Memory}
 
 -- bytes without an LF
 abbrev pub HasNoLf : List ℕ → Type 0
@@ -43,13 +48,6 @@ line_at_lf (Some xs) (Some ys) bs none taken =
     let long : length bs + 1 ≡ length (bs ++ 10 ∷ []) = omega (arith, length-append bs (10 ∷ [])) in
     sym (rw (taken, at, long) (take-append_seam (bs ++ 10 ∷ []) ys))
 
--- a line that is too long
-pub line_too_long : (old new : Option (List ℕ)) (bs : List ℕ) (most : ℕ) → HasNoLf bs → most < length bs → Consumes old new bs → IfSome old (λ left. most < position_or_len is_lf left)
-line_too_long None new bs most none long taken = tt
-line_too_long (Some xs) None bs most none long taken = absurd taken
-line_too_long (Some xs) (Some ys) bs most none long taken =
-    omega (arith, long, ap (position_or_len is_lf) taken, position_past bs ys none)
-
 -- a list of one byte
 pub one_byte : (bs : List ℕ) → length bs ≡ 1 → bs ≡ get_or bs 0 0 ∷ []
 one_byte [] l = absurd (omega (arith, l))
@@ -64,3 +62,51 @@ line_read old now new bs buffer items count none before here long one lf is =
     let all : take count buffer ≡ buffer = take_all count buffer (omega (arith, long, one)) in
     let taken : Consumes old new (bs ++ 10 ∷ []) = subst (λ xs. Consumes old new (bs ++ xs)) (all ∙ whole) (Consumes-trans old now new bs (take count buffer) before here) in
     subst (λ xs. IfSome old (λ left. xs ≡ whole_first_line left)) (sym (is ∙ ap (λ xs. bs ++ xs) whole)) (line_at_lf old new bs none taken)
+
+-- ---- a line that isn't read
+
+-- what was read is no more than stands before its LF
+part_of_line : (xs : List ℕ) (new : Option (List ℕ)) (bs : List ℕ) → HasNoLf bs → Consumes (Some xs) new bs → length bs ≤ position_or_len is_lf xs
+part_of_line xs None bs none taken = absurd taken
+part_of_line xs (Some ys) bs none taken = omega (arith, ap (position_or_len is_lf) taken, position_past bs ys none)
+
+-- it is too long
+pub ends_long : (old new : Option (List ℕ)) (bs : List ℕ) (most : ℕ) → HasNoLf bs → length bs ≡ most + 1 → Consumes old new bs → IfSome old (λ left. EndsInLine most (Unreadable LongLine) left new)
+ends_long None new bs most none long taken = tt
+ends_long (Some xs) new bs most none long taken =
+    let here = part_of_line xs new bs none taken in
+    (omega arith, (bs, omega arith, taken))
+
+-- a read failed
+pub ends_failed : (old now new : Option (List ℕ)) (bs : List ℕ) (most : ℕ) → HasNoLf bs → length bs ≤ most → Consumes old now bs → Keeps now new
+    → IfSome old (λ left. EndsInLine most (Unreadable FailedRead) left new)
+ends_failed None now new bs most none short taken same = tt
+ends_failed (Some xs) now new bs most none short taken same =
+    let all = Consumes-kept (Some xs) now new bs taken same in
+    ((bs, short, all), (bs, part_of_line xs new bs none all, all))
+
+-- there was no memory for its last byte
+pub ends_starved : (old now new : Option (List ℕ)) (bs last : List ℕ) (most : ℕ) → HasNoLf bs → length bs ≤ most → length last ≤ 1 → Consumes old now bs → Consumes now new last
+    → IfSome old (λ left. EndsInLine most Memory left new)
+ends_starved None now new bs last most none short one taken more = tt
+ends_starved (Some xs) now new bs last most none short one taken more =
+    let here = part_of_line xs now bs none taken in
+    let all = Consumes-trans (Some xs) now new bs last taken more in
+    ((bs ++ last, omega (arith, length-append bs last), all), (bs ++ last, omega (arith, length-append bs last), all))
+
+-- or it was read, and there was none for its answer
+pub ends_read : (old new : Option (List ℕ)) (line : List ℕ) → IfSome old (λ left. line ≡ whole_first_line left) → Consumes old new line → TakesAtMost 16777217 old new
+    → IfSome old (λ left. EndsInLine 16777216 Memory left new)
+ends_read None new line is taken bounded = tt
+ends_read (Some xs) new line is taken bounded = (bounded, (line, omega (arith, ap length is, length-take (position_or_len is_lf xs + 1) xs), taken))
+
+-- or there was none before it was read
+pub ends_before : (left : Option (List ℕ)) → IfSome left (λ rest. EndsInLine 16777216 Memory rest left)
+ends_before None = tt
+ends_before (Some xs) = (([], omega arith, Consumes-nil (Some xs)), ([], omega arith, Consumes-nil (Some xs)))
+
+-- what is said of a fault is said of the one that is given for it
+pub given_ends : {T : Type 0} (r : Result T LineFault) (why : LineFault) (old new : Option (List ℕ)) (most : ℕ) → IfErr r (λ given. given ≡ why) → IfSome old (λ left. EndsInLine most why left new)
+    → IfErr r (λ given. IfSome old (λ left. EndsInLine most given left new))
+given_ends (Ok value) why old new most is ends = tt
+given_ends (Err given) why old new most is ends = subst (λ it. IfSome old (λ left. EndsInLine most it left new)) (sym is) ends

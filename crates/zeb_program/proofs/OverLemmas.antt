@@ -1,5 +1,5 @@
 -- What is written for a command, a change by a path and a line is their answer on any tables.
-use Rattle.std.proofs.Common.{◌≡◌, ◌⊎◌, inl, inr, ℕ, Bool, false, List, [], ◌∷◌, ◌++◌, Vec, ap, map, refl, subst, sym}
+use Rattle.std.proofs.Common.{◌≡◌, inl, inr, ℕ, Bool, false, List, [], ◌∷◌, ◌++◌, Vec, ap, map, refl, subst, sym}
 use Rattle.std.specs.Prelude.{Option, Some, Result, Ok, Err, IfErr, IfOk, OnErr, String, string_bytes}
 use Rattle.std.specs.declared.alloc.AllocError.{AllocError}
 use Rattle.std.specs.declared.alloc.Global.{Global}
@@ -11,16 +11,16 @@ use Rattle.zeb_profile.specs.declared.directives.Directive.{Directive}
 use Rattle.zeb_register.specs.Calls.{ChangesNothing}
 use Rattle.zeb_register.specs.Formats.{Format, version_of}
 use Rattle.zeb_change.specs.Conditions.{Conditions}
-use Rattle.zeb_change.specs.Reading.{NoneFailed, NoReadFault}
+use Rattle.zeb_change.specs.Reading.{NoneFailed}
 use Rattle.zeb_change.specs.declared.refusals.Refusal.{Refusal}
-use Rattle.zeb_change.specs.declared.refusals.Refusal.TheVariants.{Damaged, Memory as OutOfMemory}
+use Rattle.zeb_change.specs.declared.refusals.Refusal.TheVariants.{Damaged}
 use Rattle.zeb_change.specs.declared.settings.Kind.{Kind}
 use Rattle.zeb_change.specs.declared.settings.Limits.{Limits}
 use Rattle.zeb_image.specs.Holdings.{Holdings}
 use Rattle.zeb_image.specs.Image.{Keeps}
 use Rattle.zeb_image.specs.NameOf.{name_bytes}
 use Rattle.zeb_image.specs.declared.names.DbName.{DbName}
-use Rattle.zeb_engine.specs.Analysed.{IsAnalysed}
+use Rattle.zeb_engine.specs.Analysed.{HasLines, IsAnalysed}
 use Rattle.zeb_engine.specs.Changing.{ChangesReady, LeavesWhole, LosesNamed}
 use Rattle.zeb_engine.specs.Answers.{answer_of}
 use Rattle.zeb_engine.specs.Does.{CommandOverTables}
@@ -28,10 +28,8 @@ use Rattle.zeb_engine.specs.Readiness.{GoesByTexts}
 use Rattle.zeb_engine.specs.Refusals.{refusal_text}
 use Rattle.zeb_engine.specs.Replies.{reply_text}
 use Rattle.zeb_engine.specs.Steps.{TakesFiles}
-use Rattle.zeb_engine.specs.Transactions.{CommandedBy}
 use Rattle.zeb_engine.specs.Works.{ServesBy, ServesCommand}
 use Rattle.zeb_engine.specs.declared.commands.Command.{Command}
-use Rattle.zeb_engine.specs.declared.commands.Command.TheVariants.{Analyse as Analysis}
 use Rattle.zeb_engine.specs.declared.replies.Reply.{Reply}
 use Rattle.zeb_program.specs.declared.faults.Fault.{Fault}
 use Rattle.zeb_program.specs.declared.faults.Fault.TheVariants as fault
@@ -156,28 +154,24 @@ module _ (told : List ℕ → Option (List ℕ)) (c : Conditions) (kind : Kind) 
 
 -- ---- an analysis by paths
 
-module _ (told : List ℕ → Option (List ℕ)) (profile : List Directive) (limit : ℕ) (paths : List (List ℕ)) where
-  -- the register was asked for the analysis of these contents
-  pub analysed_over : (contents : Vec (Vec ℕ Global) Global) (r : Result Reply Fault) → AreShort (map (λ content. content.items) contents.items)
-      → ((files : List (List ℕ)) → AreTold told paths files → map (λ content. content.items) contents.items ≡ files)
-      → GivesAnswer (λ answer. NoReadFault answer × (IsAnalysed profile limit (map (λ content. content.items) contents.items) (answer_of answer) ⊎ (answer ≡ Err OutOfMemory))) r → AnalysesOver told profile limit paths r
-  analysed_over contents (Ok reply) short these answer = inr (record { texts = map (λ content. content.items) contents.items; analysed = answer.1; short = short; these = these })
-  analysed_over contents (Err (fault.Refused refusal)) short these answer = inr (record { texts = map (λ content. content.items) contents.items; analysed = answer.1; short = short; these = these })
-  analysed_over contents (Err fault.Memory) short these answer = inr tt
-  analysed_over contents (Err (fault.Profile file why)) short these answer = absurd answer
-  analysed_over contents (Err (fault.Unreadable path)) short these answer = absurd answer
+module _ (told : List ℕ → Option (List ℕ)) (profile : List Directive) (limit : ℕ) (paths : List (List ℕ)) (texts : List (List ℕ)) (short : AreShort texts)
+    (these : (files : List (List ℕ)) → AreTold told paths files → texts ≡ files) where
+  -- the reply has the analyses of these texts
+  pub analysed_over : (reply : Reply) → IsAnalysed profile limit texts (answer_of (Ok reply)) → AnalysesOver told profile limit paths (Ok reply)
+  analysed_over reply is = inr (record { texts = texts; analysed = inl is; short = short; these = these })
 
+  -- one of their records is refused, or memory ran out
+  pub unshown_over : (why : Refusal) → HasLines profile limit texts (Err why) → AnalysesOver told profile limit paths (Err (fault.Refused why))
+  unshown_over why (inl is) = inr (record { texts = texts; analysed = inl is; short = short; these = these })
+  unshown_over why (inr is) = inr (record { texts = texts; analysed = inr (ap Err is); short = short; these = these })
+
+module _ (told : List ℕ → Option (List ℕ)) (profile : List Directive) (limit : ℕ) (paths : List (List ℕ)) where
   -- a path couldn't be read, or memory ran out in the program itself
   pub unanalysed_over : (why : Fault) → IsUnread why → AnalysesOver told profile limit paths (Err why)
   unanalysed_over (fault.Unreadable path) unread = inl tt
   unanalysed_over fault.Memory unread = inr tt
   unanalysed_over (fault.Profile file why) unread = absurd unread
   unanalysed_over (fault.Refused refusal) unread = absurd unread
-
--- an analysis leaves the connection as it is
-pub analysis_still : {S T : Type 0} (g : Ghosts S) (command : Command) (old new : Held S) (result : Result T Refusal) → CommandedBy g command old new result
-    → (contents : Vec (Vec ℕ Global) Global) → command ≡ Analysis contents → new ≡ old
-analysis_still g command old new result call contents is = subst (λ order. CommandedBy g order old new result) is call
 
 -- ---- a task
 

@@ -1,4 +1,4 @@
--- A result of which the value is taken, or another one in its place; and what two clauses say of the value of a result together.
+-- A result of which the value is taken, or another one in its place; and what is made of a value.
 use Rattle.std.proofs.Common.{◌≡◌, ◌∙◌, ap, subst, sym}
 use Rattle.std.specs.Prelude.{Result, Ok, Err, IfErr, IfOk, IsErrAnd, MatchResult, OnErr}
 use Rattle.std.specs.Result.{result_unwrap_or}
@@ -7,9 +7,13 @@ pub unwrapped : {T E : Type 0} (r : Result T E) (P : T → Type 0) (other : T) �
 unwrapped (Ok value) P other ok err = ok
 unwrapped (Err fault) P other ok err = err
 
-pub together : {T E : Type 0} (r : Result T E) (P Q : T → Type 0) (None Goal : Type 0) → IfOk r P → IfOk r Q → OnErr r None → ((value : T) → P value → Q value → Goal) → (None → Goal) → Goal
-together (Ok value) P Q None Goal one other none both never = both value one other
-together (Err fault) P Q None Goal one other none both never = never none
+-- what is said of a value, and of one that is made of it
+pub made_of : {T E V F : Type 0} (from : Result T E) (to : Result V F) (P : T → Type 0) (Q : T → V → Type 0) (R : V → Type 0) (why : F)
+    → IfOk from P → IfOk from (λ value. IfOk to (Q value)) → OnErr from (to ≡ Err why) → ((value : T) (made : V) → P value → Q value made → R made) → IfOk to R
+made_of (Ok value) (Ok made) P Q R why one both never so = so value made one both
+made_of (Ok value) (Err fault) P Q R why one both never so = tt
+made_of (Err none) (Ok made) P Q R why one both never so = absurd cc
+made_of (Err none) (Err fault) P Q R why one both never so = tt
 
 pub ok_is_no_err : {T E : Type 0} (value : T) (fault : E) (Goal : Type 0) → Ok value ≡ Err fault → Goal
 ok_is_no_err value fault Goal e = absurd cc

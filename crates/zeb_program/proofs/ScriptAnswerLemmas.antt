@@ -24,7 +24,7 @@ use Rattle.zeb_program.specs.FaultAnswers.{IsOpeningFailure}
 use Rattle.zeb_program.specs.Inputs.{IsInput}
 use Rattle.zeb_program.specs.Scripts.{DividesAt, HasNoDivider}
 use Rattle.zeb_program.specs.Answers.{Writes, AnswersBatch, AnswersPart}
-use Rattle.zeb_register.specs.Formats.{packed_blocks}
+use Rattle.zeb_register.specs.Formats.{Format}
 use Rattle.zeb_program.specs.Doing.{RunsText}
 use Rattle.zeb_program.specs.OverTables.{LinesOver}
 use Rattle.zeb_program.specs.Serving.{LeadsOn, Stops}
@@ -140,10 +140,10 @@ Appends-kept (Some xs) (Some ys) (Some zs) bytes h kept = kept ∙ h
 pub Writes-kept : (old mid new : Option (List ℕ)) (P : List ℕ → Type 0) → Keeps mid new → Writes old mid P → Writes old new P
 Writes-kept old mid new P kept w = (w.0, w.1, Appends-kept old mid new w.0 w.2 kept)
 
-pub RunsText-kept : {S : Type 0} (g : Ghosts S) (tells : List ℕ → Option (List ℕ)) (c : Conditions) (n : ℕ) (batch : List ℕ) (old mid new : Option (List ℕ)) (status : Status) (first last : Held S) → Keeps mid new
-    → RunsText g tells c n batch old mid status first last → RunsText g tells c n batch old new status first last
-RunsText-kept g tells c n batch old mid new status first last kept runs = record {
-  over = Writes-kept old mid new (λ bytes. LinesOver g tells packed_blocks c n batch first bytes status last) kept runs.over;
+pub RunsText-kept : {S : Type 0} (g : Ghosts S) (tells : List ℕ → Option (List ℕ)) (format : Format) (c : Conditions) (n : ℕ) (batch : List ℕ) (old mid new : Option (List ℕ)) (status : Status) (first last : Held S) → Keeps mid new
+    → RunsText g tells format c n batch old mid status first last → RunsText g tells format c n batch old new status first last
+RunsText-kept g tells format c n batch old mid new status first last kept runs = record {
+  over = Writes-kept old mid new (λ bytes. LinesOver g tells format c n batch first bytes status last) kept runs.over;
   answers = λ before keeps.
       let w = runs.answers before keeps in
       (w.0, w.1, Writes-kept old mid new (λ bytes. AnswersBatch tells c n batch before bytes status w.0) kept w.2);

@@ -1,26 +1,22 @@
 -- How far the answers of a shell have come, of an input that tells its bytes.
-use Rattle.std.proofs.Common.{◌≡◌, ◌<◌, ◌+◌, ◌∙◌, inl, inr, ℕ, Bool, false, List, [], ◌∷◌, length, ap, arith, eqb, refl, subst, sym}
-use Rattle.std.specs.Prelude.{⊤, Option, Some, None, Result, Ok, Err, IfNone, IfOk, IfSome, OnErr}
+use Rattle.std.proofs.Common.{◌≡◌, ◌<◌, ◌+◌, ◌∙◌, inr, ℕ, Bool, false, List, [], ◌∷◌, length, ap, arith, eqb, refl, subst, sym}
+use Rattle.std.specs.Prelude.{⊤, Option, Some, None, Result, Ok, Err, IfNone, IfOk, IfSome}
 use Rattle.std.specs.declared.alloc.AllocError.{AllocError}
 use Rattle.std.specs.Io.KnownBytes.{Appends, Consumes, IsAtEnd, Keeps}
 use Rattle.std.specs.Str.{IsUtf8}
-use Rattle.std.proofs.KnownBytes.{Appends-kept, Keeps-refl}
+use Rattle.std.proofs.KnownBytes.{Appends-kept}
 use Rattle.sqlite.specs.State.{State}
 use Rattle.zeb_change.specs.Conditions.{Conditions}
 use Rattle.zeb_program.specs.Answers.{AnswersAsTold, AnswersBatch, bad_line}
-use Rattle.zeb_program.specs.FirstAnswers.{AnswersFirst}
-use Rattle.zeb_program.specs.Inputs.{TakesAtMost}
 use Rattle.zeb_program.specs.Lines.{first_line, after_first_line}
 use Rattle.zeb_program.specs.PrivateLines.{whole_first_line}
-use Rattle.zeb_program.specs.FixedLines.{unreadable_line}
-use Rattle.zeb_program.specs.Serving.{LeadsOn, ServesLines, Stops}
-use Rattle.zeb_program.proofs.AnswerLemmas.{answered_lines}
+use Rattle.zeb_program.specs.Serving.{LeadsOn}
 use Rattle.zeb_program.proofs.ScriptLemmas.{not_empty}
 use Rattle.zeb_program.proofs.ServingLemmas.{Reaches, bad_line_answer, reaches_start, reaches_line, reaches_end}
 use Rattle.zeb_program.proofs.WholeLineLemmas.{after_whole, first_of_whole, left_after_line, line_is_text, no_line_no_text}
 use Rattle.zeb_program.specs.declared.statuses.Status.{Status}
 use Rattle.zeb_program.specs.Statuses.{greater}
-use Rattle.zeb_program.specs.declared.statuses.Status.TheVariants.{Answered, Misused, Failed}
+use Rattle.zeb_program.specs.declared.statuses.Status.TheVariants.{Answered, Misused}
 
 -- ---- one line
 
@@ -103,39 +99,7 @@ serves_end told c old now wrote writes None left n greatest end far = tt
 serves_end told c old now wrote writes (Some text) None n greatest end far = absurd far
 serves_end told c old now wrote writes (Some text) (Some rest) n greatest end far = reaches_end told c old now wrote writes 0 text n rest greatest end far
 
--- where it ends before, no more is gone of the lines that aren't answered than one line may take
-pub serves_stop : (told : List ℕ → Option (List ℕ)) (c : Conditions) (old now : State) (wrote writes : Option (List ℕ)) (first left later : Option (List ℕ)) (n : ℕ) (greatest : Status)
-    → TakesAtMost 16777217 left later → Serves told c old now wrote writes first left n greatest
-    → IfSome first (λ text. Stops old wrote writes (AnswersFirst told c 0 text later))
-serves_stop told c old now wrote writes None left later n greatest taken far = tt
-serves_stop told c old now wrote writes (Some text) None later n greatest taken far = absurd far
-serves_stop told c old now wrote writes (Some text) (Some rest) later n greatest taken far = λ before keeps.
-    let here = far before keeps in
-    let w = answered_lines (AnswersAsTold told c) wrote writes 0 text before n rest greatest here.0 here.2 in
-    (w.0, (greatest, rest, here.0, w.1, taken), w.2)
-
--- where a line isn't answered
-pub serves_failure : {T E : Type 0} (told : List ℕ → Option (List ℕ)) (c : Conditions) (old now : State) (wrote writes : Option (List ℕ)) (first left later : Option (List ℕ)) (n : ℕ) (greatest : Status) (r : Result T E) (failed : Bool) (Clean : Type 0)
-    → TakesAtMost 16777217 left later → (failed ≡ false → Clean → Serves told c old now wrote writes first left n greatest)
-    → OnErr r (failed ≡ false → Clean → IfSome first (λ text. Stops old wrote writes (AnswersFirst told c 0 text later)))
-serves_failure told c old now wrote writes first left later n greatest (Ok x) failed Clean taken far = tt
-serves_failure told c old now wrote writes first left later n greatest (Err e) failed Clean taken far = λ sound clean. serves_stop told c old now wrote writes first left later n greatest taken (far sound clean)
-
 -- what is said where nothing was found
 pub found_none : (found : Option Status) (P : Type 0) → found ≡ None → IfNone found P → P
 found_none None P is h = h
 found_none (Some status) P is h = absurd cc
-
--- ---- the whole
-
-pub served_all : (told : List ℕ → Option (List ℕ)) (c : Conditions) (first left : Option (List ℕ)) (old new : State) (wrote writes fault : Option (List ℕ)) (status : Status)
-    → IfSome first (λ text. LeadsOn old new wrote writes (λ before bytes last. AnswersBatch told c 0 text before bytes status last))
-    → IfSome first (λ text. ServesLines told c text left old new wrote writes fault fault status)
-served_all told c None left old new wrote writes fault status led = tt
-served_all told c (Some text) left old new wrote writes fault status led = inl (led, Keeps-refl fault)
-
-pub served_part : (told : List ℕ → Option (List ℕ)) (c : Conditions) (first left : Option (List ℕ)) (old new : State) (wrote writes fault_old fault_new : Option (List ℕ))
-    → IfSome first (λ text. Stops old wrote writes (AnswersFirst told c 0 text left)) → Appends fault_old fault_new unreadable_line
-    → IfSome first (λ text. ServesLines told c text left old new wrote writes fault_old fault_new Failed)
-served_part told c None left old new wrote writes fault_old fault_new stops grew = tt
-served_part told c (Some text) left old new wrote writes fault_old fault_new stops grew = inr (stops, refl, grew)

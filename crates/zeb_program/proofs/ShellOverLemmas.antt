@@ -1,27 +1,25 @@
 -- How far the answers of a shell have come on any tables, of an input that tells its bytes.
-use Rattle.std.proofs.Common.{◌≡◌, ◌<◌, ◌+◌, ◌∙◌, inl, inr, ℕ, Bool, false, List, [], length, ap, refl, subst}
-use Rattle.std.specs.Prelude.{⊤, Option, Some, None, Result, Ok, Err, IfOk, IfSome, OnErr}
+use Rattle.std.proofs.Common.{◌≡◌, ◌<◌, ◌+◌, ◌∙◌, inr, ℕ, Bool, false, List, [], length, ap, refl, subst}
+use Rattle.std.specs.Prelude.{⊤, Option, Some, None, Result, Ok, Err, IfOk, IfSome}
 use Rattle.std.specs.declared.alloc.AllocError.{AllocError}
 use Rattle.std.specs.Io.KnownBytes.{Appends, Consumes, IsAtEnd, Keeps}
 use Rattle.std.specs.Str.{IsUtf8}
-use Rattle.std.proofs.KnownBytes.{Appends-kept, Keeps-refl}
+use Rattle.std.proofs.KnownBytes.{Appends-kept}
 use Rattle.sqlite.specs.Held.{Held, state}
 use Rattle.sqlite.specs.Store.{Ghosts}
 use Rattle.zeb_change.specs.Conditions.{Conditions}
 use Rattle.zeb_register.specs.Formats.{Format}
 use Rattle.zeb_program.specs.Answers.{EachLine, Writes, bad_line}
-use Rattle.zeb_program.specs.OverTables.{FirstOver, LineOver, LinesOver, ServesOverLines}
+use Rattle.zeb_program.specs.OverTables.{LineOver}
 use Rattle.zeb_program.specs.Lines.{first_line, after_first_line}
 use Rattle.zeb_program.specs.PrivateLines.{whole_first_line}
-use Rattle.zeb_program.specs.Inputs.{TakesAtMost}
-use Rattle.zeb_program.specs.FixedLines.{unreadable_line}
 use Rattle.zeb_program.specs.declared.lines.Line.TheVariants.{Bad}
-use Rattle.zeb_program.proofs.AnswerLemmas.{IsAnswered, answered_all, answered_line, answered_lines, answered_start}
+use Rattle.zeb_program.proofs.AnswerLemmas.{IsAnswered, answered_all, answered_line, answered_start}
 use Rattle.zeb_program.proofs.OverLemmas.{still}
 use Rattle.zeb_program.proofs.WholeLineLemmas.{after_whole, first_of_whole, left_after_line, line_is_text}
 use Rattle.zeb_program.specs.declared.statuses.Status.{Status}
 use Rattle.zeb_program.specs.Statuses.{greater}
-use Rattle.zeb_program.specs.declared.statuses.Status.TheVariants.{Answered, Misused, Failed}
+use Rattle.zeb_program.specs.declared.statuses.Status.TheVariants.{Answered, Misused}
 
 -- bytes that aren't text are no command
 pub no_text_over : {S : Type 0} (g : Ghosts S) (told : List ℕ → Option (List ℕ)) (format : Format) (c : Conditions) (number : ℕ) (bytes : List ℕ) (old : Held S) (wrote writes : Option (List ℕ)) (status : Status)
@@ -84,34 +82,3 @@ module _ {X : Type 0} (Answers : ℕ → List ℕ → X → List ℕ → Status 
   goes_end wrote writes None left n greatest old now end far = tt
   goes_end wrote writes (Some text) None n greatest old now end far = absurd far
   goes_end wrote writes (Some text) (Some rest) n greatest old now end far = answered_all Answers wrote writes 0 text old n rest greatest now end far
-
--- ---- the whole
-
--- where it ends before, no more is gone of the lines that aren't answered than one line may take
-pub over_stop : {S : Type 0} (g : Ghosts S) (told : List ℕ → Option (List ℕ)) (format : Format) (c : Conditions) (wrote writes first left later : Option (List ℕ)) (n : ℕ) (greatest : Status) (old now : Held S)
-    → TakesAtMost 16777217 left later → Goes (LineOver g told format c) wrote writes first left n greatest old now
-    → IfSome first (λ text. Writes wrote writes (FirstOver g told format c text later old))
-over_stop g told format c wrote writes None left later n greatest old now taken far = tt
-over_stop g told format c wrote writes (Some text) None later n greatest old now taken far = absurd far
-over_stop g told format c wrote writes (Some text) (Some rest) later n greatest old now taken far =
-    let w = answered_lines (LineOver g told format c) wrote writes 0 text old n rest greatest now far in
-    (w.0, record { status = greatest; rest = rest; last = now; lines = w.1; behind = taken }, w.2)
-
--- where a line isn't answered
-pub over_failure : {S T E : Type 0} (g : Ghosts S) (told : List ℕ → Option (List ℕ)) (format : Format) (c : Conditions) (wrote writes first left later : Option (List ℕ)) (n : ℕ) (greatest : Status) (old now : Held S) (r : Result T E) (failed : Bool) (Clean : Type 0)
-    → TakesAtMost 16777217 left later → (failed ≡ false → Clean → Goes (LineOver g told format c) wrote writes first left n greatest old now)
-    → OnErr r (failed ≡ false → Clean → IfSome first (λ text. Writes wrote writes (FirstOver g told format c text later old)))
-over_failure g told format c wrote writes first left later n greatest old now (Ok x) failed Clean taken far = tt
-over_failure g told format c wrote writes first left later n greatest old now (Err e) failed Clean taken far = λ sound clean. over_stop g told format c wrote writes first left later n greatest old now taken (far sound clean)
-
-pub over_all : {S : Type 0} (g : Ghosts S) (told : List ℕ → Option (List ℕ)) (format : Format) (c : Conditions) (first left : Option (List ℕ)) (old new : Held S) (wrote writes fault : Option (List ℕ)) (status : Status)
-    → IfSome first (λ text. Writes wrote writes (λ bytes. LinesOver g told format c 0 text old bytes status new))
-    → IfSome first (λ text. ServesOverLines g told format c text left old new wrote writes fault fault status)
-over_all g told format c None left old new wrote writes fault status wrote_all = tt
-over_all g told format c (Some text) left old new wrote writes fault status wrote_all = inl (wrote_all, Keeps-refl fault)
-
-pub over_part : {S : Type 0} (g : Ghosts S) (told : List ℕ → Option (List ℕ)) (format : Format) (c : Conditions) (first left : Option (List ℕ)) (old new : Held S) (wrote writes fault_old fault_new : Option (List ℕ))
-    → IfSome first (λ text. Writes wrote writes (FirstOver g told format c text left old)) → Appends fault_old fault_new unreadable_line
-    → IfSome first (λ text. ServesOverLines g told format c text left old new wrote writes fault_old fault_new Failed)
-over_part g told format c None left old new wrote writes fault_old fault_new part grew = tt
-over_part g told format c (Some text) left old new wrote writes fault_old fault_new part grew = inr (part, refl, grew)

@@ -8,9 +8,11 @@ use Rattle.std.proofs.KnownBytes.{Keeps-refl, Keeps-trans}
 use Rattle.sqlite.specs.Held.{Held, state}
 use Rattle.zeb_change.specs.Conditions.{Conditions}
 use Rattle.zeb_profile.specs.declared.directives.Directive.{Directive}
+use Rattle.zeb_register.specs.Formats.{packed_blocks}
+use Rattle.zeb_program.specs.declared.line_input.LineFault.TheVariants.{Memory as Starved}
 use Rattle.zeb_program.specs.declared.statuses.Status.{Status}
 use Rattle.zeb_program.specs.Answers.{AnswersPart}
-use Rattle.zeb_program.specs.FirstAnswers.{AnswersFirst}
+use Rattle.zeb_program.specs.Doing.{StopsText}
 use Rattle.zeb_program.specs.Serving.{Stops}
 use Rattle.zeb_program.specs.PrivateWordRuns.{OpensUnder, StopsIn, StopsServing, TakesStore}
 use Rattle.zeb_program.specs.Registers.{LacksStore, Places}
@@ -18,6 +20,7 @@ use Rattle.zeb_program.specs.Scripts.{BeginsRegister}
 use Rattle.zeb_program.specs.ScriptAnswers.{AnswersStopped, AreScriptConditions}
 use Rattle.zeb_program.specs.WordRuns.{IsText, ReadsAt, StopsBatch, batch_silent, batch_part, StopsLines, part_on_store, part_in_memory, no_line, StopsShell, shell_silent, shell_part}
 use Rattle.zeb_program.proofs.ScriptAnswerLemmas.{AnswersStopped-kept, Writes-kept}
+use Rattle.zeb_program.proofs.ShellTextLemmas.{StopsText-kept}
 use Rattle.zeb_program.proofs.WordRunLemmas.{TellsClosed-kept, from_kept, from_taken, some_kept}
 
 -- what is the same keeps what it holds
@@ -77,7 +80,7 @@ serving_kept at config tells c held given left old new fault_old fault_new same 
     let takes = under.3 in
     let whole = s.1 in
     shell_part under.0 c s.0 under.1 under.2
-    (from_taken at under.0 held whole.last (λ first _. IfSome given (λ text. Stops (state at.store first) old new (AnswersFirst at.tells c 0 text left))) takes whole.clean whole.lines)
+    (from_taken at under.0 held whole.last (λ first _. IfSome given (λ text. StopsText at.store at.tells packed_blocks c Starved text left old new first)) takes whole.clean whole.lines)
     whole.closes
 
 pub stop_serving : {S : Type 0} (at : Places S) (config : String Global) (tells : List ℕ → Option (List ℕ)) (c : Conditions) (held : Held S) (given left old new fault_old fault_new : Option (List ℕ)) (failed fault_failed : Bool) (r : Result Status AllocError)
@@ -119,8 +122,8 @@ StopsShell-kept at config given left old mid new fault_old fault_mid fault_new s
     shell_silent (Keeps-trans old mid new same stays) (Keeps-trans fault_old fault_mid fault_new quiet fault_stays)
 StopsShell-kept at config given left old mid new fault_old fault_mid fault_new stays fault_stays (shell_part profile c closed read under from closes) =
     shell_part profile c closed read under
-    (from_kept at profile (λ first _. IfSome given (λ text. Stops (state at.store first) old mid (AnswersFirst at.tells c 0 text left)))
-    (λ first _. IfSome given (λ text. Stops (state at.store first) old new (AnswersFirst at.tells c 0 text left)))
-    (λ first last. some_kept given (λ text. Stops (state at.store first) old mid (AnswersFirst at.tells c 0 text left)) (λ text. Stops (state at.store first) old new (AnswersFirst at.tells c 0 text left))
-    (λ text stops before keeps. Writes-kept old mid new (AnswersFirst at.tells c 0 text left before) stays (stops before keeps))) from)
+    (from_kept at profile (λ first _. IfSome given (λ text. StopsText at.store at.tells packed_blocks c Starved text left old mid first))
+    (λ first _. IfSome given (λ text. StopsText at.store at.tells packed_blocks c Starved text left old new first))
+    (λ first _. some_kept given (λ text. StopsText at.store at.tells packed_blocks c Starved text left old mid first) (λ text. StopsText at.store at.tells packed_blocks c Starved text left old new first)
+    (λ text. StopsText-kept at.store at.tells packed_blocks c Starved text left old mid new first stays)) from)
     (TellsClosed-kept fault_old fault_mid fault_new closed fault_stays closes)

@@ -5,13 +5,12 @@ use Rattle.std.specs.declared.alloc.Global.{Global}
 use Rattle.sqlite.specs.State.{State}
 use Rattle.zeb_change.specs.Conditions.{Conditions}
 use Rattle.zeb_change.specs.declared.refusals.Refusal.{Refusal}
+use Rattle.zeb_change.specs.declared.refusals.Refusal.TheVariants.{Memory as OutOfMemory}
 use Rattle.zeb_change.specs.declared.settings.Kind.{Kind}
 use Rattle.zeb_engine.specs.Analysed.{IsAnalysed}
-use Rattle.zeb_engine.specs.Answers.{answer_of}
-use Rattle.zeb_engine.specs.Steps.{TellsOrFails, OnlyAnswers}
+use Rattle.zeb_engine.specs.Answers.{IsFailure, answer_of}
 use Rattle.zeb_engine.specs.Works.{ServesCommand}
 use Rattle.zeb_engine.specs.declared.commands.Command.{Command}
-use Rattle.zeb_engine.specs.declared.commands.Command.TheVariants as command
 use Rattle.zeb_engine.specs.declared.replies.Reply.{Reply}
 use Rattle.zeb_image.specs.Holdings.{Holdings}
 use Rattle.zeb_image.specs.NameOf.{name_bytes}
@@ -19,7 +18,8 @@ use Rattle.zeb_image.specs.declared.names.DbName.{DbName}
 use Rattle.zeb_program.specs.Answers.{ChangesBy}
 use Rattle.zeb_program.specs.PrivateFaults.{IsUnread}
 use Rattle.zeb_program.specs.FaultAnswers.{IsUnreadable, NamesUnder}
-use Rattle.zeb_program.specs.PrivateServing.{replied}
+use Rattle.zeb_program.specs.OverTables.{AnalysesOver, IsAnalysisOver}
+use Rattle.zeb_program.specs.PrivateServing.{StandsFor}
 use Rattle.zeb_program.specs.Serving.{AnswersFrom, ServesTask}
 use Rattle.zeb_program.specs.TaskAnswers.{AnalysesFiles, AnswersCommand, AreTold, paths_of}
 use Rattle.zeb_program.specs.declared.faults.Fault.{Fault}
@@ -39,27 +39,22 @@ refused_command c order old new refusal serves before keeps = let served = serve
 
 -- ---- an analysis
 
--- the command for files of these bytes answers their analysis
-analysed : (c : Conditions) (given : Vec (Vec ℕ Global) Global) (files : List (List ℕ)) (before later : Holdings) (answer : Result Reply Refusal)
-    → map (λ file. file.items) given.items ≡ files → AnswersCommand c (command.Analyse given) before answer later → AnalysesFiles c files before answer later
-analysed c given files before later answer same h =
-    let there = subst (λ held. TellsOrFails (OnlyAnswers (IsAnalysed c.profile c.limits.records (map (λ file. file.items) given.items))) before (answer_of answer) held) (sym h.2) h.1 in
-    subst (λ texts. TellsOrFails (OnlyAnswers (IsAnalysed c.profile c.limits.records texts)) before (answer_of answer) later) same there
+-- what is said of the answer to an analysis on any tables is said of it on those that keep what a register holds
+module _ (c : Conditions) (told : List ℕ → Option (List ℕ)) (paths files : List (List ℕ)) (known : AreTold told paths files) where
+  analysed : (answer : Result Reply Refusal) (before : Holdings) → IsAnalysisOver told c.profile c.limits.records paths answer → AnalysesFiles c files before answer before
+  analysed answer before over = by over.analysed
+    where
+      by : IsAnalysed c.profile c.limits.records over.texts (answer_of answer) ⊎ (answer ≡ Err OutOfMemory) → AnalysesFiles c files before answer before
+      by (inl is) = inl (subst (λ texts. IsAnalysed c.profile c.limits.records texts (answer_of answer)) (over.these files known) is, refl)
+      by (inr is) = inr (subst (λ (it : Result Reply Refusal). IsFailure (answer_of it)) (sym is) (inr refl), refl)
 
-pub analysed_files : (c : Conditions) (given : Vec (Vec ℕ Global) Global) (files : List (List ℕ)) (old new : State) (r : Result Reply Fault) → map (λ file. file.items) given.items ≡ files
-    → AnswersFrom old new r (AnswersCommand c (command.Analyse given)) → AnswersFrom old new r (AnalysesFiles c files)
-analysed_files c given files old new (Ok reply) same gives before keeps = let h = gives before keeps in (h.0, analysed c given files before h.0 (Ok reply) same h.1, h.2)
-analysed_files c given files old new (Err (fault.Refused refusal)) same gives before keeps = let h = gives before keeps in (h.0, analysed c given files before h.0 (Err refusal) same h.1, h.2)
-analysed_files c given files old new (Err fault.Memory) same gives before keeps = tt
-analysed_files c given files old new (Err (fault.Profile named why)) same gives before keeps = gives before keeps
-analysed_files c given files old new (Err (fault.Unreadable path)) same gives before keeps = gives before keeps
-
--- files that couldn't be read
-pub unread_files : (c : Conditions) (files : List (List ℕ)) (old new : State) (why : Fault) → IsUnread why → AnswersFrom old new (Err why) (AnalysesFiles c files) ⊎ IsUnreadable (Err why)
-unread_files c files old new (fault.Profile named why) unread = absurd unread
-unread_files c files old new (fault.Unreadable path) unread = inr tt
-unread_files c files old new (fault.Refused refusal) unread = absurd unread
-unread_files c files old new fault.Memory unread = inl (λ before keeps. tt)
+  pub analysed_files : (held : State) (r : Result Reply Fault) → AnalysesOver told c.profile c.limits.records paths r → AnswersFrom held held r (AnalysesFiles c files) ⊎ IsUnreadable r
+  analysed_files held r (inl unread) = inr unread
+  analysed_files held (Ok reply) (inr over) = inl (λ before keeps. (before, analysed (Ok reply) before over, keeps))
+  analysed_files held (Err (fault.Refused refusal)) (inr over) = inl (λ before keeps. (before, analysed (Err refusal) before over, keeps))
+  analysed_files held (Err fault.Memory) (inr over) = inl (λ before keeps. tt)
+  analysed_files held (Err (fault.Profile named why)) (inr over) = absurd over
+  analysed_files held (Err (fault.Unreadable path)) (inr over) = absurd over
 
 -- ---- a task
 
@@ -95,10 +90,10 @@ pub read_under : (named : List (List ℕ)) (r : Result Reply Fault) → IfErr r 
 read_under named (Ok reply) h = tt
 read_under named (Err why) h = under_read named why h
 
--- so it is of what is served with that reply
-pub served_under : (named : List (List ℕ)) (r : Result Served Fault) (own : Result Reply Fault) → replied r ≡ own → IfErr own (NamesUnder named) → IfErr r (NamesUnder named)
-served_under named (Ok served) own same h = tt
-served_under named (Err why) own same h = subst (λ it. IfErr it (NamesUnder named)) (sym same) h
+-- so it is of what stands for that answer
+pub served_under : (named : List (List ℕ)) (r : Result Served Fault) (own : Result Reply Fault) → StandsFor r own → IfErr own (NamesUnder named) → IfErr r (NamesUnder named)
+served_under named (Ok served) own stands h = tt
+served_under named (Err why) own stands h = subst (λ it. IfErr it (NamesUnder named)) stands h
 
 -- the paths that a task names
 pub change_under : (task : Task) (kind : Kind) (database : DbName) (paths : Vec (String Global) Global) (named : List (String Global)) (r : Result Reply Fault) → task ≡ Change kind database paths → named ≡ paths.items

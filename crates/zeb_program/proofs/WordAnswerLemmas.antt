@@ -41,7 +41,7 @@ AnswersWords-kept at words given left unread old mid new fault_old fault_mid fau
 AnswersWords-kept at words given left unread old mid new fault_old fault_mid fault_new status kept fault_kept (batched all names is runs) =
     batched all names is (RunsBatch-kept at all.config given unread old mid new fault_old fault_mid fault_new status kept fault_kept runs)
 AnswersWords-kept at words given left unread old mid new fault_old fault_mid fault_new status kept fault_kept (served all names is end runs) =
-    served all names is (λ less. passed (end less)) (RunsShell-kept at all.config given left old mid new fault_old fault_mid fault_new status kept fault_kept runs)
+    served all names is (λ less. passed (end less)) (RunsShell-kept at all.config given left unread old mid new fault_old fault_mid fault_new status kept fault_kept runs)
   where
     passed : IsAtEnd left ⊎ Keeps old mid → IsAtEnd left ⊎ Keeps old new
     passed (inl there) = inl there
@@ -127,7 +127,7 @@ stopped_batch_words at words given left old new fault_old fault_new all failed f
 -- a shell
 pub shell_words : {S : Type 0} (at : Places S) (words : List (List ℕ)) (given left : Option (List ℕ)) (unread : Bool) (old new fault_old fault_new : Option (List ℕ)) (all : Words) (failed fault_failed : Bool) (r : Result Status AllocError)
     → NamesWords words all → all.act ≡ Shell → IfOk r (λ status. status ≢ Failed → IsAtEnd left ⊎ Keeps old new)
-    → IfOk r (λ status. failed ≡ false → fault_failed ≡ false → RunsShell at all.config given left old new fault_old fault_new status)
+    → IfOk r (λ status. failed ≡ false → fault_failed ≡ false → RunsShell at all.config given left unread old new fault_old fault_new status)
     → IfOk r (λ status. failed ≡ false → fault_failed ≡ false → AnswersWords at words given left unread old new fault_old fault_new status)
 shell_words at words given left unread old new fault_old fault_new all failed fault_failed (Err e) names is end runs = tt
 shell_words at words given left unread old new fault_old fault_new all failed fault_failed (Ok status) names is end runs = λ sound quiet. served all names is end (runs sound quiet)

@@ -6,7 +6,6 @@ use Rattle.std.specs.declared.alloc.Global.{Global}
 use Rattle.std.specs.Io.KnownBytes.{Appends, Keeps}
 use Rattle.std.proofs.KnownBytes.{Appends-kept, Keeps-refl, Keeps-trans}
 use Rattle.sqlite.specs.Held.{Held, state}
-use Rattle.sqlite.specs.Store.{Ghosts}
 use Rattle.sqlite.specs.State.{HasCleanDisk, State}
 use Rattle.zeb_change.specs.Conditions.{Conditions}
 use Rattle.zeb_change.specs.declared.refusals.Refusal.{Refusal}
@@ -27,19 +26,19 @@ use Rattle.zeb_program.specs.declared.faults.Fault.{Fault}
 use Rattle.zeb_program.specs.declared.faults.Fault.TheVariants as fault
 use Rattle.zeb_program.specs.declared.performing.Told.{Told}
 use Rattle.zeb_program.specs.declared.tasks.Served.{Served}
+use Rattle.zeb_program.specs.declared.tasks.Served.TheVariants.{Replied, Shown}
 use Rattle.zeb_program.specs.declared.tasks.Task.{Task}
 use Rattle.zeb_program.specs.declared.tasks.Task.TheVariants.{Ask}
-use Rattle.zeb_program.specs.Answers.{AnswersBatch, Writes}
+use Rattle.zeb_program.specs.Answers.{Writes}
 use Rattle.zeb_register.specs.Formats.{packed_blocks}
 use Rattle.zeb_program.specs.Doing.{DoesTask, RunsText, ServesText}
 use Rattle.zeb_program.specs.FaultAnswers.{GivesAnswer, IsOpeningFailure, IsUnreadable, NamesUnder}
-use Rattle.zeb_program.specs.OverTables.{FirstOver, LinesOver, ServesOverLines, TaskOver}
+use Rattle.zeb_program.specs.OverTables.{TaskOver}
 use Rattle.zeb_program.specs.FaultLines.{IsUnclosed, TellsFailure}
-use Rattle.zeb_program.specs.FirstAnswers.{AnswersFirst}
 use Rattle.zeb_program.specs.Inputs.{IsInput}
 use Rattle.zeb_program.specs.PrivateFaults.{IsOpeningFault}
-use Rattle.zeb_program.specs.PrivateServing.{replied}
-use Rattle.zeb_program.specs.Serving.{AnswersFrom, ServesLines, ServesTask}
+use Rattle.zeb_program.specs.PrivateServing.{StandsFor}
+use Rattle.zeb_program.specs.Serving.{AnswersFrom, ServesTask}
 use Rattle.zeb_program.specs.PrivateWordRuns.{GivesFor, IsOwnOr, OpensUnder, RunsIn, RunsOnNothing, ServesIn, ServesOnNothing, TakesStore, TellsDone}
 use Rattle.zeb_program.specs.Registers.{FromStore, LacksStore, kept, none, Places}
 use Rattle.zeb_program.specs.ScriptAnswers.{AnswersStopped, AreScriptConditions, RunsFromNothing}
@@ -51,6 +50,7 @@ use Rattle.zeb_program.specs.declared.statuses.Status.{Status}
 use Rattle.zeb_program.specs.Statuses.{IsFaultStatus}
 use Rattle.zeb_program.specs.declared.statuses.Status.TheVariants.{Answered, Failed}
 use Rattle.zeb_program.proofs.ScriptAnswerLemmas.{RunsFromNothing-kept, RunsText-kept, Writes-kept, silent_batch}
+use Rattle.zeb_program.proofs.ShellTextLemmas.{ServesText-kept}
 use Rattle.zeb_program.specs.Scripts.{BeginsRegister}
 
 -- ---- what is passed on stays what it was
@@ -105,7 +105,7 @@ RunsLines-kept : {S : Type 0} (at : Places S) (profile : List Directive) (text :
     → RunsLines at profile text old mid fault_old fault_mid status → RunsLines at profile text old new fault_old fault_new status
 RunsLines-kept at profile text old mid new fault_old fault_mid fault_new _ same fault_same (on_store c here closed under from closes) =
     on_store c here closed under
-    (from_kept at profile (RunsText at.store at.tells c 0 text old mid here) (RunsText at.store at.tells c 0 text old new here) (λ first last. RunsText-kept at.store at.tells c 0 text old mid new here first last same) from)
+    (from_kept at profile (RunsText at.store at.tells packed_blocks c 0 text old mid here) (RunsText at.store at.tells packed_blocks c 0 text old new here) (λ first last. RunsText-kept at.store at.tells packed_blocks c 0 text old mid new here first last same) from)
     (TellsClosed-kept fault_old fault_mid fault_new closed fault_same closes)
 RunsLines-kept at profile text old mid new fault_old fault_mid fault_new status same fault_same (in_memory lacks unmade quiet opened) =
     in_memory lacks unmade (Keeps-trans fault_old fault_mid fault_new quiet fault_same) (RunsFromNothing-kept at.tells profile 0 text old mid new status same opened)
@@ -119,42 +119,21 @@ RunsBatch-kept at config given failed old mid new fault_old fault_mid fault_new 
 RunsBatch-kept at config given failed old mid new fault_old fault_mid fault_new status same fault_same (batch_ran profile text read is runs) =
     batch_ran profile text read is (RunsLines-kept at profile text old mid new fault_old fault_mid fault_new status same fault_same runs)
 
-ServesText-kept : {S : Type 0} (g : Ghosts S) (told : List ℕ → Option (List ℕ)) (c : Conditions) (text : List ℕ) (left old mid new fault_old fault_new : Option (List ℕ)) (status : Status) (first last : Held S) → Keeps mid new
-    → ServesText g told c text left old mid fault_old fault_new status first last → ServesText g told c text left old new fault_old fault_new status first last
-ServesText-kept g told c text left old mid new fault_old fault_new status first last same serves = record { over = over serves.over; answers = answers serves.answers }
-  where
-    over : ServesOverLines g told packed_blocks c text left first last old mid fault_old fault_new status → ServesOverLines g told packed_blocks c text left first last old new fault_old fault_new status
-    over (inl all) = inl (Writes-kept old mid new (λ bytes. LinesOver g told packed_blocks c 0 text first bytes status last) same all.0, all.1)
-    over (inr part) = inr (Writes-kept old mid new (FirstOver g told packed_blocks c text left first) same part.0, part.1, part.2)
-
-    answers : ServesLines told c text left (state g first) (state g last) old mid fault_old fault_new status → ServesLines told c text left (state g first) (state g last) old new fault_old fault_new status
-    answers (inl all) =
-        inl (λ before keeps. let w = all.0 before keeps in (w.0, w.1, Writes-kept old mid new (λ bytes. AnswersBatch told c 0 text before bytes status w.0) same w.2), all.1)
-    answers (inr part) = inr (λ before keeps. Writes-kept old mid new (AnswersFirst told c 0 text left before) same (part.0 before keeps), part.1, part.2)
-
--- what is said of a shell's lines on any tables, and on such that keep what a register holds
-pub text_served : {S : Type 0} (g : Ghosts S) (told : List ℕ → Option (List ℕ)) (c : Conditions) (given left : Option (List ℕ)) (old new : Held S) (wrote writes fault_old fault_new : Option (List ℕ)) (status : Status)
-    → IfSome given (λ text. ServesOverLines g told packed_blocks c text left old new wrote writes fault_old fault_new status)
-    → IfSome given (λ text. ServesLines told c text left (state g old) (state g new) wrote writes fault_old fault_new status)
-    → IfSome given (λ text. ServesText g told c text left wrote writes fault_old fault_new status old new)
-text_served g told c None left old new wrote writes fault_old fault_new status over answers = tt
-text_served g told c (Some text) left old new wrote writes fault_old fault_new status over answers = record { over = over; answers = answers }
-
 -- what is said of an input that is told
 pub some_kept : (given : Option (List ℕ)) (P Q : List ℕ → Type 0) → ((text : List ℕ) → P text → Q text) → IfSome given P → IfSome given Q
 some_kept None P Q so h = tt
 some_kept (Some text) P Q so h = so text h
 
-pub RunsShell-kept : {S : Type 0} (at : Places S) (config : String Global) (given left old mid new fault_old fault_mid fault_new : Option (List ℕ)) (status : Status) → Keeps mid new → Keeps fault_mid fault_new
-    → RunsShell at config given left old mid fault_old fault_mid status → RunsShell at config given left old new fault_old fault_new status
-RunsShell-kept at config given left old mid new fault_old fault_mid fault_new status same fault_same (shell_stopped why is quiet tells) =
+pub RunsShell-kept : {S : Type 0} (at : Places S) (config : String Global) (given left : Option (List ℕ)) (failed : Bool) (old mid new fault_old fault_mid fault_new : Option (List ℕ)) (status : Status) → Keeps mid new → Keeps fault_mid fault_new
+    → RunsShell at config given left failed old mid fault_old fault_mid status → RunsShell at config given left failed old new fault_old fault_new status
+RunsShell-kept at config given left failed old mid new fault_old fault_mid fault_new status same fault_same (shell_stopped why is quiet tells) =
     shell_stopped why is (Keeps-trans old mid new quiet same) (Writes-kept fault_old fault_mid fault_new (λ bytes. TellsFailure why bytes status) fault_same tells)
-RunsShell-kept at config given left old mid new fault_old fault_mid fault_new _ same fault_same (shell_ran profile c between here closed read under from closes) =
+RunsShell-kept at config given left failed old mid new fault_old fault_mid fault_new _ same fault_same (shell_ran profile c between here closed read under from closes) =
     shell_ran profile c between here closed read under
-    (from_kept at profile (λ first last. IfSome given (λ text. ServesText at.store at.tells c text left old mid fault_old between here first last))
-    (λ first last. IfSome given (λ text. ServesText at.store at.tells c text left old new fault_old between here first last))
-    (λ first last. some_kept given (λ text. ServesText at.store at.tells c text left old mid fault_old between here first last) (λ text. ServesText at.store at.tells c text left old new fault_old between here first last)
-    (λ text. ServesText-kept at.store at.tells c text left old mid new fault_old between here first last same)) from)
+    (from_kept at profile (λ first last. IfSome given (λ text. ServesText at.store at.tells packed_blocks c text left failed old mid fault_old between here first last))
+    (λ first last. IfSome given (λ text. ServesText at.store at.tells packed_blocks c text left failed old new fault_old between here first last))
+    (λ first last. some_kept given (λ text. ServesText at.store at.tells packed_blocks c text left failed old mid fault_old between here first last) (λ text. ServesText at.store at.tells packed_blocks c text left failed old new fault_old between here first last)
+    (λ text. ServesText-kept at.store at.tells packed_blocks c text left failed old mid new fault_old between here first last same)) from)
     (TellsClosed-kept between fault_mid fault_new closed fault_same closes)
 
 -- ---- a task
@@ -253,7 +232,7 @@ lines_kept at profile text tells c held n old new fault_old fault_new status fir
     let r = subst (λ t. RunsIn at.store t c 0 text held old new fault_old fault_new status) same (subst (λ k. RunsIn at.store tells c k text held old new fault_old fault_new status) first runs) in
     let whole = r.3 in
     subst (RunsLines at profile text old new fault_old fault_new) (sym r.2)
-    (on_store c r.0 r.1 under (from_taken at profile held whole.last (RunsText at.store at.tells c 0 text old new r.0) takes whole.clean whole.lines) whole.closes)
+    (on_store c r.0 r.1 under (from_taken at profile held whole.last (RunsText at.store at.tells packed_blocks c 0 text old new r.0) takes whole.clean whole.lines) whole.closes)
 
 pub run_kept : {S : Type 0} (at : Places S) (profile : List Directive) (text : List ℕ) (tells : List ℕ → Option (List ℕ)) (c : Conditions) (held : Held S) (n : ℕ) (old new fault_old fault_new : Option (List ℕ)) (failed fault_failed : Bool) (r : Result Status AllocError)
     → n ≡ 0 → tells ≡ at.tells → AreScriptConditions profile c → TakesStore at profile held
@@ -328,30 +307,30 @@ stops_opening at config profile (fault.Profile file why) read is = absurd is
 stops_opening at config profile (fault.Unreadable path) read is = absurd is
 stops_opening at config profile fault.Memory read is = absurd is
 
-pub shell_unopened : {S : Type 0} (at : Places S) (config : String Global) (given left old fault_old fault_new : Option (List ℕ)) (why : Fault) (failed fault_failed : Bool) (r : Result Status AllocError) → StopsOpening at config why
+pub shell_unopened : {S : Type 0} (at : Places S) (config : String Global) (given left : Option (List ℕ)) (read_failed : Bool) (old fault_old fault_new : Option (List ℕ)) (why : Fault) (failed fault_failed : Bool) (r : Result Status AllocError) → StopsOpening at config why
     → IfOk r (λ status. fault_failed ≡ false → Writes fault_old fault_new (λ bytes. TellsFailure why bytes status))
-    → IfOk r (λ status. failed ≡ false → fault_failed ≡ false → RunsShell at config given left old old fault_old fault_new status)
-shell_unopened at config given left old fault_old fault_new why failed fault_failed (Err e) is tells = tt
-shell_unopened at config given left old fault_old fault_new why failed fault_failed (Ok status) is tells = λ _ sound. shell_stopped why is (Keeps-refl old) (tells sound)
+    → IfOk r (λ status. failed ≡ false → fault_failed ≡ false → RunsShell at config given left read_failed old old fault_old fault_new status)
+shell_unopened at config given left read_failed old fault_old fault_new why failed fault_failed (Err e) is tells = tt
+shell_unopened at config given left read_failed old fault_old fault_new why failed fault_failed (Ok status) is tells = λ _ sound. shell_stopped why is (Keeps-refl old) (tells sound)
 
 -- its lines, on the register in the store
-shell_kept : {S : Type 0} (at : Places S) (config : String Global) (tells : List ℕ → Option (List ℕ)) (c : Conditions) (held : Held S) (given left old new fault_old fault_new : Option (List ℕ)) (status : Status)
-    → tells ≡ at.tells → OpensUnder at config c held → ServesIn at.store tells c given left held old new fault_old fault_new status → RunsShell at config given left old new fault_old fault_new status
-shell_kept at config tells c held given left old new fault_old fault_new status same under serves =
-    let s = subst (λ t. ServesIn at.store t c given left held old new fault_old fault_new status) same serves in
+shell_kept : {S : Type 0} (at : Places S) (config : String Global) (tells : List ℕ → Option (List ℕ)) (c : Conditions) (held : Held S) (given left : Option (List ℕ)) (read_failed : Bool) (old new fault_old fault_new : Option (List ℕ)) (status : Status)
+    → tells ≡ at.tells → OpensUnder at config c held → ServesIn at.store tells c given left read_failed held old new fault_old fault_new status → RunsShell at config given left read_failed old new fault_old fault_new status
+shell_kept at config tells c held given left read_failed old new fault_old fault_new status same under serves =
+    let s = subst (λ t. ServesIn at.store t c given left read_failed held old new fault_old fault_new status) same serves in
     let takes = under.3 in
     let whole = s.4 in
-    subst (RunsShell at config given left old new fault_old fault_new) (sym s.3)
+    subst (RunsShell at config given left read_failed old new fault_old fault_new) (sym s.3)
     (shell_ran under.0 c s.0 s.1 s.2 under.1 under.2
-    (from_taken at under.0 held whole.last (λ first last. IfSome given (λ text. ServesText at.store at.tells c text left old new fault_old s.0 s.1 first last)) takes whole.clean whole.lines)
+    (from_taken at under.0 held whole.last (λ first last. IfSome given (λ text. ServesText at.store at.tells packed_blocks c text left read_failed old new fault_old s.0 s.1 first last)) takes whole.clean whole.lines)
     whole.closes)
 
-pub shell_served : {S : Type 0} (at : Places S) (config : String Global) (tells : List ℕ → Option (List ℕ)) (c : Conditions) (held : Held S) (given left old new fault_old fault_new : Option (List ℕ)) (failed fault_failed : Bool) (r : Result Status AllocError)
-    → tells ≡ at.tells → OpensUnder at config c held → IfOk r (λ status. failed ≡ false → fault_failed ≡ false → ServesIn at.store tells c given left held old new fault_old fault_new status)
-    → IfOk r (λ status. failed ≡ false → fault_failed ≡ false → RunsShell at config given left old new fault_old fault_new status)
-shell_served at config tells c held given left old new fault_old fault_new failed fault_failed (Err e) same under serves = tt
-shell_served at config tells c held given left old new fault_old fault_new failed fault_failed (Ok status) same under serves = λ sound quiet.
-    shell_kept at config tells c held given left old new fault_old fault_new status same under (serves sound quiet)
+pub shell_served : {S : Type 0} (at : Places S) (config : String Global) (tells : List ℕ → Option (List ℕ)) (c : Conditions) (held : Held S) (given left : Option (List ℕ)) (read_failed : Bool) (old new fault_old fault_new : Option (List ℕ)) (failed fault_failed : Bool) (r : Result Status AllocError)
+    → tells ≡ at.tells → OpensUnder at config c held → IfOk r (λ status. failed ≡ false → fault_failed ≡ false → ServesIn at.store tells c given left read_failed held old new fault_old fault_new status)
+    → IfOk r (λ status. failed ≡ false → fault_failed ≡ false → RunsShell at config given left read_failed old new fault_old fault_new status)
+shell_served at config tells c held given left read_failed old new fault_old fault_new failed fault_failed (Err e) same under serves = tt
+shell_served at config tells c held given left read_failed old new fault_old fault_new failed fault_failed (Ok status) same under serves = λ sound quiet.
+    shell_kept at config tells c held given left read_failed old new fault_old fault_new status same under (serves sound quiet)
 
 -- ---- what functions give on
 
@@ -387,10 +366,11 @@ pub input_fault : (told : Option (List ℕ)) (config : String Global) (profile :
 input_fault told config profile given failed Unreadable gives path read at empty is bytes = inr (profile, read, (path, at refl, is, bytes refl))
 input_fault told config profile given failed Starved gives path read at empty is bytes = inl (subst (λ it. ReadsProfile told config (Err it)) (sym (empty refl)) tt)
 
--- what a task is answered names paths as its reply does
-pub replied_under : (named : List (List ℕ)) (r : Result Served Fault) → IfErr r (NamesUnder named) → IfErr (replied r) (NamesUnder named)
-replied_under named (Ok served) h = tt
-replied_under named (Err why) h = h
+-- what a task is answered names paths as what it stands for does
+pub replied_under : (named : List (List ℕ)) (r : Result Served Fault) (own : Result Reply Fault) → StandsFor r own → IfErr r (NamesUnder named) → IfErr own (NamesUnder named)
+replied_under named (Ok (Replied reply)) own stands h = subst (λ it. IfErr it (NamesUnder named)) (sym stands) tt
+replied_under named (Ok (Shown lines unmarked)) own stands h = subst (λ it. IfErr it (NamesUnder named)) (sym stands.1) tt
+replied_under named (Err why) own stands h = subst (λ it. IfErr it (NamesUnder named)) (sym stands) h
 
 -- what is passed on by `?`
 pub passed_fault : {A : Type 0} (P : Fault → Type 0) (r : Result A Failure) (why : Failure) → r ≡ Err why → P why.fault → IfErr r (λ failure. P failure.fault)

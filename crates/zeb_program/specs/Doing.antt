@@ -1,19 +1,27 @@
 -- What a task, the lines of a batch and those of a shell do over a store, and what is written (this program's own): on any tables, whatever
 -- files there are, and on tables that keep what a register holds, where the bytes of a task's files are told, and of lines as far as they are.
-use Rattle.std.specs.Prelude.{ℕ, IfErr, List, Option, Result}
+use Rattle.std.specs.Prelude.{◌≡◌, ℕ, Bool, false, IfErr, List, Option, Result}
+use Rattle.std.specs.Io.KnownBytes.{Appends, IsAtEnd, Keeps as Stays}
 use Rattle.sqlite.specs.Held.{Held, state}
 use Rattle.sqlite.specs.Store.{Ghosts}
-use Rattle.zeb_register.specs.Formats.{packed_blocks}
+use Rattle.zeb_register.specs.Formats.{Format, packed_blocks}
 use Rattle.zeb_change.specs.Conditions.{Conditions}
+use Rattle.zeb_image.specs.Holdings.{Holdings}
 use Rattle.zeb_engine.specs.declared.replies.Reply.{Reply}
 use Rattle.zeb_program.specs.declared.faults.Fault.{Fault}
+use Rattle.zeb_program.specs.declared.line_input.InputCause.{InputCause}
+use Rattle.zeb_program.specs.declared.line_input.LineFault.{LineFault}
+use Rattle.zeb_program.specs.declared.line_input.LineFault.TheVariants.{Unreadable}
 use Rattle.zeb_program.specs.declared.tasks.Task.{Task}
-use Rattle.zeb_program.specs.Answers.{AnswersBatch, Writes}
+use Rattle.zeb_program.specs.Answers.{AnswersBatch, AnswersLines, EachLine, Writes}
 use Rattle.zeb_program.specs.FaultAnswers.{NamesUnder}
-use Rattle.zeb_program.specs.OverTables.{LinesOver, ServesOverLines, TaskOver}
-use Rattle.zeb_program.specs.Serving.{LeadsOn, ServesLines, ServesTask}
+use Rattle.zeb_program.specs.FaultLines.{unread_lines}
+use Rattle.zeb_program.specs.InputCauses.{EndsInLine, is_failed_read}
+use Rattle.zeb_program.specs.OverTables.{LineOver, LinesOver, TaskOver}
+use Rattle.zeb_program.specs.Serving.{LeadsOn, ServesTask, Stops}
 use Rattle.zeb_program.specs.TaskAnswers.{paths_of}
 use Rattle.zeb_program.specs.declared.statuses.Status.{Status}
+use Rattle.zeb_program.specs.declared.statuses.Status.TheVariants.{Failed}
 
 -- a task is answered so
 pub record DoesTask {S : Type 0} (g : Ghosts S) (told : List ℕ → Option (List ℕ)) (c : Conditions) (task : Task) (result : Result Reply Fault) (old new : Held S) : Type 0 where
@@ -25,16 +33,29 @@ pub record DoesTask {S : Type 0} (g : Ghosts S) (told : List ℕ → Option (Lis
   pub serves : ServesTask told c task (state g old) (state g new) result
 
 -- the lines of a text, which n others stand before, are answered so, each on the tables that the one before it left
-pub record RunsText {S : Type 0} (g : Ghosts S) (told : List ℕ → Option (List ℕ)) (c : Conditions) (n : ℕ) (text : List ℕ) (wrote writes : Option (List ℕ)) (status : Status) (old new : Held S) : Type 0 where
+pub record RunsText {S : Type 0} (g : Ghosts S) (told : List ℕ → Option (List ℕ)) (format : Format) (c : Conditions) (n : ℕ) (text : List ℕ) (wrote writes : Option (List ℕ)) (status : Status) (old new : Held S) : Type 0 where
   -- as the engine says of each on any tables
-  pub over : Writes wrote writes (λ bytes. LinesOver g told packed_blocks c n text old bytes status new)
+  pub over : Writes wrote writes (λ bytes. LinesOver g told format c n text old bytes status new)
   -- from tables that keep what a register holds to such that keep what it holds then
   pub answers : LeadsOn (state g old) (state g new) wrote writes (λ before bytes later. AnswersBatch told c n text before bytes status later)
 
--- So it is of the lines of a shell, and nothing goes to the fault output; or one can't be read, which is told there, and the lines before it are
--- answered so, where this is left of the input.
-pub record ServesText {S : Type 0} (g : Ghosts S) (told : List ℕ → Option (List ℕ)) (c : Conditions) (text : List ℕ) (left wrote writes fault_old fault_new : Option (List ℕ)) (status : Status) (old new : Held S) : Type 0 where
-  -- as the engine says of each on any tables
-  pub over : ServesOverLines g told packed_blocks c text left old new wrote writes fault_old fault_new status
-  -- from tables that keep what a register holds
-  pub answers : ServesLines told c text left (state g old) (state g new) wrote writes fault_old fault_new status
+-- The lines of a text up to the rest, maybe none, are answered so, and no other.
+pub record RunsFirst {S : Type 0} (g : Ghosts S) (told : List ℕ → Option (List ℕ)) (format : Format) (c : Conditions) (text rest : List ℕ) (wrote writes : Option (List ℕ)) (old : Held S) : Type 0 where
+  pub over : Writes wrote writes (λ bytes. (status : Status) × (last : Held S) × EachLine (LineOver g told format c) 0 text old bytes status rest last)
+  pub answers : Stops (state g old) wrote writes (λ before bytes. (status : Status) × (last : Option Holdings) × AnswersLines told c 0 text before bytes status rest last)
+
+-- A shell of these lines ends early, for this reason, and this is left of its input: the lines before the one at which it ends are answered so,
+-- and of no line but that one a byte is gone that isn't answered.
+pub record StopsText {S : Type 0} (g : Ghosts S) (told : List ℕ → Option (List ℕ)) (format : Format) (c : Conditions) (why : LineFault) (text : List ℕ) (left wrote writes : Option (List ℕ)) (old : Held S) : Type 0 where
+  pub rest : List ℕ
+  pub first : RunsFirst g told format c text rest wrote writes old
+  pub ends : EndsInLine 16777216 why rest left
+
+-- A shell of these lines, where this is left of its input, and a read of it failed or didn't.
+pub data ServesText {S : Type 0} (g : Ghosts S) (told : List ℕ → Option (List ℕ)) (format : Format) (c : Conditions) (text : List ℕ) (left : Option (List ℕ)) (failed : Bool) (wrote writes fault_old fault_new : Option (List ℕ)) (status : Status) (old new : Held S) : Type 0 where
+  -- all are answered so, up to the input's end, and nothing goes to the fault output
+  all_served : RunsText g told format c 0 text wrote writes status old new → IsAtEnd left → failed ≡ false → Stays fault_old fault_new
+      → ServesText g told format c text left failed wrote writes fault_old fault_new status old new
+  -- or the line behind those that are can't be read, which is told there with its cause
+  first_served : (cause : InputCause) → StopsText g told format c (Unreadable cause) text left wrote writes old → failed ≡ is_failed_read cause
+      → Appends fault_old fault_new (unread_lines cause) → status ≡ Failed → ServesText g told format c text left failed wrote writes fault_old fault_new status old new

@@ -7,8 +7,10 @@ use Rattle.zeb_program.specs.declared.faults.Fault.TheVariants.{Profile, Unreada
 use Rattle.std.specs.Fmt.{decimal}
 use Rattle.zeb_paths.specs.Causes.{path_cause_text, store_cause_text}
 use Rattle.zeb_program.specs.declared.failures.Cause.{Cause}
-use Rattle.zeb_program.specs.declared.failures.Cause.TheVariants.{Path, Store, File}
-use Rattle.zeb_program.specs.FixedLines.{refusal_line}
+use Rattle.zeb_program.specs.declared.failures.Cause.TheVariants.{Path, Store, Input, File}
+use Rattle.zeb_program.specs.FixedLines.{refusal_line, unreadable_line}
+use Rattle.zeb_program.specs.InputCauses.{input_cause_text}
+use Rattle.zeb_program.specs.declared.line_input.InputCause.{InputCause}
 use Rattle.zeb_program.specs.Statuses.{fault_status, refusal_status}
 use Rattle.zeb_program.specs.declared.statuses.Status.{Status}
 use Rattle.zeb_program.specs.declared.statuses.Status.TheVariants.{Failed}
@@ -32,6 +34,7 @@ TellsFault Memory line status = ⊥
 abbrev pub cause_line : Cause → List ℕ
 cause_line (Path cause) = codes "zebraidx: cause: " ++ path_cause_text cause ++ 10 ∷ []
 cause_line (Store cause) = codes "zebraidx: cause: " ++ store_cause_text cause ++ 10 ∷ []
+cause_line (Input cause) = codes "zebraidx: cause: " ++ input_cause_text cause ++ 10 ∷ []
 cause_line (File number path) = codes "zebraidx: file " ++ decimal number ++ codes " is " ++ string_bytes path ++ 10 ∷ []
 
 -- one such line, or nothing
@@ -42,6 +45,10 @@ IsCause bytes = (bytes ≡ []) ⊎ ((cause : Cause) × (bytes ≡ cause_line cau
 abbrev pub TellsFailure : Fault → List ℕ → Status → Type 0
 TellsFailure fault bytes status =
     (line : List ℕ) × (more : List ℕ) × TellsFault fault line status × IsCause more × (bytes ≡ line ++ more)
+
+-- what is written where an input can't be read on
+abbrev pub unread_lines : InputCause → List ℕ
+unread_lines cause = unreadable_line ++ cause_line (Input cause)
 
 abbrev pub unclosed_line : List ℕ
 unclosed_line = codes "zebraidx: done, but the register's file needs its log" ++ 10 ∷ []

@@ -1,5 +1,4 @@
 pub mod Answers
-pub mod FirstAnswers
 pub mod Numbers
 pub mod OverTables
 pub mod Doing
@@ -11,10 +10,12 @@ pub mod BatchRuns
 pub mod Errands
 pub mod FaultAnswers
 pub mod FaultLines
+pub mod PrivateAnalyses
 pub mod PrivateErrands
 pub mod PrivateFaults
 pub mod PrivateFiles
 pub mod Inputs
+pub mod InputCauses
 pub mod Lines
 pub mod PrivateLines
 pub mod PathChanges

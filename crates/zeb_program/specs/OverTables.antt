@@ -1,6 +1,5 @@
 -- What a command or a change by paths is answered on any tables, whatever these hold, where words or a line name it (this program's own).
-use Rattle.std.specs.Prelude.{◌≡◌, ◌⊎◌, ℕ, Option, Some, Result, Ok, Err, IfErr, OnErr, List, [], ◌∷◌, map, string_bytes}
-use Rattle.std.specs.Io.KnownBytes.{Appends, Keeps as Stays}
+use Rattle.std.specs.Prelude.{◌≡◌, ◌⊎◌, ℕ, Option, Result, Ok, Err, IfErr, OnErr, List, [], ◌∷◌, map, string_bytes}
 use Rattle.sqlite.specs.Held.{Held, state}
 use Rattle.sqlite.specs.State.{State}
 use Rattle.sqlite.specs.Store.{Ghosts}
@@ -30,17 +29,16 @@ use Rattle.zeb_program.specs.declared.lines.Line.TheVariants.{Remark, Command as
 use Rattle.zeb_program.specs.declared.path_changes.PathChange.{PathChange}
 use Rattle.zeb_program.specs.declared.tasks.Task.{Task}
 use Rattle.zeb_program.specs.declared.tasks.Task.TheVariants.{Ask, Change, Analyse}
-use Rattle.zeb_program.specs.Answers.{ChangesBy, EachLine, Writes, answer_status, answer_text, bad_line, mark_line}
-use Rattle.zeb_program.specs.Inputs.{AreShort, TakesAtMost}
+use Rattle.zeb_program.specs.Answers.{ChangesBy, EachLine, answer_status, answer_text, bad_line, mark_line}
+use Rattle.zeb_program.specs.Inputs.{AreShort}
 use Rattle.zeb_program.specs.FaultLines.{TellsFault}
-use Rattle.zeb_program.specs.FixedLines.{unreadable_line}
 use Rattle.zeb_program.specs.FaultAnswers.{GivesAnswer, IsUnreadable, NamesUnder, NamesUntold}
 use Rattle.zeb_program.specs.Serving.{AnswersFrom}
 use Rattle.zeb_program.specs.TaskAnswers.{AreTold}
 use Rattle.zeb_program.specs.Says.{Says}
 use Rattle.zeb_program.specs.TaskAnswers.{ReadsWhole}
 use Rattle.zeb_program.specs.declared.statuses.Status.{Status}
-use Rattle.zeb_program.specs.declared.statuses.Status.TheVariants.{Answered, Misused, Failed}
+use Rattle.zeb_program.specs.declared.statuses.Status.TheVariants.{Answered, Misused}
 
 -- ---- a task
 
@@ -137,19 +135,3 @@ LineOver g told format c number text old bytes status new =
 -- every line of a text is answered so, each on the tables that the one before it left
 abbrev pub LinesOver : {S : Type 0} → Ghosts S → (List ℕ → Option (List ℕ)) → Format → Conditions → ℕ → List ℕ → Held S → List ℕ → Status → Held S → Type 0
 LinesOver g told format c n text old bytes status new = EachLine (LineOver g told format c) n text old bytes status [] new
-
--- The first lines of a text are answered so, maybe all, and this is left of it: of the lines behind them no more is gone than one line may
--- take.
-pub record FirstOver {S : Type 0} (g : Ghosts S) (told : List ℕ → Option (List ℕ)) (format : Format) (c : Conditions) (text : List ℕ) (left : Option (List ℕ)) (old : Held S) (bytes : List ℕ) : Type 0 where
-  pub status : Status
-  pub rest : List ℕ
-  pub last : Held S
-  pub lines : EachLine (LineOver g told format c) 0 text old bytes status rest last
-  pub behind : TakesAtMost 16777217 (Some rest) left
-
--- A shell of these lines: all are answered so, and nothing goes to the fault output; or one can't be read, which is told there, and the lines
--- before it are answered so, where this is left of the input.
-abbrev pub ServesOverLines : {S : Type 0} → Ghosts S → (List ℕ → Option (List ℕ)) → Format → Conditions → List ℕ → Option (List ℕ) → Held S → Held S → Option (List ℕ) → Option (List ℕ) → Option (List ℕ) → Option (List ℕ) → Status → Type 0
-ServesOverLines g told format c text left old new wrote writes fault_old fault_new status =
-    (Writes wrote writes (λ bytes. LinesOver g told format c 0 text old bytes status new) × Stays fault_old fault_new)
-    ⊎ (Writes wrote writes (FirstOver g told format c text left old) × (status ≡ Failed) × Appends fault_old fault_new unreadable_line)

@@ -1,19 +1,40 @@
 -- What only the contracts of private functions speak of; no public clause reaches it.
-use Rattle.std.specs.Prelude.{ℕ, List, Option, Result, Ok, Err}
-use Rattle.sqlite.specs.State.{State}
+use Rattle.std.specs.Prelude.{◌≡◌, ℕ, List, length, Option, Result, Ok, Err, string_bytes}
+use Rattle.sqlite.specs.State.{HasCleanDisk, State}
+use Rattle.zeb_change.specs.Conditions.{Conditions}
+use Rattle.zeb_engine.specs.Replies.{reply_text}
 use Rattle.zeb_engine.specs.declared.replies.Reply.{Reply}
+use Rattle.zeb_engine.specs.declared.replies.Reply.TheVariants.{Analysed}
 use Rattle.zeb_image.specs.Holdings.{Holdings}
 use Rattle.zeb_image.specs.Image.{Keeps}
 use Rattle.zeb_program.specs.Answers.{Writes}
 use Rattle.zeb_program.specs.declared.faults.Fault.{Fault}
 use Rattle.zeb_program.specs.declared.tasks.Served.{Served}
+use Rattle.zeb_program.specs.declared.tasks.Served.TheVariants.{Replied, Shown}
+use Rattle.zeb_program.specs.declared.tasks.Task.{Task}
+use Rattle.zeb_program.specs.OverTables.{TaskOver}
+use Rattle.zeb_program.specs.Serving.{ServesTask}
+use Rattle.zeb_register.specs.Formats.{Format}
 
 -- From tables that keep what a register holds, they lead to tables that keep what it holds then; P says what is written.
 abbrev pub Leads : State → State → Option (List ℕ) → Option (List ℕ) → (Holdings → List ℕ → Holdings → Type 0) → Type 0
 Leads old new wrote writes P =
     (before : Holdings) → Keeps old before → (later : Holdings) × Keeps new later × Writes wrote writes (λ bytes. P before bytes later)
 
--- What a task is answered, as the reply alone.
-abbrev pub replied : Result Served Fault → Result Reply Fault
-replied (Ok served) = Ok served.reply
-replied (Err fault) = Err fault
+-- how many records a reply has analysed
+abbrev pub analyses_in : Reply → ℕ
+analyses_in (Analysed names analyses) = length analyses.items
+analyses_in other = 0
+
+-- What a task is answered stands for this answer of a register: a reply, or the lines of one, and how many records it has analysed.
+abbrev pub StandsFor : Result Served Fault → Result Reply Fault → Type 0
+StandsFor (Ok (Replied reply)) answer = answer ≡ Ok reply
+StandsFor (Ok (Shown lines unmarked)) answer =
+    (reply : Reply) × (answer ≡ Ok reply) × (string_bytes lines.text ≡ reply_text reply) × (lines.records ≡ analyses_in reply)
+StandsFor (Err fault) answer = answer ≡ Err fault
+
+-- what is answered so is what is said of a task, from these tables to those
+pub record CarriesOut (told : List ℕ → Option (List ℕ)) (format : Format) (c : Conditions) (task : Task) (old new : State) (answer : Result Reply Fault) : Type 0 where
+  pub serves : HasCleanDisk new → ServesTask told c task old new answer
+  -- as the engine says of it on any tables, and refused it changes nothing
+  pub over : HasCleanDisk new → TaskOver told format c task old new answer

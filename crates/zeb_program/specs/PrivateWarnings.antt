@@ -1,11 +1,11 @@
 -- What only the contracts of private functions speak of; no public clause reaches it.
 -- What an analysis warns of: records that don't say that they are in Unicode (MARC 21, leader, position 9: `a` stands for UCS/Unicode).
 -- That all are read as UTF-8, and the line, are this program's own.
-use Rattle.std.specs.Prelude.{ℕ, ◌+◌, ◌==◌, Bool, List, [], ◌∷◌, ◌++◌, length, slice_get, unwrap_or, Option, Some, None, IfSome, if◌then◌else◌}
+use Rattle.std.specs.Prelude.{⊤, ℕ, ◌+◌, ◌==◌, Bool, List, [], ◌∷◌, ◌++◌, length, slice_get, unwrap_or, Option, Some, None, IfSome, if◌then◌else◌}
 use Rattle.zeb_marc.specs.Splits.{split_of}
-use Rattle.zeb_engine.specs.declared.replies.Reply.{Reply}
-use Rattle.zeb_engine.specs.declared.replies.Reply.TheVariants.{Analysed}
 use Rattle.zeb_program.specs.TaskAnswers.{ReadsWhole}
+use Rattle.zeb_program.specs.declared.tasks.Served.{Served}
+use Rattle.zeb_program.specs.declared.tasks.Served.TheVariants.{Replied, Shown}
 use Rattle.zeb_program.specs.declared.tasks.Task.{Task}
 use Rattle.zeb_program.specs.declared.tasks.Task.TheVariants.{Ask, Change, Analyse}
 use Rattle.zeb_program.specs.declared.warnings.Place.{Place}
@@ -37,13 +37,22 @@ unmarked_by (Ask command) files = []
 unmarked_by (Change kind database paths) files = []
 unmarked_by (Analyse paths) files = unmarked_of 1 files
 
+-- those of which it is told with what a task is answered
+abbrev pub unmarked_in : Served → List Place
+unmarked_in (Replied reply) = []
+unmarked_in (Shown lines unmarked) = unmarked.items
+
+-- only an analysis is answered by lines
+abbrev pub IsServedFor : Task → Served → Type 0
+IsServedFor task (Replied reply) = ⊤
+IsServedFor task (Shown lines unmarked) = ReadsWhole task
+
 -- ---- the line
 
--- the line for these places among the records that a reply has analysed; none where all say that they are in Unicode
-abbrev pub warning_of : List Place → Reply → Option (List ℕ)
-warning_of [] reply = None
-warning_of (first ∷ others) (Analysed names records) = Some (warning_line (length (first ∷ others)) (length records.items) first)
-warning_of (first ∷ others) reply = None
+-- the line for these places among so many records; none where all say that they are in Unicode
+abbrev pub warning_of : List Place → ℕ → Option (List ℕ)
+warning_of [] records = None
+warning_of (first ∷ others) records = Some (warning_line (length (first ∷ others)) records first)
 
 -- where a task warns, it is an analysis, and this is the line
 abbrev pub MayWarn : Task → Option (List ℕ) → Type 0

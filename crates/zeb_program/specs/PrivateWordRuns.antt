@@ -14,15 +14,16 @@ use Rattle.zeb_engine.specs.Replies.{reply_text}
 use Rattle.zeb_image.specs.Holdings.{Holdings, nothing_yet}
 use Rattle.zeb_image.specs.Image.{Keeps}
 use Rattle.zeb_profile.specs.declared.directives.Directive.{Directive}
+use Rattle.zeb_register.specs.Formats.{packed_blocks}
 use Rattle.zeb_program.specs.declared.failures.Failure.{Failure}
 use Rattle.zeb_program.specs.declared.faults.Fault.{Fault}
 use Rattle.zeb_program.specs.declared.faults.Fault.TheVariants.{Refused, Memory}
+use Rattle.zeb_program.specs.declared.line_input.LineFault.TheVariants.{Memory as Starved}
 use Rattle.zeb_program.specs.declared.performing.Told.{Told}
 use Rattle.zeb_program.specs.declared.tasks.Task.{Task}
 use Rattle.zeb_program.specs.Answers.{AnswersPart, Writes}
-use Rattle.zeb_program.specs.Doing.{RunsText, ServesText}
+use Rattle.zeb_program.specs.Doing.{RunsText, ServesText, StopsText}
 use Rattle.zeb_program.specs.FaultAnswers.{IsOpeningFailure, NamesUnder}
-use Rattle.zeb_program.specs.FirstAnswers.{AnswersFirst}
 use Rattle.zeb_program.specs.Serving.{Stops}
 use Rattle.zeb_program.specs.TaskAnswers.{AnswersOn, paths_of}
 use Rattle.zeb_program.specs.Registers.{OpensStore, Places}
@@ -94,7 +95,7 @@ EndsSession (Err error) result failed old new = (closed : Status) × (result ≡
 -- the lines of a batch are run so
 abbrev pub RunsIn : {S : Type 0} → Ghosts S → (List ℕ → Option (List ℕ)) → Conditions → ℕ → List ℕ → Held S → Option (List ℕ) → Option (List ℕ) → Option (List ℕ) → Option (List ℕ) → Status → Type 0
 RunsIn g told c n text held old new fault_old fault_new status = (answered : Status) × (closed : Status) × (status ≡ greater answered closed)
-    × Closes g held (RunsText g told c n text old new answered held) fault_old fault_new closed
+    × Closes g held (RunsText g told packed_blocks c n text old new answered held) fault_old fault_new closed
 
 -- The lines of a batch are run on a register in memory that holds nothing yet, and the fault output is left alone; or why none was opened is told
 -- there, and nothing else.
@@ -104,10 +105,10 @@ RunsOnNothing told profile n text old new fault_old fault_new status =
     ⊎ ((why : Refusal) × IsOpeningFailure why × Stays old new × Writes fault_old fault_new (λ bytes. TellsFailure (Refused why) bytes status))
 
 -- and those of a shell
-abbrev pub ServesIn : {S : Type 0} → Ghosts S → (List ℕ → Option (List ℕ)) → Conditions → Option (List ℕ) → Option (List ℕ) → Held S → Option (List ℕ) → Option (List ℕ) → Option (List ℕ) → Option (List ℕ) → Status → Type 0
-ServesIn g told c given left held old new fault_old fault_new status =
+abbrev pub ServesIn : {S : Type 0} → Ghosts S → (List ℕ → Option (List ℕ)) → Conditions → Option (List ℕ) → Option (List ℕ) → Bool → Held S → Option (List ℕ) → Option (List ℕ) → Option (List ℕ) → Option (List ℕ) → Status → Type 0
+ServesIn g told c given left failed held old new fault_old fault_new status =
     (between : Option (List ℕ)) × (answered : Status) × (closed : Status) × (status ≡ greater answered closed)
-    × Closes g held (λ last. IfSome given (λ text. ServesText g told c text left old new fault_old between answered held last)) between fault_new closed
+    × Closes g held (λ last. IfSome given (λ text. ServesText g told packed_blocks c text left failed old new fault_old between answered held last)) between fault_new closed
 
 -- Where memory runs out for the program itself, the first lines of a batch are answered so, or none, and the rest are not.
 abbrev pub StopsIn : {S : Type 0} → Ghosts S → (List ℕ → Option (List ℕ)) → Conditions → ℕ → List ℕ → Held S → Option (List ℕ) → Option (List ℕ) → Option (List ℕ) → Option (List ℕ) → Type 0
@@ -117,4 +118,4 @@ StopsIn g told c n text held old new fault_old fault_new =
 -- and those of a shell
 abbrev pub StopsServing : {S : Type 0} → Ghosts S → (List ℕ → Option (List ℕ)) → Conditions → Option (List ℕ) → Option (List ℕ) → Held S → Option (List ℕ) → Option (List ℕ) → Option (List ℕ) → Option (List ℕ) → Type 0
 StopsServing g told c given left held old new fault_old fault_new =
-    (closed : Status) × Closes g held (λ last. IfSome given (λ text. Stops (state g held) old new (AnswersFirst told c 0 text left))) fault_old fault_new closed
+    (closed : Status) × Closes g held (λ last. IfSome given (λ text. StopsText g told packed_blocks c Starved text left old new held)) fault_old fault_new closed

@@ -1,6 +1,5 @@
 -- What the lines of a batch, and a task, do to tables, and what is written or answered (this program's own).
-use Rattle.std.specs.Prelude.{◌≡◌, ◌⊎◌, ℕ, List, Option, IfSome, Result}
-use Rattle.std.specs.Io.KnownBytes.{Appends, Keeps as Stays}
+use Rattle.std.specs.Prelude.{◌⊎◌, ℕ, List, Option, IfSome, Result}
 use Rattle.sqlite.specs.State.{State}
 use Rattle.zeb_change.specs.Conditions.{Conditions}
 use Rattle.zeb_change.specs.declared.refusals.Refusal.{Refusal}
@@ -9,13 +8,9 @@ use Rattle.zeb_image.specs.Holdings.{Holdings}
 use Rattle.zeb_image.specs.Image.{Keeps}
 use Rattle.zeb_program.specs.declared.faults.Fault.{Fault}
 use Rattle.zeb_program.specs.declared.tasks.Task.{Task}
-use Rattle.zeb_program.specs.Answers.{Writes, AnswersBatch}
-use Rattle.zeb_program.specs.FirstAnswers.{AnswersFirst}
+use Rattle.zeb_program.specs.Answers.{Writes}
 use Rattle.zeb_program.specs.FaultAnswers.{GivesAnswer, IsUnreadable}
-use Rattle.zeb_program.specs.FixedLines.{unreadable_line}
 use Rattle.zeb_program.specs.TaskAnswers.{AnswersTask, AreTold, ReadsWhole, paths_of}
-use Rattle.zeb_program.specs.declared.statuses.Status.{Status}
-use Rattle.zeb_program.specs.declared.statuses.Status.TheVariants.{Failed}
 
 -- As far as it is known what a register holds that tables keep, they lead to tables that keep what it holds then, as far as that is known; P says
 -- what is written.
@@ -26,13 +21,6 @@ LeadsOn old new wrote writes P =
 -- The same, where nothing is said of the tables then.
 abbrev pub Stops : State → Option (List ℕ) → Option (List ℕ) → (Option Holdings → List ℕ → Type 0) → Type 0
 Stops old wrote writes P = (before : Option Holdings) → IfSome before (Keeps old) → Writes wrote writes (P before)
-
--- A shell of these lines: all are answered, and nothing goes to the fault output; or one can't be read, which is told there, and the lines
--- before it are answered, where this is left of the input.
-abbrev pub ServesLines : (List ℕ → Option (List ℕ)) → Conditions → List ℕ → Option (List ℕ) → State → State → Option (List ℕ) → Option (List ℕ) → Option (List ℕ) → Option (List ℕ) → Status → Type 0
-ServesLines told c text left old new wrote writes fault_old fault_new status =
-    (LeadsOn old new wrote writes (λ before bytes last. AnswersBatch told c 0 text before bytes status last) × Stays fault_old fault_new)
-    ⊎ (Stops old wrote writes (AnswersFirst told c 0 text left) × (status ≡ Failed) × Appends fault_old fault_new unreadable_line)
 
 -- From tables that keep what a register holds, an answer leads to tables that keep what it holds then.
 abbrev pub AnswersFrom : State → State → Result Reply Fault → (Holdings → Result Reply Refusal → Holdings → Type 0) → Type 0

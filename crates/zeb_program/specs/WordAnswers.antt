@@ -79,7 +79,7 @@ pub data AnswersWords {S : Type 0} (at : Places S) (words : List (List ℕ)) (gi
       → AnswersWords at words given left failed old new fault_old fault_new status
   -- words that name a shell, which does the same, and leaves a part of the input only where something failed, or nothing was answered
   served : (named : Words) → NamesWords words named → named.act ≡ Shell → (status ≢ Failed → IsAtEnd left ⊎ Keeps old new)
-      → RunsShell at named.config given left old new fault_old fault_new status → AnswersWords at words given left failed old new fault_old fault_new status
+      → RunsShell at named.config given left failed old new fault_old fault_new status → AnswersWords at words given left failed old new fault_old fault_new status
   -- words that name a task, so neither a batch nor a shell
   named : (named : Words) → (task : Task) → NamesWords words named → IsTaskOf named.database named.act task
       → TellsApart at named.config task old new fault_old fault_new status → AnswersWords at words given left failed old new fault_old fault_new status

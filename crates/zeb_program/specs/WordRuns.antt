@@ -10,15 +10,16 @@ use Rattle.zeb_engine.specs.declared.commands.Command.TheVariants.{Init}
 use Rattle.zeb_engine.specs.declared.replies.Reply.{Reply}
 use Rattle.zeb_engine.specs.Replies.{reply_text}
 use Rattle.zeb_profile.specs.declared.directives.Directive.{Directive}
+use Rattle.zeb_register.specs.Formats.{packed_blocks}
 use Rattle.zeb_program.specs.declared.faults.Fault.{Fault}
 use Rattle.zeb_program.specs.declared.faults.Fault.TheVariants.{Unreadable, Refused, Memory}
+use Rattle.zeb_program.specs.declared.line_input.LineFault.TheVariants.{Memory as Starved}
 use Rattle.zeb_program.specs.declared.tasks.Task.{Task}
 use Rattle.zeb_program.specs.declared.tasks.Task.TheVariants.{Ask}
 use Rattle.zeb_program.specs.Answers.{AnswersPart, Writes}
-use Rattle.zeb_program.specs.Doing.{DoesTask, RunsText, ServesText}
+use Rattle.zeb_program.specs.Doing.{DoesTask, RunsText, ServesText, StopsText}
 use Rattle.zeb_program.specs.FaultAnswers.{IsOpeningFailure, NamesUnder}
 use Rattle.zeb_program.specs.FaultLines.{IsUnclosed, TellsFailure}
-use Rattle.zeb_program.specs.FirstAnswers.{AnswersFirst}
 use Rattle.zeb_program.specs.Inputs.{IsInput}
 use Rattle.zeb_program.specs.ProfileFiles.{ReadsProfile}
 use Rattle.zeb_program.specs.Registers.{FromStore, LacksStore, OnRegister, Places}
@@ -89,7 +90,7 @@ IsText given text = IsInput text × IfSome given (λ bytes. text ≡ bytes)
 -- The lines of a text are run as a batch, numbered from 1: on the register in the store, or, where none stands there and no line begins one, on one in
 -- memory as those of a script. This is the greatest status met.
 pub data RunsLines {S : Type 0} (at : Places S) (profile : List Directive) (text : List ℕ) (old new fault_old fault_new : Option (List ℕ)) : Status → Type 0 where
-  on_store : (c : Conditions) → (answered : Status) → (closed : Status) → AreScriptConditions profile c → FromStore at profile (RunsText at.store at.tells c 0 text old new answered)
+  on_store : (c : Conditions) → (answered : Status) → (closed : Status) → AreScriptConditions profile c → FromStore at profile (RunsText at.store at.tells packed_blocks c 0 text old new answered)
       → TellsClosed fault_old fault_new closed → RunsLines at profile text old new fault_old fault_new (greater answered closed)
   in_memory : {status : Status} → LacksStore at profile → ¬ BeginsRegister text → Keeps fault_old fault_new
       → RunsFromNothing at.tells profile 0 text old new status → RunsLines at profile text old new fault_old fault_new status
@@ -103,14 +104,15 @@ pub data RunsBatch {S : Type 0} (at : Places S) (config : String Global) (given 
   batch_ran : (profile : List Directive) → (text : List ℕ) → ReadsAt at config (Ok profile) → IsText given text
       → RunsLines at profile text old new fault_old fault_new status → RunsBatch at config given failed old new fault_old fault_new status
 
--- what is written for a shell, and its status, where this is left of the input
-pub data RunsShell {S : Type 0} (at : Places S) (config : String Global) (given left old new fault_old fault_new : Option (List ℕ)) : Status → Type 0 where
+-- what is written for a shell, and its status, where this is left of the input, and `failed` says whether a read of it failed
+pub data RunsShell {S : Type 0} (at : Places S) (config : String Global) (given left : Option (List ℕ)) (failed : Bool) (old new fault_old fault_new : Option (List ℕ)) : Status → Type 0 where
   shell_stopped : {status : Status} → (fault : Fault) → StopsOpening at config fault → Keeps old new
-      → Writes fault_old fault_new (λ bytes. TellsFailure fault bytes status) → RunsShell at config given left old new fault_old fault_new status
+      → Writes fault_old fault_new (λ bytes. TellsFailure fault bytes status) → RunsShell at config given left failed old new fault_old fault_new status
   shell_ran : (profile : List Directive) → (c : Conditions) → (between : Option (List ℕ)) → (answered : Status) → (closed : Status)
       → ReadsAt at config (Ok profile) → AreScriptConditions profile c
-      → FromStore at profile (λ first last. IfSome given (λ text. ServesText at.store at.tells c text left old new fault_old between answered first last))
-      → TellsClosed between fault_new closed → RunsShell at config given left old new fault_old fault_new (greater answered closed)
+      → FromStore at profile (λ first last. IfSome given
+      (λ text. ServesText at.store at.tells packed_blocks c text left failed old new fault_old between answered first last))
+      → TellsClosed between fault_new closed → RunsShell at config given left failed old new fault_old fault_new (greater answered closed)
 
 -- ---- where memory runs out for the program itself
 
@@ -134,5 +136,5 @@ pub data StopsBatch {S : Type 0} (at : Places S) (config : String Global) (given
 pub data StopsShell {S : Type 0} (at : Places S) (config : String Global) (given left old new fault_old fault_new : Option (List ℕ)) : Type 0 where
   shell_silent : Keeps old new → Keeps fault_old fault_new → StopsShell at config given left old new fault_old fault_new
   shell_part : (profile : List Directive) → (c : Conditions) → (closed : Status) → ReadsAt at config (Ok profile) → AreScriptConditions profile c
-      → FromStore at profile (λ first _. IfSome given (λ text. Stops (state at.store first) old new (AnswersFirst at.tells c 0 text left)))
+      → FromStore at profile (λ first _. IfSome given (λ text. StopsText at.store at.tells packed_blocks c Starved text left old new first))
       → TellsClosed fault_old fault_new closed → StopsShell at config given left old new fault_old fault_new

@@ -17,8 +17,7 @@ ghost use Rattle.zeb_program.specs.Statuses.{IsFaultStatus, refusal_status};
 
 use crate::failures::{Failure, tell_failure};
 use crate::lines::Line;
-use crate::memory::open_in_memory;
-use crate::opening::session_over;
+use crate::memory::session_in_memory;
 use crate::path_changes::run_path_change;
 use crate::script::Batch;
 use crate::sinks::Sink;
@@ -48,7 +47,7 @@ pub fn run_in_memory<P: Paths, W: Write>(
         → AnswersStopped (P.tells paths.now) profile batch.entry.lines_before
         batch.entry.text.now (W.contents output.old.writer) (W.contents output.new.writer)) }
 {
-    match session_over(alloc, open_in_memory(alloc), profile) {
+    match session_in_memory(alloc, profile) {
         Ok(mut session) => run_lines(alloc, &mut session, paths, batch, output),
         Err(refusal) => refuse(alloc, &refusal, output),
     }
@@ -73,7 +72,7 @@ pub fn run_on_nothing<P: Paths, W: Write, V: Write>(
         batch.entry.text.now (W.contents output.old.writer) (W.contents output.new.writer)) }
     ensures silent { OnErr result (fault_output.new ≡ fault_output.old) }
 {
-    match session_over(alloc, open_in_memory(alloc), profile) {
+    match session_in_memory(alloc, profile) {
         Ok(mut session) => run_lines(alloc, &mut session, paths, batch, output),
         Err(refusal) => tell_failure(alloc, &Failure::from(refusal), fault_output),
     }

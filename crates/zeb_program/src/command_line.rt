@@ -313,7 +313,7 @@ fn run_shell<R: Source, W: Output, V: Write, P: Paths>(
         → fault_output.new.failed ≡ false
         → RunsShell (places P.Store.Store (P.tells paths.old) (P.opens paths.old)
         (P.lacks paths.old)) config (R.remaining input.old) (R.remaining input.new)
-        (W.contents output.old.writer) (W.contents output.new.writer)
+        (R.has_failed input.new) (W.contents output.old.writer) (W.contents output.new.writer)
         (V.contents fault_output.old.writer) (V.contents fault_output.new.writer) status) }
     ensures stopped { OnErr result (output.new.failed ≡ false → fault_output.new.failed ≡ false
         → StopsShell (places P.Store.Store (P.tells paths.old) (P.opens paths.old)
@@ -344,8 +344,8 @@ fn serve_in<R: Source, W: Output, V: Write, P: Paths>(
     ensures answer { IfOk result (λ status. output.new.failed ≡ false
         → fault_output.new.failed ≡ false → ServesIn P.Store.Store (P.tells paths.now)
         (conditions (version_of packed_blocks) session.profile session.limits)
-        (R.remaining input.old) (R.remaining input.new) session.connection
-        (W.contents output.old.writer) (W.contents output.new.writer)
+        (R.remaining input.old) (R.remaining input.new) (R.has_failed input.new)
+        session.connection (W.contents output.old.writer) (W.contents output.new.writer)
         (V.contents fault_output.old.writer) (V.contents fault_output.new.writer) status) }
     ensures stopped { OnErr result (output.new.failed ≡ false → fault_output.new.failed ≡ false
         → StopsServing P.Store.Store (P.tells paths.now) (conditions (version_of packed_blocks)

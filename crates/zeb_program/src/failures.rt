@@ -2,13 +2,14 @@
 
 ghost use Rattle.std.specs.Prelude.{◌≡◌, ◌⊎◌, false, IfOk, OnErr};
 ghost use Rattle.zeb_program.specs.Answers.{Writes};
-ghost use Rattle.zeb_program.specs.FaultLines.{IsCause, IsUnclosed, TellsFailure, cause_line};
+ghost use Rattle.zeb_program.specs.FaultLines.{IsCause, IsUnclosed, TellsFailure, cause_line, unread_lines};
 ghost use Rattle.zeb_program.specs.PrivateFaults.{IsUnread};
 ghost use Rattle.zeb_program.specs.Statuses.{IsFaultStatus};
 ghost use Rattle.zeb_program.specs.declared.faults.Fault.TheVariants.{Memory, Refused};
 ghost use Rattle.std.specs.Io.KnownBytes.{Appends};
 
 use crate::faults::{Fault, tell};
+use crate::line_input::InputCause;
 use crate::sinks::Sink;
 use crate::statuses::Status;
 use std::alloc::{AllocError, Global};
@@ -23,6 +24,8 @@ pub enum Cause {
     Path(PathCause),
     /// Why the store fails.
     Store(StoreCause),
+    /// Why the input can't be read on.
+    Input(InputCause),
     /// The path of the file that has this number.
     File { number: u64, path: String },
 }
@@ -120,10 +123,21 @@ fn write_cause<W: Write>(cause: &Cause, output: &mut Sink<W>)
     match cause {
         Cause::Path(cause) => output.write_line(format_args!("zebraidx: cause: {cause}")),
         Cause::Store(cause) => output.write_line(format_args!("zebraidx: cause: {cause}")),
+        Cause::Input(cause) => output.write_line(format_args!("zebraidx: cause: {cause}")),
         Cause::File { number, path } => {
             output.write_line(format_args!("zebraidx: file {number} is {path}"));
         }
     }
+}
+
+/// Writes that the input can't be read on, and why.
+pub fn tell_unread<W: Write>(cause: InputCause, output: &mut Sink<W>)
+    ensures lines { output.new.failed ≡ false → Appends (W.contents output.old.writer)
+        (W.contents output.new.writer) (unread_lines cause) }
+    ensures sound { output.new.failed ≡ false → output.old.failed ≡ false }
+{
+    output.write_line("zebraidx: cannot read input");
+    write_cause(&Cause::Input(cause), output);
 }
 
 /// Writes that a part of what was done stands beside the register's file, where it does, and answers the status.

@@ -1,7 +1,7 @@
 //! The files at the paths that words or a line name.
 
-ghost use Rattle.std.specs.Prelude.{◌≡◌, ◌⊎◌, ◌+◌, ℕ, List, Some, map, string_bytes, Err, IfErr, IfOk, false, true};
-ghost use Rattle.zeb_program.specs.Inputs.{AreShort, TakesAtMost};
+ghost use Rattle.std.specs.Prelude.{◌≡◌, ◌+◌, ℕ, List, Some, map, string_bytes, Err, IfErr, IfOk, false, true};
+ghost use Rattle.zeb_program.specs.Inputs.{TakesAtMost};
 ghost use Rattle.zeb_program.specs.FaultAnswers.{NamesUnder, NamesUntold};
 ghost use Rattle.zeb_program.specs.PrivateFaults.{IsUnread};
 ghost use Rattle.zeb_program.specs.PrivateFiles.{ReadsContent, sure_bytes};
@@ -97,33 +97,8 @@ pub fn path_of_file<P: Paths>(
     walk.next_file().ok()?
 }
 
-/// The bytes of the files at and below the paths. A file that can't be read, or has too many bytes, is a path
-/// that can't be read.
-pub fn contents_of<P: Paths>(
-    alloc: Global,
-    paths: &P,
-    named: &[String],
-) -> Result<Vec<Vec<u8>>, Fault>
-    // Where the bytes of a file at each path are told, they are just these.
-    ensures told { (files : List (List ℕ)) → AreTold (P.tells paths.now) (map string_bytes named.now) files
-        → IfOk result (λ contents. map (λ content. content.items) contents.items ≡ files) }
-    // So where one of these files has more bytes than a file may have, they are refused, and for no other reason than want of memory.
-    ensures short { IfOk result (λ contents. AreShort (map (λ content. content.items) contents.items)) }
-    ensures reason { (files : List (List ℕ)) → AreTold (P.tells paths.now) (map string_bytes named.now) files
-        → IfErr result (λ fault. (fault ≡ Memory) ⊎ (¬ AreShort files)) }
-    ensures unread { IfErr result IsUnread }
-    ensures under { IfErr result (NamesUnder (map string_bytes named.now)) }
-{
-    let mut contents = Vec::new(alloc);
-    let mut walk = Walk::new(alloc, paths, named)?;
-    while let Some(path) = walk.next_file()? {
-        contents.push(content_of(alloc, paths, path)?)?;
-    }
-    Ok(contents)
-}
-
-/// The bytes of the file at this path.
-fn content_of<P: Paths>(alloc: Global, paths: &P, path: String) -> Result<Vec<u8>, Fault>
+/// The bytes of the file at this path. A file that can't be read, or has too many bytes, is a path that can't be read.
+pub fn content_of<P: Paths>(alloc: Global, paths: &P, path: String) -> Result<Vec<u8>, Fault>
     ensures { ReadsContent (P.tells paths.now (string_bytes path)) path result }
 {
     let mut source = paths.reader(path.clone()?);

@@ -1,6 +1,7 @@
 //! The program without its outside: words, an input and paths come in, what is written and a status go out.
 #![tactic(auto)]
 
+mod analyses;
 mod batch;
 mod command_line;
 mod digits;

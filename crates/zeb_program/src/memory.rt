@@ -1,13 +1,23 @@
-//! The store of a script's register: files in memory, which are gone with it.
+//! A register in memory: its store's files are gone with it.
 
-ghost use Rattle.std.specs.Prelude.{◌≡◌, false, IfOk};
+ghost use Rattle.std.specs.Prelude.{◌≡◌, false, IfErr, IfOk};
 ghost use Rattle.sqlite.specs.Files.{file_state};
 ghost use Rattle.sqlite.specs.Steps.{IsEmpty};
+ghost use Rattle.zeb_change.specs.Conditions.{conditions};
+ghost use Rattle.zeb_image.specs.Holdings.{nothing_yet};
+ghost use Rattle.zeb_image.specs.Image.{Keeps};
+ghost use Rattle.zeb_register.specs.Formats.{packed_blocks, version_of};
+ghost use Rattle.zeb_program.specs.FaultAnswers.{IsOpeningFailure};
+ghost use Rattle.zeb_program.specs.ScriptAnswers.{AreScriptConditions};
 
+use crate::opening::session_over;
 use sqlite::{Connection, FileStore, Files, Options};
 use sqlite_disk::Memory;
 use std::alloc::Global;
+use zeb_engine::{Refusal, Session};
+use zeb_packed::Blocks;
 use zeb_paths::{OpenFailed, StoreCause};
+use zeb_profile::Profile;
 
 /// Salts the log, so that frames which an earlier process left aren't taken for new ones. Files in memory have none.
 const SEED: u64 = 1;
@@ -16,8 +26,21 @@ const SEED: u64 = 1;
 /// that goes there is held there too, once for each time that it goes.
 const SPILL_PAGES: usize = 262_144;
 
+/// A session over a register in memory, under the profile and the greatest limits. The register isn't initialised, and holds nothing.
+pub fn session_in_memory(
+    alloc: Global,
+    profile: Profile,
+) -> Result<Session<FileStore<Memory>, Blocks>, Refusal>
+    ensures empty { IfOk result (λ session. Keeps (file_state session.connection) nothing_yet) }
+    ensures under { IfOk result (λ session. AreScriptConditions profile
+        (conditions (version_of packed_blocks) session.profile session.limits)) }
+    ensures failed { IfErr result IsOpeningFailure }
+{
+    session_over(alloc, open_in_memory(alloc), profile)
+}
+
 /// Opens a store over two new files in memory: it has no table. It fails where memory runs out.
-pub fn open_in_memory(alloc: Global) -> Result<Connection<FileStore<Memory>>, OpenFailed>
+fn open_in_memory(alloc: Global) -> Result<Connection<FileStore<Memory>>, OpenFailed>
     ensures empty { IfOk result (λ connection. IsEmpty (file_state connection)) }
     ensures idle { IfOk result (λ connection. connection.in_transaction ≡ false) }
 {

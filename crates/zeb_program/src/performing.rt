@@ -1,7 +1,8 @@
 //! A task from the words to what is told of it: the register is opened, the task is carried out, and the register is closed.
 
-ghost use Rattle.std.specs.Prelude.{◌≡◌, [], IfErr, IfOk, string_bytes};
-ghost use Rattle.zeb_program.specs.PrivateServing.{replied};
+ghost use Rattle.std.specs.Prelude.{◌≡◌, IfErr, IfOk, Result, string_bytes};
+ghost use Rattle.zeb_engine.specs.declared.replies.Reply.{Reply};
+ghost use Rattle.zeb_program.specs.PrivateServing.{StandsFor};
 ghost use Rattle.zeb_program.specs.PrivateWordRuns.{GivesFor, IsOwnOr, ServesOnNothing, TakesStore, fault_given};
 ghost use Rattle.zeb_program.specs.ProfileFiles.{ReadsProfile};
 ghost use Rattle.zeb_program.specs.Registers.{places};
@@ -11,13 +12,13 @@ ghost use Rattle.zeb_change.specs.Conditions.{conditions};
 ghost use Rattle.zeb_register.specs.Formats.{packed_blocks, version_of};
 ghost use Rattle.zeb_program.specs.PrivateFaults.{IsOpeningFault};
 ghost use Rattle.zeb_program.specs.ScriptAnswers.{AreScriptConditions};
-ghost use Rattle.zeb_program.specs.TaskAnswers.{ReadsWhole};
 ghost use Rattle.zeb_program.specs.PrivateWarnings as spec;
+ghost use Rattle.zeb_program.specs.declared.faults.Fault.{Fault};
 
 use crate::failures::{Cause, Failure, of_path, of_store};
 use crate::faults::Fault;
 use crate::files::{path_of_file, read_profile};
-use crate::memory::open_in_memory;
+use crate::memory::session_in_memory;
 use crate::opening::session_over;
 use crate::tasks::{Served, Task, carry_out};
 use crate::warnings::warning;
@@ -90,7 +91,7 @@ fn perform_on_nothing<P: Paths>(
         (λ told. spec.MayWarn task.now (option_map string_bytes told.warning)) }
     ensures serves { GivesFor result (ServesOnNothing (P.tells paths.now) profile task.now) }
 {
-    let mut session = session_over(alloc, open_in_memory(alloc), profile)?;
+    let mut session = session_in_memory(alloc, profile)?;
     let served = carry_out(alloc, &mut session, paths, task);
     told_of(alloc, paths, task, served, Closed::WHOLE)
 }
@@ -103,15 +104,21 @@ fn told_of<P: Paths>(
     served: Result<Served, Fault>,
     closed: Closed,
 ) -> Result<Told, Failure>
-    requires quiet { ¬ ReadsWhole task.now → IfOk served (λ served. served.unmarked.items ≡ []) }
+    requires shown { IfOk served (spec.IsServedFor task.now) }
     ensures warns { IfOk result
         (λ told. spec.MayWarn task.now (option_map string_bytes told.warning)) }
-    ensures gives { GivesFor result (λ answer. IsOwnOr answer (replied served)) }
+    ensures gives { (own : Result Reply Fault) → StandsFor served own
+        → GivesFor result (λ answer. IsOwnOr answer own) }
 {
     match served {
-        Ok(Served { reply, unmarked }) => Ok(Told {
+        Ok(Served::Replied(reply)) => Ok(Told {
             text: render(alloc, &reply)?,
-            warning: warning(alloc, &unmarked, &reply)?,
+            warning: None,
+            closed,
+        }),
+        Ok(Served::Shown { lines, unmarked }) => Ok(Told {
+            warning: warning(alloc, &unmarked, lines.records())?,
+            text: lines.into_text().into_bytes(),
             closed,
         }),
         Err(fault) => Err(explained(alloc, paths, task, fault, closed)),

@@ -1,23 +1,25 @@
 //! A shell: the lines of the input in one session, each answered before the next is read.
 
-ghost use Rattle.std.specs.Prelude.{◌≡◌, ◌≢◌, ◌<◌, ◌+◌, [], length, true, false, Some, IfOk, IfNone, IfSome, OnErr};
+ghost use Rattle.std.specs.Prelude.{◌≡◌, ◌≢◌, ◌⊎◌, ◌↔◌, ◌<◌, [], length, true, false, Some, IfErr, IfOk, IfNone, IfSome, OnErr};
 ghost use Rattle.std.specs.Io.KnownBytes.{Consumes, IsAtEnd};
 ghost use Rattle.sqlite.specs.Held.{state};
 ghost use Rattle.sqlite.specs.State.{HasCleanDisk};
 ghost use Rattle.zeb_change.specs.Conditions.{conditions};
 ghost use Rattle.zeb_register.specs.Formats.{version_of};
-ghost use Rattle.zeb_program.specs.Answers.{AnswersAsTold, AnswersBatch, Writes};
-ghost use Rattle.zeb_program.specs.FirstAnswers.{AnswersFirst};
-ghost use Rattle.zeb_program.specs.Inputs.{TakesAtMost};
+ghost use Rattle.zeb_program.specs.Answers.{AnswersAsTold, Writes};
+ghost use Rattle.zeb_program.specs.Doing.{RunsText, ServesText, StopsText};
+ghost use Rattle.zeb_program.specs.InputCauses.{EndsInLine};
 ghost use Rattle.zeb_program.specs.Lines.{first_line, after_first_line};
 ghost use Rattle.zeb_program.specs.PrivateLines.{whole_first_line};
-ghost use Rattle.zeb_program.specs.OverTables.{FirstOver, LineOver, LinesOver, ServesOverLines};
-ghost use Rattle.zeb_program.specs.Serving.{LeadsOn, ServesLines, Stops};
-ghost use Rattle.zeb_program.specs.declared.input.InputFault.TheVariants.{Unreadable};
+ghost use Rattle.zeb_program.specs.OverTables.{LineOver};
+ghost use Rattle.zeb_program.specs.Serving.{LeadsOn};
+ghost use Rattle.zeb_program.specs.declared.line_input.InputCause.TheVariants.{FailedRead};
+ghost use Rattle.zeb_program.specs.declared.line_input.LineFault.TheVariants.{Unreadable, Memory};
 
 use crate::batch::{refuse_line, run_line};
-use crate::input::{GREATEST_INPUT, InputFault};
-use crate::line_input::read_line;
+use crate::failures::tell_unread;
+use crate::input::GREATEST_INPUT;
+use crate::line_input::{LineFault, read_line};
 use crate::outputs::Output;
 use crate::sinks::Sink;
 use crate::statuses::Status;
@@ -31,7 +33,7 @@ use zeb_paths::Paths;
 use zeb_register::Layout;
 
 /// Runs the lines of the input in a session as `run_shell_lines` does, and answers the greatest status met. Where the input can't be
-/// read, that is told on the fault output, and the status is 3.
+/// read on, that is told on the fault output with its cause, and the status is 3.
 pub fn serve_lines<R: Source, S: Alter, L: Layout, P: Paths, W: Output, V: Write>(
     alloc: Global,
     session: &mut Session<S, L>,
@@ -43,32 +45,18 @@ pub fn serve_lines<R: Source, S: Alter, L: Layout, P: Paths, W: Output, V: Write
     requires { R.has_failed input.old ≡ false }
     ensures answer { IfOk result (λ status. output.new.failed ≡ false
         → fault_output.new.failed ≡ false → HasCleanDisk (state S.Store session.new.connection)
-        → IfSome (R.remaining input.old)
-        (λ text. ServesLines (P.tells paths.now) (conditions (version_of L.format) session.old.profile
-        session.old.limits) text (R.remaining input.new) (state S.Store session.old.connection)
-        (state S.Store session.new.connection) (W.contents output.old.writer)
-        (W.contents output.new.writer) (V.contents fault_output.old.writer)
-        (V.contents fault_output.new.writer) status)) }
-    // Each line is answered as the engine says of it on any tables, on those that the line before it left.
-    ensures over { IfOk result (λ status. output.new.failed ≡ false
-        → fault_output.new.failed ≡ false → HasCleanDisk (state S.Store session.new.connection)
-        → IfSome (R.remaining input.old) (λ text. ServesOverLines S.Store (P.tells paths.now)
-        L.format (conditions (version_of L.format) session.old.profile session.old.limits) text
-        (R.remaining input.new) session.old.connection session.new.connection
-        (W.contents output.old.writer) (W.contents output.new.writer)
-        (V.contents fault_output.old.writer) (V.contents fault_output.new.writer) status)) }
-    ensures stopped_over { OnErr result (output.new.failed ≡ false
-        → HasCleanDisk (state S.Store session.new.connection) → IfSome (R.remaining input.old)
-        (λ text. Writes (W.contents output.old.writer) (W.contents output.new.writer)
-        (FirstOver S.Store (P.tells paths.now) L.format
+        → IfSome (R.remaining input.old) (λ text. ServesText S.Store (P.tells paths.now) L.format
         (conditions (version_of L.format) session.old.profile session.old.limits) text
-        (R.remaining input.new) session.old.connection))) }
+        (R.remaining input.new) (R.has_failed input.new)
+        (W.contents output.old.writer) (W.contents output.new.writer)
+        (V.contents fault_output.old.writer) (V.contents fault_output.new.writer) status
+        session.old.connection session.new.connection)) }
     ensures stopped { OnErr result (output.new.failed ≡ false
         → HasCleanDisk (state S.Store session.new.connection) → IfSome (R.remaining input.old)
-        (λ text. Stops (state S.Store session.old.connection) (W.contents output.old.writer)
-        (W.contents output.new.writer)
-        (AnswersFirst (P.tells paths.now) (conditions (version_of L.format) session.old.profile
-        session.old.limits) 0 text (R.remaining input.new)))) }
+        (λ text. StopsText S.Store (P.tells paths.now) L.format
+        (conditions (version_of L.format) session.old.profile session.old.limits) Memory text
+        (R.remaining input.new) (W.contents output.old.writer) (W.contents output.new.writer)
+        session.old.connection)) }
     ensures silent { OnErr result (fault_output.new ≡ fault_output.old) }
     ensures clean { HasCleanDisk (state S.Store session.new.connection)
         → HasCleanDisk (state S.Store session.old.connection) }
@@ -79,11 +67,11 @@ pub fn serve_lines<R: Source, S: Alter, L: Layout, P: Paths, W: Output, V: Write
 {
     match run_shell_lines(alloc, session, paths, input, output) {
         Ok(status) => Ok(status),
-        Err(InputFault::Unreadable) => {
-            fault_output.write_line("zebraidx: cannot read input");
+        Err(LineFault::Unreadable(cause)) => {
+            tell_unread(cause, fault_output);
             Ok(Status::Failed)
         }
-        Err(InputFault::Memory) => Err(AllocError),
+        Err(LineFault::Memory) => Err(AllocError),
     }
 }
 
@@ -102,41 +90,27 @@ pub fn run_shell_lines<R: Source, S: Alter, L: Layout, P: Paths, W: Output>(
     paths: &P,
     input: &mut R,
     output: &mut Sink<W>,
-) -> Result<Status, InputFault>
+) -> Result<Status, LineFault>
     requires { R.has_failed input.old ≡ false }
     ensures sound { output.new.failed ≡ false → output.old.failed ≡ false }
     ensures answer { IfOk result (λ status. output.new.failed ≡ false
         → HasCleanDisk (state S.Store session.new.connection) → IfSome (R.remaining input.old)
-        (λ text. LeadsOn (state S.Store session.old.connection) (state S.Store session.new.connection)
-        (W.contents output.old.writer) (W.contents output.new.writer)
-        (λ before bytes last. AnswersBatch (P.tells paths.now)
-        (conditions (version_of L.format) session.old.profile session.old.limits) 0 text before
-        bytes status last))) }
-    // Each line is answered as the engine says of it on any tables, on those that the line before it left.
-    ensures over { IfOk result (λ status. output.new.failed ≡ false
-        → HasCleanDisk (state S.Store session.new.connection) → IfSome (R.remaining input.old)
-        (λ text. Writes (W.contents output.old.writer) (W.contents output.new.writer)
-        (λ bytes. LinesOver S.Store (P.tells paths.now) L.format
+        (λ text. RunsText S.Store (P.tells paths.now) L.format
         (conditions (version_of L.format) session.old.profile session.old.limits) 0 text
-        session.old.connection bytes status session.new.connection))) }
-    ensures stopped { OnErr result (output.new.failed ≡ false
+        (W.contents output.old.writer) (W.contents output.new.writer) status
+        session.old.connection session.new.connection)) }
+    ensures stopped { IfErr result (λ why. output.new.failed ≡ false
         → HasCleanDisk (state S.Store session.new.connection) → IfSome (R.remaining input.old)
-        (λ text. Stops (state S.Store session.old.connection) (W.contents output.old.writer)
-        (W.contents output.new.writer)
-        (AnswersFirst (P.tells paths.now) (conditions (version_of L.format) session.old.profile
-        session.old.limits) 0 text (R.remaining input.new)))) }
-    ensures stopped_over { OnErr result (output.new.failed ≡ false
-        → HasCleanDisk (state S.Store session.new.connection) → IfSome (R.remaining input.old)
-        (λ text. Writes (W.contents output.old.writer) (W.contents output.new.writer)
-        (FirstOver S.Store (P.tells paths.now) L.format
-        (conditions (version_of L.format) session.old.profile session.old.limits) text
-        (R.remaining input.new) session.old.connection))) }
+        (λ text. StopsText S.Store (P.tells paths.now) L.format
+        (conditions (version_of L.format) session.old.profile session.old.limits) why text
+        (R.remaining input.new) (W.contents output.old.writer) (W.contents output.new.writer)
+        session.old.connection)) }
     ensures clean { HasCleanDisk (state S.Store session.new.connection)
         → HasCleanDisk (state S.Store session.old.connection) }
-    ensures failed { R.has_failed input.new ≡ true → result ≡ Err Unreadable }
-    // Only where something failed a line may be left.
-    ensures whole { IfOk result (λ status. status ≢ Status.Failed
-        → IsAtEnd (R.remaining input.new)) }
+    ensures failed { result ≡ Err (Unreadable FailedRead) ↔ R.has_failed input.new ≡ true }
+    // Only where a write failed a line may be left.
+    ensures whole { IfOk result (λ status. ((status ≡ Status.Failed) × (output.new.failed ≡ true))
+        ⊎ IsAtEnd (R.remaining input.new)) }
 {
     let mut greatest = Status::Answered;
     for lines_before in 0..u64::MAX {
@@ -149,7 +123,7 @@ pub fn run_shell_lines<R: Source, S: Alter, L: Layout, P: Paths, W: Output>(
         }
     }
     // A line more than there are numbers.
-    Err(InputFault::Unreadable)
+    Err(LineFault::Memory)
 }
 
 /// Reads the next line of the input, whose number this is, runs it, passes its answer on, and gives its status: `None` where
@@ -161,7 +135,7 @@ fn run_next_line<R: Source, S: Alter, L: Layout, P: Paths, W: Output>(
     number: u64,
     input: &mut R,
     output: &mut Sink<W>,
-) -> Result<Option<Status>, InputFault>
+) -> Result<Option<Status>, LineFault>
     requires { R.has_failed input.old ≡ false }
     ensures sound { output.new.failed ≡ false → output.old.failed ≡ false }
     ensures answer { IfOk result (λ found. IfSome found (λ status. output.new.failed ≡ false
@@ -190,12 +164,13 @@ fn run_next_line<R: Source, S: Alter, L: Layout, P: Paths, W: Output>(
     ensures end { IfOk result (λ found. IfNone found (IsAtEnd (R.remaining input.new))) }
     ensures idle { IfOk result (λ found. IfNone found (IsAtEnd (R.remaining input.old)
         × (session.new ≡ session.old) × (output.new ≡ output.old))) }
-    ensures bounded { TakesAtMost (GREATEST_INPUT + 1) (R.remaining input.old)
-        (R.remaining input.new) }
+    // Of a line that can't be read, or isn't answered.
+    ensures stops { IfErr result (λ fault. IfSome (R.remaining input.old)
+        (λ left. EndsInLine GREATEST_INPUT fault left (R.remaining input.new))) }
     ensures going { IfOk result (λ _. R.has_failed input.new ≡ false) }
     ensures passed { IfOk result (λ found. IfSome found (λ _. output.new.failed ≡ false
         → W.held_back output.new.writer ≡ [])) }
-    ensures failed { R.has_failed input.new ≡ true → result ≡ Err Unreadable }
+    ensures failed { result ≡ Err (Unreadable FailedRead) ↔ R.has_failed input.new ≡ true }
 {
     let bytes = read_line(alloc, input, GREATEST_INPUT)?;
     if bytes.is_empty() {

@@ -1,28 +1,30 @@
 //! The tasks that words name, each carried out on the register that the profile names.
 
-ghost use Rattle.std.specs.Prelude.{◌≡◌, ◌⊎◌, false, ℕ, [], List, Vec, map, string_bytes, IfErr, IfOk, OnErr};
-ghost use Rattle.std.specs.declared.alloc.Global.{Global};
+ghost use Rattle.std.specs.Prelude.{◌≡◌, false, ℕ, [], List, Result, map, string_bytes, IfErr, IfOk, OnErr};
 ghost use Rattle.sqlite.specs.Held.{state};
 ghost use Rattle.sqlite.specs.State.{HasCleanDisk};
 ghost use Rattle.zeb_change.specs.Conditions.{conditions};
 ghost use Rattle.zeb_image.specs.NameOf.{name_bytes};
 ghost use Rattle.zeb_register.specs.Calls.{ChangesNothing};
 ghost use Rattle.zeb_register.specs.Formats.{version_of};
-ghost use Rattle.zeb_engine.specs.Does.{AnswersAnyway};
+ghost use Rattle.zeb_engine.specs.declared.replies.Reply.{Reply};
 ghost use Rattle.zeb_program.specs.PrivateFaults.{IsUnread};
-ghost use Rattle.zeb_program.specs.FaultAnswers.{GivesAnswer, IsUnreadable, NamesUnder};
-ghost use Rattle.zeb_program.specs.OverTables.{AnalysesOver, PathsLeave, PathsOver, ServesOver, TaskOver};
-ghost use Rattle.zeb_program.specs.PrivateServing.{replied};
-ghost use Rattle.zeb_program.specs.Serving.{AnswersFrom, ServesTask};
-ghost use Rattle.zeb_program.specs.TaskAnswers.{AnalysesFiles, AnswersCommand, AreTold, ReadsWhole, paths_of};
+ghost use Rattle.zeb_program.specs.FaultAnswers.{GivesAnswer, NamesUnder};
+ghost use Rattle.zeb_program.specs.OverTables.{AnalysesOver, PathsLeave, PathsOver, ServesOver};
+ghost use Rattle.zeb_program.specs.PrivateServing.{CarriesOut, StandsFor};
+ghost use Rattle.zeb_program.specs.Serving.{AnswersFrom};
+ghost use Rattle.zeb_program.specs.TaskAnswers.{AnswersCommand, AreTold, ReadsWhole, paths_of};
 ghost use Rattle.zeb_program.specs.PrivateWarnings as spec;
+ghost use Rattle.zeb_program.specs.declared.faults.Fault.{Fault};
+ghost use Rattle.zeb_program.specs.declared.tasks.Task.{Task};
 
+use crate::analyses::{AnalysedFiles, analyse_files};
 use crate::faults::Fault;
-use crate::files::{contents_of, readers_of};
-use crate::warnings::{Place, unmarked_of};
+use crate::files::readers_of;
+use crate::warnings::Place;
 use sqlite::Alter;
 use std::alloc::Global;
-use zeb_engine::{Command, DbName, Kind, Reply, Session};
+use zeb_engine::{AnalysedLines, Command, DbName, Kind, Reply, Session};
 use zeb_paths::Paths;
 use zeb_register::Layout;
 use zeb_words::Act;
@@ -137,11 +139,15 @@ fn to_change(kind: Kind, database: DbName, paths: Vec<String>) -> Errand
 
 /// What a task is answered.
 #[derive(Debug, Drop)]
-pub struct Served {
+pub enum Served {
     /// What the register replies.
-    pub reply: Reply,
-    /// Which of the records that are analysed don't say that they are in Unicode.
-    pub unmarked: Vec<Place>,
+    Replied(Reply),
+    /// What is shown of the records of an analysis.
+    Shown {
+        lines: AnalysedLines,
+        /// Which of the records don't say that they are in Unicode.
+        unmarked: Vec<Place>,
+    },
 }
 
 /// Carries a task out in a session.
@@ -151,16 +157,10 @@ pub fn carry_out<S: Alter, L: Layout, P: Paths>(
     paths: &P,
     task: &Task,
 ) -> Result<Served, Fault>
-    ensures answer { HasCleanDisk (state S.Store session.new.connection)
-        → ServesTask (P.tells paths.now) (conditions (version_of L.format) session.old.profile
-        session.old.limits) task.now (state S.Store session.old.connection)
-        (state S.Store session.new.connection) (replied result) }
-    // It is answered as the engine says of it on any tables, and refused it changes nothing.
-    ensures over { HasCleanDisk (state S.Store session.new.connection)
-        → TaskOver (P.tells paths.now) L.format
-        (conditions (version_of L.format) session.old.profile session.old.limits) task.now
-        (state S.Store session.old.connection) (state S.Store session.new.connection)
-        (replied result) }
+    ensures done { (answer : Result Reply Fault) × StandsFor result answer
+        × CarriesOut (P.tells paths.now) L.format (conditions (version_of L.format)
+        session.old.profile session.old.limits) task.now (state S.Store session.old.connection)
+        (state S.Store session.new.connection) answer }
     ensures clean { HasCleanDisk (state S.Store session.new.connection)
         → HasCleanDisk (state S.Store session.old.connection) }
     // An analysis leaves the connection as it is, whatever it is answered.
@@ -170,30 +170,28 @@ pub fn carry_out<S: Alter, L: Layout, P: Paths>(
     ensures names { IfErr result (NamesUnder (paths_of task.now)) }
     // Where the bytes of a file at each path are told; and of another task than an analysis nothing is to be warned of.
     ensures unmarked { (files : List (List ℕ)) → AreTold (P.tells paths.now) (paths_of task.now)
-        files → IfOk result (λ served. served.unmarked.items ≡ spec.unmarked_by task.now files) }
-    ensures quiet { ¬ ReadsWhole task.now → IfOk result (λ served. served.unmarked.items ≡ []) }
+        files → IfOk result (λ served. spec.unmarked_in served ≡ spec.unmarked_by task.now files) }
+    ensures shown { IfOk result (spec.IsServedFor task.now) }
 {
     match task {
-        Task::Ask(command) => to_serve(ask(session, command), Vec::new(alloc)),
+        Task::Ask(command) => to_serve(ask(session, command)),
         Task::Change {
             kind,
             database,
             paths: named,
-        } => {
-            let reply = change_by_paths(alloc, session, paths, *kind, database, named);
-            to_serve(reply, Vec::new(alloc))
-        }
+        } => to_serve(change_by_paths(alloc, session, paths, *kind, database, named)),
         Task::Analyse(named) => analyse_paths(alloc, session, paths, named),
     }
 }
 
-/// A reply, with the records that are to be warned of.
-fn to_serve(reply: Result<Reply, Fault>, unmarked: Vec<Place>) -> Result<Served, Fault>
-    ensures reply { replied result ≡ reply }
-    ensures unmarked { IfOk result (λ served. served.unmarked ≡ unmarked) }
+/// A reply, as what a task is answered.
+fn to_serve(reply: Result<Reply, Fault>) -> Result<Served, Fault>
+    ensures reply { StandsFor result reply }
+    ensures unmarked { IfOk result (λ served. spec.unmarked_in served ≡ []) }
+    ensures shown { (task : Task) → IfOk result (spec.IsServedFor task) }
 {
     match reply {
-        Ok(reply) => Ok(Served { reply, unmarked }),
+        Ok(reply) => Ok(Served::Replied(reply)),
         Err(fault) => Err(fault),
     }
 }
@@ -213,12 +211,6 @@ fn ask<S: Alter, L: Layout>(session: &mut Session<S, L>, command: &Command) -> R
     ensures refused { HasCleanDisk (state S.Store session.new.connection)
         → OnErr result (ChangesNothing (state S.Store session.old.connection)
         (state S.Store session.new.connection)) }
-    // An analysis asks the store for nothing.
-    ensures analysed { GivesAnswer
-        (AnswersAnyway (conditions (version_of L.format) session.old.profile session.old.limits)
-        command.now) result }
-    ensures still { (files : Vec (Vec ℕ Global) Global) → command.now ≡ Command.Analyse files
-        → session.new.connection ≡ session.old.connection }
     ensures read { IfErr result (λ fault. ¬ IsUnread fault) }
 {
     match session.command(command) {
@@ -263,27 +255,23 @@ pub fn change_by_paths<S: Alter, L: Layout, P: Paths>(
 /// Analyses the records in the files at and below the paths.
 fn analyse_paths<S: Alter, L: Layout, P: Paths>(
     alloc: Global,
-    session: &mut Session<S, L>,
+    session: &Session<S, L>,
     paths: &P,
     named: &[String],
 ) -> Result<Served, Fault>
-    // Where the bytes of a file at each path are told.
-    ensures told { HasCleanDisk (state S.Store session.new.connection) → (files : List (List ℕ))
-        → AreTold (P.tells paths.now) (map string_bytes named.now) files
-        → AnswersFrom (state S.Store session.old.connection) (state S.Store session.new.connection)
-        (replied result) (AnalysesFiles (conditions (version_of L.format) session.old.profile
-        session.old.limits) files) ⊎ IsUnreadable (replied result) }
     // On any tables, and whatever the paths tell.
-    ensures over { AnalysesOver (P.tells paths.now) session.old.profile session.old.limits.records
-        (map string_bytes named.now) (replied result) }
-    ensures still { session.new.connection ≡ session.old.connection }
-    ensures unread { IfErr result (λ fault. IsUnread fault → session.new ≡ session.old) }
+    ensures over { (answer : Result Reply Fault) × StandsFor result answer
+        × AnalysesOver (P.tells paths.now) session.now.profile session.now.limits.records
+        (map string_bytes named.now) answer }
     ensures names { IfErr result (NamesUnder (map string_bytes named.now)) }
+    // Where the bytes of a file at each path are told.
     ensures unmarked { (files : List (List ℕ)) → AreTold (P.tells paths.now)
         (map string_bytes named.now) files
-        → IfOk result (λ served. served.unmarked.items ≡ spec.unmarked_of 1 files) }
+        → IfOk result (λ served. spec.unmarked_in served ≡ spec.unmarked_of 1 files) }
 {
-    let files = contents_of(alloc, paths, named)?;
-    let unmarked = unmarked_of(alloc, &files)?;
-    to_serve(ask(session, &Command::Analyse { files }), unmarked)
+    let AnalysedFiles { lines, unmarked } = analyse_files(alloc, session, paths, named)?;
+    match lines {
+        Ok(lines) => Ok(Served::Shown { lines, unmarked }),
+        Err(refusal) => Err(Fault::Refused(refusal)),
+    }
 }

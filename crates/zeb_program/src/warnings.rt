@@ -1,13 +1,12 @@
 //! What an analysis warns of: records that don't say in their leader that they are in Unicode, for all are read as UTF-8.
 
-ghost use Rattle.std.specs.Prelude.{◌≡◌, ◌<◌, ◌∷◌, ◌++◌, [], false, true, length, map, string_bytes, IfOk, OnOk};
+ghost use Rattle.std.specs.Prelude.{◌≡◌, ◌<◌, ◌∷◌, ◌++◌, [], false, true, length, string_bytes, IfOk, OnOk};
 ghost use Rattle.std.specs.Option.{option_map};
 ghost use Rattle.zeb_marc.specs.Splits.{split_of};
 ghost use Rattle.zeb_program.specs.PrivateWarnings as spec;
 ghost use Rattle.zeb_program.specs.Warnings as lines;
 
 use std::alloc::{AllocError, Global};
-use zeb_engine::Reply;
 use zeb_marc::{RecordBuf, Slice, next_record};
 
 /// The place of a record in files.
@@ -40,7 +39,7 @@ fn read_record(left: &mut Slice<'_>, buffer: &mut RecordBuf) -> bool
 }
 
 /// Puts the places of a file's records that don't say that they are in Unicode behind the others.
-fn note_unmarked(
+pub fn note_unmarked(
     unmarked: &mut Vec<Place>,
     buffer: &mut RecordBuf,
     file: u64,
@@ -60,24 +59,11 @@ fn note_unmarked(
     Ok(())
 }
 
-/// The places of those records of files that don't say that they are in Unicode, in their order.
-pub fn unmarked_of(alloc: Global, files: &[Vec<u8>]) -> Result<Vec<Place>, AllocError>
-    ensures { IfOk result (λ unmarked. unmarked.items ≡ spec.unmarked_of 1
-        (map (λ file. file.items) files.now)) }
-{
-    let mut buffer = RecordBuf::new(alloc)?;
-    let mut unmarked = Vec::new(alloc);
-    for (index, bytes) in files.iter().enumerate() {
-        note_unmarked(&mut unmarked, &mut buffer, index as u64 + 1, bytes)?;
-    }
-    Ok(unmarked)
-}
-
 /// The line that warns of so many of all records, of which this one is the first.
 fn warning_line(
     alloc: Global,
     unmarked: usize,
-    records: usize,
+    records: u64,
     first: Place,
 ) -> Result<String, AllocError>
     ensures { IfOk result (λ line. string_bytes line ≡ lines.warning_line unmarked records first) }
@@ -88,21 +74,18 @@ fn warning_line(
     )
 }
 
-/// The line that warns of records in these places, among all that a reply has analysed.
+/// The line that warns of records in these places, among so many that are analysed; none where there is no place.
 pub fn warning(
     alloc: Global,
     unmarked: &[Place],
-    reply: &Reply,
+    records: u64,
 ) -> Result<Option<String>, AllocError>
     ensures { IfOk result (λ line. option_map string_bytes line ≡ spec.warning_of unmarked.now
-        reply.now) }
+        records) }
 {
     let Some(first) = unmarked.first() else {
         return Ok(None);
     };
-    let Reply::Analysed { records, .. } = reply else {
-        return Ok(None);
-    };
-    let line = warning_line(alloc, unmarked.len(), records.len(), *first)?;
+    let line = warning_line(alloc, unmarked.len(), records, *first)?;
     Ok(Some(line))
 }

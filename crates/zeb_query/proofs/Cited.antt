@@ -1,5 +1,5 @@
 -- What this crate's proofs cite of std, of the kit, of the crates below and of its own specs, passed on from one place. Declares nothing.
-pub use Rattle.std.proofs.Common.{◌≡◌, ℕ, Bool, true, false, cond, eqb, List, [], ◌∷◌, ◌++◌, Option, Some, None, refl, ap, sym, subst, ◌∙◌, ◌+◌, ◌<◌, length, get_or, drop, ◌≤◌, ◌^◌, arith, codes, ◌≢◌, zero, suc, ◌⊎◌, inl, inr, append_assoc, ◌-◌, true≢false, length-append, take, encode_utf8_all, encode_utf8, lit<}
+pub use Rattle.std.proofs.Common.{◌≡◌, ℕ, Bool, true, false, cond, eqb, List, [], ◌∷◌, ◌++◌, Option, Some, None, refl, ap, sym, subst, ◌∙◌, ◌+◌, ◌<◌, length, get_or, drop, ◌≤◌, ◌^◌, arith, ◌≢◌, zero, suc, ◌⊎◌, inl, inr, append_assoc, ◌-◌, true≢false, length-append, take, encode_utf8_all, encode_utf8, lit<}
 pub use Rattle.std.proofs.Math.Dec.{T, eqb_refl}
 pub use Rattle.std.proofs.Math.Numerals.{one-add}
 pub use Rattle.std.proofs.lemmas.Bool.{eqb-true, cases_Bool, eqb-false, ne_eqb}
@@ -17,25 +17,22 @@ pub use Rattle.std.proofs.lemmas.Str.Parse.{numerals_by_value, tells_all_ascii_d
 pub use Rattle.std.proofs.lemmas.Str.Pattern.{split_once_first}
 pub use Rattle.std.specs.Char.{len_utf8, is_ascii_digit}
 pub use Rattle.std.specs.List.{list_all, list_any, position_or_len, before_first, after_first, find, AllPass, flat_map}
-pub use Rattle.std.specs.Option.{is_none, unwrap_or, option_map, option_to_list, is_some}
+pub use Rattle.std.specs.Option.{is_none, unwrap_or, option_map, option_to_list}
 pub use Rattle.std.specs.Prelude.{Result, Ok, Err, IfOk, not, map, ◌||◌, option_and_then, ◌&&◌, IfSome, nat_lt, nat_le, slice_get, if◌then◌else◌, ◌==◌, string_bytes}
 pub use Rattle.std.specs.Result.{OnOk, IfErr, result_ok}
 pub use Rattle.std.specs.Str.{all_ascii_digits, bytes_eq, NonePass}
 pub use Rattle.std.specs.Str.Parse.{digits_value, ParsesUnsigned}
 pub use Rattle.zeb_keys.specs.declared.Register.{Register}
-pub use Rattle.zeb_profile.specs.Indexes.{has_pair}
 pub use Rattle.zeb_profile.specs.declared.Profile.{Profile}
-pub use Rattle.zeb_profile.specs.declared.directives.Directive.{Directive}
-pub use Rattle.zeb_query.specs.Attributes.{HoldingValue, asks_number, completeness_of, index_in, index_used, is_bib1, is_complete, is_equal, is_first, is_list, is_local, is_local_number, is_numeric, is_ordered, is_other_kind, is_other_set, is_truncated, joined_if_any, joined_words, joined_words_if_any, kind_of, or_else, order_of, patterns_asked, position_of, register_of, relation_of, sets_in, structure_of, truncation_of, value_held, values_held}
-pub use Rattle.zeb_query.specs.Checks.{Check, Fails, Gives, Operand, Refusal, answered, attribute_checks, check, checked_by, checks_in, clash_check, clashes, clashes_with, distance_relations, find_checks, first_that_applies, index_check, index_near, is_beyond, kind_check, lacks_register, number_check, number_checks, one_of, operand_checks, operand_of, operands_checks, orderings, parameter_checks, proximity_checks, refused, scan_checks, scan_checks_in, separation_of, set_check, term_checks, type_check, use_checks, words_check, written}
-pub use Rattle.zeb_query.specs.Grammar.{few, many, is_number, number_of, TreeValue, TermValue, NamedValue, PairValue, QueryValue, IsStructure, is_term, is_named, is_attribute, is_attribute_of_set, is_typed, is_pair, IsQuery, is_structure_of_set, keyword_spelled, kept_text, has_equals, is_good, text_of, connective_of, connective_value, ConnectiveValue, BooleanOf, ProximityOf, ParametersValue, parameters_value, operator_word, under, with_attribute, with_type, no_head, SpellsQuery, keyword_of, is_structure, is_equals_sign, HeadValue, keyword_by, if_any, is_good_spelling, heads, inner_type, AttributeValue, attribute_value, head_value, query_value, tree_value}
+pub use Rattle.zeb_query.specs.Attributes.{HoldingValue, asks_number, completeness_of, index_in, index_used, is_bib1, is_complete, is_local_number, is_other_kind, is_other_set, joined_words, kind_of, or_else, order_of, patterns_asked, position_of, register_of, relation_of, sets_in, structure_of, truncation_of, value_held, values_held}
+pub use Rattle.zeb_query.specs.Checks.{Check, Fails, Gives, Operand, Refusal, answered, check, checked_by, checks_in, clash_check, distance_relations, find_checks, first_that_applies, index_check, index_near, kind_check, number_check, number_checks, one_of, operand_checks, operand_of, operands_checks, orderings, parameter_checks, proximity_checks, refused, scan_checks, scan_checks_in, separation_of, set_check, term_checks, type_check, use_checks, words_check, written}
+pub use Rattle.zeb_query.specs.Grammar.{few, many, is_number, number_of, TreeValue, TermValue, NamedValue, PairValue, QueryValue, IsStructure, is_term, is_named, is_attribute, is_attribute_of_set, is_typed, is_pair, IsQuery, is_structure_of_set, kept_text, has_equals, is_good, text_of, connective_of, ConnectiveValue, BooleanOf, ProximityOf, ParametersValue, parameters_value, under, with_attribute, with_type, no_head, SpellsQuery, keyword_of, is_structure, is_equals_sign, HeadValue, keyword_by, if_any, is_good_spelling, heads, inner_type, AttributeValue, attribute_value, head_value, query_value, tree_value}
 pub use Rattle.zeb_query.specs.Places.{IsBeginning, IsQueryWithin, IsBeginningWithin, IsStrange, IsUnfinished, IsUnspelled, IsCrowded, operators, IsFaultOf, IsReadable, IsFaulty, is_long, is_unspelled, is_crowded}
-pub use Rattle.zeb_query.specs.Plans.{AllLookInto, AllWordsOf, AlwaysOf, AnyWordOf, BeginsAtKey, CompleteOf, HasSmallNumber, HasSmallNumbers, LooksInto, NearOf, NumberOf, OrderedOf, PairOf, PhraseOf, PlanValue, RecordNumberOf, ScanValue, TermOf, TermPlanValue, entries_asked, held_in, looked_into, near_asked, operand_pattern, plan_of, plan_register, plan_value, scan_of, scan_value, start_asked, subject_asked, texts_asked, tree_asked, tree_scanned, words_asked}
-pub use Rattle.zeb_query.specs.PrivatePlanning.{◌>>=◌, index_read, kept_or, number_in, operands_plan, parameter_kept, passed, patterns_read, related_plan, subject_index, subject_plan, subject_read, tree_plan}
-pub use Rattle.zeb_query.specs.PrivateReading.{words_with, first_keyword, word_of, left, fault_of, IsAfterFirst, ReadsFirst, first_equals, ReadsWord, SpellsSpec, SpellsAttribute, SpellsHead, SpellsParameters, SpellsProximity, SpellsOperator, SpellsSet, Spells, first_place, IsFault, held_with, first_set, first_set_of, IsDiagnostic, holding_value}
+pub use Rattle.zeb_query.specs.Plans.{BeginsAtKey, HasSmallNumber, HasSmallNumbers, NearOf, NumberOf, PairOf, PlanValue, RecordNumberOf, ScanValue, TermOf, entries_asked, near_asked, operand_pattern, plan_of, plan_value, scan_value, start_asked, subject_asked, texts_asked, tree_asked, tree_scanned}
+pub use Rattle.zeb_query.specs.PrivatePlanning.{◌>>=◌, index_read, kept_or, operands_plan, passed, patterns_read, related_plan, subject_index, subject_plan, subject_read, tree_plan}
+pub use Rattle.zeb_query.specs.PrivateReading.{words_with, first_keyword, word_of, left, fault_of, IsAfterFirst, ReadsFirst, first_equals, ReadsWord, SpellsSpec, SpellsAttribute, SpellsHead, SpellsParameters, SpellsOperator, SpellsSet, Spells, first_place, IsFault, held_with, first_set, first_set_of, IsDiagnostic, holding_value}
 pub use Rattle.zeb_query.specs.PrivateWalk.{parameter_count, words_at, Due, Start, Structures, SetOrSpec, Spec, MoreWords, words_then, fault, fault_at_end, Step, Allowed, Refused, step, good_step, structure_step, start_step, spec_step, operator_step, Begun, unquoted, in_word, in_quotes, plain_word, quoted_word, with_front}
 pub use Rattle.zeb_query.specs.Words.{Word, AreWords, is_blank, Sign, Itself, Escaped, sign_text, meant, is_sign, IsCutOff, IsWritten, is_plain, is_braced, is_quoted, is_open, Stretch, stretch_text, stretch_word, IsStretch}
-pub use Rattle.zeb_query.specs.Worked.{sample_profile, PlansUnder, PlansAs, ScansAs}
 pub use Rattle.zeb_query.specs.declared.attributes.Asked.{Asked}
 pub use Rattle.zeb_query.specs.declared.attributes.Asked.TheVariants.{Compared, Always}
 pub use Rattle.zeb_query.specs.declared.attributes.Completeness.{Completeness}
@@ -49,8 +46,7 @@ pub use Rattle.zeb_query.specs.declared.grammar.Rest.{Rest}
 pub use Rattle.zeb_query.specs.declared.keywords.Keyword.{Keyword}
 pub use Rattle.zeb_query.specs.declared.keywords.Keyword.TheVariants.{Operator, AttributeSet, Attribute, TermType, ResultSet}
 pub use Rattle.zeb_query.specs.declared.plans.Order.{Order}
-pub use Rattle.zeb_query.specs.declared.plans.Relation.{Relation}
-pub use Rattle.zeb_query.specs.declared.plans.Relation.TheVariants.{Less, LessOrEqual, Equal, GreaterOrEqual, Greater}
+pub use Rattle.zeb_query.specs.declared.plans.Relation.TheVariants.{Equal}
 pub use Rattle.zeb_query.specs.declared.plans.Separation.{Separation}
 pub use Rattle.zeb_query.specs.declared.keywords.OperatorWord.{OperatorWord}
 pub use Rattle.zeb_query.specs.declared.keywords.OperatorWord.TheVariants.{And, Or, Not, Proximity}
@@ -64,6 +60,3 @@ pub use Rattle.zeb_query.specs.declared.words.Cutter.{Cutter}
 pub use Rattle.zeb_query.specs.declared.words.Spelling.{Spelling}
 pub use Rattle.zeb_query.specs.declared.words.Spelling.TheVariants.{Plain, Quoted, Bad}
 pub use Rattle.zeb_text.specs.Symbols.{Symbol}
-pub use Rattle.zeb_text.specs.Truncation.{patterns_of}
-pub use Rattle.zeb_text.specs.declared.Spread.{Spread}
-pub use Rattle.zeb_text.specs.declared.Spread.TheVariants.{Ends, Each}

@@ -14,7 +14,5 @@ pub mod TextFaults
 pub mod CheckLemmas
 pub mod TermCheckLemmas
 pub mod PlanCheckLemmas
-pub mod LookLemmas
 pub mod PlanNumbers
-pub mod ExampleLemmas
 pub mod Cited

@@ -5,20 +5,14 @@
 -- of which the leftmost is told; that a value of more than nine digits is no number; that a use attribute that is no number is the
 -- name of an index; which values are kept; what holds where there is no attribute of a type; that 1 and 2 are one for the position and
 -- the structure, and 2 and 3 for the completeness; and that structure 107, a local number, is the record's system number.
-use Rattle.std.specs.Char.{to_ascii_lowercase}
-use Rattle.std.specs.List.{find, join_with_byte}
-use Rattle.std.specs.Option.{is_some, option_map_or, option_to_list, unwrap_or}
-use Rattle.std.specs.Prelude.{Bool, List, None, Option, Some, [], chars, codes, encode_utf8_all, false, if◌then◌else◌, map, nat_lt, not, option_and_then, true, ℕ, ◌&&◌, ◌++◌, ◌==◌, ◌∷◌, ◌||◌}
-use Rattle.std.specs.Str.{bytes_eq}
-use Rattle.zeb_profile.specs.Indexes.{index_by_name, index_by_use}
+use Rattle.zeb_query.specs.Cited.{to_ascii_lowercase, join_with_byte, is_some, option_map_or, index_by_name, index_by_use, Symbol, Always, Any, Asked, Compared, Complete, Completeness, Cut, Each, Ends, Entries, First, FreeForm, Incomplete, Numeric, Order, Phrase, Position, Profile, Record, Register, Relation, Spread, Structure, Subject, Values, WordList}
+use Rattle.std.specs.Prelude.{Bool, List, None, Option, Some, [], chars, codes, encode_utf8_all, false, if◌then◌else◌, map, nat_lt, not, option_and_then, true, ℕ, ◌&&◌, ◌++◌, ◌==◌, ◌∷◌, ◌||◌, find, option_to_list, unwrap_or, bytes_eq}
 use Rattle.zeb_keys.specs.declared.Register.TheVariants as register
-use Rattle.zeb_text.specs.Symbols.{Symbol}
 use Rattle.zeb_text.specs.Truncation.{joined_patterns, patterns_of}
 use Rattle.zeb_text.specs.Words.{words_of}
 use Rattle.zeb_text.specs.declared.Cut.TheVariants as cut
 use Rattle.zeb_query.specs.declared.plans.Order.TheVariants as in_order
 use Rattle.zeb_query.specs.declared.plans.Relation.TheVariants.{Equal, Greater, GreaterOrEqual, Less, LessOrEqual}
-use Rattle.zeb_query.specs.Enums.{Always, Any, Asked, Compared, Complete, Completeness, Cut, Each, Ends, Entries, First, FreeForm, Incomplete, Numeric, Order, Phrase, Position, Profile, Record, Register, Relation, Spread, Structure, Subject, Values, WordList}
 use Rattle.zeb_query.specs.Grammar.{AttributeValue, HeadValue, few, number_of}
 
 -- ---- the attributes over a term

@@ -8,18 +8,11 @@
 -- Proximity (YAZ manual, Prefix Query Format: `@prox`; ANSI/NISO Z39.50-2003, the proximity operator): the six parameters are exclusion,
 -- distance, ordered, relation, which-code and unit-code. Own rules too: which of their values are kept; that others, and operands that
 -- are no terms, are refused by 110; and that the operands are of one word each, in one index, with the attributes that are left.
-use Rattle.std.specs.Fmt.{decimal}
-use Rattle.std.specs.Option.{is_none, is_some, option_map_or, unwrap_or}
-use Rattle.std.specs.Prelude.{Bool, Err, List, None, Ok, Option, Result, Some, [], codes, false, if◌then◌else◌, length, nat_lt, not, string_bytes, true, ℕ, ◌&&◌, ◌++◌, ◌==◌, ◌∷◌, ◌≡◌, ◌||◌}
-use Rattle.std.specs.Str.{bytes_eq}
-use Rattle.std.specs.Str.Parse.{digits_value}
-use Rattle.zeb_profile.specs.Indexes.{has_pair}
-use Rattle.zeb_query.specs.declared.faults.QueryFault.{QueryFault}
-use Rattle.zeb_query.specs.declared.faults.QueryFault.TheVariants.{Diagnostic, Memory}
+use Rattle.zeb_query.specs.Cited.{is_none, is_some, option_map_or, digits_value, has_pair, QueryFault, Diagnostic, Memory, Always, And, Asked, Compared, DistanceRelation, Entries, Find, FreeForm, Near, Not, Numeric, OperatorWord, Or, Phrase, Profile, Proximity, Purpose, Record, Register, Scan, Separation, Subject, Values, WordList}
+use Rattle.std.specs.Prelude.{Bool, Err, List, None, Ok, Option, Result, Some, [], codes, false, if◌then◌else◌, length, nat_lt, not, string_bytes, true, ℕ, ◌&&◌, ◌++◌, ◌==◌, ◌∷◌, ◌≡◌, ◌||◌, decimal, unwrap_or, bytes_eq}
 use Rattle.zeb_query.specs.declared.plans.DistanceRelation.TheVariants.{Equal, Greater, GreaterOrEqual, Less, LessOrEqual, NotEqual}
 use Rattle.zeb_query.specs.declared.plans.Relation.TheVariants as relation
 use Rattle.zeb_query.specs.declared.plans.Operator.TheVariants as on_sets
-use Rattle.zeb_query.specs.Enums.{Always, And, Asked, Compared, DistanceRelation, Entries, Find, FreeForm, Near, Not, Numeric, OperatorWord, Or, Phrase, Profile, Proximity, Purpose, Record, Register, Scan, Separation, Subject, Values, WordList}
 use Rattle.zeb_query.specs.Grammar.{BooleanOf, ConnectiveValue, HeadValue, NamedValue, PairValue, ParametersValue, ProximityOf, TermValue, TreeValue, few, heads, is_number, kept_text, many, no_head, operator_word}
 use Rattle.zeb_query.specs.Attributes.{HoldingValue, asks_number, completeness_of, holding_of, index_in, index_used, is_complete, is_equal, is_first, is_list, is_local, is_local_number, is_numeric, is_ordered, is_truncated, patterns_asked, position_of, register_of, relation_of, structure_of, truncation_of, values_held}
 

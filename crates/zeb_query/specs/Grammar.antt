@@ -9,17 +9,10 @@
 -- Own rules of this project, which the manual leaves open or has otherwise: that a type is a number of at most nine digits; that a value
 -- has at least one character; that keywords are in lower case and unquoted, and have no meaning where a SET, a TYPE, a NAME or a W is due;
 -- that an unquoted word which begins with @ and is no keyword is a TERM; and that no query has a bad word.
-use Rattle.std.specs.Char.{is_ascii_digit}
-use Rattle.std.specs.List.{after_first, before_first, list_all, list_any, position_or_len}
-use Rattle.std.specs.Option.{option_map}
-use Rattle.std.specs.Prelude.{Bool, List, None, Option, Some, [], chars, codes, false, if◌then◌else◌, length, map, nat_le, nat_lt, option_and_then, string_bytes, true, ℕ, ◌&&◌, ◌++◌, ◌==◌, ◌∷◌, ◌≡◌}
-use Rattle.std.specs.Str.{bytes_eq}
-use Rattle.std.specs.Str.Parse.{digits_value}
-use Rattle.zeb_query.specs.declared.keywords.Keyword.{Keyword}
+use Rattle.zeb_query.specs.Cited.{is_ascii_digit, after_first, before_first, list_all, list_any, position_or_len, digits_value, Keyword, OperatorWord, And, Not, Or, Proximity, Spelling, Bad, Plain, Quoted}
 use Rattle.zeb_query.specs.declared.keywords.Keyword.TheVariants.{Attribute, AttributeSet, Operator, ResultSet, TermType}
+use Rattle.std.specs.Prelude.{Bool, List, None, Option, Some, [], chars, codes, false, if◌then◌else◌, length, map, nat_le, nat_lt, option_and_then, string_bytes, true, ℕ, ◌&&◌, ◌++◌, ◌==◌, ◌∷◌, ◌≡◌, option_map, bytes_eq}
 use Rattle.zeb_query.specs.declared.queries.Attribute.{Attribute as AttributeOfQuery}
-use Rattle.zeb_query.specs.declared.keywords.OperatorWord.{OperatorWord}
-use Rattle.zeb_query.specs.declared.keywords.OperatorWord.TheVariants.{And, Not, Or, Proximity}
 use Rattle.zeb_query.specs.declared.plans.Operator.{Operator as OperatorOnSets}
 use Rattle.zeb_query.specs.declared.plans.Operator.TheVariants as on_sets
 use Rattle.zeb_query.specs.declared.queries.Connective.{Connective}
@@ -28,8 +21,6 @@ use Rattle.zeb_query.specs.declared.queries.Parameters.{Parameters}
 use Rattle.zeb_query.specs.declared.queries.Head.{Head}
 use Rattle.zeb_query.specs.declared.queries.Query.{Query}
 use Rattle.zeb_query.specs.declared.queries.Tree.{Named, Pair', Term, Tree}
-use Rattle.zeb_query.specs.declared.words.Spelling.{Spelling}
-use Rattle.zeb_query.specs.declared.words.Spelling.TheVariants.{Bad, Plain, Quoted}
 use Rattle.zeb_query.specs.Words.{AreWords, Word}
 
 -- ---- queries as values

@@ -1,11 +1,11 @@
+pub mod Clauses
+pub mod Cited
 pub mod Words
 pub mod Grammar
 pub mod Places
-pub mod Enums
 pub mod Attributes
 pub mod Checks
 pub mod Plans
-pub mod Worked
 pub mod PrivateWalk
 pub mod PrivateReading
 pub mod PrivatePlanning

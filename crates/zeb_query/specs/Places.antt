@@ -5,10 +5,8 @@
 -- them. At the first word that none has, 6 stands where there are queries that begin so, each with more operators, and 108
 -- where there is no query.
 use Rattle.std.specs.Prelude.{List, Some, [], chars, length, slice_get, string_bytes, ℕ, ◌++◌, ◌<◌, ◌∷◌, ◌≡◌, ◌≤◌, ◌⊎◌}
-use Rattle.zeb_query.specs.declared.faults.QueryFault.{QueryFault}
-use Rattle.zeb_query.specs.declared.faults.QueryFault.TheVariants.{Diagnostic, Memory}
+use Rattle.zeb_query.specs.Cited.{QueryFault, Diagnostic, Memory, OperatorWord}
 use Rattle.zeb_query.specs.declared.keywords.Keyword.TheVariants.{Operator}
-use Rattle.zeb_query.specs.declared.keywords.OperatorWord.{OperatorWord}
 use Rattle.zeb_query.specs.Words.{AreWords, Word}
 use Rattle.zeb_query.specs.Grammar.{IsQuery, NamedValue, PairValue, QueryValue, SpellsQuery, TermValue, TreeValue, keyword_of}
 

@@ -2,18 +2,13 @@
 -- that applies refuses it; where none does, its plan follows from the attributes that hold over its terms.
 -- Bib-1 says what a relation, a position, a structure and a completeness ask for. Own rules of this project: what a plan has where Bib-1
 -- leaves it open, which are the words of a term, the register, and system numbers for structure 107.
-use Rattle.std.specs.Option.{option_map, unwrap_or}
-use Rattle.std.specs.Prelude.{Bool, List, None, Option, Result, Some, [], if◌then◌else◌, string_bytes, true, ℕ, ◌++◌, ◌<◌, ◌^◌, ◌∷◌, ◌≡◌}
-use Rattle.std.specs.Str.Parse.{digits_value}
-use Rattle.zeb_profile.specs.Indexes.{has_pair}
+use Rattle.std.specs.Prelude.{Bool, List, None, Option, Result, Some, [], if◌then◌else◌, string_bytes, ℕ, ◌<◌, ◌^◌, ◌≡◌, option_map, unwrap_or}
+use Rattle.zeb_query.specs.Cited.{digits_value, number_key, Symbol, Always, Asked, Compared, Complete, Completeness, Entries, FreeForm, Incomplete, Operator, Order, Position, Profile, Record, Register, Relation, Separation, Structure, Subject, Values, WordList}
 use Rattle.zeb_keys.specs.declared.Register.TheVariants as register
-use Rattle.zeb_text.specs.Numbers.{number_key}
-use Rattle.zeb_text.specs.Symbols.{Symbol}
 use Rattle.zeb_query.specs.declared.plans.Plan.{Near, Pair', Plan, Term}
 use Rattle.zeb_query.specs.declared.plans.ScanPlan.{ScanPlan}
 use Rattle.zeb_query.specs.declared.plans.TermPlan.{TermPlan}
 use Rattle.zeb_query.specs.declared.plans.TermPlan.TheVariants as term
-use Rattle.zeb_query.specs.Enums.{Always, Asked, Compared, Complete, Completeness, Entries, FreeForm, Incomplete, Operator, Order, Position, Profile, Record, Register, Relation, Separation, Structure, Subject, Values, WordList}
 use Rattle.zeb_query.specs.Grammar.{BooleanOf, HeadValue, NamedValue, PairValue, ParametersValue, ProximityOf, QueryValue, TermValue, TreeValue, heads, no_head}
 use Rattle.zeb_query.specs.Checks.{Operand, Refusal, checked_by, checks_in, index_near, one_of, operand_of, scan_checks_in, separation_of}
 use Rattle.zeb_query.specs.Attributes.{HoldingValue, asks_number, holding_of, index_in, is_first, is_numeric, joined_if_any, joined_words, joined_words_if_any, order_of, patterns_asked, register_of, values_held}
@@ -121,45 +116,6 @@ abbrev pub HasSmallNumbers : PlanValue → Type 0
 HasSmallNumbers (TermOf plan) = HasSmallNumber plan
 HasSmallNumbers (PairOf op left right) = HasSmallNumbers left × HasSmallNumbers right
 HasSmallNumbers (NearOf index left right separation) = separation.distance < 10 ^ 9
-
--- ---- in which registers a plan looks
-
--- the index and the register in which a term's plan looks; a record's own number is looked up in none
-abbrev pub plan_register : TermPlanValue → Option (ℕ × Register)
-plan_register (RecordNumberOf number) = None
-plan_register (AlwaysOf index r) = Some (index, r)
-plan_register (NumberOf index relation number) = Some (index, register.Number)
-plan_register (OrderedOf index r order start) = Some (index, r)
-plan_register (CompleteOf index pattern) = Some (index, register.Phrase)
-plan_register (PhraseOf index patterns first) = Some (index, register.Word)
-plan_register (AllWordsOf index patterns) = Some (index, register.Word)
-plan_register (AnyWordOf index patterns) = Some (index, register.Word)
-
--- a plan looks into the register that the attributes ask for, at an index that has a target with it; for a local number into none
-pub record LooksInto (profile : Profile) (v : Values) (looked : Option (ℕ × Register)) : Type 0 where
-  pub none : v.subject ≡ Record → looked ≡ None
-  pub one : (index : ℕ) (structure : Structure) → v.subject ≡ Entries index structure → looked ≡ Some (index, register_of v)
-  pub found : (index : ℕ) (structure : Structure) → v.subject ≡ Entries index structure → has_pair profile (index, register_of v) ≡ true
-
--- the attributes that hold over each term of a structure, from the left
-abbrev pub held_in : Option (List ℕ) → HeadValue → TreeValue → List HoldingValue
-held_in set outer (TermValue place head text) = holding_of set (heads outer head) ∷ []
-held_in set outer (NamedValue place head name) = []
-held_in set outer (PairValue place head connective left right) =
-    held_in set (heads outer head) left ++ held_in set (heads outer head) right
-
--- the index and the register in which each term of a plan looks, from the left
-abbrev pub looked_into : PlanValue → List (Option (ℕ × Register))
-looked_into (TermOf plan) = plan_register plan ∷ []
-looked_into (PairOf op left right) = looked_into left ++ looked_into right
-looked_into (NearOf index left right separation) = Some (index, register.Word) ∷ Some (index, register.Word) ∷ []
-
--- each term looks into the register that its attributes ask for
-abbrev pub AllLookInto : Profile → List HoldingValue → List (Option (ℕ × Register)) → Type 0
-AllLookInto profile [] [] = Unit {0}
-AllLookInto profile (h ∷ held) (looked ∷ others) = LooksInto profile (values_held profile h) looked × AllLookInto profile held others
-AllLookInto profile [] (looked ∷ others) = ⊥
-AllLookInto profile (h ∷ held) [] = ⊥
 
 -- ---- scans
 

@@ -1,11 +1,7 @@
 -- What only the contracts of private functions speak of; no public clause reaches it.
 -- What the functions below `plan` and `plan_scan` give: the parts of a plan, one after another, each by the public checks that refuse it.
-use Rattle.std.specs.Option.{is_some}
-use Rattle.std.specs.Prelude.{Bool, Err, List, None, Ok, Option, Result, Some, [], codes, false, if◌then◌else◌, not, true, ℕ, ◌==◌, ◌||◌}
-use Rattle.std.specs.Str.{bytes_eq}
-use Rattle.zeb_text.specs.Numbers.{number_key}
-use Rattle.zeb_text.specs.Symbols.{Symbol}
-use Rattle.zeb_query.specs.Enums.{Always, Asked, Compared, Entries, Find, Near, Profile, Proximity, Purpose, Record, Relation, Scan, Separation, Structure, Subject, Values}
+use Rattle.zeb_query.specs.Cited.{is_some, number_key, Symbol, Always, Asked, Compared, Entries, Find, Near, Profile, Proximity, Purpose, Record, Relation, Scan, Separation, Structure, Subject, Values}
+use Rattle.std.specs.Prelude.{Bool, Err, List, None, Ok, Option, Result, Some, [], codes, false, if◌then◌else◌, not, true, ℕ, ◌==◌, ◌||◌, bytes_eq}
 use Rattle.zeb_query.specs.Grammar.{BooleanOf, HeadValue, NamedValue, PairValue, ParametersValue, ProximityOf, TermValue, TreeValue, few, heads, kept_text, many, number_of, operator_word}
 use Rattle.zeb_query.specs.Attributes.{HoldingValue, asks_number, completeness_of, holding_of, index_in, index_used, is_local_number, is_numeric, joined_words, order_of, patterns_asked, position_of, register_of, relation_of, structure_of, truncation_of}
 use Rattle.zeb_query.specs.Checks.{Check, Operand, Refusal, check, clash_check, distance_relations, index_check, kind_check, one_of, operand_of, orderings, refused, set_check, type_check, words_check, written}

@@ -1,21 +1,16 @@
 -- What only the contracts of private functions speak of; no public clause reaches it.
 -- What the functions that read a text give, in the words of the grammar.
-use Rattle.std.specs.Prelude.{ℕ, List, ◌++◌, map, string_bytes, ◌≡◌, [], ◌∷◌, true, false, Bool, Option, Some, None, ◌==◌, if◌then◌else◌}
-use Rattle.std.specs.List.{list_all}
+use Rattle.std.specs.Prelude.{ℕ, List, ◌++◌, map, string_bytes, ◌≡◌, [], ◌∷◌, true, false, Bool, Option, Some, None, ◌==◌, if◌then◌else◌, option_copied}
+use Rattle.zeb_query.specs.Cited.{list_all, QueryFault, Diagnostic, Memory, OperatorWord, Keyword}
+use Rattle.zeb_query.specs.declared.keywords.Keyword.TheVariants.{Attribute, Operator}
 use Rattle.std.specs.Borrow.{Bor}
-use Rattle.std.specs.Option.{option_copied}
 use Rattle.zeb_query.specs.declared.diagnostics.Condition.{Condition}
 use Rattle.zeb_query.specs.declared.diagnostics.Condition.TheVariants as condition
-use Rattle.zeb_query.specs.declared.faults.QueryFault.{QueryFault}
-use Rattle.zeb_query.specs.declared.faults.QueryFault.TheVariants.{Diagnostic, Memory}
 use Rattle.zeb_query.specs.declared.words.Word.{Word as WordOfText}
 use Rattle.zeb_query.specs.declared.words.Mode.{Mode}
 use Rattle.zeb_query.specs.declared.words.Mode.TheVariants.{Between, Plain, Quoted, Escaped}
 use Rattle.zeb_query.specs.declared.words.Cutter.{Cutter}
 use Rattle.zeb_query.specs.declared.grammar.Rest.{Rest}
-use Rattle.zeb_query.specs.declared.keywords.OperatorWord.{OperatorWord}
-use Rattle.zeb_query.specs.declared.keywords.Keyword.{Keyword}
-use Rattle.zeb_query.specs.declared.keywords.Keyword.TheVariants.{Attribute, Operator}
 use Rattle.zeb_query.specs.declared.holding.Holding.{Holding}
 use Rattle.zeb_query.specs.Words.{Word}
 use Rattle.zeb_query.specs.PrivateWalk.{words_at, in_word, in_quotes, escaped, plain_word, quoted_word, with_front, Due, fault}

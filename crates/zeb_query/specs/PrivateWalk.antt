@@ -1,15 +1,9 @@
 -- What only the contracts of private functions speak of; no public clause reaches it.
 -- The words of a text and its fault as the functions that read it find them, from the left one after another. What is found
 -- is proved to be just what `AreWords` and `IsFaulty` say.
-use Rattle.std.specs.Char.{len_utf8}
-use Rattle.std.specs.Option.{is_some}
-use Rattle.std.specs.Prelude.{Bool, List, None, Option, Some, [], encode_utf8, false, if◌then◌else◌, suc, true, zero, ℕ, ◌++◌, ◌+◌, ◌==◌, ◌∷◌}
-use Rattle.zeb_query.specs.declared.keywords.Keyword.{Keyword}
+use Rattle.zeb_query.specs.Cited.{len_utf8, is_some, Keyword, OperatorWord, And, Not, Or, Proximity, Spelling, Bad, Plain, Quoted}
 use Rattle.zeb_query.specs.declared.keywords.Keyword.TheVariants.{Attribute, AttributeSet, Operator, ResultSet, TermType}
-use Rattle.zeb_query.specs.declared.keywords.OperatorWord.{OperatorWord}
-use Rattle.zeb_query.specs.declared.keywords.OperatorWord.TheVariants.{And, Not, Or, Proximity}
-use Rattle.zeb_query.specs.declared.words.Spelling.{Spelling}
-use Rattle.zeb_query.specs.declared.words.Spelling.TheVariants.{Bad, Plain, Quoted}
+use Rattle.std.specs.Prelude.{Bool, List, None, Option, Some, [], encode_utf8, false, if◌then◌else◌, suc, true, zero, ℕ, ◌++◌, ◌+◌, ◌==◌, ◌∷◌}
 use Rattle.zeb_query.specs.Words.{Word, is_blank}
 use Rattle.zeb_query.specs.Grammar.{has_equals, is_good, keyword_of, kind_and_value}
 

@@ -3,11 +3,9 @@
 -- of a word is in UTF-8.
 -- Own rules of this project, which the manual leaves open or has otherwise: what is blank, how words are quoted and escaped, where a
 -- quoted word ends, and that a word which begins with `{`, by which the manual quotes, is bad, as is a quoted one without end.
-use Rattle.std.specs.List.{AllPass, flat_map}
-use Rattle.std.specs.Prelude.{Bool, List, [], encode_utf8_all, length, map, not, true, ℕ, ⊤, ◌++◌, ◌==◌, ◌∷◌, ◌≡◌, ◌≢◌, ◌⊎◌, ◌||◌}
+use Rattle.zeb_query.specs.Cited.{AllPass, Spelling, Bad, Plain, Quoted}
+use Rattle.std.specs.Prelude.{Bool, List, [], encode_utf8_all, length, map, not, true, ℕ, ⊤, ◌++◌, ◌==◌, ◌∷◌, ◌≡◌, ◌≢◌, ◌⊎◌, ◌||◌, flat_map}
 use Rattle.std.specs.Str.{NonePass}
-use Rattle.zeb_query.specs.declared.words.Spelling.{Spelling}
-use Rattle.zeb_query.specs.declared.words.Spelling.TheVariants.{Bad, Plain, Quoted}
 
 -- a word of a text, with its place
 pub record Word : Type 0 where

@@ -1,6 +1,5 @@
 //! The values of a term's attributes that are kept, each type an enum of its own.
-ghost use Rattle.std.specs.Prelude.{◌≡◌};
-ghost use Rattle.std.specs.Option.{option_copied};
+ghost use Rattle.std.specs.Prelude.{◌≡◌, option_copied};
 ghost use Rattle.zeb_query.specs.Attributes as values;
 
 use crate::digits::short_number;
@@ -110,10 +109,7 @@ pub(crate) fn position_of(text: Option<&str>) -> Option<Position>
 pub(crate) fn is_local_number(text: Option<&str>) -> bool
     ensures { result ≡ values.is_local_number (option_copied text.entry) }
 {
-    match number_or(text, 1) {
-        Some(number) => number == 107,
-        None => false,
-    }
+    number_or(text, 1) == Some(107)
 }
 
 /// Another structure, a phrase where there is no attribute; nothing for a value that isn't kept.

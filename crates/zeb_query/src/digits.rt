@@ -1,8 +1,6 @@
 //! Numbers that texts of digits spell.
 ghost use Rattle.std.specs.Prelude.{◌≡◌, ◌^◌, ◌<◌, ◌≤◌, IfSome};
-ghost use Rattle.std.specs.List.{list_all};
-ghost use Rattle.std.specs.Char.{is_ascii_digit};
-ghost use Rattle.zeb_query.specs.Grammar.{is_number, number_of, few, many};
+ghost use Rattle.zeb_query.specs.Clauses.{list_all, is_ascii_digit, is_number, number_of, few, many};
 
 use zeb_text::KEY_DIGITS;
 

@@ -1,11 +1,6 @@
 //! Reading the words of a text as a query, from the left, an operator before its operands.
-ghost use Rattle.std.specs.Prelude.{◌≡◌, ◌≢◌, ◌<◌, ◌≤◌, ℕ, suc, ◌∷◌, Some, None, length, map, IfOk, OnOk, IfErr, IfSome, true, string_bytes, []};
-ghost use Rattle.zeb_query.specs.declared.keywords.Keyword.TheVariants.{Attribute as AttributeKeyword, TermType as TermTypeKeyword, Operator as OperatorKeyword};
-ghost use Rattle.std.specs.Option.{option_map};
-ghost use Rattle.zeb_query.specs.PrivateReading.{IsFault, word_of, left, first_keyword, fault_of, pair_value, SpellsSpec, SpellsAttribute, SpellsProximity};
-ghost use Rattle.zeb_query.specs.PrivateReading.{SpellsHead, SpellsParameters, SpellsOperator, SpellsSet, Spells};
-ghost use Rattle.zeb_query.specs.Grammar.{attribute_value, connective_value, head_value, parameters_value, tree_value, query_value, PairValue, IsQuery, kind_and_value, has_equals, heads};
-ghost use Rattle.zeb_query.specs.PrivateWalk.{Start, Structures, SetOrSpec, Spec, MoreWords, fault, words_then};
+ghost use Rattle.std.specs.Prelude.{◌≡◌, ◌≢◌, ◌<◌, ◌≤◌, ℕ, suc, ◌∷◌, Some, None, length, map, IfOk, OnOk, IfErr, IfSome, true, string_bytes, [], option_map, IfNone};
+ghost use Rattle.zeb_query.specs.Clauses.{Attribute as AttributeKeyword, TermType as TermTypeKeyword, Operator as OperatorKeyword, IsFault, word_of, left, first_keyword, fault_of, pair_value, SpellsSpec, SpellsAttribute, SpellsProximity, SpellsHead, SpellsParameters, SpellsOperator, SpellsSet, Spells, attribute_value, connective_value, head_value, parameters_value, tree_value, query_value, PairValue, IsQuery, kind_and_value, has_equals, heads, Start, Structures, SetOrSpec, Spec, MoreWords, fault, words_then, first_equals, first_place, ReadsWord, ReadsFirst, is_good, Due, fault_at_end};
 
 use crate::diagnostics::{Condition, Site};
 use crate::digits::short_number;
@@ -28,11 +23,6 @@ struct Rest<'a> {
 }
 
 impl<'a> Rest<'a> {
-    ghost use Rattle.std.specs.Prelude.{◌≡◌, ◌≢◌, ◌<◌, ℕ, ◌∷◌, [], Some, length, IfOk, IfErr, IfSome, IfNone, true, string_bytes};
-    ghost use Rattle.zeb_query.specs.PrivateReading.{IsFault, word_of, left, first_equals, first_place, first_keyword, fault_of, ReadsWord, ReadsFirst};
-    ghost use Rattle.zeb_query.specs.Grammar.{is_good};
-    ghost use Rattle.zeb_query.specs.PrivateWalk.{Due, fault_at_end};
-
     /// The fault that the first of these words is one that no query has here, or that there is none.
     fn unspelled(&self, alloc: Global) -> QueryFault
         ensures { IsFault result (Some (108, first_place self.now.end (left self.now))) }

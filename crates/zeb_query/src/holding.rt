@@ -1,8 +1,6 @@
 //! The attributes and the term type that hold over a term, the innermost of each type.
 ghost use Rattle.std.specs.Prelude.{◌≡◌, List, ℕ, Option, Some};
-ghost use Rattle.zeb_query.specs.Attributes.{is_bib1, holding_of};
-ghost use Rattle.zeb_query.specs.Grammar.{attribute_value, head_value, query_value, HeadValue, heads, no_head};
-ghost use Rattle.zeb_query.specs.PrivateReading.{holding_value, held_with, first_set};
+ghost use Rattle.zeb_query.specs.Clauses.{is_bib1, holding_of, attribute_value, head_value, query_value, HeadValue, heads, no_head, holding_value, held_with, first_set};
 
 use crate::{Attribute, Head, Query};
 

@@ -1,15 +1,13 @@
 //! The keywords of the format, as words of a text.
 ghost use Rattle.std.specs.Prelude.{◌≡◌};
-ghost use Rattle.zeb_query.specs.Grammar.{operator_spelled, operator_word, connective_value, keyword_of};
-ghost use Rattle.zeb_query.specs.Checks.{operator_named};
-ghost use Rattle.zeb_query.specs.PrivateReading.{word_of};
+ghost use Rattle.zeb_query.specs.Clauses.{operator_spelled, operator_word, connective_value, keyword_of, operator_named, word_of};
 
 use crate::words::{Spelling, Word};
 use crate::{Connective, Operator};
 
 /// The words with a meaning of their own (YAZ manual, PQF).
 #[derive(Clone, Copy, Debug, PartialEq, Eq)]
-pub(crate) enum Keyword {
+pub enum Keyword {
     /// `@attrset`
     AttributeSet,
     /// `@attr`
@@ -23,7 +21,7 @@ pub(crate) enum Keyword {
 
 /// The words of operators.
 #[derive(Clone, Copy, Debug, PartialEq, Eq)]
-pub(crate) enum OperatorWord {
+pub enum OperatorWord {
     And,
     Or,
     Not,

@@ -10,12 +10,10 @@
 mod attributes;
 mod diagnostics;
 mod digits;
-pub mod examples;
 mod faults;
 mod grammar;
 mod holding;
 mod keywords;
-pub mod laws;
 mod planning;
 mod plans;
 mod proximity;

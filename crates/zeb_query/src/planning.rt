@@ -1,10 +1,7 @@
 //! The plan of a query, or its first diagnostic.
-ghost use Rattle.std.specs.Prelude.{◌≡◌, List, ℕ, Option, ◌<◌, ◌^◌, IfOk, string_bytes};
-ghost use Rattle.std.specs.Option.{option_map};
-ghost use Rattle.zeb_query.specs.Grammar.{HeadValue, tree_value, query_value, head_value, heads, many};
-ghost use Rattle.zeb_query.specs.Checks.{Gives};
+ghost use Rattle.std.specs.Prelude.{◌≡◌, List, ℕ, Option, ◌<◌, ◌^◌, IfOk, string_bytes, option_map};
+ghost use Rattle.zeb_query.specs.Clauses.{HeadValue, tree_value, query_value, head_value, heads, many, Gives, IsDiagnostic, holding_value};
 ghost use Rattle.zeb_query.specs.Attributes as attributes;
-ghost use Rattle.zeb_query.specs.PrivateReading.{IsDiagnostic, holding_value};
 ghost use Rattle.zeb_query.specs.Plans as plans;
 ghost use Rattle.zeb_query.specs.PrivatePlanning as steps;
 

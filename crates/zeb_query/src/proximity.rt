@@ -1,10 +1,6 @@
 //! The plan of `@prox`: two words near each other in one unit.
 ghost use Rattle.std.specs.Prelude.{◌≡◌, List, ℕ, Option, Some, string_bytes};
-ghost use Rattle.zeb_query.specs.Grammar.{HeadValue, parameters_value, tree_value, head_value, heads, kept_text};
-ghost use Rattle.zeb_query.specs.Checks.{Gives, one_of, operand_of, orderings, distance_relations};
-ghost use Rattle.zeb_query.specs.Attributes.{holding_of};
-ghost use Rattle.zeb_query.specs.PrivateReading.{holding_value};
-ghost use Rattle.zeb_query.specs.Plans.{plan_value};
+ghost use Rattle.zeb_query.specs.Clauses.{HeadValue, parameters_value, tree_value, head_value, heads, kept_text, Gives, one_of, operand_of, orderings, distance_relations, holding_of, holding_value, plan_value};
 ghost use Rattle.zeb_query.specs.PrivatePlanning as steps;
 
 use crate::diagnostics::{Condition, Site};

@@ -1,7 +1,6 @@
 //! Reading a text as a query, or telling its fault.
 ghost use Rattle.std.specs.Prelude.{IfOk, OnOk, IfErr};
-ghost use Rattle.zeb_query.specs.Grammar.{SpellsQuery, query_value};
-ghost use Rattle.zeb_query.specs.Places.{IsReadable, IsFaultOf};
+ghost use Rattle.zeb_query.specs.Clauses.{SpellsQuery, query_value, IsReadable, IsFaultOf};
 
 use crate::diagnostics::{Condition, Site};
 use crate::grammar::query;

@@ -1,8 +1,6 @@
 //! The plan of a scan, which begins at a term.
 ghost use Rattle.std.specs.Prelude.{IfOk, string_bytes};
-ghost use Rattle.zeb_query.specs.Grammar.{query_value, head_value, heads, no_head};
-ghost use Rattle.zeb_query.specs.Attributes.{holding_of};
-ghost use Rattle.zeb_query.specs.Checks.{Gives};
+ghost use Rattle.zeb_query.specs.Clauses.{query_value, head_value, heads, no_head, holding_of, Gives};
 ghost use Rattle.zeb_query.specs.Plans as scans;
 ghost use Rattle.zeb_query.specs.PrivatePlanning as steps;
 

@@ -1,8 +1,6 @@
 //! Reading a term: the values of its attributes and the patterns of its words, or its first diagnostic.
-ghost use Rattle.std.specs.Prelude.{◌≡◌, IfOk, Some};
-ghost use Rattle.std.specs.Option.{option_copied};
-ghost use Rattle.zeb_query.specs.Checks.{Gives, kind_check, type_check};
-ghost use Rattle.zeb_query.specs.PrivateReading.{condition_number, holding_value};
+ghost use Rattle.std.specs.Prelude.{◌≡◌, IfOk, Some, option_copied};
+ghost use Rattle.zeb_query.specs.Clauses.{Gives, kind_check, type_check, condition_number, holding_value};
 ghost use Rattle.zeb_query.specs.PrivatePlanning as steps;
 
 use crate::QueryFault;

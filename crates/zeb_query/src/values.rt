@@ -24,7 +24,7 @@ pub enum Subject {
 
 /// What a term is for.
 #[derive(Clone, Copy, Debug, PartialEq, Eq)]
-pub(crate) enum Purpose {
+pub enum Purpose {
     Find,
     /// To begin a scan.
     Scan,

@@ -1,15 +1,12 @@
 //! Cutting a text into words, with their places.
 ghost use Rattle.std.specs.Prelude.{◌≡◌, ◌+◌, ◌++◌, ◌∷◌, [], ℕ, List, IfOk, OnOk, map, chars, string_bytes};
-ghost use Rattle.std.specs.Char.{len_utf8};
-ghost use Rattle.zeb_query.specs.PrivateWalk.{words_at, unquoted};
-ghost use Rattle.zeb_query.specs.Words.{is_blank};
-ghost use Rattle.zeb_query.specs.PrivateReading.{word_of, words_with};
+ghost use Rattle.zeb_query.specs.Clauses.{len_utf8, words_at, unquoted, is_blank, word_of, words_with};
 
 use std::alloc::{AllocError, Global};
 
 /// How a word of a query's text is written.
 #[derive(Clone, Copy, Debug, PartialEq, Eq)]
-pub(crate) enum Spelling {
+pub enum Spelling {
     Plain,
     /// Between double quotes, so never a keyword.
     Quoted,

@@ -149,7 +149,7 @@ module _ (format : Format) (trees : Trees) (db : ℤ) where
   TermFinds (AllWordsOf index patterns) hits = FindsWords HasEach index patterns hits
   TermFinds (AnyWordOf index patterns) hits = FindsWords HasSome index patterns hits
 
-  -- something that the term asks for is malformed
+  -- something that the term asks for is malformed, or a row of a stray entry between two of these is
   abbrev pub TermHides : TermPlanValue → Type 0
   TermHides (RecordNumberOf number) = ¬ AreReadableIdents trees db (pos number)
   TermHides (AlwaysOf index register) = HidesEntries ⊥ index register (λ _. Unit {0})

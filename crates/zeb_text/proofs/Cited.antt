@@ -1,6 +1,6 @@
 -- What this crate's proofs cite of std, of the kit, of the crates below and of its own specs, passed on from one place. Declares nothing.
-pub use Rattle.caseless.proofs.CaselessLemmas.{length-default_case_fold, default_case_fold-ascii, canonical_key-ascii}
-pub use Rattle.caseless.specs.Caseless.{default_case_fold, canonical_key}
+pub use Rattle.caseless.proofs.CaselessLemmas.{length-default_case_fold}
+pub use Rattle.caseless.specs.Caseless.{default_case_fold}
 pub use Rattle.std.proofs.Common.{◌≡◌, ℕ, zero, suc, ◌+◌, ◌*◌, ◌-◌, ◌^◌, ◌<◌, ◌≤◌, true, cond, nat_le, List, [], ◌∷◌, ◌++◌, filter, length, get_or, map, take, refl, ap, subst, ◌∙◌, arith, add-zero, add-suc, add-one, le-leb, Bool, false, All, encode_utf8, encode_utf8_all, chars, IsUtf8, inl, inr, sym, not, replicate, lit<, Less, Greater, ◌↔◌, drop, None, ◌≢◌, Result, Ok, Err, OnOk, Contains, if◌then◌else◌, is_ok, ◌&&◌, ◌||◌, ◌==◌, string_bytes, String, string_len, rules, tests, vec_len, IsTrue, MatchBool, Global}
 pub use Rattle.std.proofs.Math.Nat.{pow-suc}
 pub use Rattle.std.proofs.lemmas.Bool.{lt-leb, false_from_ne_true, false≢true, cases_Bool, and_parts, and_from, cases_lt}
@@ -17,7 +17,7 @@ pub use Rattle.std.proofs.lemmas.List.Splits.{slice_split-cons_yes, slice_split_
 pub use Rattle.std.proofs.lemmas.List.Sums.{count_by-le-length, length-filter}
 pub use Rattle.std.proofs.lemmas.Str.{inside_one, length-encode, len_utf8_bounds, encode_ascii, encodes-chars, digit_value_digit, chars-append, encodes-append, length-le-encodes, IsUtf8-take, IsUtf8-drop, IsUtf8-append, IsCharBoundary-at_seam, chars-nil, chars_past_char, IsUtf8-encode, encodes_same, IsUtf8-string_bytes, chars_from_encodes}
 pub use Rattle.std.proofs.lemmas.Str.Parse.{digit_from_value, numerals_by_value, tells_digits, parse_gives}
-pub use Rattle.std.specs.Char.{is_ascii_digit, digit_value, to_ascii_lowercase, IsScalar}
+pub use Rattle.std.specs.Char.{is_ascii_digit, digit_value, IsScalar}
 pub use Rattle.std.specs.Cmp.{nat_cmp_is}
 pub use Rattle.std.specs.Cmp.Lexicographic.{slice_cmp, bytes_decides}
 pub use Rattle.std.specs.Fmt.{decimal, format_spec}
@@ -30,11 +30,11 @@ pub use Rattle.unicode_normalization.proofs.LengthLemmas.{length-normalize}
 pub use Rattle.unicode_normalization.specs.Forms.{Nfd, nfd}
 pub use Rattle.zeb_text.specs.Folding.{is_diacritical_mark}
 pub use Rattle.zeb_text.specs.Numbers.{numbers_of}
-pub use Rattle.zeb_text.specs.Patterns.{Matches, MatchEach}
+pub use Rattle.zeb_text.specs.Patterns.{Matches}
 pub use Rattle.zeb_text.specs.PrivateStars.{cuts_left, cuts_right, cuts_each, star_if}
 pub use Rattle.zeb_text.specs.Symbols.{Symbol, Star, literal, Char, starred, texts_of}
 pub use Rattle.zeb_text.specs.Truncation.{joined_patterns, star_before_first, star_after_last, belongs_to_word, symbol_of}
-pub use Rattle.zeb_text.specs.Words.{AreRuns, IsCutOff, is_not_empty, joined_text, words_of}
+pub use Rattle.zeb_text.specs.Words.{AreRuns, IsCutOff, is_not_empty, joined_text}
 pub use Rattle.zeb_text.specs.declared.truncation.Cut.{Cut}
 pub use Rattle.zeb_text.specs.declared.truncation.Cut.TheVariants.{Right, Left, Both, Hash}
 pub use Rattle.zeb_text.specs.declared.truncation.Spread.{Spread}

@@ -8,7 +8,6 @@ pub mod MatchLemmas
 pub mod TruncationLemmas
 pub mod KeyLemmas
 pub mod MaximalRuns
-pub mod FoldingLemmas
 pub mod NumberBounds
 pub mod FoldedSizes
 pub mod Cited

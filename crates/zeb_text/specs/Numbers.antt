@@ -1,8 +1,7 @@
 -- Numbers in a text: the maximal runs of ASCII digits, in order, of at most 18 digits; a longer run is passed over as a
 -- whole. The key of a number is its decimal numeral with leading zeros to 18 digits. Both are this project's own rules.
-use Rattle.std.specs.Prelude.{ℕ, ◌-◌, List, ◌++◌, filter, length, map, nat_le, replicate}
+use Rattle.std.specs.Prelude.{ℕ, ◌-◌, List, ◌++◌, filter, length, map, nat_le, replicate, decimal}
 use Rattle.std.specs.Char.{is_ascii_digit}
-use Rattle.std.specs.Fmt.{decimal}
 use Rattle.std.specs.Str.Parse.{digits_value}
 use Rattle.zeb_text.specs.Words.{runs_of}
 

@@ -8,9 +8,3 @@ abbrev pub Matches : List Symbol → List ℕ → Type 0
 Matches [] text = text ≡ []
 Matches (Char c ∷ pattern) text = (rest : List ℕ) × (text ≡ c ∷ rest) × Matches pattern rest
 Matches (Star ∷ pattern) text = (gap rest : List ℕ) × (text ≡ gap ++ rest) × Matches pattern rest
-
--- as many texts as patterns, each text matched by the pattern at its place
-abbrev pub MatchEach : List (List Symbol) → List (List ℕ) → Type 0
-MatchEach [] texts = texts ≡ []
-MatchEach (pattern ∷ patterns) texts =
-    (text : List ℕ) × (rest : List (List ℕ)) × (texts ≡ text ∷ rest) × Matches pattern text × MatchEach patterns rest

@@ -5,6 +5,8 @@ ghost use Rattle.std.specs.List.{AllPass};
 ghost use Rattle.std.specs.Str.Parse.{digits_value};
 ghost use Rattle.zeb_text.specs.Words.{runs_of};
 ghost use Rattle.zeb_text.specs.Numbers.{numbers_of};
+ghost use Rattle.zeb_text.specs.NumbersLeft.{numbers_left};
+ghost use Rattle.std.specs.Iterator.{YieldsFirst, item_count};
 
 /// The most digits of a number that has a key, and those of each key.
 pub const KEY_DIGITS: usize = 18;
@@ -16,8 +18,6 @@ pub struct Numbers<'a> {
 }
 
 impl<'a> Numbers<'a> {
-    ghost use Rattle.zeb_text.specs.NumbersLeft.{numbers_left};
-
     pub(crate) fn new(text: &'a str) -> Self
         ensures { numbers_left result ≡ numbers_of (chars text.now) }
     {
@@ -28,9 +28,6 @@ impl<'a> Numbers<'a> {
 }
 
 impl<'a> Iterator for Numbers<'a> {
-    ghost use Rattle.std.specs.Iterator.{YieldsFirst, item_count};
-    ghost use Rattle.zeb_text.specs.NumbersLeft.{numbers_left};
-
     type Item = u64;
 
     ghost next_gives = { YieldsFirst numbers_left };

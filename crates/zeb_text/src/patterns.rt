@@ -1,7 +1,6 @@
 //! Patterns: texts in which stars may stand.
-ghost use Rattle.std.specs.Prelude.{◌≡◌, ◌++◌, ◌⊎◌, ◌↔◌, ℕ, List, [], ◌∷◌, chars};
-ghost use Rattle.std.specs.Prelude.{IfOk, IfSome, IsTrue, IsUtf8, MatchOption, OnOk};
-ghost use Rattle.zeb_text.specs.Symbols.{Star, Symbol, literal, starred, texts_of};
+ghost use Rattle.std.specs.Prelude.{◌≡◌, ◌++◌, ◌⊎◌, ◌↔◌, ℕ, List, [], ◌∷◌, chars, IfOk, IfSome, IsTrue, IsUtf8, MatchOption, OnOk, IfNone, Contains};
+ghost use Rattle.zeb_text.specs.Symbols.{Char, Star, Symbol, literal, starred, texts_of};
 ghost use Rattle.zeb_text.specs.Patterns.{Matches};
 ghost use Rattle.zeb_text.specs.Truncation.{joined_patterns};
 
@@ -26,9 +25,6 @@ impl Model for Pattern {
 }
 
 impl Pattern {
-    ghost use Rattle.std.specs.Prelude.{IfNone, Contains};
-    ghost use Rattle.zeb_text.specs.Symbols.{Char};
-
     pub(crate) fn new(alloc: Global) -> Pattern
         ensures { result ≡ [] }
     {

@@ -47,14 +47,6 @@ impl Cut {
     }
 }
 
-impl Spread {
-    fn is_each(self) -> bool
-        ensures { result ≡ cuts_each self }
-    {
-        matches!(self, Spread::Each)
-    }
-}
-
 /// The patterns of the term's words in order. The term is cut into words as [`words`](crate::words) cuts a text, but that
 /// `#` is a character of a word under [`Cut::Hash`], where it becomes a star. The only refusal is want of memory.
 pub fn pattern_words(
@@ -80,7 +72,7 @@ pub fn pattern_words(
 fn takes_star(has_star: bool, spread: Spread, is_end: bool) -> bool
     ensures { result ≡ (has_star && (cuts_each spread || is_end)) }
 {
-    has_star && (spread.is_each() || is_end)
+    has_star && (spread == Spread::Each || is_end)
 }
 
 fn word_pattern(

@@ -4,13 +4,22 @@ use std::alloc::{AllocError, Global};
 use zeb_query::{NearPlan, PairPlan, Plan, TermPlan};
 use zeb_text::Pattern;
 
-/// The plan of a term that asks for words: its patterns, `*` for one with a star.
-fn words_line(
-    alloc: Global,
-    name: &str,
-    index: u32,
-    patterns: &[Pattern],
-) -> Result<String, AllocError> {
+/// The plan of a term; of one that asks for words each pattern, `*` for one with a star.
+fn term_line(alloc: Global, term: &TermPlan) -> Result<String, AllocError> {
+    let (name, index, patterns) = match term {
+        TermPlan::Complete { index, pattern } => ("complete", *index, pattern.as_slice()),
+        TermPlan::Phrase {
+            index,
+            patterns,
+            first,
+        } => {
+            let name = if *first { "first phrase" } else { "phrase" };
+            (name, *index, patterns.as_slice())
+        }
+        TermPlan::AllWords { index, patterns } => ("all words", *index, patterns.as_slice()),
+        TermPlan::AnyWord { index, patterns } => ("any word", *index, patterns.as_slice()),
+        other => return other_line(alloc, other),
+    };
     let mut line = format!(in alloc; "{name} {index}")?;
     for pattern in patterns {
         line.push(' ')?;
@@ -19,7 +28,8 @@ fn words_line(
     Ok(line)
 }
 
-fn term_line(alloc: Global, term: &TermPlan) -> Result<String, AllocError> {
+/// The plan of a term that asks for no words.
+fn other_line(alloc: Global, term: &TermPlan) -> Result<String, AllocError> {
     match term {
         TermPlan::RecordNumber(number) => format!(in alloc; "record {number}"),
         TermPlan::Always { index, register } => format!(in alloc; "always {index} {register}"),
@@ -37,27 +47,7 @@ fn term_line(alloc: Global, term: &TermPlan) -> Result<String, AllocError> {
             let start = start.as_deref().unwrap_or("no word");
             format!(in alloc; "ordered {index} {register} {order:?} {start}")
         }
-        other => asked_words_line(alloc, other),
-    }
-}
-
-/// The plan of a term whose words are asked for.
-fn asked_words_line(alloc: Global, term: &TermPlan) -> Result<String, AllocError> {
-    match term {
-        TermPlan::Complete { index, pattern } => {
-            words_line(alloc, "complete", *index, pattern.as_slice())
-        }
-        TermPlan::Phrase {
-            index,
-            patterns,
-            first,
-        } => {
-            let name = if *first { "first phrase" } else { "phrase" };
-            words_line(alloc, name, *index, patterns)
-        }
-        TermPlan::AllWords { index, patterns } => words_line(alloc, "all words", *index, patterns),
-        TermPlan::AnyWord { index, patterns } => words_line(alloc, "any word", *index, patterns),
-        _ => String::from_str(alloc, "no words"),
+        _ => String::from_str(alloc, "words"),
     }
 }
 

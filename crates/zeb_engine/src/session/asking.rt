@@ -1,12 +1,14 @@
 //! What a session is asked, and answers without a change.
 
-ghost use Rattle.std.specs.Prelude.{◌≡◌, String, string_bytes};
+ghost use Rattle.std.specs.Prelude.{◌≡◌, ◌+◌, ◌∷◌, ◌++◌, [], ℕ, List, Ok, String, length, string_bytes};
 ghost use Rattle.std.specs.declared.alloc.Global.{Global};
 ghost use Rattle.zeb_register.specs.Formats.{version_of};
 ghost use Rattle.zeb_change.specs.Conditions.{conditions};
+ghost use Rattle.zeb_engine.specs.Analysed.{HasLines};
 ghost use Rattle.zeb_engine.specs.Costs.{no_work};
 ghost use Rattle.zeb_engine.specs.PrivateDone.{CommandDone};
 
+use crate::analysis::no_lines;
 use crate::commands::Command;
 use crate::find::{Question, find};
 use crate::readiness::check_ready;
@@ -14,6 +16,7 @@ use crate::replies::Reply;
 use crate::scan::{Around, scan};
 use crate::session::Session;
 use sqlite::Alter;
+use zeb_analysis::AnalysedLines;
 use zeb_change::Refusal;
 use zeb_image::{DbName, is_image};
 use zeb_register::Layout;
@@ -84,5 +87,31 @@ impl<S: Alter, L: Layout> Session<S, L> {
         } else {
             Err(Refusal::Damaged)
         }
+    }
+
+    /// The lines of no file, before the first is analysed: files are analysed one after the other, so that one is held at a time, and
+    /// what comes is printed as `Command::Analyse` of all of them is. The store is asked for nothing.
+    pub fn begin_analysis(&self) -> Result<AnalysedLines, Refusal>
+        ensures { HasLines self.now.profile self.now.limits.records [] result }
+    {
+        no_lines(self.alloc, &self.profile)
+    }
+
+    /// The lines with those of one more file's records behind them, under the session's profile and limits. A refusal is that of
+    /// `Command::Analyse` of the files so far, and then there are no lines any more.
+    ///
+    /// `file`: its number, one more than there were files before.
+    pub fn analyse_file(
+        &self,
+        lines: AnalysedLines,
+        file: u64,
+        bytes: &[u8],
+    ) -> Result<AnalysedLines, Refusal>
+        ensures { (texts : List (List ℕ)) → file ≡ length texts + 1
+            → HasLines self.now.profile self.now.limits.records texts (Ok lines)
+            → HasLines self.now.profile self.now.limits.records (texts ++ bytes.now ∷ []) result }
+    {
+        let limit = self.limits.records;
+        Ok(lines.with_file(self.alloc, &self.profile, limit, file, bytes)?)
     }
 }

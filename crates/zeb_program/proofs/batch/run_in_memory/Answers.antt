@@ -1,14 +1,10 @@
-use Rattle.std.proofs.Common.{inr, refl}
+use Rattle.std.proofs.Common.{refl}
 use Rattle.std.specs.Prelude.{codes}
 use Rattle.sqlite.specs.State.{HasCleanDisk}
 use Rattle.sqlite.specs.Files.{file_state}
-use Rattle.zeb_image.specs.Holdings.{nothing_yet}
-use Rattle.zeb_image.specs.Image.{Keeps}
 use Rattle.zeb_change.specs.Conditions.{conditions}
-use Rattle.zeb_change.specs.declared.refusals.Refusal.TheVariants.{Store}
 use Rattle.zeb_program.proofs.MemoryLemmas.{always_clean}
 use Rattle.zeb_program.proofs.ScriptAnswerLemmas.{refused_opening, opened_batch, run_from_nothing, stopped_batch, silent_refusal}
-use Rattle.zeb_program.proofs.ResultValues.{ok_is_no_err, together}
 use Rattle.zeb_program.proofs.batch.run_in_memory.Goals as goal
 
 pub returns-in-Ok-clause-answer : goal.returns-in-Ok-clause-answer
@@ -16,8 +12,6 @@ returns-in-Ok-clause-answer g c =
     let session = c.in-Ok.session in
     let last = c.run_lines.new.session.connection in
     let k = conditions (codes "2") session.profile session.limits in
-    let held = together c.open_in_memory.result _ _ _ (Keeps (file_state session.connection) nothing_yet) c.open_in_memory.ensures.empty c.in-Ok.ensures.keeps c.in-Ok.ensures.unopened
-    (λ connection empty keeps. keeps (always_clean (λ _. refl) session.connection) nothing_yet (inr (empty.2, refl))) (ok_is_no_err session Store _) in
     let tells = g.P.Paths.tells c.args.paths.now in
     let old = g.W.Write.contents c.args.output.now.writer in
     let new = g.W.Write.contents c.run_lines.new.output.writer in
@@ -25,17 +19,15 @@ returns-in-Ok-clause-answer g c =
     let text = c.args.batch.text.now in
     opened_batch tells c.args.profile old new n text c.run_lines.new.output.failed c.run_lines.result
     (run_from_nothing tells k c.args.profile (file_state session.connection) (file_state last) old new n text c.run_lines.new.output.failed (HasCleanDisk (file_state last)) c.run_lines.result
-    c.in-Ok.ensures.under held (always_clean (λ _. refl) last) c.run_lines.ensures.answer)
+    c.in-Ok.ensures.under c.in-Ok.ensures.empty (always_clean (λ _. refl) last) c.run_lines.ensures.answer)
 
 pub returns-in-Ok-clause-stopped : goal.returns-in-Ok-clause-stopped
 returns-in-Ok-clause-stopped g c =
     let session = c.in-Ok.session in
     let last = c.run_lines.new.session.connection in
     let k = conditions (codes "2") session.profile session.limits in
-    let held = together c.open_in_memory.result _ _ _ (Keeps (file_state session.connection) nothing_yet) c.open_in_memory.ensures.empty c.in-Ok.ensures.keeps c.in-Ok.ensures.unopened
-    (λ connection empty keeps. keeps (always_clean (λ _. refl) session.connection) nothing_yet (inr (empty.2, refl))) (ok_is_no_err session Store _) in
     stopped_batch (g.P.Paths.tells c.args.paths.now) k c.args.profile (file_state session.connection) (g.W.Write.contents c.args.output.now.writer) (g.W.Write.contents c.run_lines.new.output.writer)
-    c.args.batch.lines_before c.args.batch.text.now c.run_lines.new.output.failed (HasCleanDisk (file_state last)) c.run_lines.result c.in-Ok.ensures.under held (always_clean (λ _. refl) last) c.run_lines.ensures.stopped
+    c.args.batch.lines_before c.args.batch.text.now c.run_lines.new.output.failed (HasCleanDisk (file_state last)) c.run_lines.result c.in-Ok.ensures.under c.in-Ok.ensures.empty (always_clean (λ _. refl) last) c.run_lines.ensures.stopped
 
 pub returns-in-Err-clause-answer : goal.returns-in-Err-clause-answer
 returns-in-Err-clause-answer g c = refused_opening (g.P.Paths.tells c.args.paths.now) _ _ _ _ _ _ c.in-Err.refusal c.refuse.result c.in-Err.ensures.failed c.refuse.ensures.answer

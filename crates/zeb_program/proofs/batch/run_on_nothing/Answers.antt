@@ -1,14 +1,10 @@
-use Rattle.std.proofs.Common.{inr, refl}
+use Rattle.std.proofs.Common.{refl}
 use Rattle.std.specs.Prelude.{codes}
 use Rattle.sqlite.specs.State.{HasCleanDisk}
 use Rattle.sqlite.specs.Files.{file_state}
-use Rattle.zeb_image.specs.Holdings.{nothing_yet}
-use Rattle.zeb_image.specs.Image.{Keeps}
 use Rattle.zeb_change.specs.Conditions.{conditions}
-use Rattle.zeb_change.specs.declared.refusals.Refusal.TheVariants.{Store}
 use Rattle.zeb_program.proofs.MemoryLemmas.{always_clean}
 use Rattle.zeb_program.proofs.ScriptAnswerLemmas.{run_from_nothing, stopped_batch}
-use Rattle.zeb_program.proofs.ResultValues.{ok_is_no_err, together}
 use Rattle.zeb_program.proofs.WordRunLemmas.{ran_on_nothing, refused_on_nothing, stopped_on_nothing}
 use Rattle.zeb_program.proofs.batch.run_on_nothing.Goals as goal
 
@@ -17,8 +13,6 @@ returns-in-Ok-clause-answer g c =
     let session = c.in-Ok.session in
     let last = c.run_lines.new.session.connection in
     let k = conditions (codes "2") session.profile session.limits in
-    let held = together c.open_in_memory.result _ _ _ (Keeps (file_state session.connection) nothing_yet) c.open_in_memory.ensures.empty c.in-Ok.ensures.keeps c.in-Ok.ensures.unopened
-    (λ connection empty keeps. keeps (always_clean (λ _. refl) session.connection) nothing_yet (inr (empty.2, refl))) (ok_is_no_err session Store _) in
     let tells = g.P.Paths.tells c.args.paths.now in
     let old = g.W.Write.contents c.args.output.now.writer in
     let new = g.W.Write.contents c.run_lines.new.output.writer in
@@ -26,17 +20,15 @@ returns-in-Ok-clause-answer g c =
     let text = c.args.batch.text.now in
     ran_on_nothing tells c.args.profile n text old new (g.V.Write.contents c.args.fault_output.now.writer) c.run_lines.new.output.failed c.args.fault_output.now.failed c.run_lines.result
     (run_from_nothing tells k c.args.profile (file_state session.connection) (file_state last) old new n text c.run_lines.new.output.failed (HasCleanDisk (file_state last)) c.run_lines.result
-    c.in-Ok.ensures.under held (always_clean (λ _. refl) last) c.run_lines.ensures.answer)
+    c.in-Ok.ensures.under c.in-Ok.ensures.empty (always_clean (λ _. refl) last) c.run_lines.ensures.answer)
 
 pub returns-in-Ok-clause-stopped : goal.returns-in-Ok-clause-stopped
 returns-in-Ok-clause-stopped g c =
     let session = c.in-Ok.session in
     let last = c.run_lines.new.session.connection in
     let k = conditions (codes "2") session.profile session.limits in
-    let held = together c.open_in_memory.result _ _ _ (Keeps (file_state session.connection) nothing_yet) c.open_in_memory.ensures.empty c.in-Ok.ensures.keeps c.in-Ok.ensures.unopened
-    (λ connection empty keeps. keeps (always_clean (λ _. refl) session.connection) nothing_yet (inr (empty.2, refl))) (ok_is_no_err session Store _) in
     stopped_batch (g.P.Paths.tells c.args.paths.now) k c.args.profile (file_state session.connection) (g.W.Write.contents c.args.output.now.writer) (g.W.Write.contents c.run_lines.new.output.writer)
-    c.args.batch.lines_before c.args.batch.text.now c.run_lines.new.output.failed (HasCleanDisk (file_state last)) c.run_lines.result c.in-Ok.ensures.under held (always_clean (λ _. refl) last) c.run_lines.ensures.stopped
+    c.args.batch.lines_before c.args.batch.text.now c.run_lines.new.output.failed (HasCleanDisk (file_state last)) c.run_lines.result c.in-Ok.ensures.under c.in-Ok.ensures.empty (always_clean (λ _. refl) last) c.run_lines.ensures.stopped
 
 pub returns-in-Err-clause-answer : goal.returns-in-Err-clause-answer
 returns-in-Err-clause-answer g c =

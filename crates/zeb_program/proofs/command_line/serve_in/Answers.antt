@@ -5,14 +5,11 @@ use Rattle.sqlite.specs.Held.{state}
 use Rattle.sqlite.specs.State.{HasCleanDisk}
 use Rattle.zeb_change.specs.Conditions.{conditions}
 use Rattle.zeb_register.specs.Formats.{packed_blocks, version_of}
-use Rattle.zeb_program.specs.FirstAnswers.{AnswersFirst}
 use Rattle.zeb_program.specs.WordRuns.{TellsClosed}
-use Rattle.zeb_program.specs.Serving.{ServesLines, Stops}
+use Rattle.zeb_program.specs.Doing.{ServesText, StopsText}
+use Rattle.zeb_program.specs.declared.line_input.LineFault.TheVariants.{Memory}
 use Rattle.zeb_program.specs.PrivateWordRuns.{ServesIn, StopsServing}
-use Rattle.zeb_program.proofs.SessionLemmas.{both_err, both_ok, ended_err, ended_ok, ended_failed, ended_whole}
-use Rattle.zeb_program.proofs.WordRunLemmas.{text_served}
-use Rattle.zeb_program.specs.OverTables.{ServesOverLines}
-use Rattle.zeb_program.specs.declared.statuses.Status.{Status}
+use Rattle.zeb_program.proofs.SessionLemmas.{both_err, ended_err, ended_ok, ended_failed, ended_whole}
 use Rattle.zeb_program.proofs.command_line.serve_in.Goals as goal
 
 pub returns-clause-failed_read : goal.returns-clause-failed_read
@@ -30,6 +27,7 @@ returns-clause-answer g c =
     let k = conditions (version_of packed_blocks) c.args.session.profile c.args.session.limits in
     let given = g.R.Source.remaining c.args.input.now in
     let left = g.R.Source.remaining c.serve_lines-answered.new.input in
+    let failed = g.R.Source.has_failed c.serve_lines-answered.new.input in
     let held = c.args.session.connection in
     let last = c.serve_lines-answered.new.session.connection in
     let old = g.W.Write.contents c.args.output.now.writer in
@@ -37,14 +35,11 @@ returns-clause-answer g c =
     let fault_old = g.V.Write.contents c.args.fault_output.now.writer in
     let between = g.V.Write.contents c.serve_lines-answered.new.fault_output.writer in
     let fault_new = g.V.Write.contents c.end_session.new.fault_output.writer in
-    let Over = λ (status : Status). c.serve_lines-answered.new.output.failed ≡ false → c.serve_lines-answered.new.fault_output.failed ≡ false → HasCleanDisk (state store last)
-    → IfSome given (λ text. ServesOverLines store tells packed_blocks k text left held last old new fault_old between status) in
-    let Answers = λ (status : Status). c.serve_lines-answered.new.output.failed ≡ false → c.serve_lines-answered.new.fault_output.failed ≡ false → HasCleanDisk (state store last)
-    → IfSome given (λ text. ServesLines tells k text left (state store held) (state store last) old new fault_old between status) in
     ended_ok c.serve_lines-answered.result c.end_session.result c.end_session.new.fault_output.failed between fault_new
-    (λ status. Over status × Answers status)
-    (λ status. c.serve_lines-answered.new.output.failed ≡ false → c.end_session.new.fault_output.failed ≡ false → ServesIn store tells k given left held old new fault_old fault_new status)
-    c.end_session.ensures.ends (both_ok c.serve_lines-answered.result Over Answers c.serve_lines-answered.ensures.over c.serve_lines-answered.ensures.answer)
+    (λ status. c.serve_lines-answered.new.output.failed ≡ false → c.serve_lines-answered.new.fault_output.failed ≡ false → HasCleanDisk (state store last)
+    → IfSome given (λ text. ServesText store tells packed_blocks k text left failed old new fault_old between status held last))
+    (λ status. c.serve_lines-answered.new.output.failed ≡ false → c.end_session.new.fault_output.failed ≡ false → ServesIn store tells k given left failed held old new fault_old fault_new status)
+    c.end_session.ensures.ends c.serve_lines-answered.ensures.answer
     (λ answered closed lines closes sound quiet. (
       between,
       answered,
@@ -53,8 +48,7 @@ returns-clause-answer g c =
       record {
         last = last;
         clean = c.serve_lines-answered.ensures.clean;
-        lines = λ whole. text_served store tells k given left held last old new fault_old between answered
-            (lines.0 sound (c.end_session.ensures.sound quiet) whole) (lines.1 sound (c.end_session.ensures.sound quiet) whole);
+        lines = lines sound (c.end_session.ensures.sound quiet);
         closes = closes quiet;
       },
     ))
@@ -74,7 +68,7 @@ returns-clause-stopped g c =
     let between = g.V.Write.contents c.serve_lines-answered.new.fault_output.writer in
     let fault_new = g.V.Write.contents c.end_session.new.fault_output.writer in
     let said = (c.serve_lines-answered.new.output.failed ≡ false → HasCleanDisk (state store last)
-    → IfSome given (λ text. Stops (state store held) old new (AnswersFirst tells k 0 text left))) in
+    → IfSome given (λ text. StopsText store tells packed_blocks k Memory text left old new held)) in
     let same = (c.serve_lines-answered.new.fault_output ≡ c.args.fault_output.now) in
     ended_err c.serve_lines-answered.result c.end_session.result c.end_session.new.fault_output.failed between fault_new (said × same)
     (c.serve_lines-answered.new.output.failed ≡ false → c.end_session.new.fault_output.failed ≡ false → StopsServing store tells k given left held old new fault_old fault_new)

@@ -18,6 +18,11 @@ returns-in-Store-clause-line g c = λ sound.
     subst (λ cause. Appends (g.W.Write.contents c.args.output.now.writer) (g.W.Write.contents c.write_line-in-Store.new.self.writer) (cause_line cause)) (sym c.in-Store.is)
     (c.write_line-in-Store.ensures.bytes sound)
 
+pub returns-in-Input-clause-line : goal.returns-in-Input-clause-line
+returns-in-Input-clause-line g c = λ sound.
+    subst (λ cause. Appends (g.W.Write.contents c.args.output.now.writer) (g.W.Write.contents c.write_line-in-Input.new.self.writer) (cause_line cause)) (sym c.in-Input.is)
+    (c.write_line-in-Input.ensures.bytes sound)
+
 pub returns-in-File-clause-line : goal.returns-in-File-clause-line
 returns-in-File-clause-line g c = λ sound.
     let old = g.W.Write.contents c.args.output.now.writer in

@@ -3,7 +3,6 @@ use Rattle.std.specs.Prelude.{Err}
 use Rattle.zeb_change.specs.Conditions.{conditions}
 use Rattle.zeb_register.specs.Formats.{packed_blocks, version_of}
 use Rattle.zeb_program.specs.Registers.{places}
-use Rattle.zeb_program.specs.PrivateServing.{replied}
 use Rattle.zeb_program.specs.PrivateWordRuns.{IsOwnOr}
 use Rattle.zeb_program.specs.WordRuns.{ServesUnder}
 use Rattle.zeb_program.proofs.WordRunLemmas.{answered_kept, gives_for, passed_for, replied_under, unopened_register}
@@ -18,7 +17,8 @@ returns-in_err-session-clause-serves g c =
 pub returns-clause-serves : goal.returns-clause-serves
 returns-clause-serves g c =
     let session = c.in_ok-session.session in
-    let own = replied c.carry_out-served.result in
+    let done = c.carry_out-served.ensures.done in
+    let own = done.0 in
     gives_for c.told_of.result (λ answer. IsOwnOr answer own) (ServesUnder (places g.P.Store.Store (g.P.Paths.tells c.args.paths.now) (g.P.Paths.opens c.args.paths.now) (g.P.Paths.lacks c.args.paths.now)) c.args.profile c.args.task.now)
     (λ answer. answered_kept (places g.P.Store.Store (g.P.Paths.tells c.args.paths.now) (g.P.Paths.opens c.args.paths.now) (g.P.Paths.lacks c.args.paths.now)) c.args.profile c.args.task.now (g.P.Paths.tells c.open_register.new.paths) (conditions (version_of packed_blocks) session.profile session.limits) session.connection c.carry_out-served.new.session.connection own answer
-    c.open_register.ensures.told c.in_ok-session.ensures.under c.in_ok-session.ensures.opened c.carry_out-served.ensures.clean c.carry_out-served.ensures.over c.carry_out-served.ensures.answer (replied_under _ c.carry_out-served.result c.carry_out-served.ensures.names)) c.told_of.ensures.gives
+    c.open_register.ensures.told c.in_ok-session.ensures.under c.in_ok-session.ensures.opened c.carry_out-served.ensures.clean done.2.over done.2.serves (replied_under _ c.carry_out-served.result own done.1 c.carry_out-served.ensures.names)) (c.told_of.ensures.gives own done.1)

@@ -1,21 +1,27 @@
-use Rattle.std.proofs.Common.{◌≡◌, ◌∙◌, [], ap, inl, subst, sym}
-use Rattle.std.specs.Prelude.{Err, IfOk, Result}
-use Rattle.zeb_program.specs.PrivateServing.{replied}
-use Rattle.zeb_program.specs.PrivateWarnings.{MayWarn}
-use Rattle.zeb_program.specs.declared.faults.Fault.{Fault}
-use Rattle.zeb_program.specs.declared.tasks.Served.{Served}
+use Rattle.std.proofs.Common.{◌≡◌, ◌∙◌, Err, Ok, ap, inl, rules, string_bytes, subst, sym}
+use Rattle.std.specs.Prelude.{IfOk}
+use Rattle.zeb_program.specs.PrivateServing.{StandsFor}
+use Rattle.zeb_program.specs.PrivateWarnings.{IsServedFor, MayWarn}
 use Rattle.zeb_program.proofs.WarningLemmas.{warned}
 use Rattle.zeb_program.proofs.performing.told_of.Goals as goal
 
-pub returns-in_ok-warning-in-Ok-clause-warns : goal.returns-in_ok-warning-in-Ok-clause-warns
-returns-in_ok-warning-in-Ok-clause-warns g c =
-    subst (MayWarn c.args.task.now) (sym c.in_ok-warning-in-Ok.ensures)
-    (warned c.args.task.now c.deref.result.now _
-    (λ other. c.deref.ensures.value ∙ subst (λ (served : Result Served Fault). IfOk served (λ s. s.unmarked.items ≡ [])) c.in-Ok.is (c.requires.quiet other)))
+pub returns-in_ok-render-in-Ok-Replied-clause-gives : goal.returns-in_ok-render-in-Ok-Replied-clause-gives
+returns-in_ok-render-in-Ok-Replied-clause-gives g c = λ own stands.
+    let it = subst (λ served. StandsFor served own) (c.in-Ok-Replied.is ∙ ap Ok c.in-Ok-Replied.field-0-is) stands in
+    (c.in-Ok-Replied.reply, c.in_ok-render-in-Ok-Replied.ensures, inl (sym it))
 
-pub returns-in_ok-warning-in-Ok-clause-gives : goal.returns-in_ok-warning-in-Ok-clause-gives
-returns-in_ok-warning-in-Ok-clause-gives g c =
-    (c.in-Ok.field-0.reply, c.in_ok-render-in-Ok.ensures, inl (sym (ap replied c.in-Ok.is)))
+pub returns-in_ok-warning-in-Ok-Shown-clause-warns : goal.returns-in_ok-warning-in-Ok-Shown-clause-warns
+returns-in_ok-warning-in-Ok-Shown-clause-warns g c =
+    subst (MayWarn c.args.task.now) (sym c.in_ok-warning-in-Ok-Shown.ensures)
+    (warned c.args.task.now _ _ (subst (λ served. IfOk served (IsServedFor c.args.task.now)) (c.in-Ok-Shown.is ∙ ap Ok c.in-Ok-Shown.field-0-is) c.requires.shown))
+
+pub returns-in_ok-warning-in-Ok-Shown-clause-gives : goal.returns-in_ok-warning-in-Ok-Shown-clause-gives
+returns-in_ok-warning-in-Ok-Shown-clause-gives g c = λ own stands.
+    let it = subst (λ served. StandsFor served own) (c.in-Ok-Shown.is ∙ ap Ok c.in-Ok-Shown.field-0-is) stands in
+    let same : c.into_bytes.result.items ≡ string_bytes c.in-Ok-Shown.lines.text = search rules in
+    (it.0, same ∙ it.2, inl (sym it.1))
 
 pub returns-in-Err-clause-gives : goal.returns-in-Err-clause-gives
-returns-in-Err-clause-gives g c = inl (ap Err c.explained.ensures ∙ sym (ap replied c.in-Err.is))
+returns-in-Err-clause-gives g c = λ own stands.
+    let it = subst (λ served. StandsFor served own) c.in-Err.is stands in
+    inl (ap Err c.explained.ensures ∙ sym it)

@@ -1,7 +1,10 @@
+use Rattle.std.proofs.Common.{rules}
 use Rattle.sqlite.specs.Held.{state}
 use Rattle.zeb_change.specs.Conditions.{conditions}
 use Rattle.zeb_register.specs.Formats.{version_of}
 use Rattle.zeb_program.specs.OverTables.{LineOver}
+use Rattle.zeb_program.specs.declared.line_input.LineFault.TheVariants.{Memory}
+use Rattle.zeb_program.proofs.LineInputLemmas.{ends_read, given_ends}
 use Rattle.zeb_program.proofs.ShellLemmas.{next_answer}
 use Rattle.zeb_program.proofs.ShellOverLemmas.{next_over}
 use Rattle.zeb_program.proofs.shell.run_next_line.Goals as goal
@@ -19,3 +22,9 @@ returns-clause-over g c =
     λ sound clean. next_over (LineOver g.S.Store (g.P.Paths.tells c.args.paths.now) g.L.Layout.format k) c.args.number c.in_ok-status.status c.in_ok-bytes.bytes.items (g.R.Source.remaining c.args.input.now)
     c.args.session.now.connection c.run_bytes.new.session.connection (g.W.Write.contents c.args.output.now.writer) (g.W.Write.contents c.run_bytes.new.output.writer) (g.W.Write.contents c.flush.new.self.writer)
     c.in_ok-bytes.ensures.line (c.in_ok-status.ensures.over (c.flush.ensures.sound sound) clean) (c.flush.ensures.bytes sound)
+
+-- The line was read, and there was no memory for its answer.
+pub returns-in_err-status-clause-stops : goal.returns-in_err-status-clause-stops
+returns-in_err-status-clause-stops g c =
+    given_ends c.from_residual-in_err-status.result Memory (g.R.Source.remaining c.args.input.now) (g.R.Source.remaining c.read_line.new.source) 16777216 (search rules)
+    (ends_read _ _ c.in_ok-bytes.bytes.items c.in_ok-bytes.ensures.line c.in_ok-bytes.ensures.taken c.read_line.ensures.bounded)

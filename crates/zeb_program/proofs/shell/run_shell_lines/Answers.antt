@@ -1,6 +1,5 @@
-use Rattle.std.proofs.Common.{◌≡◌, ◌∙◌, ◌+◌, [], false, refl, rules, subst₂, arith}
-use Rattle.std.specs.Prelude.{IfSome}
-use Rattle.std.proofs.KnownBytes.{Consumes-nil}
+use Rattle.std.proofs.Common.{◌≡◌, ◌∙◌, ◌+◌, false, refl, rules, subst₂}
+use Rattle.std.specs.Prelude.{IfErr, IfSome}
 use Rattle.sqlite.specs.Held.{state}
 use Rattle.sqlite.specs.State.{HasCleanDisk}
 use Rattle.zeb_change.specs.Conditions.{conditions}
@@ -8,8 +7,11 @@ use Rattle.zeb_register.specs.Formats.{version_of}
 use Rattle.zeb_program.specs.Answers.{Writes}
 use Rattle.zeb_program.specs.Lines.{first_line}
 use Rattle.zeb_program.specs.OverTables.{LineOver}
-use Rattle.zeb_program.proofs.ShellOverLemmas.{goes_start, goes_found, goes_end, over_failure, over_stop}
-use Rattle.zeb_program.proofs.ShellLemmas.{AnswersNext, serves_start, serves_found, serves_end, serves_failure, serves_stop, found_none}
+use Rattle.zeb_program.specs.declared.line_input.LineFault.TheVariants.{Memory}
+use Rattle.zeb_program.proofs.LineInputLemmas.{ends_before}
+use Rattle.zeb_program.proofs.ShellOverLemmas.{goes_start, goes_found}
+use Rattle.zeb_program.proofs.ShellLemmas.{AnswersNext, serves_start, serves_found, found_none}
+use Rattle.zeb_program.proofs.ShellTextLemmas.{text_done, text_failure, text_stopped}
 use Rattle.zeb_program.proofs.shell.run_shell_lines.Goals as goal
 use Rattle.zeb_program.proofs.StatusLemmas.{max_greater}
 
@@ -64,53 +66,27 @@ loop-lines_before-preserved g c =
 pub returns-in_err-status-clause-stopped : goal.returns-in_err-status-clause-stopped
 returns-in_err-status-clause-stopped g c =
     let k = conditions (version_of g.L.Layout.format) c.args.session.now.profile c.args.session.now.limits in
-    let old = state g.S.Store c.args.session.now.connection in
-    let now = state g.S.Store c.loop-lines_before.session.connection in
-    let clean = HasCleanDisk (state g.S.Store c.run_next_line.new.session.connection) in
+    let why = c.in_err-status.field-0.0 in
+    let given : IfErr c.from_residual.result (λ given. given ≡ why) = search rules in
     rw c.in_err-status.ensures.stopped
-    (serves_failure (g.P.Paths.tells c.args.paths.now) k old now (g.W.Write.contents c.args.output.now.writer) (g.W.Write.contents c.loop-lines_before.output.writer)
+    (text_failure g.S.Store (g.P.Paths.tells c.args.paths.now) g.L.Layout.format k c.from_residual.result why (g.W.Write.contents c.args.output.now.writer) (g.W.Write.contents c.loop-lines_before.output.writer)
     (g.R.Source.remaining c.args.input.now) (g.R.Source.remaining c.loop-lines_before.input) (g.R.Source.remaining c.run_next_line.new.input) c.loop-lines_before.lines_before c.loop-lines_before.greatest
-    c.from_residual.result c.loop-lines_before.output.failed clean c.in_err-status.ensures.bounded (λ sound clean. c.loop-lines_before.invariant.answers sound (c.run_next_line.ensures.clean clean)))
+    c.args.session.now.connection c.loop-lines_before.session.connection c.loop-lines_before.output.failed (HasCleanDisk (state g.S.Store c.run_next_line.new.session.connection)) given c.in_err-status.ensures.stops
+    (λ sound clean. c.loop-lines_before.invariant.over sound (c.run_next_line.ensures.clean clean)) (λ sound clean. c.loop-lines_before.invariant.answers sound (c.run_next_line.ensures.clean clean)))
 
 pub returns-in-None-clause-answer : goal.returns-in-None-clause-answer
 returns-in-None-clause-answer g c =
     let k = conditions (version_of g.L.Layout.format) c.args.session.now.profile c.args.session.now.limits in
     let idle = found_none c.in_ok-status.field-0 _ c.in-None.is c.in_ok-status.ensures.idle in
     rw (idle.1, idle.2)
-    (λ sound clean. serves_end (g.P.Paths.tells c.args.paths.now) k (state g.S.Store c.args.session.now.connection) (state g.S.Store c.loop-lines_before.session.connection) (g.W.Write.contents c.args.output.now.writer)
+    (λ sound clean. text_done g.S.Store (g.P.Paths.tells c.args.paths.now) g.L.Layout.format k (g.W.Write.contents c.args.output.now.writer)
     (g.W.Write.contents c.loop-lines_before.output.writer) (g.R.Source.remaining c.args.input.now) (g.R.Source.remaining c.loop-lines_before.input) c.loop-lines_before.lines_before c.loop-lines_before.greatest
-    idle.0 (c.loop-lines_before.invariant.answers sound clean))
+    c.args.session.now.connection c.loop-lines_before.session.connection idle.0 (c.loop-lines_before.invariant.over sound clean) (c.loop-lines_before.invariant.answers sound clean))
 
 pub returns-clause-stopped : goal.returns-clause-stopped
 returns-clause-stopped g c = λ sound clean.
     let k = conditions (version_of g.L.Layout.format) c.args.session.now.profile c.args.session.now.limits in
     let left = g.R.Source.remaining c.loop-lines_before.input in
-    serves_stop (g.P.Paths.tells c.args.paths.now) k (state g.S.Store c.args.session.now.connection) (state g.S.Store c.loop-lines_before.session.connection) (g.W.Write.contents c.args.output.now.writer)
-    (g.W.Write.contents c.loop-lines_before.output.writer) (g.R.Source.remaining c.args.input.now) left left c.loop-lines_before.lines_before c.loop-lines_before.greatest
-    ([], omega arith, Consumes-nil left) (c.loop-lines_before.invariant.answers sound clean)
-
-pub returns-in-None-clause-over : goal.returns-in-None-clause-over
-returns-in-None-clause-over g c =
-    let k = conditions (version_of g.L.Layout.format) c.args.session.now.profile c.args.session.now.limits in
-    let idle = found_none c.in_ok-status.field-0 _ c.in-None.is c.in_ok-status.ensures.idle in
-    rw (idle.1, idle.2)
-    (λ sound clean. goes_end (LineOver g.S.Store (g.P.Paths.tells c.args.paths.now) g.L.Layout.format k) (g.W.Write.contents c.args.output.now.writer)
-    (g.W.Write.contents c.loop-lines_before.output.writer) (g.R.Source.remaining c.args.input.now) (g.R.Source.remaining c.loop-lines_before.input) c.loop-lines_before.lines_before c.loop-lines_before.greatest
-    c.args.session.now.connection c.loop-lines_before.session.connection idle.0 (c.loop-lines_before.invariant.over sound clean))
-
-pub returns-in_err-status-clause-stopped_over : goal.returns-in_err-status-clause-stopped_over
-returns-in_err-status-clause-stopped_over g c =
-    let k = conditions (version_of g.L.Layout.format) c.args.session.now.profile c.args.session.now.limits in
-    let clean = HasCleanDisk (state g.S.Store c.run_next_line.new.session.connection) in
-    rw c.in_err-status.ensures.stopped
-    (over_failure g.S.Store (g.P.Paths.tells c.args.paths.now) g.L.Layout.format k (g.W.Write.contents c.args.output.now.writer) (g.W.Write.contents c.loop-lines_before.output.writer)
-    (g.R.Source.remaining c.args.input.now) (g.R.Source.remaining c.loop-lines_before.input) (g.R.Source.remaining c.run_next_line.new.input) c.loop-lines_before.lines_before c.loop-lines_before.greatest
-    c.args.session.now.connection c.loop-lines_before.session.connection c.from_residual.result c.loop-lines_before.output.failed clean c.in_err-status.ensures.bounded (λ sound clean. c.loop-lines_before.invariant.over sound (c.run_next_line.ensures.clean clean)))
-
-pub returns-clause-stopped_over : goal.returns-clause-stopped_over
-returns-clause-stopped_over g c = λ sound clean.
-    let k = conditions (version_of g.L.Layout.format) c.args.session.now.profile c.args.session.now.limits in
-    let left = g.R.Source.remaining c.loop-lines_before.input in
-    over_stop g.S.Store (g.P.Paths.tells c.args.paths.now) g.L.Layout.format k (g.W.Write.contents c.args.output.now.writer) (g.W.Write.contents c.loop-lines_before.output.writer)
+    text_stopped g.S.Store (g.P.Paths.tells c.args.paths.now) g.L.Layout.format k Memory (g.W.Write.contents c.args.output.now.writer) (g.W.Write.contents c.loop-lines_before.output.writer)
     (g.R.Source.remaining c.args.input.now) left left c.loop-lines_before.lines_before c.loop-lines_before.greatest c.args.session.now.connection c.loop-lines_before.session.connection
-    ([], omega arith, Consumes-nil left) (c.loop-lines_before.invariant.over sound clean)
+    (ends_before left) (c.loop-lines_before.invariant.over sound clean) (c.loop-lines_before.invariant.answers sound clean)

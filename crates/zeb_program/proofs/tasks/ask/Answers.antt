@@ -1,5 +1,3 @@
-use Rattle.std.proofs.Common.{Err, Ok}
-use Rattle.zeb_program.proofs.OverLemmas.{analysis_still}
 use Rattle.zeb_program.proofs.TaskLemmas.{refused_command, replied_command}
 use Rattle.zeb_program.proofs.tasks.ask.Goals as goal
 
@@ -17,9 +15,3 @@ returns-in-Err-clause-over g c = λ clean. (c.in-Err.ensures.step clean, c.in-Er
 
 pub returns-in-Err-clause-refused : goal.returns-in-Err-clause-refused
 returns-in-Err-clause-refused g c = λ clean. (c.in-Err.ensures.tables clean).refused
-
-pub returns-in-Ok-clause-still : goal.returns-in-Ok-clause-still
-returns-in-Ok-clause-still g c = analysis_still g.S.Store c.args.command.now c.args.session.now.connection c.command.new.self.connection (Ok c.in-Ok.reply) c.in-Ok.ensures.holds.0.call
-
-pub returns-in-Err-clause-still : goal.returns-in-Err-clause-still
-returns-in-Err-clause-still g c = analysis_still g.S.Store c.args.command.now c.args.session.now.connection c.command.new.self.connection (Err c.in-Err.refusal) c.in-Err.ensures.holds.0.call

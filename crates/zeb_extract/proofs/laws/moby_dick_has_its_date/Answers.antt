@@ -1,6 +1,0 @@
-use Rattle.zeb_extract.proofs.Cited.{ap, arith, refl, Occurrence}
-use Rattle.zeb_extract.proofs.Example.{date_found, no_other}
-use Rattle.zeb_extract.proofs.laws.moby_dick_has_its_date.Goals as goal
-
-pub returns : goal.returns
-returns c = record { profile = refl; found = date_found; no_other = no_other; not_elsewhere = λ is. absurd (omega (arith, ap (λ (o : Occurrence). o.seq) (no_other _ is))) }

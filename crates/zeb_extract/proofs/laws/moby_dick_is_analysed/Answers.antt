@@ -1,6 +1,0 @@
-use Rattle.zeb_extract.proofs.Cited.{refl}
-use Rattle.zeb_extract.proofs.Analysis.{called, rising, members}
-use Rattle.zeb_extract.proofs.laws.moby_dick_is_analysed.Goals as goal
-
-pub returns : goal.returns
-returns c = record { profile = refl; called = called; rising = rising; members = members }

@@ -1,0 +1,31 @@
+-- What calls that look for a leaf answer.
+use Rattle.zeb_leaves.proofs.Cited.{Row, ◌≡◌, ◌≢◌, ◌∷◌, ℕ, ℤ, List, [], Ok, Err, Result, Option, None, refl, sym, subst, HasBlockFrom, IsCovering, IsLeafAt, IsLeafIn, IsRest, IsStore, IsUncovered, Register, ShowsSome, State, blocks_tree, leaf_key, register_front}
+use Rattle.sqlite.specs.Effect.{Database}
+use Rattle.zeb_leaves.proofs.CoveringLeaves.{Leaves, leaf_some, some_leaf, uncovered}
+use Rattle.zeb_register.specs.Answers.{Answers, IfDamaged}
+use Rattle.zeb_register.specs.declared.faults.RegFault.{RegFault}
+use Rattle.zeb_register.specs.declared.registers.RegisterOf.{RegisterOf}
+
+module _ (s : State) (store : IsStore s) (db : ℤ) (index : ℕ) (register : Register) where
+  abbrev Shown : Row → Type 0
+  Shown row = IsRest blocks_tree (register_front db index register) s.now.trees row × HasBlockFrom 0 row
+
+  -- no row is shown of a register without a leaf, and some of one with a leaf
+  pub no_leaf_shown : (rows : List Row) → rows ≡ [] → ShowsSome Shown rows → (leaf : Row) → ¬ Leaves s store db index register leaf
+  no_leaf_shown [] is none leaf there = none leaf (leaf_some s store db index register leaf there)
+  no_leaf_shown (row ∷ rows) is some leaf there = let e : row ∷ rows ≡ [] = is in cc
+
+  pub some_leaf_shown : (rows : List Row) → rows ≢ [] → ShowsSome Shown rows → (leaf : Row) × Leaves s store db index register leaf
+  some_leaf_shown [] is none = absurd (is refl)
+  some_leaf_shown (row ∷ rows) is some = (some.0, some_leaf s store db index register some.0 some.1)
+
+-- where no leaf is up to the key, there is none, or none covers it
+pub answered_uncovered : (at : RegisterOf) (term : List ℕ) (block : ℕ) (d e : Database) → e ≡ d → IsCovering (IsLeafIn d.trees at) (leaf_key term block) None → (result : Result (Option Row) RegFault)
+    → Answers (IfDamaged ((leaf : Row) × IsLeafIn e.trees at leaf)) (λ found. (found ≡ None) × ((leaf : Row) → ¬ IsLeafIn e.trees at leaf)) result
+    → Answers (IfDamaged (IsUncovered (IsLeafIn d.trees at) (leaf_key term block))) (λ found. IsLeafAt (IsLeafIn d.trees at) (leaf_key term block) found) result
+answered_uncovered at term block d e same none (Ok found) it =
+    let gone : (leaf : Row) → ¬ IsLeafIn d.trees at leaf = subst (λ (x : Database). (leaf : Row) → ¬ IsLeafIn x.trees at leaf) same it.1 in
+    subst (λ (f : Option Row). IsLeafAt (IsLeafIn d.trees at) (leaf_key term block) f) (sym it.0) gone
+answered_uncovered at term block d e same none (Err fault) it = λ told.
+    let bad = subst (λ (x : Database). (leaf : Row) × IsLeafIn x.trees at leaf) same (it told) in
+    uncovered (IsLeafIn d.trees at) (leaf_key term block) none bad.0 bad.1

@@ -1,0 +1,178 @@
+-- The statements that find leaves, each with what it is compiled to.
+use Rattle.zeb_leaves.proofs.Cited.{Row, column, row_cmp, Trees, Int, Text, Has, all_has, ◌≡◌, ◌∙◌, ◌++◌, ◌∷◌, ℕ, ℤ, pos, true, false, List, [], length, map, codes, refl, sym, ap, subst, inl, inr, arith, length-map, IsUpTo, own_key, ShowsGreatest, ShowsSome, HasBlockFrom, IsRest, IsStore, State, Shown, blocks_tree, store_schema}
+use Rattle.std.specs.Ordering.{is_lt}
+use Rattle.sqlite.specs.Command.TheVariants.{Select}
+use Rattle.sqlite.specs.Listing.{understood}
+use Rattle.sqlite.specs.Order.{value_cmp}
+use Rattle.sqlite.specs.Term.{Term, col}
+use Rattle.sqlite.specs.Tree.{rowid}
+use Rattle.sqlite.specs.View.{is_int}
+use Rattle.sqlite.proofs.Callers.{reads_as}
+use Rattle.sqlite_tied.specs.Compute.{everything}
+use Rattle.sqlite_value.specs.declared.keys.Key.{Key as Order}
+use Rattle.zeb_leaves.specs.declared.statements.TheConstants.{ANY, OF_TERM, OF_TERMS_BELOW}
+use Rattle.zeb_leaves.proofs.KeyOrder.{not_lower}
+use Rattle.zeb_register.proofs.FirstRows.{first_shown}
+use Rattle.zeb_register.proofs.PostingStatements.{blocks, blocks_static, register_of}
+use Rattle.zeb_register.proofs.PrefixSelects.{IsAfter, after_key}
+use Rattle.zeb_register.proofs.Refusals.{IsQuery}
+use Rattle.zeb_register.proofs.Scans.{reads}
+use Rattle.zeb_register.proofs.Selects.{shown_places}
+use Rattle.zeb_register.proofs.StatementForms.{Condition, alone, at_least, descending, equals, keyed_from, less_than, one_row, reading_by, shows}
+use Rattle.zeb_register.proofs.ValueKinds.{are_fit, code}
+use Rattle.zeb_register.proofs.Writes.{codes_there, keyed_there, meets_there}
+
+abbrev leaf_places : List ℕ
+leaf_places = 4 ∷ 5 ∷ 6 ∷ []
+
+abbrev leaf_names : List (List ℕ)
+leaf_names = codes "term" ∷ codes "block" ∷ codes "data" ∷ []
+
+abbrev falling_keys : List (Term × Order)
+falling_keys = (col 1 4, descending) ∷ (col 1 5, descending) ∷ []
+
+module _ (old : State) (store : IsStore old) where
+  abbrev table : List Row
+  table = old.now.trees 9
+
+  known : (r : Row) → Has table r → (is_int (rowid r) ≡ true) × (length r ≡ 7)
+  known r here = (
+    all_has _ table r (keyed_there store_schema 4 blocks blocks_static old store).1 here,
+    sym (length-map r code) ∙ ap length (codes_there store_schema 4 blocks blocks_static old r store here),
+  )
+
+  module _ (db idx reg : ℤ) (rest : Row) (more : List Condition) where
+    abbrev key : Row
+    key = register_of db idx reg
+
+    abbrev params : Row
+    params = key ++ rest
+
+    abbrev wheres : List Condition
+    wheres = keyed_from 1 0 3 ++ more
+
+    abbrev pub Found : Row → Type 0
+    Found = IsAfter table key rest more
+
+    module _ (fit : are_fit blocks params wheres ≡ true) where
+      -- the first of the rows that meet the conditions, the greatest first
+      greatest_shown : (text : List ℕ) → IsQuery text params 9 wheres (shows leaf_places) falling_keys one_row leaf_names → (new : State) (rows : List Row) → Shown text params old new rows → ShowsGreatest Found rows
+      greatest_shown text q new rows shown =
+          let read = reads_as text params old new store_schema store.is (Select (alone (reading_by 9 wheres (shows leaf_places) falling_keys one_row)) leaf_names) q.is q.plain q.unlisted rows shown in
+          let answer = reads old.now 9 wheres (shows leaf_places) falling_keys one_row params rows read in
+          let met = meets_there store_schema 4 blocks blocks_static old params wheres store fit in
+          elim (first_shown table wheres (shows leaf_places) falling_keys params rows answer) [
+            | inl none ↦ subst (ShowsGreatest Found) (sym none.0) (λ y found.
+                let s = (after_key table key rest more 3 y known).1 found in
+                none.1 s.0 s.1 ((met s.0 s.1).1 s.2))
+            | inr first ↦
+                let r = first.0 in
+                let x : Row = map (column r) leaf_places in
+                let shows_x : rows ≡ x ∷ [] = first.1.2 ∙ ap (λ v. v ∷ []) (shown_places params r leaf_places) in
+                subst (ShowsGreatest Found) (sym shows_x) (
+                  refl,
+                  (after_key table key rest more 3 x known).0 (r, first.1.0, (met r first.1.0).0 first.1.1, refl),
+                  λ y found.
+                      let s = (after_key table key rest more 3 y known).1 found in
+                      let z : Row = map (column s.0) leaf_places in
+                      let low : is_lt (row_cmp (own_key x) (own_key z)) ≡ false = first.1.3 s.0 s.1 ((met s.0 s.1).1 s.2) in
+                      subst (λ (w : Row). IsUpTo (own_key x) w) (sym s.3) (not_lower (own_key x) (own_key z) low),
+                )
+          ]
+
+      -- one of them, if there is one
+      some_shown : (text : List ℕ) → IsQuery text params 9 wheres (shows (5 ∷ [])) [] one_row (codes "block" ∷ []) → (new : State) (rows : List Row) → Shown text params old new rows → ShowsSome Found rows
+      some_shown text q new rows shown =
+          let read = reads_as text params old new store_schema store.is (Select (alone (reading_by 9 wheres (shows (5 ∷ [])) [] one_row)) (codes "block" ∷ [])) q.is q.plain q.unlisted rows shown in
+          let answer = reads old.now 9 wheres (shows (5 ∷ [])) [] one_row params rows read in
+          let met = meets_there store_schema 4 blocks blocks_static old params wheres store fit in
+          elim (first_shown table wheres (shows (5 ∷ [])) [] params rows answer) [
+            | inl none ↦ subst (ShowsSome Found) (sym none.0) (λ y found.
+                let s = (after_key table key rest more 3 y known).1 found in
+                none.1 s.0 s.1 ((met s.0 s.1).1 s.2))
+            | inr first ↦
+                let r = first.0 in
+                let x : Row = map (column r) leaf_places in
+                subst (ShowsSome Found) (sym first.1.2) (x, (after_key table key rest more 3 x known).0 (r, first.1.0, (met r first.1.0).0 first.1.1, refl))
+          ]
+
+-- ---- what is shown of rows that are P is shown of those that are Q
+
+pub greatest_so : (P Q : Row → Type 0) (rows : List Row) → ((row : Row) → P row → Q row) → ((row : Row) → Q row → P row) → ShowsGreatest P rows → ShowsGreatest Q rows
+greatest_so P Q [] so back none = λ row there. none row (back row there)
+greatest_so P Q (row ∷ rows) so back it = (it.0, so row it.1, λ other there. it.2 other (back other there))
+
+some_so : (P Q : Row → Type 0) (rows : List Row) → ((row : Row) → P row → Q row) → ((row : Row) → Q row → P row) → ShowsSome P rows → ShowsSome Q rows
+some_so P Q [] so back none = λ row there. none row (back row there)
+some_so P Q (row ∷ rows) so back it = (it.0, so it.0 it.1)
+
+-- ---- the leaves of one term
+
+abbrev pub of_term_text : List ℕ
+of_term_text = OF_TERM.now
+
+abbrev of_term_more : List Condition
+of_term_more = equals 4 3 ∷ at_least 5 4 ∷ less_than 5 5 ∷ []
+
+abbrev of_term_rest : List ℕ → ℤ → Row
+of_term_rest term end = Text term ∷ Int (pos 0) ∷ Int end ∷ []
+
+pub of_term_query : (db idx reg : ℤ) (term : List ℕ) (end : ℤ) → IsQuery of_term_text (register_of db idx reg ++ of_term_rest term end) 9 (keyed_from 1 0 3 ++ of_term_more) (shows leaf_places) falling_keys one_row leaf_names
+unfolding understood everything
+of_term_query db idx reg term end = record { is = refl; plain = (refl, refl); unlisted = refl; silent = λ schema base. refl; whole = (omega arith, refl); fit = λ trees mistyped. absurd (let t : true ≡ false = mistyped in cc) }
+
+abbrev IsOf : ℤ → ℤ → ℤ → List ℕ → ℤ → Trees → Row → Type 0
+IsOf db idx reg term end trees row = IsRest blocks_tree (register_of db idx reg) trees row × (column row 0 ≡ Text term) × HasBlockFrom 0 row × (is_lt (value_cmp (column row 1) (Int end)) ≡ true)
+
+pub of_term_shown : (old : State) → IsStore old → (db idx reg : ℤ) (term : List ℕ) (end : ℤ) (new : State) (rows : List Row) → Shown of_term_text (register_of db idx reg ++ of_term_rest term end) old new rows
+    → ShowsGreatest (IsOf db idx reg term end old.now.trees) rows
+of_term_shown old store db idx reg term end new rows shown =
+    greatest_so (IsAfter (old.now.trees 9) (register_of db idx reg) (of_term_rest term end) of_term_more) (IsOf db idx reg term end old.now.trees) rows (λ row h. ((h.0, h.1), h.2.0, h.2.1.0, h.2.1.1.0)) (λ row h. (h.0.0, h.0.1, (h.1, (h.2, (h.3, tt)))))
+    (greatest_shown old store db idx reg (of_term_rest term end) of_term_more refl of_term_text (of_term_query db idx reg term end) new rows shown)
+
+-- ---- those of the terms below
+
+abbrev pub below_text : List ℕ
+below_text = OF_TERMS_BELOW.now
+
+abbrev below_more : List Condition
+below_more = less_than 4 3 ∷ at_least 5 4 ∷ []
+
+abbrev below_rest : List ℕ → Row
+below_rest term = Text term ∷ Int (pos 0) ∷ []
+
+pub below_query : (db idx reg : ℤ) (term : List ℕ) → IsQuery below_text (register_of db idx reg ++ below_rest term) 9 (keyed_from 1 0 3 ++ below_more) (shows leaf_places) falling_keys one_row leaf_names
+unfolding understood everything
+below_query db idx reg term = record { is = refl; plain = (refl, refl); unlisted = refl; silent = λ schema base. refl; whole = (omega arith, refl); fit = λ trees mistyped. absurd (let t : true ≡ false = mistyped in cc) }
+
+abbrev IsUnder : ℤ → ℤ → ℤ → List ℕ → Trees → Row → Type 0
+IsUnder db idx reg term trees row = IsRest blocks_tree (register_of db idx reg) trees row × (is_lt (value_cmp (column row 0) (Text term)) ≡ true) × HasBlockFrom 0 row
+
+pub below_shown : (old : State) → IsStore old → (db idx reg : ℤ) (term : List ℕ) (new : State) (rows : List Row) → Shown below_text (register_of db idx reg ++ below_rest term) old new rows
+    → ShowsGreatest (IsUnder db idx reg term old.now.trees) rows
+below_shown old store db idx reg term new rows shown =
+    greatest_so (IsAfter (old.now.trees 9) (register_of db idx reg) (below_rest term) below_more) (IsUnder db idx reg term old.now.trees) rows (λ row h. ((h.0, h.1), h.2.0, h.2.1.0)) (λ row h. (h.0.0, h.0.1, (h.1, (h.2, tt))))
+    (greatest_shown old store db idx reg (below_rest term) below_more refl below_text (below_query db idx reg term) new rows shown)
+
+-- ---- any
+
+abbrev pub any_text : List ℕ
+any_text = ANY.now
+
+abbrev any_more : List Condition
+any_more = at_least 5 3 ∷ []
+
+abbrev any_rest : Row
+any_rest = Int (pos 0) ∷ []
+
+pub any_query : (db idx reg : ℤ) → IsQuery any_text (register_of db idx reg ++ any_rest) 9 (keyed_from 1 0 3 ++ any_more) (shows (5 ∷ [])) [] one_row (codes "block" ∷ [])
+unfolding understood everything
+any_query db idx reg = record { is = refl; plain = (refl, refl); unlisted = refl; silent = λ schema base. refl; whole = (omega arith, refl); fit = λ trees mistyped. absurd (let t : true ≡ false = mistyped in cc) }
+
+abbrev IsThere : ℤ → ℤ → ℤ → Trees → Row → Type 0
+IsThere db idx reg trees row = IsRest blocks_tree (register_of db idx reg) trees row × HasBlockFrom 0 row
+
+pub any_shown : (old : State) → IsStore old → (db idx reg : ℤ) (new : State) (rows : List Row) → Shown any_text (register_of db idx reg ++ any_rest) old new rows → ShowsSome (IsThere db idx reg old.now.trees) rows
+any_shown old store db idx reg new rows shown =
+    some_so (IsAfter (old.now.trees 9) (register_of db idx reg) any_rest any_more) (IsThere db idx reg old.now.trees) rows (λ row h. ((h.0, h.1), h.2.0)) (λ row h. (h.0.0, h.0.1, (h.1, tt)))
+    (some_shown old store db idx reg any_rest any_more refl any_text (any_query db idx reg) new rows shown)

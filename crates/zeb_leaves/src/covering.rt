@@ -1,0 +1,119 @@
+//! The leaf that covers a block of a term.
+
+ghost use Rattle.std.specs.Prelude.{◌≡◌, ◌≢◌, ◌<◌, ◌^◌, ◌++◌, ◌∷◌, [], List, None, Err, MatchOption};
+ghost use Rattle.sqlite.specs.Held.{state};
+ghost use Rattle.sqlite.specs.State.{IsUnchanged};
+ghost use Rattle.zeb_leaves.specs.Covering.{leaf_key};
+ghost use Rattle.zeb_leaves.specs.PrivateLeafReads.{IsCovering, IsGreatest, IsLeafAt, IsLeafIn, IsUncovered};
+ghost use Rattle.zeb_leaves.specs.PrivateLeafReads.{IsOfTermBelow, IsOfTermsBelow};
+ghost use Rattle.zeb_register.specs.Answers.{Answers, IfDamaged};
+ghost use Rattle.zeb_register.specs.Calls.{Reading};
+ghost use Rattle.zeb_register.specs.Clauses.{IsReasoned, OnStore, Tells};
+
+use crate::statements::{row_of_term, row_of_terms_below, some_row};
+use sqlite::{Alter, Connection, Row};
+use zeb_register::{RegFault, RegisterOf};
+
+/// The last of the rows.
+fn last_row(rows: Vec<Row>) -> Option<Row>
+    ensures { MatchOption result (rows.items ≡ [])
+        (λ row. (front : List _) × (rows.items ≡ front ++ row ∷ [])) }
+{
+    let mut rows = rows;
+    rows.pop()
+}
+
+/// The greatest leaf of the term whose own block is below `end`.
+fn leaf_of_term<S: Alter>(
+    conn: &mut Connection<S>,
+    at: RegisterOf,
+    term: &str,
+    end: i64,
+) -> Result<Option<Row>, RegFault>
+    ensures call { Reading (state S.Store conn.old) (state S.Store conn.new) result
+        (λ _. IsUnchanged) }
+    ensures finds { Tells (state S.Store conn.old) (state S.Store conn.new) result
+        (λ trees found. IsGreatest (IsOfTermBelow at term.now end trees) found) }
+    ensures honest { result ≢ Err RegFault.Damaged }
+    ensures refused { IsReasoned (state S.Store conn.old) (state S.Store conn.new) result }
+{
+    let rows = row_of_term(conn, at, term, end)?;
+    Ok(last_row(rows))
+}
+
+/// The greatest leaf of the terms below this one.
+fn leaf_of_terms_below<S: Alter>(
+    conn: &mut Connection<S>,
+    at: RegisterOf,
+    term: &str,
+) -> Result<Option<Row>, RegFault>
+    ensures call { Reading (state S.Store conn.old) (state S.Store conn.new) result
+        (λ _. IsUnchanged) }
+    ensures finds { Tells (state S.Store conn.old) (state S.Store conn.new) result
+        (λ trees found. IsGreatest (IsOfTermsBelow at term.now trees) found) }
+    ensures honest { result ≢ Err RegFault.Damaged }
+    ensures refused { IsReasoned (state S.Store conn.old) (state S.Store conn.new) result }
+{
+    let rows = row_of_terms_below(conn, at, term)?;
+    Ok(last_row(rows))
+}
+
+/// The leaf that covers a block of a term: the greatest one of the register that isn't above them. `None` where each leaf is above them, or
+/// there is none.
+pub(crate) fn covering_leaf<S: Alter>(
+    conn: &mut Connection<S>,
+    at: RegisterOf,
+    term: &str,
+    block: u64,
+) -> Result<Option<Row>, RegFault>
+    requires { block < 2 ^ 56 }
+    ensures call { Reading (state S.Store conn.old) (state S.Store conn.new) result
+        (λ _. IsUnchanged) }
+    ensures covers { Tells (state S.Store conn.old) (state S.Store conn.new) result
+        (λ trees found. IsCovering (IsLeafIn trees at) (leaf_key term.now block) found) }
+    ensures honest { result ≢ Err RegFault.Damaged }
+    ensures refused { IsReasoned (state S.Store conn.old) (state S.Store conn.new) result }
+{
+    let end = block as i64 + 1;
+    match leaf_of_term(conn, at, term, end)? {
+        Some(leaf) => Ok(Some(leaf)),
+        None => leaf_of_terms_below(conn, at, term),
+    }
+}
+
+/// No leaf. `Damaged` where the register has one.
+fn no_leaf<S: Alter>(conn: &mut Connection<S>, at: RegisterOf) -> Result<Option<Row>, RegFault>
+    ensures call { Reading (state S.Store conn.old) (state S.Store conn.new) result
+        (λ _. IsUnchanged) }
+    ensures none { OnStore (state S.Store conn.old) (state S.Store conn.new) (λ trees. Answers
+        (IfDamaged ((leaf : _) × IsLeafIn trees at leaf))
+        (λ found. (found ≡ None) × ((leaf : _) → ¬ IsLeafIn trees at leaf)) result) }
+    ensures refused { IsReasoned (state S.Store conn.old) (state S.Store conn.new) result }
+{
+    let rows = some_row(conn, at)?;
+    if rows.is_empty() {
+        return Ok(None);
+    }
+    Err(RegFault::Damaged)
+}
+
+/// The leaf that covers a block of a term; `None` where the register has no leaf. `Damaged` just where it has one, and none covers them.
+pub(crate) fn leaf_at<S: Alter>(
+    conn: &mut Connection<S>,
+    at: RegisterOf,
+    term: &str,
+    block: u64,
+) -> Result<Option<Row>, RegFault>
+    requires { block < 2 ^ 56 }
+    ensures call { Reading (state S.Store conn.old) (state S.Store conn.new) result
+        (λ _. IsUnchanged) }
+    ensures finds { OnStore (state S.Store conn.old) (state S.Store conn.new) (λ trees. Answers
+        (IfDamaged (IsUncovered (IsLeafIn trees at) (leaf_key term.now block)))
+        (λ found. IsLeafAt (IsLeafIn trees at) (leaf_key term.now block) found) result) }
+    ensures refused { IsReasoned (state S.Store conn.old) (state S.Store conn.new) result }
+{
+    match covering_leaf(conn, at, term, block)? {
+        Some(leaf) => Ok(Some(leaf)),
+        None => no_leaf(conn, at),
+    }
+}

@@ -1,0 +1,76 @@
+//! The statements that find the leaves of a register: one shows the block of some leaf, each other a leaf by its term, block and bytes.
+
+ghost use Rattle.sqlite.specs.Held.{state};
+ghost use Rattle.zeb_leaves.specs.PrivateLeafReads.{IsInRegister, IsOfTermBelow, IsOfTermsBelow};
+ghost use Rattle.zeb_leaves.specs.PrivateLeafReads.{ShowsGreatest, ShowsSome};
+ghost use Rattle.zeb_register.specs.Calls.{Reading};
+ghost use Rattle.zeb_register.specs.PrivateClauses.{IsReasonedError};
+ghost use Rattle.zeb_register.specs.PrivateRowTerms.{ReadsRows};
+
+use sqlite::{Alter, Connection, Error, Row, params};
+use zeb_register::RegisterOf;
+use zeb_register::for_layouts::look_up;
+
+// A block below 0 is no block's number, and so its row is no leaf.
+const OF_TERM: &str =
+    "SELECT term, block, data FROM blocks WHERE db = ?1 AND idx = ?2 AND reg = ?3 AND term = ?4 AND block >= ?5 AND block < ?6 ORDER BY term DESC, block DESC LIMIT 1";
+
+const OF_TERMS_BELOW: &str =
+    "SELECT term, block, data FROM blocks WHERE db = ?1 AND idx = ?2 AND reg = ?3 AND term < ?4 AND block >= ?5 ORDER BY term DESC, block DESC LIMIT 1";
+
+const ANY: &str =
+    "SELECT block FROM blocks WHERE db = ?1 AND idx = ?2 AND reg = ?3 AND block >= ?4 LIMIT 1";
+
+/// The greatest leaf of the term whose own block is below `end`.
+pub(crate) fn row_of_term<S: Alter>(
+    conn: &mut Connection<S>,
+    at: RegisterOf,
+    term: &str,
+    end: i64,
+) -> Result<Vec<Row>, Error>
+    ensures call { Reading (state S.Store conn.old) (state S.Store conn.new) result
+        (λ rows a b. ReadsRows (λ trees. ShowsGreatest (IsOfTermBelow at term.now end trees)) a b
+        rows.items) }
+    ensures err { IsReasonedError (state S.Store conn.old) (state S.Store conn.new) result }
+{
+    let db = at.db.column();
+    let reg = u32::from(at.register.code());
+    let least: u32 = 0;
+    look_up(conn, OF_TERM, params![db, at.index, reg, term, least, end])
+}
+
+/// The greatest leaf of the terms below this one.
+pub(crate) fn row_of_terms_below<S: Alter>(
+    conn: &mut Connection<S>,
+    at: RegisterOf,
+    term: &str,
+) -> Result<Vec<Row>, Error>
+    ensures call { Reading (state S.Store conn.old) (state S.Store conn.new) result
+        (λ rows a b. ReadsRows (λ trees. ShowsGreatest (IsOfTermsBelow at term.now trees)) a b
+        rows.items) }
+    ensures err { IsReasonedError (state S.Store conn.old) (state S.Store conn.new) result }
+{
+    let db = at.db.column();
+    let reg = u32::from(at.register.code());
+    let least: u32 = 0;
+    look_up(
+        conn,
+        OF_TERMS_BELOW,
+        params![db, at.index, reg, term, least],
+    )
+}
+
+/// A row, where the register has a leaf.
+pub(crate) fn some_row<S: Alter>(
+    conn: &mut Connection<S>,
+    at: RegisterOf,
+) -> Result<Vec<Row>, Error>
+    ensures call { Reading (state S.Store conn.old) (state S.Store conn.new) result
+        (λ rows a b. ReadsRows (λ trees. ShowsSome (IsInRegister at trees)) a b rows.items) }
+    ensures err { IsReasonedError (state S.Store conn.old) (state S.Store conn.new) result }
+{
+    let db = at.db.column();
+    let reg = u32::from(at.register.code());
+    let least: u32 = 0;
+    look_up(conn, ANY, params![db, at.index, reg, least])
+}

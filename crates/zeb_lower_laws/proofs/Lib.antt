@@ -1,0 +1,14 @@
+pub mod LayoutChecks
+pub mod LayoutLaws
+pub mod TakenLaws
+pub mod FoldingLemmas
+pub mod Comments
+pub mod FirstFault
+pub mod TargetsRead
+pub mod ExampleLemmas
+pub mod LookLemmas
+pub mod Example
+pub mod Stripped
+pub mod SampleAnalysis
+pub mod Accepted
+pub mod RecordParts

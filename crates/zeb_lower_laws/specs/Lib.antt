@@ -1,0 +1,11 @@
+pub mod Layout
+pub mod PlanRegisters
+pub mod ProfileExamples
+pub mod ProfileLaws
+pub mod Sample
+pub mod Stripped
+pub mod WholeAnalyses
+pub mod WorkedQueries
+pub mod WorkedRecord
+pub mod Parts
+pub mod JoinedMatches

@@ -1,5 +1,0 @@
-use Rattle.zeb_profile.proofs.ProfilesBack.{canonical_text_reads_back}
-use Rattle.zeb_profile.proofs.laws.canonical_text_reads_back.Goals as goal
-
-pub returns : goal.returns
-returns c = canonical_text_reads_back

@@ -1,5 +1,0 @@
-use Rattle.zeb_profile.proofs.TargetsOnce.{each_target_once}
-use Rattle.zeb_profile.proofs.laws.each_target_once.Goals as goal
-
-pub returns : goal.returns
-returns c = each_target_once

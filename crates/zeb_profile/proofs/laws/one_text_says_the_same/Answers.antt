@@ -1,5 +1,0 @@
-use Rattle.zeb_profile.proofs.ProfilesBack.{one_text_says_the_same}
-use Rattle.zeb_profile.proofs.laws.one_text_says_the_same.Goals as goal
-
-pub returns : goal.returns
-returns c = one_text_says_the_same

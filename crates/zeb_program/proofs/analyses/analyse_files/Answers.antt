@@ -1,0 +1,85 @@
+use Rattle.std.proofs.Common.{◌≡◌, ◌⊎◌, ◌∙◌, Err, Ok, Some, ap, map, refl, rules, string_bytes, subst, sym}
+use Rattle.std.specs.Prelude.{IfErr}
+use Rattle.zeb_paths.specs.Walks.{GivesUnder, paths_left}
+use Rattle.zeb_program.specs.Inputs.{AreShort}
+use Rattle.zeb_program.specs.PrivateFaults.{IsUnread, fault_of}
+use Rattle.zeb_program.specs.declared.faults.Fault.TheVariants.{Memory}
+use Rattle.zeb_program.proofs.AnalysisLemmas.{all_read, begins, goes_on}
+use Rattle.zeb_program.proofs.ReaderLemmas.{Ends, GivesNext, content_fault, met_fault, met_refused, under_faults, under_files, under_start}
+use Rattle.zeb_program.proofs.analyses.analyse_files.Goals as goal
+
+pub loop-file-init : goal.loop-file-init
+loop-file-init g c =
+    record {
+      paths = ap (λ p. p.now) c.in_ok-walk.ensures.paths;
+      under = under_start (map string_bytes c.args.named.now) _ c.in_ok-walk.ensures.left;
+      read = begins (g.P.Paths.tells c.args.paths.now) c.args.session.now.profile c.args.session.now.limits.records (map string_bytes c.args.named.now)
+          c.begin_analysis-lines.result c.new-unmarked.result.items _ c.begin_analysis-lines.ensures c.new-unmarked.ensures.items c.in_ok-walk.ensures.left;
+    }
+
+pub loop-file-preserved : goal.loop-file-preserved
+loop-file-preserved g c =
+    let left = paths_left c.loop-file.walk.steps.items in
+    let later = paths_left c.next_file.new.self.steps.items in
+    let tells = g.P.Paths.tells c.args.paths.now in
+    let next = subst (λ p. GivesNext (g.P.Paths.tells p) left later (Ok c.in_ok-path.field-0)) c.loop-file.invariant.paths c.in_ok-path.ensures.told in
+    record {
+      paths = ap (λ p. p.now) c.in_ok-path.ensures.paths ∙ c.loop-file.invariant.paths;
+      under = (c.in_ok-path.ensures.under (map string_bytes c.args.named.now) c.loop-file.invariant.under).1;
+      read =
+          goes_on tells c.args.session.now.profile c.args.session.now.limits.records (map string_bytes c.args.named.now) c.loop-file.file c.loop-file.lines c.loop-file.unmarked.items left later
+          c.loop-file.invariant.read c.in-Some.path c.in_ok-bytes.bytes c.deref-in-loop-file.result.now c.deref.result.now c.with_file-lines.result c.note_unmarked.new.unmarked.items
+          (subst (λ found. GivesNext tells left later (Ok found)) c.in-Some.is next)
+          (subst (λ found. Ends left (Ok found)) c.in-Some.is c.in_ok-path.ensures.ended)
+          c.in_ok-bytes.ensures c.deref-in-loop-file.ensures.value c.deref.ensures.value c.with_file-lines.ensures c.in_ok-note_unmarked.ensures;
+    }
+
+pub returns-in_err-path-clause-reason : goal.returns-in_err-path-clause-reason
+returns-in_err-path-clause-reason g c files told =
+    let left = paths_left c.loop-file.walk.steps.items in
+    let later = paths_left c.next_file.new.self.steps.items in
+    let why = c.in_err-path.field-0.0 in
+    absurd (met_fault (λ content. Some content.items) (g.P.Paths.tells c.args.paths.now) files c.loop-file.invariant.read.contents left later why
+    (c.loop-file.invariant.read.met files told) (subst (λ p. GivesNext (g.P.Paths.tells p) left later (Err why)) c.loop-file.invariant.paths c.in_err-path.ensures.told) c.in_err-path.ensures.ended)
+
+pub returns-in_err-path-clause-under : goal.returns-in_err-path-clause-under
+returns-in_err-path-clause-under g c =
+    let why = c.in_err-path.field-0.0 in
+    let from : IfErr c.from_residual-in_err-path.result (λ given. IsUnread given × (given ≡ fault_of why)) = search rules in
+    under_faults (map string_bytes c.args.named.now) why c.from_residual-in_err-path.result from (c.in_err-path.ensures.under (map string_bytes c.args.named.now) c.loop-file.invariant.under).0
+
+pub returns-in_err-bytes-clause-under : goal.returns-in_err-bytes-clause-under
+returns-in_err-bytes-clause-under g c =
+    let why = c.in_err-bytes.field-0.0 in
+    let is : c.from_residual-in_err-bytes.result ≡ Err why = search rules in
+    under_files (map string_bytes c.args.named.now) c.in-Some.path c.from_residual-in_err-bytes.result why is (content_fault c.in-Some.path _ why c.in_err-bytes.ensures).0
+    (subst (λ found. GivesUnder (map string_bytes c.args.named.now) (Ok found)) c.in-Some.is (c.in_ok-path.ensures.under (map string_bytes c.args.named.now) c.loop-file.invariant.under).0)
+
+pub returns-in_err-bytes-clause-unread : goal.returns-in_err-bytes-clause-unread
+returns-in_err-bytes-clause-unread g c =
+    let why = c.in_err-bytes.field-0.0 in
+    let is : c.from_residual-in_err-bytes.result ≡ Err why = search rules in
+    subst (λ r. IfErr r IsUnread) (sym is) (content_fault c.in-Some.path _ why c.in_err-bytes.ensures).1
+
+-- a file that is told isn't given only where it is too long
+pub returns-in_err-bytes-clause-reason : goal.returns-in_err-bytes-clause-reason
+returns-in_err-bytes-clause-reason g c files told =
+    let left = paths_left c.loop-file.walk.steps.items in
+    let later = paths_left c.next_file.new.self.steps.items in
+    let tells = g.P.Paths.tells c.args.paths.now in
+    let why = c.in_err-bytes.field-0.0 in
+    let is : c.from_residual-in_err-bytes.result ≡ Err why = search rules in
+    let next = subst (λ p. GivesNext (g.P.Paths.tells p) left later (Ok c.in_ok-path.field-0)) c.loop-file.invariant.paths c.in_ok-path.ensures.told in
+    subst (λ r. IfErr r (λ fault. (fault ≡ Memory) ⊎ (¬ AreShort files))) (sym is)
+    (met_refused (λ content. Some content.items) tells files c.loop-file.invariant.read.contents left later c.in-Some.path why (c.loop-file.invariant.read.met files told)
+    (subst (λ found. GivesNext tells left later (Ok found)) c.in-Some.is next)
+    (subst (λ found. Ends left (Ok found)) c.in-Some.is c.in_ok-path.ensures.ended) c.in_err-bytes.ensures)
+
+pub returns-in_default-clause-reads : goal.returns-in_default-clause-reads
+returns-in_default-clause-reads g c =
+    let left = paths_left c.loop-file.walk.steps.items in
+    let later = paths_left c.next_file.new.self.steps.items in
+    let tells = g.P.Paths.tells c.args.paths.now in
+    let next = subst (λ p. GivesNext (g.P.Paths.tells p) left later (Ok c.in_ok-path.field-0)) c.loop-file.invariant.paths c.in_ok-path.ensures.told in
+    all_read tells c.args.session.now.profile c.args.session.now.limits.records (map string_bytes c.args.named.now) c.loop-file.file c.loop-file.lines c.loop-file.unmarked.items left later
+    c.loop-file.invariant.read _ refl refl (subst (λ found. GivesNext tells left later (Ok found)) c.in_default.is next)

@@ -1,0 +1,76 @@
+//! The analysis of the files at and below paths, one after the other: one file is held at a time, and the lines of the records before.
+
+ghost use Rattle.std.specs.Prelude.{◌≡◌, ◌⊎◌, ◌+◌, ◌∷◌, ◌++◌, [], ℕ, List, length, map, string_bytes, IfErr, IfOk};
+ghost use Rattle.zeb_engine.specs.Analysed.{HasLines};
+ghost use Rattle.zeb_program.specs.FaultAnswers.{NamesUnder};
+ghost use Rattle.zeb_program.specs.Inputs.{AreShort};
+ghost use Rattle.zeb_program.specs.PrivateAnalyses.{ReadsFiles};
+ghost use Rattle.zeb_program.specs.PrivateFaults.{IsUnread};
+ghost use Rattle.zeb_program.specs.TaskAnswers.{AreTold};
+ghost use Rattle.zeb_program.specs.declared.faults.Fault.TheVariants.{Memory};
+
+use crate::faults::Fault;
+use crate::files::content_of;
+use crate::warnings::{Place, note_unmarked};
+use sqlite::Alter;
+use std::alloc::Global;
+use zeb_engine::{AnalysedLines, Refusal, Session};
+use zeb_marc::RecordBuf;
+use zeb_paths::{Paths, Walk};
+use zeb_register::Layout;
+
+/// What comes of the files of an analysis.
+#[derive(Debug, Drop)]
+pub struct AnalysedFiles {
+    /// The lines of their records, or the first refusal.
+    pub lines: Result<AnalysedLines, Refusal>,
+    /// Which of the records don't say that they are in Unicode.
+    pub unmarked: Vec<Place>,
+}
+
+/// Reads the files at and below the paths, each of which is analysed as it is read. Behind a refusal they are still read, for a path that
+/// can't be read comes before any record. A file that can't be read, or has too many bytes, is such a path.
+pub fn analyse_files<S: Alter, L: Layout, P: Paths>(
+    alloc: Global,
+    session: &Session<S, L>,
+    paths: &P,
+    named: &[String],
+) -> Result<AnalysedFiles, Fault>
+    ensures reads { IfOk result (ReadsFiles (P.tells paths.now) session.now.profile
+        session.now.limits.records (map string_bytes named.now)) }
+    // Files whose bytes are told are refused where one has more bytes than a file may have, and else only for want of memory.
+    ensures reason { (files : List (List ℕ)) → AreTold (P.tells paths.now)
+        (map string_bytes named.now) files
+        → IfErr result (λ fault. (fault ≡ Memory) ⊎ (¬ AreShort files)) }
+    ensures unread { IfErr result IsUnread }
+    ensures under { IfErr result (NamesUnder (map string_bytes named.now)) }
+{
+    let mut buffer = RecordBuf::new(alloc)?;
+    let mut unmarked = Vec::new(alloc);
+    let mut lines = session.begin_analysis();
+    let mut walk = Walk::new(alloc, paths, named)?;
+    for file in 1..u64::MAX {
+        let Some(path) = walk.next_file()? else {
+            return Ok(AnalysedFiles { lines, unmarked });
+        };
+        let bytes = content_of(alloc, paths, path)?;
+        note_unmarked(&mut unmarked, &mut buffer, file, &bytes)?;
+        lines = with_file(session, lines, file, &bytes);
+    }
+    // The names of so many files have no room in any memory.
+    Err(Fault::Memory)
+}
+
+/// The lines with those of one more file's records; a refusal stays.
+fn with_file<S: Alter, L: Layout>(
+    session: &Session<S, L>,
+    lines: Result<AnalysedLines, Refusal>,
+    file: u64,
+    bytes: &[u8],
+) -> Result<AnalysedLines, Refusal>
+    ensures { (texts : List (List ℕ)) → file ≡ length texts + 1
+        → HasLines session.now.profile session.now.limits.records texts lines
+        → HasLines session.now.profile session.now.limits.records (texts ++ bytes.now ∷ []) result }
+{
+    session.analyse_file(lines?, file, bytes)
+}

@@ -1,5 +1,0 @@
-use Rattle.zeb_query.proofs.TextFaults.{one_query}
-use Rattle.zeb_query.proofs.laws.no_text_spells_two_queries.Goals as goal
-
-pub returns : goal.returns
-returns c = one_query
