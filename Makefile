@@ -49,11 +49,12 @@ run: bin/zebraidx
 quick:
 	@tools/quick
 
-# So many proofs side by side. Without it `rt ci` goes by an estimate of their memory, several times too high, and leaves processors idle.
-check cost: export RT_JOBS ?= $(shell nproc)
-
+# tools/gate proves and tries all, by a plan that keeps the processors busy; the verdict is that of `rt ci` alone, which takes over what passed
+# there and tries the rest.
+check: export RT_JOBS ?= $(shell nproc)
 check:
 	tools/quick --texts
+	-tools/gate
 	rt ci
 
 words: bin/zebraidx

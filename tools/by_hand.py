@@ -24,7 +24,7 @@ MADE_BY_HAND = {
     "crates/zeb_marc/src/sources.rt": (["passed_on d701f525", "read a600243e"], "a read that failed for a reader, and each later one, as clauses say"),
     "crates/zeb_marc/src/stream.rt": (["new 509c503c"], "no failure: as many bytes as the longest record has"),
     "crates/zeb_profile/src/faults.rt": (["MEMORY 1437066d"], "the one value that all conversions give"),
-    "crates/zeb_query/src/diagnostics.rt": (["about 67ee6bdb"], "an addinfo that there is no memory for"),
+    "crates/zeb_query/src/diagnostics.rt": (["about 3fe5f62c"], "an addinfo that there is no memory for"),
     "crates/zeb_register/src/values.rt": (["stored aaab8d06"], "a number that no column stores"),
     "crates/zeb_register/src/checked_changes.rt": (["check_numbers b9ddc21a", "check_place 773bf948"], "a number or a place that no row has"),
     "crates/zeb_change/src/key_notes.rt": (["note 96b8ec5b"], "more changes of a key than a number counts"),
@@ -39,14 +39,14 @@ MADE_BY_HAND = {
     "crates/zeb_program/src/command_line.rt": (["refuse_words c10a8481"], "the status of words that memory ran out for"),
     "crates/zeb_program/src/faults.rt": (["tell 440384c5"], "the status of a path that can't be read, as a clause says"),
     "crates/zeb_program/src/failures.rt": (
-        ["of_store e6fac76b", "tell_closed 94adb760", "tell_closed 94adb760"],
+        ["store_cause fe7555f0", "tell_closed 1e3d3e99"],
         "no failure, a cause; and the status of a register that wasn't closed, as a clause says",
     ),
     "crates/zeb_program/src/memory.rt": (["open_in_memory ce0a36a4", "open_in_memory ce0a36a4"], "whatever fails as a store is opened"),
     "crates/zeb_program/src/opening.rt": (["session_over 8bfe0300"], "an open that failed, as a clause says"),
     "crates/zeb_program/src/program.rt": (["run 51ed80bc", "run 51ed80bc", "finish c2331064", "run_script 99a2903b"], "the status of want of memory, of a failed write, of an input that is no text"),
     "crates/zeb_program/src/shell.rt": (
-        ["serve_lines 92da5107", "run_shell_lines caad2aff", "run_shell_lines caad2aff"],
+        ["serve_lines 92da5107", "run_shell_lines 9bf77771", "run_shell_lines 9bf77771"],
         "the status of an input that can't be read on and of a failed write, as clauses say; and more lines than there are numbers",
     ),
     "crates/zeb_program/src/statuses.rt": (["code 347a2f2f", "of_refusal 38553881", "of_profile 90a15a5f"], "the numbers of the statuses, and the statuses of a refusal and of a profile's fault"),
@@ -63,9 +63,10 @@ HIDING = re.compile(r"\bmacro_rules\b|#\[from\]|#\[default\]\s*\w+|(?:#\[cfg\(te
 CONVERSION = re.compile(r"^impl(?:<[^{}]*?>)? From<([^{}]*)> for .*?^\}", re.M | re.S)
 CONSTANT = re.compile(r"\b(?:const|static)\s+(?!fn\b)(?:mut\s+)?(\w+)\s*:")
 FUNCTION = re.compile(r"\bfn\s+(\w+)")
-# A pattern is followed by another one, by its arm, by its guard or by what is matched; a type by the end of a list of types.
+# A pattern is followed by another one, by its arm, by its guard or by what is matched; a type by the end of a list of types, or of parameters
+# and the type that is answered.
 PATTERN_ENDS = re.compile(r"\s*(?:\([\w\s,:.]*\)|\{[\w\s,:.]*\})?[\s)]*(?:\||=|if\b)")
-TYPE_ENDS = re.compile(r"\s*,?\s*>")
+TYPE_ENDS = re.compile(r"\s*,?\s*(?:>|\)\s*->)")
 # An arm that has only one failure, up to the failure that it gives.
 PASSES = re.compile(r"[{,}]\s*(?:[\w:]+\(\s*)*(?:(?:\w+::)+|(?=AllocError))(\w+)[\s)]*=>\s*\{?\s*(?:return\s+)?(?:[\w:]+\(\s*)*&?$")
 # A growth, and a list that is written with its length; and a count that is the length of something, or a small number.

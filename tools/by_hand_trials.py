@@ -86,6 +86,7 @@ PLAIN = [
     ("a pattern of a growth's", "fn f(x: u8) -> u8 { let Err(AllocFailed { value }) = v.push(x) else { return 0; }; value }"),
     ("a comparison", "fn f(x: ErrorKind) -> bool { x == ErrorKind::OutOfMemory || x != ErrorKind::OutOfMemory }"),
     ("types", "fn f<P: Place>(x: Result<u8, AllocError>) -> Result<(Session<P::Store, Blocks>, u8), Connection<Self::Store>> { x.g() }"),
+    ("a type of a parameter", "trait Paths {\n    fn close(&self, store: Self::Store) -> Closed;\n}"),
     ("types over lines", "fn f() -> Result<\n    u8,\n    AllocError,\n> {\n    g()\n}"),
     ("another type of the name", "use sqlite_disk::Memory;\nfn f(alloc: Global) -> FileStore<Memory> { FileStore { log: Memory::new(alloc) } }"),
     ("a line of a profile", "fn f(x: Path) -> Directive { Directive::Store(x) }"),

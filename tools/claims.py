@@ -1,7 +1,9 @@
-"""The tables of claims of README.md and docs/PROOF.md: what a row cites has to be there, and where the row links it.
+"""The tables of claims of README.md and docs/PROOF.md: what a row cites has to be there, and where the row links it. And what docs/CALLING.md quotes.
 
 A row names a clause with its function, a file of src/ that has both, the definitions that the clause goes through, with their files of
 specs/, and an edit. "the same" in the place of a clause or of a file is that of the row above, with what stands behind it.
+
+A quoted block of code stands in its file as it is quoted, but for the lines' indentation. A line `..` in it says that lines are left out.
 """
 import collections
 import re
@@ -91,3 +93,36 @@ def wrong_edit(cells):
         yield f"neither an edit nor a hyphen: {cells[4]}"
     if edit and cells[1].startswith("law ") and ";" not in cells[1]:
         yield f"an edit of a law: {edit}"
+
+
+# A block of Rattle's code, with what stands above it on the page up to the block before.
+QUOTE = re.compile(r"(.*?)^```rust\n(.*?)^```$", re.M | re.S)
+
+
+def without_indent(text):
+    """The lines of a text without the blanks at their ends, with a line's end before and behind each."""
+    return "\n" + "".join(f"{line.strip()}\n" for line in text.splitlines())
+
+
+def quotes(text):
+    """The blocks of code of a page, each with the last file of src/ that is linked above it, and with its pieces."""
+    for above, block in QUOTE.findall(text):
+        files = [it for it in LINK.findall(above) if it.endswith(".rt")]
+        yield (files or [None])[-1], re.split(r"^\s*\.\.\n", block, flags=re.M)
+
+
+def misquoted(text, read):
+    """What a page quotes and its files don't have so; `read` gives the text of a file that the page links."""
+    for link, pieces in quotes(text):
+        if link is None:
+            yield f"a block of code without a file above it: {pieces[0].splitlines()[0]}"
+            continue
+        code, at = without_indent(read(link)), 0
+        for piece in pieces:
+            found = code.find(without_indent(piece), at)
+            if piece.count("{") != piece.count("}"):
+                yield f"a clause or a body is cut: {piece.splitlines()[0]}"
+            elif found < 0:
+                yield f"it isn't in {link}, or not behind the piece before: {piece.splitlines()[0]}"
+            else:
+                at = found + len(without_indent(piece)) - 1

@@ -1,4 +1,4 @@
-"""Trials of tools/claims.py: rows that cite what is there, and rows that cite something in vain."""
+"""Trials of tools/claims.py: rows that cite what is there, and rows that cite something in vain; quotes of code, right and wrong."""
 import claims
 
 CODE = "pub fn find()\n    ensures found { Yes }\n    ensures { Yes }\n{\n}\n\npub fn numbers_stay()\n    ensures { Yes }\n{}\n"
@@ -32,7 +32,17 @@ WRONG = [
     ("law `numbers_stay`", FIND, EDIT, "an edit of a law: ../crates/a/edits/one.edit"),
     ("`found` of `find`", FIND, "one", "neither an edit nor a hyphen: one"),
 ]
-NUMBER = len(SOUND) + len(WRONG) + 2
+# Blocks of code below a link to CODE, and how many pieces of each it hasn't so.
+QUOTED = [
+    ("pub fn find()\n    ensures found { Yes }\n", 0),
+    ("pub fn find()\nensures found { Yes }\n..\npub fn numbers_stay()\n", 0),
+    ("pub fn find()\n    ensures { Yes }\n", 1),
+    ("pub fn find(\n", 1),
+    ("pub fn find()\n    ensures found { Yes }\n    ensures { Yes }\n{\n", 1),
+    ("pub fn numbers_stay()\n..\npub fn find()\n", 1),
+    ("pub fn find() \n    ensures found { No }\n..\npub fn seek()\n", 2),
+]
+NUMBER = len(SOUND) + len(WRONG) + 2 + len(QUOTED) + 1
 
 
 def page(*rows):
@@ -52,8 +62,15 @@ def said(*rows):
     return found
 
 
+def misquoted(block, link="[find.rt](src/find.rt)"):
+    """What is said of a page with this block of code below a link."""
+    return [*claims.misquoted(f"A page. From {link}:\n\n```rust\n{block}```\n", {"src/find.rt": CODE}.get)]
+
+
 def failed():
     """The trials that come out wrong."""
+    yield from [f"quoted: {block!r}, {misquoted(block)}" for block, number in QUOTED if len(misquoted(block)) != number]
+    yield from ["a quote without a file is taken"] * (len(misquoted(QUOTED[0][0], "nowhere")) != 1)
     yield from [f"refused: the row of {row[0]}, {said(row)}" for row in SOUND if said(row)]
     yield from [f"not refused: the row of {clause} by {why!r}" for clause, file, edit, why in WRONG if why not in said((clause, file, edit))]
     yield from ["a row of the same clause and file isn't read as the one above"] * bool(said(SOUND[3], ("the same", "the same", "-")))

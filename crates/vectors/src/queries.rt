@@ -86,21 +86,22 @@ plan @attr 1=4 @attr 4=105 "whale zzz" -> any word 0 whale zzz
 plan @attr 1=4 @attr 6=2 MOBY-DICK -> complete 0 moby dick
 plan @attr 1=4 @attr 6=3 MOBY-DICK -> complete 0 moby dick
 plan @attr 1=4 @attr 6=3 @attr 3=1 moby -> complete 0 moby
-plan @attr 1=4 @attr 6=3 "" -> complete 0
+plan @attr 1=4 @attr 6=3 "" -> no words 0 p
 plan @attr 1=4 @attr 2=1 Dick -> ordered 0 w Less dick
 plan @attr 1=4 @attr 2=2 Dick -> ordered 0 w LessOrEqual dick
 plan @attr 1=4 @attr 2=3 Dick -> phrase 0 dick
 plan @attr 1=4 @attr 2=4 @attr 6=2 "M  D" -> ordered 0 p GreaterOrEqual m d
 plan @attr 1=4 @attr 2=5 Dick -> ordered 0 w Greater dick
-plan @attr 2=1 "" -> ordered 2 w Less no word
-plan @attr 2=5 " ,; " -> ordered 2 w Greater no word
+plan @attr 2=1 "" -> no words 2 w
+plan @attr 2=5 " ,; " -> no words 2 w
+plan @attr 4=6 "" -> no words 2 w
 plan @attr 2=103 "" -> always 2 w
 plan @attr 1=4 @attr 2=103 @attr 6=2 x -> always 0 p
 plan @attr 1=31 @attr 2=103 @attr 4=109 x -> always 1 n
 plan @attr 1=31 @attr 4=109 @attr 2=4 951 -> number 1 GreaterOrEqual 951
 plan @attr 1=31 @attr 4=109 00951 -> number 1 Equal 951
 plan @attr 4=107 007 -> record 7
-plan @not moby "" -> Not(phrase 2 moby, phrase 2)
+plan @not moby "" -> Not(phrase 2 moby, no words 2 w)
 plan @or @and a b c -> Or(And(phrase 2 a, phrase 2 b), phrase 2 c)
 plan @attr 1=4 @and a @attr 1=title b -> And(phrase 0 a, phrase 0 b)
 plan @prox 0 1 0 1 k 2 moby dick -> near 2 moby dick Less 1 any order

@@ -64,13 +64,15 @@ pub use Rattle.zeb_change.specs.PrivateReading.{ReadsRecord}
 pub use Rattle.zeb_change.specs.PrivateReasons.{TakesNamed, IsDamageOrFailure, IsFullOrFails, IsRecordRefused, LosesJustNamed}
 pub use Rattle.zeb_change.specs.PrivateRecords.{IsElderAs, elder_bytes, GoesBy, IsWholeElder, IsNewer}
 pub use Rattle.zeb_change.specs.PrivateStanding.{WillBe, standing, WillBeFolded, WillBeTaken, Standing}
-pub use Rattle.zeb_change.specs.PrivateTallies.{IsTallied}
+pub use Rattle.zeb_change.specs.Tallies.{IsTallied}
 pub use Rattle.zeb_change.specs.Reading.{HasFailedAt, NoneFailed, StayAble}
 pub use Rattle.zeb_marc.specs.Reading.{StaysAble}
 pub use Rattle.zeb_change.specs.Reasons.{IsRefusedFor, LosesNamedAlone, AreNamed, HasReasonAt, IsAllowed, IsAtFault, IsNamed, IsNewAt, NamesAny, IsRefusedAt}
-pub use Rattle.zeb_change.specs.PrivateRecordChanges.{Point, Turns, AreStores, Steps, Accepts, ChangesRecord, HasOccurrences, IsSound, IsWithdrawn, NotesRecord, RefusesTurn, WritesRecords, point, Answers, RefusesSound, TurnsRecord, FailsTurn, FailsWhole, TellsFailure, IsUnsound}
-pub use Rattle.zeb_change.specs.PrivateRecordFolds.{At, FoldsRecord, SettlesNotes, TakesFiles, TakesRecord, TakesRest, point_in, ChangesFiles, at, Each, EndsAll, EndsFile, ThenSettles, Advances, AreReadAs, IsReadAs, IsUnsettled, OfReaders, TakesReader, TakesReaders}
-pub use Rattle.zeb_change.specs.Refused.{Meets, Why, why_of, IsFailing, too_many_records, damaged, database_full, unknown}
+pub use Rattle.zeb_change.specs.RecordChanges.{Point, Turns, AreStores, Accepts, ChangesRecord, HasOccurrences, IsSound, IsWithdrawn, NotesRecord, RefusesTurn, WritesRecords, Answers, RefusesSound, TellsFailure, IsUnsound}
+pub use Rattle.zeb_change.specs.PrivateRecordChanges.{Steps, point, TurnsRecord, FailsTurn, FailsWhole}
+pub use Rattle.zeb_change.specs.RecordFolds.{At, FoldsRecord, SettlesNotes, TakesFiles, TakesRecord, TakesRest, point_in, ChangesFiles, FoldsFiles, Each, EndsAll, EndsFile, ThenSettles, Advances, IsUnsettled, OfReaders}
+pub use Rattle.zeb_change.specs.PrivateRecordFolds.{at, AreReadAs, IsReadAs, TakesReader, TakesReaders}
+pub use Rattle.zeb_change.specs.Refused.{Meets, NeverUnready, Why, why_of, IsFailing, too_many_records, damaged, database_full, unknown}
 pub use Rattle.zeb_change.specs.Reposted.{ArePostingsOf, IsReposted, occurrence_at, AreTheSame}
 pub use Rattle.zeb_change.specs.Stored.{IsKept, IsBase, ArePosted, AreKept}
 pub use Rattle.zeb_change.specs.UnderWay.{HaveSystemNumbers, with_records, IsFolded, IsUnderWay, StandsFor, conditions_of, KeepsNames}

@@ -191,5 +191,5 @@ module _ (s : State) (version : List ℕ) (setting : Setting) (format : Format) 
 
   pub change_takes : (row_work : ℕ) (splits : List Split) (old new : At) (p : Progress) → IsUnder old p → (result : Result (Unit {0}) Refusal) → ChangesFiles setting format row_work db splits old new result
       → Meets (IsFoldedTo old new) (files_folded (conditions_of version setting) setting.kind 1 splits p) result
-  change_takes row_work splits =
-      then_folds (TakesFiles setting format row_work db 1 splits) (files_folded (conditions_of version setting) setting.kind 1 splits) (files_take row_work 1 splits) row_work
+  change_takes row_work splits old new p under result changes =
+      then_folds (TakesFiles setting format row_work db 1 splits) (files_folded (conditions_of version setting) setting.kind 1 splits) (files_take row_work 1 splits) row_work old new p under result changes.0

@@ -12,7 +12,7 @@ use Rattle.zeb_register.proofs.RunLaws.{beside_database, run_beside, run_held, r
 use Rattle.zeb_register.proofs.RunRows.{beside_alike, rows_beside}
 use Rattle.zeb_register.proofs.RunTurns.{none_put}
 use Rattle.zeb_register.proofs.UnitChangeLaws.{allows_held}
-use Rattle.zeb_change.specs.PrivateInside.{WorksInside}
+use Rattle.zeb_change.specs.Inside.{WorksInside}
 use Rattle.zeb_change.specs.PrivatePending.{DoKeysRise}
 use Rattle.zeb_change.specs.PrivateWriting.{IsGivenOf, LacksLeaveFor, PutsNotes, WritesInStore, WritesNotes}
 use Rattle.zeb_change.proofs.Commuting.{olds_rise, put_in_order}

@@ -1,6 +1,6 @@
 -- What work inside a transaction does to a connection, whatever it does to rows.
 use Rattle.std.specs.Prelude.{IsTrue, MatchResult, Result}
-use Rattle.sqlite.specs.State.{State, KeepsCommit}
+use Rattle.sqlite.specs.State.{HasCleanDisk, KeepsCommit, State, Survives}
 
 -- Inside a transaction: nothing is committed, the transaction goes on, and an open connection stays open.
 pub record Continues (old new : State) : Type 0 where
@@ -11,3 +11,8 @@ pub record Continues (old new : State) : Type 0 where
 -- Inside a transaction, what work did that was done or refused: a refusal leaves nothing committed.
 abbrev pub StaysInside : {T E : Type 0} → State → State → Result T E → Type 0
 StaysInside old new result = MatchResult result (λ _. Continues old new) (λ _. KeepsCommit old new)
+
+-- What a call does that works inside a transaction: it leaves the transaction as said, and a crash leaves what it left before.
+pub record WorksInside {T E : Type 0} (old new : State) (result : Result T E) : Type 0 where
+  pub stays : HasCleanDisk new → IsTrue old.in_transaction → StaysInside old new result
+  pub crash : Survives old new (λ _. ⊥)

@@ -10,7 +10,6 @@ pub mod Occurs
 pub mod Costs
 pub mod Stored
 pub mod Inside
-pub mod PrivateInside
 pub mod Reading
 pub mod PrivateReading
 pub mod UnderWay
@@ -23,13 +22,15 @@ pub mod NoteWords
 pub mod Noted
 pub mod PrivateKeyRuns
 pub mod PrivateChangedKeys
-pub mod PrivateTallies
+pub mod Tallies
 pub mod PrivateNoteWords
 pub mod PrivatePending
 pub mod PrivateWriting
 pub mod PrivateStanding
 pub mod PrivateRecords
 pub mod PrivateReasons
+pub mod RecordChanges
+pub mod RecordFolds
 pub mod PrivateRecordChanges
 pub mod PrivateRecordFolds
 pub mod NotedKeys

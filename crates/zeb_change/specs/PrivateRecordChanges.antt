@@ -1,50 +1,23 @@
 -- What only the contracts of private functions speak of; no public clause reaches it.
--- What a change does with one record, in rows, on any tables of a store: what it answers, and what becomes of the table of records, of the
--- notes and of the last number.
-use Rattle.std.specs.Prelude.{◌≡◌, ◌≢◌, ◌⊎◌, ◌+◌, ◌<◌, ◌≤◌, ℕ, ℤ, pos, IsTrue, List, [], ◌∷◌, Option, Some, None, Result, Ok, Err}
-use Rattle.std.specs.List.{AllByRecursion}
-use Rattle.sqlite.specs.Effect.{Database, IsDatabase}
-use Rattle.sqlite.specs.State.{HasCleanDisk, State}
-use Rattle.sqlite.specs.Tree.{Trees}
+-- What the parts of a change do with one record, and when they fail.
+use Rattle.std.specs.Prelude.{◌≡◌, ◌+◌, ◌<◌, ◌≤◌, ℕ, ℤ, List, Option, Some, None, Result}
+use Rattle.sqlite.specs.State.{State}
 use Rattle.zeb_marc.specs.Records.{first_fault}
-use Rattle.zeb_profile.specs.declared.directives.Directive.{Directive}
-use Rattle.zeb_keys.specs.declared.keys.Occurrence.{Occurrence}
 use Rattle.zeb_register.specs.declared.kept.Elder.{Elder}
-use Rattle.zeb_register.specs.Kept.{IsElderOf}
-use Rattle.zeb_register.specs.Sql.{IsKeyed, KeepsOthers, Loses, Replaces}
-use Rattle.zeb_register.specs.Store.{HasNumber, IsStore, SharesRecord, record_row, records_tree}
-use Rattle.zeb_register.specs.Tables.{store_schema}
 use Rattle.zeb_change.specs.declared.pending.Pending.{Pending}
 use Rattle.zeb_change.specs.declared.records.Progress.{Progress}
 use Rattle.zeb_change.specs.declared.refusals.Refusal.{Refusal}
-use Rattle.zeb_change.specs.declared.refusals.Refusal.TheVariants.{Damaged, DatabaseFull, Unknown}
 use Rattle.zeb_change.specs.declared.settings.Kind.{Kind}
 use Rattle.zeb_change.specs.declared.settings.Kind.TheVariants.{Update, Delete, Adelete}
 use Rattle.zeb_change.specs.declared.settings.Limits.{Limits}
 use Rattle.zeb_change.specs.declared.settings.Setting.{Setting}
 use Rattle.zeb_change.specs.declared.tally.Fate.{Fate}
-use Rattle.zeb_change.specs.declared.tally.Fate.TheVariants.{Inserted, Updated, Deleted, PassedOver}
-use Rattle.zeb_change.specs.Elders.{KeepsWhole}
-use Rattle.zeb_change.specs.NotedKeys.{NotesKeys}
-use Rattle.zeb_change.specs.Occurs.{AreOccurrencesOf}
-use Rattle.zeb_change.specs.Reasons.{IsAtFault}
-use Rattle.zeb_change.specs.Refused.{IsFailing, why_of}
-use Rattle.zeb_change.specs.Stored.{IsKept}
+use Rattle.zeb_change.specs.RecordChanges.{Point, Answers, TellsFailure, IsInserted, IsSupplanted, IsWithdrawn, IsFull, IsUnsound, Turns, RefusesTurn}
 
 -- ---- how far a change is, and what calls do to that
 
--- the tables, the notes of keys that are not written yet, and the last number
-pub record Point : Type 0 where
-  pub tables : Database
-  pub pending : Pending
-  pub last : ℕ
-
 abbrev pub point : State → Pending → ℕ → Point
 point s pending last = record { tables = s.now; pending = pending; last = last }
-
--- this is said of a call inside a transaction on the tables of a store
-abbrev pub OnRows : State → State → Type 0 → Type 0
-OnRows old new Said = HasCleanDisk new → IsTrue old.in_transaction → IsStore old → Said
 
 -- the database stays, and the counts of work; the last number rises by one at most, and not above the limit
 pub record Steps (limits : Limits) (old new : Progress) : Type 0 where
@@ -53,90 +26,7 @@ pub record Steps (limits : Limits) (old new : Progress) : Type 0 where
   pub next : new.last ≤ old.last + 1
   pub most : (most : ℕ) → old.last ≤ most → limits.numbers ≤ most → new.last ≤ most
 
--- a call is done, or it fails so, or it is refused so
-abbrev pub Answers : {T : Type 0} → (Fails Refused : Refusal → Type 0) → (Done : T → Type 0) → Result T Refusal → Type 0
-Answers Fails Refused Done (Ok x) = Done x
-Answers Fails Refused Done (Err refusal) = Fails refusal ⊎ Refused refusal
-
--- the store or the memory failed
-abbrev pub TellsFailure : Refusal → Type 0
-TellsFailure refusal = IsFailing (why_of refusal)
-
--- ---- rows
-
--- the tables are those of a store
-pub record AreStores (db : Database) : Type 0 where
-  pub is : db.schema ≡ store_schema
-  pub sound : IsDatabase db
-  pub keyed : AllByRecursion (λ t. IsKeyed (db.trees t.tree)) store_schema.tables
-
--- the table of records is written so, and no other
-pub record WritesRecords (Rows : ℕ → Trees → Trees → Type 0) (old new : Database) : Type 0 where
-  pub store : AreStores new
-  pub rows : Rows records_tree old.trees new.trees
-  pub others : KeepsOthers store_schema records_tree old.trees new.trees
-
--- ---- notes
-
--- the occurrences of the record with these bytes, none where there is no record
-abbrev pub HasOccurrences : List Directive → Option (List ℕ) → List Occurrence → Type 0
-HasOccurrences profile None occurrences = occurrences ≡ []
-HasOccurrences profile (Some bytes) occurrences = AreOccurrencesOf profile bytes occurrences
-
--- the keys of the record with this number are noted, where its bytes become others
-pub record NotesRecord (profile : List Directive) (sysno : ℕ) (elder newer : Option (List ℕ)) (old new : Pending) : Type 0 where
-  pub were : List Occurrence
-  pub are : List Occurrence
-  pub had : HasOccurrences profile elder were
-  pub has : HasOccurrences profile newer are
-  pub keys : NotesKeys sysno were are old new
-
 -- ---- one record, whose elder is known
-
--- the table of records is written so, and the record's keys are noted
-pub record Moves (Rows : ℕ → Trees → Trees → Type 0) (profile : List Directive) (sysno : ℕ) (elder newer : Option (List ℕ)) (old new : Point) : Type 0 where
-  pub rows : WritesRecords Rows old.tables new.tables
-  pub noted : NotesRecord profile sysno elder newer old.pending new.pending
-
--- its row is put under this number, in place of those that have its number or its identifier
-abbrev pub Puts : List Directive → ℤ → ℕ → (ident : List ℕ) → (elder : Option (List ℕ)) → (bytes : List ℕ) → Point → Point → Type 0
-Puts profile db sysno ident elder bytes =
-    Moves (Replaces (SharesRecord db (pos sysno) ident) (record_row db (pos sysno) ident bytes)) profile sysno elder (Some bytes)
-
--- the row with this number is taken out
-abbrev pub Takes : List Directive → ℤ → ℕ → (elder : List ℕ) → Point → Point → Type 0
-Takes profile db sysno elder = Moves (Loses (HasNumber db (pos sysno))) profile sysno (Some elder) None
-
--- these bytes are a record of ISO 2709 in which the profile finds the identifier
-abbrev pub IsSound : List Directive → (ident bytes : List ℕ) → Type 0
-IsSound profile ident bytes = IsKept profile (record { sysno = 0; ident = ident; bytes = bytes })
-
--- it is kept under the number after the last
-abbrev pub IsInserted : Setting → ℤ → (ident bytes : List ℕ) → Point → Point → Fate → Type 0
-IsInserted setting db ident bytes old new fate =
-    (fate ≡ Inserted) × (old.last < setting.limits.numbers) × (new.last ≡ old.last + 1)
-    × Puts setting.profile.now db (old.last + 1) ident None bytes old new
-
--- it takes the place of its elder, which was sound; where that has the same bytes, nothing changes
-abbrev pub IsSupplanted : Setting → ℤ → (ident bytes : List ℕ) → Elder → Point → Point → Fate → Type 0
-IsSupplanted setting db ident bytes elder old new fate =
-    ((elder.bytes.items ≡ bytes) × (fate ≡ Updated) × (new ≡ old))
-    ⊎ ((elder.bytes.items ≢ bytes) × (fate ≡ Updated) × (new.last ≡ old.last) × IsSound setting.profile.now ident elder.bytes.items
-    × Puts setting.profile.now db elder.sysno ident (Some elder.bytes.items) bytes old new)
-
--- its elder, which was sound, is kept no longer
-abbrev pub IsWithdrawn : Setting → ℤ → (ident : List ℕ) → Elder → Point → Point → Fate → Type 0
-IsWithdrawn setting db ident elder old new fate =
-    (fate ≡ Deleted) × (new.last ≡ old.last) × IsSound setting.profile.now ident elder.bytes.items
-    × Takes setting.profile.now db elder.sysno elder.bytes.items old new
-
--- the limits leave no number
-abbrev pub IsFull : Limits → (last : ℕ) → Refusal → Type 0
-IsFull limits last refusal = (refusal ≡ DatabaseFull) × (limits.numbers ≤ last)
-
--- its elder isn't sound
-abbrev pub IsUnsound : List Directive → (ident : List ℕ) → Elder → Refusal → Type 0
-IsUnsound profile ident elder refusal = (refusal ≡ Damaged) × ¬ IsSound profile ident elder.bytes.items
 
 -- the limits leave a number, and the store or the memory failed
 abbrev pub FailsFree : Limits → (last : ℕ) → Refusal → Type 0
@@ -159,22 +49,6 @@ abbrev pub Withdraws : Setting → ℤ → (ident : List ℕ) → Elder → Poin
 Withdraws setting db ident elder old new =
     Answers (FailsWhole elder) (IsUnsound setting.profile.now ident elder) (IsWithdrawn setting db ident elder old new)
 
--- A sound record is accepted so, by the kind of the change and its elder.
-abbrev pub Turns : Setting → ℤ → (ident bytes : List ℕ) → Kind → Option Elder → Point → Point → Fate → Type 0
-Turns setting db ident bytes Update None old new fate = IsInserted setting db ident bytes old new fate
-Turns setting db ident bytes Update (Some elder) old new fate = IsSupplanted setting db ident bytes elder old new fate
-Turns setting db ident bytes Delete (Some elder) old new fate = IsWithdrawn setting db ident elder old new fate
-Turns setting db ident bytes Delete None old new fate = ⊥
-Turns setting db ident bytes Adelete (Some elder) old new fate = IsWithdrawn setting db ident elder old new fate
-Turns setting db ident bytes Adelete None old new fate = (fate ≡ PassedOver) × (new ≡ old)
-
--- and refused so
-abbrev pub RefusesTurn : Setting → (file nth : ℕ) → (ident : List ℕ) → Option Elder → Kind → (last : ℕ) → Refusal → Type 0
-RefusesTurn setting file nth ident (Some elder) kind last refusal = IsUnsound setting.profile.now ident elder refusal
-RefusesTurn setting file nth ident None Update last refusal = IsFull setting.limits last refusal
-RefusesTurn setting file nth ident None Delete last refusal = refusal ≡ Unknown file nth
-RefusesTurn setting file nth ident None Adelete last refusal = ⊥
-
 -- The store or the memory failed. Where the elder's bytes are no record, or the kind and the limits leave nothing to be done, neither is told.
 abbrev pub FailsTurn : Setting → Option Elder → Kind → (last : ℕ) → Refusal → Type 0
 FailsTurn setting (Some elder) kind last refusal = FailsWhole elder refusal
@@ -187,27 +61,3 @@ abbrev pub TurnsRecord : Setting → ℤ → (file nth : ℕ) → (ident bytes :
 TurnsRecord setting db file nth ident bytes kind elder old new =
     Answers (FailsTurn setting elder kind old.last) (RefusesTurn setting file nth ident elder kind old.last)
     (Turns setting db ident bytes kind elder old new)
-
--- ---- one record of a file
-
--- the record is sound, and this becomes of it and of its elder, the record that the database keeps under its identifier
-pub record Accepts (setting : Setting) (db : ℤ) (bytes : List ℕ) (old new : Point) (fate : Fate) : Type 0 where
-  pub ident : List ℕ
-  pub sound : IsSound setting.profile.now ident bytes
-  pub elder : Option Elder
-  pub there : IsElderOf old.tables.trees db ident elder
-  pub done : Turns setting db ident bytes setting.kind elder old new fate
-
--- The record is sound, and is refused so: as damage where what the database keeps under its identifier isn't whole, or where it keeps nothing.
-pub record RefusesSound (setting : Setting) (db : ℤ) (file nth : ℕ) (bytes : List ℕ) (old : Point) (refusal : Refusal) : Type 0 where
-  pub ident : List ℕ
-  pub sound : IsSound setting.profile.now ident bytes
-  pub why : ((refusal ≡ Damaged) × ¬ KeepsWhole setting.profile.now old.tables.trees db ident)
-      ⊎ (IsElderOf old.tables.trees db ident None × RefusesTurn setting file nth ident None setting.kind old.last refusal)
-
--- what a change does with the nth record of a file
-abbrev pub ChangesRecord : Setting → ℤ → (file nth : ℕ) → (bytes : List ℕ) → Point → Point → Result Fate Refusal → Type 0
-ChangesRecord setting db file nth bytes old new =
-    Answers TellsFailure
-    (λ refusal. IsAtFault setting.profile.now file nth (bytes ∷ []) None refusal ⊎ RefusesSound setting db file nth bytes old refusal)
-    (Accepts setting db bytes old new)

@@ -38,3 +38,10 @@ BlamesFailed has_failed readers result = (file : ℕ) → result ≡ Err (ReadFa
 -- readers that can't fail stay so, and none of them has failed that hadn't, one by one
 abbrev pub StayAble : {R : Type 0} → (may_fail has_failed : R → Bool) → (old new : List R) → Type 0
 StayAble may_fail has_failed = AllZip (StaysAble may_fail has_failed)
+
+-- What a call tells of readers that fail: it is refused by the number of the file of one that has failed meanwhile, and so for no other; and
+-- those that can't fail stay so.
+pub record TellsFaults {R T : Type 0} (may_fail has_failed : R → Bool) (old new : List R) (result : Result T Refusal) : Type 0 where
+  pub failed : TellsFailed has_failed old new result
+  pub fault : BlamesFailed has_failed new result
+  pub able : StayAble may_fail has_failed old new

@@ -1,30 +1,17 @@
 //! The records of files, folded into a database inside a transaction.
 
-ghost use Rattle.std.specs.Prelude.{◌≡◌, ◌≢◌, ◌↔◌, ◌+◌, ◌<◌, ◌≤◌, ℕ, ℤ, List, length, map, Some, Err, true};
-ghost use Rattle.std.specs.Prelude.{IsTrue, IsErrOf, IfErr, OnOk};
-ghost use Rattle.std.specs.List.{flat_map};
+ghost use Rattle.std.specs.Prelude.{◌≡◌, ◌↔◌, ◌+◌, true, map, IsErrOf, IfErr, OnOk};
 ghost use Rattle.sqlite.specs.Held.{state};
-ghost use Rattle.sqlite.specs.State.{HasCleanDisk, Survives};
-ghost use Rattle.zeb_marc.specs.Splits.{Split};
-ghost use Rattle.zeb_register.specs.Clauses.{InStore};
-ghost use Rattle.zeb_change.specs.Folding.{Progress as FoldProgress, files_folded, splits_of};
-ghost use Rattle.zeb_change.specs.Base.{Kept};
-ghost use Rattle.zeb_change.specs.Elders.{AllFindWhole, FirstFindsWhole, PassesOn};
-ghost use Rattle.zeb_change.specs.PrivateRecordChanges.{OnRows, Steps};
-ghost use Rattle.zeb_change.specs.PrivateRecordFolds.{Advances, ChangesFiles, FoldsRecord, OfReaders, TakesFiles, TakesReader, TakesRecord, at};
-ghost use Rattle.zeb_change.specs.Reasons.{IsRefusedFor, LosesNamedAlone};
-ghost use Rattle.zeb_change.specs.Costs.{IsFilesCost, IsWorkFor};
-ghost use Rattle.zeb_change.specs.Noted.{IsNothingNoted};
-ghost use Rattle.zeb_change.specs.Refused.{NeverUnready, Meets};
 ghost use Rattle.zeb_marc.specs.Reading.{StaysAble};
-ghost use Rattle.zeb_change.specs.Reading.{NamesFailed, NoneFailed, TellsFailed, BlamesFailed, StayAble};
+ghost use Rattle.zeb_change.specs.RecordChanges.{OnRows};
+ghost use Rattle.zeb_change.specs.PrivateRecordChanges.{Steps};
+ghost use Rattle.zeb_change.specs.RecordFolds.{Advances, ChangesFiles, FoldsFiles, FoldsRecord, OfReaders, TakesFiles, TakesRecord};
+ghost use Rattle.zeb_change.specs.PrivateRecordFolds.{TakesReader, at};
+ghost use Rattle.zeb_change.specs.Reading.{NamesFailed, NoneFailed, TellsFaults};
 ghost use Rattle.zeb_change.specs.Outcomes.{fold_refusal, take_refusal};
 ghost use Rattle.zeb_change.specs.PrivateFaults.{as_refusal};
-ghost use Rattle.zeb_change.specs.PrivateReading.{ReadsRecord};
-ghost use Rattle.zeb_change.specs.Inside.{StaysInside};
-ghost use Rattle.zeb_change.specs.PrivateInside.{WorksInside};
-ghost use Rattle.zeb_change.specs.Holding.{HoldsSome};
-ghost use Rattle.zeb_change.specs.UnderWay.{IsFolded, IsUnderWay, StandsFor, conditions_of};
+ghost use Rattle.zeb_change.specs.PrivateReading.{ReadsRecord, TellsFault};
+ghost use Rattle.zeb_change.specs.Inside.{WorksInside};
 
 use crate::part_faults::{FoldFault, TakeFault};
 use crate::pending::Pending;
@@ -158,11 +145,8 @@ fn fold_file<S: Alter, L: Layout, R: Source>(
         (at (state S.Store tx.old.conn.now) pending.old fold.old)
         (at (state S.Store tx.new.conn.now) pending.new fold.new)
         (as_refusal fold_refusal result)) }
-    ensures failed { R.has_failed reader.new ≡ true
-        → as_refusal fold_refusal result ≡ Err (Refusal.ReadFault file) }
-    ensures fault { (other : ℕ) → as_refusal fold_refusal result ≡ Err (Refusal.ReadFault other)
-        → (other ≡ file) × (R.has_failed reader.new ≡ true) }
-    ensures able { StaysAble R.may_fail R.has_failed reader.old reader.new }
+    ensures faults { TellsFault R.may_fail R.has_failed reader.old reader.new file
+        (as_refusal fold_refusal result) }
 {
     for nth in 1..u64::MAX {
         let found = match read_record(reader, buffer) {
@@ -201,10 +185,8 @@ fn fold_readers<S: Alter, L: Layout, R: Source>(
         (at (state S.Store tx.old.conn.now) pending.old fold.old)
         (at (state S.Store tx.new.conn.now) pending.new fold.new))
         (as_refusal fold_refusal result)) }
-    ensures failed { TellsFailed R.has_failed readers.old readers.new
+    ensures faults { TellsFaults R.may_fail R.has_failed readers.old readers.new
         (as_refusal fold_refusal result) }
-    ensures fault { BlamesFailed R.has_failed readers.new (as_refusal fold_refusal result) }
-    ensures able { StayAble R.may_fail R.has_failed readers.old readers.new }
 {
     for (index, reader) in readers.iter_mut().enumerate() {
         let file = index as u64 + 1;
@@ -231,11 +213,7 @@ fn take_files<S: Alter, L: Layout, R: Source>(
         (λ splits. ChangesFiles setting.now L.format L.row_work fold.old.progress.database.0 splits
         (at (state S.Store tx.old.conn.now) pending.old fold.old)
         (at (state S.Store tx.new.conn.now) pending.new fold.new)) result) }
-    ensures all { OnOk result (IsNothingNoted pending.new) }
-    ensures failed { TellsFailed R.has_failed readers.old readers.new result }
-    ensures fault { BlamesFailed R.has_failed readers.new result }
-    ensures able { StayAble R.may_fail R.has_failed readers.old readers.new }
-    ensures ready { NeverUnready result }
+    ensures faults { TellsFaults R.may_fail R.has_failed readers.old readers.new result }
 {
     fold_readers::<S, L, R>(tx, setting, fold, pending, buffer, readers)?;
     let database = fold.progress.database;
@@ -264,91 +242,17 @@ pub fn fold_files<S: Alter, L: Layout, R: Source>(
     readers: &mut [R],
 ) -> Result<(), Refusal>
     ensures same { tx.new.conn.ghost_name ≡ tx.old.conn.ghost_name }
-    ensures stays { HasCleanDisk (state S.Store tx.new.conn.now)
-        → IsTrue (state S.Store tx.old.conn.now).in_transaction
-        → StaysInside (state S.Store tx.old.conn.now) (state S.Store tx.new.conn.now) result }
-    ensures database { fold.new.progress.database ≡ fold.old.progress.database }
-    ensures folded { HasCleanDisk (state S.Store tx.new.conn.now)
-        → IsTrue (state S.Store tx.old.conn.now).in_transaction
-        → (texts : List (List ℕ)) → map R.remaining readers.old ≡ map Some texts
-        → NoneFailed R.has_failed readers.new
-        → (version : List ℕ) (records_of : ℤ → List Kept) (p : FoldProgress) → StandsFor fold.old p
-        → IsUnderWay L.format setting.now.profile.now fold.old.progress.database.0 records_of
-        (state S.Store tx.old.conn.now) p.base
-        → Meets (λ after _. IsFolded L.format setting.now.profile.now fold.old.progress.database.0
-        records_of (state S.Store tx.old.conn.now) (state S.Store tx.new.conn.now) fold.new after)
-        (files_folded (conditions_of version setting.now) setting.now.kind 1
-        (splits_of texts) p) result }
-    // Whatever the readers tell: an accepted fold leaves tables that hold a database, and damage is told only of such as held none.
-    ensures honest { HasCleanDisk (state S.Store tx.new.conn.now)
-        → IsTrue (state S.Store tx.old.conn.now).in_transaction
-        → (records_of : ℤ → List Kept)
-        → HoldsSome L.format setting.now.profile.now fold.old.progress.database.0 records_of
-        (state S.Store tx.old.conn.now) fold.old.progress.last
-        → (result ≢ Err Refusal.Damaged)
-        × OnOk result (HoldsSome L.format setting.now.profile.now fold.old.progress.database.0
-        records_of (state S.Store tx.new.conn.now) fold.new.progress.last) }
-    ensures failed { TellsFailed R.has_failed readers.old readers.new result }
-    ensures fault { BlamesFailed R.has_failed readers.new result }
-    ensures able { StayAble R.may_fail R.has_failed readers.old readers.new }
-    ensures ready { NeverUnready result }
-    ensures crash { Survives (state S.Store tx.old.conn.now) (state S.Store tx.new.conn.now)
-        (λ _. ⊥) }
-    ensures work { HasCleanDisk (state S.Store tx.new.conn.now)
-        → IsTrue (state S.Store tx.old.conn.now).in_transaction
-        → (texts : List (List ℕ)) → map R.remaining readers.old ≡ map Some texts
-        → (version : List ℕ) (records_of : ℤ → List Kept) (p : FoldProgress) → StandsFor fold.old p
-        → IsUnderWay L.format setting.now.profile.now fold.old.progress.database.0 records_of
-        (state S.Store tx.old.conn.now) p.base
-        → OnOk result ((n : ℕ) × IsFilesCost (conditions_of version setting.now) setting.now.kind 1
-        (splits_of texts) p n
-        × IsWorkFor L.row_work n fold.old.progress.work fold.new.progress.work) }
-    // Over a layout whose rows count nothing the counts stay, whatever is answered, and whatever the tables and the readers are.
-    ensures no_work { L.row_work ≡ 0 → fold.new.progress.work ≡ fold.old.progress.work }
-    // The last number rises no further than the limit, whatever is answered.
-    ensures lasts { (most : ℕ) → fold.old.progress.last ≤ most → setting.now.limits.numbers ≤ most
-        → fold.new.progress.last ≤ most }
-    // And whatever rows they have: refused, but for damage and a failure, it is so for the reason at the first place of the files that has
-    // one, by what stands there and by the limits.
-    ensures reasons { InStore (state S.Store tx.old.conn.now) (state S.Store tx.new.conn.now)
-        (λ trees. (texts : List (List ℕ)) → map R.remaining readers.old ≡ map Some texts
-        → NoneFailed R.has_failed readers.new
-        → IfErr result (IsRefusedFor setting.now.profile.now setting.now.kind setting.now.limits
-        fold.old.progress.last fold.old.tally.records trees fold.old.progress.database.0
-        (splits_of texts))) }
-    // Accepted, it has lost no record up to the last number but under identifiers that records of the files have.
-    ensures named { InStore (state S.Store tx.old.conn.now) (state S.Store tx.new.conn.now)
-        (λ trees. (texts : List (List ℕ)) → map R.remaining readers.old ≡ map Some texts
-        → OnOk result (LosesNamedAlone setting.now.profile.now fold.old.progress.last
-        fold.old.progress.database.0 (splits_of texts) trees
-        (state S.Store tx.new.conn.now).now.trees)) }
-    // And it has taken no more records than the limit allows.
-    ensures most { InStore (state S.Store tx.old.conn.now) (state S.Store tx.new.conn.now)
-        (λ _. (texts : List (List ℕ)) → map R.remaining readers.old ≡ map Some texts
-        → fold.old.tally.records ≤ setting.now.limits.records
-        → OnOk result (fold.old.tally.records + length (flat_map (λ (split : Split). split.slices)
-        (splits_of texts)) ≤ setting.now.limits.records)) }
-    // Whatever rows the tables have: what is kept under the first record's identifier is whole, or the fold is refused as damage or by a
-    // failure. The first record is that of the first file with one.
-    ensures elder { InStore (state S.Store tx.old.conn.now) (state S.Store tx.new.conn.now)
-        (λ trees. fold.old.tally.records < setting.now.limits.records
-        → (texts : List (List ℕ)) → map R.remaining readers.old ≡ map Some texts
-        → NoneFailed R.has_failed readers.new
-        → FirstFindsWhole setting.now.profile.now trees fold.old.progress.database.0
-        (splits_of texts) result) }
-    // Where it is accepted, what was kept at first under the identifier of any record of the files, with a number up to the database's
-    // last one, was whole.
-    ensures elders { InStore (state S.Store tx.old.conn.now) (state S.Store tx.new.conn.now)
-        (λ trees. (texts : List (List ℕ)) → map R.remaining readers.old ≡ map Some texts
-        → OnOk result (AllFindWhole setting.now.profile.now fold.old.progress.last trees
-        fold.old.progress.database.0 (splits_of texts))) }
-    // Whatever the readers tell, too: where it is accepted, each record kept before that isn't kept after just as it was, with a number up
-    // to the database's last one, was whole; and each other database keeps just what it kept, in the registers too, with the texts and
-    // the databases as they were.
-    ensures passes { InStore (state S.Store tx.old.conn.now) (state S.Store tx.new.conn.now)
-        (λ _. OnOk result
-        (PassesOn setting.now.profile.now fold.old.progress.database.0 fold.old.progress.last
-        fold.new.progress.last (state S.Store tx.old.conn.now) (state S.Store tx.new.conn.now))) }
+    ensures inside { WorksInside (state S.Store tx.old.conn.now)
+        (state S.Store tx.new.conn.now) result }
+    // How far the last number and the counts go, whatever is answered.
+    ensures steps { Advances setting.now.limits L.row_work fold.old.progress fold.new.progress }
+    // What it does on any tables of a store, and whatever the readers tell.
+    ensures changes { OnRows (state S.Store tx.old.conn.now) (state S.Store tx.new.conn.now)
+        (OfReaders (NoneFailed R.has_failed readers.new) (map R.remaining readers.old)
+        (λ splits. FoldsFiles setting.now L.format L.row_work fold.old.progress.database.0 splits
+        (state S.Store tx.old.conn.now).now (state S.Store tx.new.conn.now).now
+        fold.old fold.new) result) }
+    ensures faults { TellsFaults R.may_fail R.has_failed readers.old readers.new result }
 {
     counts_are_numbers(&fold.progress.work);
     let mut pending = Pending::new(setting.alloc, MOST_NOTED);

@@ -6,6 +6,7 @@ mod faults;
 mod files;
 mod kept;
 mod key_notes;
+mod laws;
 mod noting;
 mod part_faults;
 mod pending;
@@ -19,6 +20,9 @@ mod writing;
 pub use faults::RecordFault;
 pub use files::{Fold, check_readers, fold_files};
 pub use kept::{KeptFault, kept_occurrences};
+pub use laws::{
+    a_fold_follows_the_definition, a_refused_fold_has_a_reason, an_accepted_fold_passes_on,
+};
 pub use noting::note_keys;
 pub use pending::Pending;
 pub use records::Progress;

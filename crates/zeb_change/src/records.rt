@@ -8,9 +8,10 @@ ghost use Rattle.zeb_change.specs.Folding.{ident_in};
 ghost use Rattle.zeb_change.specs.Occurs.{AreOccurrencesOf};
 ghost use Rattle.zeb_change.specs.Outcomes.{change_refusal, incoming_refusal, register_refusal, turn_refusal};
 ghost use Rattle.zeb_change.specs.PrivateFaults.{as_refusal};
-ghost use Rattle.zeb_change.specs.PrivateInside.{WorksInside};
+ghost use Rattle.zeb_change.specs.Inside.{WorksInside};
 ghost use Rattle.zeb_change.specs.Reasons.{IsAtFault};
-ghost use Rattle.zeb_change.specs.PrivateRecordChanges.{Answers, ChangesRecord, Inserts, TellsFailure, IsSound, OnRows, Steps, Supplants, TurnsRecord, Withdraws, point};
+ghost use Rattle.zeb_change.specs.RecordChanges.{Answers, ChangesRecord, TellsFailure, IsSound, OnRows};
+ghost use Rattle.zeb_change.specs.PrivateRecordChanges.{Inserts, Steps, Supplants, TurnsRecord, Withdraws, point};
 
 use crate::faults::RecordFault;
 use crate::kept::{KeptFault, kept_occurrences};

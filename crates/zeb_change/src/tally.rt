@@ -28,7 +28,7 @@ pub struct Tally {
 }
 
 impl Tally {
-    ghost use Rattle.zeb_change.specs.PrivateTallies.{IsTallied};
+    ghost use Rattle.zeb_change.specs.Tallies.{IsTallied};
 
     /// Nothing was taken yet.
     pub fn new() -> Tally

@@ -14,7 +14,7 @@ ghost use Rattle.zeb_change.specs.declared.key_notes.KeyNotes.{KeyNotes};
 ghost use Rattle.zeb_change.specs.Costs.{IsWorkFor};
 ghost use Rattle.zeb_change.specs.NoteWords.{KeyChange};
 ghost use Rattle.zeb_change.specs.Noted.{IsDueFor, IsNothingNoted, Settles, changes_among};
-ghost use Rattle.zeb_change.specs.PrivateInside.{WorksInside};
+ghost use Rattle.zeb_change.specs.Inside.{WorksInside};
 ghost use Rattle.zeb_change.specs.PrivateNoteWords.{IsCutOff, counts_in, places_in};
 ghost use Rattle.zeb_change.specs.PrivatePending.{AreGivenInOrder, IsGivenFrom, IsTakenFrom};
 ghost use Rattle.zeb_change.specs.PrivateWriting.{WritesInStore};

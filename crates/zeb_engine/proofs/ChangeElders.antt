@@ -1,5 +1,5 @@
 -- What a change finds kept under the identifiers of its records, and what it leaves, step by step.
-use Rattle.zeb_engine.proofs.Cited.{◌≡◌, ◌≢◌, ◌↔◌, ◌⊎◌, ◌∙◌, ℕ, ℤ, pos, List, [], ◌∷◌, Option, Some, None, Result, Ok, Err, arith, inl, inr, refl, sym, subst, subst₂, flat_map, Int, Database, Row, State, Trees, Split, Directive, ChangesNothing, IsDatabaseOf, PutsDatabase, KeepsBeside, KeepsMalformed, KeepsRowsBeside, HasRow, Changes, HasDatabase, HasRecord, IsStore, blocks_tree, databases_tree, dict_tree, meta_tree, postings_tree, store_same, malformed_same, malformed_then, one_last, Refusal, Kind, Update, Limits, AllFindWhole, FirstFindsWhole, IsUpTo, KeepsAside, KeepsWhole, LosesWholeAlone, PassesOn, splits_of, LosesNamedAlone, NamesAny, why_of, passed_error, files_find, StaysOpen, IsFailure, refused, AreFewRecords, EachFindsWhole, ElderOver, EldersOver, HasNumbersTo, IsOrBecomes, LeavesRows, LosesNamedOver, LosesWhole, BeginsWith, last_of, MissesDatabase}
+use Rattle.zeb_engine.proofs.Cited.{◌≡◌, ◌≢◌, ◌↔◌, ◌⊎◌, ◌∙◌, ℕ, ℤ, pos, List, [], ◌∷◌, Option, Some, None, Result, Ok, Err, arith, inl, inr, refl, sym, subst, subst₂, flat_map, Int, Database, Row, State, Trees, Split, Directive, ChangesNothing, IsDatabaseOf, PutsDatabase, KeepsBeside, KeepsMalformed, KeepsRowsBeside, HasRow, Changes, HasDatabase, HasRecord, IsStore, blocks_tree, databases_tree, dict_tree, meta_tree, postings_tree, store_same, malformed_same, malformed_then, one_last, Refusal, Kind, Update, Limits, AllFindWhole, FirstFindsWhole, IsUpTo, KeepsAside, KeepsWhole, LosesWholeAlone, PassesOn, splits_of, LosesNamedAlone, NamesAny, passed_error, files_find, StaysOpen, AreFewRecords, EachFindsWhole, ElderOver, EldersOver, HasNumbersTo, IsOrBecomes, LeavesRows, LosesNamedOver, LosesWhole, BeginsWith, IsMissedFor, last_of}
 use Rattle.zeb_register.specs.declared.catalog.Database as catalog
 use Rattle.zeb_engine.proofs.ChangeSteps.{kept_records, kept_registers, kept_texts}
 use Rattle.zeb_engine.proofs.OverTables.{IsFew}
@@ -52,10 +52,10 @@ module _ (profile : List Directive) where
         λ bytes is ident whole named. passed_error (KeepsWhole profile trees id ident) why result told (inr few)
 
     -- a database that is there isn't missed
-    pub missed_elder : {T : Type 0} (trees : Trees) (why : Refusal) (result : Result T Refusal) → result ≡ Err why → IsFailure (refused (why_of why)) ⊎ MissesDatabase trees name why → ElderOver profile name texts trees result
-    missed_elder trees why result told (inl failed) = few_elder trees why result told (inr failed)
-    missed_elder trees why result told (inr (inl none)) = λ id last there. absurd (none.0 id last there)
-    missed_elder trees why result told (inr (inr damaged)) = few_elder trees why result told (inl damaged.0)
+    pub missed_elder : (T : Type 0) (kind : Kind) (trees : Trees) (why : Refusal) → IsMissedFor kind trees name why → ElderOver {T = T} profile name texts trees (Err why)
+    missed_elder T kind trees why (inl none) = λ id last there. absurd (none.1 id last there)
+    missed_elder T kind trees why (inr (inl damaged)) = few_elder {T = T} trees why (Err why) refl (inl damaged.0)
+    missed_elder T kind trees why (inr (inr failed)) = few_elder {T = T} trees why (Err why) refl (inr failed)
 
     -- once it is found whole, whatever comes goes by it
     pub found_elder : {T X : Type 0} (trees : Trees) (x : X) (result : Result T Refusal) → ElderOver profile name texts trees (Ok x) → ElderOver profile name texts trees result

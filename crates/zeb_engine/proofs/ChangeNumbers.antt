@@ -1,16 +1,10 @@
 -- The numbers of a database's records, which a change looks at first.
-use Rattle.zeb_engine.proofs.Cited.{◌≡◌, ◌∙◌, ◌+◌, ◌≤◌, ◌<◌, ℕ, ℤ, pos, List, Option, Some, None, Result, Ok, Err, OnOk, IfErr, IfOk, IsTrue, IsUtf8, refl, sym, subst, arith, Contains, Database, Row, State, KeepsCommit, Trees, RegFault, Record, OnlyReads, Format, version_of, IsFirstFrom, Changes, HasRecord, store_schema, KeepsOthers, store_same, IsProfile, Damaged, Kind, Kept, Conditions, register_refusal, Holdings, IsImage, name_bytes, HasNumbersTo, MayBegin, last_of, AreGiven, AreWellNumbered, IsMisnumbered}
+use Rattle.zeb_engine.proofs.Cited.{◌≡◌, ◌∙◌, ◌+◌, ◌≤◌, ◌<◌, ℕ, ℤ, pos, List, Option, Some, None, Result, Ok, Err, OnOk, IfErr, IfOk, IsTrue, IsUtf8, refl, sym, subst, arith, Contains, Database, Row, State, KeepsCommit, Trees, RegFault, Record, OnlyReads, Format, PutsDatabase, AreStores, IsFirstFrom, IsStore, Changes, HasRecord, databases_tree, registers_stay, store_schema, KeepsOthers, store_same, IsDatabaseName, Kind, Kept, AreSessions, Conditions, Holdings, IsImage, HasNumbersTo, MayBeginUnder, last_of, AreGiven, AreWellNumbered, IsMisnumbered, PutsRow}
+use Rattle.zeb_register.specs.declared.catalog.Database as catalog
 use Rattle.zeb_register.specs.declared.RegFault.TheVariants as register
-use Rattle.zeb_engine.specs.declared.changes.Change.{Change}
-use Rattle.zeb_engine.proofs.ChangeSteps.{IsBegun}
-use Rattle.zeb_engine.proofs.ChangeWay.{change_begun}
+use Rattle.zeb_engine.proofs.ChangeSteps.{IsBegun, begun}
 
 -- ---- refusals
-
-pub only_damaged : (fault : RegFault) → register_refusal fault ≡ Damaged → fault ≡ register.Damaged
-only_damaged register.Damaged is = refl
-only_damaged register.Store is = absurd (cc)
-only_damaged register.Memory is = absurd (cc)
 
 -- damage comes of what is wrong
 pub damage_wrong : {T : Type 0} (result : Result T RegFault) (Wrong : Type 0) → IfErr result (λ fault. (fault ≡ register.Damaged) × Wrong) → result ≡ Err register.Damaged → Wrong
@@ -69,14 +63,21 @@ changed_still tree Rows a b c done reads inside = record {
   others = subst (λ (d : Database). KeepsOthers store_schema tree a.now.trees d.trees) (sym reads.now_is) done.others;
 }
 
--- it was written so to what is shown then
-pub put_shown : (tree : ℕ) (Rows : ℕ → Trees → Trees → Type 0) (a b : State) → Changes tree Rows a b → Changes tree Rows a (record a { now = b.now })
-put_shown tree Rows a b done = record {
-  layout = record { is = done.layout.is; sound = done.layout.sound; keyed = done.layout.keyed };
-  mode = refl;
-  rows = done.rows;
-  others = done.others;
-}
+-- ---- the row of a database, by the tables alone
+
+-- a connection that shows these tables
+abbrev pub showing : State → Database → State
+showing s tables = record s { now = tables }
+
+pub shown_store : (s : State) (tables : Database) → AreStores tables → IsStore (showing s tables)
+shown_store s tables are = record { is = are.is; sound = are.sound; keyed = are.keyed }
+
+pub row_put : (old new : State) (id : ℤ) (name : List ℕ) (last : ℕ) → Changes databases_tree (PutsDatabase id name (pos last)) old new → PutsRow id name last old.now new.now
+row_put old new id name last put = record { store = record { is = put.layout.is; sound = put.layout.sound; keyed = put.layout.keyed }; rows = put.rows; others = put.others }
+
+pub put_row : (s : State) (old new : Database) (id : ℤ) (name : List ℕ) (last : ℕ) → PutsRow id name last old new
+    → Changes databases_tree (PutsDatabase id name (pos last)) (showing s old) (showing s new)
+put_row s old new id name last put = record { layout = shown_store s new put.store; mode = refl; rows = put.rows; others = put.others }
 
 -- ---- of an image
 
@@ -107,9 +108,8 @@ begun_numbered format c kind name before id last mid b =
     }
 
 -- so it isn't refused for its numbers
-pub begins_sound : (format : Format) (change : Change) (sound : ∥ IsProfile change.setting.profile.now ∥₁) (before : Holdings) (old : State) → IsImage old.now.trees before
-    → MayBegin (version_of format) change.setting (name_bytes change.name.now) change.found old.now.trees before
-    → (text : List ℕ) (last : ℕ) → text ≡ name_bytes change.name.now → last ≡ last_of change.found → IsMisnumbered text last old → ⊥
-begins_sound format change sound before old image known text last text_is last_is wrong =
-    let b = change_begun format change sound before old (record old { now = wrong.now }) image wrong.id known text last text_is last_is wrong.put in
-    wrong.unsound (subst (λ (l : ℕ). AreWellNumbered l wrong.now.trees wrong.id) (sym last_is) (begun_numbered format _ _ _ before wrong.id (last_of change.found) _ b))
+pub begins_sound : (format : Format) (c : Conditions) (session : AreSessions format c) (kind : Kind) (name : List ℕ) (is_name : IsDatabaseName name) (before : Holdings) (s : State) → IsImage s.now.trees before
+    → (found : Option catalog.Database) → MayBeginUnder kind name found c s.now.trees before → IsMisnumbered name (last_of found) s.now → ⊥
+begins_sound format c session kind name is_name before s image found known wrong =
+    wrong.unsound (begun_numbered format c kind name before wrong.id (last_of found) (showing s wrong.now)
+    (begun format (registers_stay format) c session kind name is_name before (showing s s.now) (showing s wrong.now) image wrong.id found known (put_row s s.now wrong.now wrong.id name (last_of found) wrong.put)))

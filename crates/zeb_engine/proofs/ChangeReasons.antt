@@ -1,15 +1,22 @@
 -- Why a change is refused, step by step, whatever rows the tables have.
-use Rattle.zeb_engine.proofs.Cited.{◌≡◌, ◌≢◌, ◌⊎◌, ℕ, ℤ, pos, List, Option, Result, Err, inl, inr, subst, Row, State, Trees, MarcFault, Split, Directive, RegFault, PutsDatabase, Changes, HasRecord, databases_tree, Refusal, Kind, Update, Limits, AreWholeBefore, IsUpTo, splits_of, register_refusal, HasReasonAt, IsNewAt, IsRefusedAt, IsRefusedFor, NamesAny, why_of, IsFailure, refused, ReasonsOver, BeginsWith, IsMissedFor, last_of, MissesDatabase}
+use Rattle.zeb_engine.proofs.Cited.{◌≡◌, ◌≢◌, ◌⊎◌, ℕ, ℤ, pos, List, Option, Result, Err, inl, inr, refl, subst, Row, State, Trees, MarcFault, Split, Directive, RegFault, AreCountedDatabases, PutsDatabase, Changes, HasRecord, databases_tree, Refusal, Kind, Update, Limits, AreWholeBefore, IsUpTo, splits_of, register_refusal, HasReasonAt, IsNewAt, IsRefusedAt, IsRefusedFor, NamesAny, why_of, IsFailure, refused, ReasonsOver, BeginsWith, IsMissedFor, last_of, MissesDatabase}
 use Rattle.zeb_register.specs.declared.catalog.Database as catalog
+use Rattle.zeb_register.specs.declared.RegFault.TheVariants as register
 use Rattle.zeb_engine.proofs.ChangeElders.{becomes}
 use Rattle.zeb_engine.proofs.ChangeSteps.{kept_records}
-use Rattle.zeb_engine.proofs.OverTables.{IsFew, fault_few}
+use Rattle.zeb_engine.proofs.OverTables.{IsFew}
 
 -- a delete doesn't find it
 pub missed_for : (kind : Kind) → kind ≢ Update → (trees : Trees) (name : List ℕ) (why : Refusal) → IsFailure (refused (why_of why)) ⊎ MissesDatabase trees name why → IsMissedFor kind trees name why
 missed_for kind other trees name why (inl failed) = inr (inr failed)
 missed_for kind other trees name why (inr (inl none)) = inl (other, none.0, none.1)
-missed_for kind other trees name why (inr (inr damaged)) = inr (inl damaged.0)
+missed_for kind other trees name why (inr (inr damaged)) = inr (inl damaged)
+
+-- its row can't be read
+pub missed_fault : (kind : Kind) (trees : Trees) (name : List ℕ) (fault : RegFault) → (fault ≡ register.Damaged → ¬ AreCountedDatabases trees name) → IsMissedFor kind trees name (register_refusal fault)
+missed_fault kind trees name register.Damaged hidden = inr (inl (refl, hidden refl))
+missed_fault kind trees name register.Store hidden = inr (inr (inl refl))
+missed_fault kind trees name register.Memory hidden = inr (inr (inr refl))
 
 module _ (profile : List Directive) (kind : Kind) (limits : Limits) where
   module _ (last : ℕ) (old mid : Trees) (db : ℤ) (same : mid 4 ≡ old 4) where
@@ -55,13 +62,11 @@ module _ (profile : List Directive) (kind : Kind) (limits : Limits) where
     pub few_reasons : {T : Type 0} (trees : Trees) (why : Refusal) (result : Result T Refusal) → result ≡ Err why → IsFew why → ReasonsOver profile kind limits name texts trees result
     few_reasons trees why result told few = rw told (inr few)
 
-    pub fault_reasons : {T : Type 0} (trees : Trees) (fault : RegFault) (result : Result T Refusal) → result ≡ Err (register_refusal fault) → ReasonsOver profile kind limits name texts trees result
-    fault_reasons trees fault result told = few_reasons trees (register_refusal fault) result told (fault_few fault)
-
     -- the database wasn't found
-    pub missed_reasons : {T : Type 0} (trees : Trees) (why : Refusal) (result : Result T Refusal) → result ≡ Err why → IsMissedFor kind trees name why → ReasonsOver profile kind limits name texts trees result
-    missed_reasons trees why result told (inl missed) = rw told (inl (inl missed))
-    missed_reasons trees why result told (inr few) = rw told (inr few)
+    pub missed_reasons : (T : Type 0) (trees : Trees) (why : Refusal) → IsMissedFor kind trees name why → ReasonsOver {T = T} profile kind limits name texts trees (Err why)
+    missed_reasons T trees why (inl missed) = inl (inl missed)
+    missed_reasons T trees why (inr (inl damaged)) = inr (inl damaged.0)
+    missed_reasons T trees why (inr (inr failed)) = inr (inr failed)
 
     module _ (old mid : State) (id : ℤ) where
       -- the row of the database is written before the records

@@ -57,17 +57,19 @@ pub use Rattle.zeb_change.proofs.FoldAll.{fine_at, one_failed}
 pub use Rattle.zeb_change.proofs.KeptLemmas.{one_number, AreRisingKept, push_rises}
 pub use Rattle.zeb_change.proofs.StoredLemmas.{told_id}
 pub use Rattle.zeb_change.proofs.TermTexts.{posted_storable}
-pub use Rattle.zeb_change.proofs.TransactionLemmas.{kept_then, goes_on}
+pub use Rattle.zeb_change.proofs.TransactionLemmas.{continues_then, kept_then, goes_on}
 pub use Rattle.zeb_change.proofs.UnderWay.{same_kept, fault_fails}
 pub use Rattle.zeb_change.specs.Base.{Base, Kept, kept_as, with_new}
 pub use Rattle.zeb_change.specs.Conditions.{Conditions, conditions}
 pub use Rattle.zeb_change.specs.Elders.{AllFindWhole, FirstFindsWhole, IsUpTo, KeepsAside, KeepsWhole, LosesWholeAlone, PassesOn, AreWholeBefore}
 pub use Rattle.zeb_change.specs.Folding.{splits_of, Progress, at_first, files_folded, at_end, Changed, updated, deleted, changed_by, with_ident, ident_in, with_record, counted, ◌then◌, slices_folded}
 pub use Rattle.zeb_change.specs.Inside.{StaysInside}
+pub use Rattle.zeb_change.specs.RecordChanges.{AreStores}
+pub use Rattle.zeb_change.specs.RecordFolds.{FoldsFiles, OfReaders}
 pub use Rattle.zeb_change.specs.Occurs.{occurs}
 pub use Rattle.zeb_change.specs.Outcomes.{analysis_refusal, register_refusal, query_refusal, marc_refusal}
 pub use Rattle.zeb_change.specs.PrivateConditions.{AreSessions}
-pub use Rattle.zeb_change.specs.Reading.{HasFailedAt, NamesFailed, NoneFailed, NoReadFault, StayAble}
+pub use Rattle.zeb_change.specs.Reading.{HasFailedAt, NamesFailed, NoneFailed, NoReadFault, StayAble, TellsFaults}
 pub use Rattle.zeb_change.specs.Reasons.{LosesNamedAlone, NamesAny, HasReasonAt, IsNewAt, IsRefusedAt, IsRefusedFor}
 pub use Rattle.zeb_change.specs.Refused.{why_of, Why, Meets, diagnostic, database_full, too_many_records, unknown, damaged, old_format, profile_changed, rule_changed, read_fault, store_failed, out_of_memory, not_initialised, NeverUnready, IsFailing, exists}
 pub use Rattle.zeb_change.specs.Stored.{AreKept, IsBase, AreStored, ArePosted}
@@ -78,7 +80,6 @@ pub use Rattle.zeb_change.specs.declared.refusals.Refusal.TheVariants.{Damaged, 
 pub use Rattle.zeb_change.specs.declared.settings.Kind.{Kind}
 pub use Rattle.zeb_change.specs.declared.settings.Kind.TheVariants.{Update, Delete, Adelete}
 pub use Rattle.zeb_change.specs.declared.settings.Limits.{Limits}
-pub use Rattle.zeb_change.specs.declared.settings.Setting.{Setting}
 pub use Rattle.zeb_change.specs.declared.tally.Fate.{Fate}
 pub use Rattle.zeb_change.specs.declared.tally.Fate.TheVariants.{Inserted, Updated, Deleted, PassedOver}
 pub use Rattle.zeb_engine.specs.Adopting.{StaysOpen, HasOwnTables}
@@ -101,15 +102,15 @@ pub use Rattle.zeb_engine.specs.Counts.{CommandCounts}
 pub use Rattle.zeb_engine.specs.Crashes.{Accepts, Bears, KeepsDisk, IsStoreDisk, Stands, Leaves, CommitsBy, CommitsAdopted, Endures, IsRefused, CommitsReindex, CommitsCommand, MayCommit, CommitsOne, IsCarriedOut, LeavesOne, AreRefused, EnduresRun, RunLeft, AdoptLasts, CommandLasts, RunLasts}
 pub use Rattle.zeb_engine.specs.Does.{AnswersAnyway, CommandOverTables, Does, InitLeaves}
 pub use Rattle.zeb_engine.specs.PrivateAdopting.{HoldsNothing, MayBeTaken}
-pub use Rattle.zeb_engine.specs.PrivateChanging.{MayBeginUnder, MayBegin, BeginsWith, last_of, IsMissedFor, comes_to}
+pub use Rattle.zeb_engine.specs.PrivateChanging.{MayBeginUnder, BeginsWith, last_of, IsMissedFor, comes_to}
 pub use Rattle.zeb_engine.specs.PrivateCrashes.{IsEmptyDisk, Commits, CommitsTables}
 pub use Rattle.zeb_engine.specs.PrivateConnections.{IsSettled, LooksReady, ReadsAlone, TellsReady}
 pub use Rattle.zeb_engine.specs.PrivateDone.{CommandDone, ReadersDone}
-pub use Rattle.zeb_engine.specs.PrivateDumping.{KeepsBase}
-pub use Rattle.zeb_engine.specs.PrivateLooking.{MissesDatabase, IsUnready, FindsStanding, IsLook, RefusesText, RefusesVersion, TellsStanding, TellsText}
-pub use Rattle.zeb_engine.specs.PrivateNumbers.{AreGiven, AreWellNumbered, IsMisnumbered}
+pub use Rattle.zeb_engine.specs.PrivateDatabaseChanges.{Asked, AcceptsChange, AppliesChange, ChangesDatabase, CommitsRows, FoldsInto, Transacts, asked}
+pub use Rattle.zeb_engine.specs.PrivateLooking.{MissesDatabase, IsAskRefusal, IsUnready, FindsStanding, IsLook, RefusesText, RefusesTexts, RefusesVersion, TellsStanding, TellsText}
+pub use Rattle.zeb_engine.specs.PrivateNumbers.{AreGiven, AreWellNumbered, IsMisnumbered, PutsRow}
 pub use Rattle.zeb_engine.specs.PrivateSteps.{found_or, existing}
-pub use Rattle.zeb_engine.specs.PrivateWorks.{Always, Serves, ReachesOutcome, ShowsStore, IsReady, Asks, Finds, ScansFrom}
+pub use Rattle.zeb_engine.specs.PrivateWorks.{Always, Serves, ReachesOutcome, IsReady}
 pub use Rattle.zeb_engine.specs.PrivateWriting.{AreOf, PutsTexts, Fits, IsReached, written, IsKnown, reply_of_work, DoneOrFails, IsFree, CommitsRemade, HoldsRemade, AreUnder, IsRuled, IsUpgradable, WorkDone, WriteDone, WriteLeaves, WriteTells}
 pub use Rattle.zeb_engine.specs.Readiness.{IsReadyFor, IsRefusedOver, GoesByTexts, HidesText, KeepsText}
 pub use Rattle.zeb_engine.specs.Replies.{shown_number, record_lines, records_text, holding_line, entry_line, hits_text, hit_line}
@@ -125,7 +126,7 @@ pub use Rattle.zeb_engine.specs.declared.looks.Standing.{Standing}
 pub use Rattle.zeb_engine.specs.declared.replies.Hit.{Hit}
 pub use Rattle.zeb_engine.specs.declared.replies.Holding.{Holding}
 pub use Rattle.zeb_engine.specs.declared.replies.Reply.{Reply}
-pub use Rattle.zeb_engine.specs.declared.replies.Reply.TheVariants.{Done, Dumped, Counted}
+pub use Rattle.zeb_engine.specs.declared.replies.Reply.TheVariants.{Done, Dumped, Counted, Found, Scanned}
 pub use Rattle.zeb_engine.specs.declared.scan.Around.{Around}
 pub use Rattle.zeb_engine.specs.declared.writes.Write.{Write}
 pub use Rattle.zeb_extract.specs.Identifier.{first_fitting, held_in, identifier_of, without_spaces}
@@ -166,7 +167,7 @@ pub use Rattle.zeb_query.proofs.TextFaults.{apart, one_fault, one_query}
 pub use Rattle.zeb_query.specs.Checks.{Fails, Refusal as PlanRefusal}
 pub use Rattle.zeb_query.specs.Grammar.{QueryValue, SpellsQuery, query_value}
 pub use Rattle.zeb_query.specs.Places.{IsReadable, IsFaultOf}
-pub use Rattle.zeb_query.specs.Plans.{PlanValue, plan_of, AllWordsOf, AlwaysOf, AnyWordOf, CompleteOf, HasSmallNumber, HasSmallNumbers, NearOf, NumberOf, OrderedOf, PairOf, PhraseOf, RecordNumberOf, TermOf, TermPlanValue, ScanValue, scan_of, plan_value, scan_value}
+pub use Rattle.zeb_query.specs.Plans.{PlanValue, plan_of, AllWordsOf, AlwaysOf, AnyWordOf, CompleteOf, HasSmallNumber, HasSmallNumbers, NearOf, NoWordsOf, NumberOf, OrderedOf, PairOf, PhraseOf, RecordNumberOf, TermOf, TermPlanValue, ScanValue, scan_of, plan_value, scan_value}
 pub use Rattle.zeb_query.specs.declared.faults.QueryFault.{QueryFault}
 pub use Rattle.zeb_query.specs.declared.faults.QueryFault.TheVariants.{Diagnostic, Memory}
 pub use Rattle.zeb_register.proofs.Calls.{store_same, nothing_then, goes_keeps, goes_then, on_err, reads_goes, nothing_still}

@@ -36,7 +36,7 @@ no_failure (reply.Scanned register entries) failed = failed
 no_failure (reply.Analysed names records) failed = failed
 
 -- it is accepted, whatever it answers
-reply_accepts : (answer : Reply) → Accepts (reply_answer answer)
+pub reply_accepts : (answer : Reply) → Accepts (reply_answer answer)
 reply_accepts reply.Done why is = absurd cc
 reply_accepts (reply.Changed inserted updated deleted) why is = absurd cc
 reply_accepts (reply.Found hits shown) why is = absurd cc
@@ -176,18 +176,6 @@ write_survives format version g w old inside mid end given same answer begins wo
     subst (λ (h : Held _). Survives (state g old) (state g h) (λ db. (c : Conditions) → IsReached w (state g old) → Commits (Fits version c w) (written c w) (state g old) db)) same
     (commit_survives g old inside mid (state g end) _ begins work commits (λ clean db is c reached.
     commit_stands format c (written c w) g (Fits version c w) old inside mid answer begins (works (omega (arith, commits.clean)) (rw begins refl) c (reached_inside g w old inside begins reached)) db is))
-
--- the same of work by what it was told, on an open connection
-pub told_survives : (format : Format) (c : Conditions) {S : Type 0} (g : Ghosts S) {X : Type 0} (Told : X → Type 0) (Fine : Type 0) (F : Trees → Holdings → Type 0) (outcome : X → Holdings → Outcome)
-    (old inside : Held S) (mid : State) (end given : Held S) → end ≡ given → (answer : Reply) → inside ≡ record old { in_transaction = true }
-    → Survives (state g inside) mid (λ _. ⊥) → Survives mid (state g end) (λ db. db ≡ mid.now.trees)
-    → (HasCleanDisk mid → IsTrue (state g inside).in_transaction → IsTrue (state g inside).is_open → (x : X) → Told x → Fine → ReachesOutcome F (outcome x) (state g inside) mid (Ok answer))
-    → Survives (state g old) (state g given) (λ db. IsTrue (state g old).is_open → (x : X) → Told x → Fine → Commits F (outcome x) (state g old) db)
-told_survives format c g {X} Told Fine F outcome old inside mid end given same answer begins work commits works =
-    subst (λ (h : Held _). Survives (state g old) (state g h) (λ db. IsTrue (state g old).is_open → (x : X) → Told x → Fine → Commits F (outcome x) (state g old) db)) same
-    (commit_survives g old inside mid (state g end) _ begins work commits (λ clean db is opened x told fine.
-    let open_inside : IsTrue (state g inside).is_open = subst (λ (held : Held _). IsTrue (state g held).is_open) (sym begins) opened in
-    commit_stands format c (outcome x) g F old inside mid answer begins (works (omega (arith, commits.clean)) (rw begins refl) open_inside x told fine) db is))
 
 -- what is committed is what the outcome says
 pub ends_commit : (does : Holdings → Outcome) (old new : State) → Survives old new (Commits Always does old) → Survives old new (CommitsBy (λ before. Ends (does before)) old)

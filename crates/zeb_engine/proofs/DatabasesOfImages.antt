@@ -1,8 +1,5 @@
 -- What the tables of an image hold of one database: its records, and in the registers the occurrences of these.
-use Rattle.zeb_engine.proofs.Cited.{◌≡◌, ◌≢◌, ◌↔◌, ◌⊎◌, ◌∙◌, ℕ, ℤ, pos, true, false, List, [], ◌∷◌, find, Option, Some, None, Ok, refl, sym, ap, subst, inl, inr, nat_eq, Contains, option_map, cases_Bool, Decides-eqb, State, Trees, Has, has_contained, contains_had, Directive, Occurrence, Content, IsStorable, posted, Format, holds_in, HasDatabase, HasRecord, has_ident_in, Conditions, AreSessions, has_name, occurs, Holdings, base_named, Base, Kept, IsBase, AreBases, IsImage, IsImageOf, found_or, existing, HaveSystemNumbers, Meets, named_found, base_numbered, one_number, told_id, posted_storable}
-use Rattle.zeb_register.specs.declared.catalog.Database.{Database}
-use Rattle.zeb_engine.specs.Steps.{ready}
-use Rattle.zeb_engine.proofs.ReadyImages.{image_ready}
+use Rattle.zeb_engine.proofs.Cited.{◌≡◌, ◌≢◌, ◌↔◌, ◌⊎◌, ◌∙◌, ℕ, ℤ, pos, true, false, List, [], ◌∷◌, find, Option, Some, refl, sym, ap, subst, inl, inr, nat_eq, Contains, option_map, cases_Bool, Decides-eqb, Trees, Has, has_contained, contains_had, Directive, Occurrence, Content, IsStorable, posted, Format, holds_in, HasDatabase, HasRecord, has_ident_in, has_name, occurs, Base, Kept, IsBase, AreBases, IsImageOf, HaveSystemNumbers, base_numbered, one_number, told_id, posted_storable}
 
 -- ---- numbers
 
@@ -91,19 +88,3 @@ pub kept_as_named : (format : Format) (profile : List Directive) (trees : Trees)
 kept_as_named format profile trees id base held n ident is =
     let of = found_there n base.records ident is in
     (of.0.bytes, (held.kept (pos n) ident of.0.bytes).1 (of.0, contains_had base.records of.0 of.1, ap pos (sym of.2), sym of.3, refl))
-
--- ---- the database that was looked up
-
-pub existing_met : {X : Type 0} (Good : Base → X → Type 0) (name : List ℕ) (o : Option Base) (x : X) → Meets Good (found_or name o) (Ok x) → (base : Base) × (o ≡ Some base) × Good base x
-existing_met Good name (Some base) x met = (base, refl, met)
-existing_met Good name None x met = absurd met
-
-pub looked_up : (format : Format) (c : Conditions) → AreSessions format c → (old : State) (before : Holdings) (bases : List Base) (name : List ℕ) (it : Database) (Opened : Type 0)
-    → ready c before ≡ Ok bases → IsImage old.now.trees before
-    → Meets {X = Database} (λ base d. HasDatabase old.now.trees d.id.0 base.name (pos base.last) × (d.last ≡ base.last) × Opened) (existing name bases) (Ok it)
-    → (base : Base) × (base_named name bases ≡ Some base) × IsHeld format c.profile old.now.trees it.id.0 base × Opened
-looked_up format c session old before bases name it Opened is image met =
-    let at = image_ready format c session old.now.trees before bases is image in
-    let base = existing_met (λ (base : Base) (d : Database). HasDatabase old.now.trees d.id.0 base.name (pos base.last) × (d.last ≡ base.last) × Opened) name (base_named name bases) it met in
-    let there = named_found name bases base.0 base.1 in
-    (base.0, base.1, base_held format c.profile old.now.trees bases at.are at.image it.id.0 base.0 (contains_had bases base.0 there.0) base.2.0, base.2.2)

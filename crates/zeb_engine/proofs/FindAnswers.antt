@@ -1,8 +1,7 @@
 -- A find, step by step: what a plan holds of by the postings of its key, and that sets of the same occurrences have the same answers.
-use Rattle.zeb_engine.proofs.Cited.{◌≡◌, ◌↔◌, ◌-◌, ◌&&◌, ℕ, ℤ, zero, suc, pos, Bool, true, false, if◌then◌else◌, List, [], ◌∷◌, length, take, drop, nat_lt, Some, Result, Ok, Err, refl, sym, ap, subst, inl, inr, arith, IsUtf8, string_bytes, Contains, decimal, Trees, Has, Directive, QueryFault, Diagnostic, Memory, Fails, PlanRefusal, QueryValue, SpellsQuery, IsReadable, PlanValue, plan_of, Occurrence, posted, Format, has_taken, Refusal, Answer, found, refused, Why, diagnostic, why_of, Meets, AreShown, IsAnswered, IsNamed, IsPlanned, IsShown, asked_of, has_name, occurs, TreeHolds, AreNumbers, has_ident_in, HoldsIn, is_kept_in, NamesReadable, names_readable, tree_alike, holder_known, Base, Kept, base_named, query_refusal, FindAnswers, base_numbered}
+use Rattle.zeb_engine.proofs.Cited.{◌≡◌, ◌↔◌, ◌-◌, ◌&&◌, ℕ, ℤ, zero, suc, pos, Bool, true, false, if◌then◌else◌, List, [], ◌∷◌, length, take, drop, nat_lt, Result, Ok, Err, refl, sym, ap, subst, inl, inr, arith, IsUtf8, Contains, decimal, Trees, Has, Directive, PlanRefusal, PlanValue, Occurrence, posted, Format, has_taken, Answer, Why, diagnostic, Meets, AreShown, IsNamed, IsPlanned, IsShown, asked_of, TreeHolds, AreNumbers, HoldsIn, is_kept_in, NamesReadable, names_readable, tree_alike, holder_known, Base, Kept, base_numbered}
 use Rattle.zeb_search.proofs.KnownHolders.{IsKnown}
-use Rattle.zeb_engine.proofs.ReadyQueries.{Ends, said_ends}
-use Rattle.zeb_engine.proofs.DatabasesOfImages.{IsHeld, kept_as_named, named_as_kept}
+use Rattle.zeb_engine.proofs.DatabasesOfImages.{IsHeld}
 use Rattle.zeb_engine.proofs.Showing.{KeepsEach}
 
 -- ---- sets of the same occurrences
@@ -72,49 +71,3 @@ module _ (format : Format) (profile : List Directive) (trees : Trees) (id : ℤ)
   -- each identifier in the tables is UTF-8
   pub idents_readable : (plan : PlanValue) → NamesReadable trees id plan
   idents_readable = names_readable trees id (λ n ident bytes row. let k = (held.kept (pos n) ident bytes).0 row in subst IsUtf8 (sym k.3) (held.sound.sound k.0 k.1).text)
-
-  -- ---- the answers
-
-  module _ (name query : List ℕ) (first count : ℕ) (bases : List Base) (readable : IsReadable query) (named : base_named name bases ≡ Some base) (value : QueryValue) (spells : SpellsQuery query value) where
-    abbrev pub FindEnds : Answer → Type 0
-    FindEnds = Ends (FindAnswers profile query first count) name query bases
-
-    -- what is answered by the registers is answered by the records' bytes
-    named_alike_kept : (n : ℕ) (ident : List ℕ) → has_ident_in trees id n ident ↔ has_name base.records n ident
-    named_alike_kept n ident = (named_as_kept format profile trees id base held n ident, kept_as_named format profile trees id base held n ident)
-
-    planned_ends : (answer : Answer) → IsPlanned (posted held.content id) (has_ident_in trees id) (plan_of profile value) first count answer → FindEnds answer
-    planned_ends answer is = said_ends (FindAnswers profile query first count) name query bases readable base named answer (
-      value,
-      spells,
-      planned_as (posted held.content id) (occurs profile base.records) held.occurring (has_ident_in trees id) (has_name base.records) named_alike_kept first count answer (plan_of profile value) is,
-    )
-
-    pub plan_ends : (e : QueryFault) → Fails e (plan_of profile value) → FindEnds (refused (why_of (query_refusal e)))
-    plan_ends Memory said = inr (inr refl)
-    plan_ends (Diagnostic number place addinfo) said =
-        let answer = refused (diagnostic number place (string_bytes addinfo)) in
-        planned_ends answer (subst (λ r. IsPlanned (posted held.content id) (has_ident_in trees id) r first count answer) (sym said) refl)
-
-    module _ (plan : PlanValue) (planned : plan_of profile value ≡ Ok plan) (numbers : List ℕ) (are : AreNumbers (HoldsIn trees held.content id plan) numbers) where
-      shown_ends : (answer : Answer) → IsShown (has_ident_in trees id) numbers (asked_of numbers first count) answer → FindEnds answer
-      shown_ends answer is = planned_ends answer (subst (λ r. IsPlanned (posted held.content id) (has_ident_in trees id) r first count answer) (sym planned) (numbers, are, is))
-
-      pub found_ends : (asked : List ℕ) → asked_of numbers first count ≡ Ok asked → (shown : List (ℕ × List ℕ)) → AreShown (has_ident_in trees id) asked shown → FindEnds (found (length numbers) shown)
-      found_ends asked said shown told = shown_ends (found (length numbers) shown)
-          (subst (λ (r : Result (List ℕ) Why). IsShown (has_ident_in trees id) numbers r (found (length numbers) shown)) (sym said) (shown, told, refl))
-
-      pub asked_ends : {X : Type 0} (Good : List ℕ → X → Type 0) (refusal : Refusal) → Meets {X = X} Good (asked_of numbers first count) (Err refusal) → FindEnds (refused (why_of refusal))
-      asked_ends Good refusal met = elim met [
-        | inl failed ↦ inr failed
-        | inr said ↦ shown_ends (refused (why_of refusal)) (subst (λ (r : Result (List ℕ) Why). IsShown (has_ident_in trees id) numbers r (refused (why_of refusal))) (sym said) refl)
-      ]
-
--- what a find answers of a query with these hits
-pub hits_answered : (O : ℕ → Occurrence → Type 0) (N : ℕ → List ℕ → Type 0) (profile : List Directive) (query : List ℕ) (first count : ℕ) (value : QueryValue) → SpellsQuery query value
-    → (plan : PlanValue) → plan_of profile value ≡ Ok plan → (numbers : List ℕ) → AreNumbers (TreeHolds O (IsNamed O N) plan) numbers
-    → (asked : List ℕ) → asked_of numbers first count ≡ Ok asked → (shown : List (ℕ × List ℕ)) → AreShown N asked shown → IsAnswered O N profile query first count (found (length numbers) shown)
-hits_answered O N profile query first count value spells plan planned numbers are asked said shown told =
-    let answer = found (length numbers) shown in
-    let shows : IsShown N numbers (asked_of numbers first count) answer = subst (λ (r : Result (List ℕ) Why). IsShown N numbers r answer) (sym said) (shown, told, refl) in
-    (value, spells, subst (λ r. IsPlanned O N r first count answer) (sym planned) (numbers, are, shows))

@@ -35,7 +35,6 @@ pub mod CommitCrashes
 pub mod FoldNames
 pub mod DatabaseInPlace
 pub mod ChangeSteps
-pub mod ChangeWay
 pub mod ChangeBegins
 pub mod DatabasesOfImages
 pub mod Showing
@@ -43,8 +42,6 @@ pub mod FindAnswers
 pub mod FindRefusals
 pub mod OverTables
 pub mod HiddenRows
-pub mod Lookups
-pub mod ReadyBases
 pub mod ScanAnswers
 pub mod StoreCauses
 pub mod MadeTables
@@ -60,8 +57,15 @@ pub mod OneAnswer
 pub mod OneCount
 pub mod RunCommits
 pub mod AskedReads
+pub mod ReadsInTurn
+pub mod LookedReady
+pub mod AskedContents
+pub mod AskedImages
+pub mod AskedDone
 pub mod ChangeElders
 pub mod ChangeReasons
 pub mod ChangeNumbers
+pub mod DatabaseChanges
+pub mod TransactedRows
 pub mod OneRefusal
 pub mod Cited

@@ -1,5 +1,5 @@
 -- A find, a scan and a stat on any tables of a store, step by step.
-use Rattle.zeb_engine.proofs.Cited.{◌≡◌, ◌⊎◌, ℕ, ℤ, List, length, map, Result, Ok, Err, string_bytes, refl, sym, ap, subst, inl, inr, Trees, Directive, QueryFault, Diagnostic, Memory, Fails, QueryValue, SpellsQuery, IsFaultOf, IsReadable, PlanValue, ScanValue, plan_of, scan_of, RegFault, TermCount, Format, HasDatabase, Refusal, query_refusal, register_refusal, Why, diagnostic, why_of, Meets, Reply, IsAsked, IsSaidOrMissed, OfDatabase, Answer, found, refused, scanned, IsFailure, HidesAround, HidesPlanned, TellsUnlessHidden, AreShown, IsAnsweredBy, IsPlannedBy, IsShown, asked_of, IsScannedBy, IsScanPlannedBy}
+use Rattle.zeb_engine.proofs.Cited.{◌≡◌, ◌⊎◌, ℕ, ℤ, List, length, map, Result, Ok, Err, string_bytes, refl, sym, ap, subst, inl, inr, Trees, Directive, QueryFault, Diagnostic, Memory, Fails, QueryValue, SpellsQuery, IsFaultOf, IsReadable, PlanValue, ScanValue, plan_of, scan_of, RegFault, TermCount, HasDatabase, Refusal, query_refusal, register_refusal, Why, diagnostic, why_of, Meets, Reply, IsAsked, IsSaidOrMissed, OfDatabase, Answer, found, refused, scanned, IsFailure, TellsUnlessHidden, AreShown, IsAnsweredBy, IsPlannedBy, IsShown, asked_of, IsScannedBy, IsScanPlannedBy}
 use Rattle.zeb_register.specs.declared.RegFault.TheVariants as register
 use Rattle.zeb_change.specs.declared.refusals.Refusal.TheVariants as refusal
 
@@ -13,22 +13,6 @@ pub fault_few : (fault : RegFault) → IsFew (register_refusal fault)
 fault_few register.Damaged = inl refl
 fault_few register.Store = inr (inl refl)
 fault_few register.Memory = inr (inr refl)
-
--- refused as damage, it is so for a cause that is told where numbers are small
-pub few_hidden : (why : Refusal) (Small Hides : Type 0) → IsFew why → (Small → IsFailure (refused (why_of why)) ⊎ ((why ≡ refusal.Damaged) × Hides))
-    → IsFailure (refused (why_of why)) ⊎ ((why ≡ refusal.Damaged) × (Small → Hides))
-few_hidden why Small Hides (inr failed) hides = inl failed
-few_hidden why Small Hides (inl is) hides = inr (
-  is,
-  λ small. elim (hides small) [
-    | inl failed ↦ absurd (subst (λ (r : Refusal). IsFailure (refused (why_of r)) → ⊥) (sym is) never failed)
-    | inr damaged ↦ damaged.1
-  ],
-)
-  where
-    never : IsFailure (refused (why_of refusal.Damaged)) → ⊥
-    never (inl e) = cc
-    never (inr e) = cc
 
 -- it is said so, or it failed
 abbrev pub IsOrFails : (Answer → Type 0) → Refusal → Type 0
@@ -99,10 +83,3 @@ module _ (profile : List Directive) (text : List ℕ) (value : QueryValue) (spel
     terms_scanned plan planned terms are =
         let answer = scanned plan.register (map (λ t. (t.term, t.records)) terms) in
         (value, spells, subst (λ r. IsScanPlannedBy Terms r number position answer) (sym planned) (terms, are, refl))
-
-  -- rows that a query's plan reads are rows that the query hides
-  pub planned_hides : (format : Format) (number position : ℕ) (trees : Trees) (db : ℤ) (plan : ScanValue) → scan_of profile value ≡ Ok plan
-      → (why : Refusal) → IsFailure (refused (why_of why)) ⊎ ((why ≡ refusal.Damaged) × HidesAround format trees db plan number position)
-      → IsFailure (refused (why_of why)) ⊎ ((why ≡ refusal.Damaged) × HidesPlanned format profile text number position trees db)
-  planned_hides format number position trees db plan planned why (inl failed) = inl failed
-  planned_hides format number position trees db plan planned why (inr met) = inr (met.0, (plan, (value, spells, planned), met.1))

@@ -1,5 +1,5 @@
 -- What the texts of the store tell of a register, and whether it is ready then.
-use Rattle.zeb_engine.proofs.Cited.{◌≡◌, ◌≢◌, ◌∙◌, ℕ, Bool, true, false, not, List, [], ◌∷◌, codes, get_or, Option, Some, None, Result, Ok, Err, String, string_bytes, refl, sym, ap, subst, inl, inr, arith, IsUtf8, Global, option_map, bytes_eq, bytes_eq-Decides, Int, Trees, Database, State, Has, canonical_text, HasRow, store_same, IsStore, IsValueOf, AreReadableTexts, entry, meta_tree, Why, not_initialised, old_format, profile_changed, Conditions, Holdings, nothing_yet, under, Base, IsImage, HasTexts, holding, bytes_other, Format}
+use Rattle.zeb_engine.proofs.Cited.{◌≡◌, ◌≢◌, ◌∙◌, ℕ, Bool, true, false, not, List, [], ◌∷◌, codes, get_or, Option, Some, None, Result, Ok, Err, refl, sym, ap, subst, inl, inr, arith, IsUtf8, bytes_eq, bytes_eq-Decides, Int, Trees, Database, State, Has, canonical_text, HasRow, store_same, IsStore, AreReadableTexts, entry, meta_tree, Why, not_initialised, old_format, profile_changed, Conditions, Holdings, nothing_yet, under, Base, IsImage, HasTexts, holding, bytes_other, Format}
 use Rattle.zeb_engine.specs.Steps.{ready}
 
 abbrev pub version_in : Holdings → Option (List ℕ)
@@ -33,18 +33,6 @@ module _ (trees : Trees) (version text pattern : List ℕ) (texts : HasTexts tre
   ]
 
 module _ (format : Format) (c : Conditions) (trees : Trees) where
-  pub told_version : (before : Holdings) (value : Option (String Global)) → IsImage trees before → IsValueOf trees (codes "version") value → version_in before ≡ option_map string_bytes value
-  told_version nothing_yet None image value = refl
-  told_version nothing_yet (Some v) image value = absurd (none_there trees (codes "version") (string_bytes v) image.0.0 value)
-  told_version (under version text bases) None image value = absurd (value version ((image.1.texts.each (codes "version") version).1 (inl (refl, refl))))
-  told_version (under version text bases) (Some v) image value = ap Some (sym (version_is trees version text image.1.pattern image.1.texts (string_bytes v) value))
-
-  pub told_profile : (before : Holdings) (value : Option (String Global)) → IsImage trees before → IsValueOf trees (codes "profile") value → profile_in before ≡ option_map string_bytes value
-  told_profile nothing_yet None image value = refl
-  told_profile nothing_yet (Some v) image value = absurd (none_there trees (codes "profile") (string_bytes v) image.0.0 value)
-  told_profile (under version text bases) None image value = absurd (value text ((image.1.texts.each (codes "profile") text).1 (inr (inl (refl, refl)))))
-  told_profile (under version text bases) (Some v) image value = ap Some (sym (profile_is trees version text image.1.pattern image.1.texts (string_bytes v) value))
-
   pub version_readable : (before : Holdings) → IsImage trees before → AreReadableTexts trees (codes "version")
   version_readable nothing_yet image value there = absurd (none_there trees (codes "version") value image.0.0 there)
   version_readable (under version text bases) image value there = subst IsUtf8 (sym (version_is trees version text image.1.pattern image.1.texts value there)) image.1.texts.readable.0
@@ -112,20 +100,3 @@ module _ (c : Conditions) where
           λ i. under ((bytes_eq-Decides version c.version).0 one i) ((bytes_eq-Decides text (canonical_text c.profile)).0 two i) (bases_are i)
       told true false one two = let e : ◌≡◌ {A = Result (List Base) Why} (Err profile_changed) (Ok bases) = rw (one, two) at is in absurd cc
       told false s one two = let e : ◌≡◌ {A = Result (List Base) Why} (Err old_format) (Ok bases) = rw one at is in absurd cc
-
--- ---- a text that was found to be the session's
-
-module _ (format : Format) (c : Conditions) (before : Holdings) (found : String Global) (r : Bool) (a b : List ℕ) (tested : r ≡ not (bytes_eq a b)) (agrees : r ≡ false) (left : a ≡ string_bytes found) where
-  -- its version, and then what the tables are still an image of
-  pub version_own : (old mid : State) (value : Option (String Global)) → value ≡ Some found → IsStore old × IsImage old.now.trees before → (IsStore old → IsValueOf old.now.trees (codes "version") value)
-      → mid.now ≡ old.now → b ≡ c.version → (version_in before ≡ Some c.version) × (IsStore mid × IsImage mid.now.trees before)
-  version_own old mid value is seen told same right = (
-    told_version format c old.now.trees before value seen.1 (told seen.0) ∙ ap (option_map string_bytes) is ∙ ap Some (texts_agree r a b (string_bytes found) c.version tested agrees left right),
-    image_still before old mid same seen,
-  )
-
-  -- its profile's text
-  pub profile_own : (trees : Trees) (value : Option (String Global)) → value ≡ Some found → IsImage trees before → IsValueOf trees (codes "profile") value
-      → b ≡ canonical_text c.profile → profile_in before ≡ Some (canonical_text c.profile)
-  profile_own trees value is image told right =
-      told_profile format c trees before value image told ∙ ap (option_map string_bytes) is ∙ ap Some (texts_agree r a b (string_bytes found) (canonical_text c.profile) tested agrees left right)

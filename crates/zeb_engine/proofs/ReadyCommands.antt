@@ -1,5 +1,5 @@
 -- What a session's commands come to after a look at whether the register is ready.
-use Rattle.zeb_engine.proofs.Cited.{◌≡◌, ℕ, List, Result, Ok, Err, IsTrue, Vec, map, inl, inr, refl, sym, ap, subst, Global, State, ChangesNothing, Analyse, Reply, Refusal, Answer, answer_of, IsFailure, Why, Meets, Conditions, Holdings, Base, Keeps, Outcome, Ends, OnlyAnswers, ServesBy, ServesCommand, Always, Asks, Serves, IsAnalysis}
+use Rattle.zeb_engine.proofs.Cited.{◌≡◌, ◌⊎◌, ℕ, List, Result, Ok, Err, IsTrue, Vec, map, inl, inr, refl, sym, ap, subst, Global, State, ChangesNothing, Analyse, Reply, Refusal, Answer, answer_of, IsFailure, Why, Meets, Conditions, Holdings, Base, Keeps, Outcome, Ends, OnlyAnswers, ServesBy, ServesCommand, Always, Serves, IsAnalysis}
 use Rattle.zeb_engine.specs.Steps.{ready}
 use Rattle.zeb_engine.proofs.ServesLemmas.{keeps_still}
 
@@ -14,7 +14,8 @@ ready_kept c old mid before met nothing keeps =
     let it = ready_met {X = Unit {0}} (λ (bases : List Base) x. IsTrue old.is_open × IsTrue mid.is_open) (ready c before) tt met in (it.0, it.1, it.2, keeps_still before old mid nothing keeps)
 
 -- an answer that is described
-pub asks_serve : (Says : Holdings → Answer → Type 0) (old new : State) (result : Result Reply Refusal) → Asks Says old new result → ServesBy (λ before. OnlyAnswers (Says before) before) old new result
+pub asks_serve : (Says : Holdings → Answer → Type 0) (old new : State) (result : Result Reply Refusal)
+    → ((before : Holdings) → Keeps old before → (Says before (answer_of result) × Keeps new before) ⊎ (IsFailure (answer_of result) × Keeps new before)) → ServesBy (λ before. OnlyAnswers (Says before) before) old new result
 asks_serve Says old new result asks before keeps = elim (asks before keeps) [
   | inl told ↦ (before, inl (told.0, refl), told.1)
   | inr failed ↦ (before, inr (failed.0, refl), failed.1)

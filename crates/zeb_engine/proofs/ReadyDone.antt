@@ -1,5 +1,5 @@
 -- What a command has done that begins with a look whether the register is ready: where it is refused there, and where it goes on.
-use Rattle.zeb_engine.proofs.Cited.{◌≡◌, ◌⊎◌, ℕ, Bool, List, [], Option, Result, Ok, Err, IsTrue, string_bytes, inl, inr, refl, sym, ap, subst, Trees, Held, state, HasCleanDisk, Survives, Ghosts, Directive, Posting, Work, Format, version_of, IsStore, ChangesNothing, nothing_then, quiet_then, clean_before, Refusal, NeverUnready, NoReadFault, why_of, Reply, StaysOpen, Answer, answer_of, refused, IsFailure, TellsUnlessHidden, UnlessHidden, CreateOver, DropOver, HidesDatabase, FindOver, HidesFind, ScanOver, HidesTerms, StatOver, HidesRegisters, DumpOver, HidesRecords, Command, Init, Create, Drop, Change, Find, Scan, Check, Reindex, Upgrade, Stat, Dump, Analyse, Limits, Conditions, conditions, name_bytes, Holdings, Base, Keeps, Turn, Outcome, Step, Ends, OnlyAnswers, AskedAmong, AskedFrom, CountedFrom, checked_from, dumped_from, FoundFrom, ScannedFrom, ServesBy, Does, AnswersAnyway, CommandDone, ReadersDone, NoneFailed, Kind, TakesFiles, splits_of, Commanded, CommandedBy, CommitsBy, MayCommit, Commits, Always, Serves, IsReady, LooksReady, ReadsAlone, TellsReady, IsUnready, no_work}
+use Rattle.zeb_engine.proofs.Cited.{◌≡◌, ℕ, Bool, List, [], Option, Result, Ok, Err, IsTrue, string_bytes, inl, inr, refl, sym, ap, subst, Trees, Held, state, HasCleanDisk, Survives, Ghosts, Directive, Posting, Work, Format, version_of, IsStore, nothing_then, quiet_then, clean_before, Refusal, NeverUnready, NoReadFault, why_of, Reply, StaysOpen, Answer, refused, TellsUnlessHidden, UnlessHidden, CreateOver, DropOver, HidesDatabase, FindOver, HidesFind, ScanOver, HidesTerms, StatOver, HidesRegisters, DumpOver, HidesRecords, Command, Init, Create, Drop, Change, Find, Scan, Check, Reindex, Upgrade, Stat, Dump, Analyse, Limits, Conditions, conditions, name_bytes, Holdings, Base, Keeps, Turn, Outcome, Step, Ends, CountedFrom, checked_from, dumped_from, FoundFrom, ScannedFrom, ServesBy, Does, AnswersAnyway, CommandDone, ReadersDone, NoneFailed, Kind, TakesFiles, splits_of, Commanded, CommandedBy, CommitsBy, MayCommit, Commits, Always, Serves, IsReady, LooksReady, ReadsAlone, TellsReady, IsUnready, no_work}
 use Rattle.zeb_change.specs.declared.refusals.Refusal.TheVariants as refusal
 use Rattle.zeb_engine.specs.Causes.{OnlyLooks}
 use Rattle.zeb_engine.specs.Counts.{Counted}
@@ -14,8 +14,7 @@ use Rattle.zeb_engine.proofs.HiddenRows.{hidden_after, unready_hidden}
 use Rattle.zeb_engine.proofs.NoDamageAnswered.{start_honest}
 use Rattle.zeb_engine.proofs.OverTables.{IsFew}
 use Rattle.zeb_engine.proofs.Readers.{as_able}
-use Rattle.zeb_engine.proofs.ReadyCommands.{asks_serve, ends_serve, ready_kept}
-use Rattle.zeb_engine.proofs.ReadyQueries.{ready_asked}
+use Rattle.zeb_engine.proofs.ReadyCommands.{ends_serve, ready_kept}
 use Rattle.zeb_engine.proofs.ReadyTexts.{ready_then, unready_fails}
 use Rattle.zeb_engine.proofs.ServesLemmas.{keeps_still, on_ok}
 use Rattle.zeb_engine.proofs.StoreCauses.{accepted_leaves, cause_after}
@@ -196,6 +195,7 @@ module _ {S : Type 0} {g : Ghosts S} {version : List ℕ} {profile : List Direct
   reads_after result reads =
       let first = clean_before (state g mid) (state g new) reads.crash in
       record {
+        idle = reads.idle;
         same = λ clean. nothing_then (state g old) (state g mid) (state g new) (looked.reads.same (first clean)) (reads.same clean);
         opened = λ clean.
             let was = looked.reads.opened (first clean) in
@@ -239,13 +239,3 @@ module _ {S : Type 0} {g : Ghosts S} {version : List ℕ} {profile : List Direct
           → Survives (state g old) (state g new) (CommitsBy (λ before. Ends (turned under_them turn before)) (state g old))
       turn_commits turn P so survives = ends_commit (turned under_them turn) (state g old) (state g new) (survives_after (state g old) (state g mid) (state g new) P (Commits Always (turned under_them turn) (state g old)) looked.reads.crash survives
           (λ clean db made before fits keeps. let at = held_behind clean before keeps in so db made before (λ _. (at.0, at.1)) at.3))
-
-      -- a command that asks by a query
-      pub query_serves : (Says : Base → Answer → Type 0) (name text : List ℕ) (result : Result Reply Refusal) → (HasCleanDisk (state g new) → ChangesNothing (state g mid) (state g new))
-          → (HasCleanDisk (state g new) → IsTrue (state g mid).is_open → (before : Holdings) (bases : List Base) → ready under_them before ≡ Ok bases → Keeps (state g mid) before
-          → AskedAmong Says name text bases (answer_of result) ⊎ IsFailure (answer_of result))
-          → HasCleanDisk (state g new) → ServesBy (λ before. OnlyAnswers (AskedFrom Says name text (ready under_them before)) before) (state g old) (state g new) result
-      query_serves Says name text result same found clean = asks_serve (λ before. AskedFrom Says name text (ready under_them before)) (state g old) (state g new) result (λ before keeps.
-          let at = held_behind clean before keeps in
-          ready_asked under_them before at.0 Says name text (answer_of result) (Keeps (state g new) before) at.1
-          (keeps_still before (state g mid) (state g new) (same clean) at.3) (found clean at.2.1 before at.0 at.1 at.3))

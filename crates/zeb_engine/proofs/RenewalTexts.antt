@@ -16,10 +16,10 @@ module _ (trees : Trees) (version text pattern : List ℕ) (texts : HasTexts tre
     ]
   ]
 
-  version_kept : KeepsText trees (codes "version") version
+  pub version_kept : KeepsText trees (codes "version") version
   version_kept = (texts.each (codes "version") version).1 (inl (refl, refl))
 
-  profile_kept : KeepsText trees (codes "profile") text
+  pub profile_kept : KeepsText trees (codes "profile") text
   profile_kept = (texts.each (codes "profile") text).1 (inr (inl (refl, refl)))
 
   identifier_kept : KeepsText trees (codes "identifier") pattern

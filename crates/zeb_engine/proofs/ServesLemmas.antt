@@ -63,11 +63,6 @@ pub on_ok : {A E : Type 0} (r : Result A E) (P Q : Type 0) → (P → Q) → OnO
 on_ok (Ok x) P Q so p = so p
 on_ok (Err e) P Q so p = p
 
--- what an accepted call says of an open connection
-pub opened_so : {A E : Type 0} (r : Result A E) (P Q Opened : Type 0) → (Opened → OnOk r P) → ((Opened → P) → Q) → OnOk r Q
-opened_so (Ok x) P Q Opened told so = so told
-opened_so (Err e) P Q Opened told so = tt
-
 -- a transaction begins over the tables that are shown before it
 done_over : {S : Type 0} (g : Ghosts S) (old inside : Held S) (result : Result Reply Refusal) → inside ≡ record old { in_transaction = true }
     → (IsStore (state g inside) → DoneOrFails result) → IsStore (state g old) → DoneOrFails result

@@ -1,16 +1,9 @@
 -- The hits that are shown: their records by number, and what stays known of the tables while they are read.
-use Rattle.zeb_engine.proofs.Cited.{◌≡◌, ◌⊎◌, ◌∙◌, ◌<◌, ◌≤◌, ◌^◌, nat_lt, arith, ℕ, ℤ, pos, ◌+◌, List, [], ◌∷◌, ◌++◌, length, get_or, take, String, string_bytes, Option, Some, None, refl, sym, ap, ap₂, subst, inl, inr, Global, take_more, map-append, get_or_default, cases_Bool, nat_tests, Trees, Database, State, Has, has_at, has_either, ChangesNothing, IsIdentOf, AreReadableIdents, store_same, has_ident_in, Refusal, Damaged, why_of, CanBeShown, HidesOne, IsFailure, refused, AreShown, ShowsStore}
+use Rattle.zeb_engine.proofs.Cited.{◌≡◌, ◌∙◌, ◌<◌, ◌≤◌, ◌^◌, nat_lt, arith, ℕ, ℤ, pos, ◌+◌, List, [], ◌∷◌, ◌++◌, length, get_or, take, String, string_bytes, Option, Some, None, refl, sym, ap, ap₂, subst, inl, inr, Global, take_more, map-append, get_or_default, cases_Bool, nat_tests, Trees, Has, has_at, has_either, IsIdentOf, AreReadableIdents, has_ident_in, CanBeShown, HidesOne, AreShown}
 
 -- a record of each of the numbers is kept, its identifier is UTF-8, and a column stores the number
 abbrev pub KeepsEach : Trees → ℤ → List ℕ → Type 0
 KeepsEach trees db numbers = (n : ℕ) → Has numbers n → CanBeShown trees db n × (n < 2 ^ 63)
-
--- what is seen stays while nothing changes
-pub still_shows : (old now : State) (trees : Trees) → ChangesNothing old now → ShowsStore old trees → ShowsStore now trees
-still_shows old now trees nothing shows opened =
-    let same = nothing opened in
-    let at = shows same.0 in
-    (store_same old now same.1 at.0, ap (λ (d : Database). d.trees) same.1 ∙ at.1)
 
 module _ (trees : Trees) (db : ℤ) where
   pub shown_none : AreShown (has_ident_in trees db) [] []
@@ -50,8 +43,3 @@ module _ (trees : Trees) (db : ℤ) where
   -- it has one that can't be read
   pub hidden_shown : (numbers : List ℕ) (index number : ℕ) → index < length numbers → number ≡ get_or numbers index 0 → (¬ AreReadableIdents trees db (pos number)) → HidesOne trees db numbers
   hidden_shown numbers index number within is hidden = (number, has_at numbers index number within (is ∙ get_or_default numbers index 0 number within), λ shown. hidden shown.1)
-
-  -- where each record is kept and its identifier can be read, only a failure refuses
-  pub kept_fails : (numbers : List ℕ) (it : Refusal) → KeepsEach trees db numbers → IsFailure (refused (why_of it)) ⊎ ((it ≡ Damaged) × HidesOne trees db numbers) → IsFailure (refused (why_of it))
-  kept_fails numbers it keeps (inl failed) = failed
-  kept_fails numbers it keeps (inr damaged) = absurd (damaged.1.2 (keeps damaged.1.0 damaged.1.1).0)

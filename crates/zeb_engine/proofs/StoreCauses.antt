@@ -1,5 +1,5 @@
 -- Why the store may have failed, one call after the other.
-use Rattle.zeb_engine.proofs.Cited.{◌≡◌, ◌⊎◌, ◌∙◌, ℕ, List, IsTrue, Result, Ok, Err, ap, inl, inr, refl, subst, sym, State, HasCleanDisk, Survives, QueryFault, ChangesNothing, MayRefuse, IsReasoned, IsStore, RegFault, nothing_then, store_same, quiet_then, may_after, clean_before, Refusal, Conditions, query_refusal, register_refusal, out_of_memory, store_failed, why_of, StaysOpen, IsAnalysed, answer_of, refused, HasStoreCause, Reply}
+use Rattle.zeb_engine.proofs.Cited.{◌≡◌, ◌⊎◌, ◌∙◌, ℕ, List, IsTrue, Result, Ok, Err, ap, inl, inr, refl, subst, sym, State, HasCleanDisk, Survives, QueryFault, ChangesNothing, MayRefuse, IsReasoned, IsStore, RegFault, store_same, may_after, Refusal, Conditions, query_refusal, register_refusal, out_of_memory, store_failed, why_of, StaysOpen, IsAnalysed, answer_of, refused, HasStoreCause, Reply}
 use Rattle.zeb_query.specs.declared.faults.QueryFault.TheVariants as query
 use Rattle.zeb_register.specs.declared.RegFault.TheVariants as register
 use Rattle.zeb_change.specs.declared.refusals.Refusal.TheVariants as refusal
@@ -14,10 +14,6 @@ fault_caused register.Memory caused is = absurd cc
 -- this refusal, where it is a failed store, has a cause
 abbrev pub HasCauseFor : State → State → Refusal → Type 0
 HasCauseFor old new why = IsStore old → why_of why ≡ store_failed → MayRefuse old new
-
--- a refusal that is passed on
-pub passed_cause : {T : Type 0} (old new : State) (why : Refusal) (result : Result T Refusal) → result ≡ Err why → HasCauseFor old new why → HasStoreCause old new result
-passed_cause old new why result is caused = subst (λ (r : Result _ Refusal). HasStoreCause old new r) (sym is) caused
 
 -- a query is never refused as a failed store
 pub query_caused : (old new : State) (fault : QueryFault) → HasCauseFor old new (query_refusal fault)
@@ -42,25 +38,6 @@ pub record LeavesAll (old mid : State) : Type 0 where
 pub accepted_leaves : (old mid : State) → Survives old mid (λ _. ⊥) → StaysOpen old mid → ChangesNothing old mid → LeavesAll old mid
 accepted_leaves old mid survives stays nothing = record { survives = survives; opened = λ _. stays.1; nothing = nothing }
 
-pub leaves_then : (a b c : State) → LeavesAll a b → LeavesAll b c → LeavesAll a c
-leaves_then a b c one two = record {
-  survives = quiet_then a b c one.survives two.survives;
-  opened = λ was. two.opened (one.opened was);
-  nothing = nothing_then a b c one.nothing two.nothing;
-}
-
--- a call that was accepted, and left the disk clean as it ended
-pub look_leaves : (old mid new : State) → Survives mid new (λ _. ⊥) → HasCleanDisk new → Survives old mid (λ _. ⊥) → (HasCleanDisk mid → StaysOpen old mid) → (HasCleanDisk mid → ChangesNothing old mid) → LeavesAll old mid
-look_leaves old mid new late clean survives stays nothing =
-    let first = clean_before mid new late clean in
-    accepted_leaves old mid survives (stays first) (nothing first)
-
--- two of them, one after the other
-pub two_leave : (old mid new : State) → HasCleanDisk new → Survives old mid (λ _. ⊥) → (HasCleanDisk mid → StaysOpen old mid) → (HasCleanDisk mid → ChangesNothing old mid)
-    → Survives mid new (λ _. ⊥) → (HasCleanDisk new → StaysOpen mid new) → (HasCleanDisk new → ChangesNothing mid new) → LeavesAll old new
-two_leave old mid new clean survives stays nothing late finds quiet =
-    leaves_then old mid new (look_leaves old mid new late clean survives stays nothing) (accepted_leaves mid new late (finds clean) (quiet clean))
-
 module _ (old mid new : State) (leaves : LeavesAll old mid) where
   pub refusal_after : (why : Refusal) → HasCauseFor mid new why → HasCauseFor old new why
   refusal_after why caused store is =
@@ -73,9 +50,3 @@ module _ (old mid new : State) (leaves : LeavesAll old mid) where
   -- the fault of a call on the tables
   pub fault_after : {A : Type 0} (fault : RegFault) → HasCleanDisk new → IsReasoned {A = A} mid new (Err fault) → HasCauseFor old new (register_refusal fault)
   fault_after fault clean reasoned = refusal_after (register_refusal fault) (λ store. fault_caused fault (λ is. reasoned clean store (ap Err is)))
-
--- a refusal behind a call that was accepted
-pub look_caused : {T : Type 0} (old mid new : State) → Survives mid new (λ _. ⊥) → HasCleanDisk new → Survives old mid (λ _. ⊥) → (HasCleanDisk mid → StaysOpen old mid) → (HasCleanDisk mid → ChangesNothing old mid)
-    → (why : Refusal) (result : Result T Refusal) → result ≡ Err why → HasCauseFor mid new why → HasStoreCause old new result
-look_caused old mid new late clean survives stays nothing why result is caused =
-    passed_cause old new why result is (refusal_after old mid new (look_leaves old mid new late clean survives stays nothing) why caused)

@@ -1,5 +1,5 @@
 -- What looks at texts come to, one after the other.
-use Rattle.zeb_engine.proofs.Cited.{◌≡◌, ◌⊎◌, ◌↔◌, ◌∙◌, ℕ, Bool, true, false, List, codes, Option, Some, None, Result, Ok, Err, MatchResult, OnOk, IfErr, IsTrue, IsUtf8, String, string_bytes, refl, sym, subst, inl, inr, Global, bytes_eq, bytes_eq-Decides, IsUtf8-string_bytes, option_map, Database, Trees, HasCleanDisk, State, Directive, canonical_text, pattern_text, identifier_pattern, plain_rows, version_of, RegFault, ChangesNothing, IsStore, IsValueOf, AreReadableTexts, nothing_then, store_same, one_text, Refusal, register_refusal, why_of, Standing, StaysOpen, IsFailure, refused, FindsStanding, IsLook, RefusesText, RefusesVersion, TellsStanding, TellsText, IsReadyToReindex, KeepsText, KeepsUpgradable, RefusesReindex, RefusesUpgrade}
+use Rattle.zeb_engine.proofs.Cited.{◌≡◌, ◌⊎◌, ◌↔◌, ◌∙◌, ℕ, Bool, true, false, List, codes, Option, Some, None, Result, Ok, Err, MatchResult, OnOk, IfErr, IsTrue, IsUtf8, String, string_bytes, refl, sym, subst, inl, inr, Global, bytes_eq, bytes_eq-Decides, IsUtf8-string_bytes, option_map, Database, Trees, HasCleanDisk, Survives, State, Directive, canonical_text, pattern_text, identifier_pattern, plain_rows, version_of, RegFault, ChangesNothing, MayRefuse, may_after, IsStore, IsValueOf, AreReadableTexts, nothing_then, store_same, one_text, Refusal, register_refusal, why_of, Standing, StaysOpen, HasStoreCause, IsFailure, refused, FindsStanding, IsLook, RefusesText, RefusesTexts, RefusesVersion, TellsStanding, TellsText, IsReadyFor, IsReadyToReindex, KeepsText, KeepsUpgradable, RefusesReindex, RefusesUpgrade}
 use Rattle.zeb_register.specs.declared.RegFault.TheVariants as register
 use Rattle.zeb_change.specs.declared.refusals.Refusal.TheVariants as refusal
 use Rattle.zeb_engine.specs.declared.looks.Standing.TheVariants as standing
@@ -17,17 +17,17 @@ any_err (Err e) P p = inr p
 
 module _ {T : Type 0} (Finds : Trees → T → Type 0) (Refuses : Trees → Refusal → Type 0) (name : List ℕ) (old new : State) (nothing : ChangesNothing old new) where
   -- a text that can't be told
-  pub look_failed : (fault : RegFault) → (fault ≡ register.Damaged → IsTrue old.is_open) → (fault ≡ register.Damaged → IsStore old → ¬ AreReadableTexts old.now.trees name)
+  pub look_failed : (fault : RegFault) → (fault ≡ register.Damaged → IsTrue old.is_open) → (fault ≡ register.Damaged → IsStore old → ¬ AreReadableTexts old.now.trees name) → (fault ≡ register.Store → IsStore old → MayRefuse old new)
       → ((¬ AreReadableTexts old.now.trees name) → Refuses old.now.trees refusal.Damaged) → Refuses old.now.trees refusal.Store → Refuses old.now.trees refusal.Memory
       → IsLook Finds Refuses old new (Err (register_refusal fault))
-  look_failed register.Damaged opened unreadable damaged store memory =
-      record { same = nothing; found = tt; seen = inr (opened refl); told = λ is_store. damaged (unreadable refl is_store) }
-  look_failed register.Store opened unreadable damaged store memory = record { same = nothing; found = tt; seen = inl (inl refl); told = λ is_store. store }
-  look_failed register.Memory opened unreadable damaged store memory = record { same = nothing; found = tt; seen = inl (inr refl); told = λ is_store. memory }
+  look_failed register.Damaged opened unreadable reason damaged store memory =
+      record { same = nothing; found = tt; seen = inr (opened refl); caused = λ is_store is. absurd cc; told = λ is_store. damaged (unreadable refl is_store) }
+  look_failed register.Store opened unreadable reason damaged store memory = record { same = nothing; found = tt; seen = inl (inl refl); caused = λ is_store is. reason refl is_store; told = λ is_store. store }
+  look_failed register.Memory opened unreadable reason damaged store memory = record { same = nothing; found = tt; seen = inl (inr refl); caused = λ is_store is. absurd cc; told = λ is_store. memory }
 
   -- a text that was told, on an open connection
-  pub look_told : (result : Result T Refusal) → StaysOpen old new → (IsStore old → MatchResult result (Finds old.now.trees) (Refuses old.now.trees)) → IsLook Finds Refuses old new result
-  look_told result opened told = record { same = nothing; found = any_ok result _ opened; seen = any_err result _ opened.0; told = told }
+  pub look_told : (result : Result T Refusal) → HasStoreCause old new result → StaysOpen old new → (IsStore old → MatchResult result (Finds old.now.trees) (Refuses old.now.trees)) → IsLook Finds Refuses old new result
+  look_told result caused opened told = record { same = nothing; found = any_ok result _ opened; seen = any_err result _ opened.0; caused = caused; told = told }
 
 -- a name has one text, so where that can be read, every one can be
 pub kept_readable : (s : State) → IsStore s → (name kept : List ℕ) → IsUtf8 kept → KeepsText s.now.trees name kept → AreReadableTexts s.now.trees name
@@ -56,13 +56,13 @@ tells_missing trees name text o is value =
 module _ {T X : Type 0} (F : Trees → T → Type 0) (G : Trees → X → Type 0) (R Q : Trees → Refusal → Type 0) (old mid : State) where
   -- refused
   pub look_ends : (why : Refusal) → (R old.now.trees why → Q old.now.trees why) → IsLook F R old mid (Err why) → IsLook G Q old mid (Err why)
-  look_ends why so it = record { same = it.same; found = tt; seen = it.seen; told = λ store. so (it.told store) }
+  look_ends why so it = record { same = it.same; found = tt; seen = it.seen; caused = it.caused; told = λ store. so (it.told store) }
 
   -- accepted, and nothing else was looked at
-  pub look_settles : (x : T) → IsLook F R old mid (Ok x) → (result : Result X Refusal) → (IsStore old → F old.now.trees x → MatchResult result (G old.now.trees) (Q old.now.trees)) → IsLook G Q old mid result
-  look_settles x it result so = record { same = it.same; found = any_ok result _ it.found; seen = any_err result _ it.found.0; told = λ store. so store (it.told store) }
+  pub look_settles : (x : T) → IsLook F R old mid (Ok x) → (result : Result X Refusal) → HasStoreCause old mid result → (IsStore old → F old.now.trees x → MatchResult result (G old.now.trees) (Q old.now.trees)) → IsLook G Q old mid result
+  look_settles x it result caused so = record { same = it.same; found = any_ok result _ it.found; seen = any_err result _ it.found.0; caused = caused; told = λ store. so store (it.told store) }
 
-module _ {T : Type 0} (F : Trees → T → Type 0) (R : Trees → Refusal → Type 0) (old mid : State) (x : T) (first : IsLook F R old mid (Ok x)) where
+module _ {T : Type 0} (F : Trees → T → Type 0) (R : Trees → Refusal → Type 0) (old mid : State) (x : T) (crash : Survives old mid (λ _. ⊥)) (first : IsLook F R old mid (Ok x)) where
   pub same_then : mid.now ≡ old.now
   same_then = (first.same first.found.1).1
 
@@ -75,15 +75,17 @@ module _ {T : Type 0} (F : Trees → T → Type 0) (R : Trees → Refusal → Ty
       same = nothing_then old mid new first.same it.same;
       found = tt;
       seen = inr first.found.0;
+      caused = λ store is. may_after old mid new crash (λ _. first.found.1) (λ _. it.caused (store_then store) is);
       told = λ store. so store (first.told store) (subst (λ (d : Database). Q d.trees why) same_then (it.told (store_then store)));
     }
 
-    then_settles : (y : X) → IsLook G Q mid new (Ok y) → (result : Result Y Refusal) → (IsStore old → F old.now.trees x → G old.now.trees y → MatchResult result (H old.now.trees) (P old.now.trees))
+    then_settles : (y : X) → IsLook G Q mid new (Ok y) → (result : Result Y Refusal) → HasStoreCause old new result → (IsStore old → F old.now.trees x → G old.now.trees y → MatchResult result (H old.now.trees) (P old.now.trees))
         → IsLook H P old new result
-    then_settles y it result so = record {
+    then_settles y it result caused so = record {
       same = nothing_then old mid new first.same it.same;
       found = any_ok result _ (first.found.0, it.found.1);
       seen = any_err result _ first.found.0;
+      caused = caused;
       told = λ store. so store (first.told store) (subst (λ (d : Database). G d.trees y) same_then (it.told (store_then store)));
     }
 
@@ -92,15 +94,15 @@ module _ {T : Type 0} (F : Trees → T → Type 0) (R : Trees → Refusal → Ty
 abbrev pub KeepsVersion : Trees → String Global → Type 0
 KeepsVersion trees version = KeepsText trees (codes "version") (string_bytes version)
 
-module _ (old mid new : State) (version : String Global) (clean : HasCleanDisk mid) (look : HasCleanDisk mid → IsLook KeepsVersion RefusesVersion old mid (Ok version)) (name text : List ℕ)
+module _ (old mid new : State) (version : String Global) (crash : Survives old mid (λ _. ⊥)) (clean : HasCleanDisk mid) (look : HasCleanDisk mid → IsLook KeepsVersion RefusesVersion old mid (Ok version)) (name text : List ℕ)
     {Y : Type 0} (H : Trees → Y → Type 0) (P : Trees → Refusal → Type 0) where
   pub text_ends : (why : Refusal) → (KeepsVersion old.now.trees version → RefusesText name old.now.trees why → P old.now.trees why) → IsLook (TellsText name text) (RefusesText name) mid new (Err why)
       → IsLook H P old new (Err why)
-  text_ends why so it = then_ends KeepsVersion RefusesVersion old mid version (look clean) (TellsText name text) H (RefusesText name) P new why (λ store kept hard. so kept hard) it
+  text_ends why so it = then_ends KeepsVersion RefusesVersion old mid version crash (look clean) (TellsText name text) H (RefusesText name) P new why (λ store kept hard. so kept hard) it
 
-  pub text_settles : (it : Bool) → IsLook (TellsText name text) (RefusesText name) mid new (Ok it) → (result : Result Y Refusal)
+  pub text_settles : (it : Bool) → IsLook (TellsText name text) (RefusesText name) mid new (Ok it) → (result : Result Y Refusal) → HasStoreCause old new result
       → (KeepsVersion old.now.trees version → TellsText name text old.now.trees it → MatchResult result (H old.now.trees) (P old.now.trees)) → IsLook H P old new result
-  text_settles it told result so = then_settles KeepsVersion RefusesVersion old mid version (look clean) (TellsText name text) H (RefusesText name) P new it told result (λ store kept tells. so kept tells)
+  text_settles it told result caused so = then_settles KeepsVersion RefusesVersion old mid version crash (look clean) (TellsText name text) H (RefusesText name) P new it told result caused (λ store kept tells. so kept tells)
 
 -- ---- the looks before a reindex and an upgrade
 
@@ -145,6 +147,19 @@ module _ (version : List ℕ) (profile : List Directive) (trees : Trees) where
 
   pub pattern_as_rule : KeepsText trees (codes "version") version → (why : Refusal) → RefusesText (codes "identifier") trees why → RefusesReindex version profile trees why
   pattern_as_rule kept = text_refused trees (RefusesReindex version profile trees) tt tt (codes "identifier") (λ hard. inr (kept, hard))
+
+  pub version_as_texts : (why : Refusal) → RefusesVersion trees why → RefusesTexts version profile trees why
+  version_as_texts = version_refused trees (RefusesTexts version profile trees) tt tt (λ none. none) (λ hard. inl hard)
+
+  pub profile_as_texts : KeepsText trees (codes "version") version → (why : Refusal) → RefusesText (codes "profile") trees why → RefusesTexts version profile trees why
+  profile_as_texts kept = text_refused trees (RefusesTexts version profile trees) tt tt (codes "profile") (λ hard. inr (kept, hard))
+
+  module _ (text : List ℕ) (text_is : text ≡ canonical_text profile) (kept : KeepsText trees (codes "version") version) where
+    pub profile_found : TellsText (codes "profile") text trees true → IsReadyFor version profile trees
+    profile_found tells = record { has_version = kept; has_profile = subst (KeepsText trees (codes "profile")) text_is (tells.0.0 refl) }
+
+    pub profile_differs : TellsText (codes "profile") text trees false → RefusesTexts version profile trees refusal.ProfileChanged
+    profile_differs tells = (kept, λ there. let no : false ≡ true = tells.0.1 (subst (KeepsText trees (codes "profile")) (sym text_is) there) in cc, tells.1)
 
   pub version_as_layout : (why : Refusal) → RefusesVersion trees why → RefusesUpgrade version profile trees why
   version_as_layout = version_refused trees (RefusesUpgrade version profile trees) tt tt (λ none. none) (λ hard. inl hard)

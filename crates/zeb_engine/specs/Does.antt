@@ -52,7 +52,7 @@ pub record CommandOverTables (format : Format) (c : Conditions) (command : Comma
   -- refused, it changes nothing
   pub refused : OnErr answer (ChangesNothing old new)
   pub does : Does format c command old new answer
-  -- damage is told only of the image of nothing that can be held
+  -- damage is told only of tables that are the image of no holding
   pub honest : answer ≡ Err Damaged → (before : Holdings) → ¬ Keeps old before
 
 -- only a failure refuses an init

@@ -42,7 +42,7 @@ module _ {R : Type 0} (remaining : R → Option (List ℕ)) (has_failed : R → 
     pub leaves : LeavesWhole c.profile kind name old new answer
     -- and records are lost only under identifiers that records of the files have
     pub loses : (texts : List (List ℕ)) → Tell remaining before texts → LosesNamed c.profile name texts old new answer
-    -- damage is told only of the image of nothing that can be held
+    -- damage is told only of tables that are the image of no holding
     pub honest : answer ≡ Err Damaged → (held : Holdings) → ¬ Keeps old held
 
   -- what a crash leaves: what the change left, or what was there before it

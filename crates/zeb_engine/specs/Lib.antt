@@ -20,7 +20,7 @@ pub mod PrivateLooking
 pub mod PrivateWriting
 pub mod PrivateChanging
 pub mod PrivateNumbers
-pub mod PrivateDumping
+pub mod PrivateDatabaseChanges
 pub mod PrivateConnections
 pub mod PrivateDone
 pub mod FromReaders

@@ -3,7 +3,7 @@
 use Rattle.std.specs.Prelude.{◌≡◌, ◌≢◌, ◌⊎◌, ℕ, pos, List, Option, Some, None, Ok}
 use Rattle.sqlite.specs.Tree.{Trees}
 use Rattle.zeb_register.specs.declared.catalog.Database.{Database}
-use Rattle.zeb_register.specs.Catalog.{IsDatabaseOf}
+use Rattle.zeb_register.specs.Catalog.{AreCountedDatabases, IsDatabaseOf}
 use Rattle.zeb_register.specs.Store.{HasDatabase}
 use Rattle.zeb_change.specs.declared.refusals.Refusal.{Refusal}
 use Rattle.zeb_change.specs.declared.refusals.Refusal.TheVariants.{Damaged}
@@ -25,10 +25,6 @@ MayBeginUnder kind name None c trees before = (bases : List Base) × (ready c be
 MayBeginUnder kind name (Some found) c trees before =
     (bases : List Base) × (base : Base) × (ready c before ≡ Ok bases) × (base_named name bases ≡ Some base) × HasDatabase trees found.id.0 base.name (pos base.last) × (found.last ≡ base.last)
 
--- the same under what a change works under
-abbrev pub MayBegin : List ℕ → Setting → List ℕ → Option Database → Trees → Holdings → Type 0
-MayBegin version setting name found = MayBeginUnder setting.kind name found (conditions_of version setting)
-
 -- what a change by these files comes to
 abbrev pub comes_to : List ℕ → Setting → List ℕ → List (List ℕ) → Holdings → Outcome
 comes_to version setting name texts = turned (conditions_of version setting) (changed_by_files (conditions_of version setting) setting.kind name (splits_of texts))
@@ -38,10 +34,12 @@ abbrev pub last_of : Option Database → ℕ
 last_of None = 0
 last_of (Some found) = found.last
 
--- no database has the name, and a change of another kind than an update needs it; or it is damage or a failure
+-- no database has the name, and a change of another kind than an update needs it; or its last number is below 0; or the store or the memory
+-- failed
 abbrev pub IsMissedFor : Kind → Trees → List ℕ → Refusal → Type 0
 IsMissedFor kind trees name refusal =
-    ((kind ≢ Update) × IsDatabaseOf trees name None × (why_of refusal ≡ no_database name)) ⊎ ((refusal ≡ Damaged) ⊎ IsFailing (why_of refusal))
+    ((kind ≢ Update) × IsDatabaseOf trees name None × (why_of refusal ≡ no_database name))
+    ⊎ (((refusal ≡ Damaged) × ¬ AreCountedDatabases trees name) ⊎ IsFailing (why_of refusal))
 
 -- this is what the tables know of the name, and only an update begins with none
 abbrev pub BeginsWith : Kind → Trees → List ℕ → Option Database → Type 0

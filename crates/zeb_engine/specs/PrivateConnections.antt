@@ -1,6 +1,6 @@
 -- What only the contracts of private functions speak of; no public clause reaches it.
 -- What a call does to its connection, and how a refusal goes by what the connection shows.
-use Rattle.std.specs.Prelude.{◌≡◌, ◌≢◌, ℕ, List, Err, IfErr, IsTrue, OnOk, Result}
+use Rattle.std.specs.Prelude.{◌≡◌, ◌≢◌, false, ℕ, List, Err, IfErr, IsTrue, OnOk, Result}
 use Rattle.sqlite.specs.Held.{Held, state}
 use Rattle.sqlite.specs.State.{HasCleanDisk, State, Survives}
 use Rattle.sqlite.specs.Store.{Ghosts}
@@ -32,17 +32,14 @@ CommitsNothing g old new = Survives (state g old) (state g new) (λ _. ⊥)
 abbrev pub FindsOpen : {S T : Type 0} → Ghosts S → Held S → Held S → Result T Refusal → Type 0
 FindsOpen g old new result = HasCleanDisk (state g new) → OnOk result (StaysOpen (state g old) (state g new))
 
--- accepted, it left an open connection open
-abbrev pub LeavesOpen : {S T E : Type 0} → Ghosts S → Held S → Held S → Result T E → Type 0
-LeavesOpen g old new result = HasCleanDisk (state g new) → OnOk result (IsTrue (state g old).is_open → IsTrue (state g new).is_open)
-
 -- it finds the store failed only for a cause
 abbrev pub FailsForCause : {S T : Type 0} → Ghosts S → Held S → Held S → Result T Refusal → Type 0
 FailsForCause g old new result = HasCleanDisk (state g new) → HasStoreCause (state g old) (state g new) result
 
--- A call that reads: nothing changes; accepted, it found the connection open and left it so; a crash leaves what it left before; and the
+-- A call that reads: no transaction is open then, and nothing changes; accepted, it found the connection open and left it so; a crash leaves what it left before; and the
 -- store is found failed only for a cause.
 pub record ReadsAlone {S T : Type 0} (g : Ghosts S) (old new : Held S) (result : Result T Refusal) : Type 0 where
+  pub idle : new.in_transaction ≡ false
   pub same : LeavesAsIs g old new
   pub opened : FindsOpen g old new result
   pub crash : CommitsNothing g old new

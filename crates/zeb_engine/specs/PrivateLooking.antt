@@ -3,25 +3,28 @@
 use Rattle.std.specs.Prelude.{◌≡◌, ◌≢◌, ◌⊎◌, ◌↔◌, ℕ, Bool, List, MatchResult, Option, Some, None, Result, OnOk, IfErr, IsTrue, codes}
 use Rattle.sqlite.specs.Tree.{Trees}
 use Rattle.sqlite.specs.State.{State}
+use Rattle.zeb_profile.specs.Canonical.{canonical_text}
 use Rattle.zeb_profile.specs.declared.directives.Directive.{Directive}
 use Rattle.zeb_register.specs.Calls.{ChangesNothing}
 use Rattle.zeb_register.specs.Catalog.{AreCountedDatabases, IsDatabaseOf}
 use Rattle.zeb_register.specs.Formats.{plain_rows, version_of}
 use Rattle.zeb_register.specs.Store.{IsStore, AreReadableTexts}
 use Rattle.zeb_change.specs.declared.refusals.Refusal.{Refusal}
-use Rattle.zeb_change.specs.declared.refusals.Refusal.TheVariants.{NotInitialised, OldFormat, ProfileChanged, Damaged, Store, Memory}
+use Rattle.zeb_change.specs.declared.refusals.Refusal.TheVariants.{NotInitialised, OldFormat, ProfileChanged, Diagnostic, Damaged, Store, Memory}
 use Rattle.zeb_change.specs.Refused.{why_of}
 use Rattle.zeb_engine.specs.declared.looks.Standing.{Standing}
 use Rattle.zeb_engine.specs.declared.looks.Standing.TheVariants.{Upgraded, First}
 use Rattle.zeb_engine.specs.Adopting.{StaysOpen}
 use Rattle.zeb_engine.specs.Answers.{IsFailure, refused, no_database}
-use Rattle.zeb_engine.specs.Readiness.{IsReadyFor, KeepsText}
+use Rattle.zeb_engine.specs.Causes.{HasStoreCause}
+use Rattle.zeb_engine.specs.Readiness.{HidesText, IsReadyFor, KeepsText}
 
 -- what a look did to the connection, and what it found on the tables of a store
 pub record IsLook {T : Type 0} (Finds : Trees → T → Type 0) (Refuses : Trees → Refusal → Type 0) (old new : State) (result : Result T Refusal) : Type 0 where
   pub same : ChangesNothing old new
   pub found : OnOk result (StaysOpen old new)
   pub seen : IfErr result (λ refusal. IsFailure (refused (why_of refusal)) ⊎ IsTrue old.is_open)
+  pub caused : HasStoreCause old new result
   pub told : IsStore old → MatchResult result (Finds old.now.trees) (Refuses old.now.trees)
 
 -- whether this text is kept under this name, where what is kept can be read
@@ -43,6 +46,20 @@ RefusesVersion trees Store = Unit {0}
 RefusesVersion trees Memory = Unit {0}
 RefusesVersion trees other = ⊥
 
+-- Over which texts a look whether the register is ready is refused so. Each case leaves no other, but a failure of the store or of memory.
+abbrev pub RefusesTexts : List ℕ → List Directive → Trees → Refusal → Type 0
+RefusesTexts version profile trees NotInitialised = (text : List ℕ) → ¬ KeepsText trees (codes "version") text
+RefusesTexts version profile trees OldFormat =
+    ((text : List ℕ) × KeepsText trees (codes "version") text) × (¬ KeepsText trees (codes "version") version)
+    × AreReadableTexts trees (codes "version")
+RefusesTexts version profile trees ProfileChanged =
+    KeepsText trees (codes "version") version × (¬ KeepsText trees (codes "profile") (canonical_text profile))
+    × AreReadableTexts trees (codes "profile")
+RefusesTexts version profile trees Damaged = HidesText version (codes "profile") trees
+RefusesTexts version profile trees Store = Unit {0}
+RefusesTexts version profile trees Memory = Unit {0}
+RefusesTexts version profile trees other = ⊥
+
 -- where a register of this version stands, or none
 abbrev pub TellsStanding : List ℕ → List ℕ → Option Standing → Type 0
 TellsStanding own version (Some Upgraded) = version ≡ own
@@ -63,6 +80,14 @@ IsUnready Damaged = Unit {0}
 IsUnready Store = Unit {0}
 IsUnready Memory = Unit {0}
 IsUnready other = ⊥
+
+-- what asks of a database, on a register that is ready, refuses nothing else
+abbrev pub IsAskRefusal : Refusal → Type 0
+IsAskRefusal (Diagnostic number place addinfo) = Unit {0}
+IsAskRefusal Damaged = Unit {0}
+IsAskRefusal Store = Unit {0}
+IsAskRefusal Memory = Unit {0}
+IsAskRefusal other = ⊥
 
 -- over which tables the database of a name isn't found: none has the name, or its last number is below 0
 abbrev pub MissesDatabase : Trees → List ℕ → Refusal → Type 0

@@ -2,12 +2,14 @@
 -- The numbers of the records of a database, which a change looks at first.
 use Rattle.std.specs.Prelude.{◌+◌, ◌≤◌, ◌<◌, ◌^◌, ℕ, ℤ, pos, List, Option, Some, None}
 use Rattle.sqlite.specs.Effect.{Database}
-use Rattle.sqlite.specs.State.{State}
 use Rattle.sqlite.specs.Tree.{Trees}
 use Rattle.zeb_register.specs.declared.kept.Record.{Record}
 use Rattle.zeb_register.specs.Catalog.{PutsDatabase}
 use Rattle.zeb_register.specs.Kept.{AreReadable}
-use Rattle.zeb_register.specs.Store.{Changes, databases_tree}
+use Rattle.zeb_register.specs.Sql.{KeepsOthers}
+use Rattle.zeb_register.specs.Store.{databases_tree}
+use Rattle.zeb_register.specs.Tables.{store_schema}
+use Rattle.zeb_change.specs.RecordChanges.{AreStores}
 use Rattle.zeb_engine.specs.Changing.{HasNumbersTo}
 
 -- the first record, if there is one, has no number below 1, and none was found above the last number
@@ -22,9 +24,15 @@ pub record AreWellNumbered (last : ℕ) (trees : Trees) (id : ℤ) : Type 0 wher
   pub readable : AreReadable trees id
   pub stored : last + 1 < 2 ^ 63
 
+-- the row of this name gets this last number, and no other table is written
+pub record PutsRow (id : ℤ) (name : List ℕ) (last : ℕ) (old new : Database) : Type 0 where
+  pub store : AreStores new
+  pub rows : PutsDatabase id name (pos last) databases_tree old.trees new.trees
+  pub others : KeepsOthers store_schema databases_tree old.trees new.trees
+
 -- of the database that gets the row of this name it isn't so
-pub record IsMisnumbered (name : List ℕ) (last : ℕ) (old : State) : Type 0 where
+pub record IsMisnumbered (name : List ℕ) (last : ℕ) (old : Database) : Type 0 where
   pub id : ℤ
   pub now : Database
-  pub put : Changes databases_tree (PutsDatabase id name (pos last)) old (record old { now = now })
+  pub put : PutsRow id name last old now
   pub unsound : ¬ AreWellNumbered last now.trees id

@@ -1,20 +1,20 @@
 -- What only the contracts of private functions speak of; no public clause reaches it.
 -- What commands do to a connection, and to what its tables hold.
-use Rattle.std.specs.Prelude.{◌≡◌, ◌⊎◌, ℕ, List, Result, Ok, Err, IsTrue}
+use Rattle.std.specs.Prelude.{◌≡◌, ◌⊎◌, List, Result, Ok, Err, IsTrue}
 use Rattle.sqlite.specs.Tree.{Trees}
 use Rattle.sqlite.specs.State.{State, KeepsCommit}
 use Rattle.zeb_register.specs.Calls.{GoesOn}
 use Rattle.zeb_register.specs.Store.{IsStore}
 use Rattle.zeb_engine.specs.declared.replies.Reply.{Reply}
 use Rattle.zeb_change.specs.declared.refusals.Refusal.{Refusal}
-use Rattle.zeb_engine.specs.Answers.{Answer, refused, reply_answer, answer_of, IsFailure}
+use Rattle.zeb_engine.specs.Answers.{refused, reply_answer, answer_of, IsFailure}
 use Rattle.zeb_change.specs.Refused.{why_of}
 use Rattle.zeb_change.specs.Conditions.{Conditions}
 use Rattle.zeb_image.specs.Holdings.{Holdings}
 use Rattle.zeb_change.specs.Base.{Base}
 use Rattle.zeb_image.specs.Image.{IsImage, Keeps}
 use Rattle.zeb_image.specs.PrivateImage.{Sees}
-use Rattle.zeb_engine.specs.Steps.{Outcome, TellsOrFails, FoundFrom, ScannedFrom, ready}
+use Rattle.zeb_engine.specs.Steps.{Outcome, ready}
 
 -- nothing had to be found out
 abbrev pub Always : Trees → Holdings → Type 0
@@ -36,12 +36,6 @@ ReachesOutcome Fits outcome old new (Err refusal) =
     KeepsCommit old new × ((before : Holdings) → (IsTrue old.is_open → Fits old.now.trees before) → Sees old before
     → IsFailure (refused (why_of refusal)) ⊎ (outcome before ≡ (refused (why_of refusal), before)))
 
--- ---- the tables that a command reads
-
--- an open connection shows these tables, and they are the store's
-abbrev pub ShowsStore : State → Trees → Type 0
-ShowsStore s trees = IsTrue s.is_open → IsStore s × (s.now.trees ≡ trees)
-
 -- ---- outside a transaction
 
 -- a command that takes holdings to an outcome: it answers that and the tables hold what it leaves, or it fails and they hold what they held
@@ -49,15 +43,3 @@ abbrev pub Serves : (Fits : Trees → Holdings → Type 0) → (Holdings → Out
 Serves Fits outcome old new result =
     (before : Holdings) → (IsTrue old.is_open → Fits old.now.trees before) → Keeps old before
     → (((outcome before).0 ≡ answer_of result) × Keeps new (outcome before).1) ⊎ (IsFailure (answer_of result) × Keeps new before)
-
--- a command that reads: it answers what is said of what is held, or it fails, and the tables hold what they held
-abbrev pub Asks : (TellsOrFails : Holdings → Answer → Type 0) → State → State → Result Reply Refusal → Type 0
-Asks TellsOrFails old new result =
-    (before : Holdings) → Keeps old before
-    → (TellsOrFails before (answer_of result) × Keeps new before) ⊎ (IsFailure (answer_of result) × Keeps new before)
-
-abbrev pub Finds : Conditions → (name query : List ℕ) → (first count : ℕ) → State → State → Result Reply Refusal → Type 0
-Finds c name query first count = Asks (λ before answer. FoundFrom c name query first count (ready c before) answer)
-
-abbrev pub ScansFrom : Conditions → (name query : List ℕ) → (number position : ℕ) → State → State → Result Reply Refusal → Type 0
-ScansFrom c name query number position = Asks (λ before answer. ScannedFrom c name query number position (ready c before) answer)

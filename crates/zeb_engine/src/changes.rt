@@ -1,33 +1,21 @@
 //! Updates and deletes: the records of files are folded into a database in one transaction.
 
-ghost use Rattle.std.specs.Prelude.{◌≡◌, ◌≢◌, ◌⊎◌, ◌+◌, ◌≤◌, ◌<◌, ◌^◌, ℕ, pos, List, map, Some, Ok, Err, OnOk, IfOk, IfErr, false, IsTrue};
+ghost use Rattle.std.specs.Prelude.{◌≡◌, ◌+◌, ◌<◌, ◌≤◌, ◌^◌, pos, map, MatchResult, Err, OnOk, IfOk, IfErr, false};
 ghost use Rattle.sqlite.specs.Held.{state};
-ghost use Rattle.sqlite.specs.State.{HasCleanDisk, Survives};
-ghost use Rattle.zeb_register.specs.Formats.{version_of};
 ghost use Rattle.zeb_register.specs.Calls.{GoesOn, Inside, OnlyReads};
 ghost use Rattle.zeb_register.specs.Catalog.{PutsDatabase};
 ghost use Rattle.zeb_register.specs.Clauses.{ChangesTable, InStore, OnStore};
-ghost use Rattle.zeb_register.specs.Store.{IsStore, databases_tree};
-ghost use Rattle.zeb_engine.specs.PrivateChanging.{BeginsWith, IsMissedFor, MayBeginUnder, MayBegin, comes_to, last_of};
-ghost use Rattle.zeb_engine.specs.PrivateNumbers.{AreGiven, AreWellNumbered, IsMisnumbered};
-ghost use Rattle.zeb_change.specs.Conditions.{Conditions};
-ghost use Rattle.zeb_engine.specs.Answers.{IsFailure, refused};
-ghost use Rattle.zeb_engine.specs.Changing.{ElderOver, EldersOver, HasNumbersTo, LeavesRows, LeavesWhole, LosesNamed, LosesNamedOver, ReasonsOver};
-ghost use Rattle.zeb_engine.specs.PrivateCrashes.{Commits};
-ghost use Rattle.zeb_change.specs.Base.{Base};
-ghost use Rattle.zeb_image.specs.Holdings.{Holdings, base_named};
-ghost use Rattle.zeb_engine.specs.Costs.{Costs};
-ghost use Rattle.zeb_image.specs.Image.{IsImage, Keeps};
+ghost use Rattle.zeb_register.specs.Store.{databases_tree};
+ghost use Rattle.zeb_change.specs.Inside.{WorksInside};
+ghost use Rattle.zeb_change.specs.Reading.{NoneFailed, NoReadFault, TellsFaults};
+ghost use Rattle.zeb_change.specs.RecordChanges.{OnRows};
 ghost use Rattle.zeb_image.specs.NameOf.{name_bytes};
-ghost use Rattle.zeb_change.specs.Refused.{NeverUnready, Meets, why_of};
-ghost use Rattle.zeb_change.specs.Reading.{HasFailedAt, NoneFailed, NoReadFault, StayAble};
-ghost use Rattle.zeb_engine.specs.Steps.{ready, start_of};
+ghost use Rattle.zeb_engine.specs.Changing.{HasNumbersTo};
+ghost use Rattle.zeb_engine.specs.PrivateChanging.{BeginsWith, IsMissedFor, last_of};
+ghost use Rattle.zeb_engine.specs.PrivateConnections.{ReadsAlone};
+ghost use Rattle.zeb_engine.specs.PrivateDatabaseChanges.{AppliesChange, ChangesDatabase, Transacts, asked};
+ghost use Rattle.zeb_engine.specs.PrivateNumbers.{AreGiven, AreWellNumbered, IsMisnumbered};
 ghost use Rattle.zeb_engine.specs.Transactions.{Commanded};
-ghost use Rattle.zeb_change.specs.Inside.{StaysInside};
-ghost use Rattle.zeb_change.specs.UnderWay.{conditions_of};
-ghost use Rattle.zeb_engine.specs.PrivateWorks.{IsReady, Serves, ReachesOutcome};
-ghost use Rattle.zeb_engine.specs.PrivateConnections.{CommitsNothing, FindsOpen, LeavesAsIs};
-ghost use Rattle.zeb_engine.specs.PrivateLooking.{MissesDatabase};
 
 use crate::readiness::existing_database;
 use crate::replies::Reply;
@@ -129,7 +117,7 @@ fn begin_change<S: Alter>(
     ensures numbers { InStore (state S.Store tx.old.conn.now) (state S.Store tx.new.conn.now) (λ trees.
         IfOk result (λ id. HasNumbersTo last trees id.0)) }
     ensures honest { InStore (state S.Store tx.old.conn.now) (state S.Store tx.new.conn.now) (λ _.
-        result ≡ Err RegFault.Damaged → IsMisnumbered name.now last (state S.Store tx.old.conn.now)) }
+        result ≡ Err RegFault.Damaged → IsMisnumbered name.now last (state S.Store tx.old.conn.now).now) }
 {
     let database = database_put(tx, name, last)?;
     check_numbers(tx, database, last)?;
@@ -145,58 +133,15 @@ fn apply<S: Alter, L: Layout, R: Source>(
     readers: &mut [R],
 ) -> Result<Reply, Refusal>
     ensures same { tx.new.conn.ghost_name ≡ tx.old.conn.ghost_name }
-    ensures stays { HasCleanDisk (state S.Store tx.new.conn.now) → IsTrue (state S.Store tx.old.conn.now).in_transaction
-        → StaysInside (state S.Store tx.old.conn.now) (state S.Store tx.new.conn.now) result }
-    ensures works { HasCleanDisk (state S.Store tx.new.conn.now) → IsTrue (state S.Store tx.old.conn.now).in_transaction
-        → IsTrue (state S.Store tx.old.conn.now).is_open
-        → (texts : List (List ℕ)) → map R.remaining readers.old ≡ map Some texts → NoneFailed R.has_failed readers.new
-        → ReachesOutcome (MayBegin (version_of L.format) change.now.setting (name_bytes change.now.name.now) change.now.found)
-        (comes_to (version_of L.format) change.now.setting (name_bytes change.now.name.now) texts)
-        (state S.Store tx.old.conn.now) (state S.Store tx.new.conn.now) result }
-    ensures honest { HasCleanDisk (state S.Store tx.new.conn.now) → IsTrue (state S.Store tx.old.conn.now).in_transaction
-        → (before : Holdings) → MayBegin (version_of L.format) change.now.setting (name_bytes change.now.name.now) change.now.found
-        (state S.Store tx.old.conn.now).now.trees before
-        → IsStore (state S.Store tx.old.conn.now) → IsImage (state S.Store tx.old.conn.now).now.trees before
-        → result ≢ Err Refusal.Damaged }
-    ensures failed { NoneFailed R.has_failed readers.old → (file : ℕ) → HasFailedAt R.has_failed readers.new file
-        → result ≡ Err (Refusal.ReadFault file) }
-    ensures fault { (file : ℕ) → result ≡ Err (Refusal.ReadFault file) → HasFailedAt R.has_failed readers.new file }
-    ensures able { StayAble R.may_fail R.has_failed readers.old readers.new }
-    ensures ready { NeverUnready result }
-    ensures crash { CommitsNothing S.Store tx.old.conn.now tx.new.conn.now }
-    ensures work { HasCleanDisk (state S.Store tx.new.conn.now) → IsTrue (state S.Store tx.old.conn.now).in_transaction
-        → (texts : List (List ℕ)) → map R.remaining readers.old ≡ map Some texts
-        → OnOk result ((before : Holdings)
-        → MayBegin (version_of L.format) change.now.setting (name_bytes change.now.name.now) change.now.found
-        (state S.Store tx.old.conn.now).now.trees before
-        → IsStore (state S.Store tx.old.conn.now) → IsImage (state S.Store tx.old.conn.now).now.trees before
-        → Costs L.row_work (conditions_of (version_of L.format) change.now.setting) change.now.setting.kind
-        (name_bytes change.now.name.now) texts work.old work.new before) }
+    ensures inside { WorksInside (state S.Store tx.old.conn.now) (state S.Store tx.new.conn.now) result }
+    ensures applies { OnRows (state S.Store tx.old.conn.now) (state S.Store tx.new.conn.now)
+        (AppliesChange (NoneFailed R.has_failed readers.new)
+        (asked change.now.setting L.format L.row_work change.now.name.now (map R.remaining readers.old))
+        (last_of change.now.found) work.old work.new
+        (state S.Store tx.old.conn.now).now (state S.Store tx.new.conn.now).now result) }
+    ensures faults { TellsFaults R.may_fail R.has_failed readers.old readers.new result }
     ensures no_work { L.row_work ≡ 0 → work.new ≡ work.old }
-    ensures elder { InStore (state S.Store tx.old.conn.now) (state S.Store tx.new.conn.now) (λ trees. (texts : List (List ℕ))
-        → map R.remaining readers.old ≡ map Some texts → NoneFailed R.has_failed readers.new
-        → ElderOver change.now.setting.profile.now (name_bytes change.now.name.now) texts trees result) }
-    ensures elders { InStore (state S.Store tx.old.conn.now) (state S.Store tx.new.conn.now) (λ trees.
-        BeginsWith change.now.setting.kind trees (name_bytes change.now.name.now) change.now.found
-        → (texts : List (List ℕ)) → map R.remaining readers.old ≡ map Some texts
-        → EldersOver change.now.setting.profile.now change.now.setting.limits (name_bytes change.now.name.now) texts trees result) }
-    ensures loses { InStore (state S.Store tx.old.conn.now) (state S.Store tx.new.conn.now) (λ trees.
-        BeginsWith change.now.setting.kind trees (name_bytes change.now.name.now) change.now.found
-        → OnOk result (LeavesRows change.now.setting.profile.now change.now.setting.kind (name_bytes change.now.name.now) trees
-        (state S.Store tx.new.conn.now))) }
-    ensures named { InStore (state S.Store tx.old.conn.now) (state S.Store tx.new.conn.now) (λ trees.
-        BeginsWith change.now.setting.kind trees (name_bytes change.now.name.now) change.now.found
-        → (texts : List (List ℕ)) → map R.remaining readers.old ≡ map Some texts
-        → OnOk result (LosesNamedOver change.now.setting.profile.now (name_bytes change.now.name.now) texts trees
-        (state S.Store tx.new.conn.now).now.trees)) }
-    ensures reasons { InStore (state S.Store tx.old.conn.now) (state S.Store tx.new.conn.now) (λ trees.
-        BeginsWith change.now.setting.kind trees (name_bytes change.now.name.now) change.now.found
-        → (texts : List (List ℕ)) → map R.remaining readers.old ≡ map Some texts → NoneFailed R.has_failed readers.new
-        → ReasonsOver change.now.setting.profile.now change.now.setting.kind change.now.setting.limits
-        (name_bytes change.now.name.now) texts trees result) }
 {
-    // Its profile is some text's.
-    change.setting.profile.is_of_some_text();
     let name = change.name.as_str();
     let last = change.last();
     let database = begin_change(tx, name, last)?;
@@ -223,58 +168,14 @@ fn transact<S: Alter, L: Layout, R: Source>(
     readers: &mut [R],
 ) -> Result<Reply, Refusal>
     requires idle { connection.old.in_transaction ≡ false }
-    ensures serves { HasCleanDisk (state S.Store connection.new) → IsTrue (state S.Store connection.old).is_open
-        → (texts : List (List ℕ)) → map R.remaining readers.old ≡ map Some texts → NoneFailed R.has_failed readers.new
-        → Serves (MayBegin (version_of L.format) change.now.setting (name_bytes change.now.name.now) change.now.found)
-        (comes_to (version_of L.format) change.now.setting (name_bytes change.now.name.now) texts)
-        (state S.Store connection.old) (state S.Store connection.new) result }
-    ensures honest { HasCleanDisk (state S.Store connection.new) → IsTrue (state S.Store connection.old).is_open
-        → (before : Holdings) → MayBegin (version_of L.format) change.now.setting (name_bytes change.now.name.now) change.now.found
-        (state S.Store connection.old).now.trees before
-        → Keeps (state S.Store connection.old) before → result ≢ Err Refusal.Damaged }
     ensures idle { connection.new.in_transaction ≡ false }
     ensures call { Commanded (state S.Store connection.old) (state S.Store connection.new) result }
-    ensures survives { Survives (state S.Store connection.old) (state S.Store connection.new)
-        (λ db. IsTrue (state S.Store connection.old).is_open
-        → (texts : List (List ℕ)) → map R.remaining readers.old ≡ map Some texts → NoneFailed R.has_failed readers.new
-        → Commits (MayBegin (version_of L.format) change.now.setting (name_bytes change.now.name.now) change.now.found)
-        (comes_to (version_of L.format) change.now.setting (name_bytes change.now.name.now) texts)
-        (state S.Store connection.old) db) }
-    ensures failed { NoneFailed R.has_failed readers.old → (file : ℕ) → HasFailedAt R.has_failed readers.new file
-        → result ≡ Err (Refusal.ReadFault file) }
-    ensures fault { (file : ℕ) → result ≡ Err (Refusal.ReadFault file) → HasFailedAt R.has_failed readers.new file }
-    ensures able { StayAble R.may_fail R.has_failed readers.old readers.new }
-    ensures ready { NeverUnready result }
-    ensures work { HasCleanDisk (state S.Store connection.new) → IsTrue (state S.Store connection.old).is_open
-        → (texts : List (List ℕ)) → map R.remaining readers.old ≡ map Some texts
-        → OnOk result ((before : Holdings)
-        → MayBegin (version_of L.format) change.now.setting (name_bytes change.now.name.now) change.now.found
-        (state S.Store connection.old).now.trees before
-        → Keeps (state S.Store connection.old) before
-        → Costs L.row_work (conditions_of (version_of L.format) change.now.setting) change.now.setting.kind
-        (name_bytes change.now.name.now) texts work.old work.new before) }
+    ensures transacts { Transacts (AppliesChange (NoneFailed R.has_failed readers.new)
+        (asked change.now.setting L.format L.row_work change.now.name.now (map R.remaining readers.old))
+        (last_of change.now.found) work.old work.new)
+        (state S.Store connection.old) (state S.Store connection.new) result }
+    ensures faults { TellsFaults R.may_fail R.has_failed readers.old readers.new result }
     ensures no_work { L.row_work ≡ 0 → work.new ≡ work.old }
-    ensures elder { OnStore (state S.Store connection.old) (state S.Store connection.new) (λ trees. (texts : List (List ℕ))
-        → map R.remaining readers.old ≡ map Some texts → NoneFailed R.has_failed readers.new
-        → ElderOver change.now.setting.profile.now (name_bytes change.now.name.now) texts trees result) }
-    ensures elders { OnStore (state S.Store connection.old) (state S.Store connection.new) (λ trees.
-        BeginsWith change.now.setting.kind trees (name_bytes change.now.name.now) change.now.found
-        → (texts : List (List ℕ)) → map R.remaining readers.old ≡ map Some texts
-        → EldersOver change.now.setting.profile.now change.now.setting.limits (name_bytes change.now.name.now) texts trees result) }
-    ensures loses { OnStore (state S.Store connection.old) (state S.Store connection.new) (λ trees.
-        BeginsWith change.now.setting.kind trees (name_bytes change.now.name.now) change.now.found
-        → OnOk result (LeavesRows change.now.setting.profile.now change.now.setting.kind (name_bytes change.now.name.now) trees
-        (state S.Store connection.new))) }
-    ensures named { OnStore (state S.Store connection.old) (state S.Store connection.new) (λ trees.
-        BeginsWith change.now.setting.kind trees (name_bytes change.now.name.now) change.now.found
-        → (texts : List (List ℕ)) → map R.remaining readers.old ≡ map Some texts
-        → OnOk result (LosesNamedOver change.now.setting.profile.now (name_bytes change.now.name.now) texts trees
-        (state S.Store connection.new).now.trees)) }
-    ensures reasons { OnStore (state S.Store connection.old) (state S.Store connection.new) (λ trees.
-        BeginsWith change.now.setting.kind trees (name_bytes change.now.name.now) change.now.found
-        → (texts : List (List ℕ)) → map R.remaining readers.old ≡ map Some texts → NoneFailed R.has_failed readers.new
-        → ReasonsOver change.now.setting.profile.now change.now.setting.kind change.now.setting.limits
-        (name_bytes change.now.name.now) texts trees result) }
 {
     let _settled = connection.is_autocommit();
     let mut tx = connection.transaction();
@@ -291,22 +192,11 @@ fn found_for<S: Alter, L: Layout>(
 ) -> Result<Option<Database>, Refusal>
     requires idle { connection.old.in_transaction ≡ false }
     ensures idle { connection.new.in_transaction ≡ false }
-    ensures same { LeavesAsIs S.Store connection.old connection.new }
-    ensures begins { HasCleanDisk (state S.Store connection.new) → IsTrue (state S.Store connection.old).is_open
-        → (c : Conditions) (before : Holdings) (bases : List Base) → ready c before ≡ Ok bases → Keeps (state S.Store connection.old) before
-        → Meets (λ base found. MayBeginUnder setting.now.kind (name_bytes name.now) found c (state S.Store connection.old).now.trees before
-        × IsTrue (state S.Store connection.new).is_open)
-        (start_of setting.now.kind (name_bytes name.now) (base_named (name_bytes name.now) bases)) result }
+    ensures reads { ReadsAlone S.Store connection.old connection.new result }
     ensures unread { NoReadFault result }
-    ensures ready { NeverUnready result }
-    ensures crash { CommitsNothing S.Store connection.old connection.new }
-    ensures found { FindsOpen S.Store connection.old connection.new result }
-    ensures misses { OnStore (state S.Store connection.old) (state S.Store connection.new) (λ trees.
-        IfErr result (λ refusal. IsFailure (refused (why_of refusal)) ⊎ MissesDatabase trees (name_bytes name.now) refusal)) }
-    ensures missed { OnStore (state S.Store connection.old) (state S.Store connection.new) (λ trees.
-        IfErr result (IsMissedFor setting.now.kind trees (name_bytes name.now))) }
-    ensures row { OnStore (state S.Store connection.old) (state S.Store connection.new) (λ trees.
-        IfOk result (BeginsWith setting.now.kind trees (name_bytes name.now))) }
+    ensures finds { OnStore (state S.Store connection.old) (state S.Store connection.new) (λ trees.
+        MatchResult result (BeginsWith setting.now.kind trees (name_bytes name.now))
+        (IsMissedFor setting.now.kind trees (name_bytes name.now))) }
 {
     match setting.kind {
         Kind::Update => Ok(database_of(connection, name.as_str())?),
@@ -327,50 +217,13 @@ pub(crate) fn change_database<S: Alter, L: Layout, R: Source>(
     readers: &mut [R],
 ) -> Result<Reply, Refusal>
     requires idle { connection.old.in_transaction ≡ false }
-    ensures serves { HasCleanDisk (state S.Store connection.new) → IsTrue (state S.Store connection.old).is_open
-        → (texts : List (List ℕ)) → map R.remaining readers.old ≡ map Some texts → NoneFailed R.has_failed readers.new
-        → Serves (IsReady (conditions_of (version_of L.format) setting.entry))
-        (comes_to (version_of L.format) setting.entry (name_bytes name.now) texts)
-        (state S.Store connection.old) (state S.Store connection.new) result }
-    ensures honest { HasCleanDisk (state S.Store connection.new) → IsTrue (state S.Store connection.old).is_open
-        → (before : Holdings)
-        → IsReady (conditions_of (version_of L.format) setting.entry) (state S.Store connection.old).now.trees before
-        → Keeps (state S.Store connection.old) before → result ≢ Err Refusal.Damaged }
     ensures idle { connection.new.in_transaction ≡ false }
     ensures call { Commanded (state S.Store connection.old) (state S.Store connection.new) result }
-    ensures survives { Survives (state S.Store connection.old) (state S.Store connection.new)
-        (λ db. IsTrue (state S.Store connection.old).is_open
-        → (texts : List (List ℕ)) → map R.remaining readers.old ≡ map Some texts → NoneFailed R.has_failed readers.new
-        → Commits (IsReady (conditions_of (version_of L.format) setting.entry))
-        (comes_to (version_of L.format) setting.entry (name_bytes name.now) texts)
-        (state S.Store connection.old) db) }
-    ensures failed { NoneFailed R.has_failed readers.old → (file : ℕ) → HasFailedAt R.has_failed readers.new file
-        → result ≡ Err (Refusal.ReadFault file) }
-    ensures fault { (file : ℕ) → result ≡ Err (Refusal.ReadFault file) → HasFailedAt R.has_failed readers.new file }
-    ensures able { StayAble R.may_fail R.has_failed readers.old readers.new }
-    ensures ready { NeverUnready result }
-    ensures work { HasCleanDisk (state S.Store connection.new) → (texts : List (List ℕ)) → map R.remaining readers.old ≡ map Some texts
-        → OnOk result ((before : Holdings) → IsTrue (state S.Store connection.old).is_open
-        → IsReady (conditions_of (version_of L.format) setting.entry) (state S.Store connection.old).now.trees before
-        → Keeps (state S.Store connection.old) before
-        → Costs L.row_work (conditions_of (version_of L.format) setting.entry) setting.entry.kind
-        (name_bytes name.now) texts work.old work.new before) }
+    ensures transacts { Transacts (ChangesDatabase (NoneFailed R.has_failed readers.new)
+        (asked setting.entry L.format L.row_work name.now (map R.remaining readers.old)) work.old work.new)
+        (state S.Store connection.old) (state S.Store connection.new) result }
+    ensures faults { TellsFaults R.may_fail R.has_failed readers.old readers.new result }
     ensures no_work { L.row_work ≡ 0 → work.new ≡ work.old }
-    ensures elder { OnStore (state S.Store connection.old) (state S.Store connection.new) (λ trees. (texts : List (List ℕ))
-        → map R.remaining readers.old ≡ map Some texts → NoneFailed R.has_failed readers.new
-        → ElderOver setting.entry.profile.now (name_bytes name.now) texts trees result) }
-    ensures elders { OnStore (state S.Store connection.old) (state S.Store connection.new) (λ trees. (texts : List (List ℕ))
-        → map R.remaining readers.old ≡ map Some texts
-        → EldersOver setting.entry.profile.now setting.entry.limits (name_bytes name.now) texts trees result) }
-    ensures loses { HasCleanDisk (state S.Store connection.new)
-        → LeavesWhole setting.entry.profile.now setting.entry.kind (name_bytes name.now) (state S.Store connection.old)
-        (state S.Store connection.new) result }
-    ensures named { HasCleanDisk (state S.Store connection.new) → (texts : List (List ℕ)) → map R.remaining readers.old ≡ map Some texts
-        → LosesNamed setting.entry.profile.now (name_bytes name.now) texts (state S.Store connection.old) (state S.Store connection.new)
-        result }
-    ensures reasons { OnStore (state S.Store connection.old) (state S.Store connection.new) (λ trees. (texts : List (List ℕ))
-        → map R.remaining readers.old ≡ map Some texts → NoneFailed R.has_failed readers.new
-        → ReasonsOver setting.entry.profile.now setting.entry.kind setting.entry.limits (name_bytes name.now) texts trees result) }
 {
     let found = found_for::<S, L>(connection, &setting, name)?;
     let mut buffer = RecordBuf::new(setting.alloc)?;

@@ -1,28 +1,20 @@
 //! Finding records by a query.
 
-ghost use Rattle.std.specs.Prelude.{◌≡◌, ◌≢◌, ◌⊎◌, ◌<◌, ◌^◌, ℕ, List, false, map, string_bytes, IfOk, IfErr, OnOk, IsTrue, Ok};
+ghost use Rattle.std.specs.Prelude.{◌≡◌, ◌≢◌, ◌<◌, ◌^◌, ℕ, false, map, string_bytes, IfErr, OnOk};
 ghost use Rattle.sqlite.specs.Held.{state};
 ghost use Rattle.sqlite.specs.State.{HasCleanDisk};
-ghost use Rattle.sqlite.specs.Tree.{Trees};
 ghost use Rattle.sqlite_rules.specs.Lists.{Has};
-ghost use Rattle.zeb_register.specs.Formats.{version_of};
-ghost use Rattle.zeb_register.specs.Store.{IsStore};
+ghost use Rattle.zeb_register.specs.Answers.{TellsOr};
+ghost use Rattle.zeb_register.specs.Calls.{Reading};
+ghost use Rattle.zeb_register.specs.Clauses.{OnStore};
 ghost use Rattle.zeb_search.specs.Registers.{has_ident_in};
-ghost use Rattle.zeb_change.specs.declared.settings.Limits.{Limits};
-ghost use Rattle.zeb_engine.specs.Answers.{answer_of, refused, IsFailure};
-ghost use Rattle.zeb_change.specs.Refused.{why_of, store_failed, NeverUnready, Meets};
-ghost use Rattle.zeb_change.specs.Conditions.{conditions};
-ghost use Rattle.zeb_engine.specs.Asking.{Alone};
-ghost use Rattle.zeb_engine.specs.Finding.{FindSays, HidesOne, RefusedAlone, RefusesFind, FindOver, HidesFind, AreShown, asked_of, FindReads};
+ghost use Rattle.zeb_search.specs.Untouched.{IsUntouched};
+ghost use Rattle.zeb_change.specs.Refused.{why_of, store_failed, Meets};
+ghost use Rattle.zeb_engine.specs.Finding.{HidesOne, FindOver, HidesFind, AreShown, asked_of, FindReads};
 ghost use Rattle.zeb_engine.specs.Hidden.{TellsUnlessHidden};
-ghost use Rattle.zeb_image.specs.Holdings.{Holdings};
-ghost use Rattle.zeb_change.specs.Base.{Base};
-ghost use Rattle.zeb_image.specs.Image.{Keeps};
 ghost use Rattle.zeb_image.specs.NameOf.{name_bytes};
-ghost use Rattle.zeb_change.specs.Reading.{NoReadFault};
-ghost use Rattle.zeb_engine.specs.Steps.{ready, AskedAmong, FindAnswers};
-ghost use Rattle.zeb_engine.specs.PrivateWorks.{ShowsStore};
-ghost use Rattle.zeb_engine.specs.PrivateConnections.{CommitsNothing, FailsForCause, FindsOpen, LeavesAsIs, LeavesOpen};
+ghost use Rattle.zeb_engine.specs.PrivateConnections.{ReadsAlone};
+ghost use Rattle.zeb_engine.specs.PrivateLooking.{IsAskRefusal};
 
 use crate::readiness::existing_database;
 use crate::replies::{Hit, Reply};
@@ -32,7 +24,7 @@ use zeb_change::Refusal;
 use zeb_image::DbName;
 use zeb_profile::Profile;
 use zeb_query::{plan, read_pqf};
-use zeb_register::{DatabaseId, Layout, Work, ident_of};
+use zeb_register::{DatabaseId, Layout, RegFault, Work, ident_of};
 use zeb_search::hits;
 
 /// The Bib-1 diagnostic of a first record past the last hit.
@@ -52,32 +44,20 @@ fn show<S: Alter>(
     connection: &mut Connection<S>,
     database: DatabaseId,
     numbers: &[u64],
-) -> Result<Vec<Hit>, Refusal>
-    requires idle { connection.old.in_transaction ≡ false }
-    ensures shown { HasCleanDisk (state S.Store connection.new) → (trees : Trees)
-        → ShowsStore (state S.Store connection.old) trees
-        → IfOk result (λ shown. AreShown (has_ident_in trees database.0) numbers.now (map (λ hit.
-        (hit.sysno, string_bytes hit.ident)) shown.items)) }
-    ensures idle { connection.new.in_transaction ≡ false }
-    ensures open { LeavesOpen S.Store connection.old connection.new result }
-    ensures same { LeavesAsIs S.Store connection.old connection.new }
-    ensures crash { CommitsNothing S.Store connection.old connection.new }
-    ensures refused { HasCleanDisk (state S.Store connection.new) → (trees : Trees)
-        → ShowsStore (state S.Store connection.old) trees
-        → ((n : ℕ) → Has numbers.now n → n < 2 ^ 63)
-        → IfErr result (λ refusal. IsFailure (refused (why_of refusal))
-        ⊎ ((refusal ≡ Refusal.Damaged) × HidesOne trees database.0 numbers.now)) }
-    // Whatever the numbers are, it is refused by a failure or as damage.
-    ensures few { IfErr result (λ refusal. (refusal ≡ Refusal.Damaged)
-        ⊎ IsFailure (refused (why_of refusal))) }
-    ensures unread { NoReadFault result }
-    ensures ready { NeverUnready result }
-    ensures caused { FailsForCause S.Store connection.old connection.new result }
+) -> Result<Vec<Hit>, RegFault>
+    ensures call { Reading (state S.Store connection.old) (state S.Store connection.new) result
+        (λ _. IsUntouched) }
+    // Whatever the tables hold, each is a kept record's, or, where a column can hold the numbers, one of them can't be shown.
+    ensures told { TellsOr (λ trees. ((n : ℕ) → Has numbers.now n → n < 2 ^ 63)
+        → HidesOne trees database.0 numbers.now)
+        (λ trees shown. AreShown (has_ident_in trees database.0) numbers.now (map (λ hit.
+        (hit.sysno, string_bytes hit.ident)) shown.items))
+        (state S.Store connection.old) (state S.Store connection.new) result }
 {
     let mut shown = Vec::with_capacity(alloc, numbers.len())?;
     for number in numbers {
         let Some(ident) = ident_of(connection, database, *number)? else {
-            return Err(Refusal::Damaged);
+            return Err(RegFault::Damaged);
         };
         shown.push_reserved(Hit {
             sysno: *number,
@@ -96,8 +76,7 @@ fn asked_for<'a>(
     ensures asked { Meets (λ wanted asked. asked.now ≡ wanted)
         (asked_of hits.now question.now.first question.now.count) result }
     ensures unstored { IfErr result (λ refusal. why_of refusal ≢ store_failed) }
-    ensures unread { NoReadFault result }
-    ensures ready { NeverUnready result }
+    ensures few { IfErr result IsAskRefusal }
 {
     let first = question.first as usize;
     if first > 1 && first > hits.len() {
@@ -122,52 +101,22 @@ pub(crate) fn find<S: Alter, L: Layout>(
     question: Question<'_>,
 ) -> Result<Reply, Refusal>
     requires idle { connection.old.in_transaction ≡ false }
-    ensures found { HasCleanDisk (state S.Store connection.new)
-        → IsTrue (state S.Store connection.old).is_open
-        → (limits : Limits) (before : Holdings) (bases : List Base)
-        → ready (conditions (version_of L.format) profile.now limits) before ≡ Ok bases
-        → Keeps (state S.Store connection.old) before
-        → AskedAmong (FindAnswers profile.now question.entry.query.now question.entry.first
-        question.entry.count)
-        (name_bytes name.now) question.entry.query.now bases (answer_of result)
-        ⊎ IsFailure (answer_of result) }
-    // The hits are read from the registers, on any tables that hold a content.
-    ensures alone { HasCleanDisk (state S.Store connection.new)
-        → Alone L.format (FindSays profile.now question.entry.query.now question.entry.first
-        question.entry.count) (name_bytes name.now)
-        (state S.Store connection.old) result }
-    // Refused, on such tables, it is refused by the definition, or for damage in a row that it has to read.
-    ensures refused { HasCleanDisk (state S.Store connection.new)
-        → RefusedAlone L.format (RefusesFind profile.now (name_bytes name.now)
-        question.entry.query.now question.entry.first
-        question.entry.count) (state S.Store connection.old) result }
+    ensures reads { ReadsAlone S.Store connection.old connection.new result }
     // Whatever the tables hold, the hits are those that the units tell, a hit is shown only as a record that is kept, and damage is told for a
     // row that the query asks for.
-    ensures tables { HasCleanDisk (state S.Store connection.new)
-        → IsStore (state S.Store connection.old)
-        → TellsUnlessHidden (FindOver L.format profile.now (name_bytes name.now)
-        question.entry.query.now question.entry.first
-        question.entry.count)
+    ensures tables { OnStore (state S.Store connection.old) (state S.Store connection.new) (λ trees.
+        TellsUnlessHidden (FindOver L.format profile.now (name_bytes name.now)
+        question.entry.query.now question.entry.first question.entry.count)
         (HidesFind L.format profile.now (name_bytes name.now) question.entry.query.now
-        question.entry.first question.entry.count)
-        (state S.Store connection.old).now.trees result }
-    ensures idle { connection.new.in_transaction ≡ false }
-    ensures open { FindsOpen S.Store connection.old connection.new result }
-    ensures same { LeavesAsIs S.Store connection.old connection.new }
-    ensures crash { CommitsNothing S.Store connection.old connection.new }
+        question.entry.first question.entry.count) trees result) }
+    ensures few { IfErr result IsAskRefusal }
     // No row is written; of terms no more are read than the searched registers have, once for each pattern with a star and each entry that
     // isn't named, and no more lists than those that the query asks for.
-    ensures work { HasCleanDisk (state S.Store connection.new)
+    ensures work { (L.row_work ≡ 0 → work.new ≡ work.old)
+        × (HasCleanDisk (state S.Store connection.new)
         → OnOk result (FindReads L.format L.row_work L.block_rows profile.now (name_bytes name.now)
-        question.entry.query.now (state S.Store connection.old) work.old work.new) }
-    ensures no_work { L.row_work ≡ 0 → work.new ≡ work.old }
-    ensures unread { NoReadFault result }
-    ensures ready { NeverUnready result }
-    // The store fails for a cause.
-    ensures caused { FailsForCause S.Store connection.old connection.new result }
+        question.entry.query.now (state S.Store connection.old) work.old work.new)) }
 {
-    // Its profile is some text's.
-    profile.is_of_some_text();
     let query = read_pqf(alloc, question.query)?;
     let database = existing_database::<S, L>(alloc, connection, name)?;
     let plan = plan(alloc, &query, profile)?;

@@ -1,11 +1,11 @@
 //! Looks at the texts of a store, before a command makes its registers anew.
 
-ghost use Rattle.std.specs.Prelude.{◌≡◌, false, codes, string_bytes};
+ghost use Rattle.std.specs.Prelude.{◌≡◌, false, codes, string_bytes, IfErr};
 ghost use Rattle.sqlite.specs.Held.{state};
 ghost use Rattle.sqlite.specs.State.{HasCleanDisk};
 ghost use Rattle.zeb_register.specs.Formats.{version_of};
 ghost use Rattle.zeb_change.specs.Reading.{NoReadFault};
-ghost use Rattle.zeb_engine.specs.PrivateLooking.{FindsStanding, IsLook, RefusesText, RefusesVersion, TellsStanding, TellsText};
+ghost use Rattle.zeb_engine.specs.PrivateLooking.{FindsStanding, IsLook, IsUnready, RefusesText, RefusesVersion, TellsStanding, TellsText};
 ghost use Rattle.zeb_engine.specs.Reindexing.{IsReadyToReindex, RefusesReindex};
 ghost use Rattle.zeb_engine.specs.Readiness.{KeepsText};
 ghost use Rattle.zeb_engine.specs.Upgrading.{RefusesUpgrade};
@@ -28,13 +28,14 @@ pub(crate) enum Standing {
 }
 
 /// The version of the tables' layout. `NotInitialised` where none is kept.
-fn kept_version<S: Alter>(connection: &mut Connection<S>) -> Result<String, Refusal>
+pub(crate) fn kept_version<S: Alter>(connection: &mut Connection<S>) -> Result<String, Refusal>
     requires idle { connection.old.in_transaction ≡ false }
     ensures idle { connection.new.in_transaction ≡ false }
     ensures look { HasCleanDisk (state S.Store connection.new)
         → IsLook (λ trees version. KeepsText trees (codes "version") (string_bytes version))
         RefusesVersion (state S.Store connection.old)
         (state S.Store connection.new) result }
+    ensures few { IfErr result IsUnready }
     ensures unread { NoReadFault result }
     ensures crash { CommitsNothing S.Store connection.old connection.new }
 {
@@ -45,7 +46,7 @@ fn kept_version<S: Alter>(connection: &mut Connection<S>) -> Result<String, Refu
 }
 
 /// Whether this text is kept under this name.
-fn keeps_text<S: Alter>(
+pub(crate) fn keeps_text<S: Alter>(
     connection: &mut Connection<S>,
     name: &str,
     text: &str,
@@ -55,6 +56,7 @@ fn keeps_text<S: Alter>(
     ensures look { HasCleanDisk (state S.Store connection.new)
         → IsLook (TellsText name.now text.now) (RefusesText name.now) (state S.Store connection.old)
         (state S.Store connection.new) result }
+    ensures few { IfErr result IsUnready }
     ensures unread { NoReadFault result }
     ensures crash { CommitsNothing S.Store connection.old connection.new }
 {

@@ -1,26 +1,18 @@
 //! Scanning the terms of a register around a start.
 
-ghost use Rattle.std.specs.Prelude.{◌≡◌, ◌⊎◌, ◌++◌, List, false, IfOk, IfErr, OnOk, IsTrue, Ok};
+ghost use Rattle.std.specs.Prelude.{◌≡◌, ◌++◌, false, IfErr, IfOk, OnOk};
 ghost use Rattle.sqlite.specs.Held.{state};
 ghost use Rattle.sqlite.specs.State.{HasCleanDisk};
 ghost use Rattle.zeb_query.specs.Plans.{scan_value};
-ghost use Rattle.zeb_register.specs.Formats.{holds_in, version_of};
-ghost use Rattle.zeb_register.specs.Content.{Content, IsStorable, posted};
-ghost use Rattle.zeb_register.specs.Store.{IsStore};
-ghost use Rattle.zeb_change.specs.declared.settings.Limits.{Limits};
-ghost use Rattle.zeb_engine.specs.Answers.{answer_of, refused, IsFailure};
-ghost use Rattle.zeb_change.specs.Refused.{why_of, NeverUnready};
-ghost use Rattle.zeb_change.specs.Conditions.{conditions};
-ghost use Rattle.zeb_image.specs.Holdings.{Holdings};
-ghost use Rattle.zeb_change.specs.Base.{Base};
-ghost use Rattle.zeb_image.specs.Image.{Keeps};
-ghost use Rattle.zeb_image.specs.NameOf.{name_bytes};
-ghost use Rattle.zeb_change.specs.Reading.{NoReadFault};
-ghost use Rattle.zeb_engine.specs.Asking.{Alone};
-ghost use Rattle.zeb_engine.specs.Scanning.{ScanSays, HidesAround, HidesTerms, ScanOver, TellsAround, ScanReads, AreAround};
+ghost use Rattle.zeb_register.specs.Answers.{TellsOr};
+ghost use Rattle.zeb_register.specs.Calls.{Reading};
+ghost use Rattle.zeb_register.specs.Clauses.{OnStore};
+ghost use Rattle.zeb_search.specs.Untouched.{IsUntouched};
+ghost use Rattle.zeb_engine.specs.Scanning.{HidesAround, HidesTerms, ScanOver, TellsAround, ScanReads};
 ghost use Rattle.zeb_engine.specs.Hidden.{TellsUnlessHidden};
-ghost use Rattle.zeb_engine.specs.Steps.{ready, AskedAmong, ScanAnswers};
-ghost use Rattle.zeb_engine.specs.PrivateConnections.{CommitsNothing, FailsForCause, FindsOpen, LeavesAsIs};
+ghost use Rattle.zeb_image.specs.NameOf.{name_bytes};
+ghost use Rattle.zeb_engine.specs.PrivateConnections.{ReadsAlone};
+ghost use Rattle.zeb_engine.specs.PrivateLooking.{IsAskRefusal};
 
 use crate::readiness::existing_database;
 use crate::replies::Reply;
@@ -30,7 +22,7 @@ use zeb_change::Refusal;
 use zeb_image::DbName;
 use zeb_profile::Profile;
 use zeb_query::{ScanPlan, plan_scan, read_pqf};
-use zeb_register::{DatabaseId, Layout, RegisterOf, TermCount, Work};
+use zeb_register::{DatabaseId, Layout, RegFault, RegisterOf, TermCount, Work};
 
 /// What a scan asks: a query that names the start, how many terms, and the start's place among them.
 #[derive(Clone, Copy)]
@@ -59,45 +51,19 @@ fn terms_around<S: Alter, L: Layout>(
     database: DatabaseId,
     plan: &ScanPlan,
     around: &Around<'_>,
-) -> Result<Vec<TermCount>, Refusal>
-    requires idle { connection.old.in_transaction ≡ false }
-    ensures around { HasCleanDisk (state S.Store connection.new)
-        → IsStore (state S.Store connection.old)
-        → IfOk result (λ terms. (content : Content)
-        → holds_in L.format (state S.Store connection.old).now.trees content
-        → AreAround (posted content database.0) (scan_value plan.now) around.now.number
-        around.now.position terms.items) }
-    // They are those that the rows tell, whatever the tables hold.
-    ensures told { HasCleanDisk (state S.Store connection.new)
-        → IsStore (state S.Store connection.old)
-        → IfOk result (λ terms. TellsAround L.format (state S.Store connection.old).now.trees
-        database.0 (scan_value plan.now)
-        around.now.number around.now.position terms.items) }
-    ensures idle { connection.new.in_transaction ≡ false }
-    ensures open { FindsOpen S.Store connection.old connection.new result }
-    ensures same { LeavesAsIs S.Store connection.old connection.new }
-    ensures crash { CommitsNothing S.Store connection.old connection.new }
-    ensures failed { HasCleanDisk (state S.Store connection.new)
-        → IsStore (state S.Store connection.old)
-        → (content : Content) → IsStorable content
-        → holds_in L.format (state S.Store connection.old).now.trees content
-        → IfErr result (λ refusal. IsFailure (refused (why_of refusal))) }
-    // Damage is told only of rows that it reads.
-    ensures honest { HasCleanDisk (state S.Store connection.new)
-        → IsStore (state S.Store connection.old)
-        → IfErr result (λ refusal. IsFailure (refused (why_of refusal))
-        ⊎ ((refusal ≡ Refusal.Damaged)
-        × HidesAround L.format (state S.Store connection.old).now.trees database.0
-        (scan_value plan.now) around.now.number
-        around.now.position)) }
-    ensures unread { NoReadFault result }
-    ensures ready { NeverUnready result }
-    ensures caused { FailsForCause S.Store connection.old connection.new result }
-    ensures work { HasCleanDisk (state S.Store connection.new)
+) -> Result<Vec<TermCount>, RegFault>
+    ensures call { Reading (state S.Store connection.old) (state S.Store connection.new) result
+        (λ _. IsUntouched) }
+    // Whatever the tables hold, they are those that the counts tell, or the count of one of them can't be shown.
+    ensures told { TellsOr (λ trees. HidesAround L.format trees database.0 (scan_value plan.now)
+        around.now.number around.now.position)
+        (λ trees terms. TellsAround L.format trees database.0 (scan_value plan.now)
+        around.now.number around.now.position terms.items)
+        (state S.Store connection.old) (state S.Store connection.new) result }
+    ensures work { (L.row_work ≡ 0 → work.new ≡ work.old)
+        × (HasCleanDisk (state S.Store connection.new)
         → OnOk result (ScanReads L.format L.row_work around.now.number around.now.position
-        (state S.Store connection.old)
-        work.old work.new) }
-    ensures no_work { L.row_work ≡ 0 → work.new ≡ work.old }
+        (state S.Store connection.old) work.old work.new)) }
 {
     let below = (around.position as u64).saturating_sub(1);
     let from = (around.number as u64 + 1).saturating_sub(around.position as u64);
@@ -122,46 +88,21 @@ pub(crate) fn scan<S: Alter, L: Layout>(
     around: Around<'_>,
 ) -> Result<Reply, Refusal>
     requires idle { connection.old.in_transaction ≡ false }
-    ensures scanned { HasCleanDisk (state S.Store connection.new)
-        → IsTrue (state S.Store connection.old).is_open
-        → (limits : Limits) (before : Holdings) (bases : List Base)
-        → ready (conditions (version_of L.format) profile.now limits) before ≡ Ok bases
-        → Keeps (state S.Store connection.old) before
-        → AskedAmong (ScanAnswers profile.now around.entry.query.now around.entry.number
-        around.entry.position)
-        (name_bytes name.now) around.entry.query.now bases (answer_of result)
-        ⊎ IsFailure (answer_of result) }
-    // The terms are read from the registers, on any tables that hold a content.
-    ensures alone { HasCleanDisk (state S.Store connection.new)
-        → Alone L.format (ScanSays profile.now around.entry.query.now around.entry.number
-        around.entry.position) (name_bytes name.now)
-        (state S.Store connection.old) result }
+    ensures reads { ReadsAlone S.Store connection.old connection.new result }
     // Whatever the tables hold, the terms are those that the rows around the start tell, or it is refused by the definition, or as damage
     // that these rows or the database's have.
-    ensures tables { HasCleanDisk (state S.Store connection.new)
-        → IsStore (state S.Store connection.old)
-        → TellsUnlessHidden (ScanOver L.format profile.now (name_bytes name.now)
-        around.entry.query.now around.entry.number
-        around.entry.position) (HidesTerms L.format profile.now (name_bytes name.now)
-        around.entry.query.now around.entry.number
-        around.entry.position) (state S.Store connection.old).now.trees result }
-    ensures idle { connection.new.in_transaction ≡ false }
-    ensures open { FindsOpen S.Store connection.old connection.new result }
-    ensures same { LeavesAsIs S.Store connection.old connection.new }
-    ensures crash { CommitsNothing S.Store connection.old connection.new }
+    ensures tables { OnStore (state S.Store connection.old) (state S.Store connection.new) (λ trees.
+        TellsUnlessHidden (ScanOver L.format profile.now (name_bytes name.now)
+        around.entry.query.now around.entry.number around.entry.position)
+        (HidesTerms L.format profile.now (name_bytes name.now) around.entry.query.now
+        around.entry.number around.entry.position) trees result) }
+    ensures few { IfErr result IsAskRefusal }
     // The terms that are asked for are read, one more at most, and nothing else.
-    ensures work { HasCleanDisk (state S.Store connection.new)
+    ensures work { (L.row_work ≡ 0 → work.new ≡ work.old)
+        × (HasCleanDisk (state S.Store connection.new)
         → OnOk result (ScanReads L.format L.row_work around.entry.number around.entry.position
-        (state S.Store connection.old)
-        work.old work.new) }
-    ensures no_work { L.row_work ≡ 0 → work.new ≡ work.old }
-    ensures unread { NoReadFault result }
-    ensures ready { NeverUnready result }
-    // The store fails for a cause.
-    ensures caused { FailsForCause S.Store connection.old connection.new result }
+        (state S.Store connection.old) work.old work.new)) }
 {
-    // Its profile is some text's.
-    profile.is_of_some_text();
     let query = read_pqf(alloc, around.query)?;
     let database = existing_database::<S, L>(alloc, connection, name)?;
     let plan = plan_scan(alloc, &query, profile)?;

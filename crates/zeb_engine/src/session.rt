@@ -15,12 +15,10 @@ ghost use Rattle.zeb_register.specs.Formats.{version_of};
 
 use crate::analysis::analyse_files;
 use crate::commands::Command;
-use crate::dump::dump;
 use crate::find::Question;
 use crate::renewals::{reindex, upgrade};
 use crate::replies::Reply;
 use crate::scan::Around;
-use crate::stat::stat;
 use crate::tables::make_absent_tables;
 use crate::writes::init_register;
 use sqlite::{Alter, Connection};
@@ -199,16 +197,8 @@ impl<S: Alter, L: Layout> Session<S, L> {
             Command::Check => self.check(),
             Command::Reindex => reindex::<S, L>(self.alloc, &mut self.connection, &self.profile),
             Command::Upgrade => upgrade::<S, L>(self.alloc, &mut self.connection, &self.profile),
-            Command::Stat(name) => stat::<S, L>(
-                self.alloc,
-                &mut self.connection,
-                &mut self.work,
-                &self.profile,
-                name,
-            ),
-            Command::Dump(name) => {
-                dump::<S, L>(self.alloc, &mut self.connection, &self.profile, name)
-            }
+            Command::Stat(name) => self.stat(name),
+            Command::Dump(name) => self.dump(name),
             Command::Scan {
                 database,
                 query,

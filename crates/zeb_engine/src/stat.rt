@@ -1,25 +1,19 @@
 //! How much a database holds.
 
-ghost use Rattle.std.specs.Prelude.{◌≡◌, ◌⊎◌, ◌++◌, false, IsTrue, IfErr, IfOk, OnOk, string_bytes};
+ghost use Rattle.std.specs.Prelude.{◌≡◌, ◌++◌, false, IfErr, IfOk, OnOk, string_bytes};
 ghost use Rattle.sqlite.specs.Held.{state};
-ghost use Rattle.sqlite.specs.State.{HasCleanDisk};
-ghost use Rattle.sqlite.specs.Tree.{Trees};
-ghost use Rattle.zeb_register.specs.Formats.{holds_in, version_of};
-ghost use Rattle.zeb_register.specs.Content.{Content, IsStorable, posted};
-ghost use Rattle.zeb_engine.specs.Asking.{Alone};
-ghost use Rattle.zeb_engine.specs.Counting.{StatSays, HidesRegister, HidesRegisters, IsSummedUp, StatOver, IsExtent, Paired, name_of_index, target_in, target_list};
-ghost use Rattle.zeb_engine.specs.Hidden.{UnlessHidden};
-ghost use Rattle.zeb_engine.specs.Answers.{IsFailure, extent_of, refused};
-ghost use Rattle.zeb_change.specs.Refused.{why_of, NeverUnready};
-ghost use Rattle.zeb_change.specs.Conditions.{conditions};
-ghost use Rattle.zeb_change.specs.declared.settings.Limits.{Limits};
+ghost use Rattle.zeb_register.specs.Answers.{TellsOr};
+ghost use Rattle.zeb_register.specs.Calls.{Reading};
+ghost use Rattle.zeb_register.specs.Clauses.{OnStore};
+ghost use Rattle.zeb_search.specs.Untouched.{IsUntouched};
+ghost use Rattle.zeb_engine.specs.Counting.{HidesRegister, HidesRegisters, IsSummedUp, StatOver, Paired, name_of_index, target_in, target_list};
+ghost use Rattle.zeb_engine.specs.Hidden.{TellsUnlessHidden};
+ghost use Rattle.zeb_engine.specs.Answers.{extent_of};
 ghost use Rattle.zeb_image.specs.NameOf.{name_bytes};
-ghost use Rattle.zeb_change.specs.Reading.{NoReadFault};
-ghost use Rattle.zeb_engine.specs.Steps.{CountedFrom, ready};
-ghost use Rattle.zeb_engine.specs.PrivateWorks.{Asks, ShowsStore};
-ghost use Rattle.zeb_engine.specs.PrivateConnections.{CommitsNothing, FailsForCause, FindsOpen, LeavesAsIs, LeavesOpen, TellsReady};
+ghost use Rattle.zeb_engine.specs.PrivateConnections.{ReadsAlone};
+ghost use Rattle.zeb_engine.specs.PrivateLooking.{IsAskRefusal};
 
-use crate::readiness::{check_texts, existing_database};
+use crate::readiness::existing_database;
 use crate::replies::{Holding, Reply};
 use sqlite::{Alter, Connection};
 use std::alloc::{AllocError, Global};
@@ -27,7 +21,7 @@ use zeb_change::Refusal;
 use zeb_image::DbName;
 use zeb_keys::Register;
 use zeb_profile::Profile;
-use zeb_register::{DatabaseId, Layout, RegisterOf, Totals, Work, record_count};
+use zeb_register::{DatabaseId, Layout, RegFault, RegisterOf, Totals, Work, record_count};
 
 /// The register is added where some line has it as a target.
 fn add_target(
@@ -89,40 +83,15 @@ fn holdings_of<S: Alter, L: Layout>(
     profile: &Profile,
     database: DatabaseId,
     targets: &[(u32, Register)],
-) -> Result<Vec<Holding>, Refusal>
-    requires idle { connection.old.in_transaction ≡ false }
-    ensures held { HasCleanDisk (state S.Store connection.new) → (trees : Trees)
-        → ShowsStore (state S.Store connection.old) trees
-        → IsTrue (state S.Store connection.old).is_open
-        → (content : Content) → holds_in L.format trees content
-        → IfOk result (λ holdings. Paired (λ target holding.
-        IsExtent (posted content database.0) profile.now target
-        (extent_of holding)) targets.now holdings.items) }
+) -> Result<Vec<Holding>, RegFault>
+    ensures call { Reading (state S.Store connection.old) (state S.Store connection.new) result
+        (λ _. IsUntouched) }
     // Whatever the tables hold, each stands under the name of its index, and is what its register sums up to.
-    ensures sound { HasCleanDisk (state S.Store connection.new) → (trees : Trees)
-        → ShowsStore (state S.Store connection.old) trees
-        → IsTrue (state S.Store connection.old).is_open
-        → IfOk result (λ holdings. Paired (λ target holding.
-        IsSummedUp L.format profile.now trees database.0 target
-        (extent_of holding)) targets.now holdings.items) }
-    ensures idle { connection.new.in_transaction ≡ false }
-    ensures open { LeavesOpen S.Store connection.old connection.new result }
-    ensures same { LeavesAsIs S.Store connection.old connection.new }
-    ensures crash { CommitsNothing S.Store connection.old connection.new }
-    ensures failed { HasCleanDisk (state S.Store connection.new) → (trees : Trees)
-        → ShowsStore (state S.Store connection.old) trees
-        → IsTrue (state S.Store connection.old).is_open
-        → (content : Content) → IsStorable content → holds_in L.format trees content
-        → IfErr result (λ refusal. IsFailure (refused (why_of refusal))) }
-    // Damage is told only of a register that has it.
-    ensures honest { HasCleanDisk (state S.Store connection.new) → (trees : Trees)
-        → ShowsStore (state S.Store connection.old) trees
-        → IsTrue (state S.Store connection.old).is_open
-        → IfErr result (λ refusal. IsFailure (refused (why_of refusal))
-        ⊎ ((refusal ≡ Refusal.Damaged) × HidesRegister L.format targets.now trees database.0)) }
-    ensures unread { NoReadFault result }
-    ensures ready { NeverUnready result }
-    ensures caused { FailsForCause S.Store connection.old connection.new result }
+    ensures told { TellsOr (λ trees. HidesRegister L.format targets.now trees database.0)
+        (λ trees holdings. Paired (λ target holding.
+        IsSummedUp L.format profile.now trees database.0 target (extent_of holding)) targets.now
+        holdings.items)
+        (state S.Store connection.old) (state S.Store connection.new) result }
     ensures no_work { L.row_work ≡ 0 → work.new ≡ work.old }
 {
     let mut holdings = Vec::with_capacity(alloc, targets.len())?;
@@ -139,7 +108,7 @@ fn holdings_of<S: Alter, L: Layout>(
     Ok(holdings)
 }
 
-/// Answers how many records a database has, its last number, and what each register holds of it, on a register that is ready.
+/// Answers how many records a database has, its last number, and what each register holds of it.
 pub(crate) fn stat<S: Alter, L: Layout>(
     alloc: Global,
     connection: &mut Connection<S>,
@@ -148,36 +117,15 @@ pub(crate) fn stat<S: Alter, L: Layout>(
     name: &DbName,
 ) -> Result<Reply, Refusal>
     requires idle { connection.old.in_transaction ≡ false }
-    ensures serves { HasCleanDisk (state S.Store connection.new) → (limits : Limits)
-        → Asks (λ before answer. CountedFrom (conditions (version_of L.format) profile.now limits)
-        (name_bytes name.now)
-        (ready (conditions (version_of L.format) profile.now limits) before) answer)
-        (state S.Store connection.old) (state S.Store connection.new) result }
-    ensures idle { connection.new.in_transaction ≡ false }
-    ensures open { FindsOpen S.Store connection.old connection.new result }
-    ensures same { LeavesAsIs S.Store connection.old connection.new }
-    ensures crash { CommitsNothing S.Store connection.old connection.new }
-    // The terms and occurrences are counted in the registers, on any tables that hold a content.
-    ensures alone { HasCleanDisk (state S.Store connection.new)
-        → Alone L.format (StatSays profile.now) (name_bytes name.now) (state S.Store connection.old)
-        result }
+    ensures reads { ReadsAlone S.Store connection.old connection.new result }
     // Whatever the tables hold, the records are counted, the last number is told and the rows of the registers are sound, or it is refused by
     // the definition, or as damage that these rows or the database's have.
-    ensures tables { HasCleanDisk (state S.Store connection.new)
-        → UnlessHidden (version_of L.format) profile.now
-        (StatOver L.format profile.now (name_bytes name.now))
-        (HidesRegisters L.format profile.now (name_bytes name.now)) (state S.Store connection.old)
-        result }
-    ensures unread { NoReadFault result }
-    ensures ready { TellsReady S.Store (version_of L.format) profile.now connection.old
-        connection.new result }
-    // The store fails for a cause.
-    ensures caused { FailsForCause S.Store connection.old connection.new result }
+    ensures tables { OnStore (state S.Store connection.old) (state S.Store connection.new) (λ trees.
+        TellsUnlessHidden (StatOver L.format profile.now (name_bytes name.now))
+        (HidesRegisters L.format profile.now (name_bytes name.now)) trees result) }
+    ensures few { IfErr result IsAskRefusal }
     ensures no_work { L.row_work ≡ 0 → work.new ≡ work.old }
 {
-    // Its profile is some text's.
-    profile.is_of_some_text();
-    check_texts::<S, L>(connection, profile)?;
     let database = existing_database::<S, L>(alloc, connection, name)?;
     let kept = record_count(connection, database.id)?;
     let targets = targets_of(alloc, profile)?;

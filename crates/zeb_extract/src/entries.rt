@@ -22,9 +22,8 @@ use zeb_profile::Profile;
 /// number register the key of each of its numbers, at the number's number. Words and numbers count from 1 in their
 /// unit. Bytes that are no UTF-8 are read as U+FFFD (Unicode, section 3.9, best practice).
 ///
-/// Three things no clause says, and so they aren't proved: each unit's text is folded once, whatever the number of its
-/// targets; `n` occurrences are put in order by about `n log n` comparisons; and `AllocError` comes only where memory was
-/// refused. Tests bear out that the work isn't quadratic, and the last.
+/// No clause says, and so it isn't proved, that each unit's text is folded once, whatever the number of its targets, that `n`
+/// occurrences are put in order by about `n log n` comparisons, and that `AllocError` comes only where memory was refused.
 pub fn occurrences(
     alloc: Global,
     marc: &Marc<'_>,

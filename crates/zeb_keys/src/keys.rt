@@ -13,8 +13,7 @@ pub struct Key {
 }
 
 /// One place of a record at which a key occurs: `seq` is the unit's number in the record and `pos` the number of the
-/// word or number in that unit, both from 1. A phrase stands at `pos` 1. So it is in a record's occurrences, as `zeb_extract` gives them;
-/// the type itself holds any numbers.
+/// word or number in that unit, both from 1. A phrase stands at `pos` 1. The type itself holds any numbers.
 ///
 /// Occurrences are ordered by key, then `seq`, then `pos`.
 #[derive(Clone, Debug, PartialEq, Eq, PartialOrd, Ord, Drop)]

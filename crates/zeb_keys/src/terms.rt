@@ -10,10 +10,8 @@ use std::convert::AsStr;
 use std::fmt;
 use std::marker::Model;
 
-/// The text of a register's entry. Those of a record are a word, the joined words of a unit, or a number's key of 18 digits; but
-/// a term can be made of any text.
-///
-/// Contracts see it as the list of its UTF-8 bytes, and two terms compare by these.
+/// The text of a register's entry: of a record a word, the joined words of a unit, or a number's key of 18 digits; but any text
+/// makes a term. Contracts see it as the list of its UTF-8 bytes, and two terms compare by these.
 #[derive(Drop)]
 pub struct Term {
     text: String,

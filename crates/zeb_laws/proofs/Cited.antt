@@ -6,18 +6,18 @@ pub use Rattle.sqlite_rules.specs.Lists.{Has}
 pub use Rattle.std.proofs.Common.{◌≡◌, ℕ, List, Result, Ok, Err, refl, [], map, sym, ap, subst, string_bytes, ◌≢◌, ◌↔◌, ◌∙◌, true, false, not, ◌∷◌, ◌++◌, Option, Some, None, inl, inr, ◌-◌, Bool, cond, ◌&&◌, length, find, take, drop, nat_eq, nat_lt, ◌+◌, nat_le, ◌⊎◌, ◌<◌, ◌^◌, IsUtf8, arith, ◌≤◌, zero, suc, Ordering, Less, Equal, Greater, filter, length-append, append_assoc, pos, codes, ap₂}
 pub use Rattle.std.proofs.lemmas.Bool.{not-true}
 pub use Rattle.std.proofs.lemmas.Bool.Decides.{Decides-eqb, nat_tests}
-pub use Rattle.std.proofs.lemmas.Cmp.{on_total}
+pub use Rattle.std.proofs.lemmas.Cmp.{on_total, tied_itself, ranked}
 pub use Rattle.std.proofs.lemmas.List.{take-append-drop, length-map}
 pub use Rattle.std.proofs.lemmas.List.Elements.{All-contains}
 pub use Rattle.std.proofs.lemmas.List.Sums.{sum_by-cons, AllPass-from_list_all}
 pub use Rattle.std.proofs.lemmas.Slice.Eq.{bytes_eq-Decides}
 pub use Rattle.std.proofs.lemmas.Str.{IsUtf8-from_is_utf8, is_utf8-from_IsUtf8}
-pub use Rattle.std.specs.Cmp.{nat_cmp_total, IsTotalOrder}
+pub use Rattle.std.specs.Cmp.{nat_cmp_total, IsTotalOrder, then_total}
 pub use Rattle.std.specs.Cmp.Lexicographic.{slice_cmp, nat_list_cmp_total}
 pub use Rattle.std.specs.Fmt.{decimal}
 pub use Rattle.std.specs.List.{Contains, flat_map}
 pub use Rattle.std.specs.Option.{option_map, option_or}
-pub use Rattle.std.specs.Ordering.{nat_cmp}
+pub use Rattle.std.specs.Ordering.{nat_cmp, ordering_then, MatchOrdering}
 pub use Rattle.std.specs.Prelude.{⊤, if◌then◌else◌}
 pub use Rattle.std.specs.Str.{bytes_eq}
 pub use Rattle.zeb_analysis.specs.Analysing.{Analysed, AnalysesTo, AreAnalysesOf, IsAnalysisOf, Standing, first_refusal, refused_content, refused_name, refused_record, standing_in_all, units_in}
@@ -48,7 +48,7 @@ pub use Rattle.zeb_engine.proofs.StepLemmas.{outcome, step_is, step_told}
 pub use Rattle.zeb_engine.proofs.TurnedOutcomes.{step_changed, step_unchanged}
 pub use Rattle.zeb_engine.specs.Analysed.{IsAnalysed, analysis_answer}
 pub use Rattle.zeb_engine.specs.Answers.{changed, Answer, done, Extent, found, refused, scanned, no_database}
-pub use Rattle.zeb_engine.specs.Counting.{IsCounted, IsExtent, Paired, Target, name_of_index, target_list}
+pub use Rattle.zeb_engine.specs.Counting.{IsCounted, IsExtent, Paired, Target, name_of_index, target_list, target_in, targets_of_index, targets_below}
 pub use Rattle.zeb_engine.specs.Crashes.{Accepts}
 pub use Rattle.zeb_engine.specs.Finding.{AreShown, IsAnswered, IsFound, IsNamed, IsPlanned, IsShown, has_name}
 pub use Rattle.zeb_engine.specs.Scanning.{IsScanned, IsScanPlanned, around}
@@ -70,26 +70,28 @@ pub use Rattle.zeb_image.specs.Holdings.{Holdings, base_named, nothing_yet, unde
 pub use Rattle.zeb_image.specs.Image.{AreBases, IsImage, IsImageOf, IsImageUnder}
 pub use Rattle.zeb_image.specs.NameOf.{name_bytes}
 pub use Rattle.zeb_keys.proofs.Rising.{numbers_apart, occurrence_total, occurrences_apart, key_total, keys_apart, texts_apart, both_equal}
+pub use Rattle.zeb_keys.specs.Registers.{register_code}
 pub use Rattle.zeb_keys.specs.declared.Register.{Register}
 pub use Rattle.zeb_keys.specs.declared.keys.Key.{Key}
 pub use Rattle.zeb_keys.specs.declared.keys.Occurrence.{Occurrence}
-pub use Rattle.zeb_keys.specs.declared.registers.Register.TheVariants.{Word}
+pub use Rattle.zeb_keys.specs.declared.registers.Register.TheVariants.{Word, Phrase, Number}
 pub use Rattle.zeb_laws.specs.Counts.{IsAccepted, FoldsTo, records_in, HasNamesake}
 pub use Rattle.zeb_laws.specs.Lasting.{NoneHas, slices_in, IsLastOf, KeepsIdent, SomeHas}
+pub use Rattle.zeb_laws.specs.Targets.{target_cmp}
 pub use Rattle.zeb_laws.specs.Worked.{book, book_base, book_conditions, faulty_file, no_books, one_book, title_plan, title_word, IsUpdateBy, IsFindBy}
 pub use Rattle.zeb_marc.specs.Splits.{Split}
 pub use Rattle.zeb_lower_laws.specs.WorkedRecord.{worked_record, worked_fields}
 pub use Rattle.zeb_marc.specs.declared.faults.MarcFault.{MarcFault}
 pub use Rattle.zeb_marc.specs.declared.faults.MarcFault.TheVariants.{LengthDigits}
 pub use Rattle.zeb_profile.specs.Canonical.{canonical_text}
-pub use Rattle.zeb_profile.specs.Indexes.{unit_targets}
+pub use Rattle.zeb_profile.specs.Indexes.{unit_targets, has_pair, index_names}
 pub use Rattle.zeb_profile.specs.declared.directives.Directive.{Directive}
 pub use Rattle.zeb_query.proofs.TextFaults.{read_or_faulty, apart, readable}
 pub use Rattle.zeb_query.proofs.WordStretches.{words_are_read}
 pub use Rattle.zeb_query.specs.Checks.{Refusal}
 pub use Rattle.zeb_query.specs.Grammar.{QueryValue, TermValue, IsQuery, is_term, is_attribute, is_structure, no_head, with_attribute, SpellsQuery}
 pub use Rattle.zeb_query.specs.Places.{IsReadable}
-pub use Rattle.zeb_query.specs.Plans.{PlanValue, ScanValue, plan_of, scan_of, TermOf, PairOf, NearOf, TermPlanValue, RecordNumberOf, AlwaysOf, NumberOf, OrderedOf, CompleteOf, PhraseOf, AllWordsOf, AnyWordOf}
+pub use Rattle.zeb_query.specs.Plans.{PlanValue, ScanValue, plan_of, scan_of, TermOf, PairOf, NearOf, TermPlanValue, RecordNumberOf, NoWordsOf, AlwaysOf, NumberOf, OrderedOf, CompleteOf, PhraseOf, AllWordsOf, AnyWordOf}
 pub use Rattle.zeb_query.specs.PrivateWalk.{words_at, unquoted}
 pub use Rattle.zeb_query.specs.declared.plans.DistanceRelation.{DistanceRelation}
 pub use Rattle.zeb_query.specs.declared.plans.Operator.{Operator}
@@ -98,7 +100,7 @@ pub use Rattle.zeb_query.specs.declared.plans.Relation.{Relation}
 pub use Rattle.zeb_query.specs.declared.plans.Separation.{Separation}
 pub use Rattle.zeb_register.proofs.ContentChanges.{postings_apart}
 pub use Rattle.zeb_register.proofs.OccurringLemmas.{spot_total}
-pub use Rattle.zeb_register.proofs.RisingLists.{told_by, all_rise, all_there, with_all, same_list}
+pub use Rattle.zeb_register.proofs.RisingLists.{told_by, all_rise, all_there, with_all, same_list, joined_rises}
 pub use Rattle.zeb_register.proofs.TermLists.{has_taken}
 pub use Rattle.zeb_register.specs.Formats.{Format}
 pub use Rattle.zeb_register.specs.Occurring.{key_in, AreSpotsOf, AreTermsOf, AreTotals, HasSpot, IsCount, Spot, TermIn, capped, spot_cmp, term_cmp, HasKey}

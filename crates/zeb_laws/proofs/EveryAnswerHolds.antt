@@ -1,5 +1,5 @@
 -- A query holds or not on each number, where the set of occurrences is that of a list.
-use Rattle.zeb_laws.proofs.Cited.{◌≡◌, ◌≢◌, ◌↔◌, ◌⊎◌, ◌∙◌, ◌<◌, ◌+◌, ◌^◌, ℕ, Bool, true, false, List, [], ◌∷◌, ◌++◌, Some, None, IsUtf8, refl, sym, ap, subst, inl, inr, arith, slice_cmp, nat_cmp, IsUtf8-from_is_utf8, is_utf8-from_IsUtf8, Has, Symbol, Char, Star, Matches, number_key, Register, DistanceRelation, Operator, Order, Relation, Separation, PlanValue, TermOf, PairOf, NearOf, TermPlanValue, RecordNumberOf, AlwaysOf, NumberOf, OrderedOf, CompleteOf, PhraseOf, AllWordsOf, AnyWordOf, Key, Occurrence, key_total, keys_apart, occurrence_total, occurrences_apart, key_in, told_by, AreApart, AreSeparated, IsDistant, Precedes, Stands, StandsInOrder, AreJoined, Fits, HasEntry, HasMatch, HasNear, HasPhrase, HasWord, HasWords, IsNumberAt, TermHolds, TreeHolds}
+use Rattle.zeb_laws.proofs.Cited.{◌≡◌, ◌≢◌, ◌↔◌, ◌⊎◌, ◌∙◌, ◌<◌, ◌+◌, ◌^◌, ℕ, Bool, true, false, List, [], ◌∷◌, ◌++◌, IsUtf8, refl, sym, ap, subst, inl, inr, arith, slice_cmp, nat_cmp, IsUtf8-from_is_utf8, is_utf8-from_IsUtf8, Has, Symbol, Char, Star, Matches, number_key, Register, DistanceRelation, Operator, Order, Relation, Separation, PlanValue, TermOf, PairOf, NearOf, TermPlanValue, RecordNumberOf, NoWordsOf, AlwaysOf, NumberOf, OrderedOf, CompleteOf, PhraseOf, AllWordsOf, AnyWordOf, Key, Occurrence, key_total, keys_apart, occurrence_total, occurrences_apart, key_in, told_by, AreApart, AreSeparated, IsDistant, Precedes, Stands, StandsInOrder, AreJoined, Fits, HasEntry, HasMatch, HasNear, HasPhrase, HasWord, HasWords, IsNumberAt, TermHolds, TreeHolds}
 use Rattle.std.proofs.Common.{chars}
 use Rattle.std.specs.Str.{is_utf8}
 use Rattle.zeb_keys.specs.declared.Register.TheVariants as register
@@ -198,12 +198,11 @@ module _ (O : ℕ → Occurrence → Type 0) (all : List (ℕ × Occurrence)) (a
   module _ (IsKept : ℕ → Type 0) (kept_decided : (n : ℕ) → Decided (IsKept n)) where
     term_decided : (plan : TermPlanValue) (n : ℕ) → Decided (TermHolds O IsKept plan n)
     term_decided (RecordNumberOf number) n = both_decided (n ≡ number) (IsKept n) (number_decided n number) (kept_decided n)
+    term_decided (NoWordsOf index register) n = inr (λ h. h)
     term_decided (AlwaysOf index register) n = entry_decided index register (λ _. Unit {0}) (λ _. inl tt) n
     term_decided (NumberOf index relation number) n = entry_decided index register.Number (IsNumberAt relation number) (number_at_decided relation number) n
-    term_decided (OrderedOf index register order None) n = inr (λ h. h)
-    term_decided (OrderedOf index register order (Some start)) n = entry_decided index register (λ term. StandsInOrder order term start) (λ term. in_order_decided order term start) n
-    term_decided (CompleteOf index None) n = inr (λ h. h)
-    term_decided (CompleteOf index (Some pattern)) n = entry_decided index register.Phrase (Fits pattern) (fits_decided pattern) n
+    term_decided (OrderedOf index register order start) n = entry_decided index register (λ term. StandsInOrder order term start) (λ term. in_order_decided order term start) n
+    term_decided (CompleteOf index pattern) n = entry_decided index register.Phrase (Fits pattern) (fits_decided pattern) n
     term_decided (PhraseOf index [] first) n = inr (λ h. h.0 refl)
     term_decided (PhraseOf index (pattern ∷ patterns) first) n =
         both_decided (pattern ∷ patterns ≢ []) (HasPhrase O index (pattern ∷ patterns) first n) (inl (λ h. cc)) (phrase_decided index pattern patterns first n)

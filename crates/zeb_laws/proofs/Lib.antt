@@ -15,4 +15,5 @@ pub mod EveryAnswerTerms
 pub mod EveryAnswerAnalyses
 pub mod EveryAnswer
 pub mod CheckFollows
+pub mod TargetLists
 pub mod Cited

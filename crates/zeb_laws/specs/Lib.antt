@@ -1,3 +1,4 @@
 pub mod Counts
 pub mod Lasting
+pub mod Targets
 pub mod Worked

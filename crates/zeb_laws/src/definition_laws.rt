@@ -1,15 +1,20 @@
 //! Laws of the definitions that the contracts cite. Each is a function with no code, whose contract is the law.
-ghost use Rattle.std.specs.Prelude.{◌≡◌, ◌≢◌, ◌↔◌, ◌⊎◌, ◌+◌, ◌<◌, ◌≤◌, ℕ, IsUtf8, List, length};
+ghost use Rattle.std.specs.Prelude.{◌≡◌, ◌≢◌, ◌↔◌, ◌⊎◌, ◌+◌, ◌<◌, ◌≤◌, ℕ, IsUtf8, List, length, true};
 ghost use Rattle.std.specs.List.{Contains};
+ghost use Rattle.std.specs.List.Sorted.{IsStrictlySortedBy};
+ghost use Rattle.sqlite_rules.specs.Lists.{Has};
 ghost use Rattle.sqlite.specs.Tree.{Trees};
 ghost use Rattle.zeb_marc.specs.Splits.{Split};
 ghost use Rattle.zeb_profile.specs.declared.directives.Directive.{Directive};
 ghost use Rattle.zeb_profile.specs.Canonical.{canonical_text};
+ghost use Rattle.zeb_profile.specs.Indexes.{has_pair, index_names};
 ghost use Rattle.zeb_profile.specs.Laws.{IsProfile};
 ghost use Rattle.zeb_keys.specs.declared.registers.Register.TheVariants.{Word};
 ghost use Rattle.zeb_register.specs.Occurring.{TermIn};
 ghost use Rattle.zeb_search.specs.Holds.{TreeHolds};
 ghost use Rattle.zeb_engine.specs.Answers.{Answer, changed, refused};
+ghost use Rattle.zeb_engine.specs.Counting.{Target, target_list};
+ghost use Rattle.zeb_laws.specs.Targets.{target_cmp};
 ghost use Rattle.zeb_change.specs.Refused.{damaged, store_failed, out_of_memory, read_fault};
 ghost use Rattle.zeb_change.specs.Conditions.{Conditions};
 ghost use Rattle.zeb_laws.specs.Counts.{FoldsTo, HasNamesake, IsAccepted, records_in, told};
@@ -74,6 +79,16 @@ pub fn a_word_is_found_where_it_stands()
         → TreeHolds (occurs profile records) (IsNamed (occurs profile records) (has_name records))
         (word_plan index word) n
         ↔ TermIn (occurs profile records) index Word word n }
+{}
+
+/// A stat counts the registers that some line of the profile has as a target: each of them, once, and in order, by the number of the index
+/// and then words, phrases and numbers. So no register is left out of its counts, and none is counted twice.
+pub fn a_stat_counts_each_register_once()
+    ensures listed { (profile : List Directive) (target : Target)
+        → Has (target_list profile) target
+        ↔ ((has_pair profile target ≡ true) × (target.0 < length (index_names profile))) }
+    ensures rising { (profile : List Directive)
+        → IsStrictlySortedBy target_cmp (target_list profile) }
 {}
 
 /// The counts of an accepted change add up: they are those of all records of its files, folded into its database. Each record of the

@@ -8,9 +8,9 @@ mod laws;
 mod renewal_laws;
 
 pub use definition_laws::{
-    a_command_has_an_answer, a_command_has_one_answer, a_word_is_found_where_it_stands,
-    an_image_is_of_one_holding, counts_add_up, no_definition_answers_damage, numbers_stay,
-    one_text_one_image,
+    a_command_has_an_answer, a_command_has_one_answer, a_stat_counts_each_register_once,
+    a_word_is_found_where_it_stands, an_image_is_of_one_holding, counts_add_up,
+    no_definition_answers_damage, numbers_stay, one_text_one_image,
 };
 pub use holding_laws::{a_database_is_in_its_place, the_last_record_stays};
 pub use laws::worked_examples;

@@ -1,5 +1,7 @@
 -- In which register a term's plan looks.
-use Rattle.zeb_query.proofs.Cited.{◌≡◌, ℕ, true, false, eqb, List, [], ◌∷◌, ◌++◌, Option, Some, None, refl, ap, sym, subst, ◌∙◌, Ok, not, ◌||◌, ◌&&◌, cond, is_none, eqb-true, Symbol, BooleanOf, ParametersValue, ProximityOf, HeadValue, TreeValue, TermValue, NamedValue, PairValue, QueryValue, heads, no_head, HoldingValue, asks_number, index_in, is_complete, order_of, patterns_asked, register_of, values_held, check, clash_check, first_that_applies, index_check, index_near, number_checks, one_of, term_checks, words_check, find_checks, Operand, operand_of, parameter_checks, operand_checks, operands_checks, proximity_checks, checks_in, Refusal, PlanValue, entries_asked, subject_asked, texts_asked, near_asked, tree_asked, plan_of}
+use Rattle.zeb_query.proofs.Cited.{◌≡◌, ℕ, true, false, eqb, List, [], ◌∷◌, ◌++◌, Option, Some, None, refl, ap, sym, subst, ◌∙◌, Ok, not, ◌||◌, ◌&&◌, cond, is_none, eqb-true, Symbol, BooleanOf, ParametersValue, ProximityOf, HeadValue, TreeValue, TermValue, NamedValue, PairValue, QueryValue, heads, no_head, HoldingValue, asks_number, index_in, is_complete, order_of, patterns_asked, register_of, values_held, check, clash_check, first_that_applies, index_check, index_near, number_checks, one_of, term_checks, words_check, find_checks, Operand, operand_of, parameter_checks, operand_checks, operands_checks, proximity_checks, checks_in, Refusal, PlanValue, TermPlanValue, OrderedOf, asked_with, words_asked, joined_words, entries_asked, subject_asked, texts_asked, near_asked, tree_asked, plan_of}
+use Rattle.std.specs.Prelude.{chars}
+use Rattle.zeb_text.specs.Words.{words_of}
 use Rattle.zeb_profile.specs.declared.Profile.{Profile}
 use Rattle.zeb_keys.specs.declared.Register.{Register}
 use Rattle.zeb_query.specs.declared.attributes.Structure.{Structure}
@@ -47,18 +49,27 @@ is_taken purpose profile place h text e =
 abbrev valued : Values → Subject → Completeness → Values
 valued v subject whole = record v { subject = subject; completeness = whole }
 
+asked_look : {A : Type 0} (words : List A) (index : ℕ) (r : Register) (asked : TermPlanValue) → plan_register asked ≡ Some (index, r) → plan_register (asked_with words index r asked) ≡ Some (index, r)
+asked_look [] index r asked e = refl
+asked_look (word ∷ words) index r asked e = e
+
+words_look : (v : Values) (index : ℕ) (structure : Structure) (patterns : List (List Symbol)) (whole : Completeness) → asks_number structure ≡ false
+    → plan_register (words_asked index structure v.position whole patterns) ≡ Some (index, register_of (valued v (Entries index structure) whole))
+words_look v index Numeric patterns whole e = absurd cc
+words_look v index Phrase patterns Complete e = refl
+words_look v index WordList patterns Complete e = refl
+words_look v index FreeForm patterns Complete e = refl
+words_look v index Phrase patterns Incomplete e = refl
+words_look v index WordList patterns Incomplete e = refl
+words_look v index FreeForm patterns Incomplete e = refl
+
 texts_look : (v : Values) (index : ℕ) (structure : Structure) (text : List ℕ) (patterns : List (List Symbol)) (order : Option Order) (whole : Completeness) → asks_number structure ≡ false
     → plan_register (texts_asked (valued v (Entries index structure) whole) index structure text patterns order) ≡ Some (index, register_of (valued v (Entries index structure) whole))
-texts_look v index Numeric text patterns order whole e = absurd cc
-texts_look v index Phrase text patterns (Some order) whole e = refl
-texts_look v index WordList text patterns (Some order) whole e = refl
-texts_look v index FreeForm text patterns (Some order) whole e = refl
-texts_look v index Phrase text patterns None Complete e = refl
-texts_look v index WordList text patterns None Complete e = refl
-texts_look v index FreeForm text patterns None Complete e = refl
-texts_look v index Phrase text patterns None Incomplete e = refl
-texts_look v index WordList text patterns None Incomplete e = refl
-texts_look v index FreeForm text patterns None Incomplete e = refl
+texts_look v index structure text patterns (Some order) whole e =
+    let r = register_of (valued v (Entries index structure) whole) in
+    asked_look (words_of (chars text)) index r (OrderedOf index r order (joined_words text)) refl
+texts_look v index structure text patterns None whole e =
+    asked_look patterns index (register_of (valued v (Entries index structure) whole)) (words_asked index structure v.position whole patterns) (words_look v index structure patterns whole e)
 
 entries_look : (v : Values) (index : ℕ) (structure : Structure) (text : List ℕ) (patterns : List (List Symbol)) (asked : Asked) (whole : Completeness)
     → plan_register (entries_asked (valued v (Entries index structure) whole) index structure text patterns asked) ≡ Some (index, register_of (valued v (Entries index structure) whole))

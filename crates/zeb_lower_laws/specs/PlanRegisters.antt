@@ -9,11 +9,12 @@ use Rattle.zeb_query.specs.declared.attributes.Structure.{Structure}
 use Rattle.zeb_query.specs.declared.values.Values.{Values}
 use Rattle.zeb_query.specs.Grammar.{HeadValue, NamedValue, PairValue, TermValue, TreeValue, heads}
 use Rattle.zeb_query.specs.Attributes.{HoldingValue, holding_of, register_of, values_held}
-use Rattle.zeb_query.specs.Plans.{TermPlanValue, RecordNumberOf, AlwaysOf, NumberOf, OrderedOf, CompleteOf, PhraseOf, AllWordsOf, AnyWordOf, PlanValue, TermOf, PairOf, NearOf}
+use Rattle.zeb_query.specs.Plans.{TermPlanValue, RecordNumberOf, NoWordsOf, AlwaysOf, NumberOf, OrderedOf, CompleteOf, PhraseOf, AllWordsOf, AnyWordOf, PlanValue, TermOf, PairOf, NearOf}
 
 -- the index and the register in which a term's plan looks; a record's own number is looked up in none
 abbrev pub plan_register : TermPlanValue → Option (ℕ × Register)
 plan_register (RecordNumberOf number) = None
+plan_register (NoWordsOf index r) = Some (index, r)
 plan_register (AlwaysOf index r) = Some (index, r)
 plan_register (NumberOf index relation number) = Some (index, register.Number)
 plan_register (OrderedOf index r order start) = Some (index, r)

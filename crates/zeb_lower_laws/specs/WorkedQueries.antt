@@ -70,7 +70,7 @@ abbrev pub first_in : ℕ → List ℕ → Result PlanValue Refusal
 first_in index word = Ok (TermOf (PhraseOf index (literal word ∷ []) true))
 
 abbrev pub dick_by : Order → Result PlanValue Refusal
-dick_by order = Ok (TermOf (OrderedOf 0 Word order (Some (codes "dick"))))
+dick_by order = Ok (TermOf (OrderedOf 0 Word order (codes "dick")))
 
 abbrev pub date_by : Relation → Result PlanValue Refusal
 date_by relation = Ok (TermOf (NumberOf 1 relation 951))

@@ -1,9 +1,9 @@
 //! Queries tried by the definitions: what texts and queries come to, as a reader would work them out.
-ghost use Rattle.std.specs.Prelude.{◌≡◌, ◌<◌, ℕ, List, length, [], ◌∷◌, ◌++◌, false, true, Some, Ok, codes};
+ghost use Rattle.std.specs.Prelude.{◌≡◌, ◌<◌, ℕ, List, length, [], ◌∷◌, ◌++◌, false, true, Ok, codes};
 ghost use Rattle.zeb_text.specs.Symbols.{Star, literal};
 ghost use Rattle.zeb_keys.specs.declared.registers.Register.TheVariants.{Word, Phrase, Number};
 ghost use Rattle.zeb_query.specs.Places.{IsReadable, IsFaulty};
-ghost use Rattle.zeb_query.specs.Plans.{TermOf, PairOf, NearOf, RecordNumberOf, AlwaysOf, CompleteOf, PhraseOf, AllWordsOf, AnyWordOf};
+ghost use Rattle.zeb_query.specs.Plans.{TermOf, PairOf, NearOf, RecordNumberOf, NoWordsOf, AlwaysOf, CompleteOf, PhraseOf, AllWordsOf, AnyWordOf};
 ghost use Rattle.zeb_query.specs.Checks.{refused};
 ghost use Rattle.zeb_profile.specs.Profiles.{profile_of};
 ghost use Rattle.zeb_lower_laws.specs.WorkedQueries.{PlansAs, PlansUnder, ScansAs, a_near_b, date_by, dick_by, first_in, quoted, sample_profile, times, titles_alone, word_in, words_65};
@@ -109,7 +109,7 @@ pub fn first_faults_at_examples()
 pub fn plans_at_examples()
     ensures kinds { PlansAs (codes "@attr 1=4 Whale") (word_in 0 (codes "whale"))
         × PlansAs (codes "@attr 1=4 @attr 6=3 moby")
-        (Ok (TermOf (CompleteOf 0 (Some (literal (codes "moby"))))))
+        (Ok (TermOf (CompleteOf 0 (literal (codes "moby")))))
         × PlansAs (codes "@attr 1=4 @attr 2=1 Dick") (dick_by Order.Less)
         × PlansAs (codes "@attr 1=31 @attr 4=109 @attr 2=4 951") (date_by Relation.GreaterOrEqual)
         × PlansAs (codes "@attr 4=107 007") (Ok (TermOf (RecordNumberOf 7)))
@@ -124,6 +124,9 @@ pub fn plans_at_examples()
     ensures words { PlansAs (codes "@attr 1=4 " ++ quoted (codes "@and")) (word_in 0 (codes "and"))
         × PlansAs (codes "@foo") (word_in 2 (codes "foo"))
         × PlansAs (codes "@attr 1=4 CAF" ++ 195 ∷ 137 ∷ []) (word_in 0 (codes "cafe")) }
+    ensures no_words { PlansAs (codes "@attr 1=4 @attr 6=3 " ++ quoted [])
+        (Ok (TermOf (NoWordsOf 0 Phrase)))
+        × PlansAs (codes "@attr 2=1 " ++ quoted []) (Ok (TermOf (NoWordsOf 2 Word))) }
 {}
 
 /// What the values of a relation, a position, a structure and a completeness come to under that profile.
@@ -137,7 +140,7 @@ pub fn values_at_examples()
         × PlansAs (codes "@attr 1=4 @attr 4=105 " ++ quoted (codes "whale moby"))
         (Ok (TermOf (AnyWordOf 0 (literal (codes "whale") ∷ literal (codes "moby") ∷ []))))
         × PlansAs (codes "@attr 1=4 @attr 6=2 moby")
-        (Ok (TermOf (CompleteOf 0 (Some (literal (codes "moby")))))) }
+        (Ok (TermOf (CompleteOf 0 (literal (codes "moby"))))) }
     ensures orders { PlansAs (codes "@attr 1=4 @attr 2=2 Dick") (dick_by Order.LessOrEqual)
         × PlansAs (codes "@attr 1=4 @attr 2=4 Dick") (dick_by Order.GreaterOrEqual)
         × PlansAs (codes "@attr 1=4 @attr 2=5 Dick") (dick_by Order.Greater) }

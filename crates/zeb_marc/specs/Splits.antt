@@ -79,7 +79,7 @@ abbrev pub split_within : ℕ → List ℕ → Split
 split_within zero text = record { slices = []; fault = None }
 split_within (suc n) text = split_next (split_within n) (next_of text)
 
--- a file has fewer slices than bytes
+-- a file has no more slices than bytes
 unfoldable pub split_of : List ℕ → Split
 split_of file = split_within (suc (length file)) file
 

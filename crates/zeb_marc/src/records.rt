@@ -35,10 +35,8 @@ impl<'a> Marc<'a> {
     /// Reads a record, which has to be all of the bytes.
     ///
     /// Leader 10, 11 and 20 to 22 are read as `2`, `2`, `4`, `5`, `0` where they are no digits; entries of the
-    /// directory may come in any order, overlap and leave gaps. An error is that of the first check that fails, in this
-    /// order: fewer than five bytes, the length's digits, its range, too few bytes, too many, the record terminator, the
-    /// leader's counts, the base address, the directory's length; then entry after entry. It is never
-    /// `TooManySeparators` nor `ReadFault`.
+    /// directory may come in any order, overlap and leave gaps. An error is that of the first check that fails, in the
+    /// order that [`MarcFault`] says. It is never `TooManySeparators` nor `ReadFault`.
     pub fn read(bytes: &'a [u8]) -> Result<Marc<'a>, MarcFault>
         ensures { MatchResult result (λ marc. IsRecord bytes.now marc)
             (λ fault. first_fault bytes.now ≡ Some fault) }

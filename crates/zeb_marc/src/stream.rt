@@ -142,9 +142,6 @@ fn read_slice<R: Source>(source: &mut R, room: &mut [u8], first: u8) -> Result<u
 /// No more is read than shows the answer, and what follows is left unread: behind a record, behind 65,536 separators,
 /// behind the five bytes of a bad length. So a record or a fault that stands before a failing read is answered, and not
 /// the failure.
-///
-/// What is said of the bytes is proved where the source tells them. Of any source it is proved when `ReadFault` comes, that no
-/// fault comes but these five, and what the buffer holds.
 pub fn next_record<R: Source>(
     reader: &mut R,
     buffer: &mut RecordBuf,

@@ -1,2 +1,3 @@
+pub mod DiskLemmas
 pub mod ShelfLemmas
 pub mod WalkLemmas

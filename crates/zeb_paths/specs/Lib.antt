@@ -1,4 +1,5 @@
 pub mod Causes
+pub mod Closing
 pub mod Told
 pub mod Walks
 pub mod PrivateNames

@@ -4,13 +4,18 @@ ghost use Rattle.std.specs.Prelude.{◌≡◌, ◌↔◌, ⊤, Err, None, Ok, So
 ghost use Rattle.std.specs.Fs.{IsDir, IsFile, file_type};
 ghost use Rattle.std.specs.IoError.{error_kind};
 ghost use Rattle.std.specs.Io.{ReadsAtMost};
+ghost use Rattle.sqlite_store.specs.FileStore.{faults, is_shielded, recovers, view};
+ghost use Rattle.sqlite_trees.specs.View.{IsQuiet};
 ghost use Rattle.zeb_paths.specs.Causes.{path_cause_of};
+ghost use Rattle.zeb_paths.specs.Closing.{IsOneFile};
 
 use crate::causes::{Closed, PathCause, StoreCause};
 use crate::looks::{may_have_store, why_unopened, why_unread};
 use crate::paths::{OpenFailed, PathKind, Paths};
 use crate::tally::Tally;
 use sqlite::{Connection, File, FileStore, Unknown};
+use sqlite_disk::{Disk as Medium, Tally as Met};
+use sqlite_trees::store::Store;
 use std::alloc::Global;
 use std::fs::{self, Metadata};
 use std::io::{self, BufReader, Read};
@@ -57,6 +62,27 @@ fn kind_of(found: io::Result<Metadata>) -> Result<PathKind, PathCause>
     }
 }
 
+/// Ends a store: its log is copied into its one file, where that doesn't fail.
+fn close_store<D: Medium + Drop>(store: FileStore<D>) -> Closed
+    ensures { (left : _) × IsOneFile result left
+        × IsQuiet view faults recovers is_shielded store left }
+{
+    let mut store = store;
+    // Nothing is undone, since no transaction is open; but just its own rollback tells what the log has.
+    store.rollback();
+    let is_whole = store.checkpoint().is_ok();
+    let cause = cause_of(store.tally());
+    Closed { is_whole, cause }
+}
+
+/// Why a store may have failed that has met this.
+fn cause_of(met: Met) -> Option<StoreCause> {
+    if met.caught > 0 {
+        return Some(StoreCause::Damaged);
+    }
+    (met.refused > 0).then_some(StoreCause::Full)
+}
+
 impl<'a> Paths for Disk<'a> {
     type Reader = FileReader<'a>;
 
@@ -68,9 +94,11 @@ impl<'a> Paths for Disk<'a> {
 
     ghost lists = { λ _ _. None };
 
-    ghost opens = { λ _ _ _. ⊤ };
+    ghost opens = { λ _ _ _ _. ⊤ };
 
     ghost lacks = { λ _ _. ⊤ };
+
+    ghost leaves = { λ _ closed left. IsOneFile closed left };
 
     fn kind(&self, path: &str) -> Result<PathKind, PathCause> {
         kind_of(fs::metadata(self.rt, path))
@@ -112,15 +140,8 @@ impl<'a> Paths for Disk<'a> {
         }
     }
 
-    fn close(&self, store: &mut FileStore<File>) -> Closed {
-        let is_whole = store.checkpoint().is_ok();
-        let met = store.tally();
-        let cause = if met.caught > 0 {
-            Some(StoreCause::Damaged)
-        } else {
-            (met.refused > 0).then_some(StoreCause::Full)
-        };
-        Closed { is_whole, cause }
+    fn close(&self, store: FileStore<File>) -> Closed {
+        close_store(store)
     }
 }
 

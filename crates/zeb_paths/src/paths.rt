@@ -5,6 +5,7 @@ ghost use Rattle.std.specs.Prelude.{IfErr, IfOk, IfSome};
 ghost use Rattle.sqlite.specs.Held.{Held};
 ghost use Rattle.sqlite_trees.specs.View.{IsQuiet};
 ghost use Rattle.zeb_paths.specs.Told.{AreNames};
+ghost use Rattle.zeb_paths.specs.declared.causes.Closed.{Closed};
 ghost use Rattle.zeb_paths.specs.declared.causes.PathCause.{PathCause};
 ghost use Rattle.zeb_paths.specs.declared.causes.PathCause.TheVariants.{Memory as Starved};
 ghost use Rattle.zeb_paths.specs.declared.paths.PathKind.{PathKind};
@@ -45,11 +46,14 @@ pub trait Paths {
     /// The names in the folder at a path, where the paths tell them: in any order, a name perhaps twice. One that is empty can't be given.
     ghost lists: { Self → List ℕ → Option (List (List ℕ)) };
 
-    /// Which connections the store at a path may be opened by.
-    ghost opens: { Self → List ℕ → Held Self.Store → Type 0 };
+    /// Which connections the store at a path may be opened by, and what the paths are then: the first are those before it.
+    ghost opens: { Self → Self → List ℕ → Held Self.Store → Type 0 };
 
     /// At which paths no store may stand, as far as is told.
     ghost lacks: { Self → List ℕ → Type 0 };
+
+    /// How a store may be left at its path that was closed so.
+    ghost leaves: { Self → Closed → Self.Store → Type 0 };
 
     /// What stands at a path, or why neither a file nor a folder is found there. Links are followed. Where the paths tell the bytes
     /// of a file, it is a file.
@@ -80,13 +84,13 @@ pub trait Paths {
     /// Opens the store at a path, which is made where nothing stands there.
     fn store(&mut self, path: &str) -> Result<Connection<Self::Store>, OpenFailed>
         ensures idle { IfOk result (λ connection. connection.in_transaction ≡ false) }
-        ensures given { IfOk result (opens self.old path.now) }
+        ensures given { IfOk result (opens self.old self.new path.now) }
         ensures told { (text : List ℕ) → tells self.new text ≡ tells self.old text };
 
-    /// Puts what was committed in a store, and stands in its log, into the store's one file, before it is dropped. Where that fails,
-    /// the log keeps it.
-    fn close(&self, store: &mut Self::Store) -> Closed
+    /// Ends a store: what was committed in it, and stands in its log, is put into its one file. Where that fails, the log keeps it.
+    fn close(&self, store: Self::Store) -> Closed
         // Whether it fails or not, and also where it is cut short: a crash finds only what it could find before.
-        ensures kept { IsQuiet Self.Store.Store.view Self.Store.Store.faults Self.Store.Store.recovers
-            Self.Store.Store.is_shielded store.old store.new };
+        ensures left { (left : Self.Store) × leaves self.now result left
+            × IsQuiet Self.Store.Store.view Self.Store.Store.faults Self.Store.Store.recovers
+            Self.Store.Store.is_shielded store left };
 }

@@ -1,6 +1,6 @@
 //! Paths in memory, for tests.
 
-ghost use Rattle.std.specs.Prelude.{◌≡◌, ◌⊎◌, ◌||◌, [], Some, IfErr, IfOk, map, string_bytes};
+ghost use Rattle.std.specs.Prelude.{◌≡◌, ◌⊎◌, ◌||◌, [], Some, IfErr, IfOk, map, string_bytes, true};
 ghost use Rattle.std.specs.List.{before_first, list_any};
 ghost use Rattle.std.specs.Option.{is_none, is_some, option_map};
 ghost use Rattle.std.specs.Str.{bytes_eq};
@@ -134,9 +134,11 @@ impl<'a, S: Alter + Drop> Paths for Shelf<'a, S> {
 
     ghost lists = { λ shelf path. Some (names_in shelf.files.now path) };
 
-    ghost opens = { λ shelf _ connection. shelf.store ≡ Some connection };
+    ghost opens = { λ shelf _ _ connection. shelf.store ≡ Some connection };
 
     ghost lacks = { λ _ _. ⊥ };
+
+    ghost leaves = { λ _ closed _. closed.is_whole ≡ true };
 
     fn kind(&self, path: &str) -> Result<PathKind, PathCause> {
         if file_at(self.files, path).is_some() {
@@ -186,7 +188,7 @@ impl<'a, S: Alter + Drop> Paths for Shelf<'a, S> {
         }
     }
 
-    fn close(&self, _store: &mut S) -> Closed {
+    fn close(&self, _store: S) -> Closed {
         Closed::WHOLE
     }
 }

@@ -7,8 +7,7 @@ use crate::UnitPattern;
 use crate::directives::{Directive, Placed, Target};
 use std::alloc::{AllocError, Global};
 
-/// The canonical text of a profile's lines: each directive but `store` on a line of its own, with one space between
-/// words, registers written, names as their line spells them and numbers without leading zeros.
+/// The canonical text of a profile's lines.
 pub(crate) fn canonical(alloc: Global, placed: &[Placed]) -> Result<String, AllocError>
     ensures { IfOk result (λ text. string_bytes text ≡ canonical_text (directives_in placed.now)) }
 {

@@ -19,8 +19,7 @@ pub struct Targets<'a> {
 }
 
 impl<'a> Targets<'a> {
-    /// The targets of the first `melm` line that fits a unit, and then, for a data field, those of the `all` line that are
-    /// not among them.
+    /// Those of the first `melm` line that fits a unit, and for a data field those of the `all` line that are not among them.
     pub(crate) fn of_unit(lines: &'a [Line], tag: &[u8; 3], code: Option<u8>) -> Targets<'a>
         ensures { targets_left result ≡ unit_pairs tag.now code lines.now }
     {

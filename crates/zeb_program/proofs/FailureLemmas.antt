@@ -1,24 +1,29 @@
--- The lines of a failure and of a register that wasn't closed, one below the other.
-use Rattle.std.proofs.Common.{ℕ, List, [], ◌++◌, inl, inr, refl}
-use Rattle.std.specs.Prelude.{Option}
+-- The lines of a failure, one below the other.
+use Rattle.std.proofs.Common.{◌≡◌, ℕ, List, ◌++◌, refl, subst, sym}
+use Rattle.std.specs.Prelude.{Option, Some, None}
+use Rattle.std.specs.Option.{option_map}
 use Rattle.std.specs.Io.KnownBytes.{Appends}
 use Rattle.std.proofs.KnownBytes.{Appends-nil, Appends-trans}
+use Rattle.zeb_paths.specs.declared.causes.StoreCause.{StoreCause}
 use Rattle.zeb_program.specs.declared.failures.Cause.{Cause}
+use Rattle.zeb_program.specs.declared.failures.Cause.TheVariants.{Store}
 use Rattle.zeb_program.specs.declared.faults.Fault.{Fault}
 use Rattle.zeb_program.specs.Answers.{Writes}
-use Rattle.zeb_program.specs.FaultLines.{IsCause, IsUnclosed, TellsFailure, TellsFault, cause_line, unclosed_line}
+use Rattle.zeb_program.specs.FaultLines.{IsCauseOf, TellsFailure, TellsFault, cause_lines, unclosed_line, unclosed_lines}
 use Rattle.zeb_program.specs.declared.statuses.Status.{Status}
 
-pub failure_lines : (old mid new : Option (List ℕ)) (why : Fault) (status : Status) → Writes old mid (λ line. TellsFault why line status) → Writes mid new IsCause
-    → Writes old new (λ bytes. TellsFailure why bytes status)
-failure_lines old mid new why status wrote more =
-    (wrote.0 ++ more.0, (wrote.0, more.0, wrote.1, more.1, refl), Appends-trans old mid new wrote.0 more.0 wrote.2 more.2)
+pub failure_lines : (old mid new : Option (List ℕ)) (why : Fault) (status : Status) (cause : Option Cause) → Writes old mid (λ line. TellsFault why line status) → IsCauseOf why cause
+    → Appends mid new (cause_lines cause) → Writes old new (λ bytes. TellsFailure why bytes status)
+failure_lines old mid new why status cause wrote fits more =
+    (wrote.0 ++ cause_lines cause, (wrote.0, cause, wrote.1, fits, refl), Appends-trans old mid new wrote.0 (cause_lines cause) wrote.2 more)
 
-pub no_cause : (old : Option (List ℕ)) → Writes old old IsCause
-no_cause old = ([], inl refl, Appends-nil old)
+pub no_cause : (cause : Option Cause) (old : Option (List ℕ)) → cause ≡ None → Appends old old (cause_lines cause)
+no_cause cause old is = subst (λ it. Appends old old (cause_lines it)) (sym is) (Appends-nil old)
 
-pub one_cause : (cause : Cause) (old new : Option (List ℕ)) → Appends old new (cause_line cause) → Writes old new IsCause
-one_cause cause old new wrote = (cause_line cause, inr (cause, refl), wrote)
+pub one_cause : (cause : Option Cause) (this : Cause) (old new : Option (List ℕ)) → cause ≡ Some this → Appends old new (cause_lines (Some this)) → Appends old new (cause_lines cause)
+one_cause cause this old new is wrote = subst (λ it. Appends old new (cause_lines it)) (sym is) wrote
 
-pub unclosed_lines : (old mid new : Option (List ℕ)) → Appends old mid unclosed_line → Writes mid new IsCause → Writes old new IsUnclosed
-unclosed_lines old mid new wrote more = (unclosed_line ++ more.0, (more.0, more.1, refl), Appends-trans old mid new unclosed_line more.0 wrote more.2)
+pub unclosed_so : (met : Option StoreCause) (cause : Option Cause) (old mid new : Option (List ℕ)) → cause ≡ option_map Store met → Appends old mid unclosed_line → Appends mid new (cause_lines cause)
+    → Appends old new (unclosed_lines met)
+unclosed_so met cause old mid new is wrote more =
+    Appends-trans old mid new unclosed_line (cause_lines (option_map Store met)) wrote (subst (λ it. Appends mid new (cause_lines it)) is more)

@@ -1,19 +1,21 @@
 -- What is written for a command, a change by a path and a line is their answer on any tables.
-use Rattle.std.proofs.Common.{◌≡◌, inl, inr, ℕ, Bool, false, List, [], ◌∷◌, ◌++◌, Vec, ap, map, refl, subst, sym}
-use Rattle.std.specs.Prelude.{Option, Some, Result, Ok, Err, IfErr, IfOk, OnErr, String, string_bytes}
+use Rattle.std.proofs.Common.{◌≡◌, arith, inl, inr, ℕ, Bool, false, List, [], ◌∷◌, ◌++◌, Vec, ap, map, refl, subst, sym}
+use Rattle.std.specs.Prelude.{◌≢◌, Option, Some, Result, Ok, Err, IfErr, IfOk, OnErr, OnOk, String, string_bytes}
 use Rattle.std.specs.declared.alloc.AllocError.{AllocError}
 use Rattle.std.specs.declared.alloc.Global.{Global}
 use Rattle.std.specs.Io.KnownBytes.{Appends}
 use Rattle.sqlite.specs.Held.{Held, state}
-use Rattle.sqlite.specs.State.{State}
+use Rattle.sqlite.specs.State.{State, Survives}
 use Rattle.sqlite.specs.Store.{Ghosts}
+use Rattle.sqlite.specs.Tree.{Trees}
+use Rattle.sqlite.proofs.StateLemmas.{survives_weaker}
 use Rattle.zeb_profile.specs.declared.directives.Directive.{Directive}
 use Rattle.zeb_register.specs.Calls.{ChangesNothing}
 use Rattle.zeb_register.specs.Formats.{Format, version_of}
 use Rattle.zeb_change.specs.Conditions.{Conditions}
 use Rattle.zeb_change.specs.Reading.{NoneFailed}
 use Rattle.zeb_change.specs.declared.refusals.Refusal.{Refusal}
-use Rattle.zeb_change.specs.declared.refusals.Refusal.TheVariants.{Damaged}
+use Rattle.zeb_change.specs.declared.refusals.Refusal.TheVariants.{Damaged, Store}
 use Rattle.zeb_change.specs.declared.settings.Kind.{Kind}
 use Rattle.zeb_change.specs.declared.settings.Limits.{Limits}
 use Rattle.zeb_image.specs.Holdings.{Holdings}
@@ -23,11 +25,13 @@ use Rattle.zeb_image.specs.declared.names.DbName.{DbName}
 use Rattle.zeb_engine.specs.Analysed.{HasLines, IsAnalysed}
 use Rattle.zeb_engine.specs.Changing.{ChangesReady, LeavesWhole, LosesNamed}
 use Rattle.zeb_engine.specs.Answers.{answer_of}
+use Rattle.zeb_engine.specs.Crashes.{CommandLasts, CommitsBy, Endures}
 use Rattle.zeb_engine.specs.Does.{CommandOverTables}
 use Rattle.zeb_engine.specs.Readiness.{GoesByTexts}
 use Rattle.zeb_engine.specs.Refusals.{refusal_text}
 use Rattle.zeb_engine.specs.Replies.{reply_text}
 use Rattle.zeb_engine.specs.Steps.{TakesFiles}
+use Rattle.zeb_engine.specs.Transactions.{EnduresRefusal, IsDurable, LeavesNoMore}
 use Rattle.zeb_engine.specs.Works.{ServesBy, ServesCommand}
 use Rattle.zeb_engine.specs.declared.commands.Command.{Command}
 use Rattle.zeb_engine.specs.declared.replies.Reply.{Reply}
@@ -39,10 +43,10 @@ use Rattle.zeb_program.specs.declared.tasks.Task.{Task}
 use Rattle.zeb_program.specs.declared.tasks.Task.TheVariants.{Ask, Change, Analyse}
 use Rattle.zeb_program.specs.Answers.{ChangesBy, Writes}
 use Rattle.zeb_program.specs.FaultLines.{TellsFault}
-use Rattle.zeb_program.specs.PrivateFaults.{IsUnread}
+use Rattle.zeb_program.specs.PrivateFaults.{IsUnread, IsUnreadAt}
 use Rattle.zeb_program.specs.FaultAnswers.{GivesAnswer, NamesUnder, NamesUntold}
 use Rattle.zeb_program.specs.Inputs.{AreShort}
-use Rattle.zeb_program.specs.OverTables.{AnalysesOver, CommandOver, LineOver, PathOver, PathsLeave, PathsOver, SaysOver, ServesOver, TaskOver}
+use Rattle.zeb_program.specs.OverTables.{AnalysesOver, CommandOver, LeavesAlone, LineOver, PathOver, PathsLast, PathsLeave, PathsOver, SaysOver, ServesOver, TaskOver}
 use Rattle.zeb_program.specs.TaskAnswers.{AreTold}
 use Rattle.zeb_program.specs.Says.{Says}
 use Rattle.zeb_program.specs.declared.statuses.Status.{Status}
@@ -53,22 +57,28 @@ use Rattle.zeb_program.specs.Statuses.{refusal_status}
 pub still : (s : State) → ChangesNothing s s
 still s = λ is_open. (is_open, refl, refl)
 
+pub alone : (s : State) → LeavesAlone s s
+alone s = (still s, λ db left. left)
+
+survives_still : (s : State) (Commits : Trees → Type 0) → Survives s s Commits
+survives_still s Commits = record { clean = omega (arith); shield = λ h. h; counts = omega (arith); limit = refl; closes = λ _ is_open. inl is_open; crash = λ _ db left. inl left }
+
 -- ---- a command
 
 module _ (format : Format) (c : Conditions) (command : Command) (old new : State) (wrote writes : Option (List ℕ)) (failed : Bool) (Clean : Type 0) where
   pub refused_over : (refusal : Refusal) (r : Result Status AllocError) → (Clean → ServesCommand c command old new (Err refusal))
-      → (Clean → CommandOverTables format c command old new (Err refusal))
+      → (Clean → CommandOverTables format c command old new (Err refusal)) → CommandLasts format c command old new (Err refusal) → (Clean → IsDurable new)
       → IfOk r (λ status. failed ≡ false → Writes wrote writes (λ bytes. (bytes ≡ refusal_text refusal ++ 10 ∷ []) × (status ≡ refusal_status refusal)))
       → IfOk r (λ status. failed ≡ false → Clean → Writes wrote writes (λ bytes. CommandOver format c command old bytes status new))
-  refused_over refusal (Err e) serves over h = h
-  refused_over refusal (Ok status) serves over h = λ sound clean.
+  refused_over refusal (Err e) serves over lasts durable h = h
+  refused_over refusal (Ok status) serves over lasts durable h = λ sound clean.
       let w = h sound in
-      (w.0, (Err refusal, w.1.0, w.1.1, (serves clean, over clean)), w.2)
+      (w.0, (Err refusal, w.1.0, w.1.1, (serves clean, over clean, lasts, durable clean)), w.2)
 
   pub replied_over : (reply : Reply) (bytes : List ℕ) → (Clean → ServesCommand c command old new (Ok reply)) → (Clean → CommandOverTables format c command old new (Ok reply))
-      → bytes ≡ reply_text reply → (failed ≡ false → Appends wrote writes bytes)
+      → CommandLasts format c command old new (Ok reply) → (Clean → IsDurable new) → bytes ≡ reply_text reply → (failed ≡ false → Appends wrote writes bytes)
       → failed ≡ false → Clean → Writes wrote writes (λ given. CommandOver format c command old given Answered new)
-  replied_over reply bytes serves over is grew sound clean = (bytes, (Ok reply, is, refl, (serves clean, over clean)), grew sound)
+  replied_over reply bytes serves over lasts durable is grew sound clean = (bytes, (Ok reply, is, refl, (serves clean, over clean, lasts, durable clean)), grew sound)
 
 -- ---- a change by paths
 
@@ -88,6 +98,14 @@ given_refused P (Err refusal) p = p
 given_untold : (told : List ℕ → Option (List ℕ)) (r : Result Reply Refusal) → IfErr (given r) (NamesUntold told)
 given_untold told (Ok reply) = tt
 given_untold told (Err refusal) = tt
+
+given_durable : (P : Type 0) (r : Result Reply Refusal) → P → OnOk (given r) P
+given_durable P (Ok reply) p = p
+given_durable P (Err refusal) p = tt
+
+given_endures : (old new : State) (r : Result Reply Refusal) → IfErr r (EnduresRefusal old new) → IfErr (given r) (λ why. why ≢ fault.Refused Store → LeavesNoMore old new)
+given_endures old new (Ok reply) endures = tt
+given_endures old new (Err refusal) endures = λ other. endures (λ is. other (ap fault.Refused is))
 
 damaged : (r : Result Reply Refusal) → given r ≡ Err (fault.Refused Damaged) → r ≡ Err Damaged
 damaged (Ok reply) is = absurd (cc is)
@@ -117,6 +135,19 @@ module _ (told : List ℕ → Option (List ℕ)) (format : Format) (profile : Li
 
 -- what is left of the tables
 module _ (told : List ℕ → Option (List ℕ)) (c : Conditions) (kind : Kind) (name : List ℕ) (paths : List (List ℕ)) (old new : State) where
+  -- and by a crash
+  pub changed_last : {R : Type 0} (remaining : R → Option (List ℕ)) (has_failed : R → Bool) (before after : List R) (r : Result Reply Refusal)
+      → ((files : List (List ℕ)) → AreTold told paths files → (map remaining before ≡ map Some files) × NoneFailed has_failed after)
+      → Survives old new (λ db. (texts : List (List ℕ)) → map remaining before ≡ map Some texts → NoneFailed has_failed after → CommitsBy (TakesFiles c kind name texts) old db)
+      → ((texts : List (List ℕ)) → map remaining before ≡ map Some texts → NoneFailed has_failed after → Endures (TakesFiles c kind name texts) old new r)
+      → IsDurable new → IfErr r (EnduresRefusal old new) → PathsLast told c kind name paths old new (given r)
+  changed_last remaining has_failed before after r all survives crash durable endures = record {
+    survives = survives_weaker old new _ _ (λ _ db commits files known. let tell = all files known in commits files tell.0 tell.1) survives;
+    crash = λ files known. let tell = all files known in gives (Endures (TakesFiles c kind name files) old new) r (crash files tell.0 tell.1);
+    accepted = given_durable (IsDurable new) r durable;
+    refused = given_endures old new r endures;
+  }
+
   -- the readers of the files were given to the register
   pub changed_leaves : {R : Type 0} (remaining : R → Option (List ℕ)) (has_failed : R → Bool) (before after : List R) (r : Result Reply Refusal)
       → ((files : List (List ℕ)) → AreTold told paths files → (map remaining before ≡ map Some files) × NoneFailed has_failed after)
@@ -124,33 +155,44 @@ module _ (told : List ℕ → Option (List ℕ)) (c : Conditions) (kind : Kind) 
       → ((texts : List (List ℕ)) → map remaining before ≡ map Some texts → NoneFailed has_failed after → ServesBy (TakesFiles c kind name texts) old new r)
       → LeavesWhole c.profile kind name old new r
       → ((texts : List (List ℕ)) → map remaining before ≡ map Some texts → LosesNamed c.profile name texts old new r)
-      → PathsLeave told c kind name paths old new (given r)
-  changed_leaves remaining has_failed before after r all nothing serves loses named = record {
+      → PathsLast told c kind name paths old new (given r) → PathsLeave told c kind name paths old new (given r)
+  changed_leaves remaining has_failed before after r all nothing serves loses named lasts = record {
     refused = given_refused (ChangesNothing old new) r nothing;
     loses = inr (gives (LeavesWhole c.profile kind name old new) r loses);
     serves = λ files known held keeps.
         let tell = all files known in
         gives (λ answer. (later : Holdings) × ChangesBy c kind name files held answer later × Keeps new later) r (serves files tell.0 tell.1 held keeps);
     named = λ files known. gives (LosesNamed c.profile name files old new) r (named files (all files known).0);
+    lasts = lasts;
   }
 
-  -- a path couldn't be read, or memory ran out in the program itself
-  pub unread_leaves : (why : Fault) → IsUnread why → ((files : List (List ℕ)) → AreTold told paths files → why ≡ fault.Memory) → ChangesNothing old new
-      → PathsLeave told c kind name paths old new (Err why)
-  unread_leaves (fault.Unreadable path) unread memory nothing = record {
-    refused = nothing;
+-- a path couldn't be read, or memory ran out in the program itself
+module _ (told : List ℕ → Option (List ℕ)) (c : Conditions) (kind : Kind) (name : List ℕ) (paths : List (List ℕ)) (s : State) where
+  unread_last : (why : Fault) → ((files : List (List ℕ)) → AreTold told paths files → why ≡ fault.Memory) → PathsLast told c kind name paths s s (Err why)
+  unread_last why memory = record {
+    survives = survives_still s (λ db. (files : List (List ℕ)) → AreTold told paths files → CommitsBy (TakesFiles c kind name files) s db);
+    crash = λ files known. subst (λ it. GivesAnswer (Endures (TakesFiles c kind name files) s s) (Err it)) (sym (memory files known)) tt;
+    accepted = tt;
+    refused = λ _ db left. left;
+  }
+
+  pub unread_leaves : (why : Fault) → IsUnread why → ((files : List (List ℕ)) → AreTold told paths files → why ≡ fault.Memory) → PathsLeave told c kind name paths s s (Err why)
+  unread_leaves (fault.Unreadable path) unread memory = record {
+    refused = still s;
     loses = inl tt;
     serves = λ files known. absurd (cc (memory files known));
     named = λ files known. absurd (cc (memory files known));
+    lasts = unread_last (fault.Unreadable path) memory;
   }
-  unread_leaves fault.Memory unread memory nothing = record {
-    refused = nothing;
+  unread_leaves fault.Memory unread memory = record {
+    refused = still s;
     loses = inr tt;
     serves = λ files known held keeps. tt;
     named = λ files known. tt;
+    lasts = unread_last fault.Memory memory;
   }
-  unread_leaves (fault.Profile file why) unread memory nothing = absurd unread
-  unread_leaves (fault.Refused refusal) unread memory nothing = absurd unread
+  unread_leaves (fault.Profile file why) unread memory = absurd unread
+  unread_leaves (fault.Refused refusal) unread memory = absurd unread
 
 -- ---- an analysis by paths
 
@@ -167,8 +209,8 @@ module _ (told : List ℕ → Option (List ℕ)) (profile : List Directive) (lim
 
 module _ (told : List ℕ → Option (List ℕ)) (profile : List Directive) (limit : ℕ) (paths : List (List ℕ)) where
   -- a path couldn't be read, or memory ran out in the program itself
-  pub unanalysed_over : (why : Fault) → IsUnread why → AnalysesOver told profile limit paths (Err why)
-  unanalysed_over (fault.Unreadable path) unread = inl tt
+  pub unanalysed_over : (why : Fault) → IsUnreadAt told why → AnalysesOver told profile limit paths (Err why)
+  unanalysed_over (fault.Unreadable path) unread = inl unread
   unanalysed_over fault.Memory unread = inr tt
   unanalysed_over (fault.Profile file why) unread = absurd unread
   unanalysed_over (fault.Refused refusal) unread = absurd unread
@@ -197,7 +239,7 @@ module _ (told : List ℕ → Option (List ℕ)) (format : Format) (c : Conditio
   analysed_task_over paths named is same over left = subst (λ t. TaskOver told format c t old new r) (sym is) (record {
     answer = subst (λ items. AnalysesOver told c.profile c.limits.records (map string_bytes items) r) same over;
     refused = refused r;
-    reads = λ _. nothing;
+    reads = λ _. subst (LeavesAlone old) (sym left) (alone old);
   })
     where
       nothing : ChangesNothing old new

@@ -1,5 +1,5 @@
 -- Changes by a path of which the file's bytes are told.
-use Rattle.std.proofs.Common.{◌≡◌, ◌∙◌, inl, inr, ℕ, zero, suc, Bool, false, List, [], ◌∷◌, ap, refl, subst}
+use Rattle.std.proofs.Common.{◌≡◌, ◌∙◌, inl, inr, ℕ, zero, suc, Bool, false, List, [], ◌∷◌, ap, refl, subst, sym}
 use Rattle.std.specs.Prelude.{Option, Some, None, Result, Ok, Err, IfOk, codes, string_bytes}
 use Rattle.std.specs.declared.alloc.AllocError.{AllocError}
 use Rattle.std.specs.Io.KnownBytes.{Appends}
@@ -41,6 +41,12 @@ told_rest told text all n = subst (λ rest. IsLineTold told (first_line rest)) (
 pub begins_rest : (text : List ℕ) → ¬ (without_blanks (first_line text) ≡ codes "init") → ¬ BeginsRegister (after_first_line text) → ¬ BeginsRegister text
 begins_rest text first rest (zero, is) = first is
 begins_rest text first rest (suc n, is) = rest (n, subst (λ r. without_blanks (first_line r) ≡ codes "init") (after_first n text) is)
+
+pub begins_here : (text : List ℕ) → without_blanks (first_line text) ≡ codes "init" → BeginsRegister text
+begins_here text is = (0, is)
+
+pub begins_later : (text : List ℕ) → BeginsRegister (after_first_line text) → BeginsRegister text
+begins_later text (n, is) = (suc n, subst (λ r. without_blanks (first_line r) ≡ codes "init") (sym (after_first n text)) is)
 
 after_none : (n : ℕ) → after_lines n [] ≡ []
 after_none zero = refl

@@ -1,5 +1,5 @@
 -- How far the files at some paths have come, of which readers or contents are made.
-use Rattle.std.proofs.Common.{◌≡◌, ◌≤◌, ◌∙◌, inl, inr, Bool, true, false, ℕ, List, [], ◌∷◌, ◌++◌, Vec, ap, append_assoc, arith, length, map, refl, subst, sym}
+use Rattle.std.proofs.Common.{◌≡◌, ◌≢◌, ◌≤◌, ◌∙◌, inl, inr, Bool, true, false, ℕ, List, [], ◌∷◌, ◌++◌, Vec, ap, append_assoc, arith, length, map, refl, subst, sym}
 use Rattle.std.specs.Prelude.{◌⊎◌, ◌||◌, Contains, IfErr, IfSome, Option, Some, None, Result, Ok, Err, String, if◌then◌else◌, string_bytes}
 use Rattle.std.specs.declared.alloc.Global.{Global}
 use Rattle.std.proofs.lemmas.List.{append-nil, map-append}
@@ -7,13 +7,13 @@ use Rattle.std.proofs.lemmas.List.Elements.{Contains-append_right}
 use Rattle.zeb_change.specs.Reading.{NoneFailed, StayAble}
 use Rattle.zeb_program.specs.PrivateFiles.{ReadsContent, sure_bytes}
 use Rattle.zeb_program.specs.Inputs.{AreShort, IsShort}
-use Rattle.zeb_paths.specs.Walks.{AreUnder, GivesFile, IsFaultUnder, IsFaultUntold, IsUnder}
+use Rattle.zeb_paths.specs.Walks.{AreUnder, GivesFile, GivesUnder, IsFaultUnder, IsFaultUntold, IsUnder}
 use Rattle.zeb_paths.specs.declared.walk.WalkFault.{WalkFault}
 use Rattle.zeb_paths.specs.declared.walk.WalkFault.TheVariants as walk
 use Rattle.zeb_program.specs.declared.faults.Fault.{Fault}
 use Rattle.zeb_program.specs.declared.faults.Fault.TheVariants as reason
 use Rattle.zeb_program.specs.FaultAnswers.{NamesUnder, NamesUntold}
-use Rattle.zeb_program.specs.PrivateFaults.{IsUnread, fault_of}
+use Rattle.zeb_program.specs.PrivateFaults.{IsUnread, IsUnreadAt, fault_of}
 
 -- what has been made has the bytes of the first of these files, and the paths that are left lead to the others
 abbrev pub IsMet : {R : Type 0} → (R → Option (List ℕ)) → (List ℕ → Option (List ℕ)) → List (List ℕ) → List R → List (List ℕ) → Type 0
@@ -156,6 +156,13 @@ content_fault path told (reason.Unreadable at) reads = (inl (ap reason.Unreadabl
 content_fault path told (reason.Refused refusal) reads = absurd reads
 content_fault path told reason.Memory reads = (inr refl, tt)
 
+-- why a content isn't read
+pub content_unread : (tells : List ℕ → Option (List ℕ)) (path : String Global) (why : Fault) → ReadsContent (tells (string_bytes path)) path (Err why) → IsUnreadAt tells why
+content_unread tells path (reason.Profile at fault) reads = absurd reads
+content_unread tells path (reason.Unreadable at) reads = subst (λ it. IfSome (tells (string_bytes it)) (λ bytes. ¬ IsShort bytes)) (sym reads.0) reads.1
+content_unread tells path (reason.Refused refusal) reads = absurd reads
+content_unread tells path reason.Memory reads = tt
+
 -- ---- paths that can't be read
 
 all_in : (front rest : List (List ℕ)) → AreUnder (front ++ rest) rest
@@ -189,6 +196,25 @@ untold_fault tells walk.Memory given is untold = subst (NamesUntold tells) (sym 
 pub untold_faults : {X : Type 0} (tells : List ℕ → Option (List ℕ)) (why : WalkFault) (r : Result X Fault) → IfErr r (λ given. IsUnread given × (given ≡ fault_of why)) → IsFaultUntold tells why → IfErr r (NamesUntold tells)
 untold_faults tells why (Ok x) is untold = tt
 untold_faults tells why (Err given) is untold = untold_fault tells why given is.1 untold
+
+-- the file that a walk gives
+pub given_under : (named : List (List ℕ)) (found : Result (Option (String Global)) WalkFault) (r : Option (String Global)) → IfSome r (λ path. found ≡ Ok (Some path)) → GivesUnder named found
+    → IfSome r (λ path. IsUnder named (string_bytes path))
+given_under named found None is under = tt
+given_under named found (Some path) is under = subst (GivesUnder named) is under
+
+-- where a walk can't go on no bytes are told
+none_told : (told : Option (List ℕ)) → ((bytes : List ℕ) → told ≢ Some bytes) → IfSome told (λ bytes. ¬ IsShort bytes)
+none_told None untold = tt
+none_told (Some bytes) untold = absurd (untold bytes refl)
+
+unread_fault : (tells : List ℕ → Option (List ℕ)) (why : WalkFault) (given : Fault) → given ≡ fault_of why → IsFaultUntold tells why → IsUnreadAt tells given
+unread_fault tells (walk.Unreadable path) given is untold = subst (IsUnreadAt tells) (sym is) (none_told (tells (string_bytes path)) untold)
+unread_fault tells walk.Memory given is untold = subst (IsUnreadAt tells) (sym is) tt
+
+pub unread_faults : {X : Type 0} (tells : List ℕ → Option (List ℕ)) (why : WalkFault) (r : Result X Fault) → IfErr r (λ given. IsUnread given × (given ≡ fault_of why)) → IsFaultUntold tells why → IfErr r (IsUnreadAt tells)
+unread_faults tells why (Ok x) is untold = tt
+unread_faults tells why (Err given) is untold = unread_fault tells why given is.1 untold
 
 pub under_files : {X : Type 0} (named : List (List ℕ)) (path : String Global) (r : Result X Fault) (why : Fault) → r ≡ Err why → (why ≡ reason.Unreadable path) ⊎ (why ≡ reason.Memory) → IsUnder named (string_bytes path) → IfErr r (NamesUnder named)
 under_files named path r why same is under = subst (λ it. IfErr it (NamesUnder named)) (sym same) (under_file named path why is under)

@@ -23,6 +23,11 @@ pub narrowed_so : {T F E : Type 0} (from : Result T F) (to : Result T E) (part :
 narrowed_so (Ok value) to part P Q so said is = subst (λ r. IfOk r Q) (sym is) (so value said)
 narrowed_so (Err fault) to part P Q so said is = subst (λ r. IfOk r Q) (sym is) tt
 
+-- what is said of a value, and what is said of it or of a fault
+pub both_so : {T E : Type 0} (r : Result T E) (P Q : T → Type 0) (R : E → Type 0) → IfOk r P → MatchResult r Q R → IfOk r (λ value. P value × Q value)
+both_so (Ok value) P Q R one two = (one, two)
+both_so (Err fault) P Q R one two = tt
+
 pub narrowed_fault : {T F E : Type 0} (from : Result T F) (to : Result T E) (part : F → E) (P : F → Type 0) (Q : E → Type 0) → ((fault : F) → P fault → Q (part fault)) → IfErr from P → MatchResult from (λ value. to ≡ Ok value) (λ fault. to ≡ Err (part fault)) → IfErr to Q
 narrowed_fault (Ok value) to part P Q so said is = subst (λ r. IfErr r Q) (sym is) tt
 narrowed_fault (Err fault) to part P Q so said is = subst (λ r. IfErr r Q) (sym is) (so fault said)

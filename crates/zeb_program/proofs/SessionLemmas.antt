@@ -1,37 +1,36 @@
 -- A session whose lines are answered, and which is then closed.
-use Rattle.std.proofs.Common.{◌≡◌, Bool, false, ℕ, List, ap, subst, sym}
-use Rattle.std.specs.Prelude.{◌≢◌, Option, Result, Ok, Err, IfOk, OnErr}
+use Rattle.std.proofs.Common.{◌≡◌, ap, subst, sym}
+use Rattle.std.specs.Prelude.{◌≢◌, Result, Ok, Err, IfOk, OnErr}
 use Rattle.std.specs.declared.alloc.AllocError.{AllocError}
 use Rattle.zeb_program.specs.PrivateWordRuns.{EndsSession}
 use Rattle.zeb_program.specs.Statuses.{greater}
-use Rattle.zeb_program.specs.WordRuns.{TellsClosed}
 use Rattle.zeb_program.specs.declared.statuses.Status.{Status}
 use Rattle.zeb_program.specs.declared.statuses.Status.TheVariants.{Failed}
 
 -- what is said of the status of the lines, and of how it was closed, is said of both
-pub ended_ok : (answered result : Result Status AllocError) (failed : Bool) (old new : Option (List ℕ)) (P Q : Status → Type 0) → EndsSession answered result failed old new → IfOk answered P
-    → ((top closed : Status) → P top → (failed ≡ false → TellsClosed old new closed) → Q (greater top closed)) → IfOk result Q
-ended_ok (Ok top) result failed old new P Q ends said so = subst (λ r. IfOk r Q) (sym ends.1) (so top ends.0 said ends.2)
-ended_ok (Err e) result failed old new P Q ends said so = subst (λ r. IfOk r Q) (sym ends.1) tt
+pub ended_ok : (answered result : Result Status AllocError) (Closing P Q : Status → Type 0) → EndsSession answered result Closing → IfOk answered P
+    → ((top closed : Status) → P top → Closing closed → Q (greater top closed)) → IfOk result Q
+ended_ok (Ok top) result Closing P Q ends said so = subst (λ r. IfOk r Q) (sym ends.1) (so top ends.0 said ends.2)
+ended_ok (Err e) result Closing P Q ends said so = subst (λ r. IfOk r Q) (sym ends.1) tt
 
 -- a failure stays one
-pub ended_failed : (answered result : Result Status AllocError) (failed : Bool) (old new : Option (List ℕ)) → EndsSession answered result failed old new
+pub ended_failed : (answered result : Result Status AllocError) (Closing : Status → Type 0) → EndsSession answered result Closing
     → IfOk answered (λ status. status ≡ Failed) → IfOk result (λ status. status ≡ Failed)
-ended_failed answered result failed old new ends said =
-    ended_ok answered result failed old new (λ status. status ≡ Failed) (λ status. status ≡ Failed) ends said (λ top closed is _. ap (λ (s : Status). greater s closed) is)
+ended_failed answered result Closing ends said =
+    ended_ok answered result Closing (λ status. status ≡ Failed) (λ status. status ≡ Failed) ends said (λ top closed is _. ap (λ (s : Status). greater s closed) is)
 
 -- where both haven't failed, the lines haven't
-pub ended_whole : (answered result : Result Status AllocError) (failed : Bool) (old new : Option (List ℕ)) (End : Type 0) → EndsSession answered result failed old new
+pub ended_whole : (answered result : Result Status AllocError) (Closing : Status → Type 0) (End : Type 0) → EndsSession answered result Closing
     → IfOk answered (λ status. status ≢ Failed → End) → IfOk result (λ status. status ≢ Failed → End)
-ended_whole answered result failed old new End ends said =
-    ended_ok answered result failed old new (λ status. status ≢ Failed → End) (λ status. status ≢ Failed → End) ends said
+ended_whole answered result Closing End ends said =
+    ended_ok answered result Closing (λ status. status ≢ Failed → End) (λ status. status ≢ Failed → End) ends said
     (λ top closed whole _ other. whole (λ is. other (ap (λ (s : Status). greater s closed) is)))
 
 -- where memory ran out in the lines
-pub ended_err : (answered result : Result Status AllocError) (failed : Bool) (old new : Option (List ℕ)) (P Q : Type 0) → EndsSession answered result failed old new → OnErr answered P
-    → ((closed : Status) → P → (failed ≡ false → TellsClosed old new closed) → Q) → OnErr result Q
-ended_err (Ok top) result failed old new P Q ends said so = subst (λ r. OnErr r Q) (sym ends.1) tt
-ended_err (Err e) result failed old new P Q ends said so = subst (λ r. OnErr r Q) (sym ends.1) (so ends.0 said ends.2)
+pub ended_err : (answered result : Result Status AllocError) (Closing : Status → Type 0) (P Q : Type 0) → EndsSession answered result Closing → OnErr answered P
+    → ((closed : Status) → P → Closing closed → Q) → OnErr result Q
+ended_err (Ok top) result Closing P Q ends said so = subst (λ r. OnErr r Q) (sym ends.1) tt
+ended_err (Err e) result Closing P Q ends said so = subst (λ r. OnErr r Q) (sym ends.1) (so ends.0 said ends.2)
 
 pub both_err : (r : Result Status AllocError) (P Q : Type 0) → OnErr r P → OnErr r Q → OnErr r (P × Q)
 both_err (Ok top) P Q first second = tt

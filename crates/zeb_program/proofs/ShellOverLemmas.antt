@@ -15,7 +15,7 @@ use Rattle.zeb_program.specs.Lines.{first_line, after_first_line}
 use Rattle.zeb_program.specs.PrivateLines.{whole_first_line}
 use Rattle.zeb_program.specs.declared.lines.Line.TheVariants.{Bad}
 use Rattle.zeb_program.proofs.AnswerLemmas.{IsAnswered, answered_all, answered_line, answered_start}
-use Rattle.zeb_program.proofs.OverLemmas.{still}
+use Rattle.zeb_program.proofs.OverLemmas.{alone as untouched}
 use Rattle.zeb_program.proofs.WholeLineLemmas.{after_whole, first_of_whole, left_after_line, line_is_text}
 use Rattle.zeb_program.specs.declared.statuses.Status.{Status}
 use Rattle.zeb_program.specs.Statuses.{greater}
@@ -26,7 +26,7 @@ pub no_text_over : {S : Type 0} (g : Ghosts S) (told : List ℕ → Option (List
     → ¬ IsUtf8 bytes → status ≡ Misused → Appends wrote writes (bad_line number) → after_first_line bytes ≡ []
     → Writes wrote writes (λ written. LineOver g told format c number (first_line bytes) old written status old)
 no_text_over g told format c number bytes old wrote writes status other misused grew alone =
-    (bad_line number, (Bad, inr (λ text. other (line_is_text bytes alone text), refl), (refl, misused, still (state g old))), grew)
+    (bad_line number, (Bad, inr (λ text. other (line_is_text bytes alone text), refl), (refl, misused, untouched (state g old))), grew)
 
 module _ {X : Type 0} (Answers : ℕ → List ℕ → X → List ℕ → Status → X → Type 0) where
   -- text is answered as its line

@@ -9,14 +9,14 @@ use Rattle.zeb_change.specs.Conditions.{Conditions}
 use Rattle.zeb_image.specs.Holdings.{Holdings}
 use Rattle.zeb_register.specs.Formats.{Format}
 use Rattle.zeb_program.specs.Answers.{AnswersAsTold, AnswersLines, EachLine}
-use Rattle.zeb_program.specs.Doing.{RunsText, ServesText, StopsText, all_served, first_served}
+use Rattle.zeb_program.specs.Doing.{KeepsUnread, RunsText, ServesText, StopsText, all_served, first_served}
 use Rattle.zeb_program.specs.FaultLines.{unread_lines}
 use Rattle.zeb_program.specs.InputCauses.{EndsInLine, is_failed_read}
 use Rattle.zeb_program.specs.OverTables.{LineOver}
 use Rattle.zeb_program.specs.declared.line_input.InputCause.{InputCause}
 use Rattle.zeb_program.specs.declared.line_input.InputCause.TheVariants.{LongLine, FailedRead}
 use Rattle.zeb_program.specs.declared.line_input.LineFault.{LineFault}
-use Rattle.zeb_program.specs.declared.line_input.LineFault.TheVariants.{Unreadable}
+use Rattle.zeb_program.specs.declared.line_input.LineFault.TheVariants.{Unreadable, Memory}
 use Rattle.zeb_program.specs.declared.statuses.Status.{Status}
 use Rattle.zeb_program.specs.declared.statuses.Status.TheVariants.{Failed}
 use Rattle.zeb_program.proofs.AnswerLemmas.{answered_lines}
@@ -36,45 +36,49 @@ module _ {S : Type 0} (g : Ghosts S) (told : List ℕ → Option (List ℕ)) (fo
   }
 
   -- a line can't be read, or isn't answered
-  pub text_stopped : (why : LineFault) (wrote writes first left later : Option (List ℕ)) (n : ℕ) (greatest : Status) (old now : Held S) → IfSome left (λ rest. EndsInLine 16777216 why rest later)
+  pub text_stopped : (why : LineFault) (wrote writes first left later : Option (List ℕ)) (n : ℕ) (greatest : Status) (old now new : Held S) → KeepsUnread why now new → IfSome left (λ rest. EndsInLine 16777216 why rest later)
       → Goes (LineOver g told format c) wrote writes first left n greatest old now → Serves told c (state g old) (state g now) wrote writes first left n greatest
-      → IfSome first (λ text. StopsText g told format c why text later wrote writes old)
-  text_stopped why wrote writes None left later n greatest old now ends goes serves = tt
-  text_stopped why wrote writes (Some text) None later n greatest old now ends goes serves = absurd goes
-  text_stopped why wrote writes (Some text) (Some rest) later n greatest old now ends goes serves = record {
+      → IfSome first (λ text. StopsText g told format c why text later wrote writes old new)
+  text_stopped why wrote writes None left later n greatest old now new keeps ends goes serves = tt
+  text_stopped why wrote writes (Some text) None later n greatest old now new keeps ends goes serves = absurd goes
+  text_stopped why wrote writes (Some text) (Some rest) later n greatest old now new keeps ends goes serves = record {
     rest = rest;
+    last = now;
     first = record {
-      over = let w = answered_lines (LineOver g told format c) wrote writes 0 text old n rest greatest now goes in (w.0, (greatest, now, w.1), w.2);
-      answers = λ before keeps.
-          let here = serves before keeps in
+      over = let w = answered_lines (LineOver g told format c) wrote writes 0 text old n rest greatest now goes in (w.0, (greatest, w.1), w.2);
+      answers = λ before held.
+          let here = serves before held in
           let w = answered_lines (AnswersAsTold told c) wrote writes 0 text before n rest greatest here.0 here.2 in
           (w.0, (greatest, here.0, w.1), w.2);
     };
     ends = ends;
+    keeps = keeps;
   }
 
   -- the same, by what the shell is given for it
-  pub text_failure : {T : Type 0} (r : Result T LineFault) (why : LineFault) (wrote writes first left later : Option (List ℕ)) (n : ℕ) (greatest : Status) (old now : Held S) (failed : Bool) (Clean : Type 0)
-      → IfErr r (λ given. given ≡ why) → IfSome left (λ rest. EndsInLine 16777216 why rest later) → (failed ≡ false → Clean → Goes (LineOver g told format c) wrote writes first left n greatest old now)
+  pub text_failure : {T : Type 0} (r : Result T LineFault) (why : LineFault) (wrote writes first left later : Option (List ℕ)) (n : ℕ) (greatest : Status) (old now new : Held S) (failed : Bool) (Clean : Type 0)
+      → IfErr r (λ given. given ≡ why) → KeepsUnread why now new → IfSome left (λ rest. EndsInLine 16777216 why rest later) → (failed ≡ false → Clean → Goes (LineOver g told format c) wrote writes first left n greatest old now)
       → (failed ≡ false → Clean → Serves told c (state g old) (state g now) wrote writes first left n greatest)
-      → IfErr r (λ given. failed ≡ false → Clean → IfSome first (λ text. StopsText g told format c given text later wrote writes old))
-  text_failure (Ok x) why wrote writes first left later n greatest old now failed Clean is ends goes serves = tt
-  text_failure (Err given) why wrote writes first left later n greatest old now failed Clean is ends goes serves = λ sound clean.
-      subst (λ it. IfSome first (λ text. StopsText g told format c it text later wrote writes old)) (sym is)
-      (text_stopped why wrote writes first left later n greatest old now ends (goes sound clean) (serves sound clean))
+      → IfErr r (λ given. failed ≡ false → Clean → IfSome first (λ text. StopsText g told format c given text later wrote writes old new))
+  text_failure (Ok x) why wrote writes first left later n greatest old now new failed Clean is keeps ends goes serves = tt
+  text_failure (Err given) why wrote writes first left later n greatest old now new failed Clean is keeps ends goes serves = λ sound clean.
+      subst (λ it. IfSome first (λ text. StopsText g told format c it text later wrote writes old new)) (sym is)
+      (text_stopped why wrote writes first left later n greatest old now new keeps ends (goes sound clean) (serves sound clean))
 
   -- ---- what is passed on stays what it was
 
-  pub StopsText-kept : (why : LineFault) (text : List ℕ) (left old mid new : Option (List ℕ)) (first : Held S) → Keeps mid new
-      → StopsText g told format c why text left old mid first → StopsText g told format c why text left old new first
-  StopsText-kept why text left old mid new first same stops = record {
+  pub StopsText-kept : (why : LineFault) (text : List ℕ) (left old mid new : Option (List ℕ)) (first last : Held S) → Keeps mid new
+      → StopsText g told format c why text left old mid first last → StopsText g told format c why text left old new first last
+  StopsText-kept why text left old mid new first last same stops = record {
     rest = stops.rest;
+    last = stops.last;
     first = record {
-      over = Writes-kept old mid new (λ bytes. (status : Status) × (last : Held S) × EachLine (LineOver g told format c) 0 text first bytes status stops.rest last) same stops.first.over;
+      over = Writes-kept old mid new (λ bytes. (status : Status) × EachLine (LineOver g told format c) 0 text first bytes status stops.rest stops.last) same stops.first.over;
       answers = λ before keeps.
           Writes-kept old mid new (λ bytes. (status : Status) × (last : Option Holdings) × AnswersLines told c 0 text before bytes status stops.rest last) same (stops.first.answers before keeps);
     };
     ends = stops.ends;
+    keeps = stops.keeps;
   }
 
   pub ServesText-kept : (text : List ℕ) (left : Option (List ℕ)) (failed : Bool) (old mid new fault_old fault_new : Option (List ℕ)) (status : Status) (first last : Held S) → Keeps mid new
@@ -82,7 +86,7 @@ module _ {S : Type 0} (g : Ghosts S) (told : List ℕ → Option (List ℕ)) (fo
   ServesText-kept text left failed old mid new fault_old fault_new status first last same (all_served runs end read quiet) =
       all_served (RunsText-kept g told format c 0 text old mid new status first last same runs) end read quiet
   ServesText-kept text left failed old mid new fault_old fault_new status first last same (first_served cause stops is grew ends) =
-      first_served cause (StopsText-kept (Unreadable cause) text left old mid new first same stops) is grew ends
+      first_served cause (StopsText-kept (Unreadable cause) text left old mid new first last same stops) is grew ends
 
   -- ---- what is told of it
 
@@ -94,10 +98,25 @@ module _ {S : Type 0} (g : Ghosts S) (told : List ℕ → Option (List ℕ)) (fo
   served_all (Some text) left failed output_failed old new wrote writes fault status runs (inr end) sound read = all_served runs end read (Keeps-refl fault)
 
   pub served_part : (cause : InputCause) (first left : Option (List ℕ)) (failed : Bool) (old new : Held S) (wrote writes fault_old fault_new : Option (List ℕ))
-      → IfSome first (λ text. StopsText g told format c (Unreadable cause) text left wrote writes old) → failed ≡ is_failed_read cause → Appends fault_old fault_new (unread_lines cause)
+      → IfSome first (λ text. StopsText g told format c (Unreadable cause) text left wrote writes old new) → failed ≡ is_failed_read cause → Appends fault_old fault_new (unread_lines cause)
       → IfSome first (λ text. ServesText g told format c text left failed wrote writes fault_old fault_new Failed old new)
   served_part cause None left failed old new wrote writes fault_old fault_new stops is grew = tt
   served_part cause (Some text) left failed old new wrote writes fault_old fault_new stops is grew = first_served cause stops is grew refl
+
+-- a line that can't be read, or isn't answered, by the fault that is given for it
+unread : {S : Type 0} (why : LineFault) (held : Held S) → KeepsUnread why held held
+unread (Unreadable cause) held = refl
+unread Memory held = tt
+
+pub given_unread : {S T : Type 0} (r : Result T LineFault) (why : LineFault) (old new : Option (List ℕ)) (held : Held S) → IfErr r (λ given. given ≡ why) → IfSome old (λ left. EndsInLine 16777216 why left new)
+    → IfErr r (λ given. KeepsUnread given held held × IfSome old (λ left. EndsInLine 16777216 given left new))
+given_unread (Ok value) why old new held is ends = tt
+given_unread (Err given) why old new held is ends = (unread given held, subst (λ it. IfSome old (λ left. EndsInLine 16777216 it left new)) (sym is) ends)
+
+pub given_stops : {S T : Type 0} (r : Result T LineFault) (old new : Option (List ℕ)) (held last : Held S) → IfErr r (λ given. given ≡ Memory) → IfSome old (λ left. EndsInLine 16777216 Memory left new)
+    → IfErr r (λ given. KeepsUnread given held last × IfSome old (λ left. EndsInLine 16777216 given left new))
+given_stops (Ok value) old new held last is ends = tt
+given_stops (Err given) old new held last is ends = subst (λ it. KeepsUnread it held last × IfSome old (λ left. EndsInLine 16777216 it left new)) (sym is) (tt, ends)
 
 -- whether a read failed, by what is answered
 pub read_sound : {T : Type 0} (failed : Bool) (r : Result T LineFault) (value : T) → (r ≡ Err (Unreadable FailedRead)) ↔ (failed ≡ true) → r ≡ Ok value → failed ≡ false

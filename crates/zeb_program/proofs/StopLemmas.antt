@@ -32,15 +32,15 @@ kept_by shows old new same = subst (λ t. Keeps (shows old) (shows t)) (sym same
 -- its lines, on the register in the store
 part_kept : {S : Type 0} (at : Places S) (profile : List Directive) (text : List ℕ) (tells : List ℕ → Option (List ℕ)) (c : Conditions) (held : Held S) (n : ℕ) (old new fault_old fault_new : Option (List ℕ))
     → n ≡ 0 → tells ≡ at.tells → AreScriptConditions profile c → TakesStore at profile held
-    → StopsIn at.store tells c n text held old new fault_old fault_new → StopsLines at profile text old new fault_old fault_new
+    → StopsIn at.store at.leaves tells c n text held old new fault_old fault_new → StopsLines at profile text old new fault_old fault_new
 part_kept at profile text tells c held n old new fault_old fault_new first same under takes stops =
-    let r = subst (λ t. StopsIn at.store t c 0 text held old new fault_old fault_new) same (subst (λ k. StopsIn at.store tells c k text held old new fault_old fault_new) first stops) in
+    let r = subst (λ t. StopsIn at.store at.leaves t c 0 text held old new fault_old fault_new) same (subst (λ k. StopsIn at.store at.leaves tells c k text held old new fault_old fault_new) first stops) in
     let whole = r.1 in
-    part_on_store c r.0 under (from_taken at profile held whole.last (λ first _. Stops (state at.store first) old new (AnswersPart at.tells c 0 text)) takes whole.clean whole.lines) whole.closes
+    part_on_store c r.0 under (from_taken at profile r.0 held whole.last (λ first _. Stops (state at.store first) old new (AnswersPart at.tells c 0 text)) takes whole.clean whole.lines whole.ends) whole.closes
 
 pub stop_kept : {S : Type 0} (at : Places S) (profile : List Directive) (text : List ℕ) (tells : List ℕ → Option (List ℕ)) (c : Conditions) (held : Held S) (n : ℕ) (old new fault_old fault_new : Option (List ℕ)) (failed fault_failed : Bool) (r : Result Status AllocError)
     → n ≡ 0 → tells ≡ at.tells → AreScriptConditions profile c → TakesStore at profile held
-    → OnErr r (failed ≡ false → fault_failed ≡ false → StopsIn at.store tells c n text held old new fault_old fault_new)
+    → OnErr r (failed ≡ false → fault_failed ≡ false → StopsIn at.store at.leaves tells c n text held old new fault_old fault_new)
     → OnErr r (failed ≡ false → fault_failed ≡ false → StopsLines at profile text old new fault_old fault_new)
 stop_kept at profile text tells c held n old new fault_old fault_new failed fault_failed (Ok status) first same under takes stops = tt
 stop_kept at profile text tells c held n old new fault_old fault_new failed fault_failed (Err e) first same under takes stops = λ sound quiet.
@@ -74,17 +74,17 @@ stop_unread at config given old shows fault_old fault_new failed fault_failed (E
 -- ---- a shell
 
 serving_kept : {S : Type 0} (at : Places S) (config : String Global) (tells : List ℕ → Option (List ℕ)) (c : Conditions) (held : Held S) (given left old new fault_old fault_new : Option (List ℕ))
-    → tells ≡ at.tells → OpensUnder at config c held → StopsServing at.store tells c given left held old new fault_old fault_new → StopsShell at config given left old new fault_old fault_new
+    → tells ≡ at.tells → OpensUnder at config c held → StopsServing at.store at.leaves tells c given left held old new fault_old fault_new → StopsShell at config given left old new fault_old fault_new
 serving_kept at config tells c held given left old new fault_old fault_new same under stops =
-    let s = subst (λ t. StopsServing at.store t c given left held old new fault_old fault_new) same stops in
+    let s = subst (λ t. StopsServing at.store at.leaves t c given left held old new fault_old fault_new) same stops in
     let takes = under.3 in
     let whole = s.1 in
     shell_part under.0 c s.0 under.1 under.2
-    (from_taken at under.0 held whole.last (λ first _. IfSome given (λ text. StopsText at.store at.tells packed_blocks c Starved text left old new first)) takes whole.clean whole.lines)
+    (from_taken at under.0 s.0 held whole.last (λ first last. IfSome given (λ text. StopsText at.store at.tells packed_blocks c Starved text left old new first last)) takes whole.clean whole.lines whole.ends)
     whole.closes
 
 pub stop_serving : {S : Type 0} (at : Places S) (config : String Global) (tells : List ℕ → Option (List ℕ)) (c : Conditions) (held : Held S) (given left old new fault_old fault_new : Option (List ℕ)) (failed fault_failed : Bool) (r : Result Status AllocError)
-    → tells ≡ at.tells → OpensUnder at config c held → OnErr r (failed ≡ false → fault_failed ≡ false → StopsServing at.store tells c given left held old new fault_old fault_new)
+    → tells ≡ at.tells → OpensUnder at config c held → OnErr r (failed ≡ false → fault_failed ≡ false → StopsServing at.store at.leaves tells c given left held old new fault_old fault_new)
     → OnErr r (failed ≡ false → fault_failed ≡ false → StopsShell at config given left old new fault_old fault_new)
 stop_serving at config tells c held given left old new fault_old fault_new failed fault_failed (Ok status) same under stops = tt
 stop_serving at config tells c held given left old new fault_old fault_new failed fault_failed (Err e) same under stops = λ sound quiet.
@@ -101,7 +101,7 @@ StopsLines-kept : {S : Type 0} (at : Places S) (profile : List Directive) (text 
     → StopsLines at profile text old mid fault_old fault_mid → StopsLines at profile text old new fault_old fault_new
 StopsLines-kept at profile text old mid new fault_old fault_mid fault_new stays fault_stays (part_on_store c closed under from closes) =
     part_on_store c closed under
-    (from_kept at profile (λ first _. Stops (state at.store first) old mid (AnswersPart at.tells c 0 text)) (λ first _. Stops (state at.store first) old new (AnswersPart at.tells c 0 text))
+    (from_kept at profile closed (λ first _. Stops (state at.store first) old mid (AnswersPart at.tells c 0 text)) (λ first _. Stops (state at.store first) old new (AnswersPart at.tells c 0 text))
     (λ first last stops before keeps. Writes-kept old mid new (AnswersPart at.tells c 0 text before) stays (stops before keeps)) from)
     (TellsClosed-kept fault_old fault_mid fault_new closed fault_stays closes)
 StopsLines-kept at profile text old mid new fault_old fault_mid fault_new stays fault_stays (part_in_memory lacks unmade quiet stopped) =
@@ -122,8 +122,8 @@ StopsShell-kept at config given left old mid new fault_old fault_mid fault_new s
     shell_silent (Keeps-trans old mid new same stays) (Keeps-trans fault_old fault_mid fault_new quiet fault_stays)
 StopsShell-kept at config given left old mid new fault_old fault_mid fault_new stays fault_stays (shell_part profile c closed read under from closes) =
     shell_part profile c closed read under
-    (from_kept at profile (λ first _. IfSome given (λ text. StopsText at.store at.tells packed_blocks c Starved text left old mid first))
-    (λ first _. IfSome given (λ text. StopsText at.store at.tells packed_blocks c Starved text left old new first))
-    (λ first _. some_kept given (λ text. StopsText at.store at.tells packed_blocks c Starved text left old mid first) (λ text. StopsText at.store at.tells packed_blocks c Starved text left old new first)
-    (λ text. StopsText-kept at.store at.tells packed_blocks c Starved text left old mid new first stays)) from)
+    (from_kept at profile closed (λ first last. IfSome given (λ text. StopsText at.store at.tells packed_blocks c Starved text left old mid first last))
+    (λ first last. IfSome given (λ text. StopsText at.store at.tells packed_blocks c Starved text left old new first last))
+    (λ first last. some_kept given (λ text. StopsText at.store at.tells packed_blocks c Starved text left old mid first last) (λ text. StopsText at.store at.tells packed_blocks c Starved text left old new first last)
+    (λ text. StopsText-kept at.store at.tells packed_blocks c Starved text left old mid new first last stays)) from)
     (TellsClosed-kept fault_old fault_mid fault_new closed fault_stays closes)

@@ -17,7 +17,7 @@ use Rattle.zeb_image.specs.NameOf.{name_bytes}
 use Rattle.zeb_image.specs.declared.names.DbName.{DbName}
 use Rattle.zeb_program.specs.Answers.{ChangesBy}
 use Rattle.zeb_program.specs.PrivateFaults.{IsUnread}
-use Rattle.zeb_program.specs.FaultAnswers.{IsUnreadable, NamesUnder}
+use Rattle.zeb_program.specs.FaultAnswers.{IsUnreadWhole, NamesUnder}
 use Rattle.zeb_program.specs.OverTables.{AnalysesOver, IsAnalysisOver}
 use Rattle.zeb_program.specs.PrivateServing.{StandsFor}
 use Rattle.zeb_program.specs.Serving.{AnswersFrom, ServesTask}
@@ -48,7 +48,7 @@ module _ (c : Conditions) (told : List ℕ → Option (List ℕ)) (paths files :
       by (inl is) = inl (subst (λ texts. IsAnalysed c.profile c.limits.records texts (answer_of answer)) (over.these files known) is, refl)
       by (inr is) = inr (subst (λ (it : Result Reply Refusal). IsFailure (answer_of it)) (sym is) (inr refl), refl)
 
-  pub analysed_files : (held : State) (r : Result Reply Fault) → AnalysesOver told c.profile c.limits.records paths r → AnswersFrom held held r (AnalysesFiles c files) ⊎ IsUnreadable r
+  pub analysed_files : (held : State) (r : Result Reply Fault) → AnalysesOver told c.profile c.limits.records paths r → AnswersFrom held held r (AnalysesFiles c files) ⊎ IsUnreadWhole told r
   analysed_files held r (inl unread) = inr unread
   analysed_files held (Ok reply) (inr over) = inl (λ before keeps. (before, analysed (Ok reply) before over, keeps))
   analysed_files held (Err (fault.Refused refusal)) (inr over) = inl (λ before keeps. (before, analysed (Err refusal) before over, keeps))
@@ -69,11 +69,11 @@ module _ (told : List ℕ → Option (List ℕ)) (c : Conditions) (task : Task) 
       (λ files known. inl (gives files (subst (λ items. AreTold told (map string_bytes items) files) (sym same) known)))
 
   pub analysed_task : (paths : Vec (String Global) Global) (named : List (String Global)) → task ≡ Analyse paths → named ≡ paths.items
-      → ((files : List (List ℕ)) → AreTold told (map string_bytes named) files → AnswersFrom old new r (AnalysesFiles c files) ⊎ IsUnreadable r) → ServesTask told c task old new r
+      → ((files : List (List ℕ)) → AreTold told (map string_bytes named) files → AnswersFrom old new r (AnalysesFiles c files) ⊎ IsUnreadWhole told r) → ServesTask told c task old new r
   analysed_task paths named is same gives = subst (λ t. ServesTask told c t old new r) (sym is)
       (λ files known. given files (gives files (subst (λ items. AreTold told (map string_bytes items) files) (sym same) known)))
     where
-      given : (files : List (List ℕ)) → AnswersFrom old new r (AnalysesFiles c files) ⊎ IsUnreadable r → AnswersFrom old new r (AnalysesFiles c files) ⊎ (Unit {0} × IsUnreadable r)
+      given : (files : List (List ℕ)) → AnswersFrom old new r (AnalysesFiles c files) ⊎ IsUnreadWhole told r → AnswersFrom old new r (AnalysesFiles c files) ⊎ (Unit {0} × IsUnreadWhole told r)
       given files (inl h) = inl h
       given files (inr h) = inr (tt, h)
 

@@ -1,12 +1,14 @@
 -- Records that don't say that they are in Unicode: what is left of a file.
-use Rattle.std.proofs.Common.{◌≡◌, ℕ, ◌<◌, true, false, List, [], ◌∷◌, ◌++◌, length, refl, ap, subst, arith}
+use Rattle.std.proofs.Common.{◌≡◌, ◌∙◌, ℕ, ◌<◌, true, false, List, [], ◌∷◌, ◌++◌, Vec, length, refl, ap, subst, sym, arith}
 use Rattle.std.specs.Prelude.{Option, Some, Result, Ok, Err, IfOk, is_some}
+use Rattle.std.specs.declared.alloc.Global.{Global}
 use Rattle.std.proofs.lemmas.List.{length-append}
+use Rattle.zeb_analysis.specs.declared.lines.AnalysedLines.{AnalysedLines}
 use Rattle.zeb_marc.specs.declared.faults.MarcFault.{MarcFault}
 use Rattle.zeb_marc.specs.Splits.{Gives, Next, at_end, a_slice, a_fault, next_of, split_of}
 use Rattle.zeb_marc.proofs.SplitLaws.{NextIs, SoundSlice-from_checks, next_view, split_of-next}
 use Rattle.zeb_program.specs.TaskAnswers.{ReadsWhole}
-use Rattle.zeb_program.specs.PrivateWarnings.{IsServedFor, MayWarn, warning_of}
+use Rattle.zeb_program.specs.PrivateWarnings.{IsServedFor, MayWarn, warned_in, warning_of}
 use Rattle.zeb_program.specs.declared.faults.Fault.{Fault}
 use Rattle.zeb_program.specs.declared.tasks.Served.{Served}
 use Rattle.zeb_program.specs.declared.tasks.Served.TheVariants.{Replied, Shown}
@@ -45,6 +47,12 @@ none_at_fault text (a_fault fault) why kept left is h = rw (split_of-next text, 
 pub warned : (task : Task) (places : List Place) (records : ℕ) → ReadsWhole task → MayWarn task (warning_of places records)
 warned task [] records reads = tt
 warned task (first ∷ others) records reads = (reads, (length (first ∷ others), records, first, refl))
+
+-- the line is that of the records which were read
+pub shown_warned : (served : Result Served Fault) (lines : AnalysedLines) (unmarked : Vec Place Global) (told : Option (List ℕ)) (places : List Place) (records : ℕ) → served ≡ Ok (Shown lines unmarked)
+    → places ≡ unmarked.items → records ≡ lines.records → told ≡ warning_of places records → IfOk served (λ it. told ≡ warned_in it)
+shown_warned served lines unmarked told places records is same count said =
+    subst (λ it. IfOk it (λ one. told ≡ warned_in one)) (sym is) (said ∙ ap (λ these. warning_of these records) same ∙ ap (warning_of unmarked.items) count)
 
 -- an analysis may be answered by lines
 pub served_whole : (task : Task) (r : Result Served Fault) → ReadsWhole task → IfOk r (IsServedFor task)

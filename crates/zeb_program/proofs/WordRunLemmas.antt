@@ -9,7 +9,6 @@ use Rattle.sqlite.specs.Held.{Held, state}
 use Rattle.sqlite.specs.State.{HasCleanDisk, State}
 use Rattle.zeb_change.specs.Conditions.{Conditions}
 use Rattle.zeb_change.specs.declared.refusals.Refusal.{Refusal}
-use Rattle.zeb_engine.specs.Crashes.{Bears}
 use Rattle.zeb_engine.specs.declared.commands.Command.TheVariants.{Init}
 use Rattle.zeb_engine.specs.declared.replies.Reply.{Reply}
 use Rattle.zeb_engine.specs.Replies.{reply_text}
@@ -17,6 +16,7 @@ use Rattle.zeb_image.specs.Holdings.{Holdings, nothing_yet}
 use Rattle.zeb_image.specs.Image.{Keeps as Holding}
 use Rattle.zeb_profile.specs.declared.directives.Directive.{Directive}
 use Rattle.zeb_profile.specs.Indexes.{store_path}
+use Rattle.zeb_paths.specs.declared.causes.Closed.{Closed}
 use Rattle.zeb_paths.specs.declared.paths.OpenFailed.{OpenFailed}
 use Rattle.zeb_program.specs.declared.input.InputFault.{InputFault}
 use Rattle.zeb_program.specs.declared.input.InputFault.TheVariants.{Unreadable, Memory as Starved}
@@ -32,22 +32,22 @@ use Rattle.zeb_program.specs.declared.tasks.Task.TheVariants.{Ask}
 use Rattle.zeb_program.specs.Answers.{Writes}
 use Rattle.zeb_register.specs.Formats.{packed_blocks}
 use Rattle.zeb_program.specs.Doing.{DoesTask, RunsText, ServesText}
-use Rattle.zeb_program.specs.FaultAnswers.{GivesAnswer, IsOpeningFailure, IsUnreadable, NamesUnder}
+use Rattle.zeb_program.specs.FaultAnswers.{GivesAnswer, IsOpeningFailure, IsUnreadWhole, NamesUnder}
 use Rattle.zeb_program.specs.OverTables.{TaskOver}
 use Rattle.zeb_program.specs.FaultLines.{IsUnclosed, TellsFailure}
 use Rattle.zeb_program.specs.Inputs.{IsInput}
 use Rattle.zeb_program.specs.PrivateFaults.{IsOpeningFault}
 use Rattle.zeb_program.specs.PrivateServing.{StandsFor}
 use Rattle.zeb_program.specs.Serving.{AnswersFrom, ServesTask}
-use Rattle.zeb_program.specs.PrivateWordRuns.{GivesFor, IsOwnOr, OpensUnder, RunsIn, RunsOnNothing, ServesIn, ServesOnNothing, TakesStore, TellsDone}
-use Rattle.zeb_program.specs.Registers.{FromStore, LacksStore, kept, none, Places}
+use Rattle.zeb_program.specs.PrivateWordRuns.{GivesClosed, GivesFor, IsOwnOr, OpensUnder, RunsIn, RunsOnNothing, ServesIn, ServesOnNothing, TakesStore, TellsDone}
+use Rattle.zeb_program.specs.Registers.{ClosesStore, FromStore, IsTakenOver, LacksStore, kept, none, Places}
 use Rattle.zeb_program.specs.ScriptAnswers.{AnswersStopped, AreScriptConditions, RunsFromNothing}
 use Rattle.zeb_program.specs.TaskAnswers.{AnswersOn, AnswersTask, ReadsWhole, paths_of}
 use Rattle.zeb_program.specs.WordAnswers.{TellsApart, WarnsAtMost}
 use Rattle.zeb_program.specs.WordRuns.{IsInputFault, IsText, Performs, ReadsAt, RunsBatch, batch_stopped, batch_ran, RunsLines, on_store, in_memory, no_register, RunsShell, shell_stopped, shell_ran}
 use Rattle.zeb_program.specs.WordRuns.{ServesUnder, answered, starved, unopened, StopsOpening, StopsReading, not_opened, TellsClosed, TellsWhy, WritesReply}
 use Rattle.zeb_program.specs.declared.statuses.Status.{Status}
-use Rattle.zeb_program.specs.Statuses.{IsFaultStatus}
+use Rattle.zeb_program.specs.Statuses.{IsFaultStatus, closing_status}
 use Rattle.zeb_program.specs.declared.statuses.Status.TheVariants.{Answered, Failed}
 use Rattle.zeb_program.proofs.ScriptAnswerLemmas.{RunsFromNothing-kept, RunsText-kept, Writes-kept, silent_batch}
 use Rattle.zeb_program.proofs.ShellTextLemmas.{ServesText-kept}
@@ -55,8 +55,8 @@ use Rattle.zeb_program.specs.Scripts.{BeginsRegister}
 
 -- ---- what is passed on stays what it was
 
-WritesReply-kept : {S : Type 0} (at : Places S) (config : String Global) (task : Task) (old mid new : Option (List ℕ)) → Keeps mid new → WritesReply at config task old mid → WritesReply at config task old new
-WritesReply-kept at config task old mid new stays w = (w.0, w.1, Appends-kept old mid new (reply_text w.0) w.2 stays)
+WritesReply-kept : {S : Type 0} (at : Places S) (config : String Global) (task : Task) (closed : Status) (old mid new : Option (List ℕ)) → Keeps mid new → WritesReply at config task closed old mid → WritesReply at config task closed old new
+WritesReply-kept at config task closed old mid new stays w = (w.0, w.1, Appends-kept old mid new (reply_text w.0) w.2 stays)
 
 WarnsAtMost-kept : (task : Task) (fault_old fault_mid fault_new : Option (List ℕ)) → Keeps fault_mid fault_new → WarnsAtMost task fault_old fault_mid → WarnsAtMost task fault_old fault_new
 WarnsAtMost-kept task fault_old fault_mid fault_new stays (inl same) = inl (Keeps-trans fault_old fault_mid fault_new same stays)
@@ -67,10 +67,10 @@ WarnsAtMost-kept task fault_old fault_mid fault_new stays (inr warns) =
 pub TellsApart-kept : {S : Type 0} (at : Places S) (config : String Global) (task : Task) (old mid new fault_old fault_mid fault_new : Option (List ℕ)) (status : Status) → Keeps mid new → Keeps fault_mid fault_new
     → TellsApart at config task old mid fault_old fault_mid status → TellsApart at config task old new fault_old fault_new status
 TellsApart-kept at config task old mid new fault_old fault_mid fault_new status stays fault_kept (inl t) =
-    inl (t.0, WritesReply-kept at config task old mid new stays t.1, WarnsAtMost-kept task fault_old fault_mid fault_new fault_kept t.2)
+    inl (t.0, WritesReply-kept at config task status old mid new stays t.1, WarnsAtMost-kept task fault_old fault_mid fault_new fault_kept t.2)
 TellsApart-kept at config task old mid new fault_old fault_mid fault_new status stays fault_kept (inr (inl t)) =
     let warns = t.2 in
-    inr (inl (t.0, WritesReply-kept at config task old mid new stays t.1, (warns.0, warns.1, Writes-kept warns.0 fault_mid fault_new IsUnclosed fault_kept warns.2)))
+    inr (inl (t.0, WritesReply-kept at config task status old mid new stays t.1, (warns.0, warns.1, Writes-kept warns.0 fault_mid fault_new IsUnclosed fault_kept warns.2)))
 TellsApart-kept at config task old mid new fault_old fault_mid fault_new status stays fault_kept (inr (inr t)) =
     inr (inr (t.0, Keeps-trans old mid new t.1 stays, Writes-kept fault_old fault_mid fault_new (TellsWhy at config task status) fault_kept t.2))
 
@@ -79,33 +79,36 @@ TellsClosed-kept old mid new status stays (inl t) = inl (t.0, Keeps-trans old mi
 TellsClosed-kept old mid new status stays (inr t) = inr (t.0, Writes-kept old mid new IsUnclosed stays t.1)
 
 -- what is said of a store's tables
-pub from_kept : {S : Type 0} (at : Places S) (profile : List Directive) (P Q : Held S → Held S → Type 0) → ((first last : Held S) → P first last → Q first last) → FromStore at profile P → FromStore at profile Q
-from_kept at profile P Q so from = record {
+pub from_kept : {S : Type 0} (at : Places S) (profile : List Directive) (closed : Status) (P Q : Held S → Held S → Type 0) → ((first last : Held S) → P first last → Q first last) → FromStore at profile closed P
+    → FromStore at profile closed Q
+from_kept at profile closed P Q so from = record {
   opened = from.opened;
   taken = from.taken;
   last = from.last;
   opens = from.opens;
   takes = from.takes;
   does = λ clean. so from.taken from.last (from.does clean);
+  ends = from.ends;
 }
 
--- of the store that was taken over
-pub from_taken : {S : Type 0} (at : Places S) (profile : List Directive) (held last : Held S) (P : Held S → Held S → Type 0) → TakesStore at profile held
-    → (HasCleanDisk (state at.store last) → HasCleanDisk (state at.store held)) → (HasCleanDisk (state at.store last) → P held last) → FromStore at profile P
-from_taken at profile held last P takes clean does = record {
+-- of the store that was taken over, and then closed
+pub from_taken : {S : Type 0} (at : Places S) (profile : List Directive) (closed : Status) (held last : Held S) (P : Held S → Held S → Type 0) → TakesStore at profile held
+    → (HasCleanDisk (state at.store last) → HasCleanDisk (state at.store held)) → (HasCleanDisk (state at.store last) → P held last) → ClosesStore at.store at.leaves last closed → FromStore at profile closed P
+from_taken at profile closed held last P takes clean does ends = record {
   opened = takes.0;
   taken = held;
   last = last;
   opens = takes.1;
   takes = λ whole. takes.2 (clean whole);
   does = does;
+  ends = ends;
 }
 
 RunsLines-kept : {S : Type 0} (at : Places S) (profile : List Directive) (text : List ℕ) (old mid new fault_old fault_mid fault_new : Option (List ℕ)) (status : Status) → Keeps mid new → Keeps fault_mid fault_new
     → RunsLines at profile text old mid fault_old fault_mid status → RunsLines at profile text old new fault_old fault_new status
 RunsLines-kept at profile text old mid new fault_old fault_mid fault_new _ same fault_same (on_store c here closed under from closes) =
     on_store c here closed under
-    (from_kept at profile (RunsText at.store at.tells packed_blocks c 0 text old mid here) (RunsText at.store at.tells packed_blocks c 0 text old new here) (λ first last. RunsText-kept at.store at.tells packed_blocks c 0 text old mid new here first last same) from)
+    (from_kept at profile closed (RunsText at.store at.tells packed_blocks c 0 text old mid here) (RunsText at.store at.tells packed_blocks c 0 text old new here) (λ first last. RunsText-kept at.store at.tells packed_blocks c 0 text old mid new here first last same) from)
     (TellsClosed-kept fault_old fault_mid fault_new closed fault_same closes)
 RunsLines-kept at profile text old mid new fault_old fault_mid fault_new status same fault_same (in_memory lacks unmade quiet opened) =
     in_memory lacks unmade (Keeps-trans fault_old fault_mid fault_new quiet fault_same) (RunsFromNothing-kept at.tells profile 0 text old mid new status same opened)
@@ -126,11 +129,11 @@ some_kept (Some text) P Q so h = so text h
 
 pub RunsShell-kept : {S : Type 0} (at : Places S) (config : String Global) (given left : Option (List ℕ)) (failed : Bool) (old mid new fault_old fault_mid fault_new : Option (List ℕ)) (status : Status) → Keeps mid new → Keeps fault_mid fault_new
     → RunsShell at config given left failed old mid fault_old fault_mid status → RunsShell at config given left failed old new fault_old fault_new status
-RunsShell-kept at config given left failed old mid new fault_old fault_mid fault_new status same fault_same (shell_stopped why is quiet tells) =
-    shell_stopped why is (Keeps-trans old mid new quiet same) (Writes-kept fault_old fault_mid fault_new (λ bytes. TellsFailure why bytes status) fault_same tells)
+RunsShell-kept at config given left failed old mid new fault_old fault_mid fault_new status same fault_same (shell_stopped why is unread quiet tells) =
+    shell_stopped why is unread (Keeps-trans old mid new quiet same) (Writes-kept fault_old fault_mid fault_new (λ bytes. TellsFailure why bytes status) fault_same tells)
 RunsShell-kept at config given left failed old mid new fault_old fault_mid fault_new _ same fault_same (shell_ran profile c between here closed read under from closes) =
     shell_ran profile c between here closed read under
-    (from_kept at profile (λ first last. IfSome given (λ text. ServesText at.store at.tells packed_blocks c text left failed old mid fault_old between here first last))
+    (from_kept at profile closed (λ first last. IfSome given (λ text. ServesText at.store at.tells packed_blocks c text left failed old mid fault_old between here first last))
     (λ first last. IfSome given (λ text. ServesText at.store at.tells packed_blocks c text left failed old new fault_old between here first last))
     (λ first last. some_kept given (λ text. ServesText at.store at.tells packed_blocks c text left failed old mid fault_old between here first last) (λ text. ServesText at.store at.tells packed_blocks c text left failed old new fault_old between here first last)
     (λ text. ServesText-kept at.store at.tells packed_blocks c text left failed old mid new fault_old between here first last same)) from)
@@ -139,38 +142,54 @@ RunsShell-kept at config given left failed old mid new fault_old fault_mid fault
 -- ---- a task
 
 -- a task that has its own answer, or memory ran out in the program itself
-own_served : {S : Type 0} (at : Places S) (profile : List Directive) (task : Task) (own answer : Result Reply Fault) → IsOwnOr answer own → ServesUnder at profile task own → ServesUnder at profile task answer
-own_served at profile task own answer (inl is) serves = subst (ServesUnder at profile task) (sym is) serves
-own_served at profile task own answer (inr is) serves = subst (ServesUnder at profile task) (sym is) starved
+own_served : {S : Type 0} (at : Places S) (profile : List Directive) (task : Task) (closed : Status) (own answer : Result Reply Fault) → IsOwnOr answer own → ServesUnder at profile task closed own → ServesUnder at profile task closed answer
+own_served at profile task closed own answer (inl is) serves = subst (ServesUnder at profile task closed) (sym is) serves
+own_served at profile task closed own answer (inr is) serves = subst (ServesUnder at profile task closed) (sym is) starved
 
 -- a task on the register in the store
-pub answered_kept : {S : Type 0} (at : Places S) (profile : List Directive) (task : Task) (tells : List ℕ → Option (List ℕ)) (c : Conditions) (held last : Held S) (own answer : Result Reply Fault)
+pub answered_kept : {S : Type 0} (at : Places S) (profile : List Directive) (task : Task) (closed : Status) (tells : List ℕ → Option (List ℕ)) (c : Conditions) (held last : Held S) (own answer : Result Reply Fault)
     → tells ≡ at.tells → AreScriptConditions profile c → TakesStore at profile held
     → (HasCleanDisk (state at.store last) → HasCleanDisk (state at.store held)) → (HasCleanDisk (state at.store last) → TaskOver tells packed_blocks c task (state at.store held) (state at.store last) own)
     → (HasCleanDisk (state at.store last) → ServesTask tells c task (state at.store held) (state at.store last) own)
-    → IfErr own (NamesUnder (paths_of task)) → IsOwnOr answer own → ServesUnder at profile task answer
-answered_kept at profile task tells c held last own answer same under takes clean over serves named is =
+    → IfErr own (NamesUnder (paths_of task)) → ClosesStore at.store at.leaves last closed → IsOwnOr answer own → ServesUnder at profile task closed answer
+answered_kept at profile task closed tells c held last own answer same under takes clean over serves named ends is =
     let does : HasCleanDisk (state at.store last) → DoesTask at.store at.tells c task own held last =
     subst (λ t. HasCleanDisk (state at.store last) → DoesTask at.store t c task own held last) same (λ whole. record { over = over whole; names = named; serves = serves whole }) in
-    own_served at profile task own answer is (answered c under (kept (from_taken at profile held last (DoesTask at.store at.tells c task own) takes clean does)))
+    own_served at profile task closed own answer is (answered c under (kept (from_taken at profile closed held last (DoesTask at.store at.tells c task own) takes clean does ends)))
 
 -- what comes of it, by its parts
 pub gives_for : (r : Result Told Failure) (P Q : Result Reply Fault → Type 0) → ((answer : Result Reply Fault) → P answer → Q answer) → GivesFor r P → GivesFor r Q
 gives_for (Ok told) P Q so h = (h.0, h.1, so (Ok h.0) h.2)
 gives_for (Err failure) P Q so h = so (Err failure.fault) h
 
+-- by the status of the close
+pub gives_closed : (r : Result Told Failure) (P Q : Status → Result Reply Fault → Type 0) → ((closed : Status) (answer : Result Reply Fault) → P closed answer → Q closed answer) → GivesClosed r P → GivesClosed r Q
+gives_closed (Ok told) P Q so h = (h.0, h.1, so (closing_status told.closed) (Ok h.0) h.2)
+gives_closed (Err failure) P Q so h = (h.0, so h.0 (Err failure.fault) h.1)
+
+-- where the register is closed so
+pub closes_for : (r : Result Told Failure) (closed : Closed) (P : Result Reply Fault → Type 0) (Q : Status → Result Reply Fault → Type 0) → IfOk r (λ told. told.closed ≡ closed)
+    → ((answer : Result Reply Fault) → P answer → Q (closing_status closed) answer) → GivesFor r P → GivesClosed r Q
+closes_for (Ok told) closed P Q is so h = (h.0, h.1, subst (λ it. Q (closing_status it) (Ok h.0)) (sym is) (so (Ok h.0) h.2))
+closes_for (Err failure) closed P Q is so h = (closing_status closed, so (Err failure.fault) h)
+
+-- where none is
+pub closes_none : (r : Result Told Failure) (P : Result Reply Fault → Type 0) (Q : Status → Result Reply Fault → Type 0) → ((closed : Status) (answer : Result Reply Fault) → P answer → Q closed answer) → GivesFor r P → GivesClosed r Q
+closes_none (Ok told) P Q so h = (h.0, h.1, so (closing_status told.closed) (Ok h.0) h.2)
+closes_none (Err failure) P Q so h = (Answered, so Answered (Err failure.fault) h)
+
 -- a register wasn't opened
-pub unopened_register : {S : Type 0} (at : Places S) (profile : List Directive) (task : Task) (why : Fault) → IsOpeningFault why → ServesUnder at profile task (Err why)
-unopened_register at profile task (fault.Refused why) is = unopened is
-unopened_register at profile task (fault.Profile file why) is = absurd is
-unopened_register at profile task (fault.Unreadable path) is = absurd is
-unopened_register at profile task fault.Memory is = absurd is
+pub unopened_register : {S : Type 0} (at : Places S) (profile : List Directive) (task : Task) (closed : Status) (why : Fault) → IsOpeningFault why → ServesUnder at profile task closed (Err why)
+unopened_register at profile task closed (fault.Refused why) is = unopened is
+unopened_register at profile task closed (fault.Profile file why) is = absurd is
+unopened_register at profile task closed (fault.Unreadable path) is = absurd is
+unopened_register at profile task closed fault.Memory is = absurd is
 
 -- a task on nothing, where no store stands
-pub on_nothing : {S : Type 0} (at : Places S) (profile : List Directive) (task : Task) (tells : List ℕ → Option (List ℕ)) (answer : Result Reply Fault) → tells ≡ at.tells → LacksStore at profile → ¬ (task ≡ Ask Init)
-    → ServesOnNothing tells profile task answer → ServesUnder at profile task answer
-on_nothing at profile task tells answer same lacks other (inl h) = answered h.0 h.1 (none lacks other (h.2, subst (λ t. AnswersOn t h.0 task answer nothing_yet) same h.3))
-on_nothing at profile task tells answer same lacks other (inr h) = subst (ServesUnder at profile task) (sym h.2) (unopened h.1)
+pub on_nothing : {S : Type 0} (at : Places S) (profile : List Directive) (task : Task) (closed : Status) (tells : List ℕ → Option (List ℕ)) (answer : Result Reply Fault) → tells ≡ at.tells → LacksStore at profile → ¬ (task ≡ Ask Init)
+    → ServesOnNothing tells profile task answer → ServesUnder at profile task closed answer
+on_nothing at profile task closed tells answer same lacks other (inl h) = answered h.0 h.1 (none lacks other (h.2, subst (λ t. AnswersOn t h.0 task answer nothing_yet) same h.3))
+on_nothing at profile task closed tells answer same lacks other (inr h) = subst (ServesUnder at profile task closed) (sym h.2) (unopened h.1)
 
 -- what is answered on what a connection keeps is the answer on it
 given_answer : (r : Result Reply Fault) (P Q : Result Reply Refusal → Type 0) → ((answer : Result Reply Refusal) → P answer → Q answer) → GivesAnswer P r → GivesAnswer Q r
@@ -183,8 +202,8 @@ given_answer (Err fault.Memory) P Q so h = tt
 served_on : (told : List ℕ → Option (List ℕ)) (c : Conditions) (task : Task) (held last : State) (r : Result Reply Fault) (before : Holdings) → ServesTask told c task held last r → Holding held before → AnswersOn told c task r before
 served_on told c task held last r before serves keeps files known = go (serves files known)
   where
-    go : AnswersFrom held last r (AnswersTask c task files) ⊎ (ReadsWhole task × IsUnreadable r)
-        → GivesAnswer (λ answer. (later : Holdings) × AnswersTask c task files before answer later) r ⊎ (ReadsWhole task × IsUnreadable r)
+    go : AnswersFrom held last r (AnswersTask c task files) ⊎ (ReadsWhole task × IsUnreadWhole told r)
+        → GivesAnswer (λ answer. (later : Holdings) × AnswersTask c task files before answer later) r ⊎ (ReadsWhole task × IsUnreadWhole told r)
     go (inl from) = inl (given_answer r (λ answer. (later : Holdings) × AnswersTask c task files before answer later × Holding last later) (λ answer. (later : Holdings) × AnswersTask c task files before answer later)
         (λ answer h. (h.0, h.1)) (from before keeps))
     go (inr unread) = inr unread
@@ -202,18 +221,25 @@ served_nothing tells profile task c held last own answer under keeps serves name
 
 -- of one that is answered
 pub told_done : {S : Type 0} (at : Places S) (config : String Global) (task : Task) (old new fault_old fault_new : Option (List ℕ)) (status : Status) (told : Told)
-    → GivesFor (Ok told) (Performs at config task) → Appends old new told.text.items → TellsDone task fault_old fault_new status → TellsApart at config task old new fault_old fault_new status
-told_done at config task old new fault_old fault_new status told gives wrote (inl done) = inl (done.0, (gives.0, gives.2, subst (Appends old new) gives.1 wrote), done.1)
-told_done at config task old new fault_old fault_new status told gives wrote (inr done) = inr (inl (done.0, (gives.0, gives.2, subst (Appends old new) gives.1 wrote), done.1))
+    → GivesClosed (Ok told) (Performs at config task) → status ≡ closing_status told.closed → Appends old new told.text.items → TellsDone task fault_old fault_new status
+    → TellsApart at config task old new fault_old fault_new status
+told_done at config task old new fault_old fault_new status told gives closing wrote done = by done
+  where
+    writes : WritesReply at config task status old new
+    writes = (gives.0, subst (λ closed. Performs at config task closed (Ok gives.0)) (sym closing) gives.2, subst (Appends old new) gives.1 wrote)
+
+    by : TellsDone task fault_old fault_new status → TellsApart at config task old new fault_old fault_new status
+    by (inl answered_so) = inl (answered_so.0, writes, answered_so.1)
+    by (inr unclosed) = inr (inl (unclosed.0, writes, unclosed.1))
 
 -- of one that has no answer
 pub told_why : {S : Type 0} (at : Places S) (config : String Global) (task : Task) (old fault_old fault_new : Option (List ℕ)) (why : Fault) (failed fault_failed : Bool) (r : Result Status AllocError)
-    → Performs at config task (Err why) → IfOk r IsFaultStatus → IfOk r (λ status. fault_failed ≡ false → Writes fault_old fault_new (λ bytes. TellsFailure why bytes status))
+    → (closed : Status) → Performs at config task closed (Err why) → IfOk r IsFaultStatus → IfOk r (λ status. fault_failed ≡ false → Writes fault_old fault_new (λ bytes. TellsFailure why bytes status))
     → IfOk r (λ status. failed ≡ false → fault_failed ≡ false → TellsApart at config task old old fault_old fault_new status)
-told_why at config task old fault_old fault_new why failed fault_failed (Err e) comes is tells = tt
-told_why at config task old fault_old fault_new why failed fault_failed (Ok status) comes is tells = λ _ sound.
+told_why at config task old fault_old fault_new why failed fault_failed (Err e) closed comes is tells = tt
+told_why at config task old fault_old fault_new why failed fault_failed (Ok status) closed comes is tells = λ _ sound.
     let wrote = tells sound in
-    inr (inr (is, Keeps-refl old, (wrote.0, (why, comes, wrote.1), wrote.2)))
+    inr (inr (is, Keeps-refl old, (wrote.0, (why, closed, comes, wrote.1), wrote.2)))
 
 -- ---- the lines of the input
 
@@ -227,16 +253,16 @@ told_closed shows old new failed status whole part (inr is) sound =
 -- the lines of a batch on the register in the store
 pub lines_kept : {S : Type 0} (at : Places S) (profile : List Directive) (text : List ℕ) (tells : List ℕ → Option (List ℕ)) (c : Conditions) (held : Held S) (n : ℕ) (old new fault_old fault_new : Option (List ℕ)) (status : Status)
     → n ≡ 0 → tells ≡ at.tells → AreScriptConditions profile c → TakesStore at profile held
-    → RunsIn at.store tells c n text held old new fault_old fault_new status → RunsLines at profile text old new fault_old fault_new status
+    → RunsIn at.store at.leaves tells c n text held old new fault_old fault_new status → RunsLines at profile text old new fault_old fault_new status
 lines_kept at profile text tells c held n old new fault_old fault_new status first same under takes runs =
-    let r = subst (λ t. RunsIn at.store t c 0 text held old new fault_old fault_new status) same (subst (λ k. RunsIn at.store tells c k text held old new fault_old fault_new status) first runs) in
+    let r = subst (λ t. RunsIn at.store at.leaves t c 0 text held old new fault_old fault_new status) same (subst (λ k. RunsIn at.store at.leaves tells c k text held old new fault_old fault_new status) first runs) in
     let whole = r.3 in
     subst (RunsLines at profile text old new fault_old fault_new) (sym r.2)
-    (on_store c r.0 r.1 under (from_taken at profile held whole.last (RunsText at.store at.tells packed_blocks c 0 text old new r.0) takes whole.clean whole.lines) whole.closes)
+    (on_store c r.0 r.1 under (from_taken at profile r.1 held whole.last (RunsText at.store at.tells packed_blocks c 0 text old new r.0) takes whole.clean whole.lines whole.ends) whole.closes)
 
 pub run_kept : {S : Type 0} (at : Places S) (profile : List Directive) (text : List ℕ) (tells : List ℕ → Option (List ℕ)) (c : Conditions) (held : Held S) (n : ℕ) (old new fault_old fault_new : Option (List ℕ)) (failed fault_failed : Bool) (r : Result Status AllocError)
     → n ≡ 0 → tells ≡ at.tells → AreScriptConditions profile c → TakesStore at profile held
-    → IfOk r (λ status. failed ≡ false → fault_failed ≡ false → RunsIn at.store tells c n text held old new fault_old fault_new status)
+    → IfOk r (λ status. failed ≡ false → fault_failed ≡ false → RunsIn at.store at.leaves tells c n text held old new fault_old fault_new status)
     → IfOk r (λ status. failed ≡ false → fault_failed ≡ false → RunsLines at profile text old new fault_old fault_new status)
 run_kept at profile text tells c held n old new fault_old fault_new failed fault_failed (Err e) first same under takes runs = tt
 run_kept at profile text tells c held n old new fault_old fault_new failed fault_failed (Ok status) first same under takes runs = λ sound quiet.
@@ -307,26 +333,26 @@ stops_opening at config profile (fault.Profile file why) read is = absurd is
 stops_opening at config profile (fault.Unreadable path) read is = absurd is
 stops_opening at config profile fault.Memory read is = absurd is
 
-pub shell_unopened : {S : Type 0} (at : Places S) (config : String Global) (given left : Option (List ℕ)) (read_failed : Bool) (old fault_old fault_new : Option (List ℕ)) (why : Fault) (failed fault_failed : Bool) (r : Result Status AllocError) → StopsOpening at config why
+pub shell_unopened : {S : Type 0} (at : Places S) (config : String Global) (given : Option (List ℕ)) (read_failed : Bool) (old fault_old fault_new : Option (List ℕ)) (why : Fault) (failed fault_failed : Bool) (r : Result Status AllocError) → StopsOpening at config why
     → IfOk r (λ status. fault_failed ≡ false → Writes fault_old fault_new (λ bytes. TellsFailure why bytes status))
-    → IfOk r (λ status. failed ≡ false → fault_failed ≡ false → RunsShell at config given left read_failed old old fault_old fault_new status)
-shell_unopened at config given left read_failed old fault_old fault_new why failed fault_failed (Err e) is tells = tt
-shell_unopened at config given left read_failed old fault_old fault_new why failed fault_failed (Ok status) is tells = λ _ sound. shell_stopped why is (Keeps-refl old) (tells sound)
+    → IfOk r (λ status. failed ≡ false → fault_failed ≡ false → RunsShell at config given given read_failed old old fault_old fault_new status)
+shell_unopened at config given read_failed old fault_old fault_new why failed fault_failed (Err e) is tells = tt
+shell_unopened at config given read_failed old fault_old fault_new why failed fault_failed (Ok status) is tells = λ _ sound. shell_stopped why is refl (Keeps-refl old) (tells sound)
 
 -- its lines, on the register in the store
 shell_kept : {S : Type 0} (at : Places S) (config : String Global) (tells : List ℕ → Option (List ℕ)) (c : Conditions) (held : Held S) (given left : Option (List ℕ)) (read_failed : Bool) (old new fault_old fault_new : Option (List ℕ)) (status : Status)
-    → tells ≡ at.tells → OpensUnder at config c held → ServesIn at.store tells c given left read_failed held old new fault_old fault_new status → RunsShell at config given left read_failed old new fault_old fault_new status
+    → tells ≡ at.tells → OpensUnder at config c held → ServesIn at.store at.leaves tells c given left read_failed held old new fault_old fault_new status → RunsShell at config given left read_failed old new fault_old fault_new status
 shell_kept at config tells c held given left read_failed old new fault_old fault_new status same under serves =
-    let s = subst (λ t. ServesIn at.store t c given left read_failed held old new fault_old fault_new status) same serves in
+    let s = subst (λ t. ServesIn at.store at.leaves t c given left read_failed held old new fault_old fault_new status) same serves in
     let takes = under.3 in
     let whole = s.4 in
     subst (RunsShell at config given left read_failed old new fault_old fault_new) (sym s.3)
     (shell_ran under.0 c s.0 s.1 s.2 under.1 under.2
-    (from_taken at under.0 held whole.last (λ first last. IfSome given (λ text. ServesText at.store at.tells packed_blocks c text left read_failed old new fault_old s.0 s.1 first last)) takes whole.clean whole.lines)
+    (from_taken at under.0 s.2 held whole.last (λ first last. IfSome given (λ text. ServesText at.store at.tells packed_blocks c text left read_failed old new fault_old s.0 s.1 first last)) takes whole.clean whole.lines whole.ends)
     whole.closes)
 
 pub shell_served : {S : Type 0} (at : Places S) (config : String Global) (tells : List ℕ → Option (List ℕ)) (c : Conditions) (held : Held S) (given left : Option (List ℕ)) (read_failed : Bool) (old new fault_old fault_new : Option (List ℕ)) (failed fault_failed : Bool) (r : Result Status AllocError)
-    → tells ≡ at.tells → OpensUnder at config c held → IfOk r (λ status. failed ≡ false → fault_failed ≡ false → ServesIn at.store tells c given left read_failed held old new fault_old fault_new status)
+    → tells ≡ at.tells → OpensUnder at config c held → IfOk r (λ status. failed ≡ false → fault_failed ≡ false → ServesIn at.store at.leaves tells c given left read_failed held old new fault_old fault_new status)
     → IfOk r (λ status. failed ≡ false → fault_failed ≡ false → RunsShell at config given left read_failed old new fault_old fault_new status)
 shell_served at config tells c held given left read_failed old new fault_old fault_new failed fault_failed (Err e) same under serves = tt
 shell_served at config tells c held given left read_failed old new fault_old fault_new failed fault_failed (Ok status) same under serves = λ sound quiet.
@@ -336,7 +362,7 @@ shell_served at config tells c held given left read_failed old new fault_old fau
 
 -- the store that was opened is the one that was taken over
 pub taken_store : {S : Type 0} (at : Places S) (profile : List Directive) (path : List ℕ) (opened : Result (Held S) OpenFailed) (taken : Held S) (Never : Type 0) → store_path profile ≡ Some path → IfOk opened (at.opens path)
-    → IfOk opened (λ connection. HasCleanDisk (state at.store taken) → (before : Holdings) → Bears (state at.store connection) before → Holding (state at.store taken) before)
+    → IfOk opened (λ connection. HasCleanDisk (state at.store taken) → IsTakenOver at.store connection taken)
     → OnErr opened Never → (Never → ⊥) → TakesStore at profile taken
 taken_store at profile path (Ok connection) taken Never named opens keeps failed never = (connection, (path, named, opens), keeps)
 taken_store at profile path (Err why) taken Never named opens keeps failed never = absurd (never failed)
@@ -376,5 +402,5 @@ replied_under named (Err why) own stands h = subst (λ it. IfErr it (NamesUnder 
 pub passed_fault : {A : Type 0} (P : Fault → Type 0) (r : Result A Failure) (why : Failure) → r ≡ Err why → P why.fault → IfErr r (λ failure. P failure.fault)
 passed_fault {A} P r why is h = subst (λ it. IfErr it (λ failure. P failure.fault)) (sym is) h
 
-pub passed_for : (P : Result Reply Fault → Type 0) (r : Result Told Failure) (why : Failure) → r ≡ Err why → P (Err why.fault) → GivesFor r P
-passed_for P r why is h = subst (λ it. GivesFor it P) (sym is) h
+pub passed_for : (P : Status → Result Reply Fault → Type 0) (r : Result Told Failure) (why : Failure) → r ≡ Err why → P Answered (Err why.fault) → GivesClosed r P
+passed_for P r why is h = subst (λ it. GivesClosed it P) (sym is) (Answered, h)

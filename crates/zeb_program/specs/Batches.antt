@@ -6,7 +6,7 @@ use Rattle.zeb_image.specs.Names.{IsDatabaseName}
 use Rattle.zeb_image.specs.NameOf.{name_bytes}
 use Rattle.zeb_image.specs.declared.names.DbName.{DbName}
 use Rattle.zeb_engine.specs.declared.commands.Command.{Command}
-use Rattle.zeb_engine.specs.declared.commands.Command.TheVariants.{Init, Check, Reindex, Upgrade, Create, Drop, Stat, Dump, Change, Find, Scan}
+use Rattle.zeb_engine.specs.declared.commands.Command.TheVariants.{Init, Check, Reindex, Upgrade, Create, Drop, Stat, Dump, Change, Find, Scan, Analyse}
 use Rattle.zeb_change.specs.declared.settings.Kind.{Kind}
 use Rattle.zeb_change.specs.declared.settings.Kind.TheVariants.{Update, Delete, Adelete}
 use Rattle.zeb_program.specs.Numbers.{number_of}
@@ -68,7 +68,7 @@ pub record NamesScan (text : List ℕ) (database : DbName) (query : List ℕ) (n
   pub rest : query ≡ after_third_word text
   pub some : query ≢ []
 
--- the text, which begins and ends with no blank, names the command
+-- the text, which begins and ends with no blank, names the command; no text names an analysis
 abbrev pub Names : List ℕ → Command → Type 0
 Names text Init = (first_word text ≡ codes "init") × (after_first_word text ≡ [])
 Names text Check = (first_word text ≡ codes "check") × (after_first_word text ≡ [])
@@ -83,7 +83,7 @@ Names text (Find database query first count) =
     ((first_word text ≡ codes "find") × NamesFind (after_first_word text) database (string_bytes query) × (first ≡ 1) × (count ≡ 20))
     ⊎ ((first_word text ≡ codes "page") × NamesPage (after_first_word text) database (string_bytes query) first count)
 Names text (Scan database query number position) = (first_word text ≡ codes "scan") × NamesScan (after_first_word text) database (string_bytes query) number position
-Names text _ = ⊥
+Names text (Analyse files) = ⊥
 
 -- a change is named, whatever its kind
 pub record HasChange (text : List ℕ) : Type 0 where

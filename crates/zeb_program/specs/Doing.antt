@@ -1,6 +1,6 @@
 -- What a task, the lines of a batch and those of a shell do over a store, and what is written (this program's own): on any tables, whatever
 -- files there are, and on tables that keep what a register holds, where the bytes of a task's files are told, and of lines as far as they are.
-use Rattle.std.specs.Prelude.{◌≡◌, ℕ, Bool, false, IfErr, List, Option, Result}
+use Rattle.std.specs.Prelude.{◌≡◌, ⊤, ℕ, Bool, false, IfErr, List, Option, Result}
 use Rattle.std.specs.Io.KnownBytes.{Appends, IsAtEnd, Keeps as Stays}
 use Rattle.sqlite.specs.Held.{Held, state}
 use Rattle.sqlite.specs.Store.{Ghosts}
@@ -11,7 +11,7 @@ use Rattle.zeb_engine.specs.declared.replies.Reply.{Reply}
 use Rattle.zeb_program.specs.declared.faults.Fault.{Fault}
 use Rattle.zeb_program.specs.declared.line_input.InputCause.{InputCause}
 use Rattle.zeb_program.specs.declared.line_input.LineFault.{LineFault}
-use Rattle.zeb_program.specs.declared.line_input.LineFault.TheVariants.{Unreadable}
+use Rattle.zeb_program.specs.declared.line_input.LineFault.TheVariants.{Unreadable, Memory}
 use Rattle.zeb_program.specs.declared.tasks.Task.{Task}
 use Rattle.zeb_program.specs.Answers.{AnswersBatch, AnswersLines, EachLine, Writes}
 use Rattle.zeb_program.specs.FaultAnswers.{NamesUnder}
@@ -40,16 +40,23 @@ pub record RunsText {S : Type 0} (g : Ghosts S) (told : List ℕ → Option (Lis
   pub answers : LeadsOn (state g old) (state g new) wrote writes (λ before bytes later. AnswersBatch told c n text before bytes status later)
 
 -- The lines of a text up to the rest, maybe none, are answered so, and no other.
-pub record RunsFirst {S : Type 0} (g : Ghosts S) (told : List ℕ → Option (List ℕ)) (format : Format) (c : Conditions) (text rest : List ℕ) (wrote writes : Option (List ℕ)) (old : Held S) : Type 0 where
-  pub over : Writes wrote writes (λ bytes. (status : Status) × (last : Held S) × EachLine (LineOver g told format c) 0 text old bytes status rest last)
+pub record RunsFirst {S : Type 0} (g : Ghosts S) (told : List ℕ → Option (List ℕ)) (format : Format) (c : Conditions) (text rest : List ℕ) (wrote writes : Option (List ℕ)) (old last : Held S) : Type 0 where
+  pub over : Writes wrote writes (λ bytes. (status : Status) × EachLine (LineOver g told format c) 0 text old bytes status rest last)
   pub answers : Stops (state g old) wrote writes (λ before bytes. (status : Status) × (last : Option Holdings) × AnswersLines told c 0 text before bytes status rest last)
+
+-- Where a line can't be read nothing is done for it. Where memory runs out at it nothing is said of that.
+abbrev pub KeepsUnread : {S : Type 0} → LineFault → Held S → Held S → Type 0
+KeepsUnread (Unreadable cause) old new = new ≡ old
+KeepsUnread Memory old new = ⊤
 
 -- A shell of these lines ends early, for this reason, and this is left of its input: the lines before the one at which it ends are answered so,
 -- and of no line but that one a byte is gone that isn't answered.
-pub record StopsText {S : Type 0} (g : Ghosts S) (told : List ℕ → Option (List ℕ)) (format : Format) (c : Conditions) (why : LineFault) (text : List ℕ) (left wrote writes : Option (List ℕ)) (old : Held S) : Type 0 where
+pub record StopsText {S : Type 0} (g : Ghosts S) (told : List ℕ → Option (List ℕ)) (format : Format) (c : Conditions) (why : LineFault) (text : List ℕ) (left wrote writes : Option (List ℕ)) (old new : Held S) : Type 0 where
   pub rest : List ℕ
-  pub first : RunsFirst g told format c text rest wrote writes old
+  pub last : Held S
+  pub first : RunsFirst g told format c text rest wrote writes old last
   pub ends : EndsInLine 16777216 why rest left
+  pub keeps : KeepsUnread why last new
 
 -- A shell of these lines, where this is left of its input, and a read of it failed or didn't.
 pub data ServesText {S : Type 0} (g : Ghosts S) (told : List ℕ → Option (List ℕ)) (format : Format) (c : Conditions) (text : List ℕ) (left : Option (List ℕ)) (failed : Bool) (wrote writes fault_old fault_new : Option (List ℕ)) (status : Status) (old new : Held S) : Type 0 where
@@ -57,5 +64,5 @@ pub data ServesText {S : Type 0} (g : Ghosts S) (told : List ℕ → Option (Lis
   all_served : RunsText g told format c 0 text wrote writes status old new → IsAtEnd left → failed ≡ false → Stays fault_old fault_new
       → ServesText g told format c text left failed wrote writes fault_old fault_new status old new
   -- or the line behind those that are can't be read, which is told there with its cause
-  first_served : (cause : InputCause) → StopsText g told format c (Unreadable cause) text left wrote writes old → failed ≡ is_failed_read cause
+  first_served : (cause : InputCause) → StopsText g told format c (Unreadable cause) text left wrote writes old new → failed ≡ is_failed_read cause
       → Appends fault_old fault_new (unread_lines cause) → status ≡ Failed → ServesText g told format c text left failed wrote writes fault_old fault_new status old new

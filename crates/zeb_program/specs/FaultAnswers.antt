@@ -1,9 +1,10 @@
 -- Why a command that words or a line name has no answer of a register (this program's own).
-use Rattle.std.specs.Prelude.{◌≡◌, ◌⊎◌, ⊤, ℕ, List, Option, Result, Ok, Err, string_bytes}
+use Rattle.std.specs.Prelude.{◌≡◌, ◌⊎◌, ⊤, ℕ, List, Option, IfSome, Result, Ok, Err, string_bytes}
 use Rattle.zeb_change.specs.declared.refusals.Refusal.{Refusal}
 use Rattle.zeb_change.specs.declared.refusals.Refusal.TheVariants as refusal
 use Rattle.zeb_engine.specs.declared.replies.Reply.{Reply}
 use Rattle.zeb_paths.specs.Walks.{IsUnder, IsUntold}
+use Rattle.zeb_program.specs.Inputs.{IsShort}
 use Rattle.zeb_program.specs.declared.faults.Fault.{Fault}
 use Rattle.zeb_program.specs.declared.faults.Fault.TheVariants.{Profile, Unreadable, Refused, Memory}
 
@@ -14,6 +15,14 @@ IsUnreadable (Err (Profile file fault)) = ⊥
 IsUnreadable (Err (Unreadable path)) = ⊤
 IsUnreadable (Err (Refused refusal)) = ⊥
 IsUnreadable (Err Memory) = ⊥
+
+-- a path can't be read at which no file's bytes are told, or too many of a file that is read whole
+abbrev pub IsUnreadWhole : (List ℕ → Option (List ℕ)) → Result Reply Fault → Type 0
+IsUnreadWhole told (Ok reply) = ⊥
+IsUnreadWhole told (Err (Profile file fault)) = ⊥
+IsUnreadWhole told (Err (Unreadable path)) = IfSome (told (string_bytes path)) (λ bytes. ¬ IsShort bytes)
+IsUnreadWhole told (Err (Refused refusal)) = ⊥
+IsUnreadWhole told (Err Memory) = ⊥
 
 -- a failure by which a register isn't opened: of the store or of the memory
 abbrev pub IsOpeningFailure : Refusal → Type 0

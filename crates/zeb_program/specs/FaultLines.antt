@@ -1,11 +1,15 @@
 -- What is written where a command that words or a line name isn't answered, and the status that goes with it (this program's own).
-use Rattle.std.specs.Prelude.{◌≡◌, ◌⊎◌, ℕ, List, [], ◌∷◌, ◌++◌, codes, string_bytes}
+use Rattle.std.specs.Prelude.{◌≡◌, ◌==◌, ℕ, Bool, true, false, IsTrue, List, [], ◌∷◌, ◌++◌, Option, Some, None, codes, string_bytes}
+use Rattle.std.specs.Option.{option_map, option_map_or}
+use Rattle.zeb_change.specs.declared.refusals.Refusal.{Refusal}
+use Rattle.zeb_change.specs.declared.refusals.Refusal.TheVariants as refusal
 use Rattle.zeb_profile.specs.declared.faults.ProfileFault.{ProfileFault}
 use Rattle.zeb_profile.specs.Faults.{fault_text}
 use Rattle.zeb_program.specs.declared.faults.Fault.{Fault}
 use Rattle.zeb_program.specs.declared.faults.Fault.TheVariants.{Profile, Unreadable, Refused, Memory}
 use Rattle.std.specs.Fmt.{decimal}
 use Rattle.zeb_paths.specs.Causes.{path_cause_text, store_cause_text}
+use Rattle.zeb_paths.specs.declared.causes.StoreCause.{StoreCause}
 use Rattle.zeb_program.specs.declared.failures.Cause.{Cause}
 use Rattle.zeb_program.specs.declared.failures.Cause.TheVariants.{Path, Store, Input, File}
 use Rattle.zeb_program.specs.FixedLines.{refusal_line, unreadable_line}
@@ -37,14 +41,37 @@ cause_line (Store cause) = codes "zebraidx: cause: " ++ store_cause_text cause +
 cause_line (Input cause) = codes "zebraidx: cause: " ++ input_cause_text cause ++ 10 ∷ []
 cause_line (File number path) = codes "zebraidx: file " ++ decimal number ++ codes " is " ++ string_bytes path ++ 10 ∷ []
 
--- one such line, or nothing
-abbrev pub IsCause : List ℕ → Type 0
-IsCause bytes = (bytes ≡ []) ⊎ ((cause : Cause) × (bytes ≡ cause_line cause))
+-- such a line where a cause is known, else nothing
+abbrev pub cause_lines : Option Cause → List ℕ
+cause_lines None = []
+cause_lines (Some cause) = cause_line cause
 
--- the line of a fault, with this status, and below it one with the cause, where it is known
+-- the number of the file that a refusal is about
+abbrev pub file_in : Refusal → Option ℕ
+file_in (refusal.Record file nth fault) = Some file
+file_in (refusal.Unknown file nth) = Some file
+file_in (refusal.ReadFault file) = Some file
+file_in _ = None
+
+abbrev pub is_store : Refusal → Bool
+is_store refusal.Store = true
+is_store _ = false
+
+-- A fault may have this cause: a path that can't be read, why it isn't; a failed store, why it fails; and a refusal about a file has that file's path.
+abbrev pub is_cause_of : Fault → Cause → Bool
+is_cause_of (Unreadable path) (Path cause) = true
+is_cause_of (Refused why) (Store cause) = is_store why
+is_cause_of (Refused why) (File number path) = option_map_or (λ file. file == number) (file_in why) false
+is_cause_of _ _ = false
+
+-- so it is of a cause that is known
+abbrev pub IsCauseOf : Fault → Option Cause → Type 0
+IsCauseOf fault cause = IsTrue (option_map_or (is_cause_of fault) cause true)
+
+-- the line of a fault, with this status, and below it that of a cause of it, where one is known
 abbrev pub TellsFailure : Fault → List ℕ → Status → Type 0
 TellsFailure fault bytes status =
-    (line : List ℕ) × (more : List ℕ) × TellsFault fault line status × IsCause more × (bytes ≡ line ++ more)
+    (line : List ℕ) × (cause : Option Cause) × TellsFault fault line status × IsCauseOf fault cause × (bytes ≡ line ++ cause_lines cause)
 
 -- what is written where an input can't be read on
 abbrev pub unread_lines : InputCause → List ℕ
@@ -53,6 +80,10 @@ unread_lines cause = unreadable_line ++ cause_line (Input cause)
 abbrev pub unclosed_line : List ℕ
 unclosed_line = codes "zebraidx: done, but the register's file needs its log" ++ 10 ∷ []
 
--- what is written where a part of what was done stands beside the register's file
+-- what is written where a part of what was done stands beside the register's file: with why the store failed, where that is known
+abbrev pub unclosed_lines : Option StoreCause → List ℕ
+unclosed_lines cause = unclosed_line ++ cause_lines (option_map Store cause)
+
+-- so it is of some cause, or of none
 abbrev pub IsUnclosed : List ℕ → Type 0
-IsUnclosed bytes = (more : List ℕ) × IsCause more × (bytes ≡ unclosed_line ++ more)
+IsUnclosed bytes = (cause : Option StoreCause) × (bytes ≡ unclosed_lines cause)

@@ -1,7 +1,7 @@
 -- What a command or a change by paths is answered on any tables, whatever these hold, where words or a line name it (this program's own).
-use Rattle.std.specs.Prelude.{◌≡◌, ◌⊎◌, ℕ, Option, Result, Ok, Err, IfErr, OnErr, List, [], ◌∷◌, map, string_bytes}
+use Rattle.std.specs.Prelude.{◌≡◌, ◌≢◌, ◌⊎◌, ℕ, Option, Result, Ok, Err, IfErr, OnErr, OnOk, List, [], ◌∷◌, map, string_bytes}
 use Rattle.sqlite.specs.Held.{Held, state}
-use Rattle.sqlite.specs.State.{State}
+use Rattle.sqlite.specs.State.{State, Survives}
 use Rattle.sqlite.specs.Store.{Ghosts}
 use Rattle.zeb_profile.specs.declared.directives.Directive.{Directive}
 use Rattle.zeb_register.specs.Calls.{ChangesNothing}
@@ -10,15 +10,18 @@ use Rattle.zeb_change.specs.Conditions.{Conditions}
 use Rattle.zeb_change.specs.declared.settings.Kind.{Kind}
 use Rattle.zeb_change.specs.declared.settings.Limits.{Limits}
 use Rattle.zeb_change.specs.declared.refusals.Refusal.{Refusal}
-use Rattle.zeb_change.specs.declared.refusals.Refusal.TheVariants.{Damaged, Memory as OutOfMemory}
+use Rattle.zeb_change.specs.declared.refusals.Refusal.TheVariants.{Damaged, Memory as OutOfMemory, Store}
 use Rattle.zeb_image.specs.Holdings.{Holdings}
 use Rattle.zeb_image.specs.Image.{Keeps}
 use Rattle.zeb_image.specs.NameOf.{name_bytes}
 use Rattle.zeb_engine.specs.Analysed.{IsAnalysed}
 use Rattle.zeb_engine.specs.Answers.{answer_of}
 use Rattle.zeb_engine.specs.Changing.{ChangesReady, LeavesWhole, LosesNamed}
+use Rattle.zeb_engine.specs.Crashes.{CommandLasts, CommitsBy, Endures}
 use Rattle.zeb_engine.specs.Does.{CommandOverTables}
 use Rattle.zeb_engine.specs.Readiness.{GoesByTexts}
+use Rattle.zeb_engine.specs.Steps.{TakesFiles}
+use Rattle.zeb_engine.specs.Transactions.{IsDurable, LeavesNoMore}
 use Rattle.zeb_engine.specs.Works.{ServesCommand}
 use Rattle.zeb_engine.specs.declared.commands.Command.{Command}
 use Rattle.zeb_engine.specs.declared.replies.Reply.{Reply}
@@ -32,13 +35,17 @@ use Rattle.zeb_program.specs.declared.tasks.Task.TheVariants.{Ask, Change, Analy
 use Rattle.zeb_program.specs.Answers.{ChangesBy, EachLine, answer_status, answer_text, bad_line, mark_line}
 use Rattle.zeb_program.specs.Inputs.{AreShort}
 use Rattle.zeb_program.specs.FaultLines.{TellsFault}
-use Rattle.zeb_program.specs.FaultAnswers.{GivesAnswer, IsUnreadable, NamesUnder, NamesUntold}
+use Rattle.zeb_program.specs.FaultAnswers.{GivesAnswer, IsUnreadWhole, IsUnreadable, NamesUnder, NamesUntold}
 use Rattle.zeb_program.specs.Serving.{AnswersFrom}
 use Rattle.zeb_program.specs.TaskAnswers.{AreTold}
 use Rattle.zeb_program.specs.Says.{Says}
 use Rattle.zeb_program.specs.TaskAnswers.{ReadsWhole}
 use Rattle.zeb_program.specs.declared.statuses.Status.{Status}
 use Rattle.zeb_program.specs.declared.statuses.Status.TheVariants.{Answered, Misused}
+
+-- nothing changes, and a crash leaves nothing that it did not leave before
+abbrev pub LeavesAlone : State → State → Type 0
+LeavesAlone old new = ChangesNothing old new × LeavesNoMore old new
 
 -- ---- a task
 
@@ -51,7 +58,7 @@ pub record PathsOver (told : List ℕ → Option (List ℕ)) (format : Format) (
       → GivesAnswer (ChangesReady (version_of format) profile kind limits name files s) result
   -- a path that can't be read is none at which a file's bytes are told
   pub untold : IfErr result (NamesUntold told)
-  -- damage is told only of the image of nothing that can be held
+  -- damage is told only of tables that are the image of no holding
   pub honest : result ≡ Err (Refused Damaged) → (before : Holdings) → ¬ Keeps s before
 
 -- What is said of the answer to an analysis of the files at these paths, of at most so many records.
@@ -62,6 +69,15 @@ pub record IsAnalysisOver (told : List ℕ → Option (List ℕ)) (profile : Lis
   -- none of them has too many bytes, and where the bytes of a file at each path are told, they are these
   pub short : AreShort texts
   pub these : (files : List (List ℕ)) → AreTold told paths files → texts ≡ files
+
+-- What a crash leaves behind a change of the database of this name by the files at these paths: what the change left, or what was there before it.
+pub record PathsLast (told : List ℕ → Option (List ℕ)) (c : Conditions) (kind : Kind) (name : List ℕ) (paths : List (List ℕ)) (old new : State) (result : Result Reply Fault) : Type 0 where
+  -- nothing else is committed, where the bytes of a file at each path are told
+  pub survives : Survives old new (λ db. (files : List (List ℕ)) → AreTold told paths files → CommitsBy (TakesFiles c kind name files) old db)
+  pub crash : (files : List (List ℕ)) → AreTold told paths files → GivesAnswer (Endures (TakesFiles c kind name files) old new) result
+  -- Whatever is told: of an accepted one just what is shown, while the connection is open; and nothing more than before where it is refused, but for a failed store.
+  pub accepted : OnOk result (IsDurable new)
+  pub refused : IfErr result (λ fault. fault ≢ Refused Store → LeavesNoMore old new)
 
 -- what a change of the database of this name by the files at these paths leaves of any tables
 pub record PathsLeave (told : List ℕ → Option (List ℕ)) (c : Conditions) (kind : Kind) (name : List ℕ) (paths : List (List ℕ)) (old new : State) (result : Result Reply Fault) : Type 0 where
@@ -74,14 +90,17 @@ pub record PathsLeave (told : List ℕ → Option (List ℕ)) (c : Conditions) (
   pub serves : (files : List (List ℕ)) → AreTold told paths files → AnswersFrom old new result (ChangesBy c kind name files)
   -- Then it has lost no record but under identifiers that records of the files have.
   pub named : (files : List (List ℕ)) → AreTold told paths files → GivesAnswer (LosesNamed c.profile name files old new) result
+  pub lasts : PathsLast told c kind name paths old new result
 
--- a path of an analysis can't be read, or it is answered so
+-- a path of an analysis can't be read, at which no file's bytes are told, or too many; or it is answered so
 abbrev pub AnalysesOver : (List ℕ → Option (List ℕ)) → List Directive → ℕ → List (List ℕ) → Result Reply Fault → Type 0
-AnalysesOver told profile limit paths result = IsUnreadable result ⊎ GivesAnswer (IsAnalysisOver told profile limit paths) result
+AnalysesOver told profile limit paths result = IsUnreadWhole told result ⊎ GivesAnswer (IsAnalysisOver told profile limit paths) result
 
--- A command is answered, and leaves the tables, as the engine says: of those that keep what a register holds, and of any.
+-- A command is answered, and leaves the tables, as the engine says: of those that keep what a register holds, and of any. A crash behind it leaves what
+-- it left, or what was there before it, and, while the connection is open, just what is shown.
 abbrev pub ServesOver : Format → Conditions → Command → State → State → Result Reply Refusal → Type 0
-ServesOver format c command old new answer = ServesCommand c command old new answer × CommandOverTables format c command old new answer
+ServesOver format c command old new answer =
+    ServesCommand c command old new answer × CommandOverTables format c command old new answer × CommandLasts format c command old new answer × IsDurable new
 
 -- A task of one command is answered as the engine says of it on any tables, and this is what it leaves of them; so it is of a change by paths. An
 -- analysis by paths is answered as above.
@@ -97,7 +116,7 @@ pub record TaskOver (told : List ℕ → Option (List ℕ)) (format : Format) (c
   pub answer : AnswersOver told format c task old new result
   -- nothing changes where it isn't accepted, nor where it is an analysis
   pub refused : OnErr result (ChangesNothing old new)
-  pub reads : ReadsWhole task → ChangesNothing old new
+  pub reads : ReadsWhole task → LeavesAlone old new
 
 -- ---- a line: from which tables, what is written, its status, and the tables then
 
@@ -121,11 +140,11 @@ PathOver told format c change old bytes status new =
 
 -- of a line that says this
 abbrev pub SaysOver : (List ℕ → Option (List ℕ)) → Format → Conditions → ℕ → Line → State → List ℕ → Status → State → Type 0
-SaysOver told format c number Remark old bytes status new = (bytes ≡ []) × (status ≡ Answered) × ChangesNothing old new
+SaysOver told format c number Remark old bytes status new = (bytes ≡ []) × (status ≡ Answered) × LeavesAlone old new
 SaysOver told format c number (Order command) old bytes status new = CommandOver format c command old bytes status new
 SaysOver told format c number (Path change) old bytes status new = PathOver told format c change old bytes status new
-SaysOver told format c number (Mark text) old bytes status new = (bytes ≡ mark_line (string_bytes text)) × (status ≡ Answered) × ChangesNothing old new
-SaysOver told format c number Bad old bytes status new = (bytes ≡ bad_line number) × (status ≡ Misused) × ChangesNothing old new
+SaysOver told format c number (Mark text) old bytes status new = (bytes ≡ mark_line (string_bytes text)) × (status ≡ Answered) × LeavesAlone old new
+SaysOver told format c number Bad old bytes status new = (bytes ≡ bad_line number) × (status ≡ Misused) × LeavesAlone old new
 
 -- the same for a line, by its text and its number, and by the connection
 abbrev pub LineOver : {S : Type 0} → Ghosts S → (List ℕ → Option (List ℕ)) → Format → Conditions → ℕ → List ℕ → Held S → List ℕ → Status → Held S → Type 0

@@ -54,6 +54,11 @@ abbrev pub warning_of : List Place → ℕ → Option (List ℕ)
 warning_of [] records = None
 warning_of (first ∷ others) records = Some (warning_line (length (first ∷ others)) records first)
 
+-- what is warned of with what a task is answered
+abbrev pub warned_in : Served → Option (List ℕ)
+warned_in (Replied reply) = None
+warned_in (Shown lines unmarked) = warning_of unmarked.items lines.records
+
 -- where a task warns, it is an analysis, and this is the line
 abbrev pub MayWarn : Task → Option (List ℕ) → Type 0
 MayWarn task warning = IfSome warning (λ line. ReadsWhole task × IsWarning line)

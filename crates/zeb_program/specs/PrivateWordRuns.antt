@@ -8,11 +8,10 @@ use Rattle.sqlite.specs.State.{HasCleanDisk}
 use Rattle.sqlite.specs.Store.{Ghosts}
 use Rattle.zeb_change.specs.Conditions.{Conditions}
 use Rattle.zeb_change.specs.declared.refusals.Refusal.{Refusal}
-use Rattle.zeb_engine.specs.Crashes.{Bears}
 use Rattle.zeb_engine.specs.declared.replies.Reply.{Reply}
 use Rattle.zeb_engine.specs.Replies.{reply_text}
-use Rattle.zeb_image.specs.Holdings.{Holdings, nothing_yet}
-use Rattle.zeb_image.specs.Image.{Keeps}
+use Rattle.zeb_image.specs.Holdings.{nothing_yet}
+use Rattle.zeb_paths.specs.declared.causes.Closed.{Closed}
 use Rattle.zeb_profile.specs.declared.directives.Directive.{Directive}
 use Rattle.zeb_register.specs.Formats.{packed_blocks}
 use Rattle.zeb_program.specs.declared.failures.Failure.{Failure}
@@ -26,11 +25,11 @@ use Rattle.zeb_program.specs.Doing.{RunsText, ServesText, StopsText}
 use Rattle.zeb_program.specs.FaultAnswers.{IsOpeningFailure, NamesUnder}
 use Rattle.zeb_program.specs.Serving.{Stops}
 use Rattle.zeb_program.specs.TaskAnswers.{AnswersOn, paths_of}
-use Rattle.zeb_program.specs.Registers.{OpensStore, Places}
+use Rattle.zeb_program.specs.Registers.{ClosesStore, IsTakenOver, OpensStore, Places}
 use Rattle.zeb_program.specs.ScriptAnswers.{AreScriptConditions, RunsFromNothing}
 use Rattle.std.specs.Io.KnownBytes.{Keeps as Stays}
 use Rattle.zeb_program.specs.FaultLines.{TellsFailure}
-use Rattle.zeb_program.specs.Statuses.{greater}
+use Rattle.zeb_program.specs.Statuses.{closing_status, greater}
 use Rattle.zeb_program.specs.declared.statuses.Status.{Status}
 use Rattle.zeb_program.specs.declared.statuses.Status.TheVariants.{Answered, Failed}
 use Rattle.zeb_program.specs.WordAnswers.{WarnsAtMost, WarnsUnclosed}
@@ -38,13 +37,9 @@ use Rattle.zeb_program.specs.WordRuns.{ReadsAt, TellsClosed}
 
 -- ---- a register that is opened
 
--- what the store bore that this connection opened is kept by the one that took it over
-abbrev pub TakesOver : {S : Type 0} → Ghosts S → Held S → Held S → Type 0
-TakesOver g opened taken = HasCleanDisk (state g taken) → (before : Holdings) → Bears (state g opened) before → Keeps (state g taken) before
-
 -- the store at the profile's path was opened and taken over
 abbrev pub TakesStore : {S : Type 0} → Places S → List Directive → Held S → Type 0
-TakesStore {S} at profile taken = (opened : Held S) × OpensStore at profile opened × TakesOver at.store opened taken
+TakesStore {S} at profile taken = (opened : Held S) × OpensStore at profile opened × (HasCleanDisk (state at.store taken) → IsTakenOver at.store opened taken)
 
 -- so it was under the profile in this file
 abbrev pub OpensUnder : {S : Type 0} → Places S → String Global → Conditions → Held S → Type 0
@@ -62,6 +57,11 @@ fault_given (Err failure) = Err failure.fault
 abbrev pub GivesFor : Result Told Failure → (Result Reply Fault → Type 0) → Type 0
 GivesFor (Ok told) P = (reply : Reply) × (told.text.items ≡ reply_text reply) × P (Ok reply)
 GivesFor (Err failure) P = P (Err failure.fault)
+
+-- the same of both, by the status with which the register is closed
+abbrev pub GivesClosed : Result Told Failure → (Status → Result Reply Fault → Type 0) → Type 0
+GivesClosed (Ok told) P = (reply : Reply) × (told.text.items ≡ reply_text reply) × P (closing_status told.closed) (Ok reply)
+GivesClosed (Err failure) P = (closed : Status) × P closed (Err failure.fault)
 
 -- this one, or memory ran out in the program itself
 abbrev pub IsOwnOr : Result Reply Fault → Result Reply Fault → Type 0
@@ -81,21 +81,26 @@ TellsDone task fault_old fault_new status =
 -- ---- the lines of the input
 
 -- Lines are run over a connection, which is then closed. What is said of them is said of the connection as it was before.
-pub record Closes {S : Type 0} (g : Ghosts S) (held : Held S) (Said : Held S → Type 0) (fault_old fault_new : Option (List ℕ)) (closed : Status) : Type 0 where
+pub record Closes {S : Type 0} (g : Ghosts S) (leaves : Closed → S → Type 0) (held : Held S) (Said : Held S → Type 0) (fault_old fault_new : Option (List ℕ)) (closed : Status) : Type 0 where
   pub last : Held S
   pub clean : HasCleanDisk (state g last) → HasCleanDisk (state g held)
   pub lines : HasCleanDisk (state g last) → Said last
+  pub ends : ClosesStore g leaves last closed
   pub closes : TellsClosed fault_old fault_new closed
 
--- The lines of a session are answered so, and what is told of its close behind them gives the other status, where no write has failed.
-abbrev pub EndsSession : Result Status AllocError → Result Status AllocError → Bool → Option (List ℕ) → Option (List ℕ) → Type 0
-EndsSession (Ok answered) result failed old new = (closed : Status) × (result ≡ Ok (greater answered closed)) × (failed ≡ false → TellsClosed old new closed)
-EndsSession (Err error) result failed old new = (closed : Status) × (result ≡ Err error) × (failed ≡ false → TellsClosed old new closed)
+-- Just this store is closed, and that is told so, where no write has failed.
+abbrev pub ClosesAloud : {S : Type 0} → Ghosts S → (Closed → S → Type 0) → Held S → Bool → Option (List ℕ) → Option (List ℕ) → Status → Type 0
+ClosesAloud g leaves last failed old new closed = ClosesStore g leaves last closed × (failed ≡ false → TellsClosed old new closed)
+
+-- The lines of a session are answered so, and its close behind them gives the other status.
+abbrev pub EndsSession : Result Status AllocError → Result Status AllocError → (Status → Type 0) → Type 0
+EndsSession (Ok answered) result Closing = (closed : Status) × (result ≡ Ok (greater answered closed)) × Closing closed
+EndsSession (Err error) result Closing = (closed : Status) × (result ≡ Err error) × Closing closed
 
 -- the lines of a batch are run so
-abbrev pub RunsIn : {S : Type 0} → Ghosts S → (List ℕ → Option (List ℕ)) → Conditions → ℕ → List ℕ → Held S → Option (List ℕ) → Option (List ℕ) → Option (List ℕ) → Option (List ℕ) → Status → Type 0
-RunsIn g told c n text held old new fault_old fault_new status = (answered : Status) × (closed : Status) × (status ≡ greater answered closed)
-    × Closes g held (RunsText g told packed_blocks c n text old new answered held) fault_old fault_new closed
+abbrev pub RunsIn : {S : Type 0} → Ghosts S → (Closed → S → Type 0) → (List ℕ → Option (List ℕ)) → Conditions → ℕ → List ℕ → Held S → Option (List ℕ) → Option (List ℕ) → Option (List ℕ) → Option (List ℕ) → Status → Type 0
+RunsIn g leaves told c n text held old new fault_old fault_new status = (answered : Status) × (closed : Status) × (status ≡ greater answered closed)
+    × Closes g leaves held (RunsText g told packed_blocks c n text old new answered held) fault_old fault_new closed
 
 -- The lines of a batch are run on a register in memory that holds nothing yet, and the fault output is left alone; or why none was opened is told
 -- there, and nothing else.
@@ -105,17 +110,17 @@ RunsOnNothing told profile n text old new fault_old fault_new status =
     ⊎ ((why : Refusal) × IsOpeningFailure why × Stays old new × Writes fault_old fault_new (λ bytes. TellsFailure (Refused why) bytes status))
 
 -- and those of a shell
-abbrev pub ServesIn : {S : Type 0} → Ghosts S → (List ℕ → Option (List ℕ)) → Conditions → Option (List ℕ) → Option (List ℕ) → Bool → Held S → Option (List ℕ) → Option (List ℕ) → Option (List ℕ) → Option (List ℕ) → Status → Type 0
-ServesIn g told c given left failed held old new fault_old fault_new status =
+abbrev pub ServesIn : {S : Type 0} → Ghosts S → (Closed → S → Type 0) → (List ℕ → Option (List ℕ)) → Conditions → Option (List ℕ) → Option (List ℕ) → Bool → Held S → Option (List ℕ) → Option (List ℕ) → Option (List ℕ) → Option (List ℕ) → Status → Type 0
+ServesIn g leaves told c given left failed held old new fault_old fault_new status =
     (between : Option (List ℕ)) × (answered : Status) × (closed : Status) × (status ≡ greater answered closed)
-    × Closes g held (λ last. IfSome given (λ text. ServesText g told packed_blocks c text left failed old new fault_old between answered held last)) between fault_new closed
+    × Closes g leaves held (λ last. IfSome given (λ text. ServesText g told packed_blocks c text left failed old new fault_old between answered held last)) between fault_new closed
 
 -- Where memory runs out for the program itself, the first lines of a batch are answered so, or none, and the rest are not.
-abbrev pub StopsIn : {S : Type 0} → Ghosts S → (List ℕ → Option (List ℕ)) → Conditions → ℕ → List ℕ → Held S → Option (List ℕ) → Option (List ℕ) → Option (List ℕ) → Option (List ℕ) → Type 0
-StopsIn g told c n text held old new fault_old fault_new =
-    (closed : Status) × Closes g held (λ last. Stops (state g held) old new (AnswersPart told c n text)) fault_old fault_new closed
+abbrev pub StopsIn : {S : Type 0} → Ghosts S → (Closed → S → Type 0) → (List ℕ → Option (List ℕ)) → Conditions → ℕ → List ℕ → Held S → Option (List ℕ) → Option (List ℕ) → Option (List ℕ) → Option (List ℕ) → Type 0
+StopsIn g leaves told c n text held old new fault_old fault_new =
+    (closed : Status) × Closes g leaves held (λ last. Stops (state g held) old new (AnswersPart told c n text)) fault_old fault_new closed
 
 -- and those of a shell
-abbrev pub StopsServing : {S : Type 0} → Ghosts S → (List ℕ → Option (List ℕ)) → Conditions → Option (List ℕ) → Option (List ℕ) → Held S → Option (List ℕ) → Option (List ℕ) → Option (List ℕ) → Option (List ℕ) → Type 0
-StopsServing g told c given left held old new fault_old fault_new =
-    (closed : Status) × Closes g held (λ last. IfSome given (λ text. StopsText g told packed_blocks c Starved text left old new held)) fault_old fault_new closed
+abbrev pub StopsServing : {S : Type 0} → Ghosts S → (Closed → S → Type 0) → (List ℕ → Option (List ℕ)) → Conditions → Option (List ℕ) → Option (List ℕ) → Held S → Option (List ℕ) → Option (List ℕ) → Option (List ℕ) → Option (List ℕ) → Type 0
+StopsServing g leaves told c given left held old new fault_old fault_new =
+    (closed : Status) × Closes g leaves held (λ last. IfSome given (λ text. StopsText g told packed_blocks c Starved text left old new held last)) fault_old fault_new closed

@@ -9,7 +9,7 @@ use Rattle.zeb_image.specs.Image.{Keeps}
 use Rattle.zeb_program.specs.declared.faults.Fault.{Fault}
 use Rattle.zeb_program.specs.declared.tasks.Task.{Task}
 use Rattle.zeb_program.specs.Answers.{Writes}
-use Rattle.zeb_program.specs.FaultAnswers.{GivesAnswer, IsUnreadable}
+use Rattle.zeb_program.specs.FaultAnswers.{GivesAnswer, IsUnreadWhole}
 use Rattle.zeb_program.specs.TaskAnswers.{AnswersTask, AreTold, ReadsWhole, paths_of}
 
 -- As far as it is known what a register holds that tables keep, they lead to tables that keep what it holds then, as far as that is known; P says
@@ -31,4 +31,4 @@ AnswersFrom old new result P =
 -- too many bytes.
 abbrev pub ServesTask : (List ℕ → Option (List ℕ)) → Conditions → Task → State → State → Result Reply Fault → Type 0
 ServesTask told c task old new result =
-    (files : List (List ℕ)) → AreTold told (paths_of task) files → AnswersFrom old new result (AnswersTask c task files) ⊎ (ReadsWhole task × IsUnreadable result)
+    (files : List (List ℕ)) → AreTold told (paths_of task) files → AnswersFrom old new result (AnswersTask c task files) ⊎ (ReadsWhole task × IsUnreadWhole told result)

@@ -1,5 +1,6 @@
 -- The statuses that the program ends with (this program's own): the status of a run is the greatest met.
-use Rattle.std.specs.Prelude.{◌≡◌, ◌⊎◌, ℕ}
+use Rattle.std.specs.Prelude.{◌≡◌, ◌⊎◌, ℕ, if◌then◌else◌}
+use Rattle.zeb_paths.specs.declared.causes.Closed.{Closed}
 use Rattle.zeb_change.specs.declared.refusals.Refusal.{Refusal}
 use Rattle.zeb_change.specs.declared.refusals.Refusal.TheVariants as refusal
 use Rattle.zeb_profile.specs.declared.faults.ProfileFaultKind.{ProfileFaultKind}
@@ -38,6 +39,10 @@ refusal_status _ = Refused
 abbrev pub fault_status : ProfileFaultKind → Status
 fault_status Memory = Failed
 fault_status _ = Refused
+
+-- of a store that is closed: a part of it may stand beside its one file
+abbrev pub closing_status : Closed → Status
+closing_status closed = if closed.is_whole then Answered else Failed
 
 -- where a command has no answer: it was refused, or something failed
 abbrev pub IsFaultStatus : Status → Type 0

@@ -13,7 +13,7 @@ use Rattle.zeb_program.specs.declared.tasks.Task.{Task}
 use Rattle.zeb_program.specs.declared.tasks.Task.TheVariants.{Ask, Change, Analyse}
 use Rattle.zeb_program.specs.declared.faults.Fault.{Fault}
 use Rattle.zeb_program.specs.Answers.{ChangesBy}
-use Rattle.zeb_program.specs.FaultAnswers.{GivesAnswer, IsUnreadable}
+use Rattle.zeb_program.specs.FaultAnswers.{GivesAnswer, IsUnreadWhole}
 
 -- the task has its files read whole, not record by record
 abbrev pub ReadsWhole : Task → Type 0
@@ -49,4 +49,4 @@ AnswersTask c (Analyse paths) files = AnalysesFiles c files
 -- these can't be read, where they are read whole, and may have too many bytes.
 abbrev pub AnswersOn : (List ℕ → Option (List ℕ)) → Conditions → Task → Result Reply Fault → Holdings → Type 0
 AnswersOn told c task result before = (files : List (List ℕ)) → AreTold told (paths_of task) files
-    → GivesAnswer (λ answer. (later : Holdings) × AnswersTask c task files before answer later) result ⊎ (ReadsWhole task × IsUnreadable result)
+    → GivesAnswer (λ answer. (later : Holdings) × AnswersTask c task files before answer later) result ⊎ (ReadsWhole task × IsUnreadWhole told result)

@@ -65,8 +65,8 @@ WarnsUnclosed task fault_old fault_new = (between : Option (List ℕ)) × WarnsA
 -- it its cause
 abbrev pub TellsApart : {S : Type 0} → Places S → String Global → Task → Option (List ℕ) → Option (List ℕ) → Option (List ℕ) → Option (List ℕ) → Status → Type 0
 TellsApart at config task old new fault_old fault_new status =
-    ((status ≡ Answered) × WritesReply at config task old new × WarnsAtMost task fault_old fault_new)
-    ⊎ ((status ≡ Failed) × WritesReply at config task old new × WarnsUnclosed task fault_old fault_new)
+    ((status ≡ Answered) × WritesReply at config task status old new × WarnsAtMost task fault_old fault_new)
+    ⊎ ((status ≡ Failed) × WritesReply at config task status old new × WarnsUnclosed task fault_old fault_new)
     ⊎ (IsFaultStatus status × Keeps old new × Writes fault_old fault_new (TellsWhy at config task status))
 
 -- What is written for words, and the status: of an input that has this before, where it tells that, and this behind, and of which a read failed or didn't.

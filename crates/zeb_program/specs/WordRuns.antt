@@ -37,30 +37,30 @@ ReadsAt at config read = ReadsProfile (at.tells (string_bytes config)) config re
 
 -- ---- a task
 
--- what comes of a task under a profile
-pub data ServesUnder {S : Type 0} (at : Places S) (profile : List Directive) (task : Task) : Result Reply Fault → Type 0 where
+-- what comes of a task under a profile, where this is the status of the close of its register's store
+pub data ServesUnder {S : Type 0} (at : Places S) (profile : List Directive) (task : Task) (closed : Status) : Result Reply Fault → Type 0 where
   -- the answer of the register, or that one of the task's paths can't be read, or one below them
   answered : {result : Result Reply Fault} → (c : Conditions) → AreScriptConditions profile c
-      → OnRegister at profile (task ≡ Ask Init) (DoesTask at.store at.tells c task result)
-      (λ before. IfErr result (NamesUnder (paths_of task)) × AnswersOn at.tells c task result before) → ServesUnder at profile task result
+      → OnRegister at profile closed (task ≡ Ask Init) (DoesTask at.store at.tells c task result)
+      (λ before. IfErr result (NamesUnder (paths_of task)) × AnswersOn at.tells c task result before) → ServesUnder at profile task closed result
   -- or memory ran out for the program itself
-  starved : ServesUnder at profile task (Err Memory)
+  starved : ServesUnder at profile task closed (Err Memory)
   -- or why none is opened
-  unopened : {why : Refusal} → IsOpeningFailure why → ServesUnder at profile task (Err (Refused why))
+  unopened : {why : Refusal} → IsOpeningFailure why → ServesUnder at profile task closed (Err (Refused why))
 
 -- what comes of a task by the profile in this file: no more than its fault, where it isn't read
-pub data Performs {S : Type 0} (at : Places S) (config : String Global) (task : Task) : Result Reply Fault → Type 0 where
-  unread : {fault : Fault} → ReadsAt at config (Err fault) → Performs at config task (Err fault)
-  performed : {result : Result Reply Fault} → (profile : List Directive) → ReadsAt at config (Ok profile) → ServesUnder at profile task result
-      → Performs at config task result
+pub data Performs {S : Type 0} (at : Places S) (config : String Global) (task : Task) (closed : Status) : Result Reply Fault → Type 0 where
+  unread : {fault : Fault} → ReadsAt at config (Err fault) → Performs at config task closed (Err fault)
+  performed : {result : Result Reply Fault} → (profile : List Directive) → ReadsAt at config (Ok profile) → ServesUnder at profile task closed result
+      → Performs at config task closed result
 
 -- the text of a reply that comes of the task is written
-abbrev pub WritesReply : {S : Type 0} → Places S → String Global → Task → Option (List ℕ) → Option (List ℕ) → Type 0
-WritesReply at config task old new = (reply : Reply) × Performs at config task (Ok reply) × Appends old new (reply_text reply)
+abbrev pub WritesReply : {S : Type 0} → Places S → String Global → Task → Status → Option (List ℕ) → Option (List ℕ) → Type 0
+WritesReply at config task closed old new = (reply : Reply) × Performs at config task closed (Ok reply) × Appends old new (reply_text reply)
 
 -- the lines of a fault that comes of the task
 abbrev pub TellsWhy : {S : Type 0} → Places S → String Global → Task → Status → List ℕ → Type 0
-TellsWhy at config task status bytes = (fault : Fault) × Performs at config task (Err fault) × TellsFailure fault bytes status
+TellsWhy at config task status bytes = (fault : Fault) × (closed : Status) × Performs at config task closed (Err fault) × TellsFailure fault bytes status
 
 -- ---- the lines of the input
 
@@ -90,7 +90,7 @@ IsText given text = IsInput text × IfSome given (λ bytes. text ≡ bytes)
 -- The lines of a text are run as a batch, numbered from 1: on the register in the store, or, where none stands there and no line begins one, on one in
 -- memory as those of a script. This is the greatest status met.
 pub data RunsLines {S : Type 0} (at : Places S) (profile : List Directive) (text : List ℕ) (old new fault_old fault_new : Option (List ℕ)) : Status → Type 0 where
-  on_store : (c : Conditions) → (answered : Status) → (closed : Status) → AreScriptConditions profile c → FromStore at profile (RunsText at.store at.tells packed_blocks c 0 text old new answered)
+  on_store : (c : Conditions) → (answered : Status) → (closed : Status) → AreScriptConditions profile c → FromStore at profile closed (RunsText at.store at.tells packed_blocks c 0 text old new answered)
       → TellsClosed fault_old fault_new closed → RunsLines at profile text old new fault_old fault_new (greater answered closed)
   in_memory : {status : Status} → LacksStore at profile → ¬ BeginsRegister text → Keeps fault_old fault_new
       → RunsFromNothing at.tells profile 0 text old new status → RunsLines at profile text old new fault_old fault_new status
@@ -106,11 +106,12 @@ pub data RunsBatch {S : Type 0} (at : Places S) (config : String Global) (given 
 
 -- what is written for a shell, and its status, where this is left of the input, and `failed` says whether a read of it failed
 pub data RunsShell {S : Type 0} (at : Places S) (config : String Global) (given left : Option (List ℕ)) (failed : Bool) (old new fault_old fault_new : Option (List ℕ)) : Status → Type 0 where
-  shell_stopped : {status : Status} → (fault : Fault) → StopsOpening at config fault → Keeps old new
+  -- no register is opened, and no byte of the input is gone
+  shell_stopped : {status : Status} → (fault : Fault) → StopsOpening at config fault → left ≡ given → Keeps old new
       → Writes fault_old fault_new (λ bytes. TellsFailure fault bytes status) → RunsShell at config given left failed old new fault_old fault_new status
   shell_ran : (profile : List Directive) → (c : Conditions) → (between : Option (List ℕ)) → (answered : Status) → (closed : Status)
       → ReadsAt at config (Ok profile) → AreScriptConditions profile c
-      → FromStore at profile (λ first last. IfSome given
+      → FromStore at profile closed (λ first last. IfSome given
       (λ text. ServesText at.store at.tells packed_blocks c text left failed old new fault_old between answered first last))
       → TellsClosed between fault_new closed → RunsShell at config given left failed old new fault_old fault_new (greater answered closed)
 
@@ -120,7 +121,7 @@ pub data RunsShell {S : Type 0} (at : Places S) (config : String Global) (given 
 -- memory, or before one is opened.
 pub data StopsLines {S : Type 0} (at : Places S) (profile : List Directive) (text : List ℕ) (old new fault_old fault_new : Option (List ℕ)) : Type 0 where
   part_on_store : (c : Conditions) → (closed : Status) → AreScriptConditions profile c
-      → FromStore at profile (λ first _. Stops (state at.store first) old new (AnswersPart at.tells c 0 text))
+      → FromStore at profile closed (λ first _. Stops (state at.store first) old new (AnswersPart at.tells c 0 text))
       → TellsClosed fault_old fault_new closed → StopsLines at profile text old new fault_old fault_new
   part_in_memory : LacksStore at profile → ¬ BeginsRegister text → Keeps fault_old fault_new
       → AnswersStopped at.tells profile 0 text old new → StopsLines at profile text old new fault_old fault_new
@@ -136,5 +137,5 @@ pub data StopsBatch {S : Type 0} (at : Places S) (config : String Global) (given
 pub data StopsShell {S : Type 0} (at : Places S) (config : String Global) (given left old new fault_old fault_new : Option (List ℕ)) : Type 0 where
   shell_silent : Keeps old new → Keeps fault_old fault_new → StopsShell at config given left old new fault_old fault_new
   shell_part : (profile : List Directive) → (c : Conditions) → (closed : Status) → ReadsAt at config (Ok profile) → AreScriptConditions profile c
-      → FromStore at profile (λ first _. IfSome given (λ text. StopsText at.store at.tells packed_blocks c Starved text left old new first))
+      → FromStore at profile closed (λ first last. IfSome given (λ text. StopsText at.store at.tells packed_blocks c Starved text left old new first last))
       → TellsClosed fault_old fault_new closed → StopsShell at config given left old new fault_old fault_new

@@ -5,7 +5,7 @@ ghost use Rattle.zeb_engine.specs.Analysed.{HasLines};
 ghost use Rattle.zeb_program.specs.FaultAnswers.{NamesUnder};
 ghost use Rattle.zeb_program.specs.Inputs.{AreShort};
 ghost use Rattle.zeb_program.specs.PrivateAnalyses.{ReadsFiles};
-ghost use Rattle.zeb_program.specs.PrivateFaults.{IsUnread};
+ghost use Rattle.zeb_program.specs.PrivateFaults.{IsUnreadAt};
 ghost use Rattle.zeb_program.specs.TaskAnswers.{AreTold};
 ghost use Rattle.zeb_program.specs.declared.faults.Fault.TheVariants.{Memory};
 
@@ -42,7 +42,7 @@ pub fn analyse_files<S: Alter, L: Layout, P: Paths>(
     ensures reason { (files : List (List ℕ)) → AreTold (P.tells paths.now)
         (map string_bytes named.now) files
         → IfErr result (λ fault. (fault ≡ Memory) ⊎ (¬ AreShort files)) }
-    ensures unread { IfErr result IsUnread }
+    ensures unread { IfErr result (IsUnreadAt (P.tells paths.now)) }
     ensures under { IfErr result (NamesUnder (map string_bytes named.now)) }
 {
     let mut buffer = RecordBuf::new(alloc)?;

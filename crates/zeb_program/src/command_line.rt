@@ -4,9 +4,10 @@ ghost use Rattle.std.specs.Prelude.{◌≡◌, ◌≢◌, ◌⊎◌, ◌+◌, �
 ghost use Rattle.std.specs.Prelude.{OnErr, IsErrAnd};
 ghost use Rattle.zeb_change.specs.Conditions.{conditions};
 ghost use Rattle.zeb_register.specs.Formats.{packed_blocks, version_of};
-ghost use Rattle.zeb_program.specs.PrivateWordRuns.{EndsSession, OpensUnder, RunsIn, ServesIn, StopsIn, StopsServing, TellsDone};
+ghost use Rattle.zeb_program.specs.PrivateWordRuns.{ClosesAloud, EndsSession, OpensUnder, RunsIn, ServesIn, StopsIn, StopsServing, TellsDone};
 ghost use Rattle.zeb_program.specs.ProfileFiles.{ReadsProfile};
 ghost use Rattle.zeb_program.specs.Registers.{places};
+ghost use Rattle.zeb_program.specs.Statuses.{closing_status};
 ghost use Rattle.zeb_program.specs.WordRuns.{IsText, RunsBatch, RunsLines, RunsShell};
 ghost use Rattle.zeb_program.specs.WordRuns.{StopsBatch, StopsLines, StopsOpening, StopsReading, StopsShell};
 ghost use Rattle.std.specs.Io.KnownBytes.{Appends, IsAtEnd};
@@ -56,13 +57,15 @@ pub fn run_words<R: Source, W: Output, V: Write, P: Paths>(
         → IfOk result (λ status. status ≡ Status.Failed) }
     ensures answer { IfOk result (λ status. output.new.failed ≡ false
         → fault_output.new.failed ≡ false → AnswersWords (places P.Store.Store (P.tells paths.old)
-        (P.opens paths.old) (P.lacks paths.old)) (map string_bytes words.now)
+        (P.opens paths.old paths.new) (P.lacks paths.old) (P.leaves paths.new))
+        (map string_bytes words.now)
         (R.remaining input.old) (R.remaining input.new) (R.has_failed input.new)
         (W.contents output.old.writer) (W.contents output.new.writer)
         (V.contents fault_output.old.writer) (V.contents fault_output.new.writer) status) }
     ensures stopped { OnErr result (output.new.failed ≡ false → fault_output.new.failed ≡ false
-        → StopsWords (places P.Store.Store (P.tells paths.old) (P.opens paths.old)
-        (P.lacks paths.old)) (map string_bytes words.now) (R.remaining input.old)
+        → StopsWords (places P.Store.Store (P.tells paths.old) (P.opens paths.old paths.new)
+        (P.lacks paths.old) (P.leaves paths.new)) (map string_bytes words.now)
+        (R.remaining input.old)
         (R.remaining input.new) (W.contents output.old.writer) (W.contents output.new.writer)
         (V.contents fault_output.old.writer) (V.contents fault_output.new.writer)) }
 {
@@ -124,7 +127,8 @@ fn run_task<W: Write, V: Write, P: Paths>(
 ) -> Result<Status, AllocError>
     ensures apart { IfOk result (λ status. output.new.failed ≡ false
         → fault_output.new.failed ≡ false → TellsApart (places P.Store.Store (P.tells paths.old)
-        (P.opens paths.old) (P.lacks paths.old)) config task.now (W.contents output.old.writer)
+        (P.opens paths.old paths.new) (P.lacks paths.old) (P.leaves paths.new)) config task.now
+        (W.contents output.old.writer)
         (W.contents output.new.writer) (V.contents fault_output.old.writer)
         (V.contents fault_output.new.writer) status) }
     // Memory that runs out in the program itself is found before anything is written.
@@ -149,6 +153,7 @@ fn tell_answer<W: Write, V: Write>(
         → MayWarn task (option_map string_bytes told.now.warning)
         → TellsDone task (V.contents fault_output.old.writer) (V.contents fault_output.new.writer)
         result }
+    ensures closing { result ≡ closing_status told.now.closed }
 {
     output.write(told.text.as_slice());
     warn(&told.warning, fault_output);
@@ -184,13 +189,15 @@ fn run_batch<R: Source, W: Write, V: Write, P: Paths>(
         → IfOk result (λ status. status ≡ Status.Failed) }
     ensures answer { IfOk result (λ status. output.new.failed ≡ false
         → fault_output.new.failed ≡ false
-        → RunsBatch (places P.Store.Store (P.tells paths.old) (P.opens paths.old)
-        (P.lacks paths.old)) config (R.remaining input.old) (R.has_failed input.new)
+        → RunsBatch (places P.Store.Store (P.tells paths.old) (P.opens paths.old paths.new)
+        (P.lacks paths.old) (P.leaves paths.new)) config (R.remaining input.old)
+        (R.has_failed input.new)
         (W.contents output.old.writer) (W.contents output.new.writer)
         (V.contents fault_output.old.writer) (V.contents fault_output.new.writer) status) }
     ensures stopped { OnErr result (output.new.failed ≡ false → fault_output.new.failed ≡ false
-        → StopsBatch (places P.Store.Store (P.tells paths.old) (P.opens paths.old)
-        (P.lacks paths.old)) config (R.remaining input.old) (W.contents output.old.writer)
+        → StopsBatch (places P.Store.Store (P.tells paths.old) (P.opens paths.old paths.new)
+        (P.lacks paths.old) (P.leaves paths.new)) config (R.remaining input.old)
+        (W.contents output.old.writer)
         (W.contents output.new.writer) (V.contents fault_output.old.writer)
         (V.contents fault_output.new.writer)) }
 {
@@ -221,8 +228,10 @@ fn begin_batch<R: Source, P: Paths>(
     ensures begun { IfOk result (λ begun. ReadsProfile (P.tells paths.now (string_bytes config))
         config (Ok begun.0) × IsText (R.remaining input.old) (string_bytes begun.1)) }
     ensures refused { IfErr result
-        (λ failure. StopsReading (places P.Store.Store (P.tells paths.now) (P.opens paths.now)
-        (P.lacks paths.now)) config (R.remaining input.old) (R.has_failed input.new)
+        (λ failure. StopsReading (places P.Store.Store (P.tells paths.now)
+        (P.opens paths.now paths.now)
+        (P.lacks paths.now) (P.leaves paths.now)) config (R.remaining input.old)
+        (R.has_failed input.new)
         failure.fault) }
 {
     let profile = profile_at(alloc, paths, config)?;
@@ -250,13 +259,15 @@ fn serve_batch<W: Write, V: Write, P: Paths>(
 ) -> Result<Status, AllocError>
     ensures answer { batch.entry.lines_before ≡ 0 → IfOk result (λ status. output.new.failed ≡ false
         → fault_output.new.failed ≡ false
-        → RunsLines (places P.Store.Store (P.tells paths.old) (P.opens paths.old)
-        (P.lacks paths.old)) profile batch.entry.text.now (W.contents output.old.writer)
+        → RunsLines (places P.Store.Store (P.tells paths.old) (P.opens paths.old paths.new)
+        (P.lacks paths.old) (P.leaves paths.new)) profile batch.entry.text.now
+        (W.contents output.old.writer)
         (W.contents output.new.writer) (V.contents fault_output.old.writer)
         (V.contents fault_output.new.writer) status) }
     ensures stopped { batch.entry.lines_before ≡ 0 → OnErr result (output.new.failed ≡ false
         → fault_output.new.failed ≡ false → StopsLines (places P.Store.Store (P.tells paths.old)
-        (P.opens paths.old) (P.lacks paths.old)) profile batch.entry.text.now
+        (P.opens paths.old paths.new) (P.lacks paths.old) (P.leaves paths.new)) profile
+        batch.entry.text.now
         (W.contents output.old.writer) (W.contents output.new.writer)
         (V.contents fault_output.old.writer) (V.contents fault_output.new.writer)) }
 {
@@ -279,13 +290,15 @@ fn run_in<W: Write, V: Write, P: Paths>(
     fault_output: &mut Sink<V>,
 ) -> Result<Status, AllocError>
     ensures answer { IfOk result (λ status. output.new.failed ≡ false
-        → fault_output.new.failed ≡ false → RunsIn P.Store.Store (P.tells paths.now)
+        → fault_output.new.failed ≡ false → RunsIn P.Store.Store (P.leaves paths.now)
+        (P.tells paths.now)
         (conditions (version_of packed_blocks) session.profile session.limits)
         batch.entry.lines_before batch.entry.text.now session.connection
         (W.contents output.old.writer) (W.contents output.new.writer)
         (V.contents fault_output.old.writer) (V.contents fault_output.new.writer) status) }
     ensures stopped { OnErr result (output.new.failed ≡ false → fault_output.new.failed ≡ false
-        → StopsIn P.Store.Store (P.tells paths.now) (conditions (version_of packed_blocks)
+        → StopsIn P.Store.Store (P.leaves paths.now) (P.tells paths.now)
+        (conditions (version_of packed_blocks)
         session.profile session.limits) batch.entry.lines_before batch.entry.text.now
         session.connection (W.contents output.old.writer) (W.contents output.new.writer)
         (V.contents fault_output.old.writer) (V.contents fault_output.new.writer)) }
@@ -311,13 +324,15 @@ fn run_shell<R: Source, W: Output, V: Write, P: Paths>(
         ⊎ (output.new ≡ output.old)) }
     ensures answer { IfOk result (λ status. output.new.failed ≡ false
         → fault_output.new.failed ≡ false
-        → RunsShell (places P.Store.Store (P.tells paths.old) (P.opens paths.old)
-        (P.lacks paths.old)) config (R.remaining input.old) (R.remaining input.new)
+        → RunsShell (places P.Store.Store (P.tells paths.old) (P.opens paths.old paths.new)
+        (P.lacks paths.old) (P.leaves paths.new)) config (R.remaining input.old)
+        (R.remaining input.new)
         (R.has_failed input.new) (W.contents output.old.writer) (W.contents output.new.writer)
         (V.contents fault_output.old.writer) (V.contents fault_output.new.writer) status) }
     ensures stopped { OnErr result (output.new.failed ≡ false → fault_output.new.failed ≡ false
-        → StopsShell (places P.Store.Store (P.tells paths.old) (P.opens paths.old)
-        (P.lacks paths.old)) config (R.remaining input.old) (R.remaining input.new)
+        → StopsShell (places P.Store.Store (P.tells paths.old) (P.opens paths.old paths.new)
+        (P.lacks paths.old) (P.leaves paths.new)) config (R.remaining input.old)
+        (R.remaining input.new)
         (W.contents output.old.writer) (W.contents output.new.writer)
         (V.contents fault_output.old.writer) (V.contents fault_output.new.writer)) }
 {
@@ -342,13 +357,15 @@ fn serve_in<R: Source, W: Output, V: Write, P: Paths>(
     ensures whole { IfOk result (λ status. status ≢ Status.Failed
         → IsAtEnd (R.remaining input.new)) }
     ensures answer { IfOk result (λ status. output.new.failed ≡ false
-        → fault_output.new.failed ≡ false → ServesIn P.Store.Store (P.tells paths.now)
+        → fault_output.new.failed ≡ false → ServesIn P.Store.Store (P.leaves paths.now)
+        (P.tells paths.now)
         (conditions (version_of packed_blocks) session.profile session.limits)
         (R.remaining input.old) (R.remaining input.new) (R.has_failed input.new)
         session.connection (W.contents output.old.writer) (W.contents output.new.writer)
         (V.contents fault_output.old.writer) (V.contents fault_output.new.writer) status) }
     ensures stopped { OnErr result (output.new.failed ≡ false → fault_output.new.failed ≡ false
-        → StopsServing P.Store.Store (P.tells paths.now) (conditions (version_of packed_blocks)
+        → StopsServing P.Store.Store (P.leaves paths.now) (P.tells paths.now)
+        (conditions (version_of packed_blocks)
         session.profile session.limits) (R.remaining input.old) (R.remaining input.new)
         session.connection (W.contents output.old.writer) (W.contents output.new.writer)
         (V.contents fault_output.old.writer) (V.contents fault_output.new.writer)) }
@@ -367,8 +384,9 @@ fn end_session<V: Write, P: Paths>(
     fault_output: &mut Sink<V>,
 ) -> Result<Status, AllocError>
     ensures sound { fault_output.new.failed ≡ false → fault_output.old.failed ≡ false }
-    ensures ends { EndsSession answered result fault_output.new.failed
-        (V.contents fault_output.old.writer) (V.contents fault_output.new.writer) }
+    ensures ends { EndsSession answered result (ClosesAloud P.Store.Store (P.leaves paths.now)
+        session.connection fault_output.new.failed (V.contents fault_output.old.writer)
+        (V.contents fault_output.new.writer)) }
 {
     let closed = tell_closed(close_register(paths, session), fault_output);
     Ok(answered?.max(closed))
@@ -381,12 +399,15 @@ fn open<P: Paths>(
     paths: &mut P,
 ) -> Result<Session<P::Store, Blocks>, Failure>
     ensures opened { IfOk result
-        (λ session. OpensUnder (places P.Store.Store (P.tells paths.old) (P.opens paths.old)
-        (P.lacks paths.old)) config (conditions (version_of packed_blocks) session.profile
+        (λ session. OpensUnder (places P.Store.Store (P.tells paths.old)
+        (P.opens paths.old paths.new)
+        (P.lacks paths.old) (P.leaves paths.new)) config
+        (conditions (version_of packed_blocks) session.profile
         session.limits) session.connection) }
     ensures failed { IfErr result
-        (λ failure. StopsOpening (places P.Store.Store (P.tells paths.old) (P.opens paths.old)
-        (P.lacks paths.old)) config failure.fault) }
+        (λ failure. StopsOpening (places P.Store.Store (P.tells paths.old)
+        (P.opens paths.old paths.new)
+        (P.lacks paths.old) (P.leaves paths.new)) config failure.fault) }
     ensures told { P.tells paths.new ≡ P.tells paths.old }
 {
     let profile = profile_at(alloc, paths, config)?;

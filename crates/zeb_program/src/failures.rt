@@ -1,10 +1,12 @@
 //! Why a command that words name isn't answered, with its cause, and what is written of both.
 
-ghost use Rattle.std.specs.Prelude.{◌≡◌, ◌⊎◌, false, IfOk, OnErr};
+ghost use Rattle.std.specs.Prelude.{◌≡◌, ◌⊎◌, ◌↔◌, false, true, IfOk, OnErr};
+ghost use Rattle.std.specs.Option.{option_map};
 ghost use Rattle.zeb_program.specs.Answers.{Writes};
-ghost use Rattle.zeb_program.specs.FaultLines.{IsCause, IsUnclosed, TellsFailure, cause_line, unread_lines};
+ghost use Rattle.zeb_program.specs.FaultLines.{IsCauseOf, IsUnclosed, TellsFailure, cause_line, cause_lines, unclosed_lines, unread_lines};
+ghost use Rattle.zeb_program.specs.declared.failures.Cause.TheVariants.{Path as PathOf, Store as StoreOf};
 ghost use Rattle.zeb_program.specs.PrivateFaults.{IsUnread};
-ghost use Rattle.zeb_program.specs.Statuses.{IsFaultStatus};
+ghost use Rattle.zeb_program.specs.Statuses.{IsFaultStatus, closing_status};
 ghost use Rattle.zeb_program.specs.declared.faults.Fault.TheVariants.{Memory, Refused};
 ghost use Rattle.std.specs.Io.KnownBytes.{Appends};
 
@@ -35,6 +37,8 @@ pub enum Cause {
 pub struct Failure {
     pub fault: Fault,
     pub cause: Option<Cause>,
+    // No cause is told below the fault of another.
+    ghost fits: { IsCauseOf fault cause },
 }
 
 impl From<AllocError> for Failure {
@@ -64,10 +68,24 @@ pub fn of_path<P: Paths>(paths: &P, fault: Fault) -> Failure
     ensures { result.fault ≡ fault }
 {
     let cause = match &fault {
-        Fault::Unreadable(path) => paths.why_unread(path.as_str()).map(Cause::Path),
+        Fault::Unreadable(path) => path_cause(paths.why_unread(path.as_str())),
         _ => None,
     };
     Failure { fault, cause }
+}
+
+/// Why a path isn't read, as a cause.
+fn path_cause(met: Option<PathCause>) -> Option<Cause>
+    ensures { result ≡ option_map PathOf met }
+{
+    met.map(Cause::Path)
+}
+
+/// Why the store fails, as a cause.
+fn store_cause(met: Option<StoreCause>) -> Option<Cause>
+    ensures { result ≡ option_map StoreOf met }
+{
+    met.map(Cause::Store)
 }
 
 /// A refusal; of a failed store the cause is this one.
@@ -75,7 +93,7 @@ pub fn of_store(refusal: Refusal, cause: Option<StoreCause>) -> Failure
     ensures { result.fault ≡ Refused refusal }
 {
     let cause = match refusal {
-        Refusal::Store => cause.map(Cause::Store),
+        Refusal::Store => store_cause(cause),
         _ => None,
     };
     Failure {
@@ -105,8 +123,8 @@ pub fn tell_failure<W: Write>(
 
 /// Writes the line of a cause, where one is known.
 fn tell_cause<W: Write>(cause: &Option<Cause>, output: &mut Sink<W>)
-    ensures told { output.new.failed ≡ false →
-        Writes (W.contents output.old.writer) (W.contents output.new.writer) IsCause }
+    ensures told { output.new.failed ≡ false → Appends (W.contents output.old.writer)
+        (W.contents output.new.writer) (cause_lines cause.now) }
     ensures sound { output.new.failed ≡ false → output.old.failed ≡ false }
 {
     match cause {
@@ -142,24 +160,26 @@ pub fn tell_unread<W: Write>(cause: InputCause, output: &mut Sink<W>)
 
 /// Writes that a part of what was done stands beside the register's file, where it does, and answers the status.
 pub fn tell_closed<W: Write>(closed: Closed, output: &mut Sink<W>) -> Status
+    ensures said { closed.is_whole ≡ true ↔ (result ≡ Status.Answered) }
     ensures whole { result ≡ Status.Answered → output.new ≡ output.old }
     ensures unclosed { result ≡ Status.Failed → output.new.failed ≡ false →
         Writes (W.contents output.old.writer) (W.contents output.new.writer) IsUnclosed }
     ensures sound { output.new.failed ≡ false → output.old.failed ≡ false }
     ensures status { (result ≡ Status.Answered) ⊎ (result ≡ Status.Failed) }
+    ensures closing { result ≡ closing_status closed }
 {
     if closed.is_whole {
         return Status::Answered;
     }
-    tell_unclosed(&closed.cause.map(Cause::Store), output);
+    tell_unclosed(closed.cause, output);
     Status::Failed
 }
 
-fn tell_unclosed<W: Write>(cause: &Option<Cause>, output: &mut Sink<W>)
-    ensures told { output.new.failed ≡ false →
-        Writes (W.contents output.old.writer) (W.contents output.new.writer) IsUnclosed }
+fn tell_unclosed<W: Write>(cause: Option<StoreCause>, output: &mut Sink<W>)
+    ensures told { output.new.failed ≡ false → Appends (W.contents output.old.writer)
+        (W.contents output.new.writer) (unclosed_lines cause) }
     ensures sound { output.new.failed ≡ false → output.old.failed ≡ false }
 {
     output.write_line("zebraidx: done, but the register's file needs its log");
-    tell_cause(cause, output);
+    tell_cause(&store_cause(cause), output);
 }

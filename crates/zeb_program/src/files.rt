@@ -1,6 +1,7 @@
 //! The files at the paths that words or a line name.
 
-ghost use Rattle.std.specs.Prelude.{◌≡◌, ◌+◌, ℕ, List, Some, map, string_bytes, Err, IfErr, IfOk, false, true};
+ghost use Rattle.std.specs.Prelude.{◌≡◌, ◌+◌, ℕ, List, Some, Ok, map, string_bytes, Err, IfErr, IfOk, IfSome, false, true};
+ghost use Rattle.zeb_paths.specs.Walks.{IsUnder};
 ghost use Rattle.zeb_program.specs.Inputs.{TakesAtMost};
 ghost use Rattle.zeb_program.specs.FaultAnswers.{NamesUnder, NamesUntold};
 ghost use Rattle.zeb_program.specs.PrivateFaults.{IsUnread};
@@ -13,7 +14,7 @@ use crate::faults::Fault;
 use crate::input::{GREATEST_INPUT, InputFault, read_text, read_whole};
 use std::alloc::Global;
 use zeb_marc::Source;
-use zeb_paths::{Paths, Walk};
+use zeb_paths::{Paths, Walk, WalkFault};
 use zeb_profile::Profile;
 
 /// How many bytes a profile's file may have.
@@ -89,12 +90,26 @@ pub fn path_of_file<P: Paths>(
     paths: &P,
     named: &[String],
     number: u64,
-) -> Option<String> {
-    let mut walk = Walk::new(alloc, paths, named).ok()?;
+) -> Option<String>
+    ensures { IfSome result (λ path. IsUnder (map string_bytes named.now) (string_bytes path)) }
+{
+    let Ok(mut walk) = Walk::new(alloc, paths, named) else {
+        return None;
+    };
     for _ in 1..number {
-        let _passed = walk.next_file().ok()??;
+        let _passed = given(walk.next_file())?;
     }
-    walk.next_file().ok()?
+    given(walk.next_file())
+}
+
+/// The file that a walk gives. `None` where there is none, or it can't go on.
+fn given(found: Result<Option<String>, WalkFault>) -> Option<String>
+    ensures { IfSome result (λ path. found ≡ Ok (Some path)) }
+{
+    match found {
+        Ok(found) => found,
+        Err(_) => None,
+    }
 }
 
 /// The bytes of the file at this path. A file that can't be read, or has too many bytes, is a path that can't be read.

@@ -5,11 +5,9 @@ ghost use Rattle.sqlite.specs.Held.{state};
 ghost use Rattle.sqlite.specs.State.{HasCleanDisk};
 ghost use Rattle.zeb_change.specs.Conditions.{conditions};
 ghost use Rattle.zeb_engine.specs.Adopting.{HasOtherTables};
-ghost use Rattle.zeb_engine.specs.Crashes.{Bears};
-ghost use Rattle.zeb_image.specs.Holdings.{Holdings};
-ghost use Rattle.zeb_image.specs.Image.{Keeps};
 ghost use Rattle.zeb_register.specs.Formats.{packed_blocks, version_of};
 ghost use Rattle.zeb_program.specs.FaultAnswers.{IsOpeningFailure};
+ghost use Rattle.zeb_program.specs.Registers.{IsTakenOver};
 ghost use Rattle.zeb_program.specs.ScriptAnswers.{AreScriptConditions};
 
 use sqlite::{Alter, Connection};
@@ -36,8 +34,7 @@ pub fn session_over<S: Alter + Drop>(
     ensures failed { IfErr result IsOpeningFailure }
     ensures keeps { IfOk opened
         (λ connection. IfOk result (λ session. HasCleanDisk (state S.Store session.connection)
-        → (before : Holdings) → Bears (state S.Store connection) before
-        → Keeps (state S.Store session.connection) before)) }
+        → IsTakenOver S.Store connection session.connection)) }
     ensures under { IfOk result (λ session. AreScriptConditions profile
         (conditions (version_of packed_blocks) session.profile session.limits)) }
 {

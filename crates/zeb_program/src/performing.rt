@@ -1,16 +1,19 @@
 //! A task from the words to what is told of it: the register is opened, the task is carried out, and the register is closed.
 
-ghost use Rattle.std.specs.Prelude.{◌≡◌, IfErr, IfOk, Result, string_bytes};
+ghost use Rattle.std.specs.Prelude.{◌≡◌, IfErr, IfOk, IfSome, Result, string_bytes};
 ghost use Rattle.zeb_engine.specs.declared.replies.Reply.{Reply};
 ghost use Rattle.zeb_program.specs.PrivateServing.{StandsFor};
-ghost use Rattle.zeb_program.specs.PrivateWordRuns.{GivesFor, IsOwnOr, ServesOnNothing, TakesStore, fault_given};
+ghost use Rattle.zeb_program.specs.PrivateWordRuns.{GivesClosed, GivesFor, IsOwnOr, ServesOnNothing, TakesStore, fault_given};
 ghost use Rattle.zeb_program.specs.ProfileFiles.{ReadsProfile};
-ghost use Rattle.zeb_program.specs.Registers.{places};
+ghost use Rattle.zeb_program.specs.Registers.{ClosesStore, places};
+ghost use Rattle.zeb_program.specs.Statuses.{closing_status};
+ghost use Rattle.zeb_program.specs.TaskAnswers.{paths_of};
 ghost use Rattle.zeb_program.specs.WordRuns.{Performs, ServesUnder};
 ghost use Rattle.std.specs.Option.{option_map};
 ghost use Rattle.zeb_change.specs.Conditions.{conditions};
 ghost use Rattle.zeb_register.specs.Formats.{packed_blocks, version_of};
-ghost use Rattle.zeb_program.specs.PrivateFaults.{IsOpeningFault};
+ghost use Rattle.zeb_program.specs.FaultLines.{file_in};
+ghost use Rattle.zeb_program.specs.PrivateFaults.{IsFileOf, IsOpeningFault};
 ghost use Rattle.zeb_program.specs.ScriptAnswers.{AreScriptConditions};
 ghost use Rattle.zeb_program.specs.PrivateWarnings as spec;
 ghost use Rattle.zeb_program.specs.declared.faults.Fault.{Fault};
@@ -50,8 +53,9 @@ pub fn perform<P: Paths>(
 ) -> Result<Told, Failure>
     ensures warns { IfOk result
         (λ told. spec.MayWarn task.now (option_map string_bytes told.warning)) }
-    ensures performs { GivesFor result
-        (Performs (places P.Store.Store (P.tells paths.old) (P.opens paths.old) (P.lacks paths.old))
+    ensures performs { GivesClosed result
+        (Performs (places P.Store.Store (P.tells paths.old) (P.opens paths.old paths.new)
+        (P.lacks paths.old) (P.leaves paths.new))
         config task.now) }
 {
     let profile = profile_at(alloc, paths, config)?;
@@ -70,9 +74,9 @@ fn perform_in_register<P: Paths>(
 ) -> Result<Told, Failure>
     ensures warns { IfOk result
         (λ told. spec.MayWarn task.now (option_map string_bytes told.warning)) }
-    ensures serves { GivesFor result
-        (ServesUnder (places P.Store.Store (P.tells paths.old) (P.opens paths.old)
-        (P.lacks paths.old)) profile task.now) }
+    ensures serves { GivesClosed result
+        (ServesUnder (places P.Store.Store (P.tells paths.old) (P.opens paths.old paths.new)
+        (P.lacks paths.old) (P.leaves paths.new)) profile task.now) }
 {
     let mut session = open_register(alloc, paths, profile)?;
     let served = carry_out(alloc, &mut session, paths, task);
@@ -105,10 +109,13 @@ fn told_of<P: Paths>(
     closed: Closed,
 ) -> Result<Told, Failure>
     requires shown { IfOk served (spec.IsServedFor task.now) }
+    ensures warned { IfOk result (λ told. IfOk served
+        (λ it. option_map string_bytes told.warning ≡ spec.warned_in it)) }
     ensures warns { IfOk result
         (λ told. spec.MayWarn task.now (option_map string_bytes told.warning)) }
     ensures gives { (own : Result Reply Fault) → StandsFor served own
         → GivesFor result (λ answer. IsOwnOr answer own) }
+    ensures closed { IfOk result (λ told. told.closed ≡ closed) }
 {
     match served {
         Ok(Served::Replied(reply)) => Ok(Told {
@@ -148,7 +155,9 @@ fn explained<P: Paths>(
 }
 
 /// The number of the file that a refusal is about.
-fn file_of(refusal: &Refusal) -> Option<u64> {
+fn file_of(refusal: &Refusal) -> Option<u64>
+    ensures { result ≡ file_in refusal.now }
+{
     match refusal {
         Refusal::Record { file, .. }
         | Refusal::Unknown { file, .. }
@@ -158,7 +167,9 @@ fn file_of(refusal: &Refusal) -> Option<u64> {
 }
 
 /// The path of a task's file of this number, where it is found again.
-fn file_cause<P: Paths>(alloc: Global, paths: &P, task: &Task, number: u64) -> Option<Cause> {
+fn file_cause<P: Paths>(alloc: Global, paths: &P, task: &Task, number: u64) -> Option<Cause>
+    ensures { IfSome result (IsFileOf (paths_of task.now) number) }
+{
     let path = path_of_file(alloc, paths, task.named(), number)?;
     Some(Cause::File { number, path })
 }
@@ -183,8 +194,9 @@ pub fn open_register<P: Paths>(
     ensures under { IfOk result (λ session. AreScriptConditions profile
         (conditions (version_of packed_blocks) session.profile session.limits)) }
     ensures opened { IfOk result
-        (λ session. TakesStore (places P.Store.Store (P.tells paths.old) (P.opens paths.old)
-        (P.lacks paths.old)) profile session.connection) }
+        (λ session. TakesStore (places P.Store.Store (P.tells paths.old)
+        (P.opens paths.old paths.new)
+        (P.lacks paths.old) (P.leaves paths.new)) profile session.connection) }
     ensures told { P.tells paths.new ≡ P.tells paths.old }
 {
     let opened = paths.store(profile.store_path());
@@ -205,7 +217,12 @@ fn opening_cause<S: Alter>(opened: &Result<Connection<S>, OpenFailed>) -> Option
 }
 
 /// Ends a session, and closes its register: what was committed is put into the one file.
-pub fn close_register<P: Paths>(paths: &P, session: Session<P::Store, Blocks>) -> Closed {
-    let mut store = session.release().into_store();
-    paths.close(&mut store)
+pub fn close_register<P: Paths>(paths: &P, session: Session<P::Store, Blocks>) -> Closed
+    ensures { ClosesStore P.Store.Store (P.leaves paths.now) session.connection
+        (closing_status result) }
+{
+    let connection = session.release();
+    // What is shown is what was committed.
+    let _settled = connection.is_autocommit();
+    paths.close(connection.into_store())
 }

@@ -80,8 +80,10 @@ pub fn run<R: Source, W: Output, V: Output, P: Paths>(
 
     // With words: what is told of the register that they have a command carried out on is told where the paths tell what opens it.
     ensures words { words.now ≢ [] → output.new.failed ≡ false → fault_output.new.failed ≡ false
-        → EndsWith result (EndsWords (places P.Store.Store (P.tells files.old) (P.opens files.old)
-        (P.lacks files.old)) (map string_bytes words.now) (R.remaining input.old)
+        → EndsWith result (EndsWords (places P.Store.Store (P.tells files.old)
+        (P.opens files.old files.new)
+        (P.lacks files.old) (P.leaves files.new)) (map string_bytes words.now)
+        (R.remaining input.old)
         (R.remaining input.new) (R.has_failed input.new) (W.contents output.old.writer)
         (W.contents output.new.writer) (V.contents fault_output.old.writer)
         (V.contents fault_output.new.writer)) }

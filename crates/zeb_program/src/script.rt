@@ -24,12 +24,13 @@ pub struct Batch<'a> {
 }
 
 impl<'a> Batch<'a> {
-    ghost use Rattle.std.specs.Prelude.{false};
+    ghost use Rattle.std.specs.Prelude.{false, true};
     ghost use Rattle.zeb_program.specs.Scripts.{BeginsRegister};
 
     /// Whether a line asks that a register be begun.
     pub fn begins(&self) -> bool
-        ensures { result ≡ false → ¬ BeginsRegister self.now.text.now }
+        ensures none { result ≡ false → ¬ BeginsRegister self.now.text.now }
+        ensures some { result ≡ true → BeginsRegister self.now.text.now }
     {
         let mut rest = self.text;
         while !rest.is_empty() {

@@ -7,7 +7,7 @@ ghost use Rattle.sqlite.specs.State.{HasCleanDisk};
 ghost use Rattle.zeb_change.specs.Conditions.{conditions};
 ghost use Rattle.zeb_register.specs.Formats.{version_of};
 ghost use Rattle.zeb_program.specs.Answers.{AnswersAsTold, Writes};
-ghost use Rattle.zeb_program.specs.Doing.{RunsText, ServesText, StopsText};
+ghost use Rattle.zeb_program.specs.Doing.{KeepsUnread, RunsText, ServesText, StopsText};
 ghost use Rattle.zeb_program.specs.InputCauses.{EndsInLine};
 ghost use Rattle.zeb_program.specs.Lines.{first_line, after_first_line};
 ghost use Rattle.zeb_program.specs.PrivateLines.{whole_first_line};
@@ -56,7 +56,7 @@ pub fn serve_lines<R: Source, S: Alter, L: Layout, P: Paths, W: Output, V: Write
         (λ text. StopsText S.Store (P.tells paths.now) L.format
         (conditions (version_of L.format) session.old.profile session.old.limits) Memory text
         (R.remaining input.new) (W.contents output.old.writer) (W.contents output.new.writer)
-        session.old.connection)) }
+        session.old.connection session.new.connection)) }
     ensures silent { OnErr result (fault_output.new ≡ fault_output.old) }
     ensures clean { HasCleanDisk (state S.Store session.new.connection)
         → HasCleanDisk (state S.Store session.old.connection) }
@@ -104,7 +104,7 @@ pub fn run_shell_lines<R: Source, S: Alter, L: Layout, P: Paths, W: Output>(
         (λ text. StopsText S.Store (P.tells paths.now) L.format
         (conditions (version_of L.format) session.old.profile session.old.limits) why text
         (R.remaining input.new) (W.contents output.old.writer) (W.contents output.new.writer)
-        session.old.connection)) }
+        session.old.connection session.new.connection)) }
     ensures clean { HasCleanDisk (state S.Store session.new.connection)
         → HasCleanDisk (state S.Store session.old.connection) }
     ensures failed { result ≡ Err (Unreadable FailedRead) ↔ R.has_failed input.new ≡ true }
@@ -114,12 +114,12 @@ pub fn run_shell_lines<R: Source, S: Alter, L: Layout, P: Paths, W: Output>(
 {
     let mut greatest = Status::Answered;
     for lines_before in 0..u64::MAX {
+        if output.has_failed() {
+            return Ok(Status::Failed);
+        }
         match run_next_line(alloc, session, paths, lines_before + 1, input, output)? {
             Some(status) => greatest = greatest.max(status),
             None => return Ok(greatest),
-        }
-        if output.has_failed() {
-            return Ok(Status::Failed);
         }
     }
     // A line more than there are numbers.
@@ -136,7 +136,9 @@ fn run_next_line<R: Source, S: Alter, L: Layout, P: Paths, W: Output>(
     input: &mut R,
     output: &mut Sink<W>,
 ) -> Result<Option<Status>, LineFault>
-    requires { R.has_failed input.old ≡ false }
+    requires sound { R.has_failed input.old ≡ false }
+    // No line is run whose answer could not be seen.
+    requires seen { output.old.failed ≡ false }
     ensures sound { output.new.failed ≡ false → output.old.failed ≡ false }
     ensures answer { IfOk result (λ found. IfSome found (λ status. output.new.failed ≡ false
         → HasCleanDisk (state S.Store session.new.connection) → IfSome (R.remaining input.old)
@@ -165,7 +167,8 @@ fn run_next_line<R: Source, S: Alter, L: Layout, P: Paths, W: Output>(
     ensures idle { IfOk result (λ found. IfNone found (IsAtEnd (R.remaining input.old)
         × (session.new ≡ session.old) × (output.new ≡ output.old))) }
     // Of a line that can't be read, or isn't answered.
-    ensures stops { IfErr result (λ fault. IfSome (R.remaining input.old)
+    ensures stops { IfErr result (λ fault. KeepsUnread fault session.old.connection
+        session.new.connection × IfSome (R.remaining input.old)
         (λ left. EndsInLine GREATEST_INPUT fault left (R.remaining input.new))) }
     ensures going { IfOk result (λ _. R.has_failed input.new ≡ false) }
     ensures passed { IfOk result (λ found. IfSome found (λ _. output.new.failed ≡ false

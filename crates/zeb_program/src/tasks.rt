@@ -1,6 +1,6 @@
 //! The tasks that words name, each carried out on the register that the profile names.
 
-ghost use Rattle.std.specs.Prelude.{◌≡◌, false, ℕ, [], List, Result, map, string_bytes, IfErr, IfOk, OnErr};
+ghost use Rattle.std.specs.Prelude.{◌≡◌, false, true, ℕ, [], List, Result, map, string_bytes, IfErr, IfOk, OnErr};
 ghost use Rattle.sqlite.specs.Held.{state};
 ghost use Rattle.sqlite.specs.State.{HasCleanDisk};
 ghost use Rattle.zeb_change.specs.Conditions.{conditions};
@@ -47,13 +47,16 @@ pub enum Task {
 impl Task {
     /// Whether it may be accepted where there is no register yet.
     pub fn begins(&self) -> bool
-        ensures { result ≡ false → ¬ (self.now ≡ Task.Ask Command.Init) }
+        ensures other { result ≡ false → ¬ (self.now ≡ Task.Ask Command.Init) }
+        ensures begins { result ≡ true → self.now ≡ Task.Ask Command.Init }
     {
         matches!(self, Task::Ask(Command::Init))
     }
 
     /// The paths that it names.
-    pub fn named(&self) -> &[String] {
+    pub fn named(&self) -> &[String]
+        ensures { map string_bytes result.now ≡ paths_of self.now }
+    {
         match self {
             Task::Ask(_) => &[],
             Task::Change { paths, .. } | Task::Analyse(paths) => paths.as_slice(),

@@ -11,7 +11,7 @@ pub use Rattle.std.proofs.lemmas.List.{at_drop_more, length_push, map-append, ni
 pub use Rattle.std.proofs.lemmas.List.Elements.{All-cons, All-nil, All-head, All-tail}
 pub use Rattle.std.proofs.lemmas.Map.Views.{exact_unsigned_eq}
 pub use Rattle.std.proofs.lemmas.Option.{slice_get_past}
-pub use Rattle.std.proofs.lemmas.Result.{IfOk-weaker, IfErr-weaker}
+pub use Rattle.std.proofs.lemmas.Result.{IfOk-weaker}
 pub use Rattle.std.proofs.lemmas.Str.{length-encode, encode_ascii, encodes-append, char_from_byte}
 pub use Rattle.std.proofs.lemmas.Str.Parse.{numerals_by_value, tells_all_ascii_digits, IsNumeralModel, parse_gives, digits_value_short}
 pub use Rattle.std.proofs.lemmas.Str.Pattern.{split_once_first}
@@ -24,13 +24,13 @@ pub use Rattle.std.specs.Str.{all_ascii_digits, bytes_eq, NonePass}
 pub use Rattle.std.specs.Str.Parse.{digits_value, ParsesUnsigned}
 pub use Rattle.zeb_keys.specs.declared.Register.{Register}
 pub use Rattle.zeb_profile.specs.declared.Profile.{Profile}
-pub use Rattle.zeb_query.specs.Attributes.{HoldingValue, asks_number, completeness_of, index_in, index_used, is_bib1, is_complete, is_local_number, is_other_kind, is_other_set, joined_words, kind_of, or_else, order_of, patterns_asked, position_of, register_of, relation_of, sets_in, structure_of, truncation_of, value_held, values_held}
+pub use Rattle.zeb_query.specs.Attributes.{HoldingValue, asks_number, completeness_of, index_in, index_used, is_bib1, is_complete, is_local_number, is_other_kind, is_other_set, joined_words, order_of, patterns_asked, position_of, register_of, relation_of, sets_in, structure_of, truncation_of, value_held, values_held}
 pub use Rattle.zeb_query.specs.Checks.{Check, Fails, Gives, Operand, Refusal, answered, check, checked_by, checks_in, clash_check, distance_relations, find_checks, first_that_applies, index_check, index_near, kind_check, number_check, number_checks, one_of, operand_checks, operand_of, operands_checks, orderings, parameter_checks, proximity_checks, refused, scan_checks, scan_checks_in, separation_of, set_check, term_checks, type_check, use_checks, words_check, written}
-pub use Rattle.zeb_query.specs.Grammar.{few, many, is_number, number_of, TreeValue, TermValue, NamedValue, PairValue, QueryValue, IsStructure, is_term, is_named, is_attribute, is_attribute_of_set, is_typed, is_pair, IsQuery, is_structure_of_set, kept_text, has_equals, is_good, text_of, connective_of, ConnectiveValue, BooleanOf, ProximityOf, ParametersValue, parameters_value, under, with_attribute, with_type, no_head, SpellsQuery, keyword_of, is_structure, is_equals_sign, HeadValue, keyword_by, if_any, is_good_spelling, heads, inner_type, AttributeValue, attribute_value, head_value, query_value, tree_value}
+pub use Rattle.zeb_query.specs.Grammar.{few, many, is_number, number_of, TreeValue, TermValue, NamedValue, PairValue, QueryValue, IsStructure, is_term, is_named, is_attribute, is_attribute_of_set, is_typed, is_pair, IsQuery, is_structure_of_set, kept_text, has_equals, is_good, text_of, connective_of, ConnectiveValue, BooleanOf, ProximityOf, ParametersValue, parameters_value, under, with_attribute, with_type, no_head, SpellsQuery, keyword_of, is_structure, is_equals_sign, HeadValue, keyword_by, if_any, is_good_spelling, heads, or_else, AttributeValue, attribute_value, head_value, query_value, tree_value}
 pub use Rattle.zeb_query.specs.Places.{IsBeginning, IsQueryWithin, IsBeginningWithin, IsStrange, IsUnfinished, IsUnspelled, IsCrowded, operators, IsFaultOf, IsReadable, IsFaulty, is_long, is_unspelled, is_crowded}
-pub use Rattle.zeb_query.specs.Plans.{BeginsAtKey, HasSmallNumber, HasSmallNumbers, NearOf, NumberOf, PairOf, PlanValue, RecordNumberOf, ScanValue, TermOf, entries_asked, near_asked, operand_pattern, plan_of, plan_value, scan_value, start_asked, subject_asked, texts_asked, tree_asked, tree_scanned}
+pub use Rattle.zeb_query.specs.Plans.{BeginsAtKey, HasSmallNumber, HasSmallNumbers, NearOf, NumberOf, OrderedOf, PairOf, PlanValue, RecordNumberOf, ScanValue, TermOf, TermPlanValue, asked_with, entries_asked, near_asked, operand_pattern, plan_of, plan_value, scan_value, start_asked, subject_asked, texts_asked, tree_asked, tree_scanned, words_asked}
 pub use Rattle.zeb_query.specs.PrivatePlanning.{◌>>=◌, index_read, kept_or, operands_plan, passed, patterns_read, related_plan, subject_index, subject_plan, subject_read, tree_plan}
-pub use Rattle.zeb_query.specs.PrivateReading.{words_with, first_keyword, word_of, left, fault_of, IsAfterFirst, ReadsFirst, first_equals, ReadsWord, SpellsSpec, SpellsAttribute, SpellsHead, SpellsParameters, SpellsOperator, SpellsSet, Spells, first_place, IsFault, held_with, first_set, first_set_of, IsDiagnostic, holding_value}
+pub use Rattle.zeb_query.specs.PrivateReading.{words_with, first_keyword, word_of, left, fault_of, IsAfterFirst, ReadsFirst, ReadsWord, IsSpec, SpellsAttribute, SpellsHead, SpellsParameters, SpellsOperator, SpellsSet, Spells, IsFault, held_with, first_set, first_set_of, IsDiagnostic, holding_value}
 pub use Rattle.zeb_query.specs.PrivateWalk.{parameter_count, words_at, Due, Start, Structures, SetOrSpec, Spec, MoreWords, words_then, fault, fault_at_end, Step, Allowed, Refused, step, good_step, structure_step, start_step, spec_step, operator_step, Begun, unquoted, in_word, in_quotes, plain_word, quoted_word, with_front}
 pub use Rattle.zeb_query.specs.Words.{Word, AreWords, is_blank, Sign, Itself, Escaped, sign_text, meant, is_sign, IsCutOff, IsWritten, is_plain, is_braced, is_quoted, is_open, Stretch, stretch_text, stretch_word, IsStretch}
 pub use Rattle.zeb_query.specs.declared.attributes.Asked.{Asked}

@@ -1,5 +1,5 @@
 -- Steps of a reader of queries, in the words of the grammar.
-use Rattle.zeb_query.proofs.Cited.{first_equals, ◌≡◌, ◌≢◌, ℕ, suc, ◌<◌, Bool, true, false, List, [], ◌∷◌, ◌++◌, Option, Some, None, length, cond, eqb, refl, ap, sym, subst, ◌∙◌, arith, append_assoc, option_and_then, nat_lt, map, list_all, before_first, after_first, position_or_len, nat_tests, map-append, nil_from_length, length-map, Rest, QueryFault, Spelling, Plain, Quoted, Bad, OperatorWord, Keyword, AttributeSet, Attribute, TermType, ResultSet, Operator, number_of, keyword_of, keyword_by, if_any, is_equals_sign, has_equals, is_good, is_good_spelling, IsStructure, is_attribute, is_attribute_of_set, is_typed, under, heads, no_head, inner_type, with_type, text_of, is_term, is_named, is_pair, parameter_count, IsQuery, is_structure, is_structure_of_set, AttributeValue, HeadValue, TreeValue, TermValue, NamedValue, PairValue, Word, word_of, left, fault_of, first_keyword, IsAfterFirst, ReadsFirst, ReadsWord, SpellsSpec, SpellsAttribute, SpellsHead, SpellsParameters, SpellsOperator, SpellsSet, Spells, first_place, IsFault, Due, Start, Structures, SetOrSpec, Spec, MoreWords, words_then, fault, Step, Allowed, Refused, step, structure_step, operator_step, start_step, And, Or, Not, Proximity, ConnectiveValue, connective_of, ◌&&◌}
+use Rattle.zeb_query.proofs.Cited.{◌≡◌, ◌≢◌, ℕ, suc, ◌<◌, true, false, List, [], ◌∷◌, ◌++◌, Option, Some, None, length, cond, eqb, refl, ap, sym, subst, ◌∙◌, arith, append_assoc, option_and_then, nat_lt, map, list_all, before_first, after_first, position_or_len, nat_tests, map-append, length-map, Rest, Spelling, Plain, Quoted, Bad, OperatorWord, Keyword, AttributeSet, Attribute, TermType, ResultSet, Operator, number_of, keyword_of, keyword_by, if_any, is_equals_sign, has_equals, is_good, is_good_spelling, IsStructure, is_attribute, is_attribute_of_set, is_typed, under, heads, no_head, or_else, with_type, text_of, is_term, is_named, is_pair, parameter_count, is_structure, is_structure_of_set, AttributeValue, HeadValue, TreeValue, TermValue, NamedValue, PairValue, Word, left, fault_of, first_keyword, IsAfterFirst, ReadsFirst, ReadsWord, IsSpec, SpellsAttribute, SpellsHead, SpellsParameters, SpellsOperator, SpellsSet, Spells, Due, Start, Structures, MoreWords, words_then, fault, Step, Allowed, Refused, step, structure_step, start_step, And, Or, Not, Proximity, ConnectiveValue, connective_of, ◌&&◌}
 use Rattle.std.proofs.lemmas.List.Folds.{list_all-append}
 use Rattle.zeb_query.specs.Grammar.{kind_and_value}
 
@@ -28,22 +28,22 @@ if_any-more kind [] e = cc
 if_any-more kind (b ∷ bs) e = refl
 
 -- an attribute without a set, and one with it
-pub spells_attribute : (rest after : Rest) (a : AttributeValue) → SpellsSpec rest after None a → SpellsAttribute rest after a
-spells_attribute rest after a s = record {
-  words = s.word ∷ [];
-  is = s.is;
+pub spells_attribute : (rest after : Rest) (a : AttributeValue) (spec : Word) → left rest ≡ spec ∷ left after → is_good spec ≡ true → IsSpec spec None a → SpellsAttribute rest after a
+spells_attribute rest after a spec is good s = record {
+  words = spec ∷ [];
+  is = is;
   spells = λ attr more tree keyword spelled.
-      subst (λ set. IsStructure (attr ∷ s.word ∷ more) (under (record { attributes = record { set = set; kind = a.kind; value = a.value } ∷ []; term_type = None }) tree)) (sym s.set_is)
-      (is_attribute attr s.word more tree (a.kind, a.value) keyword s.good s.read spelled);
+      subst (λ set. IsStructure (attr ∷ spec ∷ more) (under (record { attributes = record { set = set; kind = a.kind; value = a.value } ∷ []; term_type = None }) tree)) (sym s.set_is)
+      (is_attribute attr spec more tree (a.kind, a.value) keyword good s.read spelled);
 }
 
-pub spells_attribute_of_set : (rest middle after : Rest) (a : AttributeValue) (set : Word) (text : List ℕ) → left rest ≡ set ∷ left middle → is_good set ≡ true → has_equals set.text ≡ false → text ≡ set.text → SpellsSpec middle after (Some text) a → SpellsAttribute rest after a
-spells_attribute_of_set rest middle after a set text is good plain same s = record {
-  words = set ∷ s.word ∷ [];
-  is = is ∙ ap (λ ws. set ∷ ws) s.is;
+pub spells_attribute_of_set : (rest middle after : Rest) (a : AttributeValue) (set spec : Word) (text : List ℕ) → left rest ≡ set ∷ left middle → is_good set ≡ true → has_equals set.text ≡ false → text ≡ set.text → left middle ≡ spec ∷ left after → is_good spec ≡ true → IsSpec spec (Some text) a → SpellsAttribute rest after a
+spells_attribute_of_set rest middle after a set spec text is good plain same then good_spec s = record {
+  words = set ∷ spec ∷ [];
+  is = is ∙ ap (λ ws. set ∷ ws) then;
   spells = λ attr more tree keyword spelled.
-      subst (λ named. IsStructure (attr ∷ set ∷ s.word ∷ more) (under (record { attributes = record { set = named; kind = a.kind; value = a.value } ∷ []; term_type = None }) tree)) (sym (s.set_is ∙ ap (λ t. Some t) same))
-      (is_attribute_of_set attr set s.word more tree (a.kind, a.value) keyword good plain s.good s.read spelled);
+      subst (λ named. IsStructure (attr ∷ set ∷ spec ∷ more) (under (record { attributes = record { set = named; kind = a.kind; value = a.value } ∷ []; term_type = None }) tree)) (sym (s.set_is ∙ ap (λ t. Some t) same))
+      (is_attribute_of_set attr set spec more tree (a.kind, a.value) keyword good plain good_spec s.read spelled);
 }
 
 -- what follows a step
@@ -60,26 +60,14 @@ fault-step end room due word words s e =
     after_step_is (Allowed r d) = refl
     after_step_is (Refused number) = refl
 
--- a word with `=` is a SPEC
-step-spec : (room : ℕ) (word : Word) (n : ℕ) → true ≡ has_equals word.text → step room word (SetOrSpec n) ≡ step room word (Spec n)
-step-spec room word n has = rw (← has) refl
-
-pub fault_of-first_spec : (rest : Rest) → first_equals (left rest) ≡ true → (n : ℕ) → fault_of rest (SetOrSpec n) ≡ fault_of rest (Spec n)
-fault_of-first_spec rest has n = at (left rest) has
-  where
-    at : (words : List Word) → first_equals words ≡ true → fault rest.end rest.room (SetOrSpec n) words ≡ fault rest.end rest.room (Spec n) words
-    at [] e = absurd cc
-    at (word ∷ words) e =
-        fault-step rest.end rest.room (SetOrSpec n) word words _ (step-spec rest.room word n (sym e))
-        ∙ sym (fault-step rest.end rest.room (Spec n) word words _ refl)
-
--- the first word has no `=`
-pub first_plain : (rest after : Rest) (word : Word) → left rest ≡ word ∷ left after → first_equals (left rest) ≡ false → has_equals word.text ≡ false
-first_plain rest after word is none = sym (ap first_equals is) ∙ none
-
--- an error that has the same fault
-pub IsFault-same : (e : QueryFault) (x y : Option (ℕ × ℕ)) → y ≡ x → IsFault e x → IsFault e y
-IsFault-same e x y same is = subst (λ z. IsFault e z) (sym same) is
+-- one word more is read, and the next due
+pub fault_of-read : (rest after : Rest) (word : Word) → ReadsWord rest after word → (due next : Due)
+    → ((end room : ℕ) (ws : List Word) → fault end room due (word ∷ ws) ≡ fault end room next ws) → fault_of rest due ≡ fault_of after next
+fault_of-read rest after word reads due next over =
+    ap (λ ws. fault rest.end rest.room due ws) reads.is
+    ∙ over rest.end rest.room (left after)
+    ∙ ap (λ end. fault end rest.room next (left after)) (sym reads.end)
+    ∙ ap (λ room. fault after.end room next (left after)) (sym reads.room)
 
 -- the first word, by its keyword
 pub first_is : (k : Keyword) (words after : List Word) → IsAfterFirst words after → first_keyword words ≡ Some k → (w : Word) × (words ≡ w ∷ after) × (keyword_of w ≡ Some k)
@@ -110,24 +98,21 @@ fault_of-keyword k rest middle found reads n due allowed =
 -- a word of any kind where words are due
 pub fault_of-word : (rest middle : Rest) (w : Word) → ReadsWord rest middle w → is_good w ≡ true → (k n : ℕ) → fault_of rest (MoreWords k n) ≡ fault_of middle (words_then k n)
 fault_of-word rest middle w reads good k n =
-    ap (λ ws. fault rest.end rest.room (MoreWords k n) ws) reads.is
-    ∙ fault-step rest.end rest.room (MoreWords k n) w (left middle) (Allowed rest.room (words_then k n)) (rw good refl)
-    ∙ ap (λ end. fault end rest.room (words_then k n) (left middle)) (sym reads.end)
-    ∙ ap (λ room. fault middle.end room (words_then k n) (left middle)) (sym reads.room)
+    fault_of-read rest middle w reads (MoreWords k n) (words_then k n) (λ end room ws. fault-step end room (MoreWords k n) w ws (Allowed room (words_then k n)) (rw good refl))
 
 -- heads one after another
 pub append-nil : {A : Type 0} (xs : List A) → xs ++ [] ≡ xs
 append-nil [] = refl
 append-nil (x ∷ xs) = ap (λ ys. x ∷ ys) (append-nil xs)
 
-inner_type-assoc : (a b c : Option (List ℕ)) → inner_type (inner_type a b) c ≡ inner_type a (inner_type b c)
-inner_type-assoc a b (Some t) = refl
-inner_type-assoc a b None = refl
+or_else-assoc : (a b c : Option (List ℕ)) → or_else c (or_else b a) ≡ or_else (or_else c b) a
+or_else-assoc a b (Some t) = refl
+or_else-assoc a b None = refl
 
 heads-assoc : (a b c : HeadValue) → heads (heads a b) c ≡ heads a (heads b c)
 heads-assoc a b c =
-    ap (λ attributes. record { attributes = attributes; term_type = inner_type (inner_type a.term_type b.term_type) c.term_type }) (append_assoc a.attributes b.attributes c.attributes)
-    ∙ ap (λ type. record { attributes = a.attributes ++ (b.attributes ++ c.attributes); term_type = type }) (inner_type-assoc a.term_type b.term_type c.term_type)
+    ap (λ attributes. record { attributes = attributes; term_type = or_else c.term_type (or_else b.term_type a.term_type) }) (append_assoc a.attributes b.attributes c.attributes)
+    ∙ ap (λ type. record { attributes = a.attributes ++ (b.attributes ++ c.attributes); term_type = type }) (or_else-assoc a.term_type b.term_type c.term_type)
 
 pub under-under : (a b : HeadValue) (tree : TreeValue) → under a (under b tree) ≡ under (heads a b) tree
 under-under a b (TermValue place head text) = ap (λ h. TermValue place h text) (sym (heads-assoc a b head))

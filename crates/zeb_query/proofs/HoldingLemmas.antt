@@ -1,5 +1,5 @@
 -- The attributes that hold, one attribute after another.
-use Rattle.zeb_query.proofs.Cited.{◌≡◌, ℕ, ◌+◌, ◌<◌, Bool, true, false, List, [], ◌∷◌, ◌++◌, Option, Some, None, length, get_or, take, cond, eqb, arith, ◌≤◌, refl, ap, sym, ◌∙◌, append_assoc, map, not, option_to_list, find, map-append, take_more, common_steps, AttributeValue, HeadValue, attribute_value, no_head, HoldingValue, is_bib1, is_other_set, is_other_kind, sets_in, kind_of, or_else, value_held, held_with, first_set, first_set_of}
+use Rattle.zeb_query.proofs.Cited.{◌≡◌, ℕ, ◌+◌, ◌<◌, Bool, true, false, List, [], ◌∷◌, ◌++◌, Option, Some, None, length, get_or, take, cond, eqb, arith, ◌≤◌, refl, ap, sym, ◌∙◌, append_assoc, map, not, option_to_list, find, map-append, take_more, common_steps, AttributeValue, HeadValue, attribute_value, no_head, HoldingValue, is_bib1, is_other_set, is_other_kind, sets_in, or_else, value_held, held_with, first_set, first_set_of}
 use Rattle.zeb_query.specs.declared.queries.Attribute.{Attribute}
 use Rattle.zeb_query.specs.Attributes.{holding_of}
 use Rattle.zeb_query.proofs.GrammarLemmas.{append-nil}
@@ -52,7 +52,7 @@ holding_of-push set head a =
     (first_by (find is_other_set (option_to_list set ++ sets_in attrs)) a.set
     ∙ sym (find-append is_other_set (option_to_list set ++ sets_in attrs) (option_to_list a.set ++ []))
     ∙ ap (λ ss. find is_other_set ss) (append_assoc (option_to_list set) (sets_in attrs) (option_to_list a.set ++ []) ∙ ap (λ ss. option_to_list set ++ ss) (sym (sets_in-append attrs (a ∷ [])))))
-    (sym (ap (λ ks. find is_other_kind ks) (map-append kind_of attrs (a ∷ [])) ∙ find-append is_other_kind (map kind_of attrs) (a.kind ∷ [])))
+    (sym (ap (λ ks. find is_other_kind ks) (map-append (λ (b : AttributeValue). b.kind) attrs (a ∷ [])) ∙ find-append is_other_kind (map (λ (b : AttributeValue). b.kind) attrs) (a.kind ∷ [])))
     refl
     (sym (value_held-push 1 attrs a)) (sym (value_held-push 2 attrs a)) (sym (value_held-push 3 attrs a)) (sym (value_held-push 4 attrs a)) (sym (value_held-push 5 attrs a)) (sym (value_held-push 6 attrs a))
 

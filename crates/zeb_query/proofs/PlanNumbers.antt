@@ -1,6 +1,8 @@
 -- How great the numbers of a plan are, and where a scan of numbers begins.
-use Rattle.zeb_query.proofs.Cited.{◌≡◌, ℕ, ◌<◌, ◌^◌, Bool, true, false, cond, List, [], ◌∷◌, Option, Some, None, refl, subst, Ok, not, ◌||◌, is_none, bytes_eq, digits_value, Profile, Register, Symbol, Structure, Phrase, WordList, FreeForm, Numeric, Asked, Compared, Always, Equal, Order, Completeness, Complete, Incomplete, Subject, Record, Entries, Values, Find, Scan, BooleanOf, ParametersValue, ProximityOf, is_number, few, many, heads, no_head, HeadValue, TreeValue, TermValue, NamedValue, PairValue, QueryValue, HoldingValue, asks_number, index_in, is_complete, joined_words, order_of, patterns_asked, register_of, values_held, Check, check, checked_by, first_that_applies, index_check, number_check, number_checks, find_checks, scan_checks, term_checks, Operand, kept_text, orderings, distance_relations, operand_of, parameter_checks, separation_of, operands_checks, proximity_checks, checks_in, NumberOf, PlanValue, near_asked, start_asked, subject_asked, texts_asked, tree_asked, plan_of, HasSmallNumber, HasSmallNumbers, ScanValue, BeginsAtKey}
-use Rattle.std.specs.Prelude.{codes}
+use Rattle.zeb_query.proofs.Cited.{◌≡◌, ℕ, ◌<◌, ◌^◌, Bool, true, false, cond, List, [], ◌∷◌, Option, Some, None, refl, subst, Ok, not, ◌||◌, is_none, bytes_eq, digits_value, Profile, Register, Symbol, Structure, Phrase, WordList, FreeForm, Numeric, Asked, Compared, Always, Equal, Order, Completeness, Complete, Incomplete, Subject, Record, Entries, Values, Find, Scan, BooleanOf, ParametersValue, ProximityOf, is_number, few, many, heads, no_head, HeadValue, TreeValue, TermValue, NamedValue, PairValue, QueryValue, HoldingValue, asks_number, index_in, is_complete, joined_words, order_of, patterns_asked, register_of, values_held, Check, check, checked_by, first_that_applies, index_check, number_check, number_checks, find_checks, scan_checks, term_checks, Operand, kept_text, orderings, distance_relations, operand_of, parameter_checks, separation_of, operands_checks, proximity_checks, checks_in, NumberOf, OrderedOf, PlanValue, TermPlanValue, asked_with, words_asked, near_asked, start_asked, subject_asked, texts_asked, tree_asked, plan_of, HasSmallNumber, HasSmallNumbers, ScanValue, BeginsAtKey}
+use Rattle.std.specs.Prelude.{chars, codes}
+use Rattle.zeb_text.specs.Words.{words_of}
+use Rattle.zeb_query.specs.declared.attributes.Position.{Position}
 use Rattle.zeb_keys.specs.declared.Register.TheVariants as register
 use Rattle.zeb_text.specs.Numbers.{number_key}
 use Rattle.zeb_query.specs.Attributes.{holding_of}
@@ -13,14 +15,21 @@ use Rattle.zeb_query.proofs.CheckLemmas.{answered_ok, none-cons, none-append, tr
 number_is : (most place : ℕ) (text : List ℕ) → first_that_applies (number_check most place text ∷ []) ≡ None → digits_value 10 text < 10 ^ most
 number_is most place text e = number_below most text (true_of_not (is_number most text) (none-cons (number_check most place text) [] e).0)
 
-texts_small : (v : Values) (index : ℕ) (structure : Structure) (text : List ℕ) (patterns : List (List Symbol)) (order : Option Order) (whole : Completeness)
-    → HasSmallNumber (texts_asked (record v { completeness = whole }) index structure text patterns order)
-texts_small v index structure text patterns (Some order) whole = tt
-texts_small v index structure text patterns None Complete = tt
-texts_small v index Phrase text patterns None Incomplete = tt
-texts_small v index WordList text patterns None Incomplete = tt
-texts_small v index FreeForm text patterns None Incomplete = tt
-texts_small v index Numeric text patterns None Incomplete = tt
+asked_small : {A : Type 0} (words : List A) (index : ℕ) (register : Register) (asked : TermPlanValue) → HasSmallNumber asked → HasSmallNumber (asked_with words index register asked)
+asked_small [] index register asked small = tt
+asked_small (word ∷ words) index register asked small = small
+
+words_small : (index : ℕ) (structure : Structure) (position : Position) (whole : Completeness) (patterns : List (List Symbol)) → HasSmallNumber (words_asked index structure position whole patterns)
+words_small index structure position Complete patterns = tt
+words_small index Phrase position Incomplete patterns = tt
+words_small index WordList position Incomplete patterns = tt
+words_small index FreeForm position Incomplete patterns = tt
+words_small index Numeric position Incomplete patterns = tt
+
+texts_small : (v : Values) (index : ℕ) (structure : Structure) (text : List ℕ) (patterns : List (List Symbol)) (order : Option Order) → HasSmallNumber (texts_asked v index structure text patterns order)
+texts_small v index structure text patterns (Some order) = asked_small (words_of (chars text)) index (register_of v) (OrderedOf index (register_of v) order (joined_words text)) tt
+texts_small v index structure text patterns None =
+    asked_small patterns index (register_of v) (words_asked index structure v.position v.completeness patterns) (words_small index structure v.position v.completeness patterns)
 
 subject_small : (v : Values) (place : ℕ) (text : List ℕ) (patterns : List (List Symbol)) (subject : Subject) (asked : Asked) → first_that_applies (number_checks place text subject asked) ≡ None
     → HasSmallNumber (subject_asked (record v { relation = asked }) text patterns subject)
@@ -31,7 +40,7 @@ subject_small v place text patterns (Entries index structure) (Compared relation
     at : (b : Bool) → first_that_applies (cond b (number_check many place text ∷ []) []) ≡ None
         → HasSmallNumber (cond b (NumberOf index relation (digits_value 10 text)) (texts_asked (record v { relation = Compared relation }) index structure text patterns (order_of relation)))
     at true e' = number_is many place text e'
-    at false e' = texts_small (record v { relation = Compared relation }) index structure text patterns (order_of relation) v.completeness
+    at false e' = texts_small (record v { relation = Compared relation }) index structure text patterns (order_of relation)
 
 leaf_small : (profile : Profile) (h : HoldingValue) (place : ℕ) (text : List ℕ) → first_that_applies (find_checks profile place h text) ≡ None → HasSmallNumber (plan_asked profile h text)
 unfolding plan_asked

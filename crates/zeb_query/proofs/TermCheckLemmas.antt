@@ -3,7 +3,7 @@ use Rattle.zeb_query.proofs.Cited.{◌≡◌, ℕ, Bool, true, false, cond, List
 use Rattle.zeb_text.specs.declared.Cut.TheVariants as cut
 use Rattle.zeb_text.specs.Numbers.{number_key}
 use Rattle.zeb_query.specs.Plans.{plan_asked, scan_asked}
-use Rattle.zeb_query.specs.PrivatePlanning.{compared_plan, head_read, leaf_plan, leaf_scan, scan_start, term_read, term_taken, values_read, word_near}
+use Rattle.zeb_query.specs.PrivatePlanning.{compared_plan, head_read, leaf_plan, leaf_scan, scan_start, term_taken, values_read, word_near}
 use Rattle.zeb_query.proofs.CheckLemmas.{kept_then, number_then, passed_then, then_checks}
 
 -- ---- the attributes
@@ -81,23 +81,17 @@ values_steps profile place h =
 abbrev taken : Profile → HoldingValue → List ℕ → Values × List (List Symbol)
 taken profile h text = (values_held profile h, patterns_asked (values_held profile h) text)
 
-term_steps : (profile : Profile) (place : ℕ) (text : List ℕ) (h : HoldingValue)
-    → term_read profile place text h ≡ checked_by (head_checks place h ++ (value_checks profile place h ++ words_check place (values_held profile h) text ∷ [])) (taken profile h text)
-unfolding term_read
-term_steps profile place text h =
-    let v : Values = values_held profile h in
-    let words = words_check place v text in
-    then_checks (head_read place h) _ (head_checks place h) (value_checks profile place h ++ words ∷ []) tt (taken profile h text) (head_steps place h)
-    (then_checks (values_read profile place h) _ (value_checks profile place h) (words ∷ []) v (taken profile h text) (values_steps profile place h)
-    (then_checks (patterns_read place text v) _ (words ∷ []) [] (patterns_asked v text) (taken profile h text) (passed_then words _ [] (patterns_asked v text) refl) refl))
-
 taken_steps : (profile : Profile) (purpose : Purpose) (place : ℕ) (text : List ℕ) (h : HoldingValue)
     → term_taken profile purpose place text h ≡ checked_by (term_checks purpose profile place h text) (taken profile h text)
 unfolding term_taken
 taken_steps profile purpose place text h =
     let v : Values = values_held profile h in
-    then_checks (term_read profile place text h) _ (head_checks place h ++ (value_checks profile place h ++ words_check place v text ∷ [])) (clash_check purpose profile place v ∷ []) (taken profile h text) (taken profile h text) (term_steps profile place text h)
-    (passed_then (clash_check purpose profile place v) _ [] (taken profile h text) refl)
+    let words = words_check place v text in
+    let clash = clash_check purpose profile place v in
+    then_checks (head_read place h) _ (head_checks place h) (value_checks profile place h ++ words ∷ clash ∷ []) tt (taken profile h text) (head_steps place h)
+    (then_checks (values_read profile place h) _ (value_checks profile place h) (words ∷ clash ∷ []) v (taken profile h text) (values_steps profile place h)
+    (then_checks (patterns_read place text v) _ (words ∷ []) (clash ∷ []) (patterns_asked v text) (taken profile h text) (passed_then words _ [] (patterns_asked v text) refl)
+    (passed_then clash _ [] (taken profile h text) refl)))
 
 -- ---- in a find
 

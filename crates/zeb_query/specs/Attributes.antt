@@ -8,12 +8,12 @@
 use Rattle.zeb_query.specs.Cited.{to_ascii_lowercase, join_with_byte, is_some, option_map_or, index_by_name, index_by_use, Symbol, Always, Any, Asked, Compared, Complete, Completeness, Cut, Each, Ends, Entries, First, FreeForm, Incomplete, Numeric, Order, Phrase, Position, Profile, Record, Register, Relation, Spread, Structure, Subject, Values, WordList}
 use Rattle.std.specs.Prelude.{Bool, List, None, Option, Some, [], chars, codes, encode_utf8_all, false, if◌then◌else◌, map, nat_lt, not, option_and_then, true, ℕ, ◌&&◌, ◌++◌, ◌==◌, ◌∷◌, ◌||◌, find, option_to_list, unwrap_or, bytes_eq}
 use Rattle.zeb_keys.specs.declared.Register.TheVariants as register
-use Rattle.zeb_text.specs.Truncation.{joined_patterns, patterns_of}
+use Rattle.zeb_text.specs.Truncation.{patterns_of}
 use Rattle.zeb_text.specs.Words.{words_of}
 use Rattle.zeb_text.specs.declared.Cut.TheVariants as cut
 use Rattle.zeb_query.specs.declared.plans.Order.TheVariants as in_order
 use Rattle.zeb_query.specs.declared.plans.Relation.TheVariants.{Equal, Greater, GreaterOrEqual, Less, LessOrEqual}
-use Rattle.zeb_query.specs.Grammar.{AttributeValue, HeadValue, few, number_of}
+use Rattle.zeb_query.specs.Grammar.{AttributeValue, HeadValue, few, number_of, or_else}
 
 -- ---- the attributes over a term
 
@@ -31,13 +31,6 @@ is_other_kind kind = not (nat_lt 0 kind && nat_lt kind 7)
 abbrev pub sets_in : List AttributeValue → List (List ℕ)
 sets_in [] = []
 sets_in (attribute ∷ attributes) = option_to_list attribute.set ++ sets_in attributes
-
-abbrev pub kind_of : AttributeValue → ℕ
-kind_of attribute = attribute.kind
-
-abbrev pub or_else : {A : Type 0} → Option A → Option A → Option A
-or_else (Some x) other = Some x
-or_else None other = other
 
 -- the value of the innermost attribute of a type
 abbrev pub value_held : ℕ → List AttributeValue → Option (List ℕ)
@@ -60,7 +53,7 @@ pub record HoldingValue : Type 0 where
 unfoldable pub holding_of : Option (List ℕ) → HeadValue → HoldingValue
 holding_of set head = record {
   other_set = find is_other_set (option_to_list set ++ sets_in head.attributes);
-  other_kind = find is_other_kind (map kind_of head.attributes);
+  other_kind = find is_other_kind (map (λ attribute. attribute.kind) head.attributes);
   term_type = head.term_type;
   use_attribute = value_held 1 head.attributes;
   relation = value_held 2 head.attributes;
@@ -85,10 +78,6 @@ number_or default (Some text) = number_of few text
 -- what a value stands for, if it is kept
 abbrev pub value_of : {A : Type 0} → ℕ → List (ℕ × A) → Option (List ℕ) → Option A
 value_of default table text = option_and_then (kept table) (number_or default text)
-
--- type 1, use: the default is any
-abbrev pub default_use : ℕ
-default_use = 1016
 
 -- type 2, relation: the default is equal
 abbrev pub relation_of : Option (List ℕ) → Option Asked
@@ -119,14 +108,10 @@ completeness_of text = value_of 1 ((1, Incomplete) ∷ (2, Complete) ∷ (3, Com
 
 -- ---- what a term names
 
--- the index of a use attribute, by its number, or by its name where it is none; that of the default where there is no attribute
-abbrev pub index_named : Profile → List ℕ → Option ℕ → Option ℕ
-index_named profile name (Some number) = index_by_use profile number
-index_named profile name None = index_by_name profile name
-
+-- type 1, use: its index, by its number, or by its name where it is none; the default is 1016, any
 abbrev pub index_used : Profile → Option (List ℕ) → Option ℕ
-index_used profile None = index_by_use profile default_use
-index_used profile (Some text) = index_named profile text (number_of few text)
+index_used profile None = index_by_use profile 1016
+index_used profile (Some text) = option_map_or (index_by_use profile) (number_of few text) (index_by_name profile text)
 
 -- the values that hold over a term. Where a check refuses the term for a value that isn't kept, the default stands in its place, and
 -- index 0 in place of the one that a use attribute hasn't got.
@@ -221,15 +206,3 @@ patterns_asked v text =
 -- the term's words with a space between
 abbrev pub joined_words : List ℕ → List ℕ
 joined_words text = join_with_byte 32 (map encode_utf8_all (words_of (chars text)))
-
--- the same, where the term has a word
-abbrev pub words_if_any : List (List ℕ) → Option (List ℕ)
-words_if_any [] = None
-words_if_any (word ∷ words) = Some (join_with_byte 32 (word ∷ words))
-
-abbrev pub joined_words_if_any : List ℕ → Option (List ℕ)
-joined_words_if_any text = words_if_any (map encode_utf8_all (words_of (chars text)))
-
-abbrev pub joined_if_any : List (List Symbol) → Option (List Symbol)
-joined_if_any [] = None
-joined_if_any (pattern ∷ patterns) = Some (joined_patterns (pattern ∷ patterns))

@@ -9,7 +9,7 @@
 -- Own rules of this project, which the manual leaves open or has otherwise: that a type is a number of at most nine digits; that a value
 -- has at least one character; that keywords are in lower case and unquoted, and have no meaning where a SET, a TYPE, a NAME or a W is due;
 -- that an unquoted word which begins with @ and is no keyword is a TERM; and that no query has a bad word.
-use Rattle.zeb_query.specs.Cited.{is_ascii_digit, after_first, before_first, list_all, list_any, position_or_len, digits_value, Keyword, OperatorWord, And, Not, Or, Proximity, Spelling, Bad, Plain, Quoted}
+use Rattle.zeb_query.specs.Cited.{is_ascii_digit, after_first, before_first, list_all, list_any, position_or_len, digits_value, Keyword, OperatorWord, And, Not, Or, Proximity, Spelling, Bad, Plain}
 use Rattle.zeb_query.specs.declared.keywords.Keyword.TheVariants.{Attribute, AttributeSet, Operator, ResultSet, TermType}
 use Rattle.std.specs.Prelude.{Bool, List, None, Option, Some, [], chars, codes, false, if◌then◌else◌, length, map, nat_le, nat_lt, option_and_then, string_bytes, true, ℕ, ◌&&◌, ◌++◌, ◌==◌, ◌∷◌, ◌≡◌, option_map, bytes_eq}
 use Rattle.zeb_query.specs.declared.queries.Attribute.{Attribute as AttributeOfQuery}
@@ -139,8 +139,7 @@ keyword_spelled text =
 -- the keyword that a word of this spelling and text is
 abbrev pub keyword_by : Spelling → List ℕ → Option Keyword
 keyword_by Plain text = keyword_spelled text
-keyword_by Quoted text = None
-keyword_by Bad text = None
+keyword_by spelling text = None
 
 abbrev pub keyword_of : Word → Option Keyword
 keyword_of word = keyword_by word.spelling word.text
@@ -148,9 +147,8 @@ keyword_of word = keyword_by word.spelling word.text
 -- ---- structures and queries
 
 abbrev pub is_good_spelling : Spelling → Bool
-is_good_spelling Plain = true
-is_good_spelling Quoted = true
 is_good_spelling Bad = false
+is_good_spelling spelling = true
 
 -- a word that isn't bad
 abbrev pub is_good : Word → Bool
@@ -177,14 +175,13 @@ kind_and_value text =
 abbrev pub no_head : HeadValue
 no_head = record { attributes = []; term_type = None }
 
--- the inner term type, if there is one
-abbrev pub inner_type : Option (List ℕ) → Option (List ℕ) → Option (List ℕ)
-inner_type outer (Some type) = Some type
-inner_type outer None = outer
+abbrev pub or_else : {A : Type 0} → Option A → Option A → Option A
+or_else (Some x) other = Some x
+or_else None other = other
 
--- a head right before another
+-- a head right before another, whose term type is the inner one, if there is one
 abbrev pub heads : HeadValue → HeadValue → HeadValue
-heads outer inner = record { attributes = outer.attributes ++ inner.attributes; term_type = inner_type outer.term_type inner.term_type }
+heads outer inner = record { attributes = outer.attributes ++ inner.attributes; term_type = or_else inner.term_type outer.term_type }
 
 -- a structure with more in front
 abbrev pub under : HeadValue → TreeValue → TreeValue

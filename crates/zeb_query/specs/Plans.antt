@@ -1,27 +1,31 @@
 -- What a query asks for over a profile (ANSI/NISO Z39.50-2003, attribute set Bib-1): the first of the checks of the whole query
 -- that applies refuses it; where none does, its plan follows from the attributes that hold over its terms.
 -- Bib-1 says what a relation, a position, a structure and a completeness ask for. Own rules of this project: what a plan has where Bib-1
--- leaves it open, which are the words of a term, the register, and system numbers for structure 107.
-use Rattle.std.specs.Prelude.{Bool, List, None, Option, Result, Some, [], if◌then◌else◌, string_bytes, ℕ, ◌<◌, ◌^◌, ◌≡◌, option_map, unwrap_or}
+-- leaves it open, which are the words of a term, the register, system numbers for structure 107, and that a term has no other plan where
+-- its words are compared and it has none.
+use Rattle.std.specs.Prelude.{Bool, List, None, Option, Result, Some, [], ◌∷◌, chars, if◌then◌else◌, string_bytes, ℕ, ◌<◌, ◌^◌, ◌≡◌, unwrap_or}
 use Rattle.zeb_query.specs.Cited.{digits_value, number_key, Symbol, Always, Asked, Compared, Complete, Completeness, Entries, FreeForm, Incomplete, Operator, Order, Position, Profile, Record, Register, Relation, Separation, Structure, Subject, Values, WordList}
 use Rattle.zeb_keys.specs.declared.Register.TheVariants as register
+use Rattle.zeb_text.specs.Truncation.{joined_patterns}
+use Rattle.zeb_text.specs.Words.{words_of}
 use Rattle.zeb_query.specs.declared.plans.Plan.{Near, Pair', Plan, Term}
 use Rattle.zeb_query.specs.declared.plans.ScanPlan.{ScanPlan}
 use Rattle.zeb_query.specs.declared.plans.TermPlan.{TermPlan}
 use Rattle.zeb_query.specs.declared.plans.TermPlan.TheVariants as term
 use Rattle.zeb_query.specs.Grammar.{BooleanOf, HeadValue, NamedValue, PairValue, ParametersValue, ProximityOf, QueryValue, TermValue, TreeValue, heads, no_head}
 use Rattle.zeb_query.specs.Checks.{Operand, Refusal, checked_by, checks_in, index_near, one_of, operand_of, scan_checks_in, separation_of}
-use Rattle.zeb_query.specs.Attributes.{HoldingValue, asks_number, holding_of, index_in, is_first, is_numeric, joined_if_any, joined_words, joined_words_if_any, order_of, patterns_asked, register_of, values_held}
+use Rattle.zeb_query.specs.Attributes.{HoldingValue, asks_number, holding_of, index_in, is_first, is_numeric, joined_words, order_of, patterns_asked, register_of, values_held}
 
 -- ---- plans as values
 
 -- what a term asks for, without where texts and lists lie in memory
 pub data TermPlanValue : Type 0 where
   RecordNumberOf : ℕ → TermPlanValue
+  NoWordsOf : ℕ → Register → TermPlanValue
   AlwaysOf : ℕ → Register → TermPlanValue
   NumberOf : ℕ → Relation → ℕ → TermPlanValue
-  OrderedOf : ℕ → Register → Order → Option (List ℕ) → TermPlanValue
-  CompleteOf : ℕ → Option (List Symbol) → TermPlanValue
+  OrderedOf : ℕ → Register → Order → List ℕ → TermPlanValue
+  CompleteOf : ℕ → List Symbol → TermPlanValue
   PhraseOf : ℕ → List (List Symbol) → Bool → TermPlanValue
   AllWordsOf : ℕ → List (List Symbol) → TermPlanValue
   AnyWordOf : ℕ → List (List Symbol) → TermPlanValue
@@ -33,9 +37,10 @@ pub data PlanValue : Type 0 where
 
 abbrev pub term_plan_value : TermPlan → TermPlanValue
 term_plan_value (term.RecordNumber number) = RecordNumberOf number
+term_plan_value (term.NoWords index register) = NoWordsOf index register
 term_plan_value (term.Always index register) = AlwaysOf index register
 term_plan_value (term.Number index relation number) = NumberOf index relation number
-term_plan_value (term.Ordered index register order start) = OrderedOf index register order (option_map string_bytes start)
+term_plan_value (term.Ordered index register order start) = OrderedOf index register order (string_bytes start)
 term_plan_value (term.Complete index pattern) = CompleteOf index pattern
 term_plan_value (term.Phrase index patterns first) = PhraseOf index patterns.items first
 term_plan_value (term.AllWords index patterns) = AllWordsOf index patterns.items
@@ -48,16 +53,26 @@ plan_value (Near plan) = NearOf plan.index plan.left plan.right plan.separation
 
 -- ---- terms, by the values that hold over them, where none of their checks applies
 
+-- without words no record is asked for
+abbrev pub asked_with : {A : Type 0} → (words : List A) → ℕ → Register → TermPlanValue → TermPlanValue
+asked_with [] index register asked = NoWordsOf index register
+asked_with (word ∷ words) index register asked = asked
+
 -- words that are compared by equality
 abbrev pub words_asked : ℕ → Structure → Position → Completeness → List (List Symbol) → TermPlanValue
-words_asked index structure position Complete patterns = CompleteOf index (joined_if_any patterns)
+words_asked index structure position Complete patterns = CompleteOf index (joined_patterns patterns)
 words_asked index WordList position Incomplete patterns = AllWordsOf index patterns
 words_asked index FreeForm position Incomplete patterns = AnyWordOf index patterns
 words_asked index structure position Incomplete patterns = PhraseOf index patterns (is_first position)
 
+abbrev pub matched_asked : Values → ℕ → Structure → List (List Symbol) → TermPlanValue
+matched_asked v index structure patterns =
+    asked_with patterns index (register_of v) (words_asked index structure v.position v.completeness patterns)
+
 abbrev pub texts_asked : Values → ℕ → Structure → List ℕ → List (List Symbol) → Option Order → TermPlanValue
-texts_asked v index structure text patterns (Some order) = OrderedOf index (register_of v) order (joined_words_if_any text)
-texts_asked v index structure text patterns None = words_asked index structure v.position v.completeness patterns
+texts_asked v index structure text patterns (Some order) =
+    asked_with (words_of (chars text)) index (register_of v) (OrderedOf index (register_of v) order (joined_words text))
+texts_asked v index structure text patterns None = matched_asked v index structure patterns
 
 abbrev pub entries_asked : Values → ℕ → Structure → List ℕ → List (List Symbol) → Asked → TermPlanValue
 entries_asked v index structure text patterns Always = AlwaysOf index (register_of v)
@@ -80,14 +95,13 @@ operand_pattern profile o = unwrap_or (one_of (patterns_asked (values_held profi
 
 -- for a structure that has a check which always applies, so that nothing is asked for
 abbrev pub no_plan : PlanValue
-no_plan = TermOf (AnyWordOf 0 [])
+no_plan = TermOf (NoWordsOf 0 register.Word)
 
 -- what `@prox` with these parameters asks for, where none of its checks applies
 abbrev pub near_asked : Profile → ParametersValue → Option Operand → Option Operand → PlanValue
 near_asked profile parameters (Some left) (Some right) =
     NearOf (index_near profile left) (operand_pattern profile left) (operand_pattern profile right) (separation_of parameters)
-near_asked profile parameters (Some left) None = no_plan
-near_asked profile parameters None right = no_plan
+near_asked profile parameters left right = no_plan
 
 -- ---- queries
 
@@ -145,8 +159,7 @@ no_scan = record { index = 0; register = register.Word; start = [] }
 
 abbrev pub tree_scanned : Profile → Option (List ℕ) → TreeValue → ScanValue
 tree_scanned profile set (TermValue place head text) = scan_asked profile (holding_of set (heads no_head head)) text
-tree_scanned profile set (NamedValue place head name) = no_scan
-tree_scanned profile set (PairValue place head connective left right) = no_scan
+tree_scanned profile set other = no_scan
 
 -- the first diagnostic of the scan's checks, or where it begins
 abbrev pub scan_of : Profile → QueryValue → Result ScanValue Refusal

@@ -54,19 +54,14 @@ values_read profile place h = do
 abbrev pub patterns_read : ℕ → List ℕ → Values → Result (List (List Symbol)) Refusal
 patterns_read place text v = passed (words_check place v text) >>= λ _. Ok (patterns_asked v text)
 
-unfoldable pub term_read : Profile → ℕ → List ℕ → HoldingValue → Result (Values × List (List Symbol)) Refusal
-term_read profile place text h = do
+-- a term whose values are taken together for the purpose, and whose index has the searched register
+unfoldable pub term_taken : Profile → Purpose → ℕ → List ℕ → HoldingValue → Result (Values × List (List Symbol)) Refusal
+term_taken profile purpose place text h = do
   _ ← head_read place h
   values ← values_read profile place h
   patterns ← patterns_read place text values
+  _ ← passed (clash_check purpose profile place values)
   Ok (values, patterns)
-
--- a term that is read, where its values are taken together for the purpose and its index has the searched register
-unfoldable pub term_taken : Profile → Purpose → ℕ → List ℕ → HoldingValue → Result (Values × List (List Symbol)) Refusal
-term_taken profile purpose place text h = do
-  read ← term_read profile place text h
-  _ ← passed (clash_check purpose profile place read.0)
-  Ok read
 
 -- the index in which a term is looked up
 abbrev pub subject_index : ℕ → Subject → Result ℕ Refusal
@@ -137,8 +132,7 @@ operands_plan profile place separation (Some one) (Some other) = do
   right ← word_near profile other
   _ ← passed (check place 123 [] (not (left.0 == right.0)))
   Ok (NearOf left.0 left.1 right.1 separation)
-operands_plan profile place separation (Some one) None = refused 110 place (operator_word Proximity)
-operands_plan profile place separation None other = refused 110 place (operator_word Proximity)
+operands_plan profile place separation one other = refused 110 place (operator_word Proximity)
 
 unfoldable pub near_plan : Profile → ℕ → ParametersValue → Option Operand → Option Operand → Result PlanValue Refusal
 near_plan profile place parameters left right = do

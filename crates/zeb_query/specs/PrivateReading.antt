@@ -1,6 +1,6 @@
 -- What only the contracts of private functions speak of; no public clause reaches it.
 -- What the functions that read a text give, in the words of the grammar.
-use Rattle.std.specs.Prelude.{ℕ, List, ◌++◌, map, string_bytes, ◌≡◌, [], ◌∷◌, true, false, Bool, Option, Some, None, ◌==◌, if◌then◌else◌, option_copied}
+use Rattle.std.specs.Prelude.{ℕ, List, ◌++◌, map, string_bytes, ◌≡◌, [], ◌∷◌, true, Option, Some, None, ◌==◌, if◌then◌else◌, option_copied}
 use Rattle.zeb_query.specs.Cited.{list_all, QueryFault, Diagnostic, Memory, OperatorWord, Keyword}
 use Rattle.zeb_query.specs.declared.keywords.Keyword.TheVariants.{Attribute, Operator}
 use Rattle.std.specs.Borrow.{Bor}
@@ -14,8 +14,8 @@ use Rattle.zeb_query.specs.declared.grammar.Rest.{Rest}
 use Rattle.zeb_query.specs.declared.holding.Holding.{Holding}
 use Rattle.zeb_query.specs.Words.{Word}
 use Rattle.zeb_query.specs.PrivateWalk.{words_at, in_word, in_quotes, escaped, plain_word, quoted_word, with_front, Due, fault}
-use Rattle.zeb_query.specs.Grammar.{keyword_of, has_equals, IsStructure, IsQuery, under, is_good, text_of, kind_and_value, connective_of, AttributeValue, ConnectiveValue, HeadValue, ParametersValue, TreeValue}
-use Rattle.zeb_query.specs.Attributes.{HoldingValue, is_bib1, is_other_kind, or_else}
+use Rattle.zeb_query.specs.Grammar.{keyword_of, IsStructure, IsQuery, under, is_good, text_of, kind_and_value, connective_of, AttributeValue, ConnectiveValue, HeadValue, ParametersValue, TreeValue, or_else}
+use Rattle.zeb_query.specs.Attributes.{HoldingValue, is_bib1, is_other_kind}
 
 -- ---- faults
 
@@ -87,11 +87,6 @@ abbrev pub first_keyword : List Word → Option Keyword
 first_keyword [] = None
 first_keyword (word ∷ words) = keyword_of word
 
--- the first word has an `=`
-abbrev pub first_equals : List Word → Bool
-first_equals [] = false
-first_equals (word ∷ words) = has_equals word.text
-
 -- one word is read from a rest, and what follows is left
 pub record ReadsWord (rest after : Rest) (word : Word) : Type 0 where
   pub is : left rest ≡ word ∷ left after
@@ -113,11 +108,8 @@ abbrev pub pair_value : Option (ℕ × Bor (List ℕ)) → Option (ℕ × List �
 pair_value None = None
 pair_value (Some pair) = Some (pair.0, pair.1.now)
 
--- the first word is the SPEC of the attribute
-pub record SpellsSpec (rest after : Rest) (set : Option (List ℕ)) (attribute : AttributeValue) : Type 0 where
-  pub word : Word
-  pub is : left rest ≡ word ∷ left after
-  pub good : is_good word ≡ true
+-- the word is the SPEC of the attribute, with this set
+pub record IsSpec (word : Word) (set : Option (List ℕ)) (attribute : AttributeValue) : Type 0 where
   pub set_is : attribute.set ≡ set
   pub read : kind_and_value word.text ≡ Some (attribute.kind, attribute.value)
 

@@ -1,5 +1,5 @@
 //! The diagnostics by which a text or a query is refused.
-ghost use Rattle.std.specs.Prelude.{◌≡◌, []};
+ghost use Rattle.std.specs.Prelude.{[]};
 ghost use Rattle.zeb_query.specs.PrivateReading.{IsDiagnostic, condition_number};
 
 use crate::QueryFault;
@@ -30,14 +30,6 @@ pub(crate) enum Condition {
     TermType = 229,
 }
 
-impl Condition {
-    fn number(self) -> u32
-        ensures { result ≡ condition_number self }
-    {
-        self as u32
-    }
-}
-
 /// Where a text or a query may be refused: a position in bytes from the start of the text.
 #[derive(Clone, Copy)]
 pub(crate) struct Site {
@@ -50,11 +42,7 @@ impl Site {
     pub(crate) fn refused(self, condition: Condition) -> QueryFault
         ensures { IsDiagnostic result (condition_number condition) self.place [] }
     {
-        QueryFault::Diagnostic {
-            number: condition.number(),
-            place: self.place,
-            addinfo: String::new(self.alloc),
-        }
+        self.about(condition, "")
     }
 
     /// A diagnostic about a text. Where there is no memory for that, the fault is `Memory`.
@@ -63,7 +51,7 @@ impl Site {
     {
         match String::from_str(self.alloc, text) {
             Ok(addinfo) => QueryFault::Diagnostic {
-                number: condition.number(),
+                number: condition as u32,
                 place: self.place,
                 addinfo,
             },

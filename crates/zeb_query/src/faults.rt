@@ -3,7 +3,6 @@ ghost use Rattle.std.specs.Prelude.{◌≡◌};
 ghost use Rattle.zeb_query.specs.declared.faults.QueryFault.TheVariants.{Memory};
 
 use std::alloc::{AllocError, AllocFailed};
-use std::fmt;
 use thiserror::Error;
 
 /// Why a text is no query, or a query has no plan.
@@ -11,7 +10,7 @@ use thiserror::Error;
 pub enum QueryFault {
     /// A diagnostic by its number in the list of Bib-1 (ANSI/NISO Z39.50-2003, Appendix ERR). Which fault has which number
     /// is this project's own choice.
-    #[error("diagnostic {number} at {place}{}", Told(.addinfo.as_str()))]
+    #[error("diagnostic {number} at {place}{}{addinfo}", before(.addinfo.as_str()))]
     Diagnostic {
         /// The diagnostic's number.
         number: u32,
@@ -27,18 +26,9 @@ pub enum QueryFault {
     Memory,
 }
 
-/// An addinfo as it is printed, behind a colon; nothing where there is none.
-#[derive(Clone, Copy)]
-struct Told<'a>(&'a str);
-
-impl fmt::Display for Told<'_> {
-    fn fmt<W: fmt::Write>(&self, f: &mut fmt::Formatter<W>) -> fmt::Result {
-        if self.0.is_empty() {
-            return Ok(());
-        }
-        f.write_str(": ")?;
-        f.write_str(self.0)
-    }
+/// What is printed before an addinfo; nothing where there is none.
+fn before(addinfo: &str) -> &'static str {
+    if addinfo.is_empty() { "" } else { ": " }
 }
 
 impl From<AllocError> for QueryFault {

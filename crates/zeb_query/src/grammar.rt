@@ -1,6 +1,6 @@
 //! Reading the words of a text as a query, from the left, an operator before its operands.
-ghost use Rattle.std.specs.Prelude.{◌≡◌, ◌≢◌, ◌<◌, ◌≤◌, ℕ, suc, ◌∷◌, Some, None, length, map, IfOk, OnOk, IfErr, IfSome, true, string_bytes, [], option_map, IfNone};
-ghost use Rattle.zeb_query.specs.Clauses.{Attribute as AttributeKeyword, TermType as TermTypeKeyword, Operator as OperatorKeyword, IsFault, word_of, left, first_keyword, fault_of, pair_value, SpellsSpec, SpellsAttribute, SpellsProximity, SpellsHead, SpellsParameters, SpellsOperator, SpellsSet, Spells, attribute_value, connective_value, head_value, parameters_value, tree_value, query_value, PairValue, IsQuery, kind_and_value, has_equals, heads, Start, Structures, SetOrSpec, Spec, MoreWords, fault, words_then, first_equals, first_place, ReadsWord, ReadsFirst, is_good, Due, fault_at_end};
+ghost use Rattle.std.specs.Prelude.{◌≡◌, ◌≢◌, ◌<◌, ◌≤◌, List, ℕ, suc, ◌∷◌, Some, None, length, map, IfOk, OnOk, IfErr, IfSome, true, string_bytes, [], option_map, IfNone};
+ghost use Rattle.zeb_query.specs.Clauses.{Attribute as AttributeKeyword, TermType as TermTypeKeyword, Operator as OperatorKeyword, IsFault, WordOfQuery, word_of, left, first_keyword, fault_of, pair_value, IsSpec, SpellsAttribute, SpellsProximity, SpellsHead, SpellsParameters, SpellsOperator, SpellsSet, Spells, attribute_value, connective_value, head_value, parameters_value, tree_value, query_value, PairValue, IsQuery, kind_and_value, has_equals, heads, Start, Structures, SetOrSpec, Spec, MoreWords, fault, words_then, first_place, ReadsWord, ReadsFirst, is_good, Due, fault_at_end};
 
 use crate::diagnostics::{Condition, Site};
 use crate::digits::short_number;
@@ -56,16 +56,6 @@ impl<'a> Rest<'a> {
         ensures { result ≡ first_keyword (left self.now) }
     {
         self.words.first()?.keyword()
-    }
-
-    /// Whether the first word has the `=` of a SPEC.
-    fn has_spec(&self) -> bool
-        ensures { result ≡ first_equals (left self.now) }
-    {
-        match self.words.first() {
-            Some(word) => has_equals(word.text.as_str()),
-            None => false,
-        }
     }
 
     /// What follows the keyword, if that is the first word.
@@ -232,33 +222,31 @@ fn attribute_of<'a>(alloc: Global, rest: Rest<'a>) -> Result<(Attribute, Rest<'a
         (λ read. SpellsAttribute rest.entry read.1 (attribute_value read.0)) }
     ensures fails { IfErr result (λ e. (n : ℕ) → IsFault e (fault_of rest.entry (SetOrSpec n))) }
 {
-    if rest.has_spec() {
-        return spec_of(alloc, None, rest);
-    }
     let (word, after) = rest.word(alloc)?;
+    if has_equals(word.text.as_str()) {
+        let attribute = spec_of(alloc, None, word)?;
+        return Ok((attribute, after));
+    }
     let set = word.text.clone()?;
-    spec_of(alloc, Some(set), after)
+    let (spec, after) = after.word(alloc)?;
+    let attribute = spec_of(alloc, Some(set), spec)?;
+    Ok((attribute, after))
 }
 
 /// `SPEC`: 1 to 9 digits, which are the type, then `=`, then the value. That there are at most nine is an own rule.
-fn spec_of<'a>(
-    alloc: Global,
-    set: Option<String>,
-    rest: Rest<'a>,
-) -> Result<(Attribute, Rest<'a>), QueryFault>
-    ensures shorter { IfOk result (λ read. length read.1.words.now < length rest.entry.words.now) }
-    ensures goes { IfOk result (λ read. (n : ℕ) → fault_of rest.entry (Spec n)
-        ≡ fault_of read.1 (Structures (suc n))) }
-    ensures spelled { IfOk result (λ read. SpellsSpec rest.entry read.1
-        (option_map string_bytes set) (attribute_value read.0)) }
-    ensures fails { IfErr result (λ e. (n : ℕ) → IsFault e (fault_of rest.entry (Spec n))) }
+fn spec_of(alloc: Global, set: Option<String>, word: &Word) -> Result<Attribute, QueryFault>
+    requires { is_good (word_of word.now) ≡ true }
+    ensures spelled { IfOk result (λ attribute. IsSpec (word_of word.now)
+        (option_map string_bytes set) (attribute_value attribute)) }
+    ensures fails { IfErr result (λ e. (end room n : ℕ) (more : List WordOfQuery)
+        → IsFault e (fault end room (Spec n) (word_of word.now ∷ more))) }
 {
-    let (word, after) = rest.word(alloc)?;
     let Some((kind, value)) = kind_and_value(word.text.as_str()) else {
-        return Err(rest.unspelled(alloc));
+        let place = word.place;
+        return Err(Site { alloc, place }.refused(Condition::MalformedQuery));
     };
     let value = String::from_str(alloc, value)?;
-    Ok((Attribute { set, kind, value }, after))
+    Ok(Attribute { set, kind, value })
 }
 
 fn has_equals(text: &str) -> bool

@@ -1,5 +1,5 @@
 //! The attributes and the term type that hold over a term, the innermost of each type.
-ghost use Rattle.std.specs.Prelude.{◌≡◌, List, ℕ, Option, Some};
+ghost use Rattle.std.specs.Prelude.{◌≡◌, List, ℕ, Option};
 ghost use Rattle.zeb_query.specs.Clauses.{is_bib1, holding_of, attribute_value, head_value, query_value, HeadValue, heads, no_head, holding_value, held_with, first_set};
 
 use crate::{Attribute, Head, Query};
@@ -58,17 +58,9 @@ impl<'a> Holding<'a> {
             holding.add(attribute);
         }
         if let Some(term_type) = &head.term_type {
-            holding.set_type(term_type.as_str());
+            holding.term_type = Some(term_type.as_str());
         }
         holding
-    }
-
-    /// Sets a term type inside of all others.
-    fn set_type(&mut self, term_type: &'a str)
-        ensures { holding_value self.new
-            ≡ record (holding_value self.old) { term_type = Some term_type.now } }
-    {
-        self.term_type = Some(term_type);
     }
 
     /// Adds an attribute inside of all others.

@@ -1,6 +1,6 @@
 //! The keywords of the format, as words of a text.
 ghost use Rattle.std.specs.Prelude.{◌≡◌};
-ghost use Rattle.zeb_query.specs.Clauses.{operator_spelled, operator_word, connective_value, keyword_of, operator_named, word_of};
+ghost use Rattle.zeb_query.specs.Clauses.{operator_word, connective_value, keyword_of, operator_named, word_of};
 
 use crate::words::{Spelling, Word};
 use crate::{Connective, Operator};
@@ -28,28 +28,16 @@ pub enum OperatorWord {
     Proximity,
 }
 
-impl OperatorWord {
-    pub(crate) fn as_str(self) -> &'static str
-        ensures { result.now ≡ operator_word self }
-    {
-        match self {
-            OperatorWord::And => "@and",
-            OperatorWord::Or => "@or",
-            OperatorWord::Not => "@not",
-            OperatorWord::Proximity => "@prox",
-        }
-    }
-}
-
 impl Connective {
-    pub(crate) fn word(&self) -> OperatorWord
-        ensures { result ≡ operator_named (connective_value self.now) }
+    /// The word of the operator.
+    pub(crate) fn word(&self) -> &'static str
+        ensures { result.now ≡ operator_word (operator_named (connective_value self.now)) }
     {
         match self {
-            Connective::Boolean(Operator::And) => OperatorWord::And,
-            Connective::Boolean(Operator::Or) => OperatorWord::Or,
-            Connective::Boolean(Operator::Not) => OperatorWord::Not,
-            Connective::Proximity(_) => OperatorWord::Proximity,
+            Connective::Boolean(Operator::And) => "@and",
+            Connective::Boolean(Operator::Or) => "@or",
+            Connective::Boolean(Operator::Not) => "@not",
+            Connective::Proximity(_) => "@prox",
         }
     }
 }
@@ -67,23 +55,11 @@ impl Word {
             "@attr" => Some(Keyword::Attribute),
             "@term" => Some(Keyword::TermType),
             "@set" => Some(Keyword::ResultSet),
-            text => Some(Keyword::Operator(operator_in(text)?)),
+            "@and" => Some(Keyword::Operator(OperatorWord::And)),
+            "@or" => Some(Keyword::Operator(OperatorWord::Or)),
+            "@not" => Some(Keyword::Operator(OperatorWord::Not)),
+            "@prox" => Some(Keyword::Operator(OperatorWord::Proximity)),
+            _ => None,
         }
-    }
-}
-
-fn operator_in(text: &str) -> Option<OperatorWord>
-    ensures { result ≡ operator_spelled text.now }
-{
-    if text == OperatorWord::And.as_str() {
-        Some(OperatorWord::And)
-    } else if text == OperatorWord::Or.as_str() {
-        Some(OperatorWord::Or)
-    } else if text == OperatorWord::Not.as_str() {
-        Some(OperatorWord::Not)
-    } else if text == OperatorWord::Proximity.as_str() {
-        Some(OperatorWord::Proximity)
-    } else {
-        None
     }
 }

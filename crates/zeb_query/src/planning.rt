@@ -1,11 +1,11 @@
 //! The plan of a query, or its first diagnostic.
-ghost use Rattle.std.specs.Prelude.{◌≡◌, List, ℕ, Option, ◌<◌, ◌^◌, IfOk, string_bytes, option_map};
+ghost use Rattle.std.specs.Prelude.{◌≡◌, List, ℕ, Option, ◌<◌, ◌^◌, IfOk, string_bytes};
 ghost use Rattle.zeb_query.specs.Clauses.{HeadValue, tree_value, query_value, head_value, heads, many, Gives, IsDiagnostic, holding_value};
 ghost use Rattle.zeb_query.specs.Attributes as attributes;
 ghost use Rattle.zeb_query.specs.Plans as plans;
 ghost use Rattle.zeb_query.specs.PrivatePlanning as steps;
 
-use crate::attributes::{Asked, Completeness, Position, Structure};
+use crate::attributes::{Asked, Completeness, Structure};
 use crate::diagnostics::{Condition, Site};
 use crate::digits::{long_number, short_number};
 use crate::holding::Holding;
@@ -22,19 +22,7 @@ use zeb_text::{Pattern, join, join_patterns, words};
 /// The plan of a query over a profile (ANSI/NISO Z39.50-2003, attribute set Bib-1).
 ///
 /// The checks of its operators, named sets and terms stand in the order of the text, and the first that applies is answered, with
-/// the place of the operator's word, of `@set` or of the term:
-/// - 18 at a named result set, about its name;
-/// - at `@prox`, 110 about the first of its parameters that isn't kept, or about `@prox` where an operand isn't a term; then the
-///   faults of its operands, for which 123 is answered also for a relation other than equal, a position other than any, a
-///   structure other than phrase and word, a completeness other than incomplete, and a number of words other than one; and last
-///   123 where their indexes differ;
-/// - at a term, 229 about a term type other than `general` and `string`; 121 about the leftmost attribute set other
-///   than Bib-1 over the term; 113 about the leftmost attribute type outside 1 to 6;
-/// - 114, 117, 119, 118, 120, 122 about the value of an attribute of type 1 to 6 that isn't kept, in the order of the
-///   types; 116 where no use attribute is given and 1016 isn't tied to an index;
-/// - 5 for a term of more than 64 words;
-/// - 123 for values that aren't kept together, and for an index that has no target with the searched register;
-/// - 126 about a term that had to be a number, of 1 to 9 digits for a local number, of 1 to 18 otherwise.
+/// the place of the operator's word, of `@set` or of the term. `specs/Checks.antt` has them as tables, each with its number.
 ///
 /// The values of attributes are Bib-1's, and the numbers those of its list of diagnostics. Which of them are kept, which
 /// number answers which fault, the order, the limits, what goes together, and that structure 107 asks for the record's
@@ -78,14 +66,8 @@ fn plan_tree(
                 }
                 Connective::Proximity(parameters) => {
                     let place = *place;
-                    plan_near(
-                        Site { alloc, place },
-                        parameters,
-                        left,
-                        right,
-                        holding,
-                        profile,
-                    )
+                    let site = Site { alloc, place };
+                    plan_near(site, parameters, left, right, holding, profile)
                 }
             }
         }
@@ -133,11 +115,9 @@ fn plan_leaf(
         let number = kept(site, Condition::TermValue, Some(text), short_number(text))?;
         return Ok(TermPlan::RecordNumber(number));
     };
+    let register = values.register();
     match values.relation {
-        Asked::Always => Ok(TermPlan::Always {
-            index,
-            register: values.register(),
-        }),
+        Asked::Always => Ok(TermPlan::Always { index, register }),
         Asked::Compared(relation) => {
             compared(site, text, &values, index, structure, relation, patterns)
         }
@@ -150,26 +130,6 @@ pub(crate) fn number_in(site: Site, text: &str) -> Result<u64, QueryFault>
     ensures small { IfOk result (λ number. number < 10 ^ many) }
 {
     kept(site, Condition::TermValue, Some(text), long_number(text))
-}
-
-/// The term's words with a space between.
-pub(crate) fn joined_words(alloc: Global, text: &str) -> Result<String, AllocError>
-    ensures { IfOk result (λ joined. string_bytes joined ≡ attributes.joined_words text.now) }
-{
-    join(alloc, &words(alloc, text)?)
-}
-
-/// The same, if the term has a word.
-fn joined_words_if_any(alloc: Global, text: &str) -> Result<Option<String>, AllocError>
-    ensures { IfOk result (λ joined.
-        option_map string_bytes joined ≡ attributes.joined_words_if_any text.now) }
-{
-    let words = words(alloc, text)?;
-    if words.is_empty() {
-        Ok(None)
-    } else {
-        Ok(Some(join(alloc, &words)?))
-    }
 }
 
 /// The plan of a term that is compared with the entries of an index.
@@ -194,51 +154,51 @@ fn compared(
             number,
         });
     }
-    if let Some(order) = relation.order() {
-        let start = joined_words_if_any(site.alloc, text)?;
-        return Ok(TermPlan::Ordered {
-            index,
-            register: values.register(),
-            order,
-            start,
-        });
+    let Some(order) = relation.order() else {
+        return Ok(matching(site.alloc, values, index, structure, patterns)?);
+    };
+    let register = values.register();
+    let words = words(site.alloc, text)?;
+    if words.is_empty() {
+        return Ok(TermPlan::NoWords { index, register });
+    }
+    let start = join(site.alloc, &words)?;
+    Ok(TermPlan::Ordered {
+        index,
+        register,
+        order,
+        start,
+    })
+}
+
+/// The plan of a term whose words are compared by equality.
+fn matching(
+    alloc: Global,
+    values: &Values,
+    index: u32,
+    structure: Structure,
+    patterns: Vec<Pattern>,
+) -> Result<TermPlan, AllocError>
+    ensures { IfOk result (λ plan. plans.term_plan_value plan
+        ≡ plans.matched_asked values.now index structure patterns.items) }
+{
+    if patterns.is_empty() {
+        let register = values.register();
+        return Ok(TermPlan::NoWords { index, register });
     }
     match values.completeness {
         Completeness::Complete => {
-            let pattern = joined_if_any(site.alloc, &patterns)?;
+            let pattern = join_patterns(alloc, &patterns)?;
             Ok(TermPlan::Complete { index, pattern })
         }
-        Completeness::Incomplete => Ok(words_plan(index, structure, values.position, patterns)),
-    }
-}
-
-/// The pattern of all words, if there is a word.
-fn joined_if_any(alloc: Global, patterns: &[Pattern]) -> Result<Option<Pattern>, AllocError>
-    ensures { IfOk result (λ pattern. pattern ≡ attributes.joined_if_any patterns.now) }
-{
-    if patterns.is_empty() {
-        Ok(None)
-    } else {
-        Ok(Some(join_patterns(alloc, patterns)?))
-    }
-}
-
-fn words_plan(
-    index: u32,
-    structure: Structure,
-    position: Position,
-    patterns: Vec<Pattern>,
-) -> TermPlan
-    ensures { plans.term_plan_value result
-        ≡ plans.words_asked index structure position Completeness.Incomplete patterns.items }
-{
-    match structure {
-        Structure::WordList => TermPlan::AllWords { index, patterns },
-        Structure::FreeForm => TermPlan::AnyWord { index, patterns },
-        Structure::Phrase | Structure::Numeric => TermPlan::Phrase {
-            index,
-            patterns,
-            first: position == Position::First,
+        Completeness::Incomplete => match structure {
+            Structure::WordList => Ok(TermPlan::AllWords { index, patterns }),
+            Structure::FreeForm => Ok(TermPlan::AnyWord { index, patterns }),
+            Structure::Phrase | Structure::Numeric => Ok(TermPlan::Phrase {
+                index,
+                patterns,
+                first: values.is_first(),
+            }),
         },
     }
 }

@@ -47,6 +47,11 @@ pub enum Order {
 pub enum TermPlan {
     /// The record with this system number, 0 to 999,999,999: what this project takes a local number for.
     RecordNumber(u32),
+    /// No record: the words of the term are looked for in the register of the index, and it has none.
+    NoWords {
+        index: u32,
+        register: Register,
+    },
     /// The records that have any entry in the register of the index.
     Always {
         index: u32,
@@ -60,17 +65,17 @@ pub enum TermPlan {
         number: u64,
     },
     /// The records with an entry that stands so to the term's words, joined by one space, in the order of their
-    /// bytes. No record where the term has no words, and so no `start`.
+    /// bytes.
     Ordered {
         index: u32,
         register: Register,
         order: Order,
-        start: Option<String>,
+        start: String,
     },
-    /// The records with a whole phrase that matches the pattern. No record where there is none.
+    /// The records with a whole phrase that matches the pattern.
     Complete {
         index: u32,
-        pattern: Option<Pattern>,
+        pattern: Pattern,
     },
     /// The records with words, one after another in one unit, that match the patterns in order; `first` asks that
     /// they begin with the unit's first word. No record where there is no pattern.

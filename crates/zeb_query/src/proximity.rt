@@ -6,7 +6,6 @@ ghost use Rattle.zeb_query.specs.PrivatePlanning as steps;
 use crate::diagnostics::{Condition, Site};
 use crate::digits::short_number;
 use crate::holding::Holding;
-use crate::keywords::OperatorWord;
 use crate::terms::{index_in, kept, taken_term};
 use crate::values::Purpose;
 use crate::{DistanceRelation, Leaf, NearPlan, Parameters, Plan, QueryFault, Separation, Tree};
@@ -33,7 +32,7 @@ pub(crate) fn plan_near(
 {
     let separation = separation_of(site, parameters)?;
     let (Tree::Term(left), Tree::Term(right)) = (left, right) else {
-        return Err(site.about(Condition::Operator, OperatorWord::Proximity.as_str()));
+        return Err(site.about(Condition::Operator, "@prox"));
     };
     let (index, left) = near_operand(site.alloc, left, over, profile)?;
     let (other, right) = near_operand(site.alloc, right, over, profile)?;
@@ -139,10 +138,8 @@ fn near_operand(
     let holding = over.within(&leaf.head);
     let (values, patterns) = taken_term(site, text, &holding, profile, Purpose::Near)?;
     let index = index_in(site, values.subject)?;
-    match only(patterns) {
-        Some(pattern) => Ok((index, pattern)),
-        None => Err(site.refused(Condition::Combination)),
-    }
+    let pattern = kept(site, Condition::Combination, None, only(patterns))?;
+    Ok((index, pattern))
 }
 
 fn only(patterns: Vec<Pattern>) -> Option<Pattern>

@@ -6,13 +6,13 @@ ghost use Rattle.zeb_query.specs.PrivatePlanning as steps;
 
 use crate::diagnostics::{Condition, Site};
 use crate::holding::Holding;
-use crate::planning::{joined_words, named_set, number_in};
+use crate::planning::{named_set, number_in};
 use crate::terms::{index_in, taken_term};
 use crate::values::{Purpose, Values};
 use crate::{Leaf, Query, QueryFault, ScanPlan, Tree};
 use std::alloc::Global;
 use zeb_profile::Profile;
-use zeb_text::key_of_number;
+use zeb_text::{join, key_of_number, words};
 
 /// The plan of a scan that begins at a query's term.
 ///
@@ -34,7 +34,7 @@ pub fn plan_scan(alloc: Global, query: &Query, profile: &Profile) -> Result<Scan
             ..
         } => {
             let place = *place;
-            Err(Site { alloc, place }.about(Condition::Operator, connective.word().as_str()))
+            Err(Site { alloc, place }.about(Condition::Operator, connective.word()))
         }
     }
 }
@@ -74,6 +74,6 @@ fn start_of(site: Site, text: &str, values: &Values) -> Result<String, QueryFaul
         let number = number_in(site, text)?;
         Ok(key_of_number(site.alloc, number)?)
     } else {
-        Ok(joined_words(site.alloc, text)?)
+        Ok(join(site.alloc, &words(site.alloc, text)?)?)
     }
 }

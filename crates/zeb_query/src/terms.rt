@@ -1,6 +1,6 @@
 //! Reading a term: the values of its attributes and the patterns of its words, or its first diagnostic.
 ghost use Rattle.std.specs.Prelude.{◌≡◌, IfOk, Some, option_copied};
-ghost use Rattle.zeb_query.specs.Clauses.{Gives, kind_check, type_check, condition_number, holding_value};
+ghost use Rattle.zeb_query.specs.Clauses.{Gives, type_check, condition_number, holding_value};
 ghost use Rattle.zeb_query.specs.PrivatePlanning as steps;
 
 use crate::QueryFault;
@@ -111,18 +111,6 @@ fn check_type(site: Site, term_type: Option<&str>) -> Result<(), QueryFault>
     }
 }
 
-fn check_kind(site: Site, kind: Option<u32>) -> Result<(), QueryFault>
-    ensures { Gives (λ x. x) result (steps.passed (kind_check site.place kind)) }
-{
-    match kind {
-        Some(kind) => {
-            let text = kind.to_string(site.alloc)?;
-            Err(site.about(Condition::AttributeType, text.as_str()))
-        }
-        None => Ok(()),
-    }
-}
-
 /// The faults of a term's type and of the sets and types of the attributes over it.
 #[tactic(auto, unfolding(crate::specs::PrivatePlanning::head_read))]
 fn check_holding(site: Site, holding: &Holding<'_>) -> Result<(), QueryFault>
@@ -132,7 +120,11 @@ fn check_holding(site: Site, holding: &Holding<'_>) -> Result<(), QueryFault>
     if let Some(set) = holding.other_set {
         return Err(site.about(Condition::AttributeSet, set));
     }
-    check_kind(site, holding.other_kind)
+    if let Some(kind) = holding.other_kind {
+        let text = kind.to_string(site.alloc)?;
+        return Err(site.about(Condition::AttributeType, text.as_str()));
+    }
+    Ok(())
 }
 
 /// The patterns of a term's words; none where the words aren't compared.
@@ -150,27 +142,9 @@ fn patterns_for(site: Site, text: &str, values: &Values) -> Result<Vec<Pattern>,
     Ok(patterns)
 }
 
-/// The values of a term's attributes and the patterns of its words, or the first diagnostic of: the term's type,
-/// the sets and types of the attributes, their values, the number of words. There are no patterns where the words
-/// aren't compared.
-#[tactic(auto, unfolding(crate::specs::PrivatePlanning::term_read))]
-fn read_term(
-    site: Site,
-    text: &str,
-    holding: &Holding<'_>,
-    profile: &Profile,
-) -> Result<(Values, Vec<Pattern>), QueryFault>
-    ensures { Gives (λ read. (read.0, read.1.items)) result
-        (steps.term_read profile.now site.place text.now (holding_value holding.now)) }
-{
-    check_holding(site, holding)?;
-    let values = values_of(site, holding, profile)?;
-    let patterns = patterns_for(site, text, &values)?;
-    Ok((values, patterns))
-}
-
-/// The values of a term's attributes and the patterns of its words; or the first of its diagnostics, behind which stand, for this
-/// purpose, values that aren't taken together, and an index that has no target with the searched register.
+/// The values of a term's attributes and the patterns of its words, none where these aren't compared; or the first diagnostic of: the
+/// term's type, the sets and types of the attributes, their values, the number of words, and, for this purpose, values that aren't
+/// taken together, or an index that has no target with the searched register.
 #[tactic(auto, unfolding(crate::specs::PrivatePlanning::term_taken))]
 pub(crate) fn taken_term(
     site: Site,
@@ -182,7 +156,9 @@ pub(crate) fn taken_term(
     ensures { Gives (λ read. (read.0, read.1.items)) result
         (steps.term_taken profile.now purpose site.place text.now (holding_value holding.now)) }
 {
-    let (values, patterns) = read_term(site, text, holding, profile)?;
+    check_holding(site, holding)?;
+    let values = values_of(site, holding, profile)?;
+    let patterns = patterns_for(site, text, &values)?;
     if values.clashes(purpose) || values.lacks_register(profile) {
         return Err(site.refused(Condition::Combination));
     }

@@ -59,7 +59,7 @@ impl Values {
         }
     }
 
-    fn is_first(&self) -> bool
+    pub(crate) fn is_first(&self) -> bool
         ensures { result ≡ values.is_first self.now.position }
     {
         self.position == Position::First

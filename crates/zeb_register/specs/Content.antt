@@ -1,5 +1,5 @@
--- What the registers hold: for each database and each key a list of postings, each the number of a record and a place in it, in
--- rising order of number, unit and place.
+-- What the registers hold: for each database's id and each key a list of postings, each the number of a record and a place in it.
+-- `Content` asks for no order. Tables hold only a content whose lists rise (`HasRisingLists`), by number, unit and place.
 use Rattle.std.specs.Prelude.{◌≡◌, ◌≢◌, ◌↔◌, ◌≤◌, ◌<◌, ◌^◌, ◌==◌, ℕ, ℤ, List, [], ◌∷◌, filter, map, IsUtf8}
 use Rattle.std.specs.List.{AllByRecursion}
 use Rattle.std.specs.List.Sorted.{IsStrictlySortedBy}

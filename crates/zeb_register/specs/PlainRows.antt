@@ -26,7 +26,8 @@ posting_row p = Int (pos p.sysno) ∷ Int (pos p.seq) ∷ Int (pos p.pos) ∷ []
 abbrev pub IsPostingRow : Content → Row → Type 0
 IsPostingRow content row = (db : ℤ) × (key : Key) × (p : Posting) × Has (content db key) p × (row ≡ key_row db key ++ posting_row p)
 
--- the tables of the registers hold the content: a row of `postings` for each posting and no other, and no row of `blocks` or `dict`
+-- the tables of the registers hold the content: a row of `postings` for each posting and no other, and no row of `blocks`, whose tree has
+-- the number 9, or of `dict`, whose tree has 11
 pub record HoldsRows (trees : Trees) (content : Content) : Type 0 where
   pub rising : HasRisingLists content
   pub each : (row : Row) → HasRow trees postings_tree row ↔ IsPostingRow content row

@@ -98,7 +98,8 @@ IsRecordIn db columns = column columns 0 ≡ Int db
 abbrev pub IsRest : ℕ → Row → Trees → Row → Type 0
 IsRest tree front trees row = HasRow trees tree (front ++ row)
 
--- ---- the tables of the lists, and those of the registers
+-- ---- the tables of the lists, and those of the registers, each by the number of its tree: 0 is `meta`, 2 `databases`, 4 `records`, 7
+-- `postings`, 9 `blocks` and 11 `dict`; the numbers between are those of their indexes
 
 abbrev pub LacksLists : Trees → Type 0
 LacksLists trees = (trees 0 ≡ []) × (trees 2 ≡ []) × (trees 4 ≡ [])

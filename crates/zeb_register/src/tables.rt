@@ -3,7 +3,7 @@
 ghost use Rattle.std.specs.Prelude.{◌≡◌, ◌≢◌, IsTrue, OnOk};
 ghost use Rattle.sqlite.specs.Held.{state};
 ghost use Rattle.sqlite.specs.State.{HasCleanDisk, IsUnchanged};
-ghost use Rattle.zeb_register.specs.Tables.{no_schema, with_records, store_schema};
+ghost use Rattle.zeb_register.specs.Tables.{no_schema, store_schema};
 ghost use Rattle.zeb_register.specs.PrivateRowStatements.{IsMade};
 ghost use Rattle.zeb_register.specs.PrivateStoreTables.{HasEmpty, create_text, schema_after, schema_before};
 ghost use Rattle.zeb_register.specs.Store.{IsEmptyStore};
@@ -73,31 +73,20 @@ fn table_make<S: Alter>(tx: &mut Transaction<'_, S>, table: StoreTable) -> Resul
     Ok(())
 }
 
-/// Makes the tables of the lists.
-fn lists_make<S: Alter>(tx: &mut Transaction<'_, S>) -> Result<(), Error>
-    ensures same { tx.new.conn.ghost_name ≡ tx.old.conn.ghost_name }
-    ensures made { DoneUnder no_schema (state S.Store tx.old.conn.now)
-        (state S.Store tx.new.conn.now) result
-        (λ _ b. IsMade with_records b) }
-    ensures there { DoneUnder store_schema (state S.Store tx.old.conn.now)
-        (state S.Store tx.new.conn.now) result IsUnchanged }
-    ensures kept { KeepsAllTables (state S.Store tx.old.conn.now) (state S.Store tx.new.conn.now)
-        result }
-    ensures call { Inside (state S.Store tx.old.conn.now) (state S.Store tx.new.conn.now) result
-        (λ _. GoesOn) }
-{
-    table_make(tx, StoreTable::Meta)?;
-    table_make(tx, StoreTable::Databases)?;
-    table_make(tx, StoreTable::Records)
-}
-
-/// Makes the tables of the registers, behind those of the lists.
-fn registers_make<S: Alter>(tx: &mut Transaction<'_, S>) -> Result<(), Error>
+/// Makes three tables where they are absent, each behind the one before it in the schema.
+fn tables_make<S: Alter>(
+    tx: &mut Transaction<'_, S>,
+    first: StoreTable,
+    second: StoreTable,
+    third: StoreTable,
+) -> Result<(), Error>
+    requires follow { (schema_after first ≡ schema_before second)
+        × (schema_after second ≡ schema_before third) }
     ensures same { tx.new.conn.ghost_name ≡ tx.old.conn.ghost_name }
     ensures made { HasCleanDisk (state S.Store tx.new.conn.now)
         → IsTrue (state S.Store tx.old.conn.now).in_transaction
-        → HasEmpty with_records (state S.Store tx.old.conn.now)
-        → OnOk result (IsMade store_schema (state S.Store tx.new.conn.now)) }
+        → HasEmpty (schema_before first) (state S.Store tx.old.conn.now)
+        → OnOk result (IsMade (schema_after third) (state S.Store tx.new.conn.now)) }
     ensures there { DoneUnder store_schema (state S.Store tx.old.conn.now)
         (state S.Store tx.new.conn.now) result IsUnchanged }
     ensures kept { KeepsAllTables (state S.Store tx.old.conn.now) (state S.Store tx.new.conn.now)
@@ -105,9 +94,9 @@ fn registers_make<S: Alter>(tx: &mut Transaction<'_, S>) -> Result<(), Error>
     ensures call { Inside (state S.Store tx.old.conn.now) (state S.Store tx.new.conn.now) result
         (λ _. GoesOn) }
 {
-    table_make(tx, StoreTable::Postings)?;
-    table_make(tx, StoreTable::Blocks)?;
-    table_make(tx, StoreTable::Dict)
+    table_make(tx, first)?;
+    table_make(tx, second)?;
+    table_make(tx, third)
 }
 
 /// Makes the tables that are absent. No row of a table that is there changes.
@@ -125,7 +114,17 @@ pub fn make_tables<S: Alter>(tx: &mut Transaction<'_, S>) -> Result<(), RegFault
         (λ _. GoesOn) }
     ensures honest { result ≢ Err RegFault.Damaged }
 {
-    lists_make(tx)?;
-    registers_make(tx)?;
+    tables_make(
+        tx,
+        StoreTable::Meta,
+        StoreTable::Databases,
+        StoreTable::Records,
+    )?;
+    tables_make(
+        tx,
+        StoreTable::Postings,
+        StoreTable::Blocks,
+        StoreTable::Dict,
+    )?;
     Ok(())
 }

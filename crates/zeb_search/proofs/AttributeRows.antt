@@ -1,6 +1,5 @@
 -- What a term asks for holds on the records that the rows of its attributes say.
-use Rattle.zeb_search.proofs.Cited.{◌≡◌, ◌≢◌, ◌↔◌, ◌∙◌, ℕ, false, cond, List, [], ◌∷◌, Option, Some, None, refl, sym, ap, subst, inl, inr, Ok, Symbol, Register, Order, Relation, Occurrence, TermPlanValue, PlanValue, TermOf, NumberOf, OrderedOf, CompleteOf, HasEntry, TermHolds, TreeHolds, encode_utf8_all, chars, map}
-use Rattle.std.specs.List.{join_with_byte}
+use Rattle.zeb_search.proofs.Cited.{◌≡◌, ◌≢◌, ◌↔◌, ◌∙◌, ℕ, false, cond, List, [], ◌∷◌, Option, Some, None, refl, sym, ap, subst, inl, inr, Ok, Symbol, Register, Order, Relation, Occurrence, TermPlanValue, PlanValue, TermOf, NumberOf, OrderedOf, CompleteOf, PhraseOf, AllWordsOf, AnyWordOf, Has, TermHolds, TreeHolds, chars}
 use Rattle.std.specs.Str.Parse.{digits_value}
 use Rattle.zeb_keys.specs.declared.Register.TheVariants as register
 use Rattle.zeb_profile.specs.declared.Profile.{Profile}
@@ -18,13 +17,11 @@ use Rattle.zeb_query.specs.declared.values.Subject.{Subject}
 use Rattle.zeb_query.specs.declared.values.Subject.TheVariants.{Entries, Record}
 use Rattle.zeb_query.specs.declared.values.Values.{Values}
 use Rattle.zeb_query.specs.Grammar.{HeadValue, TermValue, heads, no_head}
-use Rattle.zeb_query.specs.Attributes.{HoldingValue, asks_number, holding_of, joined_if_any, order_of, patterns_asked, register_of, values_held, words_if_any}
+use Rattle.zeb_query.specs.Attributes.{HoldingValue, asks_number, holding_of, is_first, joined_words, order_of, patterns_asked, register_of, values_held}
 use Rattle.zeb_query.specs.Checks.{find_checks, first_that_applies}
-use Rattle.zeb_query.specs.Plans.{entries_asked, plan_asked, plan_of, subject_asked, texts_asked, words_asked}
+use Rattle.zeb_query.specs.Plans.{asked_with, entries_asked, plan_asked, plan_of, subject_asked, texts_asked, words_asked}
 use Rattle.zeb_query.proofs.CheckLemmas.{answered_ok}
 use Rattle.zeb_search.specs.ByAttributes.{HasRow, HoldsByAttributes}
-use Rattle.zeb_search.specs.Comparing.{StandsInOrder}
-use Rattle.zeb_search.specs.Holds.{Fits}
 
 module _ (v : Values) (text : List ℕ) (patterns : List (List Symbol)) where
   -- what a term asks for, by its values
@@ -43,9 +40,9 @@ module _ (v : Values) (text : List ℕ) (patterns : List (List Symbol)) where
 
   matched : (index : ℕ) (structure : Structure) (complete : Completeness)
       → v.subject ≡ Entries index structure → asks_number structure ≡ false → v.relation ≡ Compared Equal → v.completeness ≡ complete
-      → subject_asked v text patterns v.subject ≡ words_asked index structure v.position complete patterns
+      → subject_asked v text patterns v.subject ≡ asked_with patterns index (register_of v) (words_asked index structure v.position complete patterns)
   matched index structure complete s n r c =
-      compared index structure Equal None s n r refl ∙ ap (λ x. words_asked index structure v.position x patterns) c
+      compared index structure Equal None s n r refl ∙ ap (λ x. asked_with patterns index (register_of v) (words_asked index structure v.position x patterns)) c
 
 -- ---- the rows
 
@@ -54,27 +51,37 @@ module _ (O : ℕ → Occurrence → Type 0) (K : ℕ → Type 0) where
   holds_as : (plan same : TermPlanValue) (X : ℕ → Type 0) → plan ≡ same → ((n : ℕ) → TermHolds O K same n ↔ X n) → (n : ℕ) → TermHolds O K plan n ↔ X n
   holds_as plan same X e holds = subst (λ p. (n : ℕ) → TermHolds O K p n ↔ X n) (sym e) holds
 
-  ordered_by : (index : ℕ) (register : Register) (order : Order) (words : List (List ℕ)) (n : ℕ)
-      → TermHolds O K (OrderedOf index register order (words_if_any (map encode_utf8_all words))) n
-      ↔ ((words ≢ []) × HasEntry O index register (λ term. StandsInOrder order term (join_with_byte 32 (map encode_utf8_all words))) n)
-  ordered_by index register order [] n = (λ none. absurd none, λ some. absurd (some.0 refl))
-  ordered_by index register order (word ∷ words) n = (λ has. (λ e. cc, has), λ some. some.1)
+  -- a term with words holds as these are asked for, and one without them on no record
+  asked_by : {A : Type 0} (words : List A) (index : ℕ) (register : Register) (plan : TermPlanValue) (n : ℕ)
+      → TermHolds O K (asked_with words index register plan) n ↔ ((words ≢ []) × TermHolds O K plan n)
+  asked_by [] index register plan n = (λ none. absurd none, λ some. absurd (some.0 refl))
+  asked_by (word ∷ words) index register plan n = (λ has. (λ e. cc, has), λ some. some.1)
 
-  whole_by : (index : ℕ) (patterns : List (List Symbol)) (n : ℕ)
-      → TermHolds O K (CompleteOf index (joined_if_any patterns)) n ↔ ((patterns ≢ []) × HasEntry O index register.Phrase (Fits (joined_patterns patterns)) n)
-  whole_by index [] n = (λ none. absurd none, λ some. absurd (some.0 refl))
-  whole_by index (pattern ∷ patterns) n = (λ has. (λ e. cc, has), λ some. some.1)
+  -- the same of a plan that says itself that it has patterns, or that one of them
+  patterns_by : (patterns : List (List Symbol)) (index : ℕ) (register : Register) (plan : TermPlanValue) → ((n : ℕ) → TermHolds O K plan n → patterns ≢ [])
+      → (n : ℕ) → TermHolds O K (asked_with patterns index register plan) n ↔ TermHolds O K plan n
+  patterns_by [] index register plan some n = (λ none. absurd none, λ has. absurd (some n has refl))
+  patterns_by (pattern ∷ patterns) index register plan some n = (λ has. has, λ has. has)
+
+  has_some : (patterns : List (List Symbol)) (pattern : List Symbol) → Has patterns pattern → patterns ≢ []
+  has_some [] pattern there = absurd there
+  has_some (one ∷ patterns) pattern there = λ e. cc
 
   by_values : (v : Values) (text : List ℕ) → HoldsByAttributes O K v text (TermHolds O K (subject_asked v text (patterns_asked v text) v.subject))
   by_values v text = let patterns = patterns_asked v text in record {
     system_number = λ row. holds_as _ _ _ (ap (λ x. subject_asked v text patterns x) row) (λ n. (λ x. x, λ x. x));
     any_entry = λ index row. holds_as _ _ _ (related v text patterns index row.1.0 Always row.1.1 row.0) (λ n. (λ x. x, λ x. x));
     number = λ index relation row. holds_as _ _ _ (related v text patterns index Numeric (Compared relation) row.1 row.0) (λ n. (λ x. x, λ x. x));
-    ordered = λ index order row. holds_as _ _ _ (compared v text patterns index row.1.0 row.0.0 (Some order) row.1.2 row.1.1 row.0.2 row.0.1) (ordered_by index (register_of v) order (words_of (chars text)));
-    whole = λ index row. holds_as _ _ _ (matched v text patterns index row.1.1.0 Complete row.1.1.2 row.1.1.1 row.0 row.1.0) (whole_by index patterns);
-    each_word = λ index row. holds_as _ _ _ (matched v text patterns index WordList Incomplete row.1.1 refl row.0 row.1.0) (λ n. (λ x. x, λ x. x));
-    some_word = λ index row. holds_as _ _ _ (matched v text patterns index FreeForm Incomplete row.1.1 refl row.0 row.1.0) (λ n. (λ x. x, λ x. x));
-    phrase = λ index row. holds_as _ _ _ (matched v text patterns index Phrase Incomplete row.1.1 refl row.0 row.1.0) (λ n. (λ x. x, λ x. x));
+    ordered = λ index order row. holds_as _ _ _ (compared v text patterns index row.1.0 row.0.0 (Some order) row.1.2 row.1.1 row.0.2 row.0.1)
+        (asked_by (words_of (chars text)) index (register_of v) (OrderedOf index (register_of v) order (joined_words text)));
+    whole = λ index row. holds_as _ _ _ (matched v text patterns index row.1.1.0 Complete row.1.1.2 row.1.1.1 row.0 row.1.0)
+        (asked_by patterns index (register_of v) (CompleteOf index (joined_patterns patterns)));
+    each_word = λ index row. holds_as _ _ _ (matched v text patterns index WordList Incomplete row.1.1 refl row.0 row.1.0)
+        (patterns_by patterns index (register_of v) (AllWordsOf index patterns) (λ n has. has.0));
+    some_word = λ index row. holds_as _ _ _ (matched v text patterns index FreeForm Incomplete row.1.1 refl row.0 row.1.0)
+        (patterns_by patterns index (register_of v) (AnyWordOf index patterns) (λ n has. has_some patterns has.0 has.1));
+    phrase = λ index row. holds_as _ _ _ (matched v text patterns index Phrase Incomplete row.1.1 refl row.0 row.1.0)
+        (patterns_by patterns index (register_of v) (PhraseOf index patterns (is_first v.position)) (λ n has. has.0));
   }
 
   pub held_by : (profile : Profile) (h : HoldingValue) (text : List ℕ) → HoldsByAttributes O K (values_held profile h) text (TermHolds O K (plan_asked profile h text))

@@ -41,7 +41,7 @@ pub use Rattle.zeb_keys.specs.declared.Register.{Register}
 pub use Rattle.zeb_keys.specs.declared.keys.Key.{Key}
 pub use Rattle.zeb_keys.specs.declared.keys.Occurrence.{Occurrence}
 pub use Rattle.zeb_query.proofs.HoldingLemmas.{take_whole}
-pub use Rattle.zeb_query.specs.Plans.{PlanValue, TermOf, PairOf, NearOf, TermPlanValue, RecordNumberOf, AlwaysOf, NumberOf, OrderedOf, CompleteOf, PhraseOf, AllWordsOf, AnyWordOf, term_plan_value, plan_value}
+pub use Rattle.zeb_query.specs.Plans.{PlanValue, TermOf, PairOf, NearOf, TermPlanValue, RecordNumberOf, NoWordsOf, AlwaysOf, NumberOf, OrderedOf, CompleteOf, PhraseOf, AllWordsOf, AnyWordOf, term_plan_value, plan_value}
 pub use Rattle.zeb_query.specs.declared.plans.Operator.{Operator}
 pub use Rattle.zeb_query.specs.declared.plans.Operator.TheVariants.{And, Or, Not}
 pub use Rattle.zeb_query.specs.declared.plans.Order.{Order}

@@ -1,5 +1,5 @@
 -- How many rows of `dict` calls read, one after the other.
-use Rattle.zeb_search.proofs.Cited.{◌≡◌, ◌∙◌, ◌++◌, ◌∷◌, ◌+◌, ◌*◌, ◌≤◌, [], ℕ, ℤ, List, Some, None, arith, ap, refl, sym, subst, inl, inr, length, map, length-append, Ordering, Less, length-map, mul-add, mul-le-mul_left, IsTotalOrder, nat_list_cmp_total, State, Survives, Has, all_has, has_mapped, mapped_has, Symbol, Register, PlanValue, TermOf, PairOf, NearOf, TermPlanValue, RecordNumberOf, AlwaysOf, NumberOf, OrderedOf, CompleteOf, PhraseOf, AllWordsOf, AnyWordOf, Occurrence, TermCount, Work, Content, posted, Format, AreTermsOf, TermIn, Works, never_itself, CountsByContent, HasNoStar, AreWithoutStars, IsOneKey, NamesEntries, TermNamesEntries, NoRows, EntryDict, PlanDict, RegisterDict, TermDict, WordDict, TermsRise}
+use Rattle.zeb_search.proofs.Cited.{◌≡◌, ◌∙◌, ◌++◌, ◌∷◌, ◌+◌, ◌*◌, ◌≤◌, [], ℕ, ℤ, List, arith, ap, refl, sym, subst, inl, inr, length, map, length-append, Ordering, Less, length-map, mul-add, mul-le-mul_left, IsTotalOrder, nat_list_cmp_total, State, Survives, Has, all_has, has_mapped, mapped_has, Symbol, Register, PlanValue, TermOf, PairOf, NearOf, TermPlanValue, RecordNumberOf, NoWordsOf, AlwaysOf, NumberOf, OrderedOf, CompleteOf, PhraseOf, AllWordsOf, AnyWordOf, Occurrence, TermCount, Work, Content, posted, Format, AreTermsOf, TermIn, Works, never_itself, CountsByContent, HasNoStar, AreWithoutStars, IsOneKey, NamesEntries, TermNamesEntries, NoRows, EntryDict, PlanDict, RegisterDict, TermDict, WordDict, TermsRise}
 use Rattle.std.specs.List.Sorted.{IsStrictlySortedBy}
 use Rattle.zeb_keys.specs.declared.Register.TheVariants as register
 use Rattle.zeb_search.proofs.SearchCountLemmas.{counted_then, no_rows_then, terms_count}
@@ -105,12 +105,11 @@ module _ (row_work : ℕ) (content : Content) (db : ℤ) where
 
   named_term : (plan : TermPlanValue) (n : ℕ) → TermDict row_work content db plan n → TermNamesEntries plan → n ≡ 0
   named_term (RecordNumberOf number) n none named = none
+  named_term (NoWordsOf index register) n none named = none
   named_term (AlwaysOf index register) n all named = absurd named
   named_term (NumberOf index relation number) n terms named = named_entry (IsOneKey relation number) index register.Number n terms named
-  named_term (OrderedOf index register order None) n none named = none
-  named_term (OrderedOf index register order (Some start)) n all named = absurd named
-  named_term (CompleteOf index None) n none named = none
-  named_term (CompleteOf index (Some pattern)) n terms named = named_entry (HasNoStar pattern) index register.Phrase n terms named
+  named_term (OrderedOf index register order start) n all named = absurd named
+  named_term (CompleteOf index pattern) n terms named = named_entry (HasNoStar pattern) index register.Phrase n terms named
   named_term (PhraseOf index patterns first) n words named = named_words index patterns n words named
   named_term (AllWordsOf index patterns) n words named = named_words index patterns n words named
   named_term (AnyWordOf index patterns) n words named = named_words index patterns n words named

@@ -1,5 +1,5 @@
 -- Where two sets have the same occurrences and the same records are kept, a query holds on the same records.
-use Rattle.zeb_search.proofs.Cited.{◌↔◌, ℕ, List, [], ◌∷◌, Some, None, inl, inr, Symbol, Register, Operator, Separation, PlanValue, TermOf, PairOf, NearOf, TermPlanValue, RecordNumberOf, AlwaysOf, NumberOf, OrderedOf, CompleteOf, PhraseOf, AllWordsOf, AnyWordOf, Occurrence, AreJoined, HasEntry, HasWord, HasWords, HasNear, TermHolds, TreeHolds}
+use Rattle.zeb_search.proofs.Cited.{◌↔◌, ℕ, List, [], ◌∷◌, inl, inr, Symbol, Register, Operator, Separation, PlanValue, TermOf, PairOf, NearOf, TermPlanValue, RecordNumberOf, NoWordsOf, AlwaysOf, NumberOf, OrderedOf, CompleteOf, PhraseOf, AllWordsOf, AnyWordOf, Occurrence, AreJoined, HasEntry, HasWord, HasWords, HasNear, TermHolds, TreeHolds}
 use Rattle.zeb_query.specs.declared.plans.Operator.TheVariants as operator
 
 -- ---- what holds by fewer occurrences holds by more
@@ -22,12 +22,11 @@ module _ (O P : ℕ → Occurrence → Type 0) (so : (n : ℕ) (o : Occurrence) 
   module _ (K M : ℕ → Type 0) (kept : (n : ℕ) → K n → M n) where
     term_along : (plan : TermPlanValue) (n : ℕ) → TermHolds O K plan n → TermHolds P M plan n
     term_along (RecordNumberOf number) n h = (h.0, kept n h.1)
+    term_along (NoWordsOf index register) n h = h
     term_along (AlwaysOf index register) n h = entry_along index register _ n h
     term_along (NumberOf index relation number) n h = entry_along index _ _ n h
-    term_along (OrderedOf index register order None) n h = h
-    term_along (OrderedOf index register order (Some start)) n h = entry_along index register _ n h
-    term_along (CompleteOf index None) n h = h
-    term_along (CompleteOf index (Some pattern)) n h = entry_along index _ _ n h
+    term_along (OrderedOf index register order start) n h = entry_along index register _ n h
+    term_along (CompleteOf index pattern) n h = entry_along index _ _ n h
     term_along (PhraseOf index patterns first) n h = (h.0, (h.1.0, h.1.1, h.1.2, words_along index patterns n h.1.0 h.1.1 h.1.3))
     term_along (AllWordsOf index patterns) n h = (h.0, λ pattern there. entry_along index _ _ n (h.1 pattern there))
     term_along (AnyWordOf index patterns) n h = (h.0, h.1, entry_along index _ _ n h.2)

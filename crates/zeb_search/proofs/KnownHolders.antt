@@ -1,5 +1,5 @@
 -- A query holds on no record but those that have an occurrence or are kept.
-use Rattle.zeb_search.proofs.Cited.{◌⊎◌, ℕ, List, [], ◌∷◌, Some, None, inl, inr, refl, Register, Symbol, PlanValue, TermOf, PairOf, NearOf, TermPlanValue, RecordNumberOf, AlwaysOf, NumberOf, OrderedOf, CompleteOf, PhraseOf, AllWordsOf, AnyWordOf, Occurrence, HasEntry, HasWord, TermHolds, TreeHolds}
+use Rattle.zeb_search.proofs.Cited.{◌⊎◌, ℕ, List, [], ◌∷◌, inl, inr, refl, Register, Symbol, PlanValue, TermOf, PairOf, NearOf, TermPlanValue, RecordNumberOf, NoWordsOf, AlwaysOf, NumberOf, OrderedOf, CompleteOf, PhraseOf, AllWordsOf, AnyWordOf, Occurrence, HasEntry, HasWord, TermHolds, TreeHolds}
 use Rattle.zeb_query.specs.declared.plans.Operator.TheVariants as operator
 
 module _ (O : ℕ → Occurrence → Type 0) (K : ℕ → Type 0) where
@@ -15,12 +15,11 @@ module _ (O : ℕ → Occurrence → Type 0) (K : ℕ → Type 0) where
 
   term_known : (plan : TermPlanValue) (n : ℕ) → TermHolds O K plan n → IsKnown n
   term_known (RecordNumberOf number) n h = inr h.1
+  term_known (NoWordsOf index register) n h = absurd h
   term_known (AlwaysOf index register) n h = entry_known index register _ n h
   term_known (NumberOf index relation number) n h = entry_known index _ _ n h
-  term_known (OrderedOf index register order None) n h = absurd h
-  term_known (OrderedOf index register order (Some start)) n h = entry_known index register _ n h
-  term_known (CompleteOf index None) n h = absurd h
-  term_known (CompleteOf index (Some pattern)) n h = entry_known index _ _ n h
+  term_known (OrderedOf index register order start) n h = entry_known index register _ n h
+  term_known (CompleteOf index pattern) n h = entry_known index _ _ n h
   term_known (PhraseOf index [] first) n h = absurd (h.0 refl)
   term_known (PhraseOf index (pattern ∷ patterns) first) n h = word_known index pattern n h.1.0 h.1.1 h.1.3.0
   term_known (AllWordsOf index []) n h = absurd (h.0 refl)

@@ -1,5 +1,5 @@
 -- What a find on any tables tells, where they hold a content: on which records the plan holds. And that what it finds rises, and which rows it met.
-use Rattle.zeb_search.proofs.Cited.{◌∷◌, [], ℕ, ℤ, List, Some, None, inl, inr, nat_cmp, Trees, Has, Content, IsStorable, Format, holds_in, PlanValue, TermOf, PairOf, NearOf, TermPlanValue, RecordNumberOf, AlwaysOf, NumberOf, OrderedOf, CompleteOf, PhraseOf, AllWordsOf, AnyWordOf, HasSome, HasEach, HasRun, AreJoined, IsNear, StandsInOrder, Fits, HasNoStar, IsNumberAt, IsOneKey, HoldsIn, AreNumbers, NamesReadable, TermNamesReadable, TermFinds, TermHides, PlanFinds, PlanHides, ArePlanRowsSound}
+use Rattle.zeb_search.proofs.Cited.{◌∷◌, [], ℕ, ℤ, List, inl, inr, nat_cmp, Trees, Has, Content, IsStorable, Format, holds_in, PlanValue, TermOf, PairOf, NearOf, TermPlanValue, RecordNumberOf, NoWordsOf, AlwaysOf, NumberOf, OrderedOf, CompleteOf, PhraseOf, AllWordsOf, AnyWordOf, HasSome, HasEach, HasRun, AreJoined, IsNear, StandsInOrder, Fits, HasNoStar, IsNumberAt, IsOneKey, HoldsIn, AreNumbers, NamesReadable, TermNamesReadable, TermFinds, TermHides, PlanFinds, PlanHides, ArePlanRowsSound}
 use Rattle.std.specs.List.Sorted.{IsStrictlySortedBy}
 use Rattle.zeb_keys.specs.declared.Register.TheVariants as register
 use Rattle.zeb_search.specs.SearchRows.{AreTermRowsSound}
@@ -12,12 +12,11 @@ module _ (format : Format) (trees : Trees) (db : ℤ) where
 
   pub term_rises : (plan : TermPlanValue) (hits : List ℕ) → TermFinds format trees db plan hits → IsStrictlySortedBy nat_cmp hits
   term_rises (RecordNumberOf number) hits finds = finds.rising
+  term_rises (NoWordsOf index register) hits finds = finds.rising
   term_rises (AlwaysOf index register) hits finds = finds.2.rising
   term_rises (NumberOf index relation number) hits finds = finds.2.rising
-  term_rises (OrderedOf index register order None) hits finds = finds.rising
-  term_rises (OrderedOf index register order (Some start)) hits finds = finds.2.rising
-  term_rises (CompleteOf index None) hits finds = finds.rising
-  term_rises (CompleteOf index (Some pattern)) hits finds = finds.2.rising
+  term_rises (OrderedOf index register order start) hits finds = finds.2.rising
+  term_rises (CompleteOf index pattern) hits finds = finds.2.rising
   term_rises (PhraseOf index patterns first) hits finds = finds.2.rising
   term_rises (AllWordsOf index patterns) hits finds = finds.2.rising
   term_rises (AnyWordOf index patterns) hits finds = finds.2.rising
@@ -31,12 +30,11 @@ module _ (format : Format) (trees : Trees) (db : ℤ) where
 
   term_sound : (plan : TermPlanValue) (hits : List ℕ) → TermFinds format trees db plan hits → AreTermRowsSound format trees db plan
   term_sound (RecordNumberOf number) hits finds = tt
+  term_sound (NoWordsOf index register) hits finds = tt
   term_sound (AlwaysOf index register) hits finds = read_sound format trees db ⊥ index register (λ _. Unit {0}) finds.0 finds.1
   term_sound (NumberOf index relation number) hits finds = read_sound format trees db (IsOneKey relation number) index register.Number (IsNumberAt relation number) finds.0 finds.1
-  term_sound (OrderedOf index register order None) hits finds = tt
-  term_sound (OrderedOf index register order (Some start)) hits finds = read_sound format trees db ⊥ index register (λ term. StandsInOrder order term start) finds.0 finds.1
-  term_sound (CompleteOf index None) hits finds = tt
-  term_sound (CompleteOf index (Some pattern)) hits finds = read_sound format trees db (HasNoStar pattern) index register.Phrase (Fits pattern) finds.0 finds.1
+  term_sound (OrderedOf index register order start) hits finds = read_sound format trees db ⊥ index register (λ term. StandsInOrder order term start) finds.0 finds.1
+  term_sound (CompleteOf index pattern) hits finds = read_sound format trees db (HasNoStar pattern) index register.Phrase (Fits pattern) finds.0 finds.1
   term_sound (PhraseOf index patterns first) hits finds = words_sound format trees db index patterns finds.0 finds.1
   term_sound (AllWordsOf index patterns) hits finds = words_sound format trees db index patterns finds.0 finds.1
   term_sound (AnyWordOf index patterns) hits finds = words_sound format trees db index patterns finds.0 finds.1
@@ -54,12 +52,11 @@ module _ (format : Format) (trees : Trees) (db : ℤ) where
 
     term_held : (plan : TermPlanValue) (hits : List ℕ) → TermFinds format trees db plan hits → AreNumbers (Holds (TermOf plan)) hits
     term_held (RecordNumberOf number) hits finds = finds
+    term_held (NoWordsOf index register) hits finds = finds
     term_held (AlwaysOf index register) hits finds = entries_held format trees db ⊥ index register (λ _. Unit {0}) content holds hits finds
     term_held (NumberOf index relation number) hits finds = entries_held format trees db (IsOneKey relation number) index register.Number (IsNumberAt relation number) content holds hits finds
-    term_held (OrderedOf index register order None) hits finds = finds
-    term_held (OrderedOf index register order (Some start)) hits finds = entries_held format trees db ⊥ index register (λ term. StandsInOrder order term start) content holds hits finds
-    term_held (CompleteOf index None) hits finds = finds
-    term_held (CompleteOf index (Some pattern)) hits finds = entries_held format trees db (HasNoStar pattern) index register.Phrase (Fits pattern) content holds hits finds
+    term_held (OrderedOf index register order start) hits finds = entries_held format trees db ⊥ index register (λ term. StandsInOrder order term start) content holds hits finds
+    term_held (CompleteOf index pattern) hits finds = entries_held format trees db (HasNoStar pattern) index register.Phrase (Fits pattern) content holds hits finds
     term_held (PhraseOf index patterns first) hits finds =
         just_same (HasRun finds.0 first) (Holds (TermOf (PhraseOf index patterns first))) hits (run_held format trees db index content holds patterns finds.0 finds.1 first) finds.2
     term_held (AllWordsOf index patterns) hits finds =
@@ -81,12 +78,11 @@ module _ (format : Format) (trees : Trees) (db : ℤ) where
     module _ (storable : IsStorable content) where
       term_shown : (plan : TermPlanValue) → TermNamesReadable trees db plan → TermHides format trees db plan → ⊥
       term_shown (RecordNumberOf number) readable hidden = hidden readable
+      term_shown (NoWordsOf index register) readable hidden = absurd hidden
       term_shown (AlwaysOf index register) readable hidden = none_hidden format trees db ⊥ index register (λ _. Unit {0}) content holds storable hidden
       term_shown (NumberOf index relation number) readable hidden = none_hidden format trees db (IsOneKey relation number) index register.Number (IsNumberAt relation number) content holds storable hidden
-      term_shown (OrderedOf index register order None) readable hidden = absurd hidden
-      term_shown (OrderedOf index register order (Some start)) readable hidden = none_hidden format trees db ⊥ index register (λ term. StandsInOrder order term start) content holds storable hidden
-      term_shown (CompleteOf index None) readable hidden = absurd hidden
-      term_shown (CompleteOf index (Some pattern)) readable hidden = none_hidden format trees db (HasNoStar pattern) index register.Phrase (Fits pattern) content holds storable hidden
+      term_shown (OrderedOf index register order start) readable hidden = none_hidden format trees db ⊥ index register (λ term. StandsInOrder order term start) content holds storable hidden
+      term_shown (CompleteOf index pattern) readable hidden = none_hidden format trees db (HasNoStar pattern) index register.Phrase (Fits pattern) content holds storable hidden
       term_shown (PhraseOf index patterns first) readable hidden = no_word_hidden format trees db index content holds storable patterns hidden
       term_shown (AllWordsOf index patterns) readable hidden = no_word_hidden format trees db index content holds storable patterns hidden
       term_shown (AnyWordOf index patterns) readable hidden = no_word_hidden format trees db index content holds storable patterns hidden

@@ -1,10 +1,10 @@
 -- How many rows of `dict` a search reads at most: the distinct terms of a register, once for each pattern with a star and for each term of
 -- the query that asks for entries which it doesn't name.
-use Rattle.std.specs.Prelude.{◌≡◌, ◌⊎◌, ◌+◌, ◌*◌, ℕ, ℤ, List, [], ◌∷◌, Some, None, length}
+use Rattle.std.specs.Prelude.{◌≡◌, ◌⊎◌, ◌+◌, ◌*◌, ℕ, ℤ, List, [], ◌∷◌, length}
 use Rattle.zeb_text.specs.Symbols.{Symbol}
 use Rattle.zeb_keys.specs.declared.Register.{Register}
 use Rattle.zeb_keys.specs.declared.Register.TheVariants as register
-use Rattle.zeb_query.specs.Plans.{PlanValue, TermOf, PairOf, NearOf, TermPlanValue, RecordNumberOf, AlwaysOf, NumberOf, OrderedOf, CompleteOf, PhraseOf, AllWordsOf, AnyWordOf}
+use Rattle.zeb_query.specs.Plans.{PlanValue, TermOf, PairOf, NearOf, TermPlanValue, RecordNumberOf, NoWordsOf, AlwaysOf, NumberOf, OrderedOf, CompleteOf, PhraseOf, AllWordsOf, AnyWordOf}
 use Rattle.zeb_register.specs.declared.registers.TermCount.{TermCount}
 use Rattle.zeb_register.specs.Content.{Content, posted}
 use Rattle.zeb_register.specs.Occurring.{AreTermsOf}
@@ -28,12 +28,11 @@ module _ (row_work : ℕ) (content : Content) (db : ℤ) where
   -- for one term of a query
   abbrev pub TermDict : TermPlanValue → ℕ → Type 0
   TermDict (RecordNumberOf number) n = n ≡ 0
+  TermDict (NoWordsOf index register) n = n ≡ 0
   TermDict (AlwaysOf index register) n = RegisterDict index register n
   TermDict (NumberOf index relation number) n = EntryDict (IsOneKey relation number) index register.Number n
-  TermDict (OrderedOf index register order None) n = n ≡ 0
-  TermDict (OrderedOf index register order (Some start)) n = RegisterDict index register n
-  TermDict (CompleteOf index None) n = n ≡ 0
-  TermDict (CompleteOf index (Some pattern)) n = EntryDict (HasNoStar pattern) index register.Phrase n
+  TermDict (OrderedOf index register order start) n = RegisterDict index register n
+  TermDict (CompleteOf index pattern) n = EntryDict (HasNoStar pattern) index register.Phrase n
   TermDict (PhraseOf index patterns first) n = WordDict index patterns n
   TermDict (AllWordsOf index patterns) n = WordDict index patterns n
   TermDict (AnyWordOf index patterns) n = WordDict index patterns n

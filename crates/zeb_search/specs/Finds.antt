@@ -1,6 +1,6 @@
 -- What a search answers and when it is refused, whatever rows the tables have: step by step, by the units and the counts of the entries
 -- that a step asks for. Where the tables hold a content, this is what `Holds` says of its postings.
-use Rattle.std.specs.Prelude.{◌≡◌, ◌≢◌, ◌⊎◌, ◌+◌, ◌≤◌, ℕ, ℤ, Bool, true, pos, List, [], ◌∷◌, Some, None, Result, Vec}
+use Rattle.std.specs.Prelude.{◌≡◌, ◌≢◌, ◌⊎◌, ◌+◌, ◌≤◌, ℕ, ℤ, Bool, true, pos, List, [], ◌∷◌, Result, Vec}
 use Rattle.std.specs.declared.alloc.Global.{Global}
 use Rattle.sqlite.specs.State.{State}
 use Rattle.sqlite.specs.Tree.{Trees}
@@ -9,7 +9,7 @@ use Rattle.zeb_text.specs.Symbols.{Symbol}
 use Rattle.zeb_keys.specs.declared.Register.{Register}
 use Rattle.zeb_keys.specs.declared.Register.TheVariants as register
 use Rattle.zeb_keys.specs.declared.keys.Key.{Key}
-use Rattle.zeb_query.specs.Plans.{PlanValue, TermOf, PairOf, NearOf, TermPlanValue, RecordNumberOf, AlwaysOf, NumberOf, OrderedOf, CompleteOf, PhraseOf, AllWordsOf, AnyWordOf}
+use Rattle.zeb_query.specs.Plans.{PlanValue, TermOf, PairOf, NearOf, TermPlanValue, RecordNumberOf, NoWordsOf, AlwaysOf, NumberOf, OrderedOf, CompleteOf, PhraseOf, AllWordsOf, AnyWordOf}
 use Rattle.zeb_query.specs.declared.plans.Separation.{Separation}
 use Rattle.zeb_register.specs.declared.faults.RegFault.{RegFault}
 use Rattle.zeb_register.specs.declared.registers.Place.{Place}
@@ -139,12 +139,11 @@ module _ (format : Format) (trees : Trees) (db : ℤ) where
   -- the numbers are those that one term of a plan finds
   abbrev pub TermFinds : TermPlanValue → List ℕ → Type 0
   TermFinds (RecordNumberOf number) hits = AreNumbers (λ n. (n ≡ number) × is_kept_in trees db n) hits
+  TermFinds (NoWordsOf index register) hits = AreNumbers (λ _. ⊥) hits
   TermFinds (AlwaysOf index register) hits = FindsEntries ⊥ index register (λ _. Unit {0}) hits
   TermFinds (NumberOf index relation number) hits = FindsEntries (IsOneKey relation number) index register.Number (IsNumberAt relation number) hits
-  TermFinds (OrderedOf index register order None) hits = AreNumbers (λ _. ⊥) hits
-  TermFinds (OrderedOf index register order (Some start)) hits = FindsEntries ⊥ index register (λ term. StandsInOrder order term start) hits
-  TermFinds (CompleteOf index None) hits = AreNumbers (λ _. ⊥) hits
-  TermFinds (CompleteOf index (Some pattern)) hits = FindsEntries (HasNoStar pattern) index register.Phrase (Fits pattern) hits
+  TermFinds (OrderedOf index register order start) hits = FindsEntries ⊥ index register (λ term. StandsInOrder order term start) hits
+  TermFinds (CompleteOf index pattern) hits = FindsEntries (HasNoStar pattern) index register.Phrase (Fits pattern) hits
   TermFinds (PhraseOf index patterns first) hits = FindsWords (λ lists. HasRun lists first) index patterns hits
   TermFinds (AllWordsOf index patterns) hits = FindsWords HasEach index patterns hits
   TermFinds (AnyWordOf index patterns) hits = FindsWords HasSome index patterns hits
@@ -152,12 +151,11 @@ module _ (format : Format) (trees : Trees) (db : ℤ) where
   -- something that the term asks for is malformed, or a row of a stray entry between two of these is
   abbrev pub TermHides : TermPlanValue → Type 0
   TermHides (RecordNumberOf number) = ¬ AreReadableIdents trees db (pos number)
+  TermHides (NoWordsOf index register) = ⊥
   TermHides (AlwaysOf index register) = HidesEntries ⊥ index register (λ _. Unit {0})
   TermHides (NumberOf index relation number) = HidesEntries (IsOneKey relation number) index register.Number (IsNumberAt relation number)
-  TermHides (OrderedOf index register order None) = ⊥
-  TermHides (OrderedOf index register order (Some start)) = HidesEntries ⊥ index register (λ term. StandsInOrder order term start)
-  TermHides (CompleteOf index None) = ⊥
-  TermHides (CompleteOf index (Some pattern)) = HidesEntries (HasNoStar pattern) index register.Phrase (Fits pattern)
+  TermHides (OrderedOf index register order start) = HidesEntries ⊥ index register (λ term. StandsInOrder order term start)
+  TermHides (CompleteOf index pattern) = HidesEntries (HasNoStar pattern) index register.Phrase (Fits pattern)
   TermHides (PhraseOf index patterns first) = HidesWords index patterns
   TermHides (AllWordsOf index patterns) = HidesWords index patterns
   TermHides (AnyWordOf index patterns) = HidesWords index patterns

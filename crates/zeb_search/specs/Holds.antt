@@ -1,10 +1,10 @@
 -- On which records a query holds (ANSI/NISO Z39.50-2003, attribute set Bib-1 and the proximity operator; YAZ manual, Prefix Query Format).
 -- Own rules of this project: that a record may be named by its system number (structure 107), that the first position is that of a
 -- unit's first word, that texts stand in the order of their bytes and numbers are below 10^18, that phrases and words near each other
--- are of one unit, and that a term without a pattern holds on no record.
+-- are of one unit, and that a term without words holds on no record.
 -- All is said by a set of occurrences: it says of a record's number and an occurrence whether the record has it. Read with the bytes of
 -- kept records it tells what a find means; read with the postings of the registers, what they say by themselves.
-use Rattle.std.specs.Prelude.{◌≡◌, ◌≢◌, ◌⊎◌, ◌+◌, ◌<◌, ◌^◌, ℕ, Bool, true, List, [], ◌∷◌, Some, None, IsUtf8, chars}
+use Rattle.std.specs.Prelude.{◌≡◌, ◌≢◌, ◌⊎◌, ◌+◌, ◌<◌, ◌^◌, ℕ, Bool, true, List, [], ◌∷◌, IsUtf8, chars}
 use Rattle.sqlite_rules.specs.Lists.{Has}
 use Rattle.zeb_text.specs.Symbols.{Symbol}
 use Rattle.zeb_text.specs.Patterns.{Matches}
@@ -15,7 +15,7 @@ use Rattle.zeb_query.specs.declared.plans.Operator.{Operator}
 use Rattle.zeb_query.specs.declared.plans.Operator.TheVariants as operator
 use Rattle.zeb_query.specs.declared.plans.Relation.{Relation}
 use Rattle.zeb_query.specs.declared.plans.Separation.{Separation}
-use Rattle.zeb_query.specs.Plans.{PlanValue, TermOf, PairOf, NearOf, TermPlanValue, RecordNumberOf, AlwaysOf, NumberOf, OrderedOf, CompleteOf, PhraseOf, AllWordsOf, AnyWordOf}
+use Rattle.zeb_query.specs.Plans.{PlanValue, TermOf, PairOf, NearOf, TermPlanValue, RecordNumberOf, NoWordsOf, AlwaysOf, NumberOf, OrderedOf, CompleteOf, PhraseOf, AllWordsOf, AnyWordOf}
 use Rattle.zeb_keys.specs.declared.keys.Occurrence.{Occurrence}
 use Rattle.zeb_register.specs.Occurring.{TermIn, key_in}
 use Rattle.zeb_search.specs.Comparing.{Stands, StandsInOrder, AreSeparated}
@@ -68,15 +68,14 @@ module _ (O : ℕ → Occurrence → Type 0) where
   -- ---- terms and trees; `IsKept` says of which records the database has
 
   module _ (IsKept : ℕ → Type 0) where
-    -- the term holds on the record with this number; without a pattern, or without words to stand in an order to, it holds on none
+    -- the term holds on the record with this number; without words, or without a pattern, it holds on none
     abbrev pub TermHolds : TermPlanValue → ℕ → Type 0
     TermHolds (RecordNumberOf number) n = (n ≡ number) × IsKept n
+    TermHolds (NoWordsOf index register) n = ⊥
     TermHolds (AlwaysOf index register) n = HasEntry index register (λ _. Unit {0}) n
     TermHolds (NumberOf index relation number) n = HasEntry index register.Number (IsNumberAt relation number) n
-    TermHolds (OrderedOf index register order None) n = ⊥
-    TermHolds (OrderedOf index register order (Some start)) n = HasEntry index register (λ term. StandsInOrder order term start) n
-    TermHolds (CompleteOf index None) n = ⊥
-    TermHolds (CompleteOf index (Some pattern)) n = HasEntry index register.Phrase (Fits pattern) n
+    TermHolds (OrderedOf index register order start) n = HasEntry index register (λ term. StandsInOrder order term start) n
+    TermHolds (CompleteOf index pattern) n = HasEntry index register.Phrase (Fits pattern) n
     TermHolds (PhraseOf index patterns first) n = (patterns ≢ []) × HasPhrase index patterns first n
     TermHolds (AllWordsOf index patterns) n = (patterns ≢ []) × ((pattern : List Symbol) → Has patterns pattern → HasMatch index pattern n)
     TermHolds (AnyWordOf index patterns) n = (pattern : List Symbol) × Has patterns pattern × HasMatch index pattern n

@@ -1,10 +1,10 @@
 -- How many rows of `blocks` the lists have that a search reads: summed over the terms of the query and over the patterns of each, those of
 -- the entries that are asked for, each once a pattern.
-use Rattle.std.specs.Prelude.{◌≡◌, ◌+◌, ℕ, ℤ, List, [], ◌∷◌, Some, None, sum_by}
+use Rattle.std.specs.Prelude.{◌≡◌, ◌+◌, ℕ, ℤ, List, [], ◌∷◌, sum_by}
 use Rattle.zeb_text.specs.Symbols.{Symbol}
 use Rattle.zeb_keys.specs.declared.Register.{Register}
 use Rattle.zeb_keys.specs.declared.Register.TheVariants as register
-use Rattle.zeb_query.specs.Plans.{PlanValue, TermOf, PairOf, NearOf, TermPlanValue, RecordNumberOf, AlwaysOf, NumberOf, OrderedOf, CompleteOf, PhraseOf, AllWordsOf, AnyWordOf}
+use Rattle.zeb_query.specs.Plans.{PlanValue, TermOf, PairOf, NearOf, TermPlanValue, RecordNumberOf, NoWordsOf, AlwaysOf, NumberOf, OrderedOf, CompleteOf, PhraseOf, AllWordsOf, AnyWordOf}
 use Rattle.zeb_keys.specs.declared.keys.Key.{Key}
 use Rattle.zeb_keys.specs.declared.keys.Occurrence.{Occurrence}
 use Rattle.sqlite_rules.specs.Lists.{Has}
@@ -39,12 +39,11 @@ module _ (rows : List Posting → ℕ) (content : Content) (db : ℤ) where
   -- the entries that a term asks for
   abbrev pub TermRows : TermPlanValue → ℕ → Type 0
   TermRows (RecordNumberOf number) n = n ≡ 0
+  TermRows (NoWordsOf index register) n = n ≡ 0
   TermRows (AlwaysOf index register) n = EntryRows index register (λ _. Unit {0}) n
   TermRows (NumberOf index relation number) n = EntryRows index register.Number (IsNumberAt relation number) n
-  TermRows (OrderedOf index register order None) n = n ≡ 0
-  TermRows (OrderedOf index register order (Some start)) n = EntryRows index register (λ term. StandsInOrder order term start) n
-  TermRows (CompleteOf index None) n = n ≡ 0
-  TermRows (CompleteOf index (Some pattern)) n = EntryRows index register.Phrase (Fits pattern) n
+  TermRows (OrderedOf index register order start) n = EntryRows index register (λ term. StandsInOrder order term start) n
+  TermRows (CompleteOf index pattern) n = EntryRows index register.Phrase (Fits pattern) n
   TermRows (PhraseOf index patterns first) n = WordRows index patterns n
   TermRows (AllWordsOf index patterns) n = WordRows index patterns n
   TermRows (AnyWordOf index patterns) n = WordRows index patterns n

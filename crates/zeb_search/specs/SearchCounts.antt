@@ -1,12 +1,12 @@
 -- What a search counts of the rows of the packed tables.
-use Rattle.std.specs.Prelude.{◌≡◌, ◌+◌, ◌<◌, ◌≤◌, ◌^◌, ℕ, List, Some, None}
+use Rattle.std.specs.Prelude.{◌≡◌, ◌+◌, ◌<◌, ◌≤◌, ◌^◌, ℕ, List}
 use Rattle.std.specs.List.{Contains}
 use Rattle.sqlite.specs.State.{State, HasCleanDisk}
 use Rattle.sqlite_rules.specs.Lists.{Has}
 use Rattle.zeb_text.specs.Symbols.{Symbol, Star}
 use Rattle.zeb_query.specs.declared.plans.Relation.{Relation}
 use Rattle.zeb_query.specs.declared.plans.Relation.TheVariants as relation
-use Rattle.zeb_query.specs.Plans.{PlanValue, TermOf, PairOf, NearOf, TermPlanValue, RecordNumberOf, AlwaysOf, NumberOf, OrderedOf, CompleteOf, PhraseOf, AllWordsOf, AnyWordOf}
+use Rattle.zeb_query.specs.Plans.{PlanValue, TermOf, PairOf, NearOf, TermPlanValue, RecordNumberOf, NoWordsOf, AlwaysOf, NumberOf, OrderedOf, CompleteOf, PhraseOf, AllWordsOf, AnyWordOf}
 use Rattle.zeb_register.specs.declared.registers.Work.{Work}
 use Rattle.zeb_register.specs.Content.{Content}
 use Rattle.zeb_register.specs.Formats.{Format, holds_in}
@@ -29,12 +29,11 @@ IsOneKey asked number = (asked ≡ relation.Equal) × (number < 10 ^ 18)
 -- the term asks for texts that it names, and for no other entry
 abbrev pub TermNamesEntries : TermPlanValue → Type 0
 TermNamesEntries (RecordNumberOf number) = Unit {0}
+TermNamesEntries (NoWordsOf index register) = Unit {0}
 TermNamesEntries (AlwaysOf index register) = ⊥
 TermNamesEntries (NumberOf index relation number) = IsOneKey relation number
-TermNamesEntries (OrderedOf index register order None) = Unit {0}
-TermNamesEntries (OrderedOf index register order (Some start)) = ⊥
-TermNamesEntries (CompleteOf index None) = Unit {0}
-TermNamesEntries (CompleteOf index (Some pattern)) = HasNoStar pattern
+TermNamesEntries (OrderedOf index register order start) = ⊥
+TermNamesEntries (CompleteOf index pattern) = HasNoStar pattern
 TermNamesEntries (PhraseOf index patterns first) = AreWithoutStars patterns
 TermNamesEntries (AllWordsOf index patterns) = AreWithoutStars patterns
 TermNamesEntries (AnyWordOf index patterns) = AreWithoutStars patterns

@@ -1,12 +1,12 @@
 -- Which rows of the registers show entries that a search asks for, and what they have to be, whatever the others hold. A row that is read
 -- beside these may be any.
-use Rattle.std.specs.Prelude.{ℕ, ℤ, List, [], ◌∷◌, Some, None}
+use Rattle.std.specs.Prelude.{ℕ, ℤ, List, [], ◌∷◌}
 use Rattle.sqlite.specs.Tree.{Trees}
 use Rattle.sqlite_rules.specs.Lists.{Has}
 use Rattle.zeb_text.specs.Symbols.{Symbol}
 use Rattle.zeb_keys.specs.declared.Register.{Register}
 use Rattle.zeb_keys.specs.declared.Register.TheVariants as register
-use Rattle.zeb_query.specs.Plans.{PlanValue, TermOf, PairOf, NearOf, TermPlanValue, RecordNumberOf, AlwaysOf, NumberOf, OrderedOf, CompleteOf, PhraseOf, AllWordsOf, AnyWordOf}
+use Rattle.zeb_query.specs.Plans.{PlanValue, TermOf, PairOf, NearOf, TermPlanValue, RecordNumberOf, NoWordsOf, AlwaysOf, NumberOf, OrderedOf, CompleteOf, PhraseOf, AllWordsOf, AnyWordOf}
 use Rattle.zeb_register.specs.Formats.{Format}
 use Rattle.zeb_register.specs.Occurring.{key_in}
 use Rattle.zeb_register.specs.Sound.{IsListSound, IsTermSound}
@@ -27,12 +27,11 @@ module _ (format : Format) (trees : Trees) (db : ℤ) where
   -- the entries that a term asks for
   abbrev pub AreTermRowsSound : TermPlanValue → Type 0
   AreTermRowsSound (RecordNumberOf number) = Unit {0}
+  AreTermRowsSound (NoWordsOf index register) = Unit {0}
   AreTermRowsSound (AlwaysOf index register) = AreEntriesSound ⊥ index register (λ _. Unit {0})
   AreTermRowsSound (NumberOf index relation number) = AreEntriesSound (IsOneKey relation number) index register.Number (IsNumberAt relation number)
-  AreTermRowsSound (OrderedOf index register order None) = Unit {0}
-  AreTermRowsSound (OrderedOf index register order (Some start)) = AreEntriesSound ⊥ index register (λ term. StandsInOrder order term start)
-  AreTermRowsSound (CompleteOf index None) = Unit {0}
-  AreTermRowsSound (CompleteOf index (Some pattern)) = AreEntriesSound (HasNoStar pattern) index register.Phrase (Fits pattern)
+  AreTermRowsSound (OrderedOf index register order start) = AreEntriesSound ⊥ index register (λ term. StandsInOrder order term start)
+  AreTermRowsSound (CompleteOf index pattern) = AreEntriesSound (HasNoStar pattern) index register.Phrase (Fits pattern)
   AreTermRowsSound (PhraseOf index patterns first) = AreWordsSound index patterns
   AreTermRowsSound (AllWordsOf index patterns) = AreWordsSound index patterns
   AreTermRowsSound (AnyWordOf index patterns) = AreWordsSound index patterns

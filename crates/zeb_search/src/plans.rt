@@ -26,11 +26,12 @@ use zeb_query::{NearPlan, Plan, TermPlan};
 use zeb_register::{DatabaseId, Layout, RegFault, RegisterOf, Work, ident_of};
 
 /// The numbers of the records of a database on which a plan holds, rising and each once, whatever rows the tables have. The units of the
-/// entries decide that the plan asks for, and of a system number that it names whether a record has it.
+/// entries decide that the plan asks for, and of a system number that it names whether a record has it. Stray entries may be read with
+/// them: those without a count, between two with a count that the plan asks for and doesn't name. No change leaves them with a row.
 ///
-/// `Damaged` only where a row of such an entry is malformed, a count of a register whose terms are read can't be shown, or the identifier of
-/// a record that the plan names is no UTF-8; `Store` where a call of the store failed; `Memory` where memory ran out. Outside a transaction
-/// it changes nothing.
+/// `Damaged` only where a row of such an entry or of a stray one is malformed, a count of a register whose terms are read can't be shown, or
+/// the identifier of a record that the plan names is no UTF-8; `Store` where a call of the store failed; `Memory` where memory ran out.
+/// Outside a transaction it changes nothing.
 pub fn hits<S: Alter, L: Layout>(
     alloc: Global,
     connection: &mut Connection<S>,
@@ -81,6 +82,7 @@ fn term_hits<S: Alter, L: Layout>(
 {
     match term {
         TermPlan::RecordNumber(number) => record_hits(alloc, connection, database, *number as u64),
+        TermPlan::NoWords { .. } => Ok(Vec::new(alloc)),
         TermPlan::Always { index, register } => {
             let of = RegisterOf {
                 db: database,
@@ -107,29 +109,23 @@ fn term_hits<S: Alter, L: Layout>(
             register,
             order,
             start,
-        } => match start {
-            Some(start) => {
-                let of = RegisterOf {
-                    db: database,
-                    index: *index,
-                    register: *register,
-                };
-                let wanted = Wanted::Text(*order, start.as_str());
-                numbers_wanted::<S, L>(alloc, connection, work, of, wanted)
-            }
-            None => Ok(Vec::new(alloc)),
-        },
-        TermPlan::Complete { index, pattern } => match pattern {
-            Some(pattern) => {
-                let of = RegisterOf {
-                    db: database,
-                    index: *index,
-                    register: Register::Phrase,
-                };
-                numbers_wanted::<S, L>(alloc, connection, work, of, Wanted::Matching(pattern))
-            }
-            None => Ok(Vec::new(alloc)),
-        },
+        } => {
+            let of = RegisterOf {
+                db: database,
+                index: *index,
+                register: *register,
+            };
+            let wanted = Wanted::Text(*order, start.as_str());
+            numbers_wanted::<S, L>(alloc, connection, work, of, wanted)
+        }
+        TermPlan::Complete { index, pattern } => {
+            let of = RegisterOf {
+                db: database,
+                index: *index,
+                register: Register::Phrase,
+            };
+            numbers_wanted::<S, L>(alloc, connection, work, of, Wanted::Matching(pattern))
+        }
         TermPlan::Phrase {
             index,
             patterns,

@@ -10,7 +10,7 @@ use std::mem;
 use unicode::properties::{GeneralCategory, GeneralCategoryGroup};
 
 /// The words of the text in order: the maximal runs, in the folded text, of characters whose General_Category is a
-/// letter, a mark or a number (The Unicode Standard, section 4.5). The only refusal is want of memory.
+/// letter, a mark or a number (The Unicode Standard, section 4.5).
 pub fn words(alloc: Global, text: &str) -> Result<Vec<String>, AllocError>
     ensures { IfOk result
         (λ found. map string_bytes found.items ≡ map encode_utf8_all (words_of (chars text.now))) }
@@ -19,7 +19,7 @@ pub fn words(alloc: Global, text: &str) -> Result<Vec<String>, AllocError>
     runs(alloc, folded.as_str(), Cut::None)
 }
 
-/// The words with one space between each two; of none, the empty text. The only refusal is want of memory.
+/// The words with one space between each two; of none, the empty text.
 pub fn join(alloc: Global, words: &[String]) -> Result<String, AllocError>
     ensures { IfOk result
         (λ joined. string_bytes joined ≡ joined_text (map string_bytes words.now)) }

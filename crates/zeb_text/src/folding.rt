@@ -8,7 +8,6 @@ use unicode_normalization::to_nfd;
 
 /// The folded text: decomposed (NFD), its case folded in full, decomposed again, and the combining diacritical marks
 /// U+0300 to U+036F dropped. Two texts that are a canonical caseless match (The Unicode Standard, D145) fold to one text.
-/// The only refusal is want of memory.
 pub fn fold(alloc: Global, text: &str) -> Result<String, AllocError>
     ensures { IfOk result (λ key. string_bytes key ≡ encode_utf8_all (folded (chars text.now))) }
 {

@@ -14,8 +14,7 @@ pub fn numbers(text: &str) -> Numbers<'_>
     Numbers::new(text)
 }
 
-/// The key of a number below 10^18: 18 digits, with leading zeros. Keys are ordered, byte by byte, as their numbers are. The
-/// only refusal is want of memory.
+/// The key of a number below 10^18: 18 digits, with leading zeros. Keys are ordered, byte by byte, as their numbers are.
 pub fn key_of_number(alloc: Global, number: u64) -> Result<String, AllocError>
     requires { number < 10 ^ 18 }
     ensures { IfOk result (λ key. string_bytes key ≡ number_key number) }

@@ -114,8 +114,7 @@ fn after_pieces<'a>(text: &'a str, pieces: &[String]) -> Option<&'a str>
     Some(rest)
 }
 
-/// The patterns with one space between each two; of none, the empty pattern, which matches the empty text alone. The only
-/// refusal is want of memory.
+/// The patterns with one space between each two; of none, the empty pattern, which matches the empty text alone.
 pub fn join_patterns(alloc: Global, patterns: &[Pattern]) -> Result<Pattern, AllocError>
     ensures { IfOk result (λ joined. joined ≡ joined_patterns patterns.now) }
 {

@@ -48,7 +48,7 @@ impl Cut {
 }
 
 /// The patterns of the term's words in order. The term is cut into words as [`words`](crate::words) cuts a text, but that
-/// `#` is a character of a word under [`Cut::Hash`], where it becomes a star. The only refusal is want of memory.
+/// `#` is a character of a word under [`Cut::Hash`], where it becomes a star.
 pub fn pattern_words(
     alloc: Global,
     term: &str,

@@ -1,7 +1,7 @@
 //! Steps inside a transaction.
 
 use super::words::{Change, Words};
-use super::{Answer, Opened};
+use super::{Done, Opened};
 use sqlite::{Alter, Transaction};
 use std::cmp::Ordering;
 use worked_samples::{CAFE, MOBY};
@@ -12,7 +12,7 @@ use zeb_register::{
 };
 
 /// The bytes of a sample by its name, bytes that are no text, or the word's own.
-pub fn bytes_of(word: &str) -> &[u8] {
+fn bytes_of(word: &str) -> &[u8] {
     match word {
         "MOBY" => MOBY,
         "CAFE" => CAFE,
@@ -21,18 +21,15 @@ pub fn bytes_of(word: &str) -> &[u8] {
     }
 }
 
-/// Whether a database that is put is the one that steps are on.
-fn is_same<S: Alter>(tx: &mut Transaction<'_, S>, db: DatabaseId, mut words: Words<'_>) -> Answer {
-    let same = database_put(tx, words.word(), words.number()?)? == db;
-    Ok(format!(in words.alloc; "{same}")?)
-}
-
-/// The number of the record with this identifier, and how many bytes it has.
-fn elder<S: Alter>(tx: &mut Transaction<'_, S>, db: DatabaseId, words: Words<'_>) -> Answer {
-    match record_of_ident(tx, db, words.left)? {
-        Some(elder) => Ok(format!(in words.alloc; "{} {}", elder.sysno, elder.bytes.len())?),
-        None => words.none(),
+/// The other way round.
+pub fn name_of(bytes: &[u8]) -> &str {
+    if bytes == MOBY {
+        return "MOBY";
     }
+    if bytes == CAFE {
+        return "CAFE";
+    }
+    str::from_utf8(bytes).unwrap_or("no text")
 }
 
 /// A key, and a change of it.
@@ -40,9 +37,25 @@ fn change_key<S: Alter, L: Layout>(
     tx: &mut Transaction<'_, S>,
     db: DatabaseId,
     mut words: Words<'_>,
-) -> Result<(), RegFault> {
+) -> Done {
     let (key, Change { sysno, old, new }) = (words.key()?, words.change()?);
     L::key_change(tx, &mut Work::default(), db, &key, sysno, &old, &new)
+}
+
+/// So many records with numbers from 1 on, each with a word of its own.
+fn fill<S: Alter, L: Layout>(
+    tx: &mut Transaction<'_, S>,
+    db: DatabaseId,
+    mut words: Words<'_>,
+) -> Done {
+    let alloc = words.alloc;
+    for sysno in 1..=words.number()? {
+        let name = format!(in alloc; "w{sysno:04}")?;
+        record_put(tx, db, sysno, &name, b"x")?;
+        let left = format!(in alloc; "0:w <{name}> {sysno} - 2.1")?;
+        change_key::<S, L>(tx, db, Words { alloc, left: &left })?;
+    }
+    Ok(())
 }
 
 /// Two keys, each with a change of it.
@@ -50,7 +63,7 @@ fn change_run<S: Alter, L: Layout>(
     tx: &mut Transaction<'_, S>,
     db: DatabaseId,
     mut words: Words<'_>,
-) -> Result<(), RegFault> {
+) -> Done {
     let (key, one) = (words.key()?, words.change()?);
     let (next, other) = (words.key()?, words.change()?);
     order_is_by_parts();
@@ -71,60 +84,80 @@ fn change_run<S: Alter, L: Layout>(
     L::run_changes(tx, &mut Work::default(), db, &run)
 }
 
+/// The number of the record with this identifier, and its bytes.
+fn look_for<S: Alter>(
+    tx: &mut Transaction<'_, S>,
+    db: DatabaseId,
+    ident: &str,
+    text: &mut String,
+) -> Done {
+    match record_of_ident(tx, db, ident)? {
+        Some(elder) => write!(text, "{} {}", elder.sysno, name_of(&elder.bytes))?,
+        None => text.push_str("none")?,
+    }
+    Ok(())
+}
+
 /// Does a step on a database.
 fn change_in<S: Alter, L: Layout>(
     tx: &mut Transaction<'_, S>,
     db: DatabaseId,
     word: &str,
     mut words: Words<'_>,
-) -> Answer {
+    text: &mut String,
+) -> Done {
     match word {
-        "key_change" => change_key::<S, L>(tx, db, words)?,
-        "run_changes" => change_run::<S, L>(tx, db, words)?,
-        "record_put" => record_put(tx, db, words.number()?, words.word(), bytes_of(words.left))?,
-        "record_take" => record_take(tx, db, words.number()?)?,
-        "record_of_ident" => return elder(tx, db, words),
-        "database_take" => L::database_take(tx, db)?,
-        "is_same" => return is_same(tx, db, words),
-        _ => return Err(RegFault::Memory),
+        "key_change" => change_key::<S, L>(tx, db, words),
+        "run_changes" => change_run::<S, L>(tx, db, words),
+        "fill" => fill::<S, L>(tx, db, words),
+        "record_put" => record_put(tx, db, words.number()?, words.word(), bytes_of(words.left)),
+        "record_take" => record_take(tx, db, words.number()?),
+        "record_of_ident" => look_for(tx, db, words.left, text),
+        "database_take" => L::database_take(tx, db),
+        _ => Err(RegFault::Memory),
     }
-    words.nothing()
 }
 
 /// Keeps a text, with `;` for the end of a line.
-fn put_text<S: Alter>(tx: &mut Transaction<'_, S>, mut words: Words<'_>) -> Result<(), RegFault> {
+fn put_text<S: Alter>(tx: &mut Transaction<'_, S>, mut words: Words<'_>) -> Done {
     let name = words.word();
     meta_put(tx, name, &words.left.replace(words.alloc, ';', "\n")?)
 }
 
 /// Does a step.
-pub fn change<S: Alter, L: Layout>(
+fn change<S: Alter, L: Layout>(
     tx: &mut Transaction<'_, S>,
     db: &mut Option<DatabaseId>,
     mut words: Words<'_>,
-) -> Answer {
+    text: &mut String,
+) -> Done {
     match words.word() {
         "make_tables" => make_tables(tx)?,
         "wipe" => wipe(tx)?,
         "version" => meta_put(tx, "version", L::version())?,
         "meta_put" => put_text(tx, words)?,
         "database_put" => *db = Some(database_put(tx, words.word(), words.number()?)?),
-        word => return change_in::<S, L>(tx, db.ok_or(RegFault::Memory)?, word, words),
+        word => change_in::<S, L>(tx, db.ok_or(RegFault::Memory)?, word, words, text)?,
     }
-    words.nothing()
+    Ok(())
 }
 
 impl<S: Alter> Opened<S> {
     /// Does a step in a transaction of its own, which is then committed or given up.
-    pub fn change_alone<L: Layout>(&mut self, words: Words<'_>, is_kept: bool) -> Answer {
+    pub fn change_alone<L: Layout>(
+        &mut self,
+        words: Words<'_>,
+        is_kept: bool,
+        text: &mut String,
+    ) -> Done {
         if !self.conn.is_autocommit() {
             return Err(RegFault::Store);
         }
         let mut tx = self.conn.transaction();
-        let text = change::<S, L>(&mut tx, &mut self.db, words)?;
+        change::<S, L>(&mut tx, &mut self.db, words, text)?;
         if is_kept {
             tx.commit()?;
         }
-        Ok(text)
+        Ok(())
     }
 }

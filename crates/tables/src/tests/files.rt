@@ -1,15 +1,13 @@
 //! Tables that one run makes in files and the next run finds there.
 
+use super::paths::own_path;
 use super::{Opened, Outcome};
 use crate::disks::connected;
-use sqlite::{Alter, Connection, Error, File, FileStore, Files};
+use sqlite::{Alter, Connection, Error, FileStore, Files};
 use sqlite_disk::Memory;
-use std::alloc::{AllocGlobal, Global};
-use std::path::PathBuf;
-use std::process::Abort;
+use std::alloc::Global;
+use std::fs;
 use std::test::Fail;
-use std::time::SystemTime;
-use std::{env, fs};
 use zeb_register::Rows;
 
 /// The first run fills the tables. The second finds what it left, and changes a list: once for good, once in a transaction
@@ -30,21 +28,14 @@ with posted";
 
 /// Runs a table over a connection, which is given back.
 fn run_over<S: Alter + Drop>(
-    rt: &(impl Abort + AllocGlobal),
+    alloc: Global,
     conn: Connection<S>,
     table: &str,
 ) -> Result<Connection<S>, Fail> {
     let mut opened = Opened { conn, db: None };
-    opened.run::<Rows>(rt, table)?;
+    opened.run::<Rows>(alloc, table)?;
     let Opened { conn, db: _ } = opened;
     Ok(conn)
-}
-
-fn opened(alloc: Global, files: Files<Memory>) -> Result<Connection<FileStore<Memory>>, Fail> {
-    match connected(alloc, files) {
-        Ok(conn) => Ok(conn),
-        Err(_) => Err(Fail::new("the files can't be opened")),
-    }
 }
 
 fn closed(conn: Connection<FileStore<Memory>>) -> Result<Files<Memory>, Error> {
@@ -61,45 +52,26 @@ fn the_next_run_finds_the_tables_in_files_in_memory(rt: HostRuntime) -> Outcome 
         db: Memory::new(rt.alloc()),
     };
     for table in RUNS.split("\n\n") {
-        files = closed(run_over(&rt, opened(rt.alloc(), files)?, table)?)?;
+        let Ok(conn) = connected(rt.alloc(), files) else {
+            return Err(Fail::new("the files can't be opened"));
+        };
+        files = closed(run_over(rt.alloc(), conn, table)?)?;
     }
     Ok(())
-}
-
-fn open_file(rt: &HostRuntime, path: &str) -> Result<Connection<FileStore<File>>, Error> {
-    Connection::open(rt, path)
-}
-
-fn close_file(conn: Connection<FileStore<File>>) -> Result<(), Error> {
-    conn.close()
-}
-
-/// A new folder of this test's own.
-fn new_folder(rt: &HostRuntime) -> Result<PathBuf, Fail> {
-    let alloc = rt.alloc();
-    let moment = SystemTime::now(rt)?.duration_since(SystemTime::UNIX_EPOCH)?;
-    let name = format!(in alloc; "zebraidx-{}", moment.as_nanos())?;
-    let folder = env::temp_dir(rt)?.join(alloc, &name)?;
-    fs::create_dir(rt, &folder)?;
-    Ok(folder)
 }
 
 /// The second run leaves the file open: what it committed is there all the same.
-fn run_all_in_file(host: &HostRuntime, rt: &(impl Abort + AllocGlobal), path: &str) -> Outcome {
-    for (place, table) in RUNS.split("\n\n").enumerate() {
-        let conn = run_over(rt, open_file(host, path)?, table)?;
-        if place == 0 {
-            close_file(conn)?;
-        }
-    }
-    Ok(())
-}
-
 #[test]
 fn the_next_run_finds_the_tables_in_a_file(rt: HostRuntime) -> Outcome {
-    let folder = new_folder(&rt)?;
-    let path = format!(in rt.alloc(); "{}/books.db", folder.display())?;
-    run_all_in_file(&rt, &rt, &path)?;
-    fs::remove_dir_all(&rt, &folder)?;
+    let folder = own_path(&rt, "tables")?;
+    fs::create_dir_all(&rt, folder.as_str())?;
+    let path = format!(in rt.alloc(); "{folder}/books.db")?;
+    for (place, table) in RUNS.split("\n\n").enumerate() {
+        let conn = run_over(rt.alloc(), Connection::open(&rt, &path)?, table)?;
+        if place == 0 {
+            conn.close()?;
+        }
+    }
+    fs::remove_dir_all(&rt, folder.as_str())?;
     Ok(())
 }

@@ -70,13 +70,12 @@ plain SELECT count(*) FROM postings -> 16;
 SELECT name, last FROM databases -> Default|2;
 SELECT sysno, ident FROM records ORDER BY sysno -> 1|a1;2|b2;
 
-# A database that was taken leaves no row.
-with made default filled
+# A database that was taken leaves no row, and a wipe leaves none at all.
+with begun default filled
 do database_take
 do database_take
-SELECT db FROM postings ->
-SELECT db FROM dict ->
-SELECT db FROM blocks ->
-SELECT id FROM databases ->
-SELECT db FROM records ->
+counts -> 3|0|0|0|0|0;
+with default filled posted
+do wipe
+counts -> 0|0|0|0|0|0;
 with default filled posted";

@@ -59,18 +59,18 @@ database_of Default -> 2
 database_of default -> none
 database_of Defaul -> none
 database_of -> none
-do record_of_ident a1 -> 1 109
-do record_of_ident b2 -> 2 64
+do record_of_ident a1 -> 1 MOBY
+do record_of_ident b2 -> 2 CAFE
 do record_of_ident A1 -> none
 do record_of_ident -> none
 ident_of 1 -> a1
 ident_of 2 -> b2
 ident_of 3 -> none
-records -> 1 a1 109,2 b2 64,
+records -> 1 a1 MOBY,2 b2 CAFE,
 record_count -> 2
-record_from 0 -> 1 a1 109
-record_from 1 -> 1 a1 109
-record_from 2 -> 2 b2 64
+record_from 0 -> 1 a1 MOBY
+record_from 1 -> 1 a1 MOBY
+record_from 2 -> 2 b2 CAFE
 record_from 3 -> none
 key_list 0:w <moby> -> 1:2.1,
 key_list 0:w <cafe> -> 2:2.1,
@@ -91,9 +91,7 @@ totals 0:p -> 2 2
 totals 0:n -> 0 0
 totals 1:n -> 1 1
 totals 2:w -> 7 7
-totals 3:w -> 0 0
-has_bytes 0 MOBY -> true
-has_bytes 1 CAFE -> true";
+totals 3:w -> 0 0";
 
 pub static TABLES: &str = "\
 # Each call reads what the tables hold.
@@ -103,15 +101,17 @@ identifier|001;version|1;
 SELECT name, last FROM databases -> Default|2;
 SELECT name, sysno, ident, length(bytes) FROM records JOIN databases ON id = db ORDER BY sysno -> \
 Default|1|a1|109;Default|2|b2|64;
-with posted
-plain SELECT db FROM blocks ->
-plain SELECT db FROM dict ->
+# Tables that are there keep their rows.
+with made posted
+plain counts -> 3|1|2|16|0|0;
+packed counts -> 3|1|2|0|16|16;
 with answers
 
 # A name keeps its database.
 with begun default filled
-do is_same Default 7 -> true
-do is_same default 0 -> false
+do database_put default 0
+ident_of 2 -> none
+do database_put Default 7
+ident_of 2 -> b2
 database_of Default -> 7
-database_of default -> 0
-ident_of 2 -> b2";
+database_of default -> 0";

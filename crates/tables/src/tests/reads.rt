@@ -1,131 +1,82 @@
 //! Steps that read: each item of a list ends in a comma, and each row of a query, like each line of a text, in a semicolon.
 
-use super::changes::bytes_of;
+use super::changes::name_of;
 use super::words::Words;
-use super::{Answer, Opened};
-use crate::queries::{execute, rows};
+use super::{Done, Opened};
 use sqlite::Alter;
-use std::fmt::Write;
+use std::alloc::Global;
 use zeb_packed::Blocks;
 use zeb_register::{
-    DatabaseId, Layout, RegFault, RegisterOf, TermCount, Work, database_of, ident_of, meta_of,
-    record_count, record_from, records,
+    DatabaseId, Layout, Record, RegFault, RegisterOf, TermCount, Work, database_of, ident_of,
+    meta_of, record_count, record_from, records,
 };
 
-/// The postings, with the database's name for its number.
-const POSTINGS: &str =
-    "SELECT name, idx, reg, term, sysno, seq, pos FROM postings JOIN databases ON id = db ORDER BY name, idx, reg, term, sysno, seq, pos";
+/// A text, if there is one.
+fn put(found: Option<String>, text: &mut String) -> Done {
+    text.push_str(found.as_deref().unwrap_or("none"))?;
+    Ok(())
+}
 
-/// The records likewise.
-const KEPT: &str =
-    "SELECT name, sysno, ident, bytes FROM records JOIN databases ON id = db ORDER BY name, sysno";
-
-/// How many rows each table has.
-const COUNTS: &str =
-    "SELECT (SELECT count(*) FROM meta), (SELECT count(*) FROM databases), (SELECT count(*) FROM records), (SELECT count(*) FROM postings), (SELECT count(*) FROM blocks), (SELECT count(*) FROM dict)";
-
-fn shown(found: Option<String>, words: Words<'_>) -> Answer {
-    match found {
-        Some(text) => Ok(text.replace(words.alloc, '\n', ";")?),
-        None => words.none(),
-    }
+/// A record's number, its identifier and its bytes.
+fn put_record(record: &Record, text: &mut String) -> Done {
+    let (ident, name) = (record.ident.as_str(), name_of(&record.bytes));
+    write!(text, "{} {ident} {name}", record.sysno)?;
+    Ok(())
 }
 
 /// Each term, and the number of its records.
-fn counts(all: Vec<TermCount>, words: Words<'_>) -> Answer {
-    let mut text = String::new(words.alloc);
-    for count in &all {
+fn put_counts(all: &[TermCount], text: &mut String) -> Done {
+    for count in all {
         write!(text, "{} {},", count.term.as_str(), count.records)?;
     }
-    Ok(text)
+    Ok(())
 }
 
 impl<S: Alter> Opened<S> {
-    /// The rows that a query finds.
-    fn select(&mut self, sql: &str, words: Words<'_>) -> Answer {
-        let mut text = String::new(words.alloc);
-        rows(&mut self.conn, sql, &mut text)?;
-        shown(Some(text), words)
-    }
-
-    /// How many rows a statement changes.
-    fn execute(&mut self, sql: &str, words: Words<'_>) -> Answer {
-        let mut text = String::new(words.alloc);
-        execute(&mut self.conn, sql, &mut text)?;
-        Ok(text)
-    }
-
-    /// Has the steps that follow be on the database of this name.
-    pub fn use_database(&mut self, words: Words<'_>) -> Answer {
-        self.db = database_of(&mut self.conn, words.left)?.map(|database| database.id);
-        words.nothing()
-    }
-
-    /// Limits the steps of a statement's query, or takes the limit away.
-    pub fn limit(&mut self, mut words: Words<'_>) -> Answer {
-        self.conn.set_step_limit(words.number().ok());
-        words.nothing()
-    }
-
     /// The last number of the database of this name.
-    fn last(&mut self, words: Words<'_>) -> Answer {
-        match database_of(&mut self.conn, words.left)? {
-            Some(database) => Ok(format!(in words.alloc; "{}", database.last)?),
-            None => words.none(),
+    fn last(&mut self, name: &str, text: &mut String) -> Done {
+        match database_of(&mut self.conn, name)? {
+            Some(database) => write!(text, "{}", database.last)?,
+            None => text.push_str("none")?,
         }
+        Ok(())
     }
 
-    /// Each record's number and identifier, and how many bytes it has.
-    fn all_records(&mut self, db: DatabaseId, words: Words<'_>) -> Answer {
-        let mut text = String::new(words.alloc);
-        for record in records(words.alloc, &mut self.conn, db)? {
-            let (ident, length) = (record.ident.as_str(), record.bytes.len());
-            write!(text, "{} {ident} {length},", record.sysno)?;
+    fn all_records(&mut self, alloc: Global, db: DatabaseId, text: &mut String) -> Done {
+        for record in records(alloc, &mut self.conn, db)? {
+            put_record(&record, text)?;
+            text.push(',')?;
         }
-        Ok(text)
+        Ok(())
     }
 
-    fn count(&mut self, db: DatabaseId, words: Words<'_>) -> Answer {
-        let count = record_count(&mut self.conn, db)?;
-        Ok(format!(in words.alloc; "{count}")?)
-    }
-
-    /// The first record from this number on: its number, its identifier, and how many bytes it has.
-    fn first_from(&mut self, db: DatabaseId, mut words: Words<'_>) -> Answer {
-        let Some(record) = record_from(&mut self.conn, db, words.number()?)? else {
-            return words.none();
-        };
-        let (ident, length) = (record.ident.as_str(), record.bytes.len());
-        Ok(format!(in words.alloc; "{} {ident} {length}", record.sysno)?)
-    }
-
-    /// Whether the record at this place of the list has these bytes.
-    fn has_bytes(&mut self, db: DatabaseId, mut words: Words<'_>) -> Answer {
-        let all = records(words.alloc, &mut self.conn, db)?;
-        let same = match all.get(words.number()? as usize) {
-            Some(record) => record.bytes.as_slice() == bytes_of(words.left),
-            None => false,
-        };
-        Ok(format!(in words.alloc; "{same}")?)
+    /// The first record from this number on.
+    fn first_from(&mut self, db: DatabaseId, number: u64, text: &mut String) -> Done {
+        match record_from(&mut self.conn, db, number)? {
+            Some(record) => put_record(&record, text),
+            None => put(None, text),
+        }
     }
 
     /// Each posting of a key as `1:2.3`, the number of the record, of the unit and of the word in it.
-    fn list<L: Layout>(&mut self, db: DatabaseId, mut words: Words<'_>) -> Answer {
+    fn list<L: Layout>(&mut self, db: DatabaseId, mut words: Words<'_>, text: &mut String) -> Done {
         let (key, work) = (words.key()?, &mut Work::default());
-        let mut text = String::new(words.alloc);
         for posting in L::key_list(words.alloc, &mut self.conn, work, db, &key)? {
             write!(text, "{}:{}.{},", posting.sysno, posting.seq, posting.pos)?;
         }
-        Ok(text)
+        Ok(())
     }
 
     /// The postings from one term to another by the numbers of their records. The rows of `blocks` that are counted are told where they
     /// are other than these, or than none in a layout without blocks.
-    fn between<L: Layout>(&mut self, at: RegisterOf, mut words: Words<'_>) -> Answer {
+    fn between<L: Layout>(
+        &mut self,
+        at: RegisterOf,
+        mut words: Words<'_>,
+        text: &mut String,
+    ) -> Done {
         let (first, last, rows) = (words.term()?, words.term()?, words.number()?);
-        let mut work = Work::default();
-        let mut text = String::new(words.alloc);
-        let conn = &mut self.conn;
+        let (conn, mut work) = (&mut self.conn, Work::default());
         for posting in L::postings_between(words.alloc, conn, &mut work, at, first, last)? {
             write!(text, "{},", posting.sysno)?;
         }
@@ -133,35 +84,43 @@ impl<S: Alter> Opened<S> {
         if work.block_read != if has_blocks { rows } else { 0 } {
             write!(text, " of {} rows", work.block_read)?;
         }
-        Ok(text)
+        Ok(())
     }
 
-    /// The number of terms and the number of postings.
-    fn totals<L: Layout>(&mut self, at: RegisterOf, words: Words<'_>) -> Answer {
-        let totals = L::totals(words.alloc, &mut self.conn, &mut Work::default(), at)?;
-        Ok(format!(in words.alloc; "{} {}", totals.terms, totals.occurrences)?)
-    }
-
-    /// The terms from a text on, or before it.
-    fn terms<L: Layout>(
+    /// Does a step that reads a register: its terms, all of them, from a text on or before it, or their number and that of postings.
+    fn read_terms<L: Layout>(
         &mut self,
         at: RegisterOf,
-        is_before: bool,
+        word: &str,
         mut words: Words<'_>,
-    ) -> Answer {
+        text: &mut String,
+    ) -> Done {
+        let (alloc, conn, work) = (words.alloc, &mut self.conn, &mut Work::default());
+        if word == "totals" {
+            let totals = L::totals(alloc, conn, work, at)?;
+            write!(text, "{} {}", totals.terms, totals.occurrences)?;
+            return Ok(());
+        }
+        if word == "terms_of" {
+            return put_counts(&L::terms_of(alloc, conn, work, at)?, text);
+        }
         let (start, n) = (words.term()?, words.number()?);
-        let (conn, work) = (&mut self.conn, &mut Work::default());
-        let all = if is_before {
-            L::terms_before(words.alloc, conn, work, at, start, n)?
-        } else {
-            L::terms_from(words.alloc, conn, work, at, start, n)?
+        let all = match word {
+            "terms_from" => L::terms_from(alloc, conn, work, at, start, n)?,
+            "terms_before" => L::terms_before(alloc, conn, work, at, start, n)?,
+            _ => return Err(RegFault::Memory),
         };
-        counts(all, words)
+        put_counts(&all, text)
     }
 
     /// Does a step that reads a register.
-    fn read_register<L: Layout>(&mut self, db: DatabaseId, word: &str, words: Words<'_>) -> Answer {
-        let mut words = words;
+    fn read_register<L: Layout>(
+        &mut self,
+        db: DatabaseId,
+        word: &str,
+        mut words: Words<'_>,
+        text: &mut String,
+    ) -> Done {
         let (index, register) = words.register()?;
         let at = RegisterOf {
             db,
@@ -169,51 +128,39 @@ impl<S: Alter> Opened<S> {
             register,
         };
         match word {
-            "terms_of" => {
-                let work = &mut Work::default();
-                counts(L::terms_of(words.alloc, &mut self.conn, work, at)?, words)
-            }
-            "terms_from" => self.terms::<L>(at, false, words),
-            "terms_before" => self.terms::<L>(at, true, words),
-            "totals" => self.totals::<L>(at, words),
-            "postings_between" => self.between::<L>(at, words),
-            _ => Err(RegFault::Memory),
+            "postings_between" => self.between::<L>(at, words, text),
+            _ => self.read_terms::<L>(at, word, words, text),
         }
     }
 
     /// Does a step that reads records or a list.
-    fn read_records<L: Layout>(&mut self, db: DatabaseId, word: &str, words: Words<'_>) -> Answer {
+    fn read_records<L: Layout>(
+        &mut self,
+        db: DatabaseId,
+        word: &str,
+        mut words: Words<'_>,
+        text: &mut String,
+    ) -> Done {
         match word {
-            "key_list" => self.list::<L>(db, words),
-            "records" => self.all_records(db, words),
-            "record_count" => self.count(db, words),
-            "record_from" => self.first_from(db, words),
-            "has_bytes" => self.has_bytes(db, words),
-            _ => self.read_register::<L>(db, word, words),
+            "key_list" => self.list::<L>(db, words, text),
+            "records" => self.all_records(words.alloc, db, text),
+            "record_count" => {
+                write!(text, "{}", record_count(&mut self.conn, db)?)?;
+                Ok(())
+            }
+            "record_from" => self.first_from(db, words.number()?, text),
+            _ => self.read_register::<L>(db, word, words, text),
         }
     }
 
-    /// Does a step that reads texts or a record.
-    fn read_texts<L: Layout>(&mut self, word: &str, words: Words<'_>) -> Answer {
-        let mut words = words;
+    /// Does a step in no transaction that calls what reads.
+    pub fn read<L: Layout>(&mut self, word: &str, mut words: Words<'_>, text: &mut String) -> Done {
         let db = self.db.ok_or(RegFault::Memory)?;
         match word {
-            "meta_of" => shown(meta_of(&mut self.conn, words.left)?, words),
-            "database_of" => self.last(words),
-            "ident_of" => shown(ident_of(&mut self.conn, db, words.number()?)?, words),
-            _ => self.read_records::<L>(db, word, words),
-        }
-    }
-
-    /// Does a step in no transaction: SQL, a query by its name, or a call that reads.
-    pub fn read<L: Layout>(&mut self, step: &str, word: &str, words: Words<'_>) -> Answer {
-        match word {
-            "INSERT" | "UPDATE" => self.execute(step, words),
-            "SELECT" => self.select(step, words),
-            "postings" => self.select(POSTINGS, words),
-            "kept" => self.select(KEPT, words),
-            "counts" => self.select(COUNTS, words),
-            _ => self.read_texts::<L>(word, words),
+            "meta_of" => put(meta_of(&mut self.conn, words.left)?, text),
+            "database_of" => self.last(words.left, text),
+            "ident_of" => put(ident_of(&mut self.conn, db, words.number()?)?, text),
+            _ => self.read_records::<L>(db, word, words, text),
         }
     }
 }

@@ -1,6 +1,5 @@
 //! The words of a step.
 
-use super::Answer;
 use std::alloc::Global;
 use zeb_keys::{Key, Register, Term};
 use zeb_register::{Place, RecordChange, RegFault};
@@ -93,16 +92,6 @@ impl<'a> Words<'a> {
     pub fn change(&mut self) -> Result<Change, RegFault> {
         let (sysno, old, new) = (self.number()?, self.places()?, self.places()?);
         Ok(Change { sysno, old, new })
-    }
-
-    /// The answer of a step that answers nothing.
-    pub fn nothing(&self) -> Answer {
-        Ok(String::new(self.alloc))
-    }
-
-    /// The answer where nothing is found.
-    pub fn none(&self) -> Answer {
-        Ok(String::from_str(self.alloc, "none")?)
     }
 }
 

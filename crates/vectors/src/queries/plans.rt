@@ -7,7 +7,6 @@ use zeb_text::Pattern;
 /// The plan of a term; of one that asks for words each pattern, `*` for one with a star.
 fn term_line(alloc: Global, term: &TermPlan) -> Result<String, AllocError> {
     let (name, index, patterns) = match term {
-        TermPlan::Complete { index, pattern } => ("complete", *index, pattern.as_slice()),
         TermPlan::Phrase {
             index,
             patterns,
@@ -28,10 +27,11 @@ fn term_line(alloc: Global, term: &TermPlan) -> Result<String, AllocError> {
     Ok(line)
 }
 
-/// The plan of a term that asks for no words.
+/// The plan of a term that asks for no words one by one.
 fn other_line(alloc: Global, term: &TermPlan) -> Result<String, AllocError> {
     match term {
         TermPlan::RecordNumber(number) => format!(in alloc; "record {number}"),
+        TermPlan::NoWords { index, register } => format!(in alloc; "no words {index} {register}"),
         TermPlan::Always { index, register } => format!(in alloc; "always {index} {register}"),
         TermPlan::Number {
             index,
@@ -44,8 +44,12 @@ fn other_line(alloc: Global, term: &TermPlan) -> Result<String, AllocError> {
             order,
             start,
         } => {
-            let start = start.as_deref().unwrap_or("no word");
+            let start = start.as_str();
             format!(in alloc; "ordered {index} {register} {order:?} {start}")
+        }
+        TermPlan::Complete { index, pattern } => {
+            let pattern = pattern.literal().unwrap_or("*");
+            format!(in alloc; "complete {index} {pattern}")
         }
         _ => String::from_str(alloc, "words"),
     }
@@ -86,7 +90,7 @@ pub(super) fn plan_text(alloc: Global, plan: &Plan) -> Result<String, AllocError
 fn only_pattern(plan: &Plan) -> Option<&Pattern> {
     match plan {
         Plan::Term(TermPlan::Phrase { patterns, .. }) => patterns.first(),
-        Plan::Term(TermPlan::Complete { pattern, .. }) => pattern.as_ref(),
+        Plan::Term(TermPlan::Complete { pattern, .. }) => Some(pattern),
         _ => None,
     }
 }

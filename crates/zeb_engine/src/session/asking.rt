@@ -10,11 +10,13 @@ ghost use Rattle.zeb_engine.specs.PrivateDone.{CommandDone};
 
 use crate::analysis::no_lines;
 use crate::commands::Command;
+use crate::dump::dump;
 use crate::find::{Question, find};
 use crate::readiness::check_ready;
 use crate::replies::Reply;
 use crate::scan::{Around, scan};
 use crate::session::Session;
+use crate::stat::stat;
 use sqlite::Alter;
 use zeb_analysis::AnalysedLines;
 use zeb_change::Refusal;
@@ -37,6 +39,8 @@ impl<S: Alter, L: Layout> Session<S, L> {
         ensures under { (self.new.profile ≡ self.old.profile)
             × (self.new.limits ≡ self.old.limits) }
     {
+        // Its profile is some text's.
+        self.profile.is_of_some_text();
         check_ready::<S, L>(&mut self.connection, &self.profile)?;
         find::<S, L>(
             self.alloc,
@@ -59,6 +63,8 @@ impl<S: Alter, L: Layout> Session<S, L> {
         ensures under { (self.new.profile ≡ self.old.profile)
             × (self.new.limits ≡ self.old.limits) }
     {
+        // Its profile is some text's.
+        self.profile.is_of_some_text();
         check_ready::<S, L>(&mut self.connection, &self.profile)?;
         scan::<S, L>(
             self.alloc,
@@ -68,6 +74,44 @@ impl<S: Alter, L: Layout> Session<S, L> {
             database,
             around,
         )
+    }
+
+    /// How much a database holds, on a register that is ready.
+    pub(super) fn stat(&mut self, name: &DbName) -> Result<Reply, Refusal>
+        requires fresh { self.old.work ≡ no_work }
+        ensures done { CommandDone S.Store L.format L.row_work L.block_rows
+            (conditions (version_of L.format) self.old.profile self.old.limits)
+            (Command.Stat name.now)
+            self.old.connection self.new.connection result self.new.work }
+        ensures under { (self.new.profile ≡ self.old.profile)
+            × (self.new.limits ≡ self.old.limits) }
+    {
+        // Its profile is some text's.
+        self.profile.is_of_some_text();
+        check_ready::<S, L>(&mut self.connection, &self.profile)?;
+        stat::<S, L>(
+            self.alloc,
+            &mut self.connection,
+            &mut self.work,
+            &self.profile,
+            name,
+        )
+    }
+
+    /// What a database keeps, on a register that is ready.
+    pub(super) fn dump(&mut self, name: &DbName) -> Result<Reply, Refusal>
+        requires fresh { self.old.work ≡ no_work }
+        ensures done { CommandDone S.Store L.format L.row_work L.block_rows
+            (conditions (version_of L.format) self.old.profile self.old.limits)
+            (Command.Dump name.now)
+            self.old.connection self.new.connection result self.new.work }
+        ensures under { (self.new.profile ≡ self.old.profile)
+            × (self.new.limits ≡ self.old.limits) }
+    {
+        // Its profile is some text's.
+        self.profile.is_of_some_text();
+        check_ready::<S, L>(&mut self.connection, &self.profile)?;
+        dump::<S, L>(self.alloc, &mut self.connection, name)
     }
 
     /// Whether the tables of a register that is ready are the image of what it holds: `Damaged` where they aren't.

@@ -108,6 +108,8 @@ impl<S: Alter, L: Layout> Session<S, L> {
         self.work = Work::default();
         check_readers(readers)?;
         check_ready::<S, L>(&mut self.connection, &self.profile)?;
+        // Its profile is some text's.
+        self.profile.is_of_some_text();
         let setting = Setting {
             alloc: self.alloc,
             profile: &self.profile,

@@ -68,8 +68,12 @@ returns-in-Err-clause-takes g c clean mode store =
     (c.loop-nth.invariant.takes clean mode store failed now _
     (rest_fault failed c.args.setting.now g.L.Layout.format g.L.Layout.row_work c.args.fold.now.progress.database.0 c.args.file c.loop-nth.nth (g.R.Source.remaining c.loop-nth.reader) now c.in-Err.fault c.in-Err.ensures.reads))
 
-pub returns-in_err-take_record-clause-fault : goal.returns-in_err-take_record-clause-fault
-returns-in_err-take_record-clause-fault g c other told = absurd (never_reads c.in_err-take_record.field-0.0 c.from_residual.result (search rules) other told)
+pub returns-in_err-take_record-clause-faults : goal.returns-in_err-take_record-clause-faults
+returns-in_err-take_record-clause-faults g c = record {
+  failed = search rules;
+  fault = λ other told. absurd (never_reads c.in_err-take_record.field-0.0 c.from_residual.result (search rules) other told);
+  able = search rules;
+}
 
 pub returns-then-not-found-clause-takes : goal.returns-then-not-found-clause-takes
 returns-then-not-found-clause-takes g c clean mode store =

@@ -23,7 +23,7 @@ loop-index-init g c = record {
 able_on : (g : given.Over) (c : After-fold_file g) → StayAble g.R.Source.may_fail g.R.Source.has_failed c.args.readers.now (slice_set c.loop-index.readers c.loop-index.index c.fold_file.new.reader)
 able_on g c =
     all_zip_set (StaysAble g.R.Source.may_fail g.R.Source.has_failed) c.args.readers.now c.loop-index.readers c.loop-index.index c.index-readers-index.result c.fold_file.new.reader c.loop-index.invariant.able
-    (subst (λ r. StaysAble g.R.Source.may_fail g.R.Source.has_failed r c.fold_file.new.reader) (c.loop-index.invariant.unread c.loop-index.index c.index-readers-index.result (omega arith)) c.fold_file.ensures.able)
+    (subst (λ r. StaysAble g.R.Source.may_fail g.R.Source.has_failed r c.fold_file.new.reader) (c.loop-index.invariant.unread c.loop-index.index c.index-readers-index.result (omega arith)) c.fold_file.ensures.faults.able)
 
 -- what the readers from here on would tell at first
 here : (g : given.Over) (c : After-fold_file g)
@@ -40,7 +40,7 @@ loop-index-preserved g c =
     let readers = c.loop-index.readers in
     let now = at (state g.S.Store c.loop-index.tx.conn.now) c.loop-index.pending c.loop-index.fold in
     let next = at (state g.S.Store c.fold_file.new.tx.conn.now) c.fold_file.new.pending c.fold_file.new.fold in
-    let fine : g.R.Source.has_failed c.fold_file.new.reader ≡ false = sound (g.R.Source.has_failed c.fold_file.new.reader) (λ failed. let no = c.in_ok-fold_file.ensures.failed failed in absurd (cc)) in
+    let fine : g.R.Source.has_failed c.fold_file.new.reader ≡ false = sound (g.R.Source.has_failed c.fold_file.new.reader) (λ failed. let no = c.in_ok-fold_file.ensures.faults.failed failed in absurd (cc)) in
     record {
       same = search rules;
       able = able_on g at_here;
@@ -112,27 +112,30 @@ returns-in_err-fold_file-clause-takes g c clean mode store =
 pub returns-in_err-fold_file-clause-steps : goal.returns-in_err-fold_file-clause-steps
 returns-in_err-fold_file-clause-steps g c = advances_then _ _ _ _ _ c.loop-index.invariant.steps c.fold_file.ensures.steps
 
-pub returns-in_err-fold_file-clause-able : goal.returns-in_err-fold_file-clause-able
-returns-in_err-fold_file-clause-able g c = able_on g (goal.at.returns-in_err-fold_file-clause-able g c).After-fold_file
-
 -- ---- readers that fail
 
-pub returns-clause-failed : goal.returns-clause-failed
-returns-clause-failed g c none file at =
-    absurd (none_at g.R.Source.has_failed c.loop-index.readers c.loop-index.index c.loop-index.invariant.fine (omega (arith, c.loop-index-test.false, c.loop-index.auto.readers)) file at)
+pub returns-clause-faults : goal.returns-clause-faults
+returns-clause-faults g c = record {
+  failed = λ none file at.
+      absurd (none_at g.R.Source.has_failed c.loop-index.readers c.loop-index.index c.loop-index.invariant.fine (omega (arith, c.loop-index-test.false, c.loop-index.auto.readers)) file at);
+  fault = λ file told. absurd (cc);
+  able = c.loop-index.invariant.able;
+}
 
-pub returns-in_err-fold_file-clause-failed : goal.returns-in_err-fold_file-clause-failed
-returns-in_err-fold_file-clause-failed g c none file at =
+pub returns-in_err-fold_file-clause-faults : goal.returns-in_err-fold_file-clause-faults
+returns-in_err-fold_file-clause-faults g c =
+    let failed = g.R.Source.has_failed in
+    let readers = c.loop-index.readers in
     let index = c.loop-index.index in
-    let within : index < length c.loop-index.readers = omega (arith, c.loop-index-test.true, c.loop-index.auto.readers) in
-    let here = failed_here g.R.Source.has_failed c.loop-index.readers index c.loop-index.invariant.fine c.fold_file.new.reader within c.args.readers.now c.loop-index.auto.readers none c.loop-index.invariant.unread file at in
-    let result : c.from_residual.result ≡ Err c.in_err-fold_file.field-0.0 = search rules in
-    ap (as_refusal fold_refusal) result ∙ c.in_err-fold_file.ensures.failed here.1 ∙ ap (λ (f : ℕ). Err (ReadFault f)) (sym here.0)
-
-pub returns-in_err-fold_file-clause-fault : goal.returns-in_err-fold_file-clause-fault
-returns-in_err-fold_file-clause-fault g c file told =
-    let index = c.loop-index.index in
-    let within : index < length c.loop-index.readers = omega (arith, c.loop-index-test.true, c.loop-index.auto.readers) in
+    let within : index < length readers = omega (arith, c.loop-index-test.true, c.loop-index.auto.readers) in
     let given : c.from_residual.result ≡ Err c.in_err-fold_file.field-0.0 = search rules in
-    let fault = c.in_err-fold_file.ensures.fault file (sym (ap (as_refusal fold_refusal) given) ∙ told) in
-    subst (HasFailedAt g.R.Source.has_failed (slice_set c.loop-index.readers index c.fold_file.new.reader)) (sym fault.0) (failed_now g.R.Source.has_failed c.loop-index.readers index c.loop-index.invariant.fine c.fold_file.new.reader within fault.1)
+    let faults = c.in_err-fold_file.ensures.faults in
+    record {
+      failed = λ none file at.
+          let here = failed_here failed readers index c.loop-index.invariant.fine c.fold_file.new.reader within c.args.readers.now c.loop-index.auto.readers none c.loop-index.invariant.unread file at in
+          ap (as_refusal fold_refusal) given ∙ faults.failed here.1 ∙ ap (λ (f : ℕ). Err (ReadFault f)) (sym here.0);
+      fault = λ file told.
+          let fault = faults.fault file (sym (ap (as_refusal fold_refusal) given) ∙ told) in
+          subst (HasFailedAt failed (slice_set readers index c.fold_file.new.reader)) (sym fault.0) (failed_now failed readers index c.loop-index.invariant.fine c.fold_file.new.reader within fault.1);
+      able = able_on g (goal.at.returns-in_err-fold_file-clause-faults g c).After-fold_file;
+    }

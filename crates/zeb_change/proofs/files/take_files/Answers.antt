@@ -1,7 +1,7 @@
 use Rattle.zeb_change.proofs.Cited.{rules, arith, ◌≡◌, ◌∙◌, IsTrue, map, Ok, Err, inl, inr, refl, sym, ap, subst, state, HasCleanDisk, IsStore, fold_refusal, register_refusal, NoneFailed, ChangesFiles, OfReaders, TakesFiles, at}
 use Rattle.zeb_change.proofs.FoldParts.{advances_worked, files_stores, of_more, settled_at, store_of, stores, write_failed}
 use Rattle.zeb_change.proofs.KeptStill.{beside_id}
-use Rattle.zeb_change.proofs.ReadFaults.{fold_ready}
+use Rattle.zeb_change.proofs.ReadFaults.{no_register_reads}
 use Rattle.zeb_change.proofs.SettledChanges.{at_id, worked}
 use Rattle.zeb_change.proofs.TransactionLemmas.{continues_then}
 use Rattle.zeb_change.proofs.files.take_files.Given as given
@@ -25,21 +25,26 @@ returns-clause-steps g c = advances_worked _ _ _ _ _ c.fold_readers.ensures.step
 
 -- ---- readers that fail
 
-pub returns-in_err-fold_readers-clause-failed : goal.returns-in_err-fold_readers-clause-failed
-returns-in_err-fold_readers-clause-failed g c none file at =
-    let result : c.from_residual.result ≡ Err (fold_refusal c.in_err-fold_readers.field-0.0) = search rules in
-    result ∙ c.in_err-fold_readers.ensures.failed none file at
+pub returns-in_err-fold_readers-clause-faults : goal.returns-in_err-fold_readers-clause-faults
+returns-in_err-fold_readers-clause-faults g c =
+    let told : c.from_residual.result ≡ Err (fold_refusal c.in_err-fold_readers.field-0.0) = search rules in
+    let faults = c.in_err-fold_readers.ensures.faults in
+    record { failed = λ none file at. told ∙ faults.failed none file at; fault = λ file is. faults.fault file (sym told ∙ is); able = faults.able }
 
-pub returns-in_err-fold_readers-clause-fault : goal.returns-in_err-fold_readers-clause-fault
-returns-in_err-fold_readers-clause-fault g c file told =
-    let result : c.from_residual.result ≡ Err (fold_refusal c.in_err-fold_readers.field-0.0) = search rules in
-    c.in_err-fold_readers.ensures.fault file (sym result ∙ told)
+pub returns-in_err-write_pending-clause-faults : goal.returns-in_err-write_pending-clause-faults
+returns-in_err-write_pending-clause-faults g c =
+    let faults = c.in_ok-fold_readers.ensures.faults in
+    let told : c.from_residual-in_err-write_pending.result ≡ Err (register_refusal c.in_err-write_pending.field-0.0) = search rules in
+    record {
+      failed = λ none file at. let no = faults.failed none file at in absurd (cc);
+      fault = λ file is. absurd (no_register_reads c.in_err-write_pending.field-0.0 file (sym told ∙ is));
+      able = faults.able;
+    }
 
-pub returns-in_err-fold_readers-clause-ready : goal.returns-in_err-fold_readers-clause-ready
-returns-in_err-fold_readers-clause-ready g c = fold_ready c.in_err-fold_readers.field-0.0 c.from_residual.result (search rules)
-
-pub returns-in_err-write_pending-clause-failed : goal.returns-in_err-write_pending-clause-failed
-returns-in_err-write_pending-clause-failed g c none file at = let no = c.in_ok-fold_readers.ensures.failed none file at in absurd (cc)
+pub returns-clause-faults : goal.returns-clause-faults
+returns-clause-faults g c =
+    let faults = c.in_ok-fold_readers.ensures.faults in
+    record { failed = λ none file at. let no = faults.failed none file at in absurd (cc); fault = λ file is. absurd (cc); able = faults.able }
 
 -- ---- what is done, in rows
 
@@ -54,7 +59,7 @@ returns-in_err-fold_readers-clause-changes g c clean mode store =
     (λ splits. ChangesFiles c.args.setting.now g.L.Layout.format g.L.Layout.row_work db splits first new)) (sym told)
     (of_more (NoneFailed g.R.Source.has_failed c.fold_readers.new.readers) (map g.R.Source.remaining c.args.readers.now)
     (λ splits. TakesFiles c.args.setting.now g.L.Layout.format g.L.Layout.row_work db 1 splits first new) (λ splits. ChangesFiles c.args.setting.now g.L.Layout.format g.L.Layout.row_work db splits first new)
-    (Err refusal) (λ splits takes. inr (inl takes)) (c.in_err-fold_readers.ensures.takes clean mode store))
+    (Err refusal) (λ splits takes. (inr (inl takes), tt)) (c.in_err-fold_readers.ensures.takes clean mode store))
 
 -- what is noted, where all files were taken in
 taken : (g : given.Over) (c : After-write_pending g) → HasCleanDisk (state g.S.Store c.write_pending.new.tx.conn.now) → IsTrue (state g.S.Store c.args.tx.now.conn.now).in_transaction
@@ -85,8 +90,11 @@ returns-in_err-write_pending-clause-changes g c clean mode store =
     let does = at_id (ap (λ d. d.0) c.fold_readers.ensures.steps.database) c.in_err-write_pending.ensures.call in (
       takes.0.0,
       λ _. takes.0.1 (inr refl),
-      write_failed g.L.Layout.format g.L.Layout.row_work db (TakesFiles c.args.setting.now g.L.Layout.format g.L.Layout.row_work db 1 takes.0.0) first mid new takes.0.2
-          f (λ is. does.honest clean takes.1 takes.2 (ap Err is)) c.from_residual-in_err-write_pending.result told,
+      subst (λ r. ChangesFiles c.args.setting.now g.L.Layout.format g.L.Layout.row_work db takes.0.0 first new r) (sym told) (
+        write_failed g.L.Layout.format g.L.Layout.row_work db (TakesFiles c.args.setting.now g.L.Layout.format g.L.Layout.row_work db 1 takes.0.0) first mid new takes.0.2
+            f (λ is. does.honest clean takes.1 takes.2 (ap Err is)) (Err (register_refusal f)) refl,
+        tt,
+      ),
     )
 
 pub returns-clause-changes : goal.returns-clause-changes
@@ -99,11 +107,14 @@ returns-clause-changes g c clean mode store =
       takes.0.0,
       λ _. takes.0.1 (inr refl),
       (
-        at mid c.fold_readers.new.pending c.fold_readers.new.fold,
-        takes.0.2,
-        settled_at g.L.Layout.format g.L.Layout.row_work c.args.fold.now.progress.database.0 mid new c.fold_readers.new.pending c.write_pending.new.pending c.fold_readers.new.fold c.write_pending.new.work
-            (does.written clean takes.1 takes.2)
-            (beside_id c.fold_readers.new.fold.progress.database.0 c.args.fold.now.progress.database.0 mid.now.trees new.now.trees same (c.in_ok-write_pending.ensures.beside clean takes.1 takes.2))
-            (c.in_ok-write_pending.ensures.malformed clean takes.1 takes.2) c.counts_are_numbers.ensures,
+        (
+          at mid c.fold_readers.new.pending c.fold_readers.new.fold,
+          takes.0.2,
+          settled_at g.L.Layout.format g.L.Layout.row_work c.args.fold.now.progress.database.0 mid new c.fold_readers.new.pending c.write_pending.new.pending c.fold_readers.new.fold c.write_pending.new.work
+              (does.written clean takes.1 takes.2)
+              (beside_id c.fold_readers.new.fold.progress.database.0 c.args.fold.now.progress.database.0 mid.now.trees new.now.trees same (c.in_ok-write_pending.ensures.beside clean takes.1 takes.2))
+              (c.in_ok-write_pending.ensures.malformed clean takes.1 takes.2) c.counts_are_numbers.ensures,
+        ),
+        c.in_ok-write_pending.ensures.all,
       ),
     )

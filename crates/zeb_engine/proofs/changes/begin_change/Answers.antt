@@ -1,7 +1,7 @@
 use Rattle.zeb_engine.proofs.Cited.{rules, arith, ◌≡◌, Err, pos, state, HasCleanDisk, PutsDatabase, databases_tree, goes_keeps, goes_then, on_err, reads_goes}
 use Rattle.zeb_register.specs.declared.faults.RegFault.TheVariants.{Damaged}
 use Rattle.zeb_engine.proofs.OneRefusal.{not_refused}
-use Rattle.zeb_engine.proofs.ChangeNumbers.{changed_still, numbered_same, put_shown}
+use Rattle.zeb_engine.proofs.ChangeNumbers.{changed_still, numbered_same, row_put}
 use Rattle.zeb_engine.proofs.ChangeSteps.{kept_records}
 use Rattle.zeb_engine.proofs.changes.begin_change.Goals as goal
 
@@ -60,7 +60,7 @@ returns-in_err-check_numbers-clause-honest g c clean inside store damaged =
     let first : HasCleanDisk mid = omega (arith, clean, c.check_numbers.ensures.call.crash.clean) in
     let on = c.in_ok-database.ensures.call.ok first inside in
     let put = c.in_ok-database.ensures.put first inside store in
-    record { id = c.in_ok-database.database.0; now = mid.now; put = put_shown databases_tree (PutsDatabase c.in_ok-database.database.0 c.args.name.now (pos c.args.last)) (state g.S.Store c.args.tx.now.conn.now) mid put; unsound = c.check_numbers.ensures.honest clean on.mode put.layout fault }
+    record { id = c.in_ok-database.database.0; now = mid.now; put = row_put (state g.S.Store c.args.tx.now.conn.now) mid c.in_ok-database.database.0 c.args.name.now c.args.last put; unsound = c.check_numbers.ensures.honest clean on.mode put.layout fault }
 
 pub returns-clause-honest : goal.returns-clause-honest
 returns-clause-honest g c clean inside store damaged = absurd (not_refused _ Damaged damaged)

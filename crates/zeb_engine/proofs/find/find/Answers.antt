@@ -1,279 +1,142 @@
-use Rattle.zeb_engine.proofs.Cited.{rules, ◌≡◌, ℕ, pos, List, Bor, length, map, Err, Ok, IsTrue, arith, refl, sym, ap, subst, inl, inr, string_bytes, state, HasCleanDisk, Trees, Directive, plan_value, query_value, posted, Format, version_of, HasDatabase, AreNumbers, has_ident_in, HoldsIn, NamesReadable, PlanFinds, Question, Reply, Base, conditions, OfDatabase, Answer, FindOver, FindTells, HidesFind, HidesFound, HidesOne, HidesPlan, PlanHides, ◌<◌, ◌^◌, Has, asked_of, name_bytes, query_refusal, register_refusal, FindAnswers, Meets, hits_honest, hits_reasoned, hits_told}
+use Rattle.zeb_engine.proofs.Cited.{rules, ◌≡◌, ◌<◌, ◌^◌, ℕ, pos, List, Bor, Vec, Global, length, map, Err, Ok, subst, sym, inl, inr, string_bytes, state, Trees, Has, Directive, plan_value, query_value, PlanValue, Format, holds_in, has_ident_in, PlanFinds, PlanHides, quiet_then, Hit, Question, Found, OfDatabase, ReadsAlone, AreShown, FindOver, FindTells, HidesFind, HidesOne, HidesPlan, asked_of, name_bytes, query_refusal, register_refusal, Meets, hits_reasoned}
+use Rattle.zeb_register.proofs.Answered.{or_reasoned}
 use Rattle.zeb_register.specs.declared.catalog.Database.{Database}
-use Rattle.zeb_engine.proofs.ReadyQueries.{existing_ends, query_ends, refused_ends}
-use Rattle.zeb_engine.proofs.FindAnswers.{asked_ends, asked_kept, found_ends, hits_answered, idents_readable, met_view, plan_ends}
-use Rattle.zeb_engine.proofs.ListedDatabases.{fault_fails, fault_or_damage}
-use Rattle.zeb_engine.proofs.Lookups.{base_found, hits_asked, hits_found, still_holds}
-use Rattle.zeb_engine.proofs.FindRefusals.{asked_refused, asked_small, hits_refused, misses_refused, plan_refused, query_refused, show_refused}
+use Rattle.zeb_search.specs.Untouched.{IsUntouched}
+use Rattle.zeb_search.proofs.ReadLemmas.{as_read, clean_before, read_still, read_then}
+use Rattle.zeb_search.proofs.ToldLemmas.{tells_later}
+use Rattle.zeb_engine.proofs.FindAnswers.{met_view}
 use Rattle.zeb_engine.proofs.HiddenRows.{hidden_read, misses_hidden}
-use Rattle.zeb_engine.proofs.OverTables.{asked_over, few_hidden, numbers_found, or_fails, past_found, plan_found, query_over}
-use Rattle.zeb_engine.proofs.ReadyTexts.{fault_never}
-use Rattle.zeb_engine.proofs.Showing.{kept_fails, still_shows}
-use Rattle.zeb_engine.proofs.StoreCauses.{LeavesAll, accepted_leaves, fault_after, leaves_then, passed_cause, query_caused, refusal_after}
+use Rattle.zeb_engine.proofs.ListedDatabases.{fault_or_damage}
+use Rattle.zeb_engine.proofs.OverTables.{asked_over, numbers_found, or_fails, past_found, plan_found, query_over}
+use Rattle.zeb_engine.proofs.ReadsInTurn.{fault_asked, query_asked, reads_end, reads_fail, reads_none, reads_on, reads_passed, shown_still, told_back}
+use Rattle.zeb_engine.proofs.StoreCauses.{query_caused}
 use Rattle.zeb_engine.proofs.find.find.Goals as goal
 
--- what may be answered of a database
-abbrev says : List Directive → Question → Base → Answer → Type 0
-says profile asked = FindAnswers profile asked.query.now asked.first asked.count
-
--- which damage is told of them
+-- which damage is told of the rows that a find asks for, and what is told of them
 abbrev hides : Format → List Directive → (name : List ℕ) → Question → Trees → Type 0
 hides format profile name asked = HidesFind format profile name asked.query.now asked.first asked.count
 
--- the same on any tables
 abbrev tells : Format → List Directive → Question → Trees → OfDatabase
 tells format profile asked = FindTells format profile asked.query.now asked.first asked.count
 
-pub returns-in_err-query-clause-found : goal.returns-in_err-query-clause-found
-returns-in_err-query-clause-found g c clean opened limits before bases is keeps =
-    let fault = c.in_err-query.field-0.0 in
-    let told : c.from_residual.result ≡ Err (query_refusal fault) = search rules in
-    refused_ends (says c.args.profile.now c.args.question) (name_bytes c.args.name.now) c.args.question.query.now bases c.from_residual.result (query_refusal fault) told (query_ends (says c.args.profile.now c.args.question) (name_bytes c.args.name.now) c.args.question.query.now bases fault c.in_err-query.ensures.faulty)
+-- the same of its hits, and of those that are shown
+abbrev HidesHits : Format → PlanValue → (database : Database) → Trees → Type 0
+HidesHits format plan database trees = PlanHides format trees database.id.0 plan
 
-pub returns-in_err-query-clause-refused : goal.returns-in_err-query-clause-refused
-returns-in_err-query-clause-refused g c clean store content storable held =
-    let fault = c.in_err-query.field-0.0 in
-    let told : c.from_residual.result ≡ Err (query_refusal fault) = search rules in
-    let trees = (state g.S.Store c.args.connection.now).now.trees in
-    rw told (query_refused c.args.profile.now (name_bytes c.args.name.now) c.args.question.query.now c.args.question.first c.args.question.count trees content fault c.in_err-query.ensures.faulty)
+abbrev FindsHits : Format → PlanValue → (database : Database) → Trees → Vec ℕ Global → Type 0
+FindsHits format plan database trees hits = PlanFinds format trees database.id.0 plan hits.items
 
-pub returns-in_err-query-clause-caused : goal.returns-in_err-query-clause-caused
-returns-in_err-query-clause-caused g c clean =
-    let s0 = state g.S.Store c.args.connection.now in
-    let fault = c.in_err-query.field-0.0 in
-    passed_cause s0 s0 (query_refusal fault) c.from_residual.result (search rules) (query_caused s0 s0 fault)
+abbrev HidesShown : (asked : List ℕ) → (database : Database) → Trees → Type 0
+HidesShown asked database trees = ((n : ℕ) → Has asked n → n < 2 ^ 63) → HidesOne trees database.id.0 asked
 
-pub returns-in_err-database-clause-found : goal.returns-in_err-database-clause-found
-returns-in_err-database-clause-found g c clean opened limits before bases is keeps =
-    let k = conditions (version_of g.L.Layout.format) c.args.profile.now limits in
-    let s0 = state g.S.Store c.args.connection.now in
-    let s1 = state g.S.Store c.existing_database.new.connection in
-    let refusal = c.in_err-database.field-0.0 in
-    let told : c.from_residual-in_err-database.result ≡ Err refusal = search rules in
-    refused_ends (says c.args.profile.now c.args.question) (name_bytes c.args.name.now) c.args.question.query.now bases c.from_residual-in_err-database.result refusal told (existing_ends (says c.args.profile.now c.args.question) (name_bytes c.args.name.now) c.args.question.query.now bases c.in_ok-query.ensures.readable {X = Database}
-    (λ base d. HasDatabase s0.now.trees d.id.0 base.name (pos base.last) × (d.last ≡ base.last) × IsTrue s1.is_open) refusal (c.in_err-database.ensures.exists clean opened k before bases is keeps))
+abbrev Shows : (asked : List ℕ) → (database : Database) → Trees → Vec Hit Global → Type 0
+Shows asked database trees shown = AreShown (has_ident_in trees database.id.0) asked (map (λ hit. (hit.sysno, string_bytes hit.ident)) shown.items)
 
-pub returns-in_err-database-clause-refused : goal.returns-in_err-database-clause-refused
-returns-in_err-database-clause-refused g c clean store content storable held =
-    let refusal = c.in_err-database.field-0.0 in
-    let told : c.from_residual-in_err-database.result ≡ Err refusal = search rules in
-    let trees = (state g.S.Store c.args.connection.now).now.trees in
-    rw told (misses_refused c.args.profile.now (name_bytes c.args.name.now) c.args.question.query.now c.args.question.first c.args.question.count trees content c.in_ok-query.ensures.readable
-    refusal (c.in_err-database.ensures.misses clean store))
+-- ---- what it did to the connection
 
-pub returns-in_err-database-clause-caused : goal.returns-in_err-database-clause-caused
-returns-in_err-database-clause-caused g c clean =
-    passed_cause (state g.S.Store c.args.connection.now) (state g.S.Store c.existing_database.new.connection) c.in_err-database.field-0.0 c.from_residual-in_err-database.result (search rules) (c.in_err-database.ensures.caused clean)
+pub returns-in_err-query-clause-reads : goal.returns-in_err-query-clause-reads
+returns-in_err-query-clause-reads g c =
+    let s = state g.S.Store c.args.connection.now in
+    reads_none g.S.Store c.args.connection.now c.requires.idle (query_refusal c.in_err-query.field-0.0) (query_caused s s c.in_err-query.field-0.0) c.from_residual.result (search rules)
 
-pub returns-in_err-plan-clause-found : goal.returns-in_err-plan-clause-found
-returns-in_err-plan-clause-found g c clean opened limits before bases is keeps =
-    let k = conditions (version_of g.L.Layout.format) c.args.profile.now limits in
-    let s0 = state g.S.Store c.args.connection.now in
-    let s1 = state g.S.Store c.existing_database.new.connection in
-    let at = base_found g.L.Layout.format k (record { version_is = refl; sound = c.is_of_some_text.ensures }) s0 s1 before bases (name_bytes c.args.name.now) c.in_ok-database.database is (keeps opened).0 (c.existing_database.ensures.same clean) (c.in_ok-database.ensures.exists clean opened k before bases is keeps) in
+pub returns-in_err-database-clause-reads : goal.returns-in_err-database-clause-reads
+returns-in_err-database-clause-reads g c =
+    reads_passed {A = Database} g.S.Store c.args.connection.now c.existing_database.new.connection c.in_err-database.field-0.0
+    (record { idle = c.existing_database.ensures.idle; same = c.existing_database.ensures.same; opened = λ clean. tt; crash = c.existing_database.ensures.crash; caused = c.in_err-database.ensures.caused }) c.from_residual-in_err-database.result (search rules)
+
+pub returns-in_err-plan-clause-reads : goal.returns-in_err-plan-clause-reads
+returns-in_err-plan-clause-reads g c =
+    let looked : ReadsAlone g.S.Store c.args.connection.now c.existing_database.new.connection (Ok c.in_ok-database.database) =
+    record { idle = c.existing_database.ensures.idle; same = c.existing_database.ensures.same; opened = c.in_ok-database.ensures.found; crash = c.existing_database.ensures.crash; caused = λ clean store. tt } in
+    let old = state g.S.Store c.args.connection.now in
+    let mid = state g.S.Store c.existing_database.new.connection in
     let fault = c.in_err-plan.field-0.0 in
-    let told : c.from_residual-in_err-plan.result ≡ Err (query_refusal fault) = search rules in
-    refused_ends (says c.args.profile.now c.args.question) (name_bytes c.args.name.now) c.args.question.query.now bases c.from_residual-in_err-plan.result (query_refusal fault) told (plan_ends g.L.Layout.format k.profile s0.now.trees c.in_ok-database.database.id.0 at.base at.held (name_bytes c.args.name.now) c.args.question.query.now c.args.question.first c.args.question.count bases
-    c.in_ok-query.ensures.readable at.named (query_value c.in_ok-query.query) c.in_ok-query.ensures.spelled fault c.in_err-plan.ensures.planned)
+    reads_end g.S.Store c.args.connection.now c.existing_database.new.connection c.in_ok-database.database looked c.existing_database.new.connection (read_still mid) (query_refusal fault) (query_caused old mid fault)
+    c.from_residual-in_err-plan.result (search rules)
 
-pub returns-in_err-plan-clause-refused : goal.returns-in_err-plan-clause-refused
-returns-in_err-plan-clause-refused g c clean store content storable held =
-    let fault = c.in_err-plan.field-0.0 in
-    let told : c.from_residual-in_err-plan.result ≡ Err (query_refusal fault) = search rules in
-    let trees = (state g.S.Store c.args.connection.now).now.trees in
-    rw told (plan_refused c.args.profile.now (name_bytes c.args.name.now) c.args.question.query.now c.args.question.first c.args.question.count trees content c.in_ok-query.ensures.readable
-    c.in_ok-database.database.id.0 (pos c.in_ok-database.database.last) (c.in_ok-database.ensures.row clean store) (query_value c.in_ok-query.query) c.in_ok-query.ensures.spelled
-    fault c.in_err-plan.ensures.planned)
-
-pub returns-in_err-plan-clause-caused : goal.returns-in_err-plan-clause-caused
-returns-in_err-plan-clause-caused g c clean =
-    let s0 = state g.S.Store c.args.connection.now in
-    let s1 = state g.S.Store c.existing_database.new.connection in
-    passed_cause s0 s1 (query_refusal c.in_err-plan.field-0.0) c.from_residual-in_err-plan.result (search rules) (query_caused s0 s1 c.in_err-plan.field-0.0)
-
-pub returns-in_err-hits-clause-found : goal.returns-in_err-hits-clause-found
-returns-in_err-hits-clause-found g c clean opened limits before bases is keeps =
-    let k = conditions (version_of g.L.Layout.format) c.args.profile.now limits in
-    let s0 = state g.S.Store c.args.connection.now in
-    let s1 = state g.S.Store c.existing_database.new.connection in
-    let clean1 : HasCleanDisk s1 = omega (arith, c.hits.ensures.call.crash.clean) in
-    let at = base_found g.L.Layout.format k (record { version_is = refl; sound = c.is_of_some_text.ensures }) s0 s1 before bases (name_bytes c.args.name.now) c.in_ok-database.database is (keeps opened).0 (c.existing_database.ensures.same clean1) (c.in_ok-database.ensures.exists clean1 opened k before bases is keeps) in
-    let plan = plan_value c.in_ok-plan.plan in
-    let readable = subst (λ (t : Trees). NamesReadable t c.in_ok-database.database.id.0 plan) (sym at.still.trees) (idents_readable g.L.Layout.format k.profile s0.now.trees c.in_ok-database.database.id.0 at.base at.held plan) in
+pub returns-in_err-hits-clause-reads : goal.returns-in_err-hits-clause-reads
+returns-in_err-hits-clause-reads g c =
+    let looked : ReadsAlone g.S.Store c.args.connection.now c.existing_database.new.connection (Ok c.in_ok-database.database) =
+    record { idle = c.existing_database.ensures.idle; same = c.existing_database.ensures.same; opened = c.in_ok-database.ensures.found; crash = c.existing_database.ensures.crash; caused = λ clean store. tt } in
+    let old = state g.S.Store c.args.connection.now in
+    let mid = state g.S.Store c.existing_database.new.connection in
     let fault = c.in_err-hits.field-0.0 in
-    let told : c.from_residual-in_err-hits.result ≡ Err (register_refusal fault) = search rules in
-    refused_ends (says c.args.profile.now c.args.question) (name_bytes c.args.name.now) c.args.question.query.now bases c.from_residual-in_err-hits.result (register_refusal fault) told (inr (fault_fails fault (λ is_damaged.
-    hits_honest g.L.Layout.format c.in_ok-database.database.id.0 (plan_value c.in_ok-plan.plan) (state g.S.Store c.existing_database.new.connection) (state g.S.Store c.hits.new.connection) (Err fault) c.in_err-hits.ensures.units clean at.still.store (ap Err is_damaged) readable at.held.content at.held.storable at.still.held)))
+    reads_fail g.S.Store c.args.connection.now c.existing_database.new.connection c.in_ok-database.database looked mid c.hits.new.connection (read_still mid) (λ _. IsUntouched) fault c.in_err-hits.ensures.call
+    (hits_reasoned g.L.Layout.format c.in_ok-database.database.id.0 (plan_value c.in_ok-plan.plan) mid (state g.S.Store c.hits.new.connection) (Err fault) c.in_err-hits.ensures.units) c.from_residual-in_err-hits.result (search rules)
 
-pub returns-in_err-hits-clause-refused : goal.returns-in_err-hits-clause-refused
-returns-in_err-hits-clause-refused g c clean store content storable held =
-    let s0 = state g.S.Store c.args.connection.now in
-    let s1 = state g.S.Store c.existing_database.new.connection in
-    let clean1 : HasCleanDisk s1 = omega (arith, c.hits.ensures.call.crash.clean) in
-    let still = still_holds g.L.Layout.format content s0 s1 (c.existing_database.ensures.same clean1) (c.in_ok-database.ensures.found clean1).1 store held in
-    let plan = plan_value c.in_ok-plan.plan in
-    let fault = c.in_err-hits.field-0.0 in
-    let told : c.from_residual-in_err-hits.result ≡ Err (register_refusal fault) = search rules in
-    rw told (hits_refused c.args.profile.now (name_bytes c.args.name.now) c.args.question.query.now c.args.question.first c.args.question.count s0.now.trees content c.in_ok-query.ensures.readable
-    c.in_ok-database.database.id.0 (pos c.in_ok-database.database.last) (c.in_ok-database.ensures.row clean1 store) (query_value c.in_ok-query.query) c.in_ok-query.ensures.spelled plan c.in_ok-plan.ensures.planned fault
-    (λ is readable. hits_honest g.L.Layout.format c.in_ok-database.database.id.0 (plan_value c.in_ok-plan.plan) (state g.S.Store c.existing_database.new.connection) (state g.S.Store c.hits.new.connection) (Err fault) c.in_err-hits.ensures.units clean still.store (ap Err is) (subst (λ (t : Trees). NamesReadable t c.in_ok-database.database.id.0 plan) (sym still.trees) readable) content storable still.held))
+pub returns-in_err-asked-clause-reads : goal.returns-in_err-asked-clause-reads
+returns-in_err-asked-clause-reads g c =
+    let looked : ReadsAlone g.S.Store c.args.connection.now c.existing_database.new.connection (Ok c.in_ok-database.database) =
+    record { idle = c.existing_database.ensures.idle; same = c.existing_database.ensures.same; opened = c.in_ok-database.ensures.found; crash = c.existing_database.ensures.crash; caused = λ clean store. tt } in
+    let old = state g.S.Store c.args.connection.now in
+    let mid = state g.S.Store c.existing_database.new.connection in
+    reads_end g.S.Store c.args.connection.now c.existing_database.new.connection c.in_ok-database.database looked c.hits.new.connection (as_read mid (state g.S.Store c.hits.new.connection) c.in_ok-hits.hits c.in_ok-hits.ensures.call)
+    c.in_err-asked.field-0.0 (λ store is. absurd (c.in_err-asked.ensures.unstored is)) c.from_residual-in_err-asked.result (search rules)
 
-pub returns-in_err-hits-clause-ready : goal.returns-in_err-hits-clause-ready
-returns-in_err-hits-clause-ready g c =
-    let fault = c.in_err-hits.field-0.0 in
-    let told : c.from_residual-in_err-hits.result ≡ Err (register_refusal fault) = search rules in
-    rw told (fault_never {T = Reply} fault)
-
-pub returns-in_err-hits-clause-caused : goal.returns-in_err-hits-clause-caused
-returns-in_err-hits-clause-caused g c clean =
-    let s0 = state g.S.Store c.args.connection.now in
-    let s1 = state g.S.Store c.existing_database.new.connection in
-    let clean1 : HasCleanDisk s1 = omega (arith, c.hits.ensures.call.crash.clean) in
-    let fault = c.in_err-hits.field-0.0 in
-    let told : c.from_residual-in_err-hits.result ≡ Err (register_refusal fault) = search rules in
-    let found = accepted_leaves s0 s1 c.existing_database.ensures.crash (c.in_ok-database.ensures.found clean1) (c.existing_database.ensures.same clean1) in
-    rw told (fault_after s0 s1 (state g.S.Store c.hits.new.connection) found fault clean (hits_reasoned g.L.Layout.format c.in_ok-database.database.id.0 (plan_value c.in_ok-plan.plan) (state g.S.Store c.existing_database.new.connection) (state g.S.Store c.hits.new.connection) (Err fault) c.in_err-hits.ensures.units))
-
-pub returns-in_err-asked-clause-found : goal.returns-in_err-asked-clause-found
-returns-in_err-asked-clause-found g c clean opened limits before bases is keeps =
-    let k = conditions (version_of g.L.Layout.format) c.args.profile.now limits in
-    let s0 = state g.S.Store c.args.connection.now in
-    let s1 = state g.S.Store c.existing_database.new.connection in
-    let clean1 : HasCleanDisk s1 = omega (arith, c.hits.ensures.call.crash.clean) in
-    let at = base_found g.L.Layout.format k (record { version_is = refl; sound = c.is_of_some_text.ensures }) s0 s1 before bases (name_bytes c.args.name.now) c.in_ok-database.database is (keeps opened).0 (c.existing_database.ensures.same clean1) (c.in_ok-database.ensures.exists clean1 opened k before bases is keeps) in
-    let numbers = c.in_ok-hits.hits.items in
-    let hits = subst (λ (t : Trees). AreNumbers (HoldsIn t at.held.content c.in_ok-database.database.id.0 (plan_value c.in_ok-plan.plan)) numbers) at.still.trees (hits_told g.L.Layout.format c.in_ok-database.database.id.0 (plan_value c.in_ok-plan.plan) (state g.S.Store c.existing_database.new.connection) (state g.S.Store c.hits.new.connection) (Ok c.in_ok-hits.hits) c.in_ok-hits.ensures.units clean at.still.store at.held.content at.still.held) in
-    let refusal = c.in_err-asked.field-0.0 in
-    let told : c.from_residual-in_err-asked.result ≡ Err refusal = search rules in
-    let Asked = λ (wanted : List ℕ) (asked : Bor (List ℕ)). asked.now ≡ wanted in
-    let met = subst (λ (l : List ℕ). Meets Asked (asked_of l c.args.question.first c.args.question.count) (Err refusal)) c.deref.ensures.value c.in_err-asked.ensures.asked in
-    refused_ends (says c.args.profile.now c.args.question) (name_bytes c.args.name.now) c.args.question.query.now bases c.from_residual-in_err-asked.result refusal told (asked_ends g.L.Layout.format k.profile s0.now.trees c.in_ok-database.database.id.0 at.base at.held (name_bytes c.args.name.now) c.args.question.query.now c.args.question.first c.args.question.count bases
-    c.in_ok-query.ensures.readable at.named (query_value c.in_ok-query.query) c.in_ok-query.ensures.spelled (plan_value c.in_ok-plan.plan) c.in_ok-plan.ensures.planned numbers hits Asked refusal met)
-
-pub returns-in_err-asked-clause-refused : goal.returns-in_err-asked-clause-refused
-returns-in_err-asked-clause-refused g c clean store content storable held =
-    let s0 = state g.S.Store c.args.connection.now in
-    let s1 = state g.S.Store c.existing_database.new.connection in
-    let clean1 : HasCleanDisk s1 = omega (arith, c.hits.ensures.call.crash.clean) in
-    let still = still_holds g.L.Layout.format content s0 s1 (c.existing_database.ensures.same clean1) (c.in_ok-database.ensures.found clean1).1 store held in
-    let numbers = c.in_ok-hits.hits.items in
-    let hits = subst (λ (t : Trees). AreNumbers (HoldsIn t content c.in_ok-database.database.id.0 (plan_value c.in_ok-plan.plan)) numbers) still.trees (hits_told g.L.Layout.format c.in_ok-database.database.id.0 (plan_value c.in_ok-plan.plan) (state g.S.Store c.existing_database.new.connection) (state g.S.Store c.hits.new.connection) (Ok c.in_ok-hits.hits) c.in_ok-hits.ensures.units clean still.store content still.held) in
-    let refusal = c.in_err-asked.field-0.0 in
-    let told : c.from_residual-in_err-asked.result ≡ Err refusal = search rules in
-    let Asked = λ (wanted : List ℕ) (asked : Bor (List ℕ)). asked.now ≡ wanted in
-    let met = subst (λ (l : List ℕ). Meets Asked (asked_of l c.args.question.first c.args.question.count) (Err refusal)) c.deref.ensures.value c.in_err-asked.ensures.asked in
-    rw told (asked_refused c.args.profile.now (name_bytes c.args.name.now) c.args.question.query.now c.args.question.first c.args.question.count s0.now.trees content c.in_ok-query.ensures.readable
-    c.in_ok-database.database.id.0 (pos c.in_ok-database.database.last) (c.in_ok-database.ensures.row clean1 store) (query_value c.in_ok-query.query) c.in_ok-query.ensures.spelled (plan_value c.in_ok-plan.plan) c.in_ok-plan.ensures.planned
-    numbers hits Asked refusal met)
-
-pub returns-in_err-asked-clause-caused : goal.returns-in_err-asked-clause-caused
-returns-in_err-asked-clause-caused g c clean store =
-    let refusal = c.in_err-asked.field-0.0 in
-    let told : c.from_residual-in_err-asked.result ≡ Err refusal = search rules in
-    rw told (λ is. absurd (c.in_err-asked.ensures.unstored is))
-
-pub returns-in_err-shown-clause-found : goal.returns-in_err-shown-clause-found
-returns-in_err-shown-clause-found g c clean opened limits before bases is keeps =
-    let k = conditions (version_of g.L.Layout.format) c.args.profile.now limits in
-    let s0 = state g.S.Store c.args.connection.now in
-    let s1 = state g.S.Store c.existing_database.new.connection in
-    let s2 = state g.S.Store c.hits.new.connection in
-    let clean2 : HasCleanDisk s2 = omega (arith, c.show.ensures.crash.clean) in
-    let clean1 : HasCleanDisk s1 = omega (arith, clean2, c.hits.ensures.call.crash.clean) in
-    let on = hits_found g.L.Layout.format k (record { version_is = refl; sound = c.is_of_some_text.ensures }) s0 s1 s2 before bases (name_bytes c.args.name.now) c.in_ok-database.database is (keeps opened).0
-    (c.existing_database.ensures.same clean1) (c.in_ok-database.ensures.exists clean1 opened k before bases is keeps) (plan_value c.in_ok-plan.plan) c.args.question.first c.args.question.count c.in_ok-hits.hits.items _ c.in_ok-asked.asked
-    (hits_told g.L.Layout.format c.in_ok-database.database.id.0 (plan_value c.in_ok-plan.plan) (state g.S.Store c.existing_database.new.connection) (state g.S.Store c.hits.new.connection) (Ok c.in_ok-hits.hits) c.in_ok-hits.ensures.units clean2) c.deref.ensures.value c.in_ok-asked.ensures.asked (c.hits.ensures.call.same clean2 c.existing_database.ensures.idle) in
+pub returns-in_err-shown-clause-reads : goal.returns-in_err-shown-clause-reads
+returns-in_err-shown-clause-reads g c =
+    let looked : ReadsAlone g.S.Store c.args.connection.now c.existing_database.new.connection (Ok c.in_ok-database.database) =
+    record { idle = c.existing_database.ensures.idle; same = c.existing_database.ensures.same; opened = c.in_ok-database.ensures.found; crash = c.existing_database.ensures.crash; caused = λ clean store. tt } in
+    let old = state g.S.Store c.args.connection.now in
+    let mid = state g.S.Store c.existing_database.new.connection in
+    let late = state g.S.Store c.hits.new.connection in
+    let new = state g.S.Store c.show.new.connection in
     let asked = c.in_ok-asked.asked.now in
-    let kept = asked_kept g.L.Layout.format k.profile s0.now.trees c.in_ok-database.database.id.0 on.at.base on.at.held (plan_value c.in_ok-plan.plan) c.in_ok-hits.hits.items asked c.args.question.first c.args.question.count on.wanted.hits on.wanted.said in
-    let refusal = c.in_err-shown.field-0.0 in
-    let told : c.from_residual-in_err-shown.result ≡ Err refusal = search rules in
-    refused_ends (says c.args.profile.now c.args.question) (name_bytes c.args.name.now) c.args.question.query.now bases c.from_residual-in_err-shown.result refusal told
-    (inr (kept_fails s0.now.trees c.in_ok-database.database.id.0 asked refusal kept (c.in_err-shown.ensures.refused clean s0.now.trees on.wanted.shows (λ n there. (kept n there).1))))
+    let database = c.in_ok-database.database in
+    let fault = c.in_err-shown.field-0.0 in
+    reads_fail g.S.Store c.args.connection.now c.existing_database.new.connection database looked late c.show.new.connection (as_read mid late c.in_ok-hits.hits c.in_ok-hits.ensures.call) (λ _. IsUntouched) fault c.in_err-shown.ensures.call
+    (or_reasoned (HidesShown asked database) (Shows asked database) late new (Err fault) c.in_err-shown.ensures.told) c.from_residual-in_err-shown.result (search rules)
 
-pub returns-in_err-shown-clause-refused : goal.returns-in_err-shown-clause-refused
-returns-in_err-shown-clause-refused g c clean store content storable held =
-    let s0 = state g.S.Store c.args.connection.now in
-    let s1 = state g.S.Store c.existing_database.new.connection in
-    let s2 = state g.S.Store c.hits.new.connection in
-    let clean2 : HasCleanDisk s2 = omega (arith, c.show.ensures.crash.clean) in
-    let clean1 : HasCleanDisk s1 = omega (arith, clean2, c.hits.ensures.call.crash.clean) in
-    let still = still_holds g.L.Layout.format content s0 s1 (c.existing_database.ensures.same clean1) (c.in_ok-database.ensures.found clean1).1 store held in
-    let plan = plan_value c.in_ok-plan.plan in
-    let numbers = c.in_ok-hits.hits.items in
-    let asked = c.in_ok-asked.asked in
-    let shown = hits_asked g.L.Layout.format content s0 s1 s2 still c.in_ok-database.database.id.0 plan c.args.question.first c.args.question.count numbers _ asked (hits_told g.L.Layout.format c.in_ok-database.database.id.0 (plan_value c.in_ok-plan.plan) (state g.S.Store c.existing_database.new.connection) (state g.S.Store c.hits.new.connection) (Ok c.in_ok-hits.hits) c.in_ok-hits.ensures.units clean2 still.store content still.held)
-    c.deref.ensures.value c.in_ok-asked.ensures.asked (c.hits.ensures.call.same clean2 c.existing_database.ensures.idle) in
-    let small = asked_small s0.now.trees content storable c.in_ok-database.database.id.0 plan c.in_ok-plan.ensures.numbers numbers asked.now c.args.question.first c.args.question.count shown.hits shown.said in
-    let refusal = c.in_err-shown.field-0.0 in
-    let told : c.from_residual-in_err-shown.result ≡ Err refusal = search rules in
-    rw told (show_refused c.args.profile.now (name_bytes c.args.name.now) c.args.question.query.now c.args.question.first c.args.question.count s0.now.trees content c.in_ok-query.ensures.readable
-    c.in_ok-database.database.id.0 (pos c.in_ok-database.database.last) (c.in_ok-database.ensures.row clean1 store) (query_value c.in_ok-query.query) c.in_ok-query.ensures.spelled plan c.in_ok-plan.ensures.planned
-    numbers shown.hits asked.now shown.said refusal (c.in_err-shown.ensures.refused clean s0.now.trees shown.shows small))
+pub returns-clause-reads : goal.returns-clause-reads
+returns-clause-reads g c =
+    let looked : ReadsAlone g.S.Store c.args.connection.now c.existing_database.new.connection (Ok c.in_ok-database.database) =
+    record { idle = c.existing_database.ensures.idle; same = c.existing_database.ensures.same; opened = c.in_ok-database.ensures.found; crash = c.existing_database.ensures.crash; caused = λ clean store. tt } in
+    let old = state g.S.Store c.args.connection.now in
+    let mid = state g.S.Store c.existing_database.new.connection in
+    let late = state g.S.Store c.hits.new.connection in
+    reads_on g.S.Store c.args.connection.now c.existing_database.new.connection c.in_ok-database.database looked c.show.new.connection
+    (read_then mid late (state g.S.Store c.show.new.connection) (as_read mid late c.in_ok-hits.hits c.in_ok-hits.ensures.call) (as_read late (state g.S.Store c.show.new.connection) c.in_ok-shown.shown c.in_ok-shown.ensures.call)) (Found c.len.result c.in_ok-shown.shown)
 
-pub returns-in_err-shown-clause-caused : goal.returns-in_err-shown-clause-caused
-returns-in_err-shown-clause-caused g c clean =
-    let s0 = state g.S.Store c.args.connection.now in
-    let s1 = state g.S.Store c.existing_database.new.connection in
-    let s2 = state g.S.Store c.hits.new.connection in
-    let clean2 : HasCleanDisk s2 = omega (arith, c.show.ensures.crash.clean) in
-    let clean1 : HasCleanDisk s1 = omega (arith, clean2, c.hits.ensures.call.crash.clean) in
-    let refusal = c.in_err-shown.field-0.0 in
-    let told : c.from_residual-in_err-shown.result ≡ Err refusal = search rules in
-    let found = accepted_leaves s0 s1 c.existing_database.ensures.crash (c.in_ok-database.ensures.found clean1) (c.existing_database.ensures.same clean1) in
-    let searched : LeavesAll s1 s2 = record { survives = c.hits.ensures.call.crash; opened = λ was. ((c.in_ok-hits.ensures.call.ok clean2).1 was).0.is_open; nothing = c.hits.ensures.call.same clean2 c.existing_database.ensures.idle } in
-    rw told (refusal_after s0 s2 (state g.S.Store c.show.new.connection) (leaves_then s0 s1 s2 found searched) refusal (c.in_err-shown.ensures.caused clean))
+-- ---- which refusals it gives, and what it counts
 
-pub returns-clause-found : goal.returns-clause-found
-returns-clause-found g c clean opened limits before bases is keeps =
-    let k = conditions (version_of g.L.Layout.format) c.args.profile.now limits in
-    let s0 = state g.S.Store c.args.connection.now in
-    let s1 = state g.S.Store c.existing_database.new.connection in
-    let clean2 : HasCleanDisk (state g.S.Store c.hits.new.connection) = omega (arith, c.show.ensures.crash.clean) in
-    let clean1 : HasCleanDisk s1 = omega (arith, clean2, c.hits.ensures.call.crash.clean) in
-    let on = hits_found g.L.Layout.format k (record { version_is = refl; sound = c.is_of_some_text.ensures }) s0 s1 (state g.S.Store c.hits.new.connection) before bases (name_bytes c.args.name.now) c.in_ok-database.database is (keeps opened).0
-    (c.existing_database.ensures.same clean1) (c.in_ok-database.ensures.exists clean1 opened k before bases is keeps) (plan_value c.in_ok-plan.plan) c.args.question.first c.args.question.count c.in_ok-hits.hits.items _ c.in_ok-asked.asked
-    (hits_told g.L.Layout.format c.in_ok-database.database.id.0 (plan_value c.in_ok-plan.plan) (state g.S.Store c.existing_database.new.connection) (state g.S.Store c.hits.new.connection) (Ok c.in_ok-hits.hits) c.in_ok-hits.ensures.units clean2) c.deref.ensures.value c.in_ok-asked.ensures.asked (c.hits.ensures.call.same clean2 c.existing_database.ensures.idle) in
-    let numbers = c.in_ok-hits.hits.items in
-    let counted : c.len.result ≡ length numbers = search rules in
-    rw counted (found_ends g.L.Layout.format k.profile s0.now.trees c.in_ok-database.database.id.0 on.at.base on.at.held (name_bytes c.args.name.now) c.args.question.query.now c.args.question.first c.args.question.count bases c.in_ok-query.ensures.readable on.at.named
-    (query_value c.in_ok-query.query) c.in_ok-query.ensures.spelled (plan_value c.in_ok-plan.plan) c.in_ok-plan.ensures.planned numbers on.wanted.hits c.in_ok-asked.asked.now on.wanted.said
-    (map (λ hit. (hit.sysno, string_bytes hit.ident)) c.in_ok-shown.shown.items) (c.in_ok-shown.ensures.shown clean s0.now.trees on.wanted.shows))
+pub returns-in_err-query-clause-few : goal.returns-in_err-query-clause-few
+returns-in_err-query-clause-few g c =
+    let told : c.from_residual.result ≡ Err (query_refusal c.in_err-query.field-0.0) = search rules in
+    rw told (query_asked c.in_err-query.field-0.0)
 
-pub returns-clause-alone : goal.returns-clause-alone
-returns-clause-alone g c clean store content held =
-    let s0 = state g.S.Store c.args.connection.now in
-    let s1 = state g.S.Store c.existing_database.new.connection in
-    let clean2 : HasCleanDisk (state g.S.Store c.hits.new.connection) = omega (arith, c.show.ensures.crash.clean) in
-    let clean1 : HasCleanDisk s1 = omega (arith, clean2, c.hits.ensures.call.crash.clean) in
-    let still = still_holds g.L.Layout.format content s0 s1 (c.existing_database.ensures.same clean1) (c.in_ok-database.ensures.found clean1).1 store held in
-    let plan = plan_value c.in_ok-plan.plan in
-    let numbers = c.in_ok-hits.hits.items in
-    let asked = c.in_ok-asked.asked in
-    let shown = hits_asked g.L.Layout.format content s0 s1 (state g.S.Store c.hits.new.connection) still c.in_ok-database.database.id.0 plan c.args.question.first c.args.question.count numbers _ asked (hits_told g.L.Layout.format c.in_ok-database.database.id.0 (plan_value c.in_ok-plan.plan) (state g.S.Store c.existing_database.new.connection) (state g.S.Store c.hits.new.connection) (Ok c.in_ok-hits.hits) c.in_ok-hits.ensures.units clean2 still.store content still.held)
-    c.deref.ensures.value c.in_ok-asked.ensures.asked (c.hits.ensures.call.same clean2 c.existing_database.ensures.idle) in
-    let counted : c.len.result ≡ length numbers = search rules in
-    rw counted (
-      c.in_ok-database.database.id.0,
-      pos c.in_ok-database.database.last,
-      c.in_ok-database.ensures.row clean1 store,
-      hits_answered (posted content c.in_ok-database.database.id.0) (has_ident_in s0.now.trees c.in_ok-database.database.id.0) c.args.profile.now c.args.question.query.now c.args.question.first c.args.question.count (query_value c.in_ok-query.query) c.in_ok-query.ensures.spelled
-          plan c.in_ok-plan.ensures.planned numbers shown.hits asked.now shown.said (map (λ hit. (hit.sysno, string_bytes hit.ident)) c.in_ok-shown.shown.items) (c.in_ok-shown.ensures.shown clean s0.now.trees shown.shows),
-    )
+pub returns-in_err-plan-clause-few : goal.returns-in_err-plan-clause-few
+returns-in_err-plan-clause-few g c =
+    let told : c.from_residual-in_err-plan.result ≡ Err (query_refusal c.in_err-plan.field-0.0) = search rules in
+    rw told (query_asked c.in_err-plan.field-0.0)
+
+pub returns-in_err-hits-clause-few : goal.returns-in_err-hits-clause-few
+returns-in_err-hits-clause-few g c =
+    let told : c.from_residual-in_err-hits.result ≡ Err (register_refusal c.in_err-hits.field-0.0) = search rules in
+    rw told (fault_asked c.in_err-hits.field-0.0)
+
+pub returns-in_err-shown-clause-few : goal.returns-in_err-shown-clause-few
+returns-in_err-shown-clause-few g c =
+    let told : c.from_residual-in_err-shown.result ≡ Err (register_refusal c.in_err-shown.field-0.0) = search rules in
+    rw told (fault_asked c.in_err-shown.field-0.0)
 
 pub returns-clause-work : goal.returns-clause-work
-returns-clause-work g c clean store content held =
-    let s0 = state g.S.Store c.args.connection.now in
-    let s1 = state g.S.Store c.existing_database.new.connection in
-    let clean2 : HasCleanDisk (state g.S.Store c.hits.new.connection) = omega (arith, c.show.ensures.crash.clean) in
-    let clean1 : HasCleanDisk s1 = omega (arith, clean2, c.hits.ensures.call.crash.clean) in
-    let still = still_holds g.L.Layout.format content s0 s1 (c.existing_database.ensures.same clean1) (c.in_ok-database.ensures.found clean1).1 store held in
-    let counted = c.in_ok-hits.ensures.work clean2 still.store content still.held in (
-      plan_value c.in_ok-plan.plan,
-      (query_value c.in_ok-query.query, c.in_ok-query.ensures.spelled, c.in_ok-plan.ensures.planned),
-      (c.in_ok-database.database.id.0, pos c.in_ok-database.database.last, c.in_ok-database.ensures.row clean1 store, counted.0, counted.1, counted.2, counted.3, counted.4),
-    )
+returns-clause-work g c = (
+  λ none. c.hits.ensures.no_work none,
+  λ clean store content held.
+      let looked : ReadsAlone g.S.Store c.args.connection.now c.existing_database.new.connection (Ok c.in_ok-database.database) =
+      record { idle = c.existing_database.ensures.idle; same = c.existing_database.ensures.same; opened = c.in_ok-database.ensures.found; crash = c.existing_database.ensures.crash; caused = λ clean store. tt } in
+      let mid = state g.S.Store c.existing_database.new.connection in
+      let clean2 = clean_before (state g.S.Store c.hits.new.connection) (state g.S.Store c.show.new.connection) c.show.ensures.call.crash clean in
+      let clean1 = clean_before mid (state g.S.Store c.hits.new.connection) c.hits.ensures.call.crash clean2 in
+      let at = shown_still g.S.Store c.args.connection.now c.existing_database.new.connection c.in_ok-database.database looked clean1 store in
+      let counted = c.in_ok-hits.ensures.work clean2 at.0 content (subst (λ (t : Trees). holds_in g.L.Layout.format t content) (sym at.1) held) in (
+        plan_value c.in_ok-plan.plan,
+        (query_value c.in_ok-query.query, c.in_ok-query.ensures.spelled, c.in_ok-plan.ensures.planned),
+        (c.in_ok-database.database.id.0, pos c.in_ok-database.database.last, c.in_ok-database.ensures.row clean1 store, counted.0, counted.1, counted.2, counted.3, counted.4),
+      ),
+)
 
--- ---- on any tables
+-- ---- what it tells of any tables
 
 pub returns-in_err-query-clause-tables : goal.returns-in_err-query-clause-tables
 returns-in_err-query-clause-tables g c clean store =
@@ -289,7 +152,8 @@ returns-in_err-database-clause-tables g c clean store =
     let trees = (state g.S.Store c.args.connection.now).now.trees in
     let Tells = tells g.L.Layout.format c.args.profile.now c.args.question trees in
     let name = name_bytes c.args.name.now in
-    rw told (asked_over Tells name (hides g.L.Layout.format c.args.profile.now (name_bytes c.args.name.now) c.args.question) trees c.args.question.query.now c.in_ok-query.ensures.readable (Err refusal) (misses_hidden Tells name (hides g.L.Layout.format c.args.profile.now (name_bytes c.args.name.now) c.args.question) trees (λ hidden. (c.in_ok-query.ensures.readable, inl hidden)) refusal (c.in_err-database.ensures.misses clean store)))
+    let Hides = hides g.L.Layout.format c.args.profile.now name c.args.question in
+    rw told (asked_over Tells name Hides trees c.args.question.query.now c.in_ok-query.ensures.readable (Err refusal) (misses_hidden Tells name Hides trees (λ hidden. (c.in_ok-query.ensures.readable, inl hidden)) refusal (c.in_err-database.ensures.misses clean store)))
 
 pub returns-in_err-plan-clause-tables : goal.returns-in_err-plan-clause-tables
 returns-in_err-plan-clause-tables g c clean store =
@@ -303,96 +167,104 @@ returns-in_err-plan-clause-tables g c clean store =
 
 pub returns-in_err-hits-clause-tables : goal.returns-in_err-hits-clause-tables
 returns-in_err-hits-clause-tables g c clean store =
+    let looked : ReadsAlone g.S.Store c.args.connection.now c.existing_database.new.connection (Ok c.in_ok-database.database) =
+    record { idle = c.existing_database.ensures.idle; same = c.existing_database.ensures.same; opened = c.in_ok-database.ensures.found; crash = c.existing_database.ensures.crash; caused = λ clean store. tt } in
+    let old = state g.S.Store c.args.connection.now in
+    let mid = state g.S.Store c.existing_database.new.connection in
     let format = g.L.Layout.format in
-    let s0 = state g.S.Store c.args.connection.now in
-    let s1 = state g.S.Store c.existing_database.new.connection in
-    let clean1 : HasCleanDisk s1 = omega (arith, c.hits.ensures.call.crash.clean) in
-    let trees = s0.now.trees in
-    let at = still_shows s0 s1 trees (c.existing_database.ensures.same clean1) (λ _. (store, refl)) (c.in_ok-database.ensures.found clean1).1 in
+    let new = state g.S.Store c.hits.new.connection in
+    let trees = old.now.trees in
     let database = c.in_ok-database.database in
     let plan = plan_value c.in_ok-plan.plan in
     let question = c.args.question in
     let text = question.query.now in
     let profile = c.args.profile.now in
+    let name = name_bytes c.args.name.now in
+    let first = clean_before mid new c.hits.ensures.call.crash clean in
     let fault = c.in_err-hits.field-0.0 in
     let told : c.from_residual-in_err-hits.result ≡ Err (register_refusal fault) = search rules in
-    let hidden = c.in_err-hits.ensures.units clean at.0 in
-    rw told (hidden_read text c.in_ok-query.ensures.readable (FindOver format profile (name_bytes c.args.name.now) text question.first question.count) (HidesPlan format profile text question.first question.count) (name_bytes c.args.name.now) trees
-    database.id.0 (pos database.last) (c.in_ok-database.ensures.row clean1 store) (register_refusal fault)
+    let hidden = told_back g.S.Store c.args.connection.now c.existing_database.new.connection database looked (HidesHits format plan database) (FindsHits format plan database) new c.hits.ensures.call.crash (Err fault) c.in_err-hits.ensures.units clean store in
+    rw told (hidden_read text c.in_ok-query.ensures.readable (FindOver format profile name text question.first question.count) (HidesPlan format profile text question.first question.count) name trees
+    database.id.0 (pos database.last) (c.in_ok-database.ensures.row first store) (register_refusal fault)
     (fault_or_damage (HidesPlan format profile text question.first question.count trees database.id.0) fault
-    (λ is. (plan, (query_value c.in_ok-query.query, c.in_ok-query.ensures.spelled, c.in_ok-plan.ensures.planned), inl (subst (λ (t : Trees). PlanHides format t database.id.0 plan) at.1 (hidden.0 is))))))
+    (λ is. (plan, (query_value c.in_ok-query.query, c.in_ok-query.ensures.spelled, c.in_ok-plan.ensures.planned), inl (hidden is)))))
 
 pub returns-in_err-asked-clause-tables : goal.returns-in_err-asked-clause-tables
 returns-in_err-asked-clause-tables g c clean store =
-    let s1 = state g.S.Store c.existing_database.new.connection in
-    let clean1 : HasCleanDisk s1 = omega (arith, c.hits.ensures.call.crash.clean) in
-    let refusal = c.in_err-asked.field-0.0 in
-    let told : c.from_residual-in_err-asked.result ≡ Err refusal = search rules in
-    let s0 = state g.S.Store c.args.connection.now in
-    let trees = s0.now.trees in
-    let at = still_shows s0 s1 trees (c.existing_database.ensures.same clean1) (λ _. (store, refl)) (c.in_ok-database.ensures.found clean1).1 in
+    let looked : ReadsAlone g.S.Store c.args.connection.now c.existing_database.new.connection (Ok c.in_ok-database.database) =
+    record { idle = c.existing_database.ensures.idle; same = c.existing_database.ensures.same; opened = c.in_ok-database.ensures.found; crash = c.existing_database.ensures.crash; caused = λ clean store. tt } in
+    let old = state g.S.Store c.args.connection.now in
+    let mid = state g.S.Store c.existing_database.new.connection in
+    let format = g.L.Layout.format in
+    let new = state g.S.Store c.hits.new.connection in
+    let trees = old.now.trees in
     let database = c.in_ok-database.database in
     let plan = plan_value c.in_ok-plan.plan in
-    let Found = PlanFinds g.L.Layout.format trees database.id.0 in
-    let finds = subst (λ (t : Trees). PlanFinds g.L.Layout.format t database.id.0 plan c.in_ok-hits.hits.items) at.1 (c.in_ok-hits.ensures.units clean at.0) in
     let question = c.args.question in
+    let name = name_bytes c.args.name.now in
+    let first = clean_before mid new c.hits.ensures.call.crash clean in
+    let refusal = c.in_err-asked.field-0.0 in
+    let told : c.from_residual-in_err-asked.result ≡ Err refusal = search rules in
+    let finds = told_back g.S.Store c.args.connection.now c.existing_database.new.connection database looked (HidesHits format plan database) (FindsHits format plan database) new c.hits.ensures.call.crash (Ok c.in_ok-hits.hits) c.in_ok-hits.ensures.units clean store in
     let Asked = λ (wanted : List ℕ) (asked : Bor (List ℕ)). asked.now ≡ wanted in
     let met = subst (λ (l : List ℕ). Meets Asked (asked_of l question.first question.count) (Err refusal)) c.deref.ensures.value c.in_err-asked.ensures.asked in
-    rw told (or_fails (tells g.L.Layout.format c.args.profile.now question trees) (name_bytes c.args.name.now) (hides g.L.Layout.format c.args.profile.now (name_bytes c.args.name.now) c.args.question) trees question.query.now c.in_ok-query.ensures.readable database.id.0 (pos database.last) (c.in_ok-database.ensures.row clean1 store) refusal
-    (past_found c.args.profile.now question.query.now (query_value c.in_ok-query.query) c.in_ok-query.ensures.spelled (has_ident_in trees database.id.0) Found question.first question.count
+    rw told (or_fails (tells format c.args.profile.now question trees) name (hides format c.args.profile.now name question) trees question.query.now c.in_ok-query.ensures.readable database.id.0 (pos database.last) (c.in_ok-database.ensures.row first store) refusal
+    (past_found c.args.profile.now question.query.now (query_value c.in_ok-query.query) c.in_ok-query.ensures.spelled (has_ident_in trees database.id.0) (PlanFinds format trees database.id.0) question.first question.count
     plan c.in_ok-plan.ensures.planned c.in_ok-hits.hits.items finds Asked refusal met))
 
 pub returns-in_err-shown-clause-tables : goal.returns-in_err-shown-clause-tables
 returns-in_err-shown-clause-tables g c clean store =
+    let looked : ReadsAlone g.S.Store c.args.connection.now c.existing_database.new.connection (Ok c.in_ok-database.database) =
+    record { idle = c.existing_database.ensures.idle; same = c.existing_database.ensures.same; opened = c.in_ok-database.ensures.found; crash = c.existing_database.ensures.crash; caused = λ clean store. tt } in
+    let old = state g.S.Store c.args.connection.now in
+    let mid = state g.S.Store c.existing_database.new.connection in
     let format = g.L.Layout.format in
-    let s0 = state g.S.Store c.args.connection.now in
-    let s1 = state g.S.Store c.existing_database.new.connection in
-    let s2 = state g.S.Store c.hits.new.connection in
-    let clean2 : HasCleanDisk s2 = omega (arith, c.show.ensures.crash.clean) in
-    let clean1 : HasCleanDisk s1 = omega (arith, clean2, c.hits.ensures.call.crash.clean) in
-    let trees = s0.now.trees in
-    let found = still_shows s0 s1 trees (c.existing_database.ensures.same clean1) (λ _. (store, refl)) in
-    let shows = still_shows s1 s2 trees (c.hits.ensures.call.same clean2 c.existing_database.ensures.idle) found in
-    let at = found (c.in_ok-database.ensures.found clean1).1 in
+    let late = state g.S.Store c.hits.new.connection in
+    let new = state g.S.Store c.show.new.connection in
+    let trees = old.now.trees in
     let database = c.in_ok-database.database in
     let plan = plan_value c.in_ok-plan.plan in
     let question = c.args.question in
     let text = question.query.now in
     let profile = c.args.profile.now in
+    let name = name_bytes c.args.name.now in
     let numbers = c.in_ok-hits.hits.items in
     let asked = c.in_ok-asked.asked in
-    let refusal = c.in_err-shown.field-0.0 in
-    let told : c.from_residual-in_err-shown.result ≡ Err refusal = search rules in
-    let finds = subst (λ (t : Trees). PlanFinds format t database.id.0 plan numbers) at.1 (c.in_ok-hits.ensures.units clean2 at.0) in
+    let crash = quiet_then mid late new c.hits.ensures.call.crash c.show.ensures.call.crash in
+    let fault = c.in_err-shown.field-0.0 in
+    let told : c.from_residual-in_err-shown.result ≡ Err (register_refusal fault) = search rules in
+    let finds = told_back g.S.Store c.args.connection.now c.existing_database.new.connection database looked (HidesHits format plan database) (FindsHits format plan database) late c.hits.ensures.call.crash (Ok c.in_ok-hits.hits) c.in_ok-hits.ensures.units (clean_before late new c.show.ensures.call.crash clean) store in
+    let later = tells_later (HidesShown asked.now database) (Shows asked.now database) mid late new (as_read mid late c.in_ok-hits.hits c.in_ok-hits.ensures.call) c.show.ensures.call.crash (Err fault) c.in_err-shown.ensures.told in
+    let hidden = told_back g.S.Store c.args.connection.now c.existing_database.new.connection database looked (HidesShown asked.now database) (Shows asked.now database) new crash (Err fault) later clean store in
     let Asked = λ (wanted : List ℕ) (asked : Bor (List ℕ)). asked.now ≡ wanted in
     let met = subst (λ (l : List ℕ). Meets Asked (asked_of l question.first question.count) (Ok asked)) c.deref.ensures.value c.in_ok-asked.ensures.asked in
     let said = met_view (λ (x : Bor (List ℕ)). x.now) (asked_of numbers question.first question.count) asked met in
-    let few = few_hidden refusal ((n : ℕ) → Has asked.now n → n < 2 ^ 63) (HidesOne trees database.id.0 asked.now) c.in_err-shown.ensures.few (c.in_err-shown.ensures.refused clean trees shows) in
-    rw told (hidden_read text c.in_ok-query.ensures.readable (FindOver format profile (name_bytes c.args.name.now) text question.first question.count) (HidesPlan format profile text question.first question.count) (name_bytes c.args.name.now) trees
-    database.id.0 (pos database.last) (c.in_ok-database.ensures.row clean1 store) refusal (elim few [
-      | inl failed ↦ inl failed
-      | inr damaged ↦ inr (damaged.0, (plan, (query_value c.in_ok-query.query, c.in_ok-query.ensures.spelled, c.in_ok-plan.ensures.planned), inr (numbers, asked.now, finds, said, damaged.1)))
-    ]))
+    rw told (hidden_read text c.in_ok-query.ensures.readable (FindOver format profile name text question.first question.count) (HidesPlan format profile text question.first question.count) name trees
+    database.id.0 (pos database.last) (c.in_ok-database.ensures.row (clean_before mid new crash clean) store) (register_refusal fault)
+    (fault_or_damage (HidesPlan format profile text question.first question.count trees database.id.0) fault
+    (λ is. (plan, (query_value c.in_ok-query.query, c.in_ok-query.ensures.spelled, c.in_ok-plan.ensures.planned), inr (numbers, asked.now, finds, said, hidden is)))))
 
 pub returns-clause-tables : goal.returns-clause-tables
 returns-clause-tables g c clean store =
-    let s0 = state g.S.Store c.args.connection.now in
-    let s1 = state g.S.Store c.existing_database.new.connection in
-    let s2 = state g.S.Store c.hits.new.connection in
-    let clean2 : HasCleanDisk s2 = omega (arith, c.show.ensures.crash.clean) in
-    let clean1 : HasCleanDisk s1 = omega (arith, clean2, c.hits.ensures.call.crash.clean) in
-    let trees = s0.now.trees in
-    let found = still_shows s0 s1 trees (c.existing_database.ensures.same clean1) (λ _. (store, refl)) in
-    let shows = still_shows s1 s2 trees (c.hits.ensures.call.same clean2 c.existing_database.ensures.idle) found in
-    let at = found (c.in_ok-database.ensures.found clean1).1 in
+    let looked : ReadsAlone g.S.Store c.args.connection.now c.existing_database.new.connection (Ok c.in_ok-database.database) =
+    record { idle = c.existing_database.ensures.idle; same = c.existing_database.ensures.same; opened = c.in_ok-database.ensures.found; crash = c.existing_database.ensures.crash; caused = λ clean store. tt } in
+    let old = state g.S.Store c.args.connection.now in
+    let mid = state g.S.Store c.existing_database.new.connection in
+    let format = g.L.Layout.format in
+    let late = state g.S.Store c.hits.new.connection in
+    let new = state g.S.Store c.show.new.connection in
+    let trees = old.now.trees in
     let database = c.in_ok-database.database in
     let plan = plan_value c.in_ok-plan.plan in
-    let Found = PlanFinds g.L.Layout.format trees database.id.0 in
-    let finds = subst (λ (t : Trees). PlanFinds g.L.Layout.format t database.id.0 plan c.in_ok-hits.hits.items) at.1 (c.in_ok-hits.ensures.units clean2 at.0) in
     let question = c.args.question in
     let text = question.query.now in
     let numbers = c.in_ok-hits.hits.items in
     let asked = c.in_ok-asked.asked in
+    let shown = c.in_ok-shown.shown in
+    let crash = quiet_then mid late new c.hits.ensures.call.crash c.show.ensures.call.crash in
+    let finds = told_back g.S.Store c.args.connection.now c.existing_database.new.connection database looked (HidesHits format plan database) (FindsHits format plan database) late c.hits.ensures.call.crash (Ok c.in_ok-hits.hits) c.in_ok-hits.ensures.units (clean_before late new c.show.ensures.call.crash clean) store in
+    let later = tells_later (HidesShown asked.now database) (Shows asked.now database) mid late new (as_read mid late c.in_ok-hits.hits c.in_ok-hits.ensures.call) c.show.ensures.call.crash (Ok shown) c.in_ok-shown.ensures.told in
+    let shows = told_back g.S.Store c.args.connection.now c.existing_database.new.connection database looked (HidesShown asked.now database) (Shows asked.now database) new crash (Ok shown) later clean store in
     let Asked = λ (wanted : List ℕ) (asked : Bor (List ℕ)). asked.now ≡ wanted in
     let met = subst (λ (l : List ℕ). Meets Asked (asked_of l question.first question.count) (Ok asked)) c.deref.ensures.value c.in_ok-asked.ensures.asked in
     let said = met_view (λ (x : Bor (List ℕ)). x.now) (asked_of numbers question.first question.count) asked met in
@@ -402,8 +274,8 @@ returns-clause-tables g c clean store =
       inr (
         database.id.0,
         pos database.last,
-        c.in_ok-database.ensures.row clean1 store,
-        numbers_found c.args.profile.now text (query_value c.in_ok-query.query) c.in_ok-query.ensures.spelled (has_ident_in trees database.id.0) Found question.first question.count
-            plan c.in_ok-plan.ensures.planned numbers finds asked.now said (map (λ hit. (hit.sysno, string_bytes hit.ident)) c.in_ok-shown.shown.items) (c.in_ok-shown.ensures.shown clean trees shows),
+        c.in_ok-database.ensures.row (clean_before mid new crash clean) store,
+        numbers_found c.args.profile.now text (query_value c.in_ok-query.query) c.in_ok-query.ensures.spelled (has_ident_in trees database.id.0) (PlanFinds format trees database.id.0) question.first question.count
+            plan c.in_ok-plan.ensures.planned numbers finds asked.now said (map (λ hit. (hit.sysno, string_bytes hit.ident)) shown.items) shows,
       ),
     )))

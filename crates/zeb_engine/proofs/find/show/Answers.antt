@@ -1,9 +1,7 @@
-use Rattle.zeb_engine.proofs.Cited.{rules, ◌≡◌, ◌<◌, ◌^◌, ◌∙◌, ◌++◌, ◌∷◌, [], ℕ, List, map, string_bytes, Option, Result, Err, String, arith, ap, get_or, inr, refl, subst, sym, take, pos, ◌+◌, Global, state, HasCleanDisk, Trees, IsIdentOf, AreReadableIdents, RegFault, map-append, has_ident_in, Hit, HidesOne, AreShown, register_refusal, take_whole}
-use Rattle.zeb_register.specs.declared.RegFault.TheVariants as register
-use Rattle.zeb_engine.proofs.ListedDatabases.{fault_or_damage}
-use Rattle.zeb_engine.proofs.Showing.{hidden_shown, ident_stored, none_shown, shown_more, still_shows}
-use Rattle.zeb_engine.proofs.StoreCauses.{LeavesAll, fault_after}
-use Rattle.zeb_engine.proofs.OverTables.{fault_few}
+use Rattle.zeb_engine.proofs.Cited.{rules, ◌≡◌, ◌<◌, ◌^◌, ◌∙◌, ◌++◌, ◌∷◌, [], ℕ, List, Vec, map, string_bytes, Option, Err, String, arith, ap, get_or, refl, subst, sym, take, pos, ◌+◌, Global, state, Trees, Has, clean_before, IsIdentOf, AreReadableIdents, map-append, has_ident_in, Hit, HidesOne, AreShown, take_whole}
+use Rattle.zeb_search.proofs.ReadLemmas.{accepted, one_read, read_then, still_store, still_trees}
+use Rattle.zeb_search.proofs.ToldLemmas.{tells_later, tells_refused, told_refused}
+use Rattle.zeb_engine.proofs.Showing.{hidden_shown, ident_stored, none_shown, shown_more}
 use Rattle.zeb_engine.proofs.find.show.Goals as goal
 
 abbrev told : Hit → ℕ × List ℕ
@@ -14,69 +12,65 @@ loop-number-preserved g c =
     let old = state g.S.Store c.args.connection.now in
     let now = state g.S.Store c.loop-number.connection in
     let new = state g.S.Store c.ident_of.new.conn in
+    let db = c.args.database.0 in
+    let numbers = c.args.numbers.now in
     let index = c.loop-number.number-index in
+    let number = get_or numbers index 0 in
+    let read = c.loop-number.invariant.read in
     record {
-      idle = search rules;
       count = search rules;
       room = search rules;
-      crash = search rules;
-      same = search rules;
-      open_still = λ clean was. (c.in_ok-ident.ensures.call.ok clean).0.is_open;
-      shown = λ clean trees shows.
-          let first : HasCleanDisk now = omega (arith, c.ident_of.ensures.call.crash.clean) in
-          let opened = (c.in_ok-ident.ensures.call.ok clean).0.was_open in
-          let at = still_shows old now trees (c.loop-number.invariant.same first) shows opened in
-          let value = ident_stored trees c.args.database.0 (get_or c.args.numbers.now index 0) c.in_ok-ident.field-0 c.in-Some.ident
-          (λ less. subst (λ t. IsIdentOf t c.args.database.0 (pos (get_or c.args.numbers.now index 0)) c.in_ok-ident.field-0) at.1 (c.in_ok-ident.ensures.value clean at.0 less)) c.in_ok-ident.ensures.large c.in-Some.is in
-          let more = shown_more trees c.args.database.0 c.args.numbers.now index (get_or c.args.numbers.now index 0) (map told c.loop-number.shown.items) c.in-Some.ident c.loop-number-test.true refl value (c.loop-number.invariant.shown first trees shows) in
-          let all : map told c.push_reserved.new.self.items ≡ map told c.loop-number.shown.items ++ told (record { sysno = get_or c.args.numbers.now index 0; ident = c.in-Some.ident }) ∷ [] =
-          ap (map told) c.push_reserved.ensures.items ∙ map-append told c.loop-number.shown.items (record { sysno = get_or c.args.numbers.now index 0; ident = c.in-Some.ident } ∷ []) in
-          subst (AreShown (has_ident_in trees c.args.database.0) (take (index + 1) c.args.numbers.now)) (sym all) more;
+      read = read_then old now new read (one_read now new c.in_ok-ident.field-0 c.in_ok-ident.ensures.call);
+      told = λ clean store.
+          let first = clean_before now new c.ident_of.ensures.call.crash clean in
+          let value = ident_stored old.now.trees db number c.in_ok-ident.field-0 c.in-Some.ident
+          (λ less. subst (λ t. IsIdentOf t db (pos number) c.in_ok-ident.field-0) (still_trees old now read first) (c.in_ok-ident.ensures.value clean (still_store old now read first store) less)) c.in_ok-ident.ensures.large c.in-Some.is in
+          let more = shown_more old.now.trees db numbers index number (map told c.loop-number.shown.items) c.in-Some.ident c.loop-number-test.true refl value (c.loop-number.invariant.told first store) in
+          let all : map told c.push_reserved.new.self.items ≡ map told c.loop-number.shown.items ++ told (record { sysno = number; ident = c.in-Some.ident }) ∷ [] =
+          ap (map told) c.push_reserved.ensures.items ∙ map-append told c.loop-number.shown.items (record { sysno = number; ident = c.in-Some.ident } ∷ []) in
+          subst (AreShown (has_ident_in old.now.trees db) (take (index + 1) numbers)) (sym all) more;
     }
 
-pub returns-clause-shown : goal.returns-clause-shown
-returns-clause-shown g c clean trees shows =
+pub returns-clause-told : goal.returns-clause-told
+returns-clause-told g c clean store =
     let whole = take_whole c.args.numbers.now c.loop-number.number-index (omega (arith, c.loop-number-test.false)) in
-    subst (λ numbers. AreShown (has_ident_in trees c.args.database.0) numbers (map told c.loop-number.shown.items)) whole (c.loop-number.invariant.shown clean trees shows)
+    subst (λ numbers. AreShown (has_ident_in (state g.S.Store c.args.connection.now).now.trees c.args.database.0) numbers (map told c.loop-number.shown.items)) whole (c.loop-number.invariant.told clean store)
 
-pub returns-in_default-clause-refused : goal.returns-in_default-clause-refused
-returns-in_default-clause-refused g c clean trees shows small =
+pub returns-in_default-clause-call : goal.returns-in_default-clause-call
+returns-in_default-clause-call g c =
     let old = state g.S.Store c.args.connection.now in
     let now = state g.S.Store c.loop-number.connection in
+    let new = state g.S.Store c.ident_of.new.conn in
+    accepted old new _ (read_then old now new c.loop-number.invariant.read (one_read now new c.in_ok-ident.field-0 c.in_ok-ident.ensures.call))
+
+pub returns-in_default-clause-told : goal.returns-in_default-clause-told
+returns-in_default-clause-told g c clean store =
+    let old = state g.S.Store c.args.connection.now in
+    let now = state g.S.Store c.loop-number.connection in
+    let new = state g.S.Store c.ident_of.new.conn in
+    let db = c.args.database.0 in
+    let numbers = c.args.numbers.now in
     let index = c.loop-number.number-index in
-    let first : HasCleanDisk now = omega (arith, c.ident_of.ensures.call.crash.clean) in
-    let opened = (c.in_ok-ident.ensures.call.ok clean).0.was_open in
-    let at = still_shows old now trees (c.loop-number.invariant.same first) shows opened in
-    let value : get_or c.args.numbers.now index 0 < 2 ^ 63 → IsIdentOf trees c.args.database.0 (pos (get_or c.args.numbers.now index 0)) c.in_ok-ident.field-0 = λ less. subst (λ t. IsIdentOf t c.args.database.0 (pos (get_or c.args.numbers.now index 0)) c.in_ok-ident.field-0) at.1 (c.in_ok-ident.ensures.value clean at.0 less) in
-    inr (refl, none_shown trees c.args.database.0 c.args.numbers.now index (get_or c.args.numbers.now index 0) c.in_ok-ident.field-0 c.loop-number-test.true refl small value c.in_default.is)
+    let number = get_or numbers index 0 in
+    let read = c.loop-number.invariant.read in
+    let first = clean_before now new c.ident_of.ensures.call.crash clean in
+    let value : number < 2 ^ 63 → IsIdentOf old.now.trees db (pos number) c.in_ok-ident.field-0 =
+    λ less. subst (λ t. IsIdentOf t db (pos number) c.in_ok-ident.field-0) (still_trees old now read first) (c.in_ok-ident.ensures.value clean (still_store old now read first store) less) in
+    (λ is small. none_shown old.now.trees db numbers index number c.in_ok-ident.field-0 c.loop-number-test.true refl small value c.in_default.is, λ is. absurd cc)
 
-pub returns-in_err-ident-clause-refused : goal.returns-in_err-ident-clause-refused
-returns-in_err-ident-clause-refused g c clean trees shows small =
+pub returns-in_err-ident-clause-told : goal.returns-in_err-ident-clause-told
+returns-in_err-ident-clause-told g c =
     let old = state g.S.Store c.args.connection.now in
     let now = state g.S.Store c.loop-number.connection in
+    let new = state g.S.Store c.ident_of.new.conn in
+    let db = c.args.database.0 in
+    let numbers = c.args.numbers.now in
     let index = c.loop-number.number-index in
-    let number = get_or c.args.numbers.now index 0 in
-    let first : HasCleanDisk now = omega (arith, c.ident_of.ensures.call.crash.clean) in
-    let fault = c.in_err-ident.field-0.0 in
-    let told : c.from_residual-in_err-ident.result ≡ Err (register_refusal fault) = search rules in
-    rw told (fault_or_damage (HidesOne trees c.args.database.0 c.args.numbers.now) fault (λ is.
-    let damaged : ◌≡◌ {A = Result (Option (String Global)) RegFault} (Err fault) (Err register.Damaged) = ap Err is in
-    let at = still_shows old now trees (c.loop-number.invariant.same first) shows (c.in_err-ident.ensures.opened clean damaged) in
-    hidden_shown trees c.args.database.0 c.args.numbers.now index number c.loop-number-test.true refl
-    (subst (λ (t : Trees). ¬ AreReadableIdents t c.args.database.0 (pos number)) at.1 (c.in_err-ident.ensures.honest clean at.0 damaged))))
-
-pub returns-in_err-ident-clause-caused : goal.returns-in_err-ident-clause-caused
-returns-in_err-ident-clause-caused g c clean =
-    let old = state g.S.Store c.args.connection.now in
-    let now = state g.S.Store c.loop-number.connection in
-    let first : HasCleanDisk now = omega (arith, c.ident_of.ensures.call.crash.clean) in
-    let fault = c.in_err-ident.field-0.0 in
-    let told : c.from_residual-in_err-ident.result ≡ Err (register_refusal fault) = search rules in
-    let leaves : LeavesAll old now = record { survives = c.loop-number.invariant.crash; opened = c.loop-number.invariant.open_still first; nothing = c.loop-number.invariant.same first } in
-    rw told (fault_after old now (state g.S.Store c.ident_of.new.conn) leaves fault clean c.in_err-ident.ensures.refused)
-
-pub returns-in_err-ident-clause-few : goal.returns-in_err-ident-clause-few
-returns-in_err-ident-clause-few g c =
-    let fault = c.in_err-ident.field-0.0 in
-    let told : c.from_residual-in_err-ident.result ≡ Err (register_refusal fault) = search rules in
-    rw told (fault_few fault)
+    let number = get_or numbers index 0 in
+    let cause = c.in_err-ident.field-0.0 in
+    let told : c.from_residual-in_err-ident.result ≡ Err cause = search rules in
+    let Hides = λ (trees : Trees). ¬ AreReadableIdents trees db (pos number) in
+    let Any = λ (trees : Trees) (found : Option (String Global)). Unit {0} in
+    let tells = told_refused {A = Option (String Global)} Hides Any now new cause (Err cause) refl c.in_err-ident.ensures.honest c.in_err-ident.ensures.refused in
+    tells_refused Hides (λ trees. ((n : ℕ) → Has numbers n → n < 2 ^ 63) → HidesOne trees db numbers) Any (λ (trees : Trees) (shown : Vec Hit Global). AreShown (has_ident_in trees db) numbers (map (λ hit. (hit.sysno, string_bytes hit.ident)) shown.items)) old new cause c.from_residual-in_err-ident.result told
+    (λ _ _ hidden small. hidden_shown old.now.trees db numbers index number c.loop-number-test.true refl hidden) (tells_later Hides Any old now new c.loop-number.invariant.read c.ident_of.ensures.call.crash (Err cause) tells)

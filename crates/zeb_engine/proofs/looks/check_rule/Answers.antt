@@ -13,7 +13,7 @@ returns-then-ne-clause-look g c clean =
     let tested : c.ne.result ≡ not (bytes_eq c.as_str.result.now c.version.result.now) = search rules in
     let differs = texts_differ c.ne.result c.as_str.result.now c.version.result.now (string_bytes found) own tested c.if-ne.true (search rules) c.version.ensures in
     look_settles {X = Unit {0}} (λ trees version. KeepsText trees (codes "version") (string_bytes version)) (λ trees x. IsReadyToReindex own profile trees) RefusesVersion (RefusesReindex own profile) old (state g.S.Store c.kept_version.new.connection)
-    found (c.in_ok-version.ensures.look clean) (Err OldFormat) (λ store kept. ((string_bytes found, kept), other_text old store (codes "version") (string_bytes found) own kept differs, one_readable old store (codes "version") found kept))
+    found (c.in_ok-version.ensures.look clean) (Err OldFormat) (λ store is. absurd cc) (λ store kept. ((string_bytes found, kept), other_text old store (codes "version") (string_bytes found) own kept differs, one_readable old store (codes "version") found kept))
 
 pub returns-in_err-keeps_text-clause-look : goal.returns-in_err-keeps_text-clause-look
 returns-in_err-keeps_text-clause-look g c clean =
@@ -25,7 +25,7 @@ returns-in_err-keeps_text-clause-look g c clean =
     let trees = (state g.S.Store c.args.connection.now).now.trees in
     let why = c.in_err-keeps_text.field-0.0 in
     let told : c.from_residual-in_err-keeps_text.result ≡ Err why = search rules in
-    rw told (text_ends (state g.S.Store c.args.connection.now) (state g.S.Store c.kept_version.new.connection) (state g.S.Store c.keeps_text.new.connection) found (omega (arith, c.keeps_text.ensures.crash.clean)) c.in_ok-version.ensures.look
+    rw told (text_ends (state g.S.Store c.args.connection.now) (state g.S.Store c.kept_version.new.connection) (state g.S.Store c.keeps_text.new.connection) found c.kept_version.ensures.crash (omega (arith, c.keeps_text.ensures.crash.clean)) c.in_ok-version.ensures.look
     (codes "identifier") c.as_str-2.result.now (λ trees x. IsReadyToReindex own profile trees) (RefusesReindex own profile)
     why (λ kept is. pattern_as_rule own profile trees (subst (KeepsText trees (codes "version")) same kept) why is) (c.in_err-keeps_text.ensures.look clean))
 
@@ -42,7 +42,7 @@ returns-clause-look g c clean =
     let spelled : string_bytes c.in_ok-pattern.pattern ≡ pattern_text c.identifier_rule.result.now = search rules in
     let lent : text ≡ string_bytes c.in_ok-pattern.pattern = search rules in
     let pattern : option_map pattern_text (identifier_pattern profile) ≡ Some text = ap (option_map pattern_text) c.identifier_rule.ensures ∙ ap Some (sym (lent ∙ spelled)) in
-    text_settles (state g.S.Store c.args.connection.now) (state g.S.Store c.kept_version.new.connection) (state g.S.Store c.keeps_text.new.connection) found (omega (arith, c.keeps_text.ensures.crash.clean)) c.in_ok-version.ensures.look
+    text_settles (state g.S.Store c.args.connection.now) (state g.S.Store c.kept_version.new.connection) (state g.S.Store c.keeps_text.new.connection) found c.kept_version.ensures.crash (omega (arith, c.keeps_text.ensures.crash.clean)) c.in_ok-version.ensures.look
     (codes "identifier") text (λ trees x. IsReadyToReindex own profile trees) (RefusesReindex own profile)
-    c.in_ok-keeps_text.field-0 (c.in_ok-keeps_text.ensures.look clean) (Err IdentifierRuleChanged)
+    c.in_ok-keeps_text.field-0 (c.in_ok-keeps_text.ensures.look clean) (Err IdentifierRuleChanged) (λ store is. absurd cc)
     (λ kept tells. rule_differs own profile trees text pattern (subst (KeepsText trees (codes "version")) same kept) (subst (TellsText (codes "identifier") text trees) no tells))

@@ -11,7 +11,7 @@ returns-in-Some-clause-look g c clean =
     let was = c.in_ok-found.ensures.call.ok clean in
     let tested : c.eq.result ≡ bytes_eq c.as_str.result.now text = search rules in
     let spelled : c.as_str.result.now ≡ string_bytes found = search rules in
-    look_told (TellsText name text) (RefusesText name) name old (state g.S.Store c.meta_of.new.conn) (c.meta_of.ensures.call.same clean c.requires.idle) (Ok c.eq.result)
+    look_told (TellsText name text) (RefusesText name) name old (state g.S.Store c.meta_of.new.conn) (c.meta_of.ensures.call.same clean c.requires.idle) (Ok c.eq.result) (λ store. tt)
     (was.0.was_open, was.0.is_open) (λ store. tells_found old store name text c.in_ok-found.field-0 found c.in-Some.is (c.in_ok-found.ensures.value clean store) c.eq.result (tested ∙ ap (λ t. bytes_eq t text) spelled))
 
 pub returns-in-None-clause-look : goal.returns-in-None-clause-look
@@ -20,5 +20,5 @@ returns-in-None-clause-look g c clean =
     let name = c.args.name.now in
     let text = c.args.text.now in
     let was = c.in_ok-found.ensures.call.ok clean in
-    look_told (TellsText name text) (RefusesText name) name old (state g.S.Store c.meta_of.new.conn) (c.meta_of.ensures.call.same clean c.requires.idle) (Ok false)
+    look_told (TellsText name text) (RefusesText name) name old (state g.S.Store c.meta_of.new.conn) (c.meta_of.ensures.call.same clean c.requires.idle) (Ok false) (λ store. tt)
     (was.0.was_open, was.0.is_open) (λ store. tells_missing old.now.trees name text c.in_ok-found.field-0 c.in-None.is (c.in_ok-found.ensures.value clean store))

@@ -7,5 +7,5 @@ pub returns-in-None-clause-look : goal.returns-in-None-clause-look
 returns-in-None-clause-look g c clean =
     let old = state g.S.Store c.args.connection.now in
     let was = c.in_ok-version.ensures.call.ok clean in
-    look_told (λ trees version. KeepsText trees (codes "version") (string_bytes version)) RefusesVersion (codes "version") old (state g.S.Store c.meta_of.new.conn) (c.meta_of.ensures.call.same clean c.requires.idle) (Err NotInitialised)
+    look_told (λ trees version. KeepsText trees (codes "version") (string_bytes version)) RefusesVersion (codes "version") old (state g.S.Store c.meta_of.new.conn) (c.meta_of.ensures.call.same clean c.requires.idle) (Err NotInitialised) (λ store is. absurd cc)
     (was.0.was_open, was.0.is_open) (λ store. text_missing old.now.trees (codes "version") c.in_ok-version.field-0 c.in-None.is (c.in_ok-version.ensures.value clean store))

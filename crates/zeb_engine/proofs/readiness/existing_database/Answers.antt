@@ -3,6 +3,7 @@ use Rattle.zeb_register.specs.declared.RegFault.TheVariants as register
 use Rattle.zeb_register.specs.declared.catalog.Database.{Database}
 use Rattle.zeb_engine.proofs.ListedDatabases.{fault_misses, fault_meets, fault_fails_or, counted, row_named, none_named}
 use Rattle.zeb_engine.proofs.ReadyImages.{image_some}
+use Rattle.zeb_engine.proofs.ReadsInTurn.{fault_asked}
 use Rattle.zeb_engine.proofs.StoreCauses.{fault_caused}
 use Rattle.zeb_engine.proofs.readiness.existing_database.Goals as goal
 
@@ -86,3 +87,8 @@ returns-in_err-database-clause-caused g c clean store =
     rw told (fault_caused fault (λ is.
     let failed : ◌≡◌ {A = Result (Option Database) RegFault} (Err fault) (Err register.Store) = ap Err is in
     c.in_err-database.ensures.refused clean store failed))
+
+pub returns-in_err-database-clause-few : goal.returns-in_err-database-clause-few
+returns-in_err-database-clause-few g c =
+    let told : c.from_residual.result ≡ Err (register_refusal c.in_err-database.field-0.0) = search rules in
+    rw told (fault_asked c.in_err-database.field-0.0)

@@ -26,4 +26,8 @@ returns c = record {
     planned (is_structure _ _ (term_at 0 (codes "@foo") refl)) refl refl,
     planned (is_structure _ _ (under_at 0 6 (codes "1=4") (1, codes "4") refl (term_at 10 (codes "CAF" ++ 195 ∷ 137 ∷ []) refl))) refl refl,
   );
+  no_words = (
+    planned (is_structure _ _ (under_at 0 6 (codes "1=4") (1, codes "4") refl (under_at 10 16 (codes "6=3") (6, codes "3") refl (quoted_at 20 [])))) refl refl,
+    planned (is_structure _ _ (under_at 0 6 (codes "2=1") (2, codes "1") refl (quoted_at 10 []))) refl refl,
+  );
 }

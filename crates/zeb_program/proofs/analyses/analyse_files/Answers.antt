@@ -1,11 +1,11 @@
 use Rattle.std.proofs.Common.{◌≡◌, ◌⊎◌, ◌∙◌, Err, Ok, Some, ap, map, refl, rules, string_bytes, subst, sym}
 use Rattle.std.specs.Prelude.{IfErr}
-use Rattle.zeb_paths.specs.Walks.{GivesUnder, paths_left}
+use Rattle.zeb_paths.specs.Walks.{GivesUnder, IsFaultUntold, paths_left}
 use Rattle.zeb_program.specs.Inputs.{AreShort}
-use Rattle.zeb_program.specs.PrivateFaults.{IsUnread, fault_of}
+use Rattle.zeb_program.specs.PrivateFaults.{IsUnread, IsUnreadAt, fault_of}
 use Rattle.zeb_program.specs.declared.faults.Fault.TheVariants.{Memory}
 use Rattle.zeb_program.proofs.AnalysisLemmas.{all_read, begins, goes_on}
-use Rattle.zeb_program.proofs.ReaderLemmas.{Ends, GivesNext, content_fault, met_fault, met_refused, under_faults, under_files, under_start}
+use Rattle.zeb_program.proofs.ReaderLemmas.{Ends, GivesNext, content_fault, content_unread, met_fault, met_refused, under_faults, under_files, under_start, unread_faults}
 use Rattle.zeb_program.proofs.analyses.analyse_files.Goals as goal
 
 pub loop-file-init : goal.loop-file-init
@@ -48,6 +48,12 @@ returns-in_err-path-clause-under g c =
     let from : IfErr c.from_residual-in_err-path.result (λ given. IsUnread given × (given ≡ fault_of why)) = search rules in
     under_faults (map string_bytes c.args.named.now) why c.from_residual-in_err-path.result from (c.in_err-path.ensures.under (map string_bytes c.args.named.now) c.loop-file.invariant.under).0
 
+pub returns-in_err-path-clause-unread : goal.returns-in_err-path-clause-unread
+returns-in_err-path-clause-unread g c =
+    let why = c.in_err-path.field-0.0 in
+    let from : IfErr c.from_residual-in_err-path.result (λ given. IsUnread given × (given ≡ fault_of why)) = search rules in
+    unread_faults (g.P.Paths.tells c.args.paths.now) why c.from_residual-in_err-path.result from (subst (λ p. IsFaultUntold (g.P.Paths.tells p) why) c.loop-file.invariant.paths c.in_err-path.ensures.untold)
+
 pub returns-in_err-bytes-clause-under : goal.returns-in_err-bytes-clause-under
 returns-in_err-bytes-clause-under g c =
     let why = c.in_err-bytes.field-0.0 in
@@ -59,7 +65,7 @@ pub returns-in_err-bytes-clause-unread : goal.returns-in_err-bytes-clause-unread
 returns-in_err-bytes-clause-unread g c =
     let why = c.in_err-bytes.field-0.0 in
     let is : c.from_residual-in_err-bytes.result ≡ Err why = search rules in
-    subst (λ r. IfErr r IsUnread) (sym is) (content_fault c.in-Some.path _ why c.in_err-bytes.ensures).1
+    subst (λ r. IfErr r (IsUnreadAt (g.P.Paths.tells c.args.paths.now))) (sym is) (content_unread (g.P.Paths.tells c.args.paths.now) c.in-Some.path why c.in_err-bytes.ensures)
 
 -- a file that is told isn't given only where it is too long
 pub returns-in_err-bytes-clause-reason : goal.returns-in_err-bytes-clause-reason

@@ -19,11 +19,11 @@ returns-in_ok-render-in-Ok-clause-over g c =
     let old = state g.S.Store c.args.session.now.connection in
     let new = state g.S.Store c.command.new.self.connection in
     replied_over g.L.Layout.format (conditions (version_of g.L.Layout.format) c.args.session.now.profile c.args.session.now.limits) c.args.command.now old new _ _ _ (HasCleanDisk new) c.in-Ok.reply c.as_slice.result.now
-    c.in-Ok.ensures.step c.in-Ok.ensures.tables (c.as_slice.ensures.value ∙ c.in_ok-render-in-Ok.ensures) c.write.ensures.bytes
+    c.in-Ok.ensures.step c.in-Ok.ensures.tables c.in-Ok.ensures.lasts c.in-Ok.ensures.holds.0.durable (c.as_slice.ensures.value ∙ c.in_ok-render-in-Ok.ensures) c.write.ensures.bytes
 
 pub returns-in-Err-clause-over : goal.returns-in-Err-clause-over
 returns-in-Err-clause-over g c =
     let old = state g.S.Store c.args.session.now.connection in
     let new = state g.S.Store c.command.new.self.connection in
     refused_over g.L.Layout.format (conditions (version_of g.L.Layout.format) c.args.session.now.profile c.args.session.now.limits) c.args.command.now old new _ _ _ (HasCleanDisk new) c.in-Err.refusal c.refuse.result
-    c.in-Err.ensures.step c.in-Err.ensures.tables c.refuse.ensures.answer
+    c.in-Err.ensures.step c.in-Err.ensures.tables c.in-Err.ensures.lasts c.in-Err.ensures.holds.0.durable c.refuse.ensures.answer

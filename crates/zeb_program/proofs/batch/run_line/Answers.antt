@@ -8,7 +8,7 @@ use Rattle.zeb_program.specs.Answers.{bad_line, mark_line}
 use Rattle.zeb_program.specs.Says.{SaysText}
 use Rattle.zeb_program.specs.declared.lines.Line.TheVariants.{Remark, Command as Order, Path, Mark, Bad}
 use Rattle.zeb_program.proofs.AnswerLemmas.{Appends-nil}
-use Rattle.zeb_program.proofs.OverLemmas.{said_over, still}
+use Rattle.zeb_program.proofs.OverLemmas.{alone, said_over}
 use Rattle.zeb_program.proofs.PathLemmas.{path_line}
 use Rattle.zeb_program.proofs.ServingLemmas.{bad_line_answer, mark_answer, ordered_line, remark_line}
 use Rattle.zeb_program.proofs.batch.run_line.Goals as goal
@@ -45,7 +45,7 @@ returns-in-Bad-clause-answer g c =
 
 pub returns-in-Remark-clause-over : goal.returns-in-Remark-clause-over
 returns-in-Remark-clause-over g c = λ _ _.
-    ([], (Remark, inl (c.utf8.line, subst (SaysText c.args.line.now) c.in-Remark.is c.in_ok-read.ensures), (refl, refl, still (state g.S.Store c.args.session.now.connection))), Appends-nil (g.W.Write.contents c.args.output.now.writer))
+    ([], (Remark, inl (c.utf8.line, subst (SaysText c.args.line.now) c.in-Remark.is c.in_ok-read.ensures), (refl, refl, alone (state g.S.Store c.args.session.now.connection))), Appends-nil (g.W.Write.contents c.args.output.now.writer))
 
 pub returns-in-Command-clause-over : goal.returns-in-Command-clause-over
 returns-in-Command-clause-over g c =
@@ -63,7 +63,7 @@ returns-in-Path-clause-over g c =
 
 pub returns-in-Bad-clause-over : goal.returns-in-Bad-clause-over
 returns-in-Bad-clause-over g c = λ sound _.
-    (bad_line c.args.number, (Bad, inl (c.utf8.line, subst (SaysText c.args.line.now) c.in-Bad.is c.in_ok-read.ensures), (refl, c.refuse_line.ensures.status, still (state g.S.Store c.args.session.now.connection))), c.refuse_line.ensures.line sound)
+    (bad_line c.args.number, (Bad, inl (c.utf8.line, subst (SaysText c.args.line.now) c.in-Bad.is c.in_ok-read.ensures), (refl, c.refuse_line.ensures.status, alone (state g.S.Store c.args.session.now.connection))), c.refuse_line.ensures.line sound)
 
 pub returns-in-Mark-clause-answer : goal.returns-in-Mark-clause-answer
 returns-in-Mark-clause-answer g c =
@@ -74,4 +74,4 @@ returns-in-Mark-clause-answer g c =
 
 pub returns-in-Mark-clause-over : goal.returns-in-Mark-clause-over
 returns-in-Mark-clause-over g c = λ sound _.
-    (mark_line (string_bytes c.in-Mark.text), (Mark c.in-Mark.text, inl (c.utf8.line, subst (SaysText c.args.line.now) c.in-Mark.is c.in_ok-read.ensures), (refl, c.write_mark.ensures.status, still (state g.S.Store c.args.session.now.connection))), subst (λ t. Appends (g.W.Write.contents c.args.output.now.writer) (g.W.Write.contents c.write_mark.new.output.writer) (mark_line t)) c.as_str.ensures.value (c.write_mark.ensures.line sound))
+    (mark_line (string_bytes c.in-Mark.text), (Mark c.in-Mark.text, inl (c.utf8.line, subst (SaysText c.args.line.now) c.in-Mark.is c.in_ok-read.ensures), (refl, c.write_mark.ensures.status, alone (state g.S.Store c.args.session.now.connection))), subst (λ t. Appends (g.W.Write.contents c.args.output.now.writer) (g.W.Write.contents c.write_mark.new.output.writer) (mark_line t)) c.as_str.ensures.value (c.write_mark.ensures.line sound))

@@ -7,7 +7,7 @@ use Rattle.zeb_program.specs.Answers.{AnswersBatch, AnswersPart, Writes}
 use Rattle.zeb_program.specs.OverTables.{LinesOver}
 use Rattle.zeb_program.specs.declared.statuses.Status.{Status}
 use Rattle.zeb_program.specs.Serving.{LeadsOn, Stops}
-use Rattle.zeb_program.specs.PrivateWordRuns.{RunsIn, StopsIn}
+use Rattle.zeb_program.specs.PrivateWordRuns.{ClosesAloud, RunsIn, StopsIn}
 use Rattle.zeb_program.proofs.SessionLemmas.{both_ok, ended_err, ended_ok}
 use Rattle.zeb_program.proofs.command_line.run_in.Goals as goal
 
@@ -15,6 +15,7 @@ pub returns-clause-answer : goal.returns-clause-answer
 returns-clause-answer g c =
     let store = g.P.Store.Store in
     let tells = g.P.Paths.tells c.args.paths.now in
+    let leaves = g.P.Paths.leaves c.args.paths.now in
     let k = conditions (version_of packed_blocks) c.args.session.profile c.args.session.limits in
     let n = c.args.batch.lines_before in
     let text = c.args.batch.text.now in
@@ -28,9 +29,9 @@ returns-clause-answer g c =
     → Writes old new (λ bytes. LinesOver store tells packed_blocks k n text held bytes status last) in
     let Answers = λ (status : Status). c.run_lines-answered.new.output.failed ≡ false → HasCleanDisk (state store last)
     → LeadsOn (state store held) (state store last) old new (λ before bytes later. AnswersBatch tells k n text before bytes status later) in
-    ended_ok c.run_lines-answered.result c.end_session.result c.end_session.new.fault_output.failed fault_old fault_new
+    ended_ok c.run_lines-answered.result c.end_session.result (ClosesAloud store leaves last c.end_session.new.fault_output.failed fault_old fault_new)
     (λ status. Over status × Answers status)
-    (λ status. c.run_lines-answered.new.output.failed ≡ false → c.end_session.new.fault_output.failed ≡ false → RunsIn store tells k n text held old new fault_old fault_new status)
+    (λ status. c.run_lines-answered.new.output.failed ≡ false → c.end_session.new.fault_output.failed ≡ false → RunsIn store leaves tells k n text held old new fault_old fault_new status)
     c.end_session.ensures.ends (both_ok c.run_lines-answered.result Over Answers c.run_lines-answered.ensures.over c.run_lines-answered.ensures.answer)
     (λ answered closed lines closes sound quiet. (
       answered,
@@ -40,7 +41,8 @@ returns-clause-answer g c =
         last = last;
         clean = c.run_lines-answered.ensures.clean;
         lines = λ whole. record { over = lines.0 sound whole; answers = lines.1 sound whole };
-        closes = closes quiet;
+        ends = closes.0;
+        closes = closes.1 quiet;
       },
     ))
 
@@ -48,6 +50,7 @@ pub returns-clause-stopped : goal.returns-clause-stopped
 returns-clause-stopped g c =
     let store = g.P.Store.Store in
     let tells = g.P.Paths.tells c.args.paths.now in
+    let leaves = g.P.Paths.leaves c.args.paths.now in
     let k = conditions (version_of packed_blocks) c.args.session.profile c.args.session.limits in
     let n = c.args.batch.lines_before in
     let text = c.args.batch.text.now in
@@ -57,8 +60,8 @@ returns-clause-stopped g c =
     let new = g.W.Write.contents c.run_lines-answered.new.output.writer in
     let fault_old = g.V.Write.contents c.args.fault_output.now.writer in
     let fault_new = g.V.Write.contents c.end_session.new.fault_output.writer in
-    ended_err c.run_lines-answered.result c.end_session.result c.end_session.new.fault_output.failed fault_old fault_new
+    ended_err c.run_lines-answered.result c.end_session.result (ClosesAloud store leaves last c.end_session.new.fault_output.failed fault_old fault_new)
     (c.run_lines-answered.new.output.failed ≡ false → HasCleanDisk (state store last) → Stops (state store held) old new (AnswersPart tells k n text))
-    (c.run_lines-answered.new.output.failed ≡ false → c.end_session.new.fault_output.failed ≡ false → StopsIn store tells k n text held old new fault_old fault_new)
+    (c.run_lines-answered.new.output.failed ≡ false → c.end_session.new.fault_output.failed ≡ false → StopsIn store leaves tells k n text held old new fault_old fault_new)
     c.end_session.ensures.ends c.run_lines-answered.ensures.stopped
-    (λ closed lines closes sound quiet. (closed, record { last = last; clean = c.run_lines-answered.ensures.clean; lines = lines sound; closes = closes quiet }))
+    (λ closed lines closes sound quiet. (closed, record { last = last; clean = c.run_lines-answered.ensures.clean; lines = lines sound; ends = closes.0; closes = closes.1 quiet }))

@@ -8,22 +8,23 @@ use Rattle.zeb_register.specs.Formats.{packed_blocks, version_of}
 use Rattle.zeb_program.specs.WordRuns.{TellsClosed}
 use Rattle.zeb_program.specs.Doing.{ServesText, StopsText}
 use Rattle.zeb_program.specs.declared.line_input.LineFault.TheVariants.{Memory}
-use Rattle.zeb_program.specs.PrivateWordRuns.{ServesIn, StopsServing}
+use Rattle.zeb_program.specs.PrivateWordRuns.{ClosesAloud, ServesIn, StopsServing}
 use Rattle.zeb_program.proofs.SessionLemmas.{both_err, ended_err, ended_ok, ended_failed, ended_whole}
 use Rattle.zeb_program.proofs.command_line.serve_in.Goals as goal
 
 pub returns-clause-failed_read : goal.returns-clause-failed_read
 returns-clause-failed_read g c = λ failed.
-    ended_failed c.serve_lines-answered.result c.end_session.result c.end_session.new.fault_output.failed _ _ c.end_session.ensures.ends (c.serve_lines-answered.ensures.failed_read failed)
+    ended_failed c.serve_lines-answered.result c.end_session.result _ c.end_session.ensures.ends (c.serve_lines-answered.ensures.failed_read failed)
 
 pub returns-clause-whole : goal.returns-clause-whole
 returns-clause-whole g c =
-    ended_whole c.serve_lines-answered.result c.end_session.result c.end_session.new.fault_output.failed _ _ (IsAtEnd (g.R.Source.remaining c.serve_lines-answered.new.input)) c.end_session.ensures.ends c.serve_lines-answered.ensures.whole
+    ended_whole c.serve_lines-answered.result c.end_session.result _ (IsAtEnd (g.R.Source.remaining c.serve_lines-answered.new.input)) c.end_session.ensures.ends c.serve_lines-answered.ensures.whole
 
 pub returns-clause-answer : goal.returns-clause-answer
 returns-clause-answer g c =
     let store = g.P.Store.Store in
     let tells = g.P.Paths.tells c.args.paths.now in
+    let leaves = g.P.Paths.leaves c.args.paths.now in
     let k = conditions (version_of packed_blocks) c.args.session.profile c.args.session.limits in
     let given = g.R.Source.remaining c.args.input.now in
     let left = g.R.Source.remaining c.serve_lines-answered.new.input in
@@ -35,10 +36,10 @@ returns-clause-answer g c =
     let fault_old = g.V.Write.contents c.args.fault_output.now.writer in
     let between = g.V.Write.contents c.serve_lines-answered.new.fault_output.writer in
     let fault_new = g.V.Write.contents c.end_session.new.fault_output.writer in
-    ended_ok c.serve_lines-answered.result c.end_session.result c.end_session.new.fault_output.failed between fault_new
+    ended_ok c.serve_lines-answered.result c.end_session.result (ClosesAloud store leaves last c.end_session.new.fault_output.failed between fault_new)
     (λ status. c.serve_lines-answered.new.output.failed ≡ false → c.serve_lines-answered.new.fault_output.failed ≡ false → HasCleanDisk (state store last)
     → IfSome given (λ text. ServesText store tells packed_blocks k text left failed old new fault_old between status held last))
-    (λ status. c.serve_lines-answered.new.output.failed ≡ false → c.end_session.new.fault_output.failed ≡ false → ServesIn store tells k given left failed held old new fault_old fault_new status)
+    (λ status. c.serve_lines-answered.new.output.failed ≡ false → c.end_session.new.fault_output.failed ≡ false → ServesIn store leaves tells k given left failed held old new fault_old fault_new status)
     c.end_session.ensures.ends c.serve_lines-answered.ensures.answer
     (λ answered closed lines closes sound quiet. (
       between,
@@ -49,7 +50,8 @@ returns-clause-answer g c =
         last = last;
         clean = c.serve_lines-answered.ensures.clean;
         lines = lines sound (c.end_session.ensures.sound quiet);
-        closes = closes quiet;
+        ends = closes.0;
+        closes = closes.1 quiet;
       },
     ))
 
@@ -57,6 +59,7 @@ pub returns-clause-stopped : goal.returns-clause-stopped
 returns-clause-stopped g c =
     let store = g.P.Store.Store in
     let tells = g.P.Paths.tells c.args.paths.now in
+    let leaves = g.P.Paths.leaves c.args.paths.now in
     let k = conditions (version_of packed_blocks) c.args.session.profile c.args.session.limits in
     let given = g.R.Source.remaining c.args.input.now in
     let left = g.R.Source.remaining c.serve_lines-answered.new.input in
@@ -68,10 +71,10 @@ returns-clause-stopped g c =
     let between = g.V.Write.contents c.serve_lines-answered.new.fault_output.writer in
     let fault_new = g.V.Write.contents c.end_session.new.fault_output.writer in
     let said = (c.serve_lines-answered.new.output.failed ≡ false → HasCleanDisk (state store last)
-    → IfSome given (λ text. StopsText store tells packed_blocks k Memory text left old new held)) in
+    → IfSome given (λ text. StopsText store tells packed_blocks k Memory text left old new held last)) in
     let same = (c.serve_lines-answered.new.fault_output ≡ c.args.fault_output.now) in
-    ended_err c.serve_lines-answered.result c.end_session.result c.end_session.new.fault_output.failed between fault_new (said × same)
-    (c.serve_lines-answered.new.output.failed ≡ false → c.end_session.new.fault_output.failed ≡ false → StopsServing store tells k given left held old new fault_old fault_new)
+    ended_err c.serve_lines-answered.result c.end_session.result (ClosesAloud store leaves last c.end_session.new.fault_output.failed between fault_new) (said × same)
+    (c.serve_lines-answered.new.output.failed ≡ false → c.end_session.new.fault_output.failed ≡ false → StopsServing store leaves tells k given left held old new fault_old fault_new)
     c.end_session.ensures.ends (both_err c.serve_lines-answered.result said same c.serve_lines-answered.ensures.stopped c.serve_lines-answered.ensures.silent)
     (λ closed facts closes sound quiet. (
       closed,
@@ -79,6 +82,7 @@ returns-clause-stopped g c =
         last = last;
         clean = c.serve_lines-answered.ensures.clean;
         lines = facts.0 sound;
-        closes = subst (λ sink. TellsClosed (g.V.Write.contents sink.writer) fault_new closed) facts.1 (closes quiet);
+        closes = subst (λ sink. TellsClosed (g.V.Write.contents sink.writer) fault_new closed) facts.1 (closes.1 quiet);
+        ends = closes.0;
       },
     ))

@@ -4,4 +4,4 @@ use Rattle.zeb_program.proofs.failures.tell_failure.Goals as goal
 pub returns-clause-told : goal.returns-clause-told
 returns-clause-told g c = λ sound.
     failure_lines (g.W.Write.contents c.args.output.now.writer) (g.W.Write.contents c.tell.new.output.writer) (g.W.Write.contents c.tell_cause.new.output.writer) c.args.failure.now.fault c.in_ok-status.status
-    (c.in_ok-status.ensures.told (c.tell_cause.ensures.sound sound)) (c.tell_cause.ensures.told sound)
+    c.args.failure.now.cause (c.in_ok-status.ensures.told (c.tell_cause.ensures.sound sound)) c.args.failure.now.fits (c.tell_cause.ensures.told sound)

@@ -1,12 +1,12 @@
 use Rattle.std.proofs.Common.{inr, refl}
-use Rattle.sqlite.specs.Files.{file_state}
+use Rattle.sqlite.specs.Files.{file_state, over_files}
 use Rattle.sqlite.specs.State.{HasCleanDisk}
 use Rattle.sqlite.specs.Steps.{IsEmpty}
 use Rattle.zeb_change.specs.declared.refusals.Refusal.TheVariants.{Store}
-use Rattle.zeb_engine.specs.Crashes.{Bears}
-use Rattle.zeb_image.specs.Holdings.{Holdings, nothing_yet}
+use Rattle.zeb_image.specs.Holdings.{nothing_yet}
 use Rattle.zeb_image.specs.Image.{Keeps}
 use Rattle.zeb_program.proofs.MemoryLemmas.{always_clean}
+use Rattle.zeb_program.specs.Registers.{IsTakenOver}
 use Rattle.zeb_program.proofs.ResultValues.{made_of}
 use Rattle.zeb_program.proofs.memory.session_in_memory.Goals as goal
 
@@ -14,7 +14,7 @@ use Rattle.zeb_program.proofs.memory.session_in_memory.Goals as goal
 pub returns-clause-empty : goal.returns-clause-empty
 returns-clause-empty c =
     made_of c.open_in_memory.result c.session_over.result (λ connection. IsEmpty (file_state connection))
-    (λ connection session. HasCleanDisk (file_state session.connection) → (before : Holdings) → Bears (file_state connection) before → Keeps (file_state session.connection) before)
+    (λ connection session. HasCleanDisk (file_state session.connection) → IsTakenOver over_files connection session.connection)
     (λ session. Keeps (file_state session.connection) nothing_yet) Store
     c.open_in_memory.ensures.empty c.session_over.ensures.keeps c.session_over.ensures.unopened
-    (λ connection session empty keeps. keeps (always_clean (λ _. refl) session.connection) nothing_yet (inr (empty.2, refl)))
+    (λ connection session empty taken. (taken (always_clean (λ _. refl) session.connection)).keeps nothing_yet (inr (empty.2, refl)))

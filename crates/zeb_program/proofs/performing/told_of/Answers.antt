@@ -1,14 +1,23 @@
-use Rattle.std.proofs.Common.{◌≡◌, ◌∙◌, Err, Ok, ap, inl, rules, string_bytes, subst, sym}
+use Rattle.std.proofs.Common.{◌≡◌, ◌∙◌, Err, None, Ok, ap, inl, refl, rules, string_bytes, subst, sym}
 use Rattle.std.specs.Prelude.{IfOk}
 use Rattle.zeb_program.specs.PrivateServing.{StandsFor}
-use Rattle.zeb_program.specs.PrivateWarnings.{IsServedFor, MayWarn}
-use Rattle.zeb_program.proofs.WarningLemmas.{warned}
+use Rattle.zeb_program.specs.PrivateWarnings.{IsServedFor, MayWarn, warned_in}
+use Rattle.zeb_program.proofs.WarningLemmas.{shown_warned, warned}
 use Rattle.zeb_program.proofs.performing.told_of.Goals as goal
 
 pub returns-in_ok-render-in-Ok-Replied-clause-gives : goal.returns-in_ok-render-in-Ok-Replied-clause-gives
 returns-in_ok-render-in-Ok-Replied-clause-gives g c = λ own stands.
     let it = subst (λ served. StandsFor served own) (c.in-Ok-Replied.is ∙ ap Ok c.in-Ok-Replied.field-0-is) stands in
     (c.in-Ok-Replied.reply, c.in_ok-render-in-Ok-Replied.ensures, inl (sym it))
+
+pub returns-in_ok-render-in-Ok-Replied-clause-warned : goal.returns-in_ok-render-in-Ok-Replied-clause-warned
+returns-in_ok-render-in-Ok-Replied-clause-warned g c =
+    subst (λ served. IfOk served (λ it. None ≡ warned_in it)) (sym (c.in-Ok-Replied.is ∙ ap Ok c.in-Ok-Replied.field-0-is)) refl
+
+pub returns-in_ok-warning-in-Ok-Shown-clause-warned : goal.returns-in_ok-warning-in-Ok-Shown-clause-warned
+returns-in_ok-warning-in-Ok-Shown-clause-warned g c =
+    shown_warned c.args.served c.in-Ok-Shown.lines c.in-Ok-Shown.unmarked _ _ _ (c.in-Ok-Shown.is ∙ ap Ok c.in-Ok-Shown.field-0-is)
+    c.deref.ensures.value c.records.ensures c.in_ok-warning-in-Ok-Shown.ensures
 
 pub returns-in_ok-warning-in-Ok-Shown-clause-warns : goal.returns-in_ok-warning-in-Ok-Shown-clause-warns
 returns-in_ok-warning-in-Ok-Shown-clause-warns g c =

@@ -25,7 +25,7 @@ returns-then-is_empty-clause-script g c = λ none read sound quiet.
 
 pub returns-clause-words : goal.returns-clause-words
 returns-clause-words g c = λ some sound quiet.
-    let at = places g.P.Store.Store (g.P.Paths.tells c.args.files.now) (g.P.Paths.opens c.args.files.now) (g.P.Paths.lacks c.args.files.now) in
+    let at = places g.P.Store.Store (g.P.Paths.tells c.args.files.now) (g.P.Paths.opens c.args.files.now c.run_words-ended.new.paths) (g.P.Paths.lacks c.args.files.now) (g.P.Paths.leaves c.run_words-ended.new.paths) in
     let words = map string_bytes c.args.words.now in
     let given = g.R.Source.remaining c.args.input.now in
     let left = g.R.Source.remaining c.run_words-ended.new.input in

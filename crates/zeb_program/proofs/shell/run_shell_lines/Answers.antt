@@ -71,7 +71,7 @@ returns-in_err-status-clause-stopped g c =
     rw c.in_err-status.ensures.stopped
     (text_failure g.S.Store (g.P.Paths.tells c.args.paths.now) g.L.Layout.format k c.from_residual.result why (g.W.Write.contents c.args.output.now.writer) (g.W.Write.contents c.loop-lines_before.output.writer)
     (g.R.Source.remaining c.args.input.now) (g.R.Source.remaining c.loop-lines_before.input) (g.R.Source.remaining c.run_next_line.new.input) c.loop-lines_before.lines_before c.loop-lines_before.greatest
-    c.args.session.now.connection c.loop-lines_before.session.connection c.loop-lines_before.output.failed (HasCleanDisk (state g.S.Store c.run_next_line.new.session.connection)) given c.in_err-status.ensures.stops
+    c.args.session.now.connection c.loop-lines_before.session.connection c.run_next_line.new.session.connection c.loop-lines_before.output.failed (HasCleanDisk (state g.S.Store c.run_next_line.new.session.connection)) given c.in_err-status.ensures.stops.0 c.in_err-status.ensures.stops.1
     (λ sound clean. c.loop-lines_before.invariant.over sound (c.run_next_line.ensures.clean clean)) (λ sound clean. c.loop-lines_before.invariant.answers sound (c.run_next_line.ensures.clean clean)))
 
 pub returns-in-None-clause-answer : goal.returns-in-None-clause-answer
@@ -88,5 +88,5 @@ returns-clause-stopped g c = λ sound clean.
     let k = conditions (version_of g.L.Layout.format) c.args.session.now.profile c.args.session.now.limits in
     let left = g.R.Source.remaining c.loop-lines_before.input in
     text_stopped g.S.Store (g.P.Paths.tells c.args.paths.now) g.L.Layout.format k Memory (g.W.Write.contents c.args.output.now.writer) (g.W.Write.contents c.loop-lines_before.output.writer)
-    (g.R.Source.remaining c.args.input.now) left left c.loop-lines_before.lines_before c.loop-lines_before.greatest c.args.session.now.connection c.loop-lines_before.session.connection
+    (g.R.Source.remaining c.args.input.now) left left c.loop-lines_before.lines_before c.loop-lines_before.greatest c.args.session.now.connection c.loop-lines_before.session.connection c.loop-lines_before.session.connection tt
     (ends_before left) (c.loop-lines_before.invariant.over sound clean) (c.loop-lines_before.invariant.answers sound clean)

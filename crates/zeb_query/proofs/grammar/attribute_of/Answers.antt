@@ -1,20 +1,30 @@
-use Rattle.zeb_query.proofs.Cited.{sym, ◌∙◌, IfOk-weaker, IfErr-weaker, word_of, attribute_value}
-use Rattle.zeb_query.proofs.GrammarLemmas.{spells_attribute, spells_attribute_of_set, fault_of-first_spec, first_plain, IsFault-same}
+use Rattle.zeb_query.proofs.Cited.{sym, ap, ◌∙◌, suc, word_of, attribute_value, has_equals, SetOrSpec, Spec, Structures}
+use Rattle.zeb_query.proofs.GrammarLemmas.{spells_attribute, spells_attribute_of_set, fault_of-read}
+use Rattle.zeb_query.proofs.GrammarLaws.{over-set, over-set_or_spec, over-spec}
 use Rattle.zeb_query.proofs.grammar.attribute_of.Goals as goal
 
-pub returns-then-has_spec-clause-goes : goal.returns-then-has_spec-clause-goes
-returns-then-has_spec-clause-goes c =
-    IfOk-weaker c.spec_of.result _ _ (λ read goes n. fault_of-first_spec c.args.rest (sym c.if-has_spec.ensures) n ∙ goes n) c.spec_of.ensures.goes
+pub returns-then-has_equals-clause-goes : goal.returns-then-has_equals-clause-goes
+returns-then-has_equals-clause-goes c = λ n.
+    let word = word_of c.in_ok-word.word.now in
+    fault_of-read c.args.rest c.in_ok-word.after word c.in_ok-word.ensures.reads (SetOrSpec n) (Structures (suc n))
+    (λ end room ws. over-set_or_spec end room n word ws _ c.in_ok-word.ensures.good c.in_ok-attribute.ensures.spelled.read)
 
-pub returns-then-has_spec-clause-spelled : goal.returns-then-has_spec-clause-spelled
-returns-then-has_spec-clause-spelled c =
-    IfOk-weaker c.spec_of.result _ _ (λ read s. spells_attribute c.args.rest read.1 (attribute_value read.0) s) c.spec_of.ensures.spelled
+pub returns-then-has_equals-clause-spelled : goal.returns-then-has_equals-clause-spelled
+returns-then-has_equals-clause-spelled c =
+    spells_attribute c.args.rest c.in_ok-word.after (attribute_value c.in_ok-attribute.attribute) (word_of c.in_ok-word.word.now)
+    c.in_ok-word.ensures.reads.is c.in_ok-word.ensures.good c.in_ok-attribute.ensures.spelled
 
-pub returns-then-has_spec-clause-fails : goal.returns-then-has_spec-clause-fails
-returns-then-has_spec-clause-fails c =
-    IfErr-weaker c.spec_of.result _ _ (λ e s n. IsFault-same e _ _ (fault_of-first_spec c.args.rest (sym c.if-has_spec.ensures) n) (s n)) c.spec_of.ensures.fails
+pub returns-clause-goes : goal.returns-clause-goes
+returns-clause-goes c = λ n.
+    let set = word_of c.in_ok-word.word.now in
+    let spec = word_of c.in_ok-spec.spec.now in
+    fault_of-read c.args.rest c.in_ok-word.after set c.in_ok-word.ensures.reads (SetOrSpec n) (Spec n)
+    (λ end room ws. over-set end room n set ws c.in_ok-word.ensures.good (sym (ap has_equals c.as_str.ensures.value) ∙ sym c.if-has_equals.ensures))
+    ∙ fault_of-read c.in_ok-word.after c.in_ok-spec.after spec c.in_ok-spec.ensures.reads (Spec n) (Structures (suc n))
+    (λ end room ws. over-spec end room n spec ws _ c.in_ok-spec.ensures.good c.in_ok-attribute-2.ensures.spelled.read)
 
 pub returns-clause-spelled : goal.returns-clause-spelled
 returns-clause-spelled c =
-    IfOk-weaker c.spec_of-2.result _ _ (λ read s. spells_attribute_of_set c.args.rest c.in_ok-word.after read.1 (attribute_value read.0) (word_of c.in_ok-word.word.now) _ c.in_ok-word.ensures.reads.is c.in_ok-word.ensures.good
-    (first_plain c.args.rest c.in_ok-word.after (word_of c.in_ok-word.word.now) c.in_ok-word.ensures.reads.is (sym c.if-has_spec.ensures)) c.in_ok-set.ensures.cases s) c.spec_of-2.ensures.spelled
+    spells_attribute_of_set c.args.rest c.in_ok-word.after c.in_ok-spec.after (attribute_value c.in_ok-attribute-2.attribute)
+    (word_of c.in_ok-word.word.now) (word_of c.in_ok-spec.spec.now) _ c.in_ok-word.ensures.reads.is c.in_ok-word.ensures.good (sym (ap has_equals c.as_str.ensures.value) ∙ sym c.if-has_equals.ensures)
+    c.in_ok-set.ensures.cases c.in_ok-spec.ensures.reads.is c.in_ok-spec.ensures.good c.in_ok-attribute-2.ensures.spelled

@@ -4,5 +4,5 @@ use Rattle.zeb_register.proofs.tables.make_tables.Goals as goal
 
 pub returns-clause-made : goal.returns-clause-made
 returns-clause-made g c clean inside has =
-    let lists = c.in_ok-lists_make.ensures.made (omega (arith, clean, c.registers_make.ensures.call.crash.clean)) inside has in
-    made_store _ (c.in_ok-registers_make.ensures.made clean lists.inside (lists.is, lists.empty))
+    let lists = c.in_ok-tables_make.ensures.made (omega (arith, clean, c.tables_make-2.ensures.call.crash.clean)) inside (has, tt) in
+    made_store _ (c.in_ok-tables_make-2.ensures.made clean lists.inside (lists.is, lists.empty))

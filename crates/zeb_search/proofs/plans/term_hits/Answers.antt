@@ -7,23 +7,20 @@ use Rattle.zeb_search.proofs.plans.term_hits.Goals as goal
 pub returns-in-RecordNumber-clause-units : goal.returns-in-RecordNumber-clause-units
 returns-in-RecordNumber-clause-units g c = rw c.in-RecordNumber.is c.record_hits.ensures.units
 
+pub returns-in-NoWords-clause-units : goal.returns-in-NoWords-clause-units
+returns-in-NoWords-clause-units g c = rw c.in-NoWords.is (λ clean store. subst (AreNumbers (λ _. ⊥)) (sym c.new.ensures.items) (just_none (λ _. ⊥) (λ n none. none)))
+
 pub returns-in-Always-clause-units : goal.returns-in-Always-clause-units
 returns-in-Always-clause-units g c = rw c.in-Always.is c.numbers_wanted.ensures.units
 
 pub returns-in-Number-clause-units : goal.returns-in-Number-clause-units
 returns-in-Number-clause-units g c = rw c.in-Number.is c.numbers_wanted-in-Number.ensures.units
 
-pub returns-in-Some-clause-units : goal.returns-in-Some-clause-units
-returns-in-Some-clause-units g c = rw (c.in-Ordered.is, c.in-Some.is, ← c.as_str.ensures.value) c.numbers_wanted-in-Some.ensures.units
+pub returns-in-Ordered-clause-units : goal.returns-in-Ordered-clause-units
+returns-in-Ordered-clause-units g c = rw (c.in-Ordered.is, ← c.as_str.ensures.value) c.numbers_wanted-in-Ordered.ensures.units
 
-pub returns-in-None-clause-units : goal.returns-in-None-clause-units
-returns-in-None-clause-units g c = rw (c.in-Ordered.is, c.in-None.is) (λ clean store. subst (AreNumbers (λ _. ⊥)) (sym c.new.ensures.items) (just_none (λ _. ⊥) (λ n none. none)))
-
-pub returns-in-Some-pattern-clause-units : goal.returns-in-Some-pattern-clause-units
-returns-in-Some-pattern-clause-units g c = rw (c.in-Complete.is, c.in-Some-pattern.is) c.numbers_wanted-in-Some-pattern.ensures.units
-
-pub returns-in-None-pattern-clause-units : goal.returns-in-None-pattern-clause-units
-returns-in-None-pattern-clause-units g c = rw (c.in-Complete.is, c.in-None-pattern.is) (λ clean store. subst (AreNumbers (λ _. ⊥)) (sym c.new-in-None-pattern.ensures.items) (just_none (λ _. ⊥) (λ n none. none)))
+pub returns-in-Complete-clause-units : goal.returns-in-Complete-clause-units
+returns-in-Complete-clause-units g c = rw c.in-Complete.is c.numbers_wanted-in-Complete.ensures.units
 
 pub returns-in-Phrase-clause-units : goal.returns-in-Phrase-clause-units
 returns-in-Phrase-clause-units g c = rw (c.in-Phrase.is, ← c.as_slice.ensures.value) c.phrase_hits.ensures.units
@@ -54,20 +51,20 @@ returns-in-Always-clause-work g c =
 pub returns-in-Number-clause-work : goal.returns-in-Number-clause-work
 returns-in-Number-clause-work g c = rw c.in-Number.is c.numbers_wanted-in-Number.ensures.work
 
-pub returns-in-Some-clause-work : goal.returns-in-Some-clause-work
-returns-in-Some-clause-work g c =
+pub returns-in-Ordered-clause-work : goal.returns-in-Ordered-clause-work
+returns-in-Ordered-clause-work g c =
     let row_work = g.L.Layout.row_work in
     let db = c.args.database.0 in
     let index = c.in-Ordered.index in
     let register = c.in-Ordered.register in
     let entries = λ (content : Content). EntryRows g.L.Layout.block_rows content db index register (λ term. StandsInOrder c.in-Ordered.order term c.as_str.result.now) in
-    rw (c.in-Ordered.is, c.in-Some.is, ← c.as_str.ensures.value) (on_ok_weaker c.numbers_wanted-in-Some.result
+    rw (c.in-Ordered.is, ← c.as_str.ensures.value) (on_ok_weaker c.numbers_wanted-in-Ordered.result
     (counted_for g.L.Layout.format (λ content. EntryDict row_work content db ⊥ index register) (λ content. RegisterDict row_work content db index register) entries entries (state g.S.Store c.args.connection.now)
-    (state g.S.Store c.numbers_wanted-in-Some.new.connection) c.args.work.now c.numbers_wanted-in-Some.new.work (λ content n terms. unnamed row_work content db index register n terms) (λ content n rows. rows))
-    c.numbers_wanted-in-Some.ensures.work)
+    (state g.S.Store c.numbers_wanted-in-Ordered.new.connection) c.args.work.now c.numbers_wanted-in-Ordered.new.work (λ content n terms. unnamed row_work content db index register n terms) (λ content n rows. rows))
+    c.numbers_wanted-in-Ordered.ensures.work)
 
-pub returns-in-Some-pattern-clause-work : goal.returns-in-Some-pattern-clause-work
-returns-in-Some-pattern-clause-work g c = rw (c.in-Complete.is, c.in-Some-pattern.is) c.numbers_wanted-in-Some-pattern.ensures.work
+pub returns-in-Complete-clause-work : goal.returns-in-Complete-clause-work
+returns-in-Complete-clause-work g c = rw c.in-Complete.is c.numbers_wanted-in-Complete.ensures.work
 
 pub returns-in-Phrase-clause-work : goal.returns-in-Phrase-clause-work
 returns-in-Phrase-clause-work g c = rw (c.in-Phrase.is, ← c.as_slice.ensures.value) c.phrase_hits.ensures.work

@@ -1,8 +1,5 @@
-use Rattle.zeb_engine.proofs.Cited.{◌≡◌, ◌∙◌, ap, rules, sym, string_bytes, state, name_bytes, conditions, dumped_by, no_work, version_of, CountedFrom}
-use Rattle.zeb_engine.specs.Steps.{ready}
+use Rattle.zeb_engine.proofs.Cited.{◌≡◌, ◌∙◌, ap, rules, sym, string_bytes, conditions, no_work, version_of}
 use Rattle.zeb_engine.proofs.CommandsDone.{analysis_done}
-use Rattle.zeb_engine.proofs.ReadyCommands.{asks_serve, ends_serve}
-use Rattle.zeb_engine.proofs.CommandedConnections.{reads_command}
 use Rattle.zeb_engine.proofs.session.Session.carry_out.Goals as goal
 
 pub returns-in-Init-clause-done : goal.returns-in-Init-clause-done
@@ -51,35 +48,13 @@ returns-in-Upgrade-clause-done g c =
 
 pub returns-in-Stat-clause-done : goal.returns-in-Stat-clause-done
 returns-in-Stat-clause-done g c =
-    let k = conditions (version_of g.L.Layout.format) c.args.self.now.profile c.args.self.now.limits in
-    let old = state g.S.Store c.args.self.now.connection in
-    let new = state g.S.Store c.stat.new.connection in
-    let done = c.stat.ensures in
-    let fresh : c.default-self.result ≡ no_work = search rules in
-    rw c.in-Stat.is (record {
-      call = reads_command old new c.stat.result done.«open» done.same done.crash;
-      survives = done.crash;
-      step = λ clean. asks_serve (λ before. CountedFrom k (name_bytes c.in-Stat.name) (ready k before)) old new c.stat.result (done.serves clean c.args.self.now.limits);
-      does = λ clean settled. record { looks = record { nothing = done.same clean; caused = done.caused clean }; ready = done.ready clean; alone = done.alone clean; told = done.tables clean };
-      answers = done.unread;
-      counts = record { counted = tt; none = λ none. done.no_work none ∙ fresh };
-    })
+    let same : c.in-Stat.name-in-Stat-1-own.given.0.0 ≡ c.in-Stat.name = search rules in
+    rw (c.in-Stat.is, ← same) c.stat.ensures.done
 
 pub returns-in-Dump-clause-done : goal.returns-in-Dump-clause-done
 returns-in-Dump-clause-done g c =
-    let k = conditions (version_of g.L.Layout.format) c.args.self.now.profile c.args.self.now.limits in
-    let old = state g.S.Store c.args.self.now.connection in
-    let new = state g.S.Store c.dump.new.connection in
-    let done = c.dump.ensures in
-    let fresh : c.default-self.result ≡ no_work = search rules in
-    rw c.in-Dump.is (record {
-      call = reads_command old new c.dump.result done.«open» done.same done.crash;
-      survives = done.crash;
-      step = λ clean. ends_serve (dumped_by k (name_bytes c.in-Dump.name)) old new c.dump.result (done.serves clean c.args.self.now.limits);
-      does = λ clean settled. record { looks = record { nothing = done.same clean; caused = done.caused clean }; ready = done.ready clean; told = done.tables clean };
-      answers = done.unread;
-      counts = record { counted = fresh; none = λ _. fresh };
-    })
+    let same : c.in-Dump.name-in-Dump-1-own.given.0.0 ≡ c.in-Dump.name = search rules in
+    rw (c.in-Dump.is, ← same) c.dump.ensures.done
 
 pub returns-in-Scan-clause-done : goal.returns-in-Scan-clause-done
 returns-in-Scan-clause-done g c =

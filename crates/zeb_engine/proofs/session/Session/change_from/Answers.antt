@@ -1,4 +1,4 @@
-use Rattle.zeb_engine.proofs.Cited.{◌≡◌, ◌∙◌, Err, OnOk, refl, rules, arith, subst, state, HasCleanDisk, conditions, name_bytes, splits_of, Work, Costs, no_work, ElderOver, EldersOver, LeavesRows, LosesNamedOver, ReasonsOver, version_of}
+use Rattle.zeb_engine.proofs.Cited.{◌≡◌, ◌∙◌, Err, OnOk, refl, rules, arith, subst, state, HasCleanDisk, conditions, name_bytes, splits_of, Work, Costs, no_work, ElderOver, EldersOver, LeavesRows, LosesNamedOver, ReasonsOver, NeverUnready, version_of}
 use Rattle.zeb_engine.specs.Steps.{changed_by_files, turned}
 use Rattle.zeb_engine.proofs.CommandsDone.{faulty_done}
 use Rattle.zeb_engine.proofs.CommitCrashes.{survives_after}
@@ -7,6 +7,7 @@ use Rattle.zeb_engine.proofs.ReadyCommands.{ends_serve}
 use Rattle.zeb_engine.proofs.ReadyDone.{commanded_after, held_behind, texts_after, unready_readers}
 use Rattle.zeb_engine.proofs.ServesLemmas.{on_ok}
 use Rattle.zeb_engine.proofs.ChangeElders.{said_after}
+use Rattle.zeb_engine.proofs.DatabaseChanges as law
 use Rattle.zeb_engine.proofs.session.Session.change_from.Goals as goal
 
 pub returns-in_err-check_readers-clause-done : goal.returns-in_err-check_readers-clause-done
@@ -33,35 +34,45 @@ returns-clause-done g c =
     let answer = c.change_database.result in
     let looked = c.in_ok-check_ready.ensures.looks in
     let did = c.change_database.ensures in
+    let sound = c.is_of_some_text.ensures in
     let fresh : c.default-self.result ≡ no_work = search rules in
-    let first : HasCleanDisk new → HasCleanDisk mid = λ clean. omega (arith, did.survives.clean) in
+    let first : HasCleanDisk new → HasCleanDisk mid = λ clean. omega (arith, did.transacts.survives.clean) in
     record {
       call = commanded_after looked end first answer did.call;
-      survives = survives_after old mid new _ _ looked.reads.crash did.survives (λ clean db made texts told fine before keeps.
+      survives = survives_after old mid new _ _ looked.reads.crash did.transacts.survives (λ clean db made texts told fine before keeps.
           let outcome = turned k (changed_by_files k c.args.kind name (splits_of texts)) in
           let at = held_behind looked end first held.limits clean before keeps in
-          let done = made at.2.1 texts told fine before (λ _. (at.0, at.1)) at.3 in
+          let done = law.commits _ _ _ mid _ sound at.2.1 texts told db made before (λ _. (at.0, at.1)) at.3 in
           ((outcome before).0, (outcome before).1, (refl, refl), done.0, done.1));
       step = λ clean texts told fine. ends_serve (turned k (changed_by_files k c.args.kind name (splits_of texts))) old new answer (λ before fits keeps.
           let at = held_behind looked end first held.limits clean before keeps in
-          did.serves clean at.2.1 texts told fine before (λ _. (at.0, at.1)) at.3);
+          law.serves _ _ _ mid _ sound at.2.1 texts told new answer did.call did.transacts fine clean before (λ _. (at.0, at.1)) at.3);
       does = λ clean.
           let nothing = looked.reads.same (first clean) in
           let opened = looked.reads.opened (first clean) in
+          let rows = did.transacts.rows clean in
           record {
-            ready = texts_after looked end first answer did.ready clean;
+            ready = λ store.
+                texts_after looked end first answer (said_after (λ trees. NeverUnready answer) old mid nothing opened (λ there. law.told_ready _ _ _ mid _ new.now answer (rows there)) store) clean store;
             told = λ texts told fine store is.
                 said_after (λ trees. ElderOver held.profile name texts trees answer × EldersOver held.profile held.limits name texts trees answer × ReasonsOver held.profile c.args.kind held.limits name texts trees answer) old mid nothing opened
-                (λ there. (did.elder clean there texts told fine, did.elders clean there texts told, did.reasons clean there texts told fine)) store;
-            leaves = said_after (λ trees. OnOk answer (LeavesRows held.profile c.args.kind name trees new)) old mid nothing opened (did.loses clean);
-            loses = λ texts told. said_after (λ trees. OnOk answer (LosesNamedOver held.profile name texts trees new.now.trees)) old mid nothing opened (did.named clean texts told);
-            honest = λ is before keeps. let at = held_behind looked end first held.limits clean before keeps in did.honest clean at.2.1 before (at.0, at.1) at.3 is;
+                (λ there. (
+                  law.elder _ _ _ mid _ new.now answer (rows there) texts told fine,
+                  law.elders _ _ _ mid _ new.now there answer (rows there) texts told,
+                  law.reasons _ _ _ mid _ new.now answer (rows there) texts told fine,
+                )) store;
+            leaves = said_after (λ trees. OnOk answer (LeavesRows held.profile c.args.kind name trees new)) old mid nothing opened (λ there. law.leaves _ _ _ mid _ new.now new refl answer (rows there));
+            loses = λ texts told. said_after (λ trees. OnOk answer (LosesNamedOver held.profile name texts trees new.now.trees)) old mid nothing opened (λ there. law.named _ _ _ mid _ new.now answer (rows there) texts told);
+            honest = λ is before keeps.
+                let at = held_behind looked end first held.limits clean before keeps in
+                let shown = (at.3 at.2.1).0 in
+                law.honest _ _ _ mid _ new.now sound before shown.1 at.0 at.1 answer (rows shown.0) is;
           };
-      faults = record { sound = named_or_none g.R.Source.has_failed c.change_database.new.readers answer (did.failed c.in_ok-check_readers.ensures.none); fault = did.fault; able = did.able };
+      faults = record { sound = named_or_none g.R.Source.has_failed c.change_database.new.readers answer (did.faults.failed c.in_ok-check_readers.ensures.none); fault = did.faults.fault; able = did.faults.able };
       counts = record {
         costs = λ clean texts told. on_ok answer _ _ (λ works before keeps.
             let at = held_behind looked end first held.limits clean before keeps in
-            subst (λ (work : Work). Costs g.L.Layout.row_work k c.args.kind name texts work c.change_database.new.work before) fresh (works before at.2.1 (at.0, at.1) at.3)) (did.work clean texts told);
+            subst (λ (work : Work). Costs g.L.Layout.row_work k c.args.kind name texts work c.change_database.new.work before) fresh (works before at.2.1 (at.0, at.1) at.3)) (law.costs _ _ _ mid _ new clean answer did.transacts sound texts told);
         none = λ none. did.no_work none ∙ fresh;
       };
     }

@@ -1,8 +1,6 @@
-use Rattle.zeb_engine.proofs.Cited.{◌≡◌, Err, rules, state, conditions, clean_before, name_bytes, Find, FindSays, RefusesFind, FindOver, HidesFind, FindAnswers, PlanValue, IsPlanOf, PlanReads, version_of}
-use Rattle.zeb_engine.proofs.AskedReads.{told_after}
-use Rattle.zeb_engine.proofs.CommandsDone.{find_done}
-use Rattle.zeb_engine.proofs.ReadyDone.{query_serves, reads_after, texts_after, told_behind, unready_done}
-use Rattle.zeb_engine.proofs.ReadyQueries.{alone_after, refused_after}
+use Rattle.zeb_engine.proofs.Cited.{◌≡◌, Err, rules, Find}
+use Rattle.zeb_engine.proofs.AskedDone.{find_behind}
+use Rattle.zeb_engine.proofs.ReadyDone.{unready_done}
 use Rattle.zeb_engine.proofs.session.Session.find.Goals as goal
 
 pub returns-in_err-check_ready-clause-done : goal.returns-in_err-check_ready-clause-done
@@ -14,33 +12,6 @@ returns-in_err-check_ready-clause-done g c query same =
 pub returns-clause-done : goal.returns-clause-done
 returns-clause-done g c query same =
     let held = c.args.self.now in
-    let format = g.L.Layout.format in
-    let k = conditions (version_of format) held.profile held.limits in
-    let name = name_bytes c.args.database.now in
-    let text = c.args.question.query.now in
-    let from = c.args.question.first in
-    let count = c.args.question.count in
-    let old = state g.S.Store held.connection in
-    let mid = state g.S.Store c.check_ready.new.connection in
-    let new = c.find.new.connection in
-    let answer = c.find.result in
-    let looked = c.in_ok-check_ready.ensures.looks in
-    let done = c.find.ensures in
-    let first = clean_before mid (state g.S.Store new) done.crash in
-    let reads = reads_after looked new answer (record { same = done.same; opened = done.«open»; crash = done.crash; caused = done.caused }) in
-    find_done format g.L.Layout.row_work g.L.Layout.block_rows k reads done.unread held.work c.find.new.work c.requires.fresh c.args.database.now query from count text same done.no_work (
-      query_serves looked new first held.limits (FindAnswers held.profile text from count) name text answer done.same (λ clean opened before bases is kept. done.found clean opened held.limits before bases is kept),
-      λ clean. record {
-        looks = record { nothing = reads.same clean; caused = reads.caused clean };
-        ready = texts_after looked new first answer done.ready clean;
-        alone = (
-          alone_after format (FindSays held.profile text from count) name old mid (state g.S.Store new) answer (looked.reads.same (first clean)) (done.«open» clean) (done.alone clean),
-          λ texts. refused_after format (RefusesFind held.profile name text from count) old mid answer (looked.reads.same (first clean)) (looked.reads.opened (first clean)) (done.refused clean),
-        );
-        told = told_behind looked new first (FindOver format held.profile name text from count) (HidesFind format held.profile name text from count) answer done.tables clean;
-      },
-      λ clean.
-          told_after format
-          (λ trees content. (plan : PlanValue) × IsPlanOf held.profile text plan × PlanReads g.L.Layout.row_work g.L.Layout.block_rows plan name trees content held.work c.find.new.work) old mid (state g.S.Store new) answer
-          (looked.reads.same (first clean)) (done.«open» clean) (done.work clean),
-    )
+    let asked = c.args.question in
+    find_behind g.L.Layout.format g.L.Layout.row_work g.L.Layout.block_rows held.limits c.is_of_some_text.ensures c.in_ok-check_ready.ensures.looks c.find.new.connection c.find.result c.find.ensures.reads c.find.ensures.few
+    c.args.database.now query asked.query.now same held.work c.find.new.work c.requires.fresh asked.first asked.count c.find.ensures.tables c.find.ensures.work

@@ -9,6 +9,7 @@ abbrev pub invariant-loop-rest : goal.invariant-loop-rest
 invariant-loop-rest l = record {
   text : shadow (Utf8 l.rest);
   none : ¬ BeginsRegister l.rest → ¬ BeginsRegister l.self.text.now;
+  some : BeginsRegister l.rest → BeginsRegister l.self.text.now;
 }
 
 abbrev pub decreases-loop-rest : goal.decreases-loop-rest

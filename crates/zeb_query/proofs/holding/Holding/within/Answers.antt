@@ -1,4 +1,4 @@
-use Rattle.zeb_query.proofs.Cited.{◌≡◌, ◌<◌, ◌≤◌, ◌++◌, sym, ap, subst, ◌∙◌, Some, length, get_or, take, option_map, string_bytes, attribute_value, inner_type, holding_value, held_with}
+use Rattle.zeb_query.proofs.Cited.{◌≡◌, ◌<◌, ◌≤◌, ◌++◌, sym, ap, subst, ◌∙◌, Some, length, get_or, take, option_map, string_bytes, attribute_value, or_else, holding_value, held_with}
 use Rattle.std.proofs.Common.{map}
 use Rattle.zeb_query.specs.Attributes.{holding_of}
 use Rattle.zeb_query.proofs.HoldingLemmas.{holding_of-more, holding_of-type, take_whole}
@@ -23,7 +23,6 @@ returns-in-Some c = λ set outer held.
     let all : take i items ≡ items = take_whole items i (subst (λ xs. length xs ≤ i) c.deref-attribute-items.ensures.value c.loop-attribute-test.false) in
     let whole : option_map (λ s. string_bytes s) c.args.head.now.term_type ≡ Some type =
     ap (λ t. option_map (λ s. string_bytes s) t) c.in-Some.is ∙ ap (λ t. Some t) (sym c.as_str.ensures.value) in
-    c.set_type.ensures
-    ∙ holding_of-type set (outer.attributes ++ map attribute_value (take i items)) outer.term_type type (holding_value c.loop-attribute.holding) (c.loop-attribute.invariant set outer held)
+    holding_of-type set (outer.attributes ++ map attribute_value (take i items)) outer.term_type type (holding_value c.loop-attribute.holding) (c.loop-attribute.invariant set outer held)
     ∙ ap (λ xs. holding_of set (record { attributes = outer.attributes ++ map attribute_value xs; term_type = Some type })) all
-    ∙ sym (ap (λ t. holding_of set (record { attributes = outer.attributes ++ map attribute_value items; term_type = inner_type outer.term_type t })) whole)
+    ∙ sym (ap (λ t. holding_of set (record { attributes = outer.attributes ++ map attribute_value items; term_type = or_else t outer.term_type })) whole)

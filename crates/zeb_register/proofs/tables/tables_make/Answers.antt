@@ -1,15 +1,18 @@
-use Rattle.zeb_register.proofs.Cited.{unchanged_then, Database, state, HasCleanDisk, rules, ◌∙◌, ap, arith, IfOk-weaker}
+use Rattle.zeb_register.proofs.Cited.{unchanged_then, Database, state, HasCleanDisk, rules, subst, ◌∙◌, ap, arith, IfOk-weaker}
+use Rattle.zeb_register.specs.PrivateStoreTables.{HasEmpty, schema_before}
+use Rattle.sqlite.specs.Schema.{Schema}
 use Rattle.zeb_register.proofs.Calls.{goes_then, on_ok_so}
 use Rattle.zeb_register.proofs.CreateKeepsTables.{keeps_then}
-use Rattle.zeb_register.proofs.tables.lists_make.Goals as goal
+use Rattle.zeb_register.proofs.tables.tables_make.Goals as goal
 
 pub returns-clause-made : goal.returns-clause-made
 returns-clause-made g c clean inside has =
     let clean2 : HasCleanDisk (state g.S.Store c.table_make-2.new.tx.conn.now) = omega (arith, clean, c.table_make-3.ensures.call.crash.clean) in
     let clean1 : HasCleanDisk (state g.S.Store c.table_make.new.tx.conn.now) = omega (arith, clean2, c.table_make-2.ensures.call.crash.clean) in
-    let one = c.in_ok-table_make.ensures.made clean1 inside (has, tt) in
-    let two = c.in_ok-table_make-2.ensures.made clean2 one.inside (one.is, one.empty) in
-    c.table_make-3.ensures.made clean two.inside (two.is, two.empty)
+    let one = c.in_ok-table_make.ensures.made clean1 inside has in
+    let behind : HasEmpty (schema_before c.args.second) (state g.S.Store c.table_make.new.tx.conn.now) = subst (λ (s : Schema). HasEmpty s (state g.S.Store c.table_make.new.tx.conn.now)) c.requires.follow.0 (one.is, one.empty) in
+    let two = c.in_ok-table_make-2.ensures.made clean2 one.inside behind in
+    c.table_make-3.ensures.made clean two.inside (subst (λ (s : Schema). HasEmpty s (state g.S.Store c.table_make-2.new.tx.conn.now)) c.requires.follow.1 (two.is, two.empty))
 
 pub returns-clause-there : goal.returns-clause-there
 returns-clause-there g c clean inside has =

@@ -1,4 +1,3 @@
--- What only the contracts of private functions speak of; no public clause reaches it.
 -- One record more in a tally.
 use Rattle.std.specs.Prelude.{◌≡◌, ◌+◌}
 use Rattle.zeb_change.specs.declared.tally.Fate.{Fate}
