@@ -11,7 +11,7 @@ from concurrent.futures import ThreadPoolExecutor
 
 # What part of the planned memory these crates were seen to take at most.
 PART_OF_MEMORY = 4
-# So many processes are planned for a processor. With four, all proofs together took twice the processor time.
+# So many processes are planned for a processor. More were seen to be no faster: each is a copy of what was proved so far.
 AT_ONCE = 2
 # How many processes a proof of the longest chains has at least: rt gives it one where much else is ready too.
 IN_CHAIN = 3
