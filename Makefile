@@ -1,4 +1,4 @@
-# make            builds bin/zebraidx, which proves it first: half an hour or more the first time, on four processors; it takes over what the gate proved
+# make            builds bin/zebraidx, which proves it first: half an hour or more the first time, on four processors; later what changed
 # make try        runs the first example interpreted, with nothing proved, in some two minutes: SCRIPT=file for a script of your own
 # make run        runs the first example with the program, proved and built
 # make quick      the daily check: layout, edits, names, pages, and the proofs of the crates that changed
@@ -49,8 +49,8 @@ run: bin/zebraidx
 quick:
 	@tools/quick
 
-# tools/gate proves and tries all, by a plan that keeps the processors busy; the verdict is that of `rt ci` alone, which takes over what passed
-# there and tries the rest.
+# tools/gate proves and tries all, by a plan that keeps the processors busy, where the toolchain keeps that; the verdict is that of `rt ci` alone,
+# which takes over what passed there and tries the rest.
 check: export RT_JOBS ?= $(shell nproc)
 check:
 	tools/quick --texts

@@ -27,13 +27,14 @@ MADE_BY_HAND = {
     "crates/zeb_query/src/diagnostics.rt": (["about 3fe5f62c"], "an addinfo that there is no memory for"),
     "crates/zeb_register/src/values.rt": (["stored aaab8d06"], "a number that no column stores"),
     "crates/zeb_register/src/checked_changes.rt": (["check_numbers b9ddc21a", "check_place 773bf948"], "a number or a place that no row has"),
+    "crates/zeb_leaves/src/said_postings.rt": (["records_said 6d421f6d"], "more records than a number counts"),
     "crates/zeb_change/src/key_notes.rt": (["note 96b8ec5b"], "more changes of a key than a number counts"),
     "crates/zeb_image/src/rebuilding.rt": (["database_post 34e78b1f"], "more turns than there are numbers"),
     "crates/zeb_engine/src/session.rt": (["run_all 8bd74e81"], "no room for the answers"),
     "crates/zeb_engine/src/tables.rt": (["check_tables 9fb18e69"], "a store with other tables, and no other store, as a clause says"),
     "crates/zeb_words/src/words.rt": (["usage_of c0e9217c", "usage_of c0e9217c"], "the want of memory that the parser names, and of its text"),
     "crates/zeb_paths/src/disk.rt": (["store 82d8eb71", "read b7b8174b"], "whatever fails as a store is opened, and a read behind one that failed"),
-    "crates/zeb_paths/src/looks.rt": (["use_file 3c271fc1", "use_file 3c271fc1"], "no memory for the name of a file beside the store"),
+    "crates/zeb_paths/src/looks.rt": (["use_file 567cfb8d", "use_file 567cfb8d"], "no memory for the name of a file beside the store"),
     "crates/zeb_paths/src/shelf.rt": (["read 47e3c23b", "store 6bbb2170", "store 6bbb2170"], "a file that fails when it is read, and a shelf without a store under the path, or one that fails"),
     "crates/zeb_program/src/analyses.rt": (["analyse_files 02a34eb7"], "more files than a number counts"),
     "crates/zeb_program/src/command_line.rt": (["refuse_words c10a8481"], "the status of words that memory ran out for"),
@@ -43,7 +44,7 @@ MADE_BY_HAND = {
         "no failure, a cause; and the status of a register that wasn't closed, as a clause says",
     ),
     "crates/zeb_program/src/memory.rt": (["open_in_memory ce0a36a4", "open_in_memory ce0a36a4"], "whatever fails as a store is opened"),
-    "crates/zeb_program/src/opening.rt": (["session_over 8bfe0300"], "an open that failed, as a clause says"),
+    "crates/zeb_program/src/opening.rt": (["session_over ce2239a9"], "an open that failed, as a clause says"),
     "crates/zeb_program/src/program.rt": (["run 51ed80bc", "run 51ed80bc", "finish c2331064", "run_script 99a2903b"], "the status of want of memory, of a failed write, of an input that is no text"),
     "crates/zeb_program/src/shell.rt": (
         ["serve_lines 92da5107", "run_shell_lines 9bf77771", "run_shell_lines 9bf77771"],
@@ -171,7 +172,7 @@ class Reader:
             or name.endswith("::Memory") and behind.lstrip().startswith("::")
             or before.rstrip().endswith(("<", "==", "!=", ": &mut"))
             or re.search(r"\b(?:const|static|struct)\s+$", before)
-            or name in VALUES and before.rstrip().endswith(":") and behind.lstrip().startswith(")")
+            or (name in VALUES or name == "Self::Store") and before.rstrip().endswith(":") and behind.lstrip().startswith(")")
             or passed and self.kinds.get(passed[1]) == kind
         )
 

@@ -9,6 +9,8 @@ Edits begin when all is proved, for they hold what a proof waits for.
 import os
 from concurrent.futures import ThreadPoolExecutor
 
+from repository import ROOT
+
 # What part of the planned memory these crates were seen to take at most.
 PART_OF_MEMORY = 4
 # So many processes are planned for a processor. More were seen to be no faster: each is a copy of what was proved so far.
@@ -19,6 +21,12 @@ IN_CHAIN = 3
 PROOF_GIVES_WAY, OTHERS_GIVE_WAY = 3, 6
 # What part of the longest chain one has to have that is nearly as long.
 NEARLY = 0.9
+
+
+def work_of(name):
+    """The work of a crate's proof, in lines of source: rt counts these alone, but two lines of proofs were seen to take as long as one of them."""
+    lines = {end: sum(it.read_bytes().count(b"\n") for it in (ROOT / "crates" / name).glob(f"{part}/**/*{end}")) for part, end in (("src", ".rt"), ("proofs", ".antt"))}
+    return lines[".rt"] + lines[".antt"] // 2
 
 
 def longest_chains(tasks):
@@ -52,6 +60,7 @@ def plan_closely(rt):
     rt.processors = lambda: AT_ONCE * there
 
     def in_lanes_by_priority(tasks):
+        tasks = {key: (waits, work_of(key[0]) if key[1] == "proof" else lines, *more) for key, (waits, lines, *more) in tasks.items()}
         first, proofs = longest_chains(tasks), [key for key in tasks if key[1] == "proof"]
 
         def laid_out(key, waits, lines, needs, call):

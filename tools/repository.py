@@ -84,6 +84,11 @@ def load_rt():
     return made
 
 
+def keeps_beside(rt):
+    """Whether this toolchain keeps what `rt ci` proved beside itself, for the next run: older kits have no part that does."""
+    return hasattr(rt, "Kept") and rt.Kept([]).at is not None
+
+
 def inside(path):
     """A path as it stands below the top of the repository."""
     return os.path.relpath(path, ROOT)

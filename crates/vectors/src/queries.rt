@@ -154,18 +154,11 @@ fn told(alloc: Global, asked: &str, profile: &Profile, text: &str) -> Result<Str
     Ok(line?)
 }
 
-/// A fault as one line.
+/// A diagnostic as it is printed, behind its first word.
 fn fault_line(alloc: Global, fault: &QueryFault) -> Result<String, AllocError> {
-    let QueryFault::Diagnostic {
-        number,
-        place,
-        addinfo,
-    } = fault
-    else {
-        return Err(AllocError);
-    };
-    let line = format!(in alloc; "{number} at {place}: {addinfo}")?;
-    String::from_str(alloc, line.trim_end_matches(": "))
+    let line = fault.to_string(alloc)?;
+    let line = line.strip_prefix("diagnostic ").ok_or(AllocError)?;
+    String::from_str(alloc, line)
 }
 
 fn answer(alloc: Global, text: &str) -> Result<String, AllocError> {

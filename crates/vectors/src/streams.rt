@@ -67,6 +67,11 @@ bytewise 65535 * \x20 -> ReadFault, failed, 65536 reads
 bytewise 65535 * \x20+xxxxx -> LengthDigits, ReadFault, failed, 65541 reads
 bytewise 65535 * \x20+00025 -> LengthRange, ReadFault, failed, 65541 reads
 bytewise 65535 * \x20+99999nam a2200025 a 4500\x1e+99973 * \x20+\x1d -> 99999, ReadFault, failed, 165535 reads
+# Nor is it asked again once it has told its end, but for the next record.
+ended  -> end, 1 reads
+ended moby -> moby, end, 110 reads
+ended 63 of cafe -> Truncated, end, 65 reads
+ended xxxx -> Truncated, end, 6 reads
 ";
 
 /// A reader that gives at most so many bytes at a time, and fails once, where so many are left. It counts how often it is asked.
@@ -148,6 +153,7 @@ fn answer(alloc: Global, text: &str) -> Result<String, AllocError> {
         "slice" => return readings(alloc, bytes, &mut Slice::new(bytes)),
         "reader" => return readings(alloc, bytes, &mut FromRead::new(bytes)),
         "bytewise" => (1, Some(0)),
+        "ended" => (1, None),
         "failing" => (4096, Some(0)),
         "interrupted" => (4096, Some(bytes.len())),
         most => (number(most), None),
@@ -161,7 +167,7 @@ fn answer(alloc: Global, text: &str) -> Result<String, AllocError> {
     let found = readings(alloc, bytes, &mut FromRead::new(&mut reader))?;
     let reads = reader.reads;
     match how {
-        "bytewise" => format!(in alloc; "{found}, {reads} reads"),
+        "bytewise" | "ended" => format!(in alloc; "{found}, {reads} reads"),
         _ => Ok(found),
     }
 }

@@ -16,8 +16,8 @@ pub use Rattle.zeb_analysis.specs.Laws.{IsFirstRefused, IsRefusal}
 pub use Rattle.zeb_analysis.specs.Printing.{printed_number, occurrence_line, record_line}
 pub use Rattle.zeb_analysis.specs.PrivateRefusals.{ident_fault}
 pub use Rattle.zeb_analysis.specs.Lines.{AreLines, GivesLines, lines_of}
-pub use Rattle.zeb_analysis.specs.PrivateLines.{AddsFile, AddsLines, StandBehind}
-pub use Rattle.zeb_analysis.specs.PrivateWalk.{AnalysesNext, Extends, IsTaken, ReadsPlace}
+pub use Rattle.zeb_analysis.specs.PrivateLines.{StandBehind}
+pub use Rattle.zeb_analysis.specs.PrivateWalk.{AnalysesNext, Extends, IsTaken, record_at}
 pub use Rattle.zeb_analysis.specs.declared.analysing.Analysis.{Analysis}
 pub use Rattle.zeb_analysis.specs.declared.analysing.Setting.{Setting}
 pub use Rattle.zeb_analysis.specs.declared.faults.Place.{Place}
@@ -34,7 +34,7 @@ pub use Rattle.zeb_marc.proofs.SplitLaws.{NextIs, next_view, split_of-next, Soun
 pub use Rattle.zeb_marc.specs.Contents.{UnitText, units_of}
 pub use Rattle.zeb_marc.specs.Leader.{Check, first_failing, slice_checks}
 pub use Rattle.zeb_marc.specs.Records.{first_fault, IsRecordFault}
-pub use Rattle.zeb_marc.specs.Splits.{split_of, Next, at_end, a_slice, a_fault, next_of, IsNoSlice, IsSplit, IsTooLong}
+pub use Rattle.zeb_marc.specs.Splits.{split_of, Next, at_end, a_slice, a_fault, next_of, Gives, IsNoSlice, IsSplit, IsTooLong}
 pub use Rattle.zeb_marc.specs.declared.faults.MarcFault.{MarcFault}
 pub use Rattle.zeb_marc.specs.declared.faults.MarcFault.TheVariants.{ReadFault}
 pub use Rattle.zeb_profile.specs.Indexes.{identifier_pattern, unit_targets}

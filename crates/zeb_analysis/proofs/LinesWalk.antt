@@ -1,5 +1,5 @@
 -- A file whose records' lines are put behind others, and files that are taken one after the other.
-use Rattle.zeb_analysis.proofs.Cited.{◌≡◌, ◌≢◌, ◌∙◌, ℕ, ◌+◌, suc, List, [], ◌∷◌, ◌++◌, length, length-append, length-map, map, map-append, append-nil, append_assoc, flat_map, flat_map-append, string_bytes, Option, Some, None, Ok, Err, refl, sym, ap, subst, arith, option_or, next_of, Directive, Analysis, AnalysedLines, AnalysisFault, AddsLines, AnalysesNext, AnalysesTo, AreAnalysesOf, AreLines, Memory, Setting, StandBehind, analysed, first_refusal, lines_of, place_at, standing_in_all}
+use Rattle.zeb_analysis.proofs.Cited.{◌≡◌, ◌≢◌, ◌∙◌, ℕ, ◌+◌, suc, List, [], ◌∷◌, ◌++◌, length, length-append, length-map, map, map-append, append-nil, append_assoc, flat_map, flat_map-append, string_bytes, Option, Some, None, Ok, Err, refl, sym, ap, subst, arith, option_or, next_of, Directive, Analysis, AnalysedLines, AnalysisFault, AnalysesNext, AnalysesTo, AreAnalysesOf, AreLines, Memory, Setting, StandBehind, Standing, analysed, first_refusal, lines_of, place_at, standing_in_all}
 use Rattle.zeb_analysis.specs.Analysing.{standing_in}
 use Rattle.zeb_analysis.proofs.FileWalk.{IsWalked, before_first, walk_ends, walk_goes_on, walk_is_refused}
 use Rattle.zeb_analysis.proofs.SoFar.{analyses-append, as_many, refusal-append}
@@ -25,6 +25,13 @@ pub record LinesWalked (setting : Setting) (file : ℕ) (text : List ℕ) (nth :
   pub done : List Analysis
   pub behind : StandBehind old done now
   pub walked : IsWalked setting old.records file text nth left done
+
+-- none of what stands there is refused, and its lines are put behind the others
+pub record AddsLines (setting : Setting) (these : List Standing) (old new : AnalysedLines) : Type 0 where
+  pub more : List Analysis
+  pub behind : StandBehind old more new
+  pub none_refused : first_refusal setting.profile.now setting.limit old.records these ≡ None
+  pub are : AreAnalysesOf setting.profile.now these (map analysed more)
 
 module _ (setting : Setting) (file : ℕ) (text : List ℕ) (old : AnalysedLines) where
   pub lines_begin : LinesWalked setting file text 1 text old old

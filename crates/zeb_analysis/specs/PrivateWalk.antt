@@ -1,29 +1,22 @@
 -- What only the contracts of private functions speak of; no public clause reaches it.
 -- How the records of a file are read and analysed, one after the other.
-use Rattle.std.specs.Prelude.{◌≡◌, ◌≢◌, ℕ, true, false, Bool, List, ◌++◌, length, Option, Some, None, Result, Ok, Err}
+use Rattle.std.specs.Prelude.{◌≡◌, ◌≢◌, ℕ, List, ◌++◌, length, Option, Some, None, Result, Ok, Err}
 use Rattle.zeb_profile.specs.declared.directives.Directive.{Directive}
 use Rattle.zeb_marc.specs.Splits.{Next, at_end, a_slice, a_fault}
 use Rattle.zeb_analysis.specs.declared.faults.Place.{Place}
 use Rattle.zeb_analysis.specs.declared.faults.AnalysisFault.{AnalysisFault}
 use Rattle.zeb_analysis.specs.declared.faults.AnalysisFault.TheVariants.{Marc, Memory}
 use Rattle.zeb_analysis.specs.declared.analysing.Analysis.{Analysis}
-use Rattle.zeb_analysis.specs.declared.analysing.Incoming.{Incoming}
 use Rattle.zeb_analysis.specs.declared.analysing.Setting.{Setting}
 use Rattle.zeb_analysis.specs.Analysing.{Analysed, AreAnalysesOf, IsAnalysisOf, Standing, analysed, at_place, first_refusal, refusal_at}
 
 -- a record of a file, as what stands at its place
-abbrev pub record_at : Incoming → Standing
-record_at incoming = at_place incoming.place.file incoming.place.nth (Ok incoming.bytes.now)
+abbrev pub record_at : Place → List ℕ → Standing
+record_at place bytes = at_place place.file place.nth (Ok bytes)
 
 -- why a record is refused, before which so many were analysed
-abbrev pub refused_in : Setting → ℕ → Incoming → Option AnalysisFault
-refused_in setting before incoming = refusal_at setting.profile.now setting.limit before (record_at incoming)
-
--- whether there is a record where this stands next, what the buffer keeps of it, and what is left unread
-abbrev pub ReadsPlace : Place → Next → Result Bool AnalysisFault → List ℕ → List ℕ → Type 0
-ReadsPlace place at_end answer kept left = answer ≡ Ok false
-ReadsPlace place (a_slice slice rest) answer kept left = (answer ≡ Ok true) × (kept ≡ slice) × (left ≡ rest)
-ReadsPlace place (a_fault fault) answer kept left = answer ≡ Err (Marc place fault)
+abbrev pub refused_in : Setting → ℕ → Place → List ℕ → Option AnalysisFault
+refused_in setting before place bytes = refusal_at setting.profile.now setting.limit before (record_at place bytes)
 
 -- the record that stands there, before which so many were analysed, is analysed or refused, or memory ran out
 abbrev pub IsTaken : Setting → ℕ → Standing → Result (Option Analysis) AnalysisFault → Type 0
@@ -35,7 +28,7 @@ IsTaken setting before standing (Err fault) = fault ≢ Memory → refusal_at se
 -- what is answered where this stands next, and what is left unread
 abbrev pub AnalysesNext : Setting → ℕ → Place → Next → Result (Option Analysis) AnalysisFault → List ℕ → Type 0
 AnalysesNext setting before place at_end answer left = answer ≡ Ok None
-AnalysesNext setting before place (a_slice slice rest) answer left = (left ≡ rest) × IsTaken setting before (at_place place.file place.nth (Ok slice)) answer
+AnalysesNext setting before place (a_slice slice rest) answer left = (left ≡ rest) × IsTaken setting before (record_at place slice) answer
 AnalysesNext setting before place (a_fault fault) answer left = answer ≡ Err (Marc place fault)
 
 -- none of these is refused behind the first analyses, and theirs are put behind them

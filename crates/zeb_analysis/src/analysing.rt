@@ -2,7 +2,7 @@
 ghost use Rattle.std.specs.Prelude.{◌≡◌, ◌≢◌, IfOk, IfErr, OnOk, length, map};
 ghost use Rattle.zeb_marc.specs.Splits.{next_of};
 ghost use Rattle.zeb_analysis.specs.Analysing.{AnalysesTo, IsAnalysisOf, analysed, first_refusal, standing_in};
-ghost use Rattle.zeb_analysis.specs.PrivateWalk.{AnalysesNext, Extends, ReadsPlace, record_at, refused_in};
+ghost use Rattle.zeb_analysis.specs.PrivateWalk.{AnalysesNext, Extends, record_at, refused_in};
 
 use crate::faults::{AnalysisFault, Place};
 use std::alloc::Global;
@@ -30,40 +30,19 @@ pub(crate) struct Setting<'a> {
     pub(crate) limit: u64,
 }
 
-/// One record of a file.
-#[derive(Clone, Copy, Debug)]
-struct Incoming<'a> {
-    place: Place,
-    bytes: &'a [u8],
-}
-
-/// Reads the next record of a file, which has this place, into the buffer, and says whether there is one.
-fn read_record(
-    left: &mut Slice<'_>,
-    buffer: &mut RecordBuf,
-    place: Place,
-) -> Result<bool, AnalysisFault>
-    ensures { ReadsPlace place (next_of left.old) result buffer.new left.new }
-{
-    match next_record(left, buffer) {
-        Ok(found) => Ok(found.is_some()),
-        Err(fault) => Err(AnalysisFault::Marc { place, fault }),
-    }
-}
-
-/// The analysis of a record, before which so many were analysed.
+/// The analysis of a record, which has this place, and before which so many were analysed.
 fn analyse_record(
     setting: &Setting<'_>,
     before: u64,
-    incoming: Incoming<'_>,
+    place: Place,
+    bytes: &[u8],
 ) -> Result<Analysis, AnalysisFault>
-    ensures passed { OnOk result (refused_in setting.now before incoming.entry ≡ None) }
+    ensures passed { OnOk result (refused_in setting.now before place bytes.now ≡ None) }
     ensures ok { IfOk result (λ analysis.
-        IsAnalysisOf setting.now.profile.now (record_at incoming.entry) (analysed analysis)) }
+        IsAnalysisOf setting.now.profile.now (record_at place bytes.now) (analysed analysis)) }
     ensures err { IfErr result (λ fault. fault ≢ AnalysisFault.Memory
-        → refused_in setting.now before incoming.entry ≡ Some fault) }
+        → refused_in setting.now before place bytes.now ≡ Some fault) }
 {
-    let Incoming { place, bytes } = incoming;
     if before >= setting.limit {
         return Err(AnalysisFault::TooManyRecords);
     }
@@ -92,14 +71,11 @@ pub(crate) fn analyse_next(
 ) -> Result<Option<Analysis>, AnalysisFault>
     ensures { AnalysesNext setting.now before place (next_of left.old) result left.new }
 {
-    if !read_record(left, buffer, place)? {
-        return Ok(None);
+    match next_record(left, buffer) {
+        Ok(None) => Ok(None),
+        Ok(Some(_)) => Ok(Some(analyse_record(setting, before, place, buffer.bytes())?)),
+        Err(fault) => Err(AnalysisFault::Marc { place, fault }),
     }
-    let incoming = Incoming {
-        place,
-        bytes: buffer.bytes(),
-    };
-    Ok(Some(analyse_record(setting, before, incoming)?))
 }
 
 /// Puts the analyses of one file's records behind the others.

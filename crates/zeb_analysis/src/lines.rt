@@ -19,7 +19,7 @@ pub struct AnalysedLines {
 
 impl AnalysedLines {
     ghost use Rattle.zeb_analysis.specs.Lines.{AreLines, GivesLines};
-    ghost use Rattle.zeb_analysis.specs.PrivateLines.{AddsFile, StandBehind};
+    ghost use Rattle.zeb_analysis.specs.PrivateLines.{StandBehind};
 
     /// The lines of no file. `names`: the names of the indexes, each at its number.
     pub fn new(alloc: Global, names: Vec<String>) -> AnalysedLines
@@ -73,33 +73,20 @@ impl AnalysedLines {
             profile,
             limit,
         };
-        self.add_file(&setting, file, bytes)?;
-        Ok(self)
-    }
-
-    /// Puts the lines of one file's records behind the others.
-    fn add_file(
-        &mut self,
-        setting: &Setting<'_>,
-        file: u64,
-        bytes: &[u8],
-    ) -> Result<(), AnalysisFault>
-        ensures { AddsFile setting.now file bytes.now self.old self.new result }
-    {
-        let mut buffer = RecordBuf::new(setting.alloc)?;
+        let mut buffer = RecordBuf::new(alloc)?;
         let mut left = Slice::new(bytes);
         let mut nth = 1;
         while let Some(analysis) = analyse_next(
-            setting,
+            &setting,
             self.records,
             Place { file, nth },
             &mut left,
             &mut buffer,
         )? {
-            self.push(setting.alloc, &analysis)?;
+            self.push(alloc, &analysis)?;
             nth += 1;
         }
-        Ok(())
+        Ok(self)
     }
 
     /// Puts a record's lines behind the others.

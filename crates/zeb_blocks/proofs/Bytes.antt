@@ -140,3 +140,16 @@ nothing_long bytes left byte value scale so_far more large n rest small same =
     let b = begins_high high byte left rest (high_fits n value scale high small so_far.scaled is) more begins in
     let scaled = mul-le-mul_left scale b.0 in
     large (omega arith)
+
+-- ---- a number takes ten bytes at most
+length-groups : (more n : ℕ) → length (groups more n) ≤ more + 1
+unfolding groups
+length-groups zero n = omega arith
+length-groups (suc more) n = elim (cases_lt n 128) [
+  | inl low ↦ rw (groups-one (suc more) n low) (omega arith)
+  | inr high ↦ rw (groups-high more n high) (omega (arith, length-groups more (n / 128)))
+]
+
+pub length-uleb : (n : ℕ) → length (uleb n) ≤ 10
+unfolding uleb
+length-uleb n = length-groups 9 n

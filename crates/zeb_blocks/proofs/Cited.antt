@@ -9,7 +9,6 @@ pub use Rattle.std.proofs.lemmas.Result.{on_ok_weaker}
 pub use Rattle.std.specs.List.{AllByRecursion}
 pub use Rattle.zeb_blocks.specs.Blocks.{gaps_of, IsNumbered, LiesIn, start_of, BlockSpells}
 pub use Rattle.zeb_blocks.specs.Left.{Follows, EachFollows, SpellsFrom, last_from, gaps_at, posting_after}
-pub use Rattle.zeb_blocks.specs.Numbers.{IsOneNumber, IsShortestForm, number_of}
 pub use Rattle.zeb_blocks.specs.Order.{posting_cmp}
 pub use Rattle.zeb_blocks.specs.Worked.{at, ten_bytes}
 pub use Rattle.zeb_blocks.specs.Writing.{IsWritten}

@@ -7,7 +7,6 @@ pub mod Counting
 pub mod Taking
 pub mod Walking
 pub mod Pushing
-pub mod ShortestForms
 pub mod Sizes
 pub mod WorkedBlocks
 pub mod Cited

@@ -1,8 +1,8 @@
 -- How many bytes a block takes at most.
-use Rattle.zeb_blocks.proofs.Cited.{ℕ, ◌+◌, ◌*◌, ◌≤◌, List, [], ◌∷◌, ◌++◌, length, ap, arith, length-append, Gaps, Posting, BlockSpells, gaps_of, start_of}
+use Rattle.zeb_blocks.proofs.Cited.{ℕ, ◌*◌, ◌≤◌, List, [], ◌∷◌, ◌++◌, length, ap, arith, length-append, Gaps, Posting, BlockSpells, gaps_of, start_of}
 use Rattle.zeb_blocks.specs.Blocks.{bytes_of, spelled_from}
 use Rattle.zeb_blocks.specs.Numbers.{uleb}
-use Rattle.zeb_blocks.proofs.ShortestForms.{length-uleb}
+use Rattle.zeb_blocks.proofs.Bytes.{length-uleb}
 
 -- three numbers of ten bytes at most
 length-bytes_of : (gaps : Gaps) → length (bytes_of gaps) ≤ 30

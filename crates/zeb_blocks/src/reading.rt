@@ -55,11 +55,12 @@ fn push_postings(
     start: Posting,
     bytes: &[u8],
 ) -> Result<Option<Posting>, AllocError>
-    ensures { IfOk result
+    ensures found { IfOk result
         (λ found. MatchOption found ((list : List Posting) → ¬ SpellsFrom start list bytes.now)
         (λ last. (list : List Posting) × SpellsFrom start list bytes.now
         × (last_from start list ≡ last)
         × (postings.new.items ≡ postings.old.items ++ list))) }
+    ensures kept { (put : List Posting) × (postings.new.items ≡ postings.old.items ++ put) }
 {
     let mut last = start;
     let mut left = bytes;
@@ -77,7 +78,8 @@ fn push_postings(
 /// Puts the postings that the bytes spell in the block at the end of a list, in one walk over the bytes. `block` is the system numbers
 /// div 256.
 ///
-/// [`Damaged`] exactly where [`Postings::read`] says so. Then, and where memory ran out, some of them may have been put there.
+/// [`Damaged`] exactly where [`Postings::read`] says so. Then, and where memory ran out, some postings may have been put behind those that
+/// the list had.
 pub fn push_block(
     postings: &mut Vec<Posting>,
     block: u64,
@@ -88,6 +90,7 @@ pub fn push_block(
         × (postings.new.items ≡ postings.old.items ++ list))) }
     ensures damaged { IfOk result
         (λ read. OnErr read ((list : List Posting) → ¬ BlockSpells block list bytes.now)) }
+    ensures kept { (put : List Posting) × (postings.new.items ≡ postings.old.items ++ put) }
 {
     let Some(start) = start_of_block(block) else {
         return Ok(Err(Damaged));

@@ -1,8 +1,7 @@
 -- The content in which the changed keys of a record, one after the other, have the newer places.
-use Rattle.zeb_change.proofs.Cited.{◌≡◌, ◌≢◌, ◌↔◌, ◌⊎◌, ◌∙◌, ℕ, ℤ, List, [], ◌∷◌, ◌++◌, map, refl, sym, subst, inl, inr, Contains, nat_cmp_total, int_cmp_total, Has, has_contained, contains_had, all_has, has_mapped, mapped_has, Key, Occurrence, key_order, key_total, keys_apart, numbers_apart, Place, Content, HasRisingLists, posting_at, ArePlacesOf, Posting, Trees, KeepsLists, RegFault, Damaged, register_refusal, never_itself, told_by, changed_at, change_is, same_content, integers_apart, ChangedKey, ArePostingsOf, IsReposted, occurrence_at, AreChangedKeys, key_in}
+use Rattle.zeb_change.proofs.Cited.{◌≡◌, ◌≢◌, ◌↔◌, ◌⊎◌, ◌∙◌, ℕ, ℤ, List, [], ◌∷◌, ◌++◌, map, refl, sym, subst, inl, inr, Contains, nat_cmp_total, int_cmp_total, Has, has_contained, contains_had, all_has, has_mapped, mapped_has, Key, Occurrence, key_order, key_total, keys_apart, numbers_apart, Place, Content, HasRisingLists, posting_at, ArePlacesOf, Posting, Trees, KeepsLists, never_itself, told_by, changed_at, change_is, same_content, integers_apart, ChangedKey, ArePostingsOf, IsReposted, occurrence_at, AreChangedKeys, key_in}
 use Rattle.std.proofs.Common.{Less}
 use Rattle.std.specs.List.Sorted.{IsStrictlySortedBy}
-use Rattle.zeb_register.specs.declared.faults.RegFault.TheVariants as register
 
 pub moved : ℤ → ℕ → List ChangedKey → Content → Content
 moved db sysno [] content = content
@@ -155,8 +154,3 @@ still_old db sysno elder newer done rest c content up are was place =
 
 pub keeps_then : (old mid new : Trees) → KeepsLists old mid → KeepsLists mid new → KeepsLists old new
 keeps_then old mid new one two = (two.0 ∙ one.0, two.1 ∙ one.1, two.2 ∙ one.2)
-
-pub only_damaged : (fault : RegFault) → register_refusal fault ≡ Damaged → fault ≡ register.Damaged
-only_damaged register.Damaged is = refl
-only_damaged register.Store is = absurd (cc)
-only_damaged register.Memory is = absurd (cc)

@@ -46,16 +46,16 @@ pub use Rattle.ucd_table.specs.Rows.{Range}
 pub use Rattle.zeb_change.specs.Base.{Base, Kept, has_ident, kept_as, with_new, with_bytes, without_ident}
 pub use Rattle.zeb_change.specs.Conditions.{Conditions}
 pub use Rattle.zeb_change.specs.Costs.{IsFilesCost, IsWorkFor, IsCostIn, IsSlicesCost, IsRecordCost, bytes_of, newer_of, occurs_by}
-pub use Rattle.zeb_change.specs.Elders.{PassesOn, AllFindWhole, FirstFindsWhole, FindsWhole, KeepsWhole, first_record, IsSoOrDamaged, IsUpTo, KeepsAside, KeepsWholeTo, AreWholeBefore, IsWholeBefore, first_in}
+pub use Rattle.zeb_change.specs.Elders.{PassesOn, AllFindWhole, FirstFindsWhole, FindsWhole, KeepsWhole, first_record, IsSoOrDamaged, IsUpTo, KeepsWholeTo, AreWholeBefore, IsWholeBefore, first_in}
 pub use Rattle.zeb_change.specs.Folding.{Progress, files_folded, ident_in, Changed, deleted, updated, at_end, slices_folded, ◌then◌, changed_by, with_ident, with_record, counted}
 pub use Rattle.zeb_change.specs.Holding.{HoldsSome}
 pub use Rattle.zeb_change.specs.Inside.{Continues}
 pub use Rattle.zeb_change.specs.NoteWords.{KeyChange}
 pub use Rattle.zeb_change.specs.Noted.{IsDueFor, IsNothingNoted, AreTurns, noted_count, IsSettled, LeadsList, LeadsTo, WillHold, notes_at, IsNotedIn, AreNoted, changes_among, Settles}
 pub use Rattle.zeb_change.specs.Occurs.{AreOccurrencesOf, OccursIn, occurs}
-pub use Rattle.zeb_change.specs.Outcomes.{register_refusal, marc_refusal, identifier_refusal, change_refusal, fold_refusal, incoming_refusal, take_refusal, turn_refusal}
+pub use Rattle.zeb_change.specs.Outcomes.{register_refusal, marc_refusal, identifier_refusal, change_refusal, fold_refusal, take_refusal, turn_refusal}
 pub use Rattle.zeb_change.specs.PrivateChangedKeys.{AreChangedKeys, key_in, IsAddedIfChanged, place_in}
-pub use Rattle.zeb_change.specs.PrivateElders.{KeepsOtherRecords, KeepsUnder}
+pub use Rattle.zeb_change.specs.PrivateElders.{KeepsOtherRecords}
 pub use Rattle.zeb_change.specs.PrivateFaults.{as_refusal, kept_fault}
 pub use Rattle.zeb_change.specs.PrivateKeyRuns.{AreOfKey, BeginsWithKey, Stops, IsNotAbove}
 pub use Rattle.zeb_change.specs.PrivateNoteWords.{IsCutOff, counts_in, TakesChange, TakesNumber, TakesPlaces}
@@ -81,9 +81,7 @@ pub use Rattle.zeb_change.specs.declared.files.Fold.{Fold}
 pub use Rattle.zeb_change.specs.declared.kept.KeptFault.{KeptFault}
 pub use Rattle.zeb_change.specs.declared.key_notes.KeyNotes.{KeyNotes}
 pub use Rattle.zeb_change.specs.declared.key_notes.PlaceCounts.{PlaceCounts}
-pub use Rattle.zeb_change.specs.declared.part_faults.ChangeFault.{ChangeFault}
 pub use Rattle.zeb_change.specs.declared.part_faults.FoldFault.{FoldFault}
-pub use Rattle.zeb_change.specs.declared.part_faults.IncomingFault.{IncomingFault}
 pub use Rattle.zeb_change.specs.declared.part_faults.TakeFault.{TakeFault}
 pub use Rattle.zeb_change.specs.declared.part_faults.TurnFault.{TurnFault}
 pub use Rattle.zeb_change.specs.declared.pending.Pending.{Pending}
@@ -113,7 +111,6 @@ pub use Rattle.zeb_marc.specs.Directory.{FieldText}
 pub use Rattle.zeb_marc.specs.Records.{first_fault, IsRecordFault, fields_of}
 pub use Rattle.zeb_marc.specs.Splits.{Split, a_fault, a_slice, next_of}
 pub use Rattle.zeb_marc.specs.declared.faults.MarcFault.{MarcFault}
-pub use Rattle.zeb_marc.specs.declared.faults.MarcFault.TheVariants.{LengthDigits, LengthRange, Truncated, NoTerminator, LeaderCounts, BaseAddress, DirectoryLength, EntryDigits, EntryTag, EntryRange, FieldEnd, TooManySeparators}
 pub use Rattle.zeb_profile.specs.Indexes.{unit_targets}
 pub use Rattle.zeb_profile.specs.declared.directives.Directive.{Directive}
 pub use Rattle.zeb_register.proofs.Calls.{store_same}

@@ -1,5 +1,5 @@
 -- What a change finds kept under a record's identifier.
-use Rattle.zeb_change.proofs.Cited.{◌≡◌, ◌≢◌, ◌⊎◌, ◌∙◌, ℕ, ℤ, pos, List, Option, Some, None, Result, Ok, Err, IsUtf8, inl, inr, sym, subst, State, first_fault, Directive, Elder, IsElderOf, IsStore, one_ident, Refusal, Damaged, Base, Kept, IsSoOrDamaged, KeepsWhole, Changed, deleted, ident_in, GoesBy, IsWholeElder, elder_bytes, Why, why_of, IsFailing}
+use Rattle.zeb_change.proofs.Cited.{◌≡◌, ◌≢◌, ◌⊎◌, ◌∙◌, ℕ, ℤ, pos, List, Option, Some, None, Result, Ok, Err, inl, inr, sym, subst, State, first_fault, Directive, Elder, IsElderOf, IsStore, one_ident, Refusal, Damaged, IsSoOrDamaged, KeepsWhole, ident_in, GoesBy, IsWholeElder, why_of, IsFailing}
 
 -- ---- answers
 
@@ -12,11 +12,6 @@ is_so Said (Err refusal) so = inl so
 pub passed_error : {T : Type 0} (Said : Type 0) (refusal : Refusal) (result : Result T Refusal) → result ≡ Err refusal → Said ⊎ ((refusal ≡ Damaged) ⊎ IsFailing (why_of refusal))
     → IsSoOrDamaged Said result
 passed_error {T} Said refusal result told so = subst (λ (r : Result T Refusal). IsSoOrDamaged Said r) (sym told) so
-
-so_more : {T : Type 0} (One Two : Type 0) (result : Result T Refusal) → (One → Two) → IsSoOrDamaged One result → IsSoOrDamaged Two result
-so_more One Two (Ok x) more so = more so
-so_more One Two (Err refusal) more (inl so) = inl (more so)
-so_more One Two (Err refusal) more (inr other) = inr other
 
 -- no failure is damage
 no_damage : IsFailing (why_of Damaged) → ⊥
@@ -55,28 +50,4 @@ module _ (profile : List Directive) (s : State) (store : IsStore s) (db : ℤ) (
   kept_whole (Some found) is kept =
       let it = (kept (pos found.sysno) found.bytes.items is).2 in record { whole = it.whole; named = it.named; text = it.text }
 
-  -- a call that goes by the elder goes by what is kept
-  pub by_kept : {T : Type 0} (found : Option Elder) (result : Result T Refusal) → IsElderOf s.now.trees db ident found → GoesBy (IsWholeElder profile ident found) result
-      → GoesBy (KeepsWhole profile s.now.trees db ident) result
-  by_kept found result is goes = (
-    so_more _ _ result (whole_kept found is) goes.0,
-    λ damaged kept. goes.1 damaged (kept_whole found is kept),
-  )
-
--- an elder of the same bytes is what the incoming record is
-pub alike_whole : (profile : List Directive) (ident bytes : List ℕ) (elder : Option Elder) → first_fault bytes ≡ None → ident_in profile bytes ≡ Ok ident → IsUtf8 ident → elder_bytes elder ≡ Some bytes
-    → IsWholeElder profile ident elder
-alike_whole profile ident bytes None whole named text same = tt
-alike_whole profile ident bytes (Some elder) whole named text same =
-    let is : bytes ≡ elder.bytes.items = (let back = sym same in cc) in
-    record {
-      whole = subst (λ b. first_fault b ≡ None) is whole;
-      named = subst (λ b. ident_in profile b ≡ Ok ident) is named;
-      text = text;
-    }
-
 -- ---- a record that is sound is taken or fails
-
-deleted_ok : (pair : Changed) (ident : List ℕ) (base : Base) (elder : Option Kept) (why : Why) → deleted (Ok pair) ident base elder ≢ Err why
-deleted_ok pair ident base None why is = cc
-deleted_ok pair ident base (Some kept) why is = cc

@@ -1,5 +1,5 @@
 -- What is kept still while records of a change are taken, whatever rows the tables have.
-use Rattle.zeb_change.proofs.Cited.{◌≡◌, ◌≢◌, ◌↔◌, ◌⊎◌, ◌∙◌, ◌≤◌, ◌+◌, ◌∷◌, ℕ, ℤ, pos, true, false, List, [], Some, Result, Ok, Err, OnOk, inl, inr, sym, ap, subst, arith, bytes_eq, bytes_eq-Decides, Int, Text, Database, Row, State, Trees, Has, Directive, Elder, IsElderOf, KeepsMalformed, KeepsRowsBeside, KeepsOthers, Loses, Replaces, Changes, HasNumber, HasRecord, IsStore, KeepsLists, SharesRecord, databases_tree, meta_tree, record_row, records_tree, store_schema, store_same, beside_same, beside_seen, beside_then, malformed_same, malformed_seen, malformed_then, one_number, Refusal, IsSoOrDamaged, IsUpTo, KeepsAside, KeepsWhole, KeepsWholeTo, PassesOn, KeepsOtherRecords, KeepsUnder, KeepsNames}
+use Rattle.zeb_change.proofs.Cited.{◌≡◌, ◌≢◌, ◌↔◌, ◌⊎◌, ◌∙◌, ◌≤◌, ◌+◌, ◌∷◌, ℕ, ℤ, pos, true, false, List, [], Some, Result, Ok, Err, OnOk, inl, inr, sym, ap, subst, arith, bytes_eq, bytes_eq-Decides, Int, Text, Database, Row, State, Trees, Has, Directive, Elder, IsElderOf, KeepsMalformed, KeepsRowsBeside, KeepsOthers, Loses, Replaces, Changes, HasNumber, HasRecord, IsStore, KeepsLists, SharesRecord, databases_tree, meta_tree, record_row, records_tree, store_schema, store_same, beside_same, beside_seen, beside_then, malformed_same, malformed_seen, malformed_then, one_number, Refusal, IsSoOrDamaged, IsUpTo, KeepsWhole, KeepsWholeTo, PassesOn, KeepsOtherRecords, KeepsNames}
 use Rattle.zeb_change.proofs.KeptLemmas.{tests}
 
 pub same_ident : (one two : List ℕ) → (one ≡ two) ⊎ (one ≢ two)
@@ -99,20 +99,6 @@ none_owns trees db ident last other bytes there below = absurd (omega (arith, be
 names_from : (old mid new : State) → mid.now ≡ old.now → KeepsNames mid new → KeepsNames old new
 names_from old mid new same kept =
     (kept.0 ∙ ap (λ (d : Database). d.trees meta_tree) same, kept.1 ∙ ap (λ (d : Database). d.trees databases_tree) same)
-
--- it is said of the tables that a look left as they were
-pub keeps_from : (db : ℤ) (ident : List ℕ) (last after : ℕ) (old mid new : State) {T : Type 0} (result : Result T Refusal) → mid.now ≡ old.now → OnOk result (KeepsOtherRecords db ident last after mid new)
-    → OnOk result (KeepsOtherRecords db ident last after old new)
-keeps_from db ident last after old mid new (Ok x) same kept = record {
-  store = kept.store;
-  rises = kept.rises;
-  others = λ other differs. subst (λ (d : Database). KeepsUnder last db other d.trees new.now.trees) same (kept.others other differs);
-  aside = subst (λ (d : Database). KeepsAside db d.trees new.now.trees) same kept.aside;
-  beside = subst (λ (d : Database). KeepsRowsBeside (Int db ∷ []) d.trees new.now.trees) same kept.beside;
-  names = names_from old mid new same kept.names;
-  malformed = subst (λ (d : Database). KeepsMalformed d.trees new.now.trees) same kept.malformed;
-}
-keeps_from db ident last after old mid new (Err refusal) same kept = tt
 
 -- ---- records are passed on
 

@@ -51,9 +51,6 @@ AreGivenSoFar counts places index left given =
     → (done : List KeyChange) × (more : List KeyChange) × (changes ≡ done ++ more) × (drop index counts ≡ map counts_in more) × (left ≡ places_in more)
     × AreGivenAs done given
 
-pub none_given : (counts : List PlaceCounts) (places : List Place) → AreGivenSoFar counts places 0 places []
-none_given counts places changes many are = ([], changes, refl, many, are, tt)
-
 pub one_given : (counts : List PlaceCounts) (places left behind back : List Place) (index : ℕ) (given after : List RecordChange) (count : PlaceCounts) (g : RecordChange)
     → drop index counts ≡ count ∷ drop (index + 1) counts → IsCutOff left count.old g.old.now behind → IsCutOff behind count.new g.new.now back → g.sysno ≡ count.sysno
     → after ≡ given ++ g ∷ [] → AreGivenSoFar counts places index left given → AreGivenSoFar counts places (index + 1) back after
@@ -164,18 +161,6 @@ led_by_nothing db pending behind ahead none leads = λ i d key. at d key (told_i
     at : (d : ℤ) (key : Key) → (d ≡ db) ⊎ (d ≢ db) → ahead d key ≡ behind d key
     at d key (inl same) = subst (λ (x : ℤ). ahead x key ≡ behind x key) (sym same) (here key)
     at d key (inr other) = leads.others d key other
-
--- where nothing is noted, another collection with nothing noted serves as well
-pub nothing_more : (format : Format) (trees : Trees) (db : ℤ) (one two : Pending) (ahead : Content) → IsNothingNoted one → IsNothingNoted two → WillHold format trees db one ahead → WillHold format trees db two ahead
-nothing_more format trees db one two ahead none never holds = record {
-  behind = holds.behind;
-  held = holds.held;
-  storable = holds.storable;
-  leads = record {
-    each = λ key. subst (λ (o : Option KeyNotes). LeadsList o (holds.behind db key) (ahead db key)) (nothing_at one none key ∙ sym (nothing_at two never key)) (holds.leads.each key);
-    others = holds.leads.others;
-  };
-}
 
 pub held_whole : (format : Format) (trees : Trees) (db : ℤ) (pending : Pending) (ahead : Content) → IsNothingNoted pending → WillHold format trees db pending ahead → holds_in format trees ahead
 held_whole format trees db pending ahead none holds = subst (holds_in format trees) (sym (led_by_nothing db pending holds.behind ahead none holds.leads)) holds.held

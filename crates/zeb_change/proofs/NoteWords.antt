@@ -142,9 +142,6 @@ AreUnread notes left taken counts places =
     → (more : List KeyChange) × (notes.count ≡ taken + length more) × (left ≡ words_of_changes more)
     × (counts ++ map counts_in more ≡ map counts_in changes) × (places ++ places_in more ≡ places_in changes)
 
-pub none_read : (notes : KeyNotes) → AreUnread notes notes.words.items 0 [] []
-none_read notes changes noted = (changes, omega (arith, noted.count), noted.words, refl, refl)
-
 pub one_read : (notes : KeyNotes) (left behind : List ℕ) (taken : ℕ) (counts now : List PlaceCounts) (places after : List Place) → taken < notes.count
     → AreUnread notes left taken counts places → TakesChange left behind counts now places after → AreUnread notes behind (taken + 1) now after
 unfolding words_of_changes

@@ -9,15 +9,6 @@ use Rattle.std.specs.List.Sorted.{IsStrictlySortedBy}
 use Rattle.zeb_change.specs.PrivatePending.{DoKeysRise}
 use Rattle.zeb_change.proofs.NoteWords.{noted_more, one_noted}
 
--- what stands at a key is the key's
-at_same : (key k : Key) → is_at (key_order key) k ≡ true → key ≡ k
-at_same key k at = from (key_order key k) refl at
-  where
-    from : (o : Ordering) → key_order key k ≡ o → is_eq (key_order key k) ≡ true → key ≡ k
-    from Less is told = let no : is_eq Less ≡ true = sym (ap is_eq is) ∙ told in absurd (cc)
-    from Equal is told = keys_apart key k is
-    from Greater is told = let no : is_eq Greater ≡ true = sym (ap is_eq is) ∙ told in absurd (cc)
-
 -- ---- how many
 
 set_more : (test : Key → Bool) (es : List (Key × KeyNotes)) (v w : KeyNotes) → lookup test es ≡ Some v → w.count ≡ v.count + 1

@@ -1,35 +1,8 @@
 -- Why records of a change are refused, one behind the other, and what those before them lose.
-use Rattle.zeb_change.proofs.Cited.{◌≡◌, ◌≢◌, ◌⊎◌, ◌+◌, ◌<◌, ◌≤◌, ℕ, ℤ, List, [], ◌∷◌, ◌++◌, length-append, Option, None, Result, Ok, Err, IfErr, OnOk, inl, inr, arith, refl, ap, sym, subst, State, Trees, has_either, has_left, has_right, MarcFault, first_fault, IdentFault, Directive, RegFault, Elder, IsElderOf, records_tree, Refusal, TooManyRecords, Unknown, Kind, Delete, Update, Limits, Fate, Inserted, Updated, Deleted, PassedOver, Tally, AreWholeBefore, IsWholeBefore, PassesOn, ident_in, identifier_refusal, register_refusal, KeepsOtherRecords, IsDamageOrFailure, IsFullOrFails, IsRecordRefused, LosesJustNamed, TakesNamed, IsTallied, AreNamed, HasReasonAt, IsAllowed, IsAtFault, IsNamed, IsNewAt, NamesAny, why_of, IsFailing}
-use Rattle.zeb_extract.specs.declared.naming.IdentFault.TheVariants as ident_fault
-use Rattle.zeb_register.specs.declared.faults.RegFault.TheVariants as fault
+use Rattle.zeb_change.proofs.Cited.{◌≡◌, ◌⊎◌, ◌+◌, ◌<◌, ◌≤◌, ℕ, ℤ, List, [], ◌∷◌, ◌++◌, length-append, Option, None, inl, inr, arith, refl, ap, sym, subst, State, Trees, has_either, has_left, has_right, MarcFault, Directive, Elder, IsElderOf, records_tree, Refusal, TooManyRecords, Unknown, Kind, Delete, Update, Limits, Fate, Inserted, Updated, Deleted, PassedOver, Tally, AreWholeBefore, IsWholeBefore, PassesOn, KeepsOtherRecords, IsDamageOrFailure, IsFullOrFails, IsRecordRefused, LosesJustNamed, TakesNamed, IsTallied, AreNamed, HasReasonAt, IsAllowed, IsAtFault, IsNamed, IsNewAt, NamesAny, why_of, IsFailing}
 use Rattle.zeb_change.proofs.KeptStill.{rows_same, same_ident, up_more, whole_before}
 
 -- ---- answers
-
--- a fault of the store is damage or a failure
-pub fault_fails_so : (f : RegFault) → IsDamageOrFailure (register_refusal f)
-fault_fails_so fault.Damaged = inl refl
-fault_fails_so fault.Store = inr (inl refl)
-fault_fails_so fault.Memory = inr (inr refl)
-
-pub err_more : {T : Type 0} (P Q : Refusal → Type 0) (result : Result T Refusal) → ((refusal : Refusal) → P refusal → Q refusal) → IfErr result P → IfErr result Q
-err_more P Q (Ok x) more is = tt
-err_more P Q (Err refusal) more is = more refusal is
-
-pub ok_more : {T : Type 0} (P Q : Type 0) (result : Result T Refusal) → (P → Q) → OnOk result P → OnOk result Q
-ok_more P Q (Ok x) more is = more is
-ok_more P Q (Err refusal) more is = tt
-
-pub ok_always : {T : Type 0} (P : Type 0) (result : Result T Refusal) → P → OnOk result P
-ok_always P (Ok x) is = is
-ok_always P (Err refusal) is = tt
-
--- a record without a sound identifier is at fault, or memory ran out
-pub ident_at_fault : (profile : List Directive) (file nth : ℕ) (bytes : List ℕ) (f : IdentFault) → first_fault bytes ≡ None → (f ≢ ident_fault.Memory → ident_in profile bytes ≡ Err f)
-    → IsFailing (why_of (identifier_refusal file nth f)) ⊎ IsAtFault profile file nth (bytes ∷ []) None (identifier_refusal file nth f)
-ident_at_fault profile file nth bytes ident_fault.NoIdentifier whole said = inr (inr (ident_fault.NoIdentifier, whole, said (λ same. cc), refl))
-ident_at_fault profile file nth bytes ident_fault.BadIdentifier whole said = inr (inr (ident_fault.BadIdentifier, whole, said (λ same. cc), refl))
-ident_at_fault profile file nth bytes ident_fault.Memory whole said = inl (inr refl)
 
 -- ---- names
 

@@ -1,9 +1,6 @@
 -- Of results and their refusals.
-use Rattle.zeb_change.proofs.Cited.{◌≡◌, ◌∙◌, Result, Ok, Err, sym, Refusal}
+use Rattle.zeb_change.proofs.Cited.{◌≡◌, Ok, Err}
 
 -- what is accepted isn't refused
 pub not_refused : {A E : Type 0} (x : A) (e : E) → Ok x ≡ Err e → ⊥
 not_refused x e is = cc
-
-pub one_refusal : {T : Type 0} (result : Result T Refusal) (one other : Refusal) → result ≡ Err one → result ≡ Err other → one ≡ other
-one_refusal result one other told is = let both = sym told ∙ is in cc

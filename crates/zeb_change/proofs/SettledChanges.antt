@@ -1,5 +1,5 @@
 -- A change on its way whose noted changes are written, and one that begins and ends with nothing noted.
-use Rattle.zeb_change.proofs.Cited.{◌≡◌, ℕ, ℤ, List, Result, Ok, Err, arith, refl, subst, State, Directive, RegFault, Work, Format, IsStore, Fold, Pending, Refusal, Base, Kept, Progress, IsNothingNoted, IsSettled, Settles, WillBe, WillBeFolded, standing, Meets, Why, IsFolded, IsUnderWay, with_records}
+use Rattle.zeb_change.proofs.Cited.{◌≡◌, ℕ, ℤ, List, Result, arith, refl, subst, State, Directive, RegFault, Work, Format, IsStore, Fold, Pending, Base, Kept, IsNothingNoted, IsSettled, Settles, WillBe, standing, IsUnderWay, with_records}
 use Rattle.zeb_change.proofs.BaseLemmas.{with_numbered}
 use Rattle.zeb_change.proofs.CostLemmas.{due_noted}
 use Rattle.zeb_change.proofs.LeadsToContent.{held_whole, will_begin}
@@ -44,16 +44,3 @@ module _ (format : Format) (profile : List Directive) (id : ℤ) (records_of : �
       under.2,
       under.3,
     )
-
-    pub ended_fold : (first s : State) (noted : Pending) (fold : Fold) (said : Result Progress Why)
-        → Meets {A = Progress} {X = Unit {0}} (λ p _. WillBeFolded format profile id records_of (standing first noted) (standing s pending) fold p) said (Ok tt)
-        → Meets {A = Progress} {X = Unit {0}} (λ p _. IsFolded format profile id records_of first s fold p) said (Ok tt)
-    ended_fold first s noted fold (Ok p) met = record { stands = met.stands; under_way = ended s p.base met.under_way; names = met.names }
-    ended_fold first s noted fold (Err why) met = absurd met
-
-  -- a refusal is the same, whatever is said of what is accepted
-  pub refused_fold : (first s : State) (noted pending : Pending) (fold : Fold) (said : Result Progress Why) (refusal : Refusal)
-      → Meets {A = Progress} {X = Unit {0}} (λ p _. WillBeFolded format profile id records_of (standing first noted) (standing s pending) fold p) said (Err refusal)
-      → Meets {A = Progress} {X = Unit {0}} (λ p _. IsFolded format profile id records_of first s fold p) said (Err refusal)
-  refused_fold first s noted pending fold (Ok p) refusal met = met
-  refused_fold first s noted pending fold (Err why) refusal met = met

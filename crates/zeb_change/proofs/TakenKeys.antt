@@ -1,5 +1,5 @@
 -- Keys that are taken out of the notes with their changes, one after the other, and given to a layout as a run.
-use Rattle.zeb_change.proofs.Cited.{◌≡◌, ◌≢◌, ◌∙◌, ◌+◌, ◌++◌, ◌<◌, ◌≤◌, ℕ, true, false, List, [], ◌∷◌, length, length-append, eqb-true, map, refl, sym, ap, ap₂, subst, subst₂, arith, append-nil, append_assoc, AllZip, all_from, Key, key_order, KeyNotes, Pending, IsNothingNoted, changes_among, IsTakenOut}
+use Rattle.zeb_change.proofs.Cited.{◌≡◌, ◌≢◌, ◌∙◌, ◌++◌, ◌<◌, ◌≤◌, ℕ, true, false, List, [], ◌∷◌, length, length-append, eqb-true, map, refl, sym, ap, ap₂, subst, subst₂, arith, append-nil, append_assoc, AllZip, all_from, Key, key_order, KeyNotes, Pending, IsNothingNoted, changes_among, IsTakenOut}
 use Rattle.std.specs.Prelude.{◌==◌}
 use Rattle.std.specs.List.Sorted.{IsStrictlySortedBy}
 use Rattle.zeb_register.specs.RunChanges.{IsRun, changes_in, run_key}

@@ -1,5 +1,5 @@
 -- A change on its way, one record further: the table of records is written first, and then the registers.
-use Rattle.zeb_change.proofs.Cited.{◌≡◌, ◌≢◌, ℕ, ℤ, List, ◌∷◌, Result, Ok, Err, inl, inr, refl, sym, ap, subst, arith, Int, Trees, Database, State, Has, Directive, Occurrence, Content, HasRisingLists, Changes, KeepsRegisters, records_tree, record_row, store_same, Refusal, Fate, Why, why_of, Meets, IsFailing, ArePostingsOf, IsReposted, Changed, Base, Kept, Pending, LeadsTo, WillHold, Standing, WillBe, WillBeTaken, standing, IsBase, AreKept, register_refusal, KeepsNames, with_records, Format, holds_in}
+use Rattle.zeb_change.proofs.Cited.{◌≡◌, ◌≢◌, ℕ, ℤ, List, ◌∷◌, Result, Ok, Err, inl, inr, refl, sym, ap, subst, arith, Int, Trees, Database, State, Has, Directive, Occurrence, Content, HasRisingLists, Changes, KeepsRegisters, records_tree, record_row, store_same, Refusal, Why, why_of, Meets, IsFailing, ArePostingsOf, IsReposted, Base, Kept, Pending, LeadsTo, WillHold, WillBe, standing, IsBase, AreKept, register_refusal, KeepsNames, with_records, Format, holds_in}
 use Rattle.zeb_register.specs.declared.RegFault.{RegFault}
 use Rattle.zeb_register.specs.declared.RegFault.TheVariants as fault
 use Rattle.zeb_change.proofs.PostedLemmas.{IsSwap, posted_elder, posted_after}
@@ -14,14 +14,6 @@ registers_still old new Rows put = (
 )
 
 -- ---- an answer, as a definition says
-
-pub meets_failure : {A X : Type 0} (Good : A → X → Type 0) (said : Result A Why) (refusal : Refusal) → IsFailing (why_of refusal) → Meets Good said (Err refusal)
-meets_failure Good (Ok a) refusal failed = inl failed
-meets_failure Good (Err why) refusal failed = inl failed
-
-pub meets_refusal : {A X : Type 0} (Good : A → X → Type 0) (said : Result A Why) (refusal : Refusal) → said ≡ Err (why_of refusal) → Meets Good said (Err refusal)
-meets_refusal Good (Ok a) refusal same = inr same
-meets_refusal Good (Err why) refusal same = inr same
 
 pub meets_so : {A X : Type 0} (One Two : A → X → Type 0) (said : Result A Why) (r : Result X Refusal) → ((a : A) (x : X) → One a x → Two a x) → Meets One said r → Meets Two said r
 meets_so One Two (Ok a) (Ok x) so met = so a x met
@@ -60,15 +52,6 @@ module _ (format : Format) (profile : List Directive) (id : ℤ) (records_of : �
 
   pub same_names : (old new : State) → new.now ≡ old.now → KeepsNames old new
   same_names old new same = (ap (λ (db : Database). db.trees 0) same, ap (λ (db : Database). db.trees 2) same)
-
-  pub taken_after : (old mid : State) (pending : Pending) (new : Standing) (last : ℕ) (changed : Changed) (fate : Fate) → mid.now ≡ old.now
-      → WillBeTaken format profile id records_of (standing mid pending) new last changed fate → WillBeTaken format profile id records_of (standing old pending) new last changed fate
-  taken_after old mid pending new last changed fate same taken = record {
-    fate_is = taken.fate_is;
-    last_is = taken.last_is;
-    under_way = taken.under_way;
-    names = subst (λ (db : Database). (new.tables.now.trees 0 ≡ db.trees 0) × (new.tables.now.trees 2 ≡ db.trees 2)) same taken.names;
-  }
 
   -- the keys of one record are noted
   abbrev pub IsMoved : ℕ → List Occurrence → List Occurrence → Pending → Pending → Type 0

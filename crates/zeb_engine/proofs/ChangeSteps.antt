@@ -10,8 +10,7 @@ use Rattle.zeb_engine.proofs.Creating.{with_new_base, created_image, new_base_in
 use Rattle.zeb_engine.proofs.FoldNames.{files_named}
 use Rattle.zeb_engine.proofs.ReadyImages.{image_ready, ready_image}
 use Rattle.zeb_engine.proofs.DatabaseInPlace.{base_twice, bases_with, image_with, next_in, stored_at_first}
-use Rattle.zeb_engine.proofs.TurnedOutcomes.{step_changed, step_unchanged}
-use Rattle.zeb_engine.proofs.WriteSteps.{Leads}
+use Rattle.zeb_engine.proofs.TurnedOutcomes.{Leads, step_changed, step_unchanged}
 
 -- a row tells the id of its database
 row_id : (format : Format) (profile : List _) (trees : Trees) (bases : List Base) (image : IsImageOf format profile trees bases) (id : ℤ) (name : List ℕ) (last : ℤ) → HasDatabase trees id name last → id ≡ image.lists.id_of name

@@ -1,6 +1,5 @@
 -- What a look at whole tables tells of a check and of an upgrade.
 use Rattle.zeb_engine.proofs.Cited.{◌≡◌, ◌↔◌, ◌∙◌, ℕ, Bool, true, false, List, Ok, Err, IsTrue, refl, sym, ap, subst, inl, inr, Database, Trees, State, canonical_text, ChangesNothing, IsStore, Refusal, Base, Conditions, Meets, Holdings, under, IsImage, Keeps, Done, IsSomeImage, TellsImage, IsUnready, IsReadyFor, IsRefusedOver, checked, checked_from, Always, Serves}
-use Rattle.zeb_register.specs.declared.RegFault.TheVariants as register
 use Rattle.zeb_change.specs.declared.refusals.Refusal.TheVariants as refusal
 use Rattle.zeb_engine.specs.Steps.{ready}
 use Rattle.zeb_engine.proofs.Ready.{ready_good, ready_is}

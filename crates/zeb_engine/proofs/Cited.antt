@@ -4,20 +4,19 @@ pub use Rattle.sqlite.specs.Effect.{Database, Database as Contents, IsDatabase}
 pub use Rattle.sqlite.specs.Held.{Held, state}
 pub use Rattle.sqlite.specs.Order.{Row}
 pub use Rattle.sqlite.specs.Schema.{Schema}
-pub use Rattle.sqlite.specs.State.{State, KeepsCommit, HasCleanDisk, Survives, IsLive, IsUnchanged, Opens, Shows, IsRolledBack}
+pub use Rattle.sqlite.specs.State.{State, KeepsCommit, HasCleanDisk, Survives, IsLive, IsUnchanged, Opens, Shows}
 pub use Rattle.sqlite.specs.Store.{Ghosts}
 pub use Rattle.sqlite.specs.Tree.{Trees}
 pub use Rattle.sqlite.specs.declared.types.Value.TheVariants.{Int, Null, Text}
-pub use Rattle.sqlite_catalog.proofs.ListFacts.{filter_all}
 pub use Rattle.sqlite_catalog.proofs.ReadLemmas.{lists_once}
-pub use Rattle.sqlite_rules.proofs.ListLemmas.{has_contained, contains_had, all_from, all_has, has_either, has_filtered, has_kept, has_left, has_right, some_from, some_has, has_at}
+pub use Rattle.sqlite_rules.proofs.ListLemmas.{has_contained, contains_had, all_from, all_has, has_either, has_left, has_right, some_from, some_has, has_at}
 pub use Rattle.sqlite_rules.proofs.ProbeLemmas.{has_mapped, mapped_has}
 pub use Rattle.sqlite_rules.specs.Lists.{Has}
 pub use Rattle.sqlite_trees.specs.Objects.{catalog_tree}
 pub use Rattle.std.proofs.Common.{ℕ, List, Some, Err, ◌≡◌, ◌≢◌, ◌⊎◌, Result, inl, inr, refl, subst, ◌+◌, ◌-◌, ◌*◌, ◌≤◌, Ok, OnOk, String, arith, filter, length, sym, string_bytes, subst₂, take, ◌∙◌, pos, [], ◌∷◌, codes, get_or, ap, IsUtf8, Option, None, IsTrue, ◌↔◌, ℤ, ◌<◌, IfErr, IfOk, Bool, true, false, OnErr, rules, cond, Ordering, Less, Equal, Greater, if◌then◌else◌, find, nat_eq, ◌++◌, map, ap₂, append-nil, nat_lt, zero, suc, drop, ◌&&◌, ◌^◌, nat_le, Bor, IsErrAnd, not, Vec, append_assoc, ◌==◌, MatchResult, slice_get, vec_capacity}
 pub use Rattle.std.proofs.Math.Logic.{∥∥₁_elim}
 pub use Rattle.std.proofs.Math.Nat.{mul-add, mul-le-mul_left}
-pub use Rattle.std.proofs.lemmas.Bool.{cases_Bool, lt-ltb, ltb-false, ltb-true, or_cases, and_parts, and_from, eqb-true, eq-eqb}
+pub use Rattle.std.proofs.lemmas.Bool.{cases_Bool, or_cases, and_parts, and_from, eqb-true, eq-eqb}
 pub use Rattle.std.proofs.lemmas.Bool.Decides.{Decides-eqb, nat_tests}
 pub use Rattle.std.proofs.lemmas.Cmp.{eq_by_cmp_equiv, int_cmp_total}
 pub use Rattle.std.proofs.lemmas.Grind.{flat_map-append}
@@ -63,7 +62,6 @@ pub use Rattle.zeb_change.specs.Base.{Base, Kept, kept_as, with_new}
 pub use Rattle.zeb_change.specs.Conditions.{Conditions, conditions}
 pub use Rattle.zeb_change.specs.Elders.{AllFindWhole, FirstFindsWhole, IsUpTo, KeepsAside, KeepsWhole, LosesWholeAlone, PassesOn, AreWholeBefore}
 pub use Rattle.zeb_change.specs.Folding.{splits_of, Progress, at_first, files_folded, at_end, Changed, updated, deleted, changed_by, with_ident, ident_in, with_record, counted, ◌then◌, slices_folded}
-pub use Rattle.zeb_change.specs.Inside.{StaysInside}
 pub use Rattle.zeb_change.specs.RecordChanges.{AreStores}
 pub use Rattle.zeb_change.specs.RecordFolds.{FoldsFiles, OfReaders}
 pub use Rattle.zeb_change.specs.Occurs.{occurs}
@@ -83,25 +81,24 @@ pub use Rattle.zeb_change.specs.declared.settings.Limits.{Limits}
 pub use Rattle.zeb_change.specs.declared.tally.Fate.{Fate}
 pub use Rattle.zeb_change.specs.declared.tally.Fate.TheVariants.{Inserted, Updated, Deleted, PassedOver}
 pub use Rattle.zeb_engine.specs.Adopting.{StaysOpen, HasOwnTables}
-pub use Rattle.zeb_engine.specs.Finding.{FindSays, HidesHit, HidesOne, MeetsDamage, RefusesFind, FindAlone, RefusedAlone, CanBeShown, FindOver, FindTells, FindDoes, HidesFind, HidesFound, HidesPlan, has_name, AreShown, IsAnswered, IsNamed, IsPlanned, IsShown, asked_of, IsFound, IsAnsweredBy, IsPlannedBy, FindReads, IsPlanOf, PlanReads}
+pub use Rattle.zeb_engine.specs.Finding.{FindSays, HidesOne, MeetsDamage, RefusesFind, RefusedAlone, CanBeShown, FindOver, FindTells, FindDoes, HidesFind, HidesFound, HidesPlan, has_name, AreShown, IsAnswered, IsNamed, IsPlanned, IsShown, asked_of, IsFound, IsAnsweredBy, IsPlannedBy, FindReads, IsPlanOf, PlanReads}
 pub use Rattle.zeb_engine.specs.Asking.{IsSaidOrMissed, OfDatabase, IsAsked, Alone, IsSaid, Said}
 pub use Rattle.zeb_engine.specs.Scanning.{ScanSays, HidesAround, HidesPlanned, HidesTerms, ScanOver, TellsAround, ScanTells, ScanDoes, ScanReads, IsScanned, IsScanPlanned, around, IsScannedBy, IsScanPlannedBy, AreAround}
 pub use Rattle.zeb_engine.specs.Counting.{StatSays, HidesRegisters, HidesRegister, StatOver, IsSummedUp, StatTells, IsCounted, IsExtent, Paired, Target, target_list, targets_below}
 pub use Rattle.zeb_engine.specs.Analysed.{HasLines, IsAnalysed, analysis_answer, IsAnalysis}
 pub use Rattle.zeb_engine.specs.Answers.{refused, IsFailure, changed, reply_answer, Answer, answer_of, found, scanned, Extent, done, extent_of, analysed, dumped, no_database}
-pub use Rattle.zeb_engine.specs.Making.{DropsDatabase, OnAccepted, MakesDatabase, CreateOver, DropOver, CountedAnswers, CreateDoes, DropDoes}
+pub use Rattle.zeb_engine.specs.Making.{DropsDatabase, OnAccepted, MakesDatabase, CreateOver, DropOver, CountedAnswers}
 pub use Rattle.zeb_engine.specs.Hidden.{HidesDatabase, HidesOf, TellsUnlessHidden, UnlessHidden}
 pub use Rattle.zeb_engine.specs.Dumping.{HidesRecords, JoinsRecords, DumpOver, DumpTells}
-pub use Rattle.zeb_engine.specs.Changing.{AreFewRecords, EachFindsWhole, ElderOver, EldersOver, HasNumbersTo, IsOrBecomes, LeavesRows, LosesNamedOver, LosesWhole, ReasonsOver, ChangesReady, LeavesWhole, LosesNamed, ChangeDoes}
+pub use Rattle.zeb_engine.specs.Changing.{AreFewRecords, EachFindsWhole, ElderOver, EldersOver, HasNumbersTo, IsOrBecomes, LeavesRows, LosesNamedOver, LosesWhole, ReasonsOver}
 pub use Rattle.zeb_engine.specs.Causes.{HasStoreCause}
-pub use Rattle.zeb_engine.specs.Checking.{IsSomeImage, TellsImage, CheckDoes}
+pub use Rattle.zeb_engine.specs.Checking.{IsSomeImage, TellsImage}
 pub use Rattle.zeb_engine.specs.Reindexing.{CanBeRemade, IsRemade, ReindexLeaves, TellsSound, IsReadyToReindex, RefusesReindex, KeepsRule}
 pub use Rattle.zeb_engine.specs.Upgrading.{UpgradeDoes, UpgradeLeaves, RefusesUpgrade, KeepsUpgradable}
-pub use Rattle.zeb_engine.specs.Costs.{no_work, Costs, CostsAlone}
-pub use Rattle.zeb_engine.specs.Counts.{CommandCounts}
-pub use Rattle.zeb_engine.specs.Crashes.{Accepts, Bears, KeepsDisk, IsStoreDisk, Stands, Leaves, CommitsBy, CommitsAdopted, Endures, IsRefused, CommitsReindex, CommitsCommand, MayCommit, CommitsOne, IsCarriedOut, LeavesOne, AreRefused, EnduresRun, RunLeft, AdoptLasts, CommandLasts, RunLasts}
-pub use Rattle.zeb_engine.specs.Does.{AnswersAnyway, CommandOverTables, Does, InitLeaves}
-pub use Rattle.zeb_engine.specs.PrivateAdopting.{HoldsNothing, MayBeTaken}
+pub use Rattle.zeb_engine.specs.Costs.{no_work, Costs}
+pub use Rattle.zeb_engine.specs.Crashes.{Accepts, Bears, KeepsDisk, IsStoreDisk, Stands, Leaves, CommitsBy, CommitsAdopted, Endures, IsRefused, CommitsReindex, CommitsCommand, MayCommit, CommitsOne, IsCarriedOut, LeavesOne, AreRefused, EnduresRun, RunLeft}
+pub use Rattle.zeb_engine.specs.Does.{AnswersAnyway, Does, InitLeaves}
+pub use Rattle.zeb_engine.specs.PrivateAdopting.{MakesTables, MayBeTaken}
 pub use Rattle.zeb_engine.specs.PrivateChanging.{MayBeginUnder, BeginsWith, last_of, IsMissedFor, comes_to}
 pub use Rattle.zeb_engine.specs.PrivateCrashes.{IsEmptyDisk, Commits, CommitsTables}
 pub use Rattle.zeb_engine.specs.PrivateConnections.{IsSettled, LooksReady, ReadsAlone, TellsReady}
@@ -109,16 +106,14 @@ pub use Rattle.zeb_engine.specs.PrivateDone.{CommandDone, ReadersDone}
 pub use Rattle.zeb_engine.specs.PrivateDatabaseChanges.{Asked, AcceptsChange, AppliesChange, ChangesDatabase, CommitsRows, FoldsInto, Transacts, asked}
 pub use Rattle.zeb_engine.specs.PrivateLooking.{MissesDatabase, IsAskRefusal, IsUnready, FindsStanding, IsLook, RefusesText, RefusesTexts, RefusesVersion, TellsStanding, TellsText}
 pub use Rattle.zeb_engine.specs.PrivateNumbers.{AreGiven, AreWellNumbered, IsMisnumbered, PutsRow}
-pub use Rattle.zeb_engine.specs.PrivateSteps.{found_or, existing}
-pub use Rattle.zeb_engine.specs.PrivateWorks.{Always, Serves, ReachesOutcome, IsReady}
-pub use Rattle.zeb_engine.specs.PrivateWriting.{AreOf, PutsTexts, Fits, IsReached, written, IsKnown, reply_of_work, DoneOrFails, IsFree, CommitsRemade, HoldsRemade, AreUnder, IsRuled, IsUpgradable, WorkDone, WriteDone, WriteLeaves, WriteTells}
-pub use Rattle.zeb_engine.specs.Readiness.{IsReadyFor, IsRefusedOver, GoesByTexts, HidesText, KeepsText}
+pub use Rattle.zeb_engine.specs.PrivateWorks.{Always, Serves, IsReady}
+pub use Rattle.zeb_engine.specs.PrivateWriting.{AreOf, PutsTexts, HoldsRemade, LeavesNoDatabase, CreatesDatabase, DamagesWrite, DropsNamed, IsUnsound, IsWriteRefusal, MakesRow, RemakesRows, TakesRows, WriteDoes}
+pub use Rattle.zeb_engine.specs.Readiness.{IsReadyFor, IsRefusedOver, GoesByTexts, KeepsText}
 pub use Rattle.zeb_engine.specs.Replies.{shown_number, record_lines, records_text, holding_line, entry_line, hits_text, hit_line}
 pub use Rattle.zeb_engine.specs.Rules.{same_rule, are_same, is_rule_line, rule_line}
 pub use Rattle.zeb_engine.specs.Steps.{holding, start_of, checked, checked_from, Step, Ends, Outcome, dumped_by, dumped_from, dumped_in, FindAnswers, AskedAmong, AskedFrom, AskedIn, ScanAnswers, CountedFrom, CountedIn, Turn, change_ends, change_from, created_in, dropped_in, ends, turned_from, all_stay, OnlyAnswers, FoundFrom, ScannedFrom, Run, TellsOrFails, StatAnswers, TakesFiles}
-pub use Rattle.zeb_engine.specs.Taking.{GivesBack, TakesOver}
-pub use Rattle.zeb_engine.specs.Transactions.{AsksStore, Commanded, CommandedBy, EnduresRefusal, LeavesNoMore, IsDurable, NoneAsks, CommandHolds}
-pub use Rattle.zeb_engine.specs.Works.{ServesBy, ServesCommand, Runs, FindOpen, InTurn, CommandTurns, RunHolds}
+pub use Rattle.zeb_engine.specs.Transactions.{AsksStore, Commanded, CommandedBy, EnduresRefusal, LeavesNoMore, IsDurable, NoneAsks}
+pub use Rattle.zeb_engine.specs.Works.{ServesBy, ServesCommand, Runs, FindOpen, InTurn, CommandTurns}
 pub use Rattle.zeb_engine.specs.declared.commands.Command.{Command}
 pub use Rattle.zeb_engine.specs.declared.commands.Command.TheVariants.{Find, Scan, Change, Init, Check, Reindex, Upgrade, Create, Drop, Stat, Dump, Analyse}
 pub use Rattle.zeb_engine.specs.declared.find.Question.{Question}
@@ -138,7 +133,6 @@ pub use Rattle.zeb_image.specs.Holdings.{Holdings, base_named, new_base, under, 
 pub use Rattle.zeb_image.specs.Image.{HasTexts, AreBases, IsImage, IsImageOf, Keeps, AreListed, IsImageUnder, AreListsOf}
 pub use Rattle.zeb_image.specs.NameOf.{name_bytes}
 pub use Rattle.zeb_image.specs.Names.{IsDatabaseName}
-pub use Rattle.zeb_image.specs.Rebuilding.{AreReadableLists, AreSound}
 pub use Rattle.zeb_image.specs.declared.names.DbName.{DbName}
 pub use Rattle.zeb_keys.specs.declared.Register.{Register}
 pub use Rattle.zeb_keys.specs.declared.keys.Key.{Key}
@@ -179,28 +173,27 @@ pub use Rattle.zeb_register.proofs.DatabaseStatements.{one_name}
 pub use Rattle.zeb_register.proofs.FormatLemmas.{registers_empty, registers_stay, one_format}
 pub use Rattle.zeb_register.proofs.Malformed.{malformed_same, malformed_then}
 pub use Rattle.zeb_register.proofs.OccurringLemmas.{one_terms, one_totals, terms_as, totals_as}
-pub use Rattle.zeb_register.proofs.RisingLists.{kept_rises, pushed_rises, same_list}
+pub use Rattle.zeb_register.proofs.RisingLists.{same_list}
 pub use Rattle.zeb_register.proofs.RowsAreLists.{one_last, one_text}
 pub use Rattle.zeb_register.proofs.TermLists.{has_taken}
 pub use Rattle.zeb_register.specs.Calls.{ChangesNothing, OnlyReads, GoesOn, Alters, Inside, MayRefuse}
 pub use Rattle.zeb_register.specs.Catalog.{IsDatabaseOf, PutsDatabase, AreCountedDatabases}
 pub use Rattle.zeb_register.specs.Clauses.{IsReasoned}
 pub use Rattle.zeb_register.specs.Content.{Content, Posting, posting_cmp, IsStorable, posted, HasRisingLists, IsWithout, TakesWhole}
-pub use Rattle.zeb_register.specs.Formats.{Format, holds_in, version_of, plain_rows, packed_blocks}
+pub use Rattle.zeb_register.specs.Formats.{Format, holds_in, version_of, plain_rows}
 pub use Rattle.zeb_register.specs.Kept.{IsFirstFrom, AreReadable, IsNumberOf, IsRecordCount, IsIdentOf, AreReadableIdents}
-pub use Rattle.zeb_register.specs.Occurring.{AreTermsBefore, AreTermsFrom, is_before, is_from, last, AreTotals}
-pub use Rattle.zeb_register.specs.PlainRows.{register_front}
+pub use Rattle.zeb_register.specs.Occurring.{AreTermsBefore, AreTermsFrom, is_before, is_from, last}
 pub use Rattle.zeb_register.specs.Sound.{KeepsBeside, KeepsMalformed, KeepsRowsBeside}
 pub use Rattle.zeb_register.specs.Terms.{HidesBefore, HidesFrom, HidesSums, ListsBefore, ListsFrom, SumsUp}
-pub use Rattle.zeb_register.specs.Sql.{HasRow, Replaces, KeepsOthers, Loses, KeepsTables}
-pub use Rattle.zeb_register.specs.Store.{IsStore, IsEmptyStore, Changes, LacksRegisters, meta_tree, entry, IsEntryOf, record_row, HasDatabase, HasRecord, blocks_tree, databases_tree, dict_tree, postings_tree, KeepsRegisters, IsRecordIn, TakesDatabase, IsPostingIn, records_tree, IsValueOf, AreReadableTexts, KeepsLists}
+pub use Rattle.zeb_register.specs.Sql.{HasRow, Replaces, KeepsOthers, Loses}
+pub use Rattle.zeb_register.specs.Store.{IsStore, IsEmptyStore, Changes, LacksRegisters, meta_tree, entry, IsEntryOf, record_row, HasDatabase, HasRecord, blocks_tree, databases_tree, dict_tree, postings_tree, KeepsRegisters, IsRecordIn, TakesDatabase, IsValueOf, AreReadableTexts, KeepsLists}
 pub use Rattle.zeb_register.specs.Tables.{store_schema, no_schema}
 pub use Rattle.zeb_register.specs.Tallies.{Works}
 pub use Rattle.zeb_register.specs.declared.RegFault.{RegFault}
 pub use Rattle.zeb_register.specs.declared.kept.Record.{Record}
 pub use Rattle.zeb_register.specs.declared.registers.TermCount.{TermCount}
 pub use Rattle.zeb_register.specs.declared.registers.Work.{Work}
-pub use Rattle.zeb_search.proofs.FindCalls.{hits_honest, hits_reasoned, hits_told}
+pub use Rattle.zeb_search.proofs.FindCalls.{hits_reasoned}
 pub use Rattle.zeb_search.proofs.HoldsAlike.{tree_alike}
 pub use Rattle.zeb_search.proofs.KnownHolders.{holder_known}
 pub use Rattle.zeb_search.proofs.ReadLemmas.{clean_before}

@@ -1,8 +1,7 @@
 -- What a crash leaves, by what a transaction was given to commit.
-use Rattle.zeb_engine.proofs.Cited.{◌≡◌, ◌⊎◌, ◌∙◌, ℕ, true, List, Result, Ok, Err, IfErr, OnOk, inl, inr, arith, refl, sym, ap, subst, IsTrue, Trees, Ghosts, Database, IsDatabase, State, HasCleanDisk, IsLive, IsUnchanged, Opens, Survives, Held, state, Schema, lists_once, catalog_tree, survives_then, ChangesNothing, GoesOn, IsStore, IsEmptyStore, no_schema, store_schema, Reply, Refusal, StaysOpen, Answer, reply_answer, IsFailure, Conditions, Accepts, Bears, KeepsDisk, IsStoreDisk, Stands, Leaves, CommitsBy, CommitsCommand, MayCommit, CommitsAdopted, Endures, IsEmptyDisk, Command, Init, Create, Drop, Change, Find, Scan, Check, Reindex, Upgrade, Stat, Dump, Analyse, Commits, CommitsTables, Holdings, IsImage, Keeps, Ends, Outcome, EnduresRefusal, IsDurable, LeavesNoMore, Write, Fits, IsReached, written, ServesBy, Always, ReachesOutcome, Format}
+use Rattle.zeb_engine.proofs.Cited.{◌≡◌, ◌⊎◌, ◌∙◌, true, Result, Ok, Err, IfErr, OnOk, inl, inr, arith, refl, sym, ap, subst, IsTrue, Trees, Ghosts, Database, IsDatabase, State, HasCleanDisk, IsLive, IsUnchanged, Opens, Survives, Held, state, Schema, lists_once, catalog_tree, survives_then, GoesOn, IsStore, IsEmptyStore, no_schema, store_schema, Reply, Refusal, StaysOpen, Answer, reply_answer, IsFailure, Conditions, Accepts, Bears, KeepsDisk, IsStoreDisk, Stands, Leaves, CommitsBy, CommitsCommand, MayCommit, CommitsAdopted, Endures, IsEmptyDisk, Command, Init, Create, Drop, Change, Find, Scan, Check, Reindex, Upgrade, Stat, Dump, Analyse, Commits, CommitsTables, Holdings, IsImage, Keeps, Ends, Outcome, EnduresRefusal, IsDurable, LeavesNoMore, ServesBy, Always, Format}
 use Rattle.zeb_engine.specs.declared.replies.Reply.TheVariants as reply
 use Rattle.zeb_change.specs.declared.refusals.Refusal.TheVariants as refusal
-use Rattle.zeb_engine.proofs.ServesLemmas.{keeps_still, reached_inside}
 
 -- ---- disks and stores
 
@@ -104,22 +103,6 @@ pub commit_survives : {S : Type 0} (g : Ghosts S) (old inside : Held S) (mid new
 commit_survives g old inside mid new P begins work commits so =
     survives_inside g old inside new P begins (survives_after (state g inside) mid new (λ db. db ≡ mid.now.trees) P work commits so)
 
-module _ (format : Format) (c : Conditions) where
-  -- `mid` is the connection as the work is done
-  pub commit_stands : (outcome : Holdings → Outcome) {S : Type 0} (g : Ghosts S) (F : Trees → Holdings → Type 0) (old inside : Held S) (mid : State) (answer : Reply) → inside ≡ record old { in_transaction = true }
-      → ReachesOutcome F outcome (state g inside) mid (Ok answer) → (db : Trees) → db ≡ mid.now.trees → Commits F outcome (state g old) db
-  commit_stands outcome g F old inside mid answer begins works db is before fits keeps =
-      let began = subst (λ (held : Held _). ReachesOutcome F outcome (state g held) mid (Ok answer)) begins works in
-      let was = (keeps began.0.was_open).0 in
-      let done = began.1 before (fits began.0.was_open) (record { is = was.0.is; sound = was.0.sound; keyed = was.0.keyed }) was.1 in
-      (subst Accepts (sym done.0) (reply_accepts answer), subst (λ (trees : Trees). Stands trees (outcome before).1) (sym is) (inl (store_disk mid done.1, done.2)))
-
-  -- after a look at the tables
-  pub commits_after : (outcome : Holdings → Outcome) (F G : Trees → Holdings → Type 0) (old mid : State) (db : Trees) → ChangesNothing old mid
-      → ((before : Holdings) → (IsTrue old.is_open → F old.now.trees before) → Keeps old before → IsTrue mid.is_open → G mid.now.trees before)
-      → Commits G outcome mid db → Commits F outcome old db
-  commits_after outcome F G old mid db nothing found commits before fits keeps = commits before (found before fits keeps) (keeps_still before old mid nothing keeps)
-
 -- ---- a crash after a command
 
 module _ (Told : Holdings → Answer → Holdings → Type 0) (old new : State) where
@@ -164,18 +147,6 @@ module _ (Told : Holdings → Answer → Holdings → Type 0) (old new : State) 
         | inr failed ↦ absurd (no_failure answer failed.0)
       ]
   endures_still (Err why) no_more still serves = endures_refusal why (λ other. no_more) (λ before keeps leaves db left. inl (leaves db (no_more db left)))
-
--- ---- a command that writes
-
--- `end` is the connection as the commit leaves it, and `given` as it is given back
-pub write_survives : (format : Format) (version : List ℕ) {S : Type 0} (g : Ghosts S) (w : Write) (old inside : Held S) (mid : State) (end given : Held S) → end ≡ given → (answer : Reply) → inside ≡ record old { in_transaction = true }
-    → Survives (state g inside) mid (λ _. ⊥) → Survives mid (state g end) (λ db. db ≡ mid.now.trees)
-    → (HasCleanDisk mid → IsTrue (state g inside).in_transaction → (c : Conditions) → IsReached w (state g inside) → ReachesOutcome (Fits version c w) (written c w) (state g inside) mid (Ok answer))
-    → Survives (state g old) (state g given) (λ db. (c : Conditions) → IsReached w (state g old) → Commits (Fits version c w) (written c w) (state g old) db)
-write_survives format version g w old inside mid end given same answer begins work commits works =
-    subst (λ (h : Held _). Survives (state g old) (state g h) (λ db. (c : Conditions) → IsReached w (state g old) → Commits (Fits version c w) (written c w) (state g old) db)) same
-    (commit_survives g old inside mid (state g end) _ begins work commits (λ clean db is c reached.
-    commit_stands format c (written c w) g (Fits version c w) old inside mid answer begins (works (omega (arith, commits.clean)) (rw begins refl) c (reached_inside g w old inside begins reached)) db is))
 
 -- what is committed is what the outcome says
 pub ends_commit : (does : Holdings → Outcome) (old new : State) → Survives old new (Commits Always does old) → Survives old new (CommitsBy (λ before. Ends (does before)) old)

@@ -1,5 +1,5 @@
 -- What follows from what a change of a database does, in rows (`ChangesDatabase`): all that a session promises of a change.
-use Rattle.zeb_engine.proofs.Cited.{◌≡◌, ◌≢◌, ◌⊎◌, ◌∙◌, ◌<◌, ◌≤◌, ℕ, ℤ, pos, length, map, List, Option, Some, None, Result, Ok, Err, OnOk, IsTrue, inl, inr, refl, sym, ap, subst, subst₂, arith, flat_map, Database, State, Trees, HasCleanDisk, Split, Directive, IsProfile, Work, PutsDatabase, IsDatabaseOf, AreCountedDatabases, version_of, Changes, IsStore, databases_tree, registers_stay, store_same, Refusal, Damaged, Kind, Update, AllFindWhole, PassesOn, Progress, at_first, files_folded, splits_of, LosesNamedAlone, IsRefusedFor, FoldsFiles, NeverUnready, IsFailing, Meets, Why, why_of, IsFolded, IsUnderWay, conditions_of, Conditions, AreSessions, Holdings, Base, IsImage, Keeps, name_bytes, Reply, refused, IsFailure, no_database, start_of, Outcome, Costs, ElderOver, EldersOver, LeavesRows, LosesNamedOver, ReasonsOver, BeginsWith, IsMissedFor, comes_to, last_of, IsMisnumbered, Asked, FoldsInto, AcceptsChange, ChangesDatabase, CommitsRows, Transacts, Commanded, IsReady, Serves, Commits, Accepts, Stands}
+use Rattle.zeb_engine.proofs.Cited.{◌≡◌, ◌≢◌, ◌⊎◌, ◌∙◌, ◌<◌, ◌≤◌, ℕ, ℤ, pos, length, map, List, Option, Some, None, Result, Ok, Err, OnOk, IsTrue, inl, inr, refl, sym, ap, subst, subst₂, arith, flat_map, Database, State, Trees, HasCleanDisk, Split, Directive, IsProfile, Work, PutsDatabase, IsDatabaseOf, AreCountedDatabases, version_of, Changes, IsStore, databases_tree, registers_stay, Refusal, Damaged, Kind, Update, AllFindWhole, PassesOn, Progress, at_first, files_folded, splits_of, LosesNamedAlone, IsRefusedFor, FoldsFiles, NeverUnready, IsFailing, Meets, Why, why_of, IsFolded, IsUnderWay, conditions_of, Conditions, AreSessions, Holdings, Base, IsImage, Keeps, name_bytes, Reply, refused, IsFailure, no_database, start_of, Outcome, Costs, ElderOver, EldersOver, LeavesRows, LosesNamedOver, ReasonsOver, BeginsWith, IsMissedFor, comes_to, last_of, IsMisnumbered, Asked, FoldsInto, AcceptsChange, ChangesDatabase, CommitsRows, Transacts, Commanded, IsReady, Serves, Commits}
 use Rattle.zeb_register.specs.declared.catalog.Database as catalog
 use Rattle.zeb_change.specs.UnderWay.{StandsFor}
 use Rattle.zeb_change.specs.Costs.{IsWorkFor}
@@ -11,13 +11,11 @@ use Rattle.zeb_engine.proofs.ChangeElders.{begins_at, few_elder, found_elder, le
 use Rattle.zeb_engine.proofs.ChangeNumbers.{begins_sound, put_row, showing}
 use Rattle.zeb_engine.proofs.ChangeReasons.{missed_reasons, put_reasons}
 use Rattle.zeb_engine.proofs.ChangeSteps.{IsBegun, begun, change_leads, first_way, fold_done, fold_refused}
-use Rattle.zeb_engine.proofs.CommitCrashes.{reply_accepts, store_disk}
 use Rattle.zeb_engine.proofs.ListedDatabases.{counted, none_named}
 use Rattle.zeb_engine.proofs.NoDamageAnswered.{failure_honest}
 use Rattle.zeb_engine.proofs.ReadyImages.{image_some}
-use Rattle.zeb_engine.proofs.ServesLemmas.{early_serves}
-use Rattle.zeb_engine.proofs.TurnedOutcomes.{step_unbegun}
-use Rattle.zeb_engine.proofs.WriteSteps.{Leads}
+use Rattle.zeb_engine.proofs.TransactedOutcomes.{LeadsOn, rows_commit, rows_serve}
+use Rattle.zeb_engine.proofs.TurnedOutcomes.{Leads, step_unbegun}
 
 of_ready : (refusal : Refusal) (why : Why) → why_of refusal ≡ why → IsOfReady why → IsOfReady (why_of refusal)
 of_ready refusal why is = subst IsOfReady (sym is)
@@ -305,26 +303,19 @@ module _ (Fine : Type 0) (a : Asked) (work : Work) (s : State) where
   -- ---- at the end of its transaction
 
   module _ (worked : Work) (sound : ∥ IsProfile profile ∥₁) (opened : IsTrue s.is_open) (texts : List (List ℕ)) (read_so : Told texts) where
-    pub serves : (new : State) (result : Result Reply Refusal) → Commanded s new result → Transacts (ChangesDatabase Fine a work worked) s new result → Fine → HasCleanDisk new
-        → Serves (IsReady under) (Said texts) s new result
-    serves new (Ok reply) call did fine clean before fits keeps =
-        let at = (keeps opened).0 in
-        let known = fits opened in
-        let led = leads worked new.now sound before at.1 known.0 known.1 reply (did.rows clean at.0) texts read_so in
-        inl (led.0, λ is_open. ((store_same (showing s new.now) new refl led.1, led.2), did.settled clean))
-    serves new (Err refusal) call did fine clean before fits keeps = early_serves (Said texts) (IsReady under) s new refusal (call.refused clean) (λ held known_so kept.
-        let at = (kept opened).0 in
-        let known = known_so opened in
-        refuses worked new.now sound held at.1 known.0 known.1 refusal (did.rows clean at.0) texts read_so fine) before fits keeps
+    abbrev Changed : (old new : Database) → Result Reply Refusal → Type 0
+    Changed = ChangesDatabase Fine a work worked
+
+    leads_on : LeadsOn Changed (IsReady under) (Said texts) s
+    leads_on before store image known new told does = leads worked new sound before image known.0 known.1 told does texts read_so
+
+    pub serves : (new : State) (result : Result Reply Refusal) → Commanded s new result → Transacts Changed s new result → Fine → HasCleanDisk new → Serves (IsReady under) (Said texts) s new result
+    serves new result call did fine = rows_serve Changed (IsReady under) (Said texts) s leads_on opened
+        (λ before image known next refusal does. refuses worked next sound before image known.0 known.1 refusal does texts read_so fine) new result call did
 
     -- what may be committed is what the definition leaves
-    pub commits : (disk : Trees) → CommitsRows (ChangesDatabase Fine a work worked) s disk → Commits (IsReady under) (Said texts) s disk
-    commits disk made before fits keeps =
-        let at = (keeps opened).0 in
-        let known = fits opened in
-        let left = made at.0 in
-        let led = leads worked left.1 sound before at.1 known.0 known.1 left.0 left.3 texts read_so in
-        (subst Accepts (sym led.0) (reply_accepts left.0), subst (λ (trees : Trees). Stands trees (Said texts before).1) (sym left.2) (inl (store_disk (showing s left.1) led.1, led.2)))
+    pub commits : (disk : Trees) → CommitsRows Changed s disk → Commits (IsReady under) (Said texts) s disk
+    commits = rows_commit Changed (IsReady under) (Said texts) s leads_on opened
 
   -- what an accepted change has counted
   pub costs : (worked : Work) (new : State) → HasCleanDisk new → (result : Result Reply Refusal) → Transacts (ChangesDatabase Fine a work worked) s new result → ∥ IsProfile profile ∥₁ → (texts : List (List ℕ)) → Told texts

@@ -5,7 +5,6 @@ pub mod ReadyImages
 pub mod Creating
 pub mod Dropping
 pub mod TurnedOutcomes
-pub mod NamedDatabases
 pub mod RuleLines
 pub mod RenewalSteps
 pub mod Beginning
@@ -67,5 +66,6 @@ pub mod ChangeReasons
 pub mod ChangeNumbers
 pub mod DatabaseChanges
 pub mod TransactedRows
+pub mod TransactedOutcomes
 pub mod OneRefusal
 pub mod Cited

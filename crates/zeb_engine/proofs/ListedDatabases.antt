@@ -1,24 +1,13 @@
 -- The rows of databases, and the databases that they are the image of.
-use Rattle.zeb_engine.proofs.Cited.{◌≡◌, ◌⊎◌, ℕ, ℤ, pos, List, Option, Some, None, Result, Err, refl, sym, subst, inl, inr, Trees, has_contained, contains_had, Directive, HasDatabase, AreCountedDatabases, IsDatabaseOf, RegFault, Why, why_of, Meets, IsFailure, refused, Base, base_named, AreBases, AreListed, register_refusal, MissesDatabase, named_found, named_there}
+use Rattle.zeb_engine.proofs.Cited.{◌≡◌, ◌⊎◌, ℕ, ℤ, pos, List, Option, Some, None, refl, sym, subst, inl, inr, Trees, has_contained, contains_had, Directive, HasDatabase, AreCountedDatabases, IsDatabaseOf, RegFault, why_of, IsFailure, refused, Base, base_named, AreBases, AreListed, register_refusal, MissesDatabase, named_found, named_there}
 use Rattle.zeb_register.specs.declared.catalog.Database.{Database}
 use Rattle.zeb_register.specs.declared.RegFault.TheVariants as register
 use Rattle.zeb_change.specs.declared.refusals.Refusal.TheVariants as refusal
-
--- a fault of the tables that is no damage is a failure
-pub fault_meets : {A X : Type 0} (Good : A → X → Type 0) (said : Result A Why) (fault : RegFault) → (fault ≡ register.Damaged → ⊥) → Meets Good said (Err (register_refusal fault))
-fault_meets Good said register.Damaged whole = absurd (whole refl)
-fault_meets Good said register.Store whole = inl (inl refl)
-fault_meets Good said register.Memory whole = inl (inr refl)
 
 pub fault_fails : (fault : RegFault) → (fault ≡ register.Damaged → ⊥) → IsFailure (refused (why_of (register_refusal fault)))
 fault_fails register.Damaged whole = absurd (whole refl)
 fault_fails register.Store whole = inl refl
 fault_fails register.Memory whole = inr refl
-
-pub fault_fails_or : (X : Type 0) (fault : RegFault) → (fault ≡ register.Damaged → X) → IsFailure (refused (why_of (register_refusal fault))) ⊎ X
-fault_fails_or X register.Damaged damaged = inr (damaged refl)
-fault_fails_or X register.Store damaged = inl (inl refl)
-fault_fails_or X register.Memory damaged = inl (inr refl)
 
 -- a fault of the tables is a failure, or damage that has a cause
 pub fault_or_damage : (X : Type 0) (fault : RegFault) → (fault ≡ register.Damaged → X)
@@ -57,7 +46,5 @@ module _ (trees : Trees) (bases : List Base) (id_of : List ℕ → ℤ) (listed 
           absurd (none (id_of base.name) (pos base.last) ((listed (id_of base.name) name (pos base.last)).1 (base, contains_had bases base found.0, refl, found.1, refl)))
 
 -- the row of a database that was found
-pub row_found : (trees : Trees) (asked name : List ℕ) → asked ≡ name → (o : Option Database) (found : Database) → o ≡ Some found → IsDatabaseOf trees asked o → (id : ℤ) × (last : ℕ) × HasDatabase trees id name (pos last)
-row_found trees asked name same o found is value =
-    let there : IsDatabaseOf trees asked (Some found) = subst (IsDatabaseOf trees asked) is value in
-    (found.id.0, found.last, subst (λ n. HasDatabase trees found.id.0 n (pos found.last)) same there)
+pub named_row : (trees : Trees) (asked name : List ℕ) → asked ≡ name → (o : Option Database) (found : Database) → o ≡ Some found → IsDatabaseOf trees asked o → (found : Database) × IsDatabaseOf trees name (Some found)
+named_row trees asked name same o found is value = (found, subst (λ n. IsDatabaseOf trees n (Some found)) same (subst (IsDatabaseOf trees asked) is value))

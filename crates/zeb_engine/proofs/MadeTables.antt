@@ -1,74 +1,81 @@
--- What a create makes and a drop takes, from the rows that are written up to the command.
-use Rattle.zeb_engine.proofs.Cited.{◌≡◌, ℕ, ℤ, pos, List, None, Result, Ok, Err, OnOk, refl, sym, subst₂, Database, State, Trees, ChangesNothing, IsDatabaseOf, PutsDatabase, TakesWhole, KeepsOthers, Loses, Changes, HasDatabase, IsPostingIn, IsRecordIn, IsStore, TakesDatabase, blocks_tree, databases_tree, dict_tree, meta_tree, postings_tree, records_tree, store_schema, store_same, one_name, Refusal, StaysOpen, DropsDatabase, OnAccepted, MakesDatabase}
-use Rattle.zeb_engine.proofs.ServesLemmas.{on_ok}
+-- What a create makes and a drop takes, by the rows that each writes: what is said of them on any tables.
+use Rattle.zeb_engine.proofs.Cited.{ℕ, ℤ, pos, List, Some, None, Result, Ok, Err, refl, ap, inl, inr, Bor, Database, State, TakesWhole, IsStore, IsDatabaseOf, Format, Content, IsWithout, holds_in, one_name, Refusal, Reply, DbName, name_bytes, refused, reply_answer, done, why_of, CountedAnswers, CreateOver, DropOver, HidesDatabase, TellsUnlessHidden, DropsDatabase, OnAccepted, MakesDatabase, CreatesDatabase, DropsNamed, TakesRows, WriteDoes}
+use Rattle.zeb_register.specs.declared.catalog.Database as catalog
+use Rattle.zeb_engine.specs.declared.writes.Write.TheVariants as write
+use Rattle.zeb_change.specs.RecordChanges.{AreStores}
+use Rattle.zeb_engine.proofs.HiddenRows.{misses_hidden}
 
--- the row of the database is written, and no other table
-pub made_by_row : (name : List ℕ) (id : ℤ) (old new : State) → Changes databases_tree (PutsDatabase id name (pos 0)) old new → MakesDatabase name old new
-made_by_row name id old new put = record { store = put.layout; id = id; databases = put.rows; others = put.others }
+are_store : (s : State) → AreStores s.now → IsStore s
+are_store s are = record { is = are.is; sound = are.sound; keyed = are.keyed }
 
--- ---- what is said of the same tables, shown before and after
+-- ---- the rows of a database that is taken
 
-module _ (old mid now new : State) (before : mid.now ≡ old.now) (after : new.now ≡ now.now) where
-  moved : (P : Trees → Trees → Type 0) → P mid.now.trees now.now.trees → P old.now.trees new.now.trees
-  moved P said = subst₂ (λ (a b : Database). P a.trees b.trees) before (sym after) said
+pub rows_taken : (format : Format) (id : ℤ) (old new : State) → TakesWhole id old new → ((before after : Content) → holds_in format old.now.trees before → IsWithout id before after → holds_in format new.now.trees after)
+    → TakesRows format id old.now new.now
+rows_taken format id old new taken contents = record {
+  store = record { is = taken.store.is; sound = taken.store.sound; keyed = taken.store.keyed };
+  databases = taken.databases;
+  records = taken.records;
+  postings = taken.postings;
+  blocks = taken.blocks;
+  dict = taken.dict;
+  texts = taken.texts;
+  contents = contents;
+}
 
-  pub made_between : (name : List ℕ) → MakesDatabase name mid now → MakesDatabase name old new
-  made_between name made = record {
-    store = store_same now new after made.store;
-    id = made.id;
-    databases = moved (PutsDatabase made.id name (pos 0) databases_tree) made.databases;
-    others = moved (KeepsOthers store_schema databases_tree) made.others;
-  }
+taken_whole : (format : Format) (id : ℤ) (old new : State) → TakesRows format id old.now new.now → TakesWhole id old new
+taken_whole format id old new taken = record {
+  store = are_store new taken.store;
+  databases = taken.databases;
+  records = taken.records;
+  postings = taken.postings;
+  blocks = taken.blocks;
+  dict = taken.dict;
+  texts = taken.texts;
+}
 
-  pub taken_between : (id : ℤ) → TakesWhole id mid now → TakesWhole id old new
-  taken_between id taken = record {
-    store = store_same now new after taken.store;
-    databases = moved (TakesDatabase id databases_tree) taken.databases;
-    records = moved (Loses (IsRecordIn id) records_tree) taken.records;
-    postings = moved (Loses (IsPostingIn id) postings_tree) taken.postings;
-    blocks = moved (Loses (IsPostingIn id) blocks_tree) taken.blocks;
-    dict = moved (Loses (IsPostingIn id) dict_tree) taken.dict;
-    texts = moved (λ a b. b meta_tree ≡ a meta_tree) taken.texts;
-  }
+-- ---- behind the look for the name
 
-  pub dropped_between : (name : List ℕ) → DropsDatabase name mid now → DropsDatabase name old new
-  dropped_between name dropped = record {
-    id = dropped.id;
-    last = dropped.last;
-    there = moved (λ a b. HasDatabase a dropped.id name dropped.last) dropped.there;
-    none = moved (λ a b. IsDatabaseOf b name None) dropped.none;
-    taken = taken_between dropped.id dropped.taken;
-  }
+pub create_so : (format : Format) (name : Bor DbName) (old new : Database) → IsDatabaseOf old.trees (name_bytes name.now) None → (result : Result Reply Refusal) → WriteDoes format (write.Create name) old new result
+    → CreatesDatabase (name_bytes name.now) old new result
+create_so format name old new none (Ok told) does = (none, does.0, does.1)
+create_so format name old new none (Err refusal) (inl failed) = inl failed
+create_so format name old new none (Err refusal) (inr damaged) = absurd damaged.1
 
--- ---- after a look at the tables
+pub drop_so : (format : Format) (name : Bor DbName) (found : catalog.Database) (old new : Database) → IsDatabaseOf old.trees (name_bytes name.now) (Some found) → (result : Result Reply Refusal)
+    → WriteDoes format (write.Drop name found.id) old new result → DropsNamed format (name_bytes name.now) old new result
+drop_so format name found old new row (Ok told) does = (found, row, does.0, does.1)
+drop_so format name found old new row (Err refusal) (inl failed) = inl failed
+drop_so format name found old new row (Err refusal) (inr damaged) = absurd damaged.1
 
-module _ {T : Type 0} (name : List ℕ) (old mid new : State) (still : mid.now ≡ old.now) where
-  pub made_after : (result : Result T Refusal) → OnOk result (IsStore mid → MakesDatabase name mid new) → OnAccepted (MakesDatabase name) old new result
-  made_after (Ok x) did store = made_between old mid new new still refl name (did (store_same old mid still store))
-  made_after (Err why) did store = tt
+-- ---- what is said of any tables
 
-  -- the database that has the name is the one that is taken
-  pub dropped_after : (id last : ℤ) → HasDatabase old.now.trees id name last → (result : Result T Refusal) → OnOk result (IsStore mid → TakesWhole id mid new)
-      → IsStore old → OnOk result (DropsDatabase name old new)
-  dropped_after id last row (Ok x) did store =
-      let taken = taken_between old mid new new still refl id (did (store_same old mid still store)) in
-      record {
-        id = id;
-        last = last;
-        there = row;
-        none = λ i l there. let was = (taken.databases i name l).0 there in was.1 (one_name old i id name l last store was.0 row);
-        taken = taken;
-      }
-  dropped_after id last row (Err why) did store = tt
+module _ (name : List ℕ) (old new : State) where
+  pub creates_told : (result : Result Reply Refusal) → CreatesDatabase name old.now new.now result → TellsUnlessHidden (CreateOver name) (HidesDatabase name) old.now.trees result
+  creates_told (Ok told) does = inl (inl (does.0, ap reply_answer does.1))
+  creates_told (Err refusal) (inl failed) = inr (inr failed)
+  creates_told (Err refusal) (inr (inl there)) =
+      let found = there.1.0 in inl (inr (found.id.0, pos found.last, there.1.1, ((found.last, refl), ap (λ (r : Refusal). refused (why_of r)) there.0)))
+  creates_told (Err refusal) (inr (inr damaged)) = inr (inl (ap Err damaged.0, damaged.1))
 
--- after a look at whether the register is ready
-module _ {T : Type 0} (name : List ℕ) (old mid new : State) (nothing : ChangesNothing old mid) (opened : StaysOpen old mid) (result : Result T Refusal) where
-  pub makes_ready : OnAccepted (MakesDatabase name) mid new result → OnAccepted (MakesDatabase name) old new result
-  makes_ready did store =
-      let still = (nothing opened.1).1 in
-      on_ok result (MakesDatabase name mid new) (MakesDatabase name old new) (made_between old mid new new still refl name) (did (store_same old mid still store))
+  pub creates_makes : (result : Result Reply Refusal) → (IsStore old → CreatesDatabase name old.now new.now result) → OnAccepted (MakesDatabase name) old new result
+  creates_makes (Ok told) does store = let made = (does store).2 in record { store = are_store new made.1.store; id = made.0; databases = made.1.rows; others = made.1.others }
+  creates_makes (Err refusal) does store = tt
 
-  pub drops_ready : OnAccepted (DropsDatabase name) mid new result → OnAccepted (DropsDatabase name) old new result
-  drops_ready did store =
-      let still = (nothing opened.1).1 in
-      on_ok result (DropsDatabase name mid new) (DropsDatabase name old new) (dropped_between old mid new new still refl name) (did (store_same old mid still store))
+  module _ (format : Format) where
+    pub drops_told : (result : Result Reply Refusal) → DropsNamed format name old.now new.now result → TellsUnlessHidden (DropOver name) (HidesDatabase name) old.now.trees result
+    drops_told (Ok told) does = let found = does.0 in inl (inr (found.id.0, pos found.last, does.1, ((found.last, refl), ap reply_answer does.2)))
+    drops_told (Err refusal) does = misses_hidden (CountedAnswers done) name (HidesDatabase name) old.now.trees (λ hides. hides) refusal does
+
+    pub drops_takes : (result : Result Reply Refusal) → (IsStore old → DropsNamed format name old.now new.now result) → OnAccepted (DropsDatabase name) old new result
+    drops_takes (Ok told) does store =
+        let did = does store in
+        let found = did.0 in
+        record {
+          id = found.id.0;
+          last = pos found.last;
+          there = did.1;
+          none = λ i l there. let was = (did.3.databases i name l).0 there in was.1 (one_name old i found.id.0 name l (pos found.last) store was.0 did.1);
+          taken = taken_whole format found.id.0 old new did.3;
+        }
+    drops_takes (Err refusal) does store = tt

@@ -1,6 +1,5 @@
 -- A find, a scan and a stat on any tables of a store, step by step.
-use Rattle.zeb_engine.proofs.Cited.{◌≡◌, ◌⊎◌, ℕ, ℤ, List, length, map, Result, Ok, Err, string_bytes, refl, sym, ap, subst, inl, inr, Trees, Directive, QueryFault, Diagnostic, Memory, Fails, QueryValue, SpellsQuery, IsFaultOf, IsReadable, PlanValue, ScanValue, plan_of, scan_of, RegFault, TermCount, HasDatabase, Refusal, query_refusal, register_refusal, Why, diagnostic, why_of, Meets, Reply, IsAsked, IsSaidOrMissed, OfDatabase, Answer, found, refused, scanned, IsFailure, TellsUnlessHidden, AreShown, IsAnsweredBy, IsPlannedBy, IsShown, asked_of, IsScannedBy, IsScanPlannedBy}
-use Rattle.zeb_register.specs.declared.RegFault.TheVariants as register
+use Rattle.zeb_engine.proofs.Cited.{◌≡◌, ◌⊎◌, ℕ, ℤ, List, length, map, Result, Ok, Err, string_bytes, refl, sym, ap, subst, inl, inr, Trees, Directive, QueryFault, Diagnostic, Memory, Fails, QueryValue, SpellsQuery, IsFaultOf, IsReadable, PlanValue, ScanValue, plan_of, scan_of, TermCount, HasDatabase, Refusal, query_refusal, Why, diagnostic, why_of, Meets, Reply, IsAsked, IsSaidOrMissed, OfDatabase, Answer, found, refused, scanned, IsFailure, TellsUnlessHidden, AreShown, IsAnsweredBy, IsPlannedBy, IsShown, asked_of, IsScannedBy, IsScanPlannedBy}
 use Rattle.zeb_change.specs.declared.refusals.Refusal.TheVariants as refusal
 
 -- ---- damage and failures
@@ -8,11 +7,6 @@ use Rattle.zeb_change.specs.declared.refusals.Refusal.TheVariants as refusal
 -- refused as damage, or by a failure
 abbrev pub IsFew : Refusal → Type 0
 IsFew why = (why ≡ refusal.Damaged) ⊎ IsFailure (refused (why_of why))
-
-pub fault_few : (fault : RegFault) → IsFew (register_refusal fault)
-fault_few register.Damaged = inl refl
-fault_few register.Store = inr (inl refl)
-fault_few register.Memory = inr (inr refl)
 
 -- it is said so, or it failed
 abbrev pub IsOrFails : (Answer → Type 0) → Refusal → Type 0

@@ -1,12 +1,12 @@
 -- Calls that read, one after the other: what a command that makes them did to the connection, what they tell, and which refusals it gives.
-use Rattle.zeb_engine.proofs.Cited.{◌≡◌, false, Result, Ok, Err, IfErr, ap, sym, subst, Contents, Held, state, State, HasCleanDisk, Survives, Ghosts, Trees, QueryFault, Diagnostic, Memory, RegFault, IsReasoned, ChangesNothing, IsStore, store_same, nothing_still, nothing_then, quiet_then, clean_before, Refusal, query_refusal, register_refusal, NeverUnready, NoReadFault, ReadsAlone, IsAskRefusal}
+use Rattle.zeb_engine.proofs.Cited.{◌≡◌, false, Result, Ok, Err, IfErr, ap, sym, subst, Contents, Held, state, State, HasCleanDisk, IsUnchanged, Survives, Ghosts, Trees, QueryFault, Diagnostic, Memory, RegFault, IsReasoned, ChangesNothing, IsStore, store_same, nothing_still, nothing_then, quiet_then, clean_before, Refusal, query_refusal, register_refusal, NeverUnready, NoReadFault, ReadsAlone, IsAskRefusal}
 use Rattle.zeb_register.specs.Answers.{Answers, IfDamaged, TellsOr}
 use Rattle.zeb_register.specs.Calls.{Reading}
 use Rattle.zeb_register.specs.Clauses.{OnStore}
 use Rattle.zeb_register.specs.declared.RegFault.TheVariants as register
 use Rattle.zeb_register.proofs.CallsInTurn.{quiet_still}
 use Rattle.zeb_search.proofs.ReadLemmas.{IsRead}
-use Rattle.zeb_engine.proofs.StoreCauses.{HasCauseFor, fault_after}
+use Rattle.zeb_engine.proofs.StoreCauses.{HasCauseFor, fault_after, fault_caused}
 
 -- ---- which refusals it gives
 
@@ -42,6 +42,29 @@ reads_none {T = T} g held idle why caused r is =
       caused = λ clean. caused;
     } in
     subst (λ (q : Result T Refusal). ReadsAlone g held held q) (sym is) known
+
+-- a look at the tables by one call
+module _ {S A T : Type 0} (g : Ghosts S) (old new : Held S) (idle : old.in_transaction ≡ false) where
+  pub look_done : (a : A) → Reading {A = A} {E = RegFault} (state g old) (state g new) (Ok a) (λ _. IsUnchanged) → (y : T) → ReadsAlone {T = T} g old new (Ok y)
+  look_done a look y = record {
+    idle = look.idle idle;
+    same = λ clean. look.same clean idle;
+    opened = λ clean. let shown = (look.ok clean).0 in (shown.was_open, shown.is_open);
+    crash = look.crash;
+    caused = λ clean store. tt;
+  }
+
+  pub look_fails : (P : A → State → State → Type 0) (fault : RegFault) → Reading {A = A} {E = RegFault} (state g old) (state g new) (Err fault) P → IsReasoned {A = A} (state g old) (state g new) (Err fault)
+      → (r : Result T Refusal) → r ≡ Err (register_refusal fault) → ReadsAlone g old new r
+  look_fails P fault look reasoned r is =
+      let known : ReadsAlone {T = T} g old new (Err (register_refusal fault)) = record {
+        idle = look.idle idle;
+        same = λ clean. look.same clean idle;
+        opened = λ clean. tt;
+        crash = look.crash;
+        caused = λ clean store. fault_caused fault (λ is. reasoned clean store (ap Err is));
+      } in
+      subst (λ (q : Result T Refusal). ReadsAlone g old new q) (sym is) known
 
 -- a refusal that is passed on
 pub reads_passed : {S A T : Type 0} (g : Ghosts S) (old new : Held S) (why : Refusal) → ReadsAlone {T = A} g old new (Err why) → (r : Result T Refusal) → r ≡ Err why → ReadsAlone g old new r

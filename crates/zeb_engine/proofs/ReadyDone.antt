@@ -1,5 +1,5 @@
 -- What a command has done that begins with a look whether the register is ready: where it is refused there, and where it goes on.
-use Rattle.zeb_engine.proofs.Cited.{◌≡◌, ℕ, Bool, List, [], Option, Result, Ok, Err, IsTrue, string_bytes, inl, inr, refl, sym, ap, subst, Trees, Held, state, HasCleanDisk, Survives, Ghosts, Directive, Posting, Work, Format, version_of, IsStore, nothing_then, quiet_then, clean_before, Refusal, NeverUnready, NoReadFault, why_of, Reply, StaysOpen, Answer, refused, TellsUnlessHidden, UnlessHidden, CreateOver, DropOver, HidesDatabase, FindOver, HidesFind, ScanOver, HidesTerms, StatOver, HidesRegisters, DumpOver, HidesRecords, Command, Init, Create, Drop, Change, Find, Scan, Check, Reindex, Upgrade, Stat, Dump, Analyse, Limits, Conditions, conditions, name_bytes, Holdings, Base, Keeps, Turn, Outcome, Step, Ends, CountedFrom, checked_from, dumped_from, FoundFrom, ScannedFrom, ServesBy, Does, AnswersAnyway, CommandDone, ReadersDone, NoneFailed, Kind, TakesFiles, splits_of, Commanded, CommandedBy, CommitsBy, MayCommit, Commits, Always, Serves, IsReady, LooksReady, ReadsAlone, TellsReady, IsUnready, no_work}
+use Rattle.zeb_engine.proofs.Cited.{◌≡◌, ℕ, Bool, List, [], Option, Result, Ok, Err, IsTrue, string_bytes, inl, inr, refl, sym, ap, subst, Database, Trees, Held, state, HasCleanDisk, Survives, Ghosts, Directive, Posting, Work, Format, version_of, IsStore, store_same, nothing_then, quiet_then, clean_before, Refusal, NeverUnready, NoReadFault, why_of, Reply, StaysOpen, Answer, refused, TellsUnlessHidden, UnlessHidden, CreateOver, DropOver, HidesDatabase, FindOver, HidesFind, ScanOver, HidesTerms, StatOver, HidesRegisters, DumpOver, HidesRecords, Command, Init, Create, Drop, Change, Find, Scan, Check, Reindex, Upgrade, Stat, Dump, Analyse, Limits, Conditions, conditions, name_bytes, Holdings, Base, Keeps, Turn, Outcome, Step, Ends, CountedFrom, checked_from, dumped_from, FoundFrom, ScannedFrom, ServesBy, Does, AnswersAnyway, CommandDone, ReadersDone, NoneFailed, Kind, TakesFiles, splits_of, Commanded, CommandedBy, CommitsBy, MayCommit, Commits, Always, Serves, IsReady, Transacts, LooksReady, ReadsAlone, TellsReady, IsUnready, no_work}
 use Rattle.zeb_change.specs.declared.refusals.Refusal.TheVariants as refusal
 use Rattle.zeb_engine.specs.Causes.{OnlyLooks}
 use Rattle.zeb_engine.specs.Counts.{Counted}
@@ -214,6 +214,13 @@ module _ {S : Type 0} {g : Ghosts S} {version : List ℕ} {profile : List Direct
     pub texts_after : {T : Type 0} (result : Result T Refusal) → NeverUnready result → TellsReady g version profile old new result
     texts_after result never clean = ready_then version profile {X = Unit {0}} (state g old) tt (looked.texts (first clean)) result never
 
+    -- what is done to the rows that are shown still
+    pub rows_behind : (DoesRows : (old new : Database) → Result Reply Refusal → Type 0) (result : Result Reply Refusal) → Transacts DoesRows (state g mid) (state g new) result
+        → HasCleanDisk (state g new) → IsStore (state g old) → DoesRows (state g old).now (state g new).now result
+    rows_behind DoesRows result did clean store =
+        let same = (looked.reads.same (first clean) (looked.reads.opened (first clean)).1).1 in
+        subst (λ (d : Database). DoesRows d (state g new).now result) same (did.rows clean (store_same (state g old) (state g mid) same store))
+
     -- what is told of the tables that are shown still
     pub told_behind : (Over : Trees → Answer → Type 0) (Hides : Trees → Type 0) (result : Result Reply Refusal) → (HasCleanDisk (state g new) → IsStore (state g mid) → TellsUnlessHidden Over Hides (state g mid).now.trees result)
         → HasCleanDisk (state g new) → UnlessHidden version profile Over Hides (state g old) result
@@ -230,12 +237,12 @@ module _ {S : Type 0} {g : Ghosts S} {version : List ℕ} {profile : List Direct
       held_behind clean before keeps = ready_kept under_them (state g old) (state g mid) before (looked.held (first clean) limits before keeps) (looked.reads.same (first clean)) keeps
 
       -- a command that changes the databases
-      pub turn_serves : (turn : Turn) (result : Result Reply Refusal) → (HasCleanDisk (state g new) → Serves (IsReady under_them) (turned under_them turn) (state g mid) (state g new) result)
+      pub turn_serves : (turn : Turn) (result : Result Reply Refusal) → (HasCleanDisk (state g new) → IsTrue (state g mid).is_open → Serves (IsReady under_them) (turned under_them turn) (state g mid) (state g new) result)
           → HasCleanDisk (state g new) → ServesBy (λ before. Ends (turned under_them turn before)) (state g old) (state g new) result
       turn_serves turn result serves clean = ends_serve (turned under_them turn) (state g old) (state g new) result (λ before fits keeps.
-          let at = held_behind clean before keeps in serves clean before (λ _. (at.0, at.1)) at.3)
+          let at = held_behind clean before keeps in serves clean at.2.1 before (λ _. (at.0, at.1)) at.3)
 
-      pub turn_commits : (turn : Turn) (P : Trees → Type 0) → ((db : Trees) → P db → Commits (IsReady under_them) (turned under_them turn) (state g mid) db) → Survives (state g mid) (state g new) P
+      pub turn_commits : (turn : Turn) (P : Trees → Type 0) → (IsTrue (state g mid).is_open → (db : Trees) → P db → Commits (IsReady under_them) (turned under_them turn) (state g mid) db) → Survives (state g mid) (state g new) P
           → Survives (state g old) (state g new) (CommitsBy (λ before. Ends (turned under_them turn before)) (state g old))
       turn_commits turn P so survives = ends_commit (turned under_them turn) (state g old) (state g new) (survives_after (state g old) (state g mid) (state g new) P (Commits Always (turned under_them turn) (state g old)) looked.reads.crash survives
-          (λ clean db made before fits keeps. let at = held_behind clean before keeps in so db made before (λ _. (at.0, at.1)) at.3))
+          (λ clean db made before fits keeps. let at = held_behind clean before keeps in so at.2.1 db made before (λ _. (at.0, at.1)) at.3))

@@ -1,7 +1,5 @@
 -- What a reindex leaves over any tables of a store, and what of that is committed.
-use Rattle.zeb_engine.proofs.Cited.{◌≡◌, ◌∙◌, true, List, codes, Result, Ok, Err, OnOk, IsTrue, IsUtf8, inl, inr, ap, ap₂, arith, sym, subst, subst₂, refl, Text, Database, Held, state, HasCleanDisk, State, Survives, Ghosts, Trees, Directive, canonical_text, IsProfile, Format, version_of, IsStore, entry, store_same, one_text, Base, under, HasTexts, IsImage, Write, CanBeRemade, IsRemade, ReindexLeaves, CommitsReindex, IsStoreDisk, CommitsRemade, HoldsRemade, WriteLeaves, IsReadyToReindex, KeepsText}
-use Rattle.zeb_engine.specs.declared.writes.Write.TheVariants as write
-use Rattle.zeb_engine.proofs.CommitCrashes.{commit_survives, store_disk}
+use Rattle.zeb_engine.proofs.Cited.{◌≡◌, ◌∙◌, List, codes, Result, Ok, Err, OnOk, IsTrue, IsUtf8, inl, inr, ap, ap₂, arith, sym, subst, subst₂, refl, Text, Database, State, Trees, Directive, canonical_text, IsProfile, Format, version_of, IsStore, entry, store_same, one_text, Base, under, HasTexts, IsImage, CanBeRemade, IsRemade, ReindexLeaves, CommitsReindex, IsStoreDisk, HoldsRemade, IsReadyToReindex, KeepsText}
 use Rattle.zeb_engine.proofs.RenewedImages.{apart}
 use Rattle.zeb_engine.proofs.Beginning.{entry_inside}
 
@@ -49,30 +47,6 @@ module _ (format : Format) (profile : List Directive) (readable : IsUtf8 (versio
       image = remade.image bases can.lists can.are;
     },
   )
-
--- ---- the transaction
-
-module _ (format : Format) {S : Type 0} (g : Ghosts S) (old inside : Held S) (mid : State) (begins : inside ≡ record old { in_transaction = true }) where
-  pub remade_inside : (profile : List Directive) → (IsStore (state g inside) → IsStore mid × IsRemade format profile (state g inside).now.trees mid.now.trees)
-      → IsStore (state g old) → IsStore mid × IsRemade format profile (state g old).now.trees mid.now.trees
-  remade_inside profile did store =
-      let began = subst (λ (held : Held _). IsStore (state g held) → IsStore mid × IsRemade format profile (state g held).now.trees mid.now.trees) begins did in
-      began (record { is = store.is; sound = store.sound; keyed = store.keyed })
-
-  commits_remade : (w : Write) → WriteLeaves format w (state g inside) mid → CommitsRemade format w (state g old) mid.now.trees
-  commits_remade (write.Init profile pattern) did = tt
-  commits_remade (write.Create name) did = tt
-  commits_remade (write.Drop name id) did = tt
-  commits_remade (write.Reindex alloc profile) did = λ store. let left = remade_inside profile.now did store in (store_disk mid left.0, left.1)
-  commits_remade (write.Upgrade alloc profile) did = tt
-
-  -- `end` is the connection as the commit leaves it, and `given` as it is given back
-  pub remade_survives : (w : Write) (end given : Held S) → end ≡ given → Survives (state g inside) mid (λ _. ⊥) → Survives mid (state g end) (λ db. db ≡ mid.now.trees)
-      → (HasCleanDisk mid → IsTrue (state g inside).in_transaction → WriteLeaves format w (state g inside) mid) → Survives (state g old) (state g given) (CommitsRemade format w (state g old))
-  remade_survives w end given same work commits did =
-      subst (λ (h : Held _). Survives (state g old) (state g h) (CommitsRemade format w (state g old))) same
-      (commit_survives g old inside mid (state g end) _ begins work commits (λ clean db is.
-      subst (CommitsRemade format w (state g old)) (sym is) (commits_remade w (did (omega (arith, commits.clean)) (rw begins refl)))))
 
 -- ---- after a look at the texts
 

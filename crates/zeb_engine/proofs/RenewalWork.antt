@@ -1,57 +1,15 @@
--- What work comes to inside a transaction that makes the registers anew.
-use Rattle.zeb_engine.proofs.Cited.{◌≡◌, ◌∙◌, ℕ, List, ◌∷◌, codes, Ok, Err, IsTrue, IsUtf8, refl, sym, ap, subst, inl, inr, arith, option_map, Int, Row, Trees, HasCleanDisk, State, KeepsCommit, Survives, Has, Directive, canonical_text, pattern_text, IsProfile, RegFault, Format, version_of, Replaces, Alters, GoesOn, Inside, Changes, IsEntryOf, IsStore, KeepsLists, KeepsRegisters, entry, meta_tree, goes_keeps, goes_then, Base, Conditions, AreSessions, register_refusal, Holdings, AreBases, AreListsOf, HasTexts, IsImage, IsImageOf, Done, AreReadableLists, AreSound, IsRemade, TellsSound, AreUnder, IsRuled, IsUpgradable, Outcome, ReachesOutcome}
-use Rattle.zeb_register.specs.declared.RegFault.TheVariants as register
-use Rattle.zeb_engine.specs.Steps.{reindexed, upgraded}
-use Rattle.zeb_engine.proofs.Beginning.{texts_still}
-use Rattle.zeb_engine.proofs.ListedDatabases.{fault_fails}
+-- What a reindex and an upgrade make of the rows of a store, and what that comes to from an image.
+use Rattle.zeb_engine.proofs.Cited.{◌≡◌, ◌∙◌, ℕ, List, ◌∷◌, codes, Result, Ok, Err, OnOk, IsTrue, IsUtf8, Global, refl, sym, ap, subst, inl, inr, arith, option_map, Int, Row, Bor, Trees, Database, HasCleanDisk, State, Has, Directive, canonical_text, pattern_text, RegFault, Format, version_of, Replaces, Alters, GoesOn, Inside, IsEntryOf, IsStore, KeepsLists, KeepsRegisters, entry, meta_tree, Base, Conditions, AreSessions, Refusal, Reply, Holdings, AreBases, AreListsOf, HasTexts, IsImage, IsImageOf, Done, IsRemade, IsUnsound, RemakesRows, TellsSound, WriteDoes, IsStoreDisk, CommitsRows}
+use Rattle.zeb_engine.specs.declared.writes.Write.TheVariants as write
+use Rattle.zeb_engine.specs.Steps.{reindexed, ruled, upgradable, upgraded}
+use Rattle.zeb_image.proofs.RebuiltImages.{lists_readable, lists_sound}
+use Rattle.zeb_engine.proofs.ChangeNumbers.{shown_store, showing}
+use Rattle.zeb_engine.proofs.CommitCrashes.{store_disk}
 use Rattle.zeb_engine.proofs.RenewedImages.{WasImage, image_rows, profile_put, renewed_image, ruled_image, upgradable_image, version_put, was_bases}
 use Rattle.zeb_engine.proofs.RenewalSteps.{reindex_done, upgrade_done}
-use Rattle.zeb_engine.proofs.WriteSteps.{Leads}
+use Rattle.zeb_engine.proofs.TurnedOutcomes.{Leads}
 
-pub session_of : (format : Format) (profile : List Directive) (c : Conditions) → AreUnder (version_of format) profile c → AreSessions format c
-session_of format profile c these = record { version_is = these.version_is; sound = subst (λ (p : List Directive). ∥ IsProfile p ∥₁) (sym these.profile_is) these.sound }
-
--- what was held that fits, under the session's profile
-pub found_ruled : (format : Format) (profile : List Directive) (c : Conditions) (trees : Trees) (before : Holdings) → IsRuled (version_of format) profile c before → IsImage trees before
-    → (bases : List Base) × (was : WasImage c trees bases) × (c.profile ≡ profile)
-found_ruled format profile c trees before fits image =
-    let was = ruled_image format c (session_of format profile c fits.0) trees before fits.1.0 image fits.1.1 in (fits.1.0, was.0, fits.0.profile_is)
-
-pub found_upgradable : (format : Format) (profile : List Directive) (c : Conditions) (trees : Trees) (before : Holdings) → IsUpgradable (version_of format) profile c before → IsImage trees before
-    → (bases : List Base) × (was : WasImage c trees bases) × (c.profile ≡ profile)
-found_upgradable format profile c trees before fits image =
-    let was = upgradable_image format c (session_of format profile c fits.0) trees before fits.1.0 image fits.1.1 in (fits.1.0, was.0, fits.0.profile_is)
-
--- ---- refused
-
--- damage tells of the lists or of the kept records
-pub rebuild_tells : (profile : List Directive) (trees : Trees) (fault : RegFault) → (fault ≡ register.Damaged → ¬ (AreReadableLists trees × AreSound profile trees)) → TellsSound profile trees (Err (register_refusal fault))
-rebuild_tells profile trees register.Damaged unsound = inr (inl (unsound refl, refl))
-rebuild_tells profile trees register.Store unsound = inr (inr (inl refl))
-rebuild_tells profile trees register.Memory unsound = inr (inr (inr refl))
-
-module _ (profile : List Directive) (c : Conditions) (Fits : Holdings → Type 0) (outcome : Holdings → Outcome) (old mid : State) (was_open : IsTrue old.is_open)
-    (found : (before : Holdings) → Fits before → IsImage old.now.trees before → (bases : List Base) × (was : WasImage c old.now.trees bases) × (c.profile ≡ profile)) where
-  -- no record of what is held is a faulty one
-  pub rebuild_fails : (fault : RegFault) → KeepsCommit old mid
-      → (fault ≡ register.Damaged → IsStore old → (bases : List Base) → AreListsOf old.now.trees bases → ¬ AreBases profile bases)
-      → ReachesOutcome (λ _ before. Fits before) outcome old mid (Err (register_refusal fault))
-  rebuild_fails fault keeps honest = (
-    keeps,
-    λ before fits sees. inl (fault_fails fault (λ is.
-        let at = sees was_open in
-        let it = found before (fits was_open) at.1 in
-        honest is at.0 it.0 it.1.it.image.lists (subst (λ p. AreBases p it.0) it.2 (was_bases c old.now.trees it.0 it.1)))),
-  )
-
--- behind the registers, which were made anew, the text isn't put
-pub put_fails : (Fits : Holdings → Type 0) (outcome : Holdings → Outcome) (old mid new : State) → Survives mid new (λ _. ⊥) → HasCleanDisk new → (HasCleanDisk mid → GoesOn old mid)
-    → (fault : RegFault) → (fault ≡ register.Damaged → ⊥) → (IsTrue mid.in_transaction → KeepsCommit mid new) → ReachesOutcome (λ _ before. Fits before) outcome old new (Err (register_refusal fault))
-put_fails Fits outcome old mid new crash clean made fault whole keeps =
-    let first = made (omega (arith, crash.clean)) in
-    (goes_keeps old mid new first (keeps first.mode), λ before fits sees. inl (fault_fails fault whole))
-
--- ---- done
+-- ---- the rows
 
 -- a row is put in the place of those of a table that was as before
 replaces_first : (P : Row → Type 0) (row : Row) (tree : ℕ) (old mid new : Trees) → mid tree ≡ old tree → Replaces P row tree mid new → Replaces P row tree old new
@@ -63,103 +21,92 @@ replaces_first P row tree old mid new same replaces columns = (
   λ is. (replaces columns).1 (elim is [ inl was ↦ inl ((was.0.0, subst (λ rows. Has rows (Int was.0.0 ∷ columns)) (sym same) was.0.1), was.1) | inr put ↦ inr put ]),
 )
 
--- the registers are made anew by the profile, and `put` is the text that was put then under this name
-pub record Renews (format : Format) (profile : List Directive) (name put : List ℕ) (old mid new : State) : Type 0 where
-  pub first : GoesOn old mid
-  pub rebuilt : IsStore old → IsStore mid × KeepsLists old.now.trees mid.now.trees
-      × ((bases : List Base) → AreListsOf old.now.trees bases → AreBases profile bases → IsImageOf format profile mid.now.trees bases)
-  pub alters : Alters meta_tree (Replaces (IsEntryOf name) (entry name put)) mid new
-
--- what the two calls do where both are accepted
-pub renews : (format : Format) (profile : List Directive) (name text put : List ℕ) (old mid new : State) → text ≡ put → HasCleanDisk new → IsTrue old.in_transaction
+-- the registers are made anew by the profile, and a text is put then
+pub remakes : (format : Format) (profile : List Directive) (name text put : List ℕ) (old mid new : State) → text ≡ put → HasCleanDisk new → IsTrue old.in_transaction → IsStore old
     → Inside {A = Unit {0}} {E = RegFault} old mid (Ok tt) (λ _. GoesOn)
     → (HasCleanDisk mid → IsTrue old.in_transaction → IsStore old → IsStore mid × KeepsLists old.now.trees mid.now.trees
     × ((bases : List Base) → AreListsOf old.now.trees bases → AreBases profile bases → IsImageOf format profile mid.now.trees bases))
-    → Inside {A = Unit {0}} {E = RegFault} mid new (Ok tt) (λ _. Alters meta_tree (Replaces (IsEntryOf name) (entry name text))) → Renews format profile name put old mid new
-renews format profile name text put old mid new same clean inside rebuilds built puts =
+    → Inside {A = Unit {0}} {E = RegFault} mid new (Ok tt) (λ _. Alters meta_tree (Replaces (IsEntryOf name) (entry name text))) → RemakesRows format profile name put old.now new.now
+remakes format profile name text put old mid new same clean inside store rebuilds built puts =
     let cleaner : HasCleanDisk mid = omega (arith, puts.crash.clean) in
-    let first = rebuilds.ok cleaner inside in
+    let made = built cleaner inside store in
+    let alters = subst (λ t. Alters meta_tree (Replaces (IsEntryOf name) (entry name t)) mid new) same (puts.ok clean (rebuilds.ok cleaner inside).mode) in
+    let rows = alters.rows made.0 in
+    let names : new.now.trees 2 ≡ mid.now.trees 2 = rows.others.1.0 (λ e. absurd (omega (arith, e))) in
+    let records : new.now.trees 4 ≡ mid.now.trees 4 = rows.others.1.1.0 (λ e. absurd (omega (arith, e))) in
+    let registers : KeepsRegisters mid.now.trees new.now.trees =
+    (rows.others.1.1.1.0 (λ e. absurd (omega (arith, e))), rows.others.1.1.1.1.0 (λ e. absurd (omega (arith, e))), rows.others.1.1.1.1.1.0 (λ e. absurd (omega (arith, e)))) in
     record {
-      first = first;
-      rebuilt = built cleaner inside;
-      alters = subst (λ t. Alters meta_tree (Replaces (IsEntryOf name) (entry name t)) mid new) same (puts.ok clean first.mode);
+      store = record { is = rows.layout.is; sound = rows.layout.sound; keyed = rows.layout.keyed };
+      databases = names ∙ made.1.1;
+      records = records ∙ made.1.2;
+      texts = replaces_first (IsEntryOf name) (entry name put) meta_tree old.now.trees mid.now.trees new.now.trees made.1.0 rows.rows;
+      image = λ bases lists are. image_rows format profile mid.now.trees new.now.trees bases names records registers (made.2 bases lists are);
     }
 
-module _ {format : Format} {profile : List Directive} {old mid new : State} where
-  module _ {name put : List ℕ} (renewed : Renews format profile name put old mid new) where
-    module _ (store : IsStore old) where
-      rows : Changes meta_tree (Replaces (IsEntryOf name) (entry name put)) mid new
-      rows = renewed.alters.rows (renewed.rebuilt store).0
+-- ---- what is said of any tables
 
-      registers : KeepsRegisters mid.now.trees new.now.trees
-      registers = (
-        rows.others.1.1.1.0 (λ e. absurd (omega (arith, e))),
-        rows.others.1.1.1.1.0 (λ e. absurd (omega (arith, e))),
-        rows.others.1.1.1.1.1.0 (λ e. absurd (omega (arith, e))),
-      )
+as_remade : (format : Format) (profile : List Directive) (old new : Database) → RemakesRows format profile (codes "profile") (canonical_text profile) old new → IsRemade format profile old.trees new.trees
+as_remade format profile old new remade = record { databases = remade.databases; records = remade.records; texts = remade.texts; image = remade.image }
 
-      image_then : (c : Conditions) (bases : List Base) (was : WasImage c old.now.trees bases) → c.profile ≡ profile → IsImageOf format c.profile new.now.trees bases
-      image_then c bases was same =
-          let are = subst (λ p. AreBases p bases) same (was_bases c old.now.trees bases was) in
-          let built = (renewed.rebuilt store).2 bases was.it.image.lists are in
-          image_rows format c.profile mid.now.trees new.now.trees bases (rows.others.1.0 (λ e. absurd (omega (arith, e)))) (rows.others.1.1.0 (λ e. absurd (omega (arith, e)))) registers
-          (subst (λ p. IsImageOf format p mid.now.trees bases) (sym same) built)
+module _ (format : Format) (alloc : Global) (profile : Bor (List Directive)) (s new : State) where
+  abbrev Reindexes : Result Reply Refusal → Type 0
+  Reindexes = WriteDoes format (write.Reindex alloc profile) s.now new.now
 
-      texts_mid : (c : Conditions) (bases : List Base) (was : WasImage c old.now.trees bases) → HasTexts mid.now.trees was.version was.text was.it.pattern
-      texts_mid c bases was = texts_still old.now.trees mid.now.trees was.version was.text was.it.pattern (renewed.rebuilt store).1.0 was.it.texts
+  pub reindex_told : (result : Result Reply Refusal) → Reindexes result → TellsSound profile.now s.now.trees result
+  reindex_told (Ok told) does = inl (does.1.0, ap Ok does.0)
+  reindex_told (Err refusal) (inl failed) = inr (inr failed)
+  reindex_told (Err refusal) (inr damaged) = inr (inl (damaged.1, ap Err damaged.0))
 
-  pub reindex_remakes : Renews format profile (codes "profile") (canonical_text profile) old mid new
-      → IsStore old → IsStore new × IsRemade format profile old.now.trees new.now.trees
-  reindex_remakes renewed store =
-      let name = codes "profile" in
-      let put = canonical_text profile in
-      let changed = rows renewed store in
-      let names : new.now.trees 2 ≡ mid.now.trees 2 = changed.others.1.0 (λ e. absurd (omega (arith, e))) in
-      let records : new.now.trees 4 ≡ mid.now.trees 4 = changed.others.1.1.0 (λ e. absurd (omega (arith, e))) in
-      let kept = (renewed.rebuilt store).1 in (
-        changed.layout,
-        record {
-          databases = names ∙ kept.1;
-          records = records ∙ kept.2;
-          texts = replaces_first (IsEntryOf name) (entry name put) meta_tree old.now.trees mid.now.trees new.now.trees kept.0 changed.rows;
-          image = λ bases lists are. image_rows format profile mid.now.trees new.now.trees bases names records (registers renewed store) ((renewed.rebuilt store).2 bases lists are);
-        },
-      )
+  pub reindex_leaves : (result : Result Reply Refusal) → (IsStore s → Reindexes result) → OnOk result (IsStore s → IsStore new × IsRemade format profile.now s.now.trees new.now.trees)
+  reindex_leaves (Ok told) does = λ store. let left = (does store).1.1 in (shown_store new new.now left.store, as_remade format profile.now s.now new.now left)
+  reindex_leaves (Err refusal) does = tt
 
-  pub reindex_works : Renews format profile (codes "profile") (canonical_text profile) old mid new → (c : Conditions) → IsUtf8 (canonical_text profile)
-      → ReachesOutcome (λ _ before. IsRuled (version_of format) profile c before) (reindexed c) old new (Ok Done)
-  reindex_works renewed c readable = (
-    goes_then old mid new renewed.first renewed.alters.on,
-    λ before fits store image.
-        let put = canonical_text profile in
-        let session = session_of format profile c fits.0 in
-        let bases = fits.1.0 in
-        let at = ruled_image format c session old.now.trees before bases image fits.1.1 in
+-- what is committed of it
+pub reindex_commits : (format : Format) (alloc : Global) (profile : Bor (List Directive)) (s : State) (db : Trees) → CommitsRows (WriteDoes format (write.Reindex alloc profile)) s db
+    → IsStore s → IsStoreDisk db × IsRemade format profile.now s.now.trees db
+reindex_commits format alloc profile s db made store =
+    let left = made store in
+    let rows = left.3.1.1 in
+    subst (λ (t : Trees). IsStoreDisk t × IsRemade format profile.now s.now.trees t) (sym left.2)
+    (store_disk (showing s left.1) (shown_store s left.1 rows.store), as_remade format profile.now s.now left.1 rows)
+
+-- ---- from an image
+
+module _ (format : Format) (c : Conditions) (session : AreSessions format c) (s : State) (before : Holdings) (image : IsImage s.now.trees before) (bases : List Base) where
+  -- what is held is sound and can be read
+  sound_was : WasImage c s.now.trees bases → IsUnsound c.profile s.now.trees → ⊥
+  sound_was was unsound =
+      let lists = was.it.image.lists in
+      let are = was_bases c s.now.trees bases was in
+      unsound (lists_readable c.profile s.now.trees bases lists are, lists_sound c.profile s.now.trees bases lists are)
+
+  module _ (is : ruled c before ≡ Ok bases) where
+    pub reindex_sound : IsUnsound c.profile s.now.trees → ⊥
+    reindex_sound = sound_was (ruled_image format c session s.now.trees before bases image is).0
+
+    pub reindex_leads : IsUtf8 (canonical_text c.profile) → (new : Database) → RemakesRows format c.profile (codes "profile") (canonical_text c.profile) s.now new → Leads (showing s new) Done (reindexed c before)
+    reindex_leads readable new remade =
+        let put = canonical_text c.profile in
+        let at = ruled_image format c session s.now.trees before bases image is in
         let was = at.0 in
-        let changed = rows renewed store in
-        let texts = profile_put mid.now.trees new.now.trees was.version was.text was.it.pattern (texts_mid renewed store c bases was) put readable changed.rows in
-        let said = subst (λ v. HasTexts new.now.trees v put was.it.pattern) at.1 texts in
-        let own = subst (λ p. HasTexts new.now.trees c.version (canonical_text p) was.it.pattern) (sym fits.0.profile_is) said in
-        let pattern_is = ap (option_map pattern_text) (sym was.rule) ∙ was.it.pattern_is in
-        let left = renewed_image format c session new.now.trees bases was.it.pattern pattern_is own (was_bases c old.now.trees bases was) (image_then renewed store c bases was fits.0.profile_is) in
-        subst (Leads new Done) (sym (reindex_done c before bases fits.1.1)) (refl, changed.layout, left),
-  )
+        let are = was_bases c s.now.trees bases was in
+        let texts = profile_put s.now.trees new.trees was.version was.text was.it.pattern was.it.texts put readable remade.texts in
+        let own = subst (λ v. HasTexts new.trees v put was.it.pattern) at.1 texts in
+        let left = renewed_image format c session new.trees bases was.it.pattern (ap (option_map pattern_text) (sym was.rule) ∙ was.it.pattern_is) own are (remade.image bases was.it.image.lists are) in
+        subst (Leads (showing s new) Done) (sym (reindex_done c before bases is)) (refl, shown_store s new remade.store, left)
 
-  pub upgrade_works : Renews format profile (codes "version") (version_of format) old mid new → (c : Conditions) → IsUtf8 (version_of format)
-      → ReachesOutcome (λ _ before. IsUpgradable (version_of format) profile c before) (upgraded c) old new (Ok Done)
-  upgrade_works renewed c readable = (
-    goes_then old mid new renewed.first renewed.alters.on,
-    λ before fits store image.
-        let put = version_of format in
-        let session = session_of format profile c fits.0 in
-        let bases = fits.1.0 in
-        let at = upgradable_image format c session old.now.trees before bases image fits.1.1 in
+  module _ (is : upgradable c before ≡ Ok bases) where
+    pub upgrade_sound : IsUnsound c.profile s.now.trees → ⊥
+    upgrade_sound = sound_was (upgradable_image format c session s.now.trees before bases image is).0
+
+    pub upgrade_leads : IsUtf8 (version_of format) → (new : Database) → RemakesRows format c.profile (codes "version") (version_of format) s.now new → Leads (showing s new) Done (upgraded c before)
+    upgrade_leads readable new remade =
+        let at = upgradable_image format c session s.now.trees before bases image is in
         let was = at.0 in
-        let changed = rows renewed store in
-        let texts = version_put mid.now.trees new.now.trees was.version was.text was.it.pattern (texts_mid renewed store c bases was) put readable changed.rows in
-        let said = subst (λ v. HasTexts new.now.trees v was.text was.it.pattern) (sym fits.0.version_is) texts in
-        let own = subst (λ t. HasTexts new.now.trees c.version t was.it.pattern) at.1 said in
-        let pattern_is = ap (option_map pattern_text) (sym was.rule) ∙ was.it.pattern_is in
-        let left = renewed_image format c session new.now.trees bases was.it.pattern pattern_is own (was_bases c old.now.trees bases was) (image_then renewed store c bases was fits.0.profile_is) in
-        subst (Leads new Done) (sym (upgrade_done c before bases fits.1.1)) (refl, changed.layout, left),
-  )
+        let are = was_bases c s.now.trees bases was in
+        let texts = version_put s.now.trees new.trees was.version was.text was.it.pattern was.it.texts (version_of format) readable remade.texts in
+        let said = subst (λ v. HasTexts new.trees v was.text was.it.pattern) (sym session.version_is) texts in
+        let own = subst (λ t. HasTexts new.trees c.version t was.it.pattern) at.1 said in
+        let left = renewed_image format c session new.trees bases was.it.pattern (ap (option_map pattern_text) (sym was.rule) ∙ was.it.pattern_is) own are (remade.image bases was.it.image.lists are) in
+        subst (Leads (showing s new) Done) (sym (upgrade_done c before bases is)) (refl, shown_store s new remade.store, left)

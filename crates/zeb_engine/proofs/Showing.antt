@@ -1,14 +1,11 @@
 -- The hits that are shown: their records by number, and what stays known of the tables while they are read.
-use Rattle.zeb_engine.proofs.Cited.{◌≡◌, ◌∙◌, ◌<◌, ◌≤◌, ◌^◌, nat_lt, arith, ℕ, ℤ, pos, ◌+◌, List, [], ◌∷◌, ◌++◌, length, get_or, take, String, string_bytes, Option, Some, None, refl, sym, ap, ap₂, subst, inl, inr, Global, take_more, map-append, get_or_default, cases_Bool, nat_tests, Trees, Has, has_at, has_either, IsIdentOf, AreReadableIdents, has_ident_in, CanBeShown, HidesOne, AreShown}
+use Rattle.zeb_engine.proofs.Cited.{◌≡◌, ◌∙◌, ◌<◌, ◌≤◌, ◌^◌, nat_lt, arith, ℕ, ℤ, pos, ◌+◌, List, [], ◌∷◌, ◌++◌, length, get_or, take, String, string_bytes, Option, Some, None, sym, ap, ap₂, subst, inl, inr, Global, take_more, map-append, get_or_default, cases_Bool, nat_tests, Trees, Has, has_at, has_either, IsIdentOf, AreReadableIdents, has_ident_in, CanBeShown, HidesOne, AreShown}
 
 -- a record of each of the numbers is kept, its identifier is UTF-8, and a column stores the number
 abbrev pub KeepsEach : Trees → ℤ → List ℕ → Type 0
 KeepsEach trees db numbers = (n : ℕ) → Has numbers n → CanBeShown trees db n × (n < 2 ^ 63)
 
 module _ (trees : Trees) (db : ℤ) where
-  pub shown_none : AreShown (has_ident_in trees db) [] []
-  shown_none = record { in_order = refl; named = λ hit there. absurd there }
-
   -- one record more
   pub shown_more : (numbers : List ℕ) (index number : ℕ) (shown : List (ℕ × List ℕ)) (ident : String Global) → index < length numbers → number ≡ get_or numbers index 0 → IsIdentOf trees db (pos number) (Some ident)
       → AreShown (has_ident_in trees db) (take index numbers) shown → AreShown (has_ident_in trees db) (take (index + 1) numbers) (shown ++ (number, string_bytes ident) ∷ [])

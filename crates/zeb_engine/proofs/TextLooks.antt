@@ -1,5 +1,5 @@
 -- What looks at texts come to, one after the other.
-use Rattle.zeb_engine.proofs.Cited.{◌≡◌, ◌⊎◌, ◌↔◌, ◌∙◌, ℕ, Bool, true, false, List, codes, Option, Some, None, Result, Ok, Err, MatchResult, OnOk, IfErr, IsTrue, IsUtf8, String, string_bytes, refl, sym, subst, inl, inr, Global, bytes_eq, bytes_eq-Decides, IsUtf8-string_bytes, option_map, Database, Trees, HasCleanDisk, Survives, State, Directive, canonical_text, pattern_text, identifier_pattern, plain_rows, version_of, RegFault, ChangesNothing, MayRefuse, may_after, IsStore, IsValueOf, AreReadableTexts, nothing_then, store_same, one_text, Refusal, register_refusal, why_of, Standing, StaysOpen, HasStoreCause, IsFailure, refused, FindsStanding, IsLook, RefusesText, RefusesTexts, RefusesVersion, TellsStanding, TellsText, IsReadyFor, IsReadyToReindex, KeepsText, KeepsUpgradable, RefusesReindex, RefusesUpgrade}
+use Rattle.zeb_engine.proofs.Cited.{◌≡◌, ◌⊎◌, ◌↔◌, ◌∙◌, ℕ, Bool, true, false, List, codes, Option, Some, None, Result, Ok, Err, MatchResult, OnOk, IfErr, IsTrue, IsUtf8, String, string_bytes, refl, sym, subst, inl, inr, Global, bytes_eq, bytes_eq-Decides, IsUtf8-string_bytes, option_map, Database, Trees, HasCleanDisk, Survives, State, Directive, canonical_text, pattern_text, identifier_pattern, plain_rows, version_of, RegFault, ChangesNothing, MayRefuse, may_after, IsStore, IsValueOf, AreReadableTexts, nothing_then, store_same, one_text, Refusal, register_refusal, why_of, Standing, StaysOpen, HasStoreCause, IsFailure, refused, IsLook, RefusesText, RefusesTexts, RefusesVersion, TellsStanding, TellsText, KeepsText, KeepsUpgradable, RefusesReindex, RefusesUpgrade}
 use Rattle.zeb_register.specs.declared.RegFault.TheVariants as register
 use Rattle.zeb_change.specs.declared.refusals.Refusal.TheVariants as refusal
 use Rattle.zeb_engine.specs.declared.looks.Standing.TheVariants as standing
@@ -54,10 +54,6 @@ tells_missing trees name text o is value =
 -- ---- one look after another
 
 module _ {T X : Type 0} (F : Trees → T → Type 0) (G : Trees → X → Type 0) (R Q : Trees → Refusal → Type 0) (old mid : State) where
-  -- refused
-  pub look_ends : (why : Refusal) → (R old.now.trees why → Q old.now.trees why) → IsLook F R old mid (Err why) → IsLook G Q old mid (Err why)
-  look_ends why so it = record { same = it.same; found = tt; seen = it.seen; caused = it.caused; told = λ store. so (it.told store) }
-
   -- accepted, and nothing else was looked at
   pub look_settles : (x : T) → IsLook F R old mid (Ok x) → (result : Result X Refusal) → HasStoreCause old mid result → (IsStore old → F old.now.trees x → MatchResult result (G old.now.trees) (Q old.now.trees)) → IsLook G Q old mid result
   look_settles x it result caused so = record { same = it.same; found = any_ok result _ it.found; seen = any_err result _ it.found.0; caused = caused; told = λ store. so store (it.told store) }
@@ -124,53 +120,21 @@ module _ (trees : Trees) (P : Refusal → Type 0) (store : P refusal.Store) (mem
   text_refused name damaged refusal.TooManyRecords is = absurd is
   text_refused name damaged (refusal.ReadFault file) is = absurd is
 
-  pub version_refused : (((text : List ℕ) → ¬ KeepsText trees (codes "version") text) → P refusal.NotInitialised) → ((¬ AreReadableTexts trees (codes "version")) → P refusal.Damaged)
-      → (why : Refusal) → RefusesVersion trees why → P why
-  version_refused none damaged refusal.NotInitialised is = none is
-  version_refused none damaged refusal.Damaged is = damaged is
-  version_refused none damaged refusal.Store is = store
-  version_refused none damaged refusal.Memory is = memory
-  version_refused none damaged refusal.OldFormat is = absurd is
-  version_refused none damaged refusal.ProfileChanged is = absurd is
-  version_refused none damaged refusal.IdentifierRuleChanged is = absurd is
-  version_refused none damaged (refusal.Diagnostic number place addinfo) is = absurd is
-  version_refused none damaged refusal.Exists is = absurd is
-  version_refused none damaged (refusal.Record file nth fault) is = absurd is
-  version_refused none damaged (refusal.Unknown file nth) is = absurd is
-  version_refused none damaged refusal.DatabaseFull is = absurd is
-  version_refused none damaged refusal.TooManyRecords is = absurd is
-  version_refused none damaged (refusal.ReadFault file) is = absurd is
-
 module _ (version : List ℕ) (profile : List Directive) (trees : Trees) where
-  pub version_as_rule : (why : Refusal) → RefusesVersion trees why → RefusesReindex version profile trees why
-  version_as_rule = version_refused trees (RefusesReindex version profile trees) tt tt (λ none. none) (λ hard. inl hard)
-
   pub pattern_as_rule : KeepsText trees (codes "version") version → (why : Refusal) → RefusesText (codes "identifier") trees why → RefusesReindex version profile trees why
   pattern_as_rule kept = text_refused trees (RefusesReindex version profile trees) tt tt (codes "identifier") (λ hard. inr (kept, hard))
-
-  pub version_as_texts : (why : Refusal) → RefusesVersion trees why → RefusesTexts version profile trees why
-  version_as_texts = version_refused trees (RefusesTexts version profile trees) tt tt (λ none. none) (λ hard. inl hard)
 
   pub profile_as_texts : KeepsText trees (codes "version") version → (why : Refusal) → RefusesText (codes "profile") trees why → RefusesTexts version profile trees why
   profile_as_texts kept = text_refused trees (RefusesTexts version profile trees) tt tt (codes "profile") (λ hard. inr (kept, hard))
 
   module _ (text : List ℕ) (text_is : text ≡ canonical_text profile) (kept : KeepsText trees (codes "version") version) where
-    pub profile_found : TellsText (codes "profile") text trees true → IsReadyFor version profile trees
-    profile_found tells = record { has_version = kept; has_profile = subst (KeepsText trees (codes "profile")) text_is (tells.0.0 refl) }
-
     pub profile_differs : TellsText (codes "profile") text trees false → RefusesTexts version profile trees refusal.ProfileChanged
     profile_differs tells = (kept, λ there. let no : false ≡ true = tells.0.1 (subst (KeepsText trees (codes "profile")) (sym text_is) there) in cc, tells.1)
-
-  pub version_as_layout : (why : Refusal) → RefusesVersion trees why → RefusesUpgrade version profile trees why
-  version_as_layout = version_refused trees (RefusesUpgrade version profile trees) tt tt (λ none. none) (λ hard. inl hard)
 
   pub profile_as_layout : KeepsUpgradable version trees → (why : Refusal) → RefusesText (codes "profile") trees why → RefusesUpgrade version profile trees why
   profile_as_layout kept = text_refused trees (RefusesUpgrade version profile trees) tt tt (codes "profile") (λ hard. inr (kept, hard))
 
   module _ (pattern : List ℕ) (pattern_is : option_map pattern_text (identifier_pattern profile) ≡ Some pattern) (kept : KeepsText trees (codes "version") version) where
-    pub rule_kept : TellsText (codes "identifier") pattern trees true → IsReadyToReindex version profile trees
-    rule_kept tells = record { has_version = kept; has_rule = (pattern, pattern_is, tells.0.0 refl); readable = tells.1 }
-
     pub rule_differs : TellsText (codes "identifier") pattern trees false → RefusesReindex version profile trees refusal.IdentifierRuleChanged
     rule_differs tells = (
       kept,
@@ -190,13 +154,6 @@ module _ (version : List ℕ) (profile : List Directive) (trees : Trees) where
         | inr first ↦ none.0 (subst (λ (t : Trees). KeepsText t (codes "version") found → KeepsText t (codes "version") (version_of plain_rows) → found ≡ version_of plain_rows) same (one_text s store (codes "version") found (version_of plain_rows)) kept first)
       ],
       readable,
-    )
-
-    pub standing_found : (standing : Standing) → TellsStanding version found (Some standing) → TellsText (codes "profile") (canonical_text profile) trees true → FindsStanding version profile trees standing
-    standing_found standing.Upgraded is tells = record { has_version = subst (KeepsText trees (codes "version")) is kept; has_profile = tells.0.0 refl }
-    standing_found standing.First is tells = (
-      record { has_version = subst (KeepsText trees (codes "version")) is.0 kept; has_profile = tells.0.0 refl },
-      λ same. is.1 (is.0 ∙ sym same),
     )
 
     pub upgradable_so : (standing : Standing) → TellsStanding version found (Some standing) → KeepsUpgradable version trees

@@ -1,7 +1,11 @@
 -- What commands that change the databases come to, by what there is of the name.
-use Rattle.zeb_engine.proofs.Cited.{◌≡◌, ◌∙◌, ℕ, List, [], Option, Some, None, Result, Ok, Err, refl, sym, ap, Split, Kind, Why, exists, Meets, done, changed, refused, Conditions, Progress, at_first, files_folded, Holdings, new_base, base_named, without_base, Base, Turn, holding, ends, turned_from, created_in, dropped_in, change_from, change_ends, start_of, no_database, found_or, existing}
+use Rattle.zeb_engine.proofs.Cited.{◌≡◌, ◌∙◌, ℕ, List, [], Some, None, Ok, Err, refl, ap, Split, Kind, Why, exists, done, changed, refused, Conditions, Progress, at_first, files_folded, Holdings, new_base, base_named, without_base, Base, Turn, holding, ends, turned_from, created_in, dropped_in, change_from, change_ends, start_of, no_database, State, IsStore, IsImage, Reply, reply_answer, Outcome}
 use Rattle.zeb_image.specs.Holdings.{with_base}
 use Rattle.zeb_engine.specs.Steps.{ready, turned, created, dropped, changed_by_files, initialised}
+
+-- what is left after an outcome
+abbrev pub Leads : State → Reply → Outcome → Type 0
+Leads new reply o = (o.0 ≡ reply_answer reply) × IsStore new × IsImage new.now.trees o.1
 
 module _ (c : Conditions) (before : Holdings) where
   pub turn_refused : (turn : Turn) (why : Why) → ready c before ≡ Err why → turned c turn before ≡ (refused why, before)
@@ -33,17 +37,6 @@ module _ (c : Conditions) (before : Holdings) where
     unfolding dropped
     step_unknown none = turn_taken (dropped name) bases is ∙ ap (λ o. ends c before (dropped_in name bases o)) none
 
-    -- no database is found, so none is taken away
-    pub step_missing : (why : Why) → existing name bases ≡ Err why → turned c (dropped name) before ≡ (refused why, before)
-    step_missing why said = from (base_named name bases) refl
-      where
-        from : (o : Option Base) → base_named name bases ≡ o → turned c (dropped name) before ≡ (refused why, before)
-        from None none =
-            let same : ◌≡◌ {A = Result Base Why} (Err (no_database name)) (Err why) = sym (ap (found_or name) none) ∙ said in
-            let why_is : no_database name ≡ why = cc in
-            step_unknown none ∙ ap (λ w. (refused w, before)) why_is
-        from (Some base) found = let e : ◌≡◌ {A = Result Base Why} (Ok base) (Err why) = sym (ap (found_or name) found) ∙ said in absurd cc
-
     -- the records of files are folded into the database that a change begins with
     module _ (kind : Kind) (files : List Split) where
       pub step_unbegun : (why : Why) → start_of kind name (base_named name bases) ≡ Err why → turned c (changed_by_files c kind name files) before ≡ (refused why, before)
@@ -61,11 +54,3 @@ module _ (c : Conditions) (before : Holdings) where
 
         pub step_unchanged : (why : Why) → files_folded c kind 1 files (at_first start) ≡ Err why → turned c (changed_by_files c kind name files) before ≡ (refused why, before)
         step_unchanged why folds = step_begun ∙ ap (λ r. ends c before (change_ends bases r)) folds
-
--- a database that was found has the name
-pub existing_known : {X : Type 0} (Good : Base → X → Type 0) (name : List ℕ) (bases : List Base) (x : X) → Meets Good (existing name bases) (Ok x) → (base : Base) × (base_named name bases ≡ Some base) × Good base x
-existing_known {X} Good name bases x met = from (base_named name bases) refl met
-  where
-    from : (o : Option Base) → base_named name bases ≡ o → Meets Good (found_or name o) (Ok x) → (base : Base) × (base_named name bases ≡ Some base) × Good base x
-    from None none met = absurd met
-    from (Some base) found met = (base, found, met)

@@ -8,7 +8,6 @@ pub mod Counting
 pub mod Analysed
 pub mod Rules
 pub mod Steps
-pub mod PrivateSteps
 pub mod Works
 pub mod PrivateWorks
 pub mod Costs

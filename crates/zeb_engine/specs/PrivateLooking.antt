@@ -1,17 +1,18 @@
 -- What only the contracts of private functions speak of; no public clause reaches it.
 -- Looks at the texts of a store, and for one of its databases: what each finds, and over which tables it is refused.
-use Rattle.std.specs.Prelude.{◌≡◌, ◌≢◌, ◌⊎◌, ◌↔◌, ℕ, Bool, List, MatchResult, Option, Some, None, Result, OnOk, IfErr, IsTrue, codes}
+use Rattle.std.specs.Prelude.{◌≡◌, ◌≢◌, ◌⊎◌, ◌↔◌, ℕ, Bool, List, MatchResult, Option, Some, None, Result, Ok, Err, OnOk, IfErr, IsTrue, codes}
 use Rattle.sqlite.specs.Tree.{Trees}
 use Rattle.sqlite.specs.State.{State}
 use Rattle.zeb_profile.specs.Canonical.{canonical_text}
 use Rattle.zeb_profile.specs.declared.directives.Directive.{Directive}
+use Rattle.zeb_register.specs.declared.catalog.Database.{Database}
 use Rattle.zeb_register.specs.Calls.{ChangesNothing}
 use Rattle.zeb_register.specs.Catalog.{AreCountedDatabases, IsDatabaseOf}
 use Rattle.zeb_register.specs.Formats.{plain_rows, version_of}
 use Rattle.zeb_register.specs.Store.{IsStore, AreReadableTexts}
 use Rattle.zeb_change.specs.declared.refusals.Refusal.{Refusal}
-use Rattle.zeb_change.specs.declared.refusals.Refusal.TheVariants.{NotInitialised, OldFormat, ProfileChanged, Diagnostic, Damaged, Store, Memory}
-use Rattle.zeb_change.specs.Refused.{why_of}
+use Rattle.zeb_change.specs.declared.refusals.Refusal.TheVariants.{NotInitialised, OldFormat, ProfileChanged, Diagnostic, Exists, Damaged, Store, Memory}
+use Rattle.zeb_change.specs.Refused.{IsFailing, why_of}
 use Rattle.zeb_engine.specs.declared.looks.Standing.{Standing}
 use Rattle.zeb_engine.specs.declared.looks.Standing.TheVariants.{Upgraded, First}
 use Rattle.zeb_engine.specs.Adopting.{StaysOpen}
@@ -81,8 +82,9 @@ IsUnready Store = Unit {0}
 IsUnready Memory = Unit {0}
 IsUnready other = ⊥
 
--- what asks of a database, on a register that is ready, refuses nothing else
+-- what goes by the name of a database, on a register that is ready, refuses nothing else
 abbrev pub IsAskRefusal : Refusal → Type 0
+IsAskRefusal Exists = Unit {0}
 IsAskRefusal (Diagnostic number place addinfo) = Unit {0}
 IsAskRefusal Damaged = Unit {0}
 IsAskRefusal Store = Unit {0}
@@ -93,3 +95,8 @@ IsAskRefusal other = ⊥
 abbrev pub MissesDatabase : Trees → List ℕ → Refusal → Type 0
 MissesDatabase trees name refusal =
     (IsDatabaseOf trees name None × (why_of refusal ≡ no_database name)) ⊎ ((refusal ≡ Damaged) × (¬ AreCountedDatabases trees name))
+
+-- the row of the database of this name, or why it isn't found
+abbrev pub FindsNamed : (name : List ℕ) → Trees → Result Database Refusal → Type 0
+FindsNamed name trees (Ok found) = IsDatabaseOf trees name (Some found)
+FindsNamed name trees (Err refusal) = IsFailing (why_of refusal) ⊎ MissesDatabase trees name refusal

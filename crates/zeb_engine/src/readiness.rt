@@ -1,23 +1,14 @@
 //! Whether a register may be used by a session, and which of its databases is meant.
 
-ghost use Rattle.std.specs.Prelude.{◌≡◌, ◌⊎◌, List, false, pos, Ok, IsTrue, IfOk, IfErr};
+ghost use Rattle.std.specs.Prelude.{◌≡◌, false, IfErr};
 ghost use Rattle.sqlite.specs.Held.{state};
 ghost use Rattle.sqlite.specs.State.{HasCleanDisk};
+ghost use Rattle.zeb_register.specs.Clauses.{OnStore};
 ghost use Rattle.zeb_register.specs.Formats.{version_of};
-ghost use Rattle.zeb_register.specs.Store.{IsStore, HasDatabase};
-ghost use Rattle.zeb_engine.specs.Answers.{IsFailure, refused};
-ghost use Rattle.zeb_change.specs.Refused.{why_of, NeverUnready, Meets};
-ghost use Rattle.zeb_change.specs.Conditions.{Conditions};
-ghost use Rattle.zeb_image.specs.Holdings.{Holdings};
-ghost use Rattle.zeb_change.specs.Base.{Base};
-ghost use Rattle.zeb_image.specs.Image.{Keeps};
 ghost use Rattle.zeb_image.specs.NameOf.{name_bytes};
-ghost use Rattle.zeb_engine.specs.PrivateLooking.{IsAskRefusal, IsUnready, MissesDatabase, IsLook, RefusesTexts};
+ghost use Rattle.zeb_engine.specs.PrivateLooking.{FindsNamed, IsAskRefusal, IsLook, IsUnready, RefusesTexts};
 ghost use Rattle.zeb_engine.specs.Readiness.{IsReadyFor};
-ghost use Rattle.zeb_change.specs.Reading.{NoReadFault};
-ghost use Rattle.zeb_engine.specs.Steps.{ready};
-ghost use Rattle.zeb_engine.specs.PrivateSteps.{existing};
-ghost use Rattle.zeb_engine.specs.PrivateConnections.{CommitsNothing, FailsForCause, FindsOpen, LeavesAsIs, LooksReady};
+ghost use Rattle.zeb_engine.specs.PrivateConnections.{CommitsNothing, LooksReady, ReadsAlone};
 
 use crate::looks::{keeps_text, kept_version};
 use sqlite::{Alter, Connection};
@@ -89,33 +80,11 @@ pub(crate) fn existing_database<S: Alter, L: Layout>(
     name: &DbName,
 ) -> Result<Database, Refusal>
     requires idle { connection.old.in_transaction ≡ false }
-    ensures exists { HasCleanDisk (state S.Store connection.new)
-        → IsTrue (state S.Store connection.old).is_open
-        → (c : Conditions) (before : Holdings) (bases : List Base) → ready c before ≡ Ok bases
-        → Keeps (state S.Store connection.old) before
-        → Meets (λ base found. HasDatabase (state S.Store connection.old).now.trees found.id.0
-        base.name (pos base.last)
-        × (found.last ≡ base.last) × IsTrue (state S.Store connection.new).is_open)
-        (existing (name_bytes name.now) bases) result }
-    ensures misses { HasCleanDisk (state S.Store connection.new)
-        → IsStore (state S.Store connection.old)
-        → IfErr result (λ refusal. IsFailure (refused (why_of refusal))
-        ⊎ MissesDatabase (state S.Store connection.old).now.trees (name_bytes name.now) refusal) }
-    ensures row { HasCleanDisk (state S.Store connection.new)
-        → IsStore (state S.Store connection.old)
-        → IfOk result (λ found. HasDatabase (state S.Store connection.old).now.trees found.id.0
-        (name_bytes name.now) (pos found.last)) }
-    ensures idle { connection.new.in_transaction ≡ false }
-    ensures found { FindsOpen S.Store connection.old connection.new result }
-    ensures opened { HasCleanDisk (state S.Store connection.new)
-        → IfErr result (λ refusal. IsFailure (refused (why_of refusal))
-        ⊎ IsTrue (state S.Store connection.old).is_open) }
-    ensures same { LeavesAsIs S.Store connection.old connection.new }
-    ensures crash { CommitsNothing S.Store connection.old connection.new }
+    ensures reads { ReadsAlone S.Store connection.old connection.new result }
+    // Whatever the tables hold, it goes by the row of the name.
+    ensures finds { OnStore (state S.Store connection.old) (state S.Store connection.new) (λ trees.
+        FindsNamed (name_bytes name.now) trees result) }
     ensures few { IfErr result IsAskRefusal }
-    ensures unread { NoReadFault result }
-    ensures ready { NeverUnready result }
-    ensures caused { FailsForCause S.Store connection.old connection.new result }
 {
     match database_of(connection, name.as_str())? {
         Some(database) => Ok(database),

@@ -1,15 +1,12 @@
 //! The tables of a store that is taken over.
 
-ghost use Rattle.std.specs.Prelude.{◌≡◌, ◌⊎◌, Err, false, OnOk, OnErr, IfErr, IsTrue};
+ghost use Rattle.std.specs.Prelude.{◌≡◌, false, OnOk, IfErr};
 ghost use Rattle.sqlite.specs.Held.{state};
 ghost use Rattle.sqlite.specs.State.{HasCleanDisk, Survives};
-ghost use Rattle.zeb_engine.specs.Adopting.{HasOtherTables, StaysOpen};
-ghost use Rattle.zeb_engine.specs.PrivateAdopting.{HoldsNothing, MayBeTaken};
+ghost use Rattle.zeb_engine.specs.Adopting.{HasOtherTables};
+ghost use Rattle.zeb_engine.specs.PrivateAdopting.{MakesTables, MayBeTaken, TakesOwn};
 ghost use Rattle.zeb_engine.specs.PrivateCrashes.{CommitsTables};
-ghost use Rattle.zeb_engine.specs.Transactions.{EnduresRefusal};
-ghost use Rattle.zeb_register.specs.Calls.{ChangesNothing};
-ghost use Rattle.zeb_register.specs.Sql.{KeepsTables};
-ghost use Rattle.zeb_register.specs.Tables.{no_schema, store_schema};
+ghost use Rattle.zeb_engine.specs.Transactions.{Commanded};
 
 use sqlite::{Alter, Connection};
 use zeb_change::Refusal;
@@ -35,30 +32,12 @@ fn check_tables<S: Alter>(connection: &Connection<S>) -> Result<(), Refusal>
 pub(crate) fn make_absent_tables<S: Alter>(connection: &mut Connection<S>) -> Result<(), Refusal>
     requires idle { connection.old.in_transaction ≡ false }
     ensures idle { connection.new.in_transaction ≡ false }
-    ensures made { HasCleanDisk (state S.Store connection.new)
-        → (state S.Store connection.old).now.schema ≡ no_schema
-        → OnOk result (HoldsNothing (state S.Store connection.new)) }
-    ensures there { HasCleanDisk (state S.Store connection.new)
-        → (state S.Store connection.old).now.schema ≡ store_schema
-        → OnOk result (ChangesNothing (state S.Store connection.old) (state S.Store connection.new)) }
-    ensures open { HasCleanDisk (state S.Store connection.new)
-        → OnOk result (StaysOpen (state S.Store connection.old) (state S.Store connection.new)) }
-    ensures rows { HasCleanDisk (state S.Store connection.new)
-        → OnOk result (IsTrue (state S.Store connection.new).is_open
-        → KeepsTables (state S.Store connection.old).now (state S.Store connection.new).now) }
-    ensures refused { HasCleanDisk (state S.Store connection.new)
-        → OnErr result (ChangesNothing (state S.Store connection.old)
-        (state S.Store connection.new)) }
-    ensures endures { HasCleanDisk (state S.Store connection.new)
-        → IfErr result (EnduresRefusal (state S.Store connection.old)
-        (state S.Store connection.new)) }
+    ensures call { Commanded (state S.Store connection.old) (state S.Store connection.new) result }
+    ensures makes { HasCleanDisk (state S.Store connection.new) → OnOk result
+        (MakesTables (state S.Store connection.old) (state S.Store connection.new)) }
     ensures survives { Survives (state S.Store connection.old) (state S.Store connection.new)
         (CommitsTables (state S.Store connection.old)) }
-    ensures failed { IfErr result (λ refusal. (refusal ≡ Refusal.Store)
-        ⊎ (refusal ≡ Refusal.Memory)) }
-    ensures ours { OnOk result (MayBeTaken (state S.Store connection.old)) }
-    ensures other { HasOtherTables (state S.Store connection.old)
-        → (result ≡ Err Refusal.Store) × (connection.new ≡ connection.old) }
+    ensures takes { TakesOwn S.Store connection.old connection.new result }
 {
     check_tables(connection)?;
     let _settled = connection.is_autocommit();

@@ -1,32 +1,25 @@
 //! The commands that write without reading records, each in one transaction.
 
-ghost use Rattle.std.specs.Prelude.{◌≡◌, ◌≢◌, false, [], IsTrue, OnOk, OnErr, IfErr};
+ghost use Rattle.std.specs.Prelude.{◌≡◌, ◌≢◌, Err, [], codes, false, IsTrue, OnOk, IfErr};
 ghost use Rattle.sqlite.specs.Held.{state};
-ghost use Rattle.sqlite.specs.State.{HasCleanDisk, KeepsCommit, Survives};
-ghost use Rattle.zeb_register.specs.Calls.{GoesOn};
-ghost use Rattle.zeb_register.specs.Clauses.{InStore, OnStore};
-ghost use Rattle.zeb_register.specs.Content.{TakesWhole};
+ghost use Rattle.sqlite.specs.State.{Survives};
+ghost use Rattle.zeb_profile.specs.Canonical.{canonical_text};
+ghost use Rattle.zeb_register.specs.Answers.{Answers, IfDamaged};
+ghost use Rattle.zeb_register.specs.Calls.{GoesOn, Inside};
 ghost use Rattle.zeb_register.specs.Formats.{version_of};
-ghost use Rattle.zeb_register.specs.Store.{IsStore, meta_tree};
+ghost use Rattle.zeb_register.specs.Store.{meta_tree};
 ghost use Rattle.zeb_change.specs.declared.settings.Limits.{Limits};
-ghost use Rattle.zeb_engine.specs.Making.{DropsDatabase, OnAccepted, MakesDatabase, CreateOver, DropOver};
-ghost use Rattle.zeb_engine.specs.Hidden.{HidesDatabase, TellsUnlessHidden};
-ghost use Rattle.zeb_engine.specs.Answers.{IsFailure, refused};
-ghost use Rattle.zeb_change.specs.Refused.{why_of, NeverUnready};
-ghost use Rattle.zeb_change.specs.Conditions.{Conditions, conditions};
-ghost use Rattle.zeb_engine.specs.Reindexing.{IsRemade, TellsSound};
-ghost use Rattle.zeb_engine.specs.PrivateCrashes.{Commits};
-ghost use Rattle.zeb_image.specs.Image.{IsImage};
+ghost use Rattle.zeb_change.specs.Conditions.{conditions};
+ghost use Rattle.zeb_change.specs.Outcomes.{register_refusal};
+ghost use Rattle.zeb_change.specs.RecordChanges.{OnRows};
 ghost use Rattle.zeb_image.specs.NameOf.{name_bytes};
-ghost use Rattle.zeb_change.specs.Reading.{NoReadFault};
-ghost use Rattle.zeb_engine.specs.Steps.{holding, turned, created, dropped, reindexed, upgraded};
-ghost use Rattle.zeb_engine.specs.Transactions.{Commanded};
-ghost use Rattle.zeb_change.specs.Inside.{StaysInside};
-ghost use Rattle.zeb_engine.specs.PrivateWorks.{IsReady, Serves, ReachesOutcome};
-ghost use Rattle.zeb_engine.specs.PrivateWriting.{AreOf, IsFree, IsKnown, IsRuled, IsUpgradable, PutsTexts, WorkDone, WriteDone, WriteTells, reply_of_work};
+ghost use Rattle.zeb_image.specs.Rebuilding.{AreSound};
 ghost use Rattle.zeb_engine.specs.Costs.{no_work};
-ghost use Rattle.zeb_engine.specs.PrivateConnections.{CommitsNothing};
+ghost use Rattle.zeb_engine.specs.PrivateDatabaseChanges.{Transacts};
 ghost use Rattle.zeb_engine.specs.PrivateDone.{CommandDone};
+ghost use Rattle.zeb_engine.specs.PrivateLooking.{IsAskRefusal};
+ghost use Rattle.zeb_engine.specs.PrivateWriting.{LeavesNoDatabase, CreatesDatabase, DropsNamed, IsUnsound, IsWriteRefusal, MakesRow, PutsTexts, RemakesRows, TakesRows, WriteDoes, WriteWorks};
+ghost use Rattle.zeb_engine.specs.Transactions.{Commanded};
 
 use crate::commands::Command;
 use crate::readiness::{IDENTIFIER, PROFILE, VERSION, existing_database};
@@ -70,15 +63,13 @@ fn put_texts<S: Alter>(
     pattern: &str,
 ) -> Result<(), RegFault>
     ensures same { tx.new.conn.ghost_name ≡ tx.old.conn.ghost_name }
-    ensures ok { HasCleanDisk (state S.Store tx.new.conn.now) → IsTrue (state S.Store tx.old.conn.now).in_transaction
-        → OnOk result (GoesOn (state S.Store tx.old.conn.now) (state S.Store tx.new.conn.now)) }
-    ensures err { HasCleanDisk (state S.Store tx.new.conn.now) → IsTrue (state S.Store tx.old.conn.now).in_transaction
-        → OnErr result (KeepsCommit (state S.Store tx.old.conn.now) (state S.Store tx.new.conn.now)) }
-    ensures put { HasCleanDisk (state S.Store tx.new.conn.now) → IsTrue (state S.Store tx.old.conn.now).in_transaction
-        → IsStore (state S.Store tx.old.conn.now) → (state S.Store tx.old.conn.now).now.trees meta_tree ≡ []
-        → OnOk result (PutsTexts version.now text.now pattern.now (state S.Store tx.old.conn.now) (state S.Store tx.new.conn.now)) }
-    ensures failed { IfErr (reply_of_work result) (λ refusal. IsFailure (refused (why_of refusal))) }
-    ensures crash { CommitsNothing S.Store tx.old.conn.now tx.new.conn.now }
+    ensures call { Inside (state S.Store tx.old.conn.now) (state S.Store tx.new.conn.now) result
+        (λ _. GoesOn) }
+    ensures put { OnRows (state S.Store tx.old.conn.now) (state S.Store tx.new.conn.now)
+        ((state S.Store tx.old.conn.now).now.trees meta_tree ≡ []
+        → OnOk result (PutsTexts version.now text.now pattern.now (state S.Store tx.old.conn.now)
+        (state S.Store tx.new.conn.now))) }
+    ensures whole { result ≢ Err RegFault.Damaged }
 {
     meta_put(tx, VERSION, version)?;
     meta_put(tx, PROFILE, text)?;
@@ -93,17 +84,12 @@ fn init<S: Alter, L: Layout>(
     pattern: &str,
 ) -> Result<(), RegFault>
     ensures same { tx.new.conn.ghost_name ≡ tx.old.conn.ghost_name }
-    ensures stays { HasCleanDisk (state S.Store tx.new.conn.now) → IsTrue (state S.Store tx.old.conn.now).in_transaction
-        → StaysInside (state S.Store tx.old.conn.now) (state S.Store tx.new.conn.now) result }
-    ensures ok { HasCleanDisk (state S.Store tx.new.conn.now) → IsTrue (state S.Store tx.old.conn.now).in_transaction
-        → OnOk result (GoesOn (state S.Store tx.old.conn.now) (state S.Store tx.new.conn.now)) }
-    ensures begun { HasCleanDisk (state S.Store tx.new.conn.now) → IsTrue (state S.Store tx.old.conn.now).in_transaction
-        → IsStore (state S.Store tx.old.conn.now)
-        → OnOk result (IsStore (state S.Store tx.new.conn.now)
-        × ((c : Conditions) → AreOf (version_of L.format) profile.now pattern.now c
-        → IsImage (state S.Store tx.new.conn.now).now.trees (holding c []))) }
-    ensures failed { IfErr (reply_of_work result) (λ refusal. IsFailure (refused (why_of refusal))) }
-    ensures crash { CommitsNothing S.Store tx.old.conn.now tx.new.conn.now }
+    ensures call { Inside (state S.Store tx.old.conn.now) (state S.Store tx.new.conn.now) result
+        (λ _. GoesOn) }
+    ensures begins { OnRows (state S.Store tx.old.conn.now) (state S.Store tx.new.conn.now)
+        (OnOk result (LeavesNoDatabase L.format profile.now pattern.now
+        (state S.Store tx.new.conn.now).now)) }
+    ensures whole { result ≢ Err RegFault.Damaged }
 {
     wipe(tx)?;
     put_texts(tx, L::version(), profile.text(), pattern)?;
@@ -113,16 +99,11 @@ fn init<S: Alter, L: Layout>(
 /// An empty database under a name that has none.
 fn create<S: Alter, L: Layout>(tx: &mut Transaction<'_, S>, name: &DbName) -> Result<(), RegFault>
     ensures same { tx.new.conn.ghost_name ≡ tx.old.conn.ghost_name }
-    ensures stays { HasCleanDisk (state S.Store tx.new.conn.now) → IsTrue (state S.Store tx.old.conn.now).in_transaction
-        → StaysInside (state S.Store tx.old.conn.now) (state S.Store tx.new.conn.now) result }
-    ensures works { HasCleanDisk (state S.Store tx.new.conn.now) → IsTrue (state S.Store tx.old.conn.now).in_transaction
-        → IsTrue (state S.Store tx.old.conn.now).is_open → (c : Conditions)
-        → ReachesOutcome (IsFree (name_bytes name.now) c) (turned c (created (name_bytes name.now))) (state S.Store tx.old.conn.now)
-        (state S.Store tx.new.conn.now) (reply_of_work result) }
-    ensures honest { InStore (state S.Store tx.old.conn.now) (state S.Store tx.new.conn.now) (λ _. result ≢ Err RegFault.Damaged) }
-    ensures makes { InStore (state S.Store tx.old.conn.now) (state S.Store tx.new.conn.now) (λ _. OnOk result
-        (MakesDatabase (name_bytes name.now) (state S.Store tx.old.conn.now) (state S.Store tx.new.conn.now))) }
-    ensures crash { CommitsNothing S.Store tx.old.conn.now tx.new.conn.now }
+    ensures call { Inside (state S.Store tx.old.conn.now) (state S.Store tx.new.conn.now) result
+        (λ _. GoesOn) }
+    ensures makes { OnRows (state S.Store tx.old.conn.now) (state S.Store tx.new.conn.now)
+        (Answers (IfDamaged ⊥) (λ _. MakesRow (name_bytes name.now)
+        (state S.Store tx.old.conn.now).now (state S.Store tx.new.conn.now).now) result) }
 {
     database_put(tx, name.as_str(), 0)?;
     Ok(())
@@ -135,16 +116,11 @@ fn take<S: Alter, L: Layout>(
     id: DatabaseId,
 ) -> Result<(), RegFault>
     ensures same { tx.new.conn.ghost_name ≡ tx.old.conn.ghost_name }
-    ensures stays { HasCleanDisk (state S.Store tx.new.conn.now) → IsTrue (state S.Store tx.old.conn.now).in_transaction
-        → StaysInside (state S.Store tx.old.conn.now) (state S.Store tx.new.conn.now) result }
-    ensures works { HasCleanDisk (state S.Store tx.new.conn.now) → IsTrue (state S.Store tx.old.conn.now).in_transaction → (c : Conditions)
-        → ReachesOutcome (λ trees before. (c.version ≡ version_of L.format)
-        × IsKnown (name_bytes name.now) id.0 c trees before) (turned c (dropped (name_bytes name.now))) (state S.Store tx.old.conn.now)
-        (state S.Store tx.new.conn.now) (reply_of_work result) }
-    ensures honest { result ≢ Err RegFault.Damaged }
-    ensures takes { InStore (state S.Store tx.old.conn.now) (state S.Store tx.new.conn.now) (λ _. OnOk result
-        (TakesWhole id.0 (state S.Store tx.old.conn.now) (state S.Store tx.new.conn.now))) }
-    ensures crash { CommitsNothing S.Store tx.old.conn.now tx.new.conn.now }
+    ensures call { Inside (state S.Store tx.old.conn.now) (state S.Store tx.new.conn.now) result
+        (λ _. GoesOn) }
+    ensures takes { OnRows (state S.Store tx.old.conn.now) (state S.Store tx.new.conn.now)
+        (Answers (IfDamaged ⊥) (λ _. TakesRows L.format id.0
+        (state S.Store tx.old.conn.now).now (state S.Store tx.new.conn.now).now) result) }
 {
     L::database_take(tx, id)?;
     Ok(())
@@ -156,21 +132,14 @@ fn reindex<S: Alter, L: Layout>(
     tx: &mut Transaction<'_, S>,
     profile: &Profile,
 ) -> Result<(), RegFault>
-    ensures remade { HasCleanDisk (state S.Store tx.new.conn.now) → IsTrue (state S.Store tx.old.conn.now).in_transaction
-        → IsStore (state S.Store tx.old.conn.now)
-        → OnOk result (IsStore (state S.Store tx.new.conn.now)
-        × IsRemade L.format profile.now (state S.Store tx.old.conn.now).now.trees (state S.Store tx.new.conn.now).now.trees) }
-    ensures sound { HasCleanDisk (state S.Store tx.new.conn.now) → IsTrue (state S.Store tx.old.conn.now).in_transaction
-        → IsStore (state S.Store tx.old.conn.now) → TellsSound profile.now (state S.Store tx.old.conn.now).now.trees
-        (reply_of_work result) }
-    ensures works { HasCleanDisk (state S.Store tx.new.conn.now) → IsTrue (state S.Store tx.old.conn.now).in_transaction
-        → IsTrue (state S.Store tx.old.conn.now).is_open → (c : Conditions)
-        → ReachesOutcome (λ _ before. IsRuled (version_of L.format) profile.now c before) (reindexed c) (state S.Store tx.old.conn.now)
-        (state S.Store tx.new.conn.now) (reply_of_work result) }
     ensures same { tx.new.conn.ghost_name ≡ tx.old.conn.ghost_name }
-    ensures stays { HasCleanDisk (state S.Store tx.new.conn.now) → IsTrue (state S.Store tx.old.conn.now).in_transaction
-        → StaysInside (state S.Store tx.old.conn.now) (state S.Store tx.new.conn.now) result }
-    ensures crash { CommitsNothing S.Store tx.old.conn.now tx.new.conn.now }
+    ensures call { Inside (state S.Store tx.old.conn.now) (state S.Store tx.new.conn.now) result
+        (λ _. GoesOn) }
+    ensures remakes { OnRows (state S.Store tx.old.conn.now) (state S.Store tx.new.conn.now)
+        (Answers (IfDamaged (IsUnsound profile.now (state S.Store tx.old.conn.now).now.trees))
+        (λ _. AreSound profile.now (state S.Store tx.old.conn.now).now.trees
+        × RemakesRows L.format profile.now (codes "profile") (canonical_text profile.now)
+        (state S.Store tx.old.conn.now).now (state S.Store tx.new.conn.now).now) result) }
 {
     rebuild::<S, L>(alloc, tx, profile)?;
     meta_put(tx, PROFILE, profile.text())?;
@@ -183,14 +152,13 @@ fn upgrade<S: Alter, L: Layout>(
     tx: &mut Transaction<'_, S>,
     profile: &Profile,
 ) -> Result<(), RegFault>
-    ensures works { HasCleanDisk (state S.Store tx.new.conn.now) → IsTrue (state S.Store tx.old.conn.now).in_transaction
-        → IsTrue (state S.Store tx.old.conn.now).is_open → (c : Conditions)
-        → ReachesOutcome (λ _ before. IsUpgradable (version_of L.format) profile.now c before) (upgraded c) (state S.Store tx.old.conn.now)
-        (state S.Store tx.new.conn.now) (reply_of_work result) }
-    ensures crash { CommitsNothing S.Store tx.old.conn.now tx.new.conn.now }
     ensures same { tx.new.conn.ghost_name ≡ tx.old.conn.ghost_name }
-    ensures stays { HasCleanDisk (state S.Store tx.new.conn.now) → IsTrue (state S.Store tx.old.conn.now).in_transaction
-        → StaysInside (state S.Store tx.old.conn.now) (state S.Store tx.new.conn.now) result }
+    ensures call { Inside (state S.Store tx.old.conn.now) (state S.Store tx.new.conn.now) result
+        (λ _. GoesOn) }
+    ensures remakes { OnRows (state S.Store tx.old.conn.now) (state S.Store tx.new.conn.now)
+        (Answers (IfDamaged (IsUnsound profile.now (state S.Store tx.old.conn.now).now.trees))
+        (λ _. RemakesRows L.format profile.now (codes "version") (version_of L.format)
+        (state S.Store tx.old.conn.now).now (state S.Store tx.new.conn.now).now) result) }
 {
     rebuild::<S, L>(alloc, tx, profile)?;
     meta_put(tx, VERSION, L::version())?;
@@ -202,13 +170,12 @@ fn apply<S: Alter, L: Layout>(
     write: &Write<'_>,
 ) -> Result<(), RegFault>
     ensures same { tx.new.conn.ghost_name ≡ tx.old.conn.ghost_name }
-    ensures stays { HasCleanDisk (state S.Store tx.new.conn.now) → IsTrue (state S.Store tx.old.conn.now).in_transaction
-        → StaysInside (state S.Store tx.old.conn.now) (state S.Store tx.new.conn.now) result }
-    ensures done { HasCleanDisk (state S.Store tx.new.conn.now) → IsTrue (state S.Store tx.old.conn.now).in_transaction
-        → WorkDone L.format write.now (state S.Store tx.old.conn.now) (state S.Store tx.new.conn.now) result }
-    ensures tells { WriteTells (HasCleanDisk (state S.Store tx.new.conn.now) × IsTrue (state S.Store tx.old.conn.now).in_transaction)
-        write.now (state S.Store tx.old.conn.now) (reply_of_work result) }
-    ensures crash { CommitsNothing S.Store tx.old.conn.now tx.new.conn.now }
+    ensures call { Inside (state S.Store tx.old.conn.now) (state S.Store tx.new.conn.now) result
+        (λ _. GoesOn) }
+    ensures works { OnRows (state S.Store tx.old.conn.now) (state S.Store tx.new.conn.now)
+        (WriteWorks L.format write.now (state S.Store tx.old.conn.now).now
+        (state S.Store tx.new.conn.now).now result) }
+    ensures few { IfErr result (λ fault. IsWriteRefusal write.now (register_refusal fault)) }
 {
     match write {
         Write::Init { profile, pattern } => init::<S, L>(tx, profile, pattern),
@@ -227,9 +194,12 @@ pub(crate) fn transact<S: Alter, L: Layout>(
     requires idle { connection.old.in_transaction ≡ false }
     ensures idle { connection.new.in_transaction ≡ false }
     ensures call { Commanded (state S.Store connection.old) (state S.Store connection.new) result }
-    ensures unread { NoReadFault result }
-    ensures ready { NeverUnready result }
-    ensures done { WriteDone S.Store L.format write.now connection.old connection.new result }
+    ensures transacts { Transacts (WriteDoes L.format write.now) (state S.Store connection.old)
+        (state S.Store connection.new) result }
+    ensures few { IfErr result (IsWriteRefusal write.now) }
+    // Of a connection that is shut nothing is committed.
+    ensures opened { Survives (state S.Store connection.old) (state S.Store connection.new)
+        (λ _. IsTrue (state S.Store connection.old).is_open) }
 {
     let _settled = connection.is_autocommit();
     let mut tx = connection.transaction();
@@ -268,20 +238,12 @@ pub(crate) fn create_database<S: Alter, L: Layout>(
     name: &DbName,
 ) -> Result<Reply, Refusal>
     requires idle { connection.old.in_transaction ≡ false }
-    ensures serves { HasCleanDisk (state S.Store connection.new) → (c : Conditions)
-        → Serves (IsReady c) (turned c (created (name_bytes name.now))) (state S.Store connection.old)
-        (state S.Store connection.new) result }
     ensures idle { connection.new.in_transaction ≡ false }
     ensures call { Commanded (state S.Store connection.old) (state S.Store connection.new) result }
-    ensures survives { Survives (state S.Store connection.old) (state S.Store connection.new) (λ db. (c : Conditions)
-        → Commits (IsReady c) (turned c (created (name_bytes name.now))) (state S.Store connection.old) db) }
-    ensures unread { NoReadFault result }
-    ensures ready { NeverUnready result }
     // Whatever the tables hold, it goes by the row of the name.
-    ensures tables { OnStore (state S.Store connection.old) (state S.Store connection.new) (λ trees.
-        TellsUnlessHidden (CreateOver (name_bytes name.now)) (HidesDatabase (name_bytes name.now)) trees result) }
-    ensures makes { HasCleanDisk (state S.Store connection.new) → OnAccepted (MakesDatabase (name_bytes name.now))
+    ensures transacts { Transacts (CreatesDatabase (name_bytes name.now))
         (state S.Store connection.old) (state S.Store connection.new) result }
+    ensures few { IfErr result IsAskRefusal }
 {
     let found = database_of(connection, name.as_str())?;
     match found {
@@ -297,20 +259,11 @@ pub(crate) fn drop_database<S: Alter, L: Layout>(
     name: &DbName,
 ) -> Result<Reply, Refusal>
     requires idle { connection.old.in_transaction ≡ false }
-    ensures serves { HasCleanDisk (state S.Store connection.new) → (c : Conditions) → c.version ≡ version_of L.format
-        → Serves (IsReady c) (turned c (dropped (name_bytes name.now))) (state S.Store connection.old)
-        (state S.Store connection.new) result }
     ensures idle { connection.new.in_transaction ≡ false }
     ensures call { Commanded (state S.Store connection.old) (state S.Store connection.new) result }
-    ensures survives { Survives (state S.Store connection.old) (state S.Store connection.new) (λ db. (c : Conditions)
-        → c.version ≡ version_of L.format
-        → Commits (IsReady c) (turned c (dropped (name_bytes name.now))) (state S.Store connection.old) db) }
-    ensures unread { NoReadFault result }
-    ensures ready { NeverUnready result }
-    ensures tables { OnStore (state S.Store connection.old) (state S.Store connection.new) (λ trees.
-        TellsUnlessHidden (DropOver (name_bytes name.now)) (HidesDatabase (name_bytes name.now)) trees result) }
-    ensures drops { HasCleanDisk (state S.Store connection.new) → OnAccepted (DropsDatabase (name_bytes name.now))
+    ensures transacts { Transacts (DropsNamed L.format (name_bytes name.now))
         (state S.Store connection.old) (state S.Store connection.new) result }
+    ensures few { IfErr result IsAskRefusal }
 {
     let database = existing_database::<S, L>(alloc, connection, name)?;
     transact::<S, L>(connection, &Write::Drop(name, database.id))

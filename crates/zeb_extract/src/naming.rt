@@ -6,6 +6,7 @@ ghost use Rattle.zeb_extract.specs.Identifier.{has_control, identifier_in, ident
 ghost use Rattle.zeb_extract.specs.Names.{fault_name};
 
 use std::alloc::{AllocError, Global};
+use std::error::Error;
 use std::fmt;
 use zeb_marc::Marc;
 use zeb_profile::Profile;
@@ -35,6 +36,8 @@ impl fmt::Display for IdentFault {
         })
     }
 }
+
+impl Error for IdentFault {}
 
 impl From<AllocError> for IdentFault {
     ghost from_gives = { λ _ fault. fault ≡ Memory };

@@ -33,7 +33,6 @@ pub use Rattle.std.specs.Ordering.{nat_cmp, ordering_reverse, ordering_then, int
 pub use Rattle.std.specs.Str.{bytes_eq}
 pub use Rattle.std.specs.Vec.Iter.{into_iter_items}
 pub use Rattle.zeb_change.proofs.ChangeKeysContent.{keeps_then}
-pub use Rattle.zeb_change.proofs.CostLemmas.{ok_so}
 pub use Rattle.zeb_change.proofs.KeyEquality.{same_key}
 pub use Rattle.zeb_change.proofs.LeadsToContent.{will_rise, held_whole, will_begin}
 pub use Rattle.zeb_change.proofs.Reposted.{reposted, reposted_is}
@@ -58,7 +57,7 @@ pub use Rattle.zeb_image.specs.Holdings.{base_named, base_placed, without_base, 
 pub use Rattle.zeb_image.specs.Image.{IsImage, IsImageOf, IsImageUnder, AreBases, HasTexts, AreListsOf}
 pub use Rattle.zeb_image.specs.Names.{IsDatabaseName, is_name_byte}
 pub use Rattle.zeb_image.specs.PrivateChecking.{CanAllBeHeld, IsExpectation, AreRecordsPostings, CanBeHeld, CanKeep, CanKeepAll, kept_of, occurrence_of, posting_of, AreMade, IsMadeOf, IsExpectationOrNone, ArePostingsOrNone, IsMadeOrNone, bare, AreOccurrencesOrNone}
-pub use Rattle.zeb_image.specs.PrivateRebuilding.{IsRecordPosted, LacksRecord, WillHoldSuch, IsPosted, LacksDatabase, RowOccurs, HoldsSuch}
+pub use Rattle.zeb_image.specs.PrivateRebuilding.{PostsDatabase, IsRecordPosted, LacksRecord, WillHoldSuch, IsPosted, LacksDatabase, RowOccurs, HoldsSuch}
 pub use Rattle.zeb_image.specs.Rebuilding.{AreReadableLists, AreSound, IsSound, AreSoundIn}
 pub use Rattle.zeb_keys.proofs.Rising.{key_total, keys_apart, both_equal, numbers_apart}
 pub use Rattle.zeb_keys.proofs.SortedLists.{members_from_dedup, rising_from_dedup}

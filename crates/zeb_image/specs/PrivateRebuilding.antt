@@ -1,15 +1,20 @@
 -- What only the contracts of private functions speak of; no public clause reaches it.
 -- Registers on their way: which of the kept records have their postings in them.
-use Rattle.std.specs.Prelude.{◌≡◌, ◌≢◌, ◌↔◌, ℕ, ℤ, pos, List}
+use Rattle.std.specs.Prelude.{◌≡◌, ◌≢◌, ◌↔◌, ℕ, ℤ, pos, List, Result, Ok, Err}
+use Rattle.sqlite.specs.State.{State}
 use Rattle.sqlite.specs.Tree.{Trees}
 use Rattle.zeb_profile.specs.declared.directives.Directive.{Directive}
 use Rattle.zeb_keys.specs.declared.keys.Occurrence.{Occurrence}
 use Rattle.zeb_register.specs.Content.{Content, IsStorable, posted}
 use Rattle.zeb_register.specs.Formats.{Format, holds_in}
-use Rattle.zeb_register.specs.Store.{HasRecord}
+use Rattle.zeb_register.specs.Kept.{AreReadable}
+use Rattle.zeb_register.specs.Store.{HasRecord, IsStore, KeepsLists}
+use Rattle.zeb_register.specs.declared.RegFault.{RegFault}
+use Rattle.zeb_register.specs.declared.RegFault.TheVariants.{Damaged}
 use Rattle.zeb_change.specs.declared.pending.Pending.{Pending}
 use Rattle.zeb_change.specs.Noted.{WillHold}
 use Rattle.zeb_change.specs.Occurs.{OccursIn}
+use Rattle.zeb_image.specs.Rebuilding.{AreSoundIn}
 
 -- the database keeps a record of this number that has the occurrence
 abbrev pub RowOccurs : List Directive → Trees → ℤ → ℕ → Occurrence → Type 0
@@ -48,3 +53,14 @@ LacksDatabase id content = (n : ℕ) → LacksRecord id n content
 pub record IsPosted (profile : List Directive) (lists : Trees) (id : ℤ) (before after : Content) : Type 0 where
   pub part : (n : ℕ) (o : Occurrence) → posted after id n o ↔ RowOccurs profile lists id n o
   pub others : (d : ℤ) (n : ℕ) (o : Occurrence) → d ≢ id → posted after d n o ↔ posted before d n o
+
+-- The postings of a database's records are put in, which had none: its records are sound, and they are what is posted. Damage is told only where
+-- one of them can't be read or isn't sound.
+abbrev pub PostsDatabase : Format → List Directive → ℤ → (old new : State) → Result (Unit {0}) RegFault → Type 0
+PostsDatabase format profile id old new (Ok done) =
+    IsStore new × KeepsLists old.now.trees new.now.trees × AreSoundIn profile old.now.trees id
+    × ((before : Content) → holds_in format old.now.trees before → IsStorable before → LacksDatabase id before
+    → HoldsSuch format new.now.trees (IsPosted profile old.now.trees id before))
+PostsDatabase format profile id old new (Err fault) =
+    fault ≡ Damaged → (before : Content) → holds_in format old.now.trees before → IsStorable before → LacksDatabase id before
+    → ¬ (AreReadable old.now.trees id × AreSoundIn profile old.now.trees id)

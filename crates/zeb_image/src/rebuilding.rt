@@ -2,17 +2,15 @@
 
 ghost use Rattle.std.specs.Prelude.{◌≡◌, IsTrue, OnOk, List};
 ghost use Rattle.sqlite.specs.Held.{state};
-ghost use Rattle.sqlite.specs.State.{HasCleanDisk, Survives};
+ghost use Rattle.sqlite.specs.State.{HasCleanDisk};
 ghost use Rattle.zeb_register.specs.Calls.{GoesOn, Inside};
-ghost use Rattle.zeb_register.specs.Content.{Content, IsStorable};
-ghost use Rattle.zeb_register.specs.Formats.{holds_in};
-ghost use Rattle.zeb_register.specs.Kept.{AreReadable};
+ghost use Rattle.zeb_register.specs.Clauses.{InStore};
 ghost use Rattle.zeb_register.specs.Store.{IsStore, KeepsLists};
 ghost use Rattle.zeb_change.specs.Base.{Base};
-ghost use Rattle.zeb_change.specs.Inside.{StaysInside};
+ghost use Rattle.zeb_change.specs.Inside.{WorksInside};
 ghost use Rattle.zeb_image.specs.Image.{AreBases, AreListsOf, IsImageOf};
-ghost use Rattle.zeb_image.specs.Rebuilding.{AreReadableLists, AreSound, AreSoundIn};
-ghost use Rattle.zeb_image.specs.PrivateRebuilding.{HoldsSuch, IsPosted, LacksDatabase};
+ghost use Rattle.zeb_image.specs.Rebuilding.{AreReadableLists, AreSound};
+ghost use Rattle.zeb_image.specs.PrivateRebuilding.{PostsDatabase};
 
 use crate::rebuilding_records::record_note;
 use sqlite::{Alter, Transaction};
@@ -85,35 +83,11 @@ fn database_post<S: Alter, L: Layout>(
     db: DatabaseId,
 ) -> Result<(), RegFault>
     ensures same { tx.new.conn.ghost_name ≡ tx.old.conn.ghost_name }
-    ensures stays { HasCleanDisk (state S.Store tx.new.conn.now)
-        → IsTrue (state S.Store tx.old.conn.now).in_transaction
-        → StaysInside (state S.Store tx.old.conn.now) (state S.Store tx.new.conn.now) result }
-    ensures crash { Survives (state S.Store tx.old.conn.now) (state S.Store tx.new.conn.now)
-        (λ _. ⊥) }
-    ensures kept { HasCleanDisk (state S.Store tx.new.conn.now)
-        → IsTrue (state S.Store tx.old.conn.now).in_transaction
-        → IsStore (state S.Store tx.old.conn.now)
-        → OnOk result (IsStore (state S.Store tx.new.conn.now)
-        × KeepsLists (state S.Store tx.old.conn.now).now.trees
-        (state S.Store tx.new.conn.now).now.trees) }
-    ensures checked { HasCleanDisk (state S.Store tx.new.conn.now)
-        → IsTrue (state S.Store tx.old.conn.now).in_transaction
-        → IsStore (state S.Store tx.old.conn.now)
-        → OnOk result (AreSoundIn profile.now (state S.Store tx.old.conn.now).now.trees db.0) }
-    ensures posted { HasCleanDisk (state S.Store tx.new.conn.now)
-        → IsTrue (state S.Store tx.old.conn.now).in_transaction
-        → IsStore (state S.Store tx.old.conn.now)
-        → OnOk result ((before : Content) → holds_in L.format
-        (state S.Store tx.old.conn.now).now.trees before → IsStorable before
-        → LacksDatabase db.0 before → HoldsSuch L.format (state S.Store tx.new.conn.now).now.trees
-        (IsPosted profile.now (state S.Store tx.old.conn.now).now.trees db.0 before)) }
-    ensures damaged { HasCleanDisk (state S.Store tx.new.conn.now)
-        → IsTrue (state S.Store tx.old.conn.now).in_transaction
-        → IsStore (state S.Store tx.old.conn.now) → result ≡ Err RegFault.Damaged
-        → (before : Content) → holds_in L.format (state S.Store tx.old.conn.now).now.trees before
-        → IsStorable before
-        → LacksDatabase db.0 before → AreReadable (state S.Store tx.old.conn.now).now.trees db.0
-        → ¬ AreSoundIn profile.now (state S.Store tx.old.conn.now).now.trees db.0 }
+    ensures inside { WorksInside (state S.Store tx.old.conn.now) (state S.Store tx.new.conn.now)
+        result }
+    ensures posts { InStore (state S.Store tx.old.conn.now) (state S.Store tx.new.conn.now)
+        (λ _. PostsDatabase L.format profile.now db.0 (state S.Store tx.old.conn.now)
+        (state S.Store tx.new.conn.now) result) }
 {
     let mut work = Work::default();
     let mut pending = Pending::new(alloc, MOST_NOTED);

@@ -16,13 +16,10 @@ pub use Rattle.std.specs.Cmp.{nat_cmp_total, IsTotalOrder, then_total}
 pub use Rattle.std.specs.Cmp.Lexicographic.{slice_cmp, nat_list_cmp_total}
 pub use Rattle.std.specs.Fmt.{decimal}
 pub use Rattle.std.specs.List.{Contains, flat_map}
-pub use Rattle.std.specs.Option.{option_map, option_or}
+pub use Rattle.std.specs.Option.{option_map}
 pub use Rattle.std.specs.Ordering.{nat_cmp, ordering_then, MatchOrdering}
 pub use Rattle.std.specs.Prelude.{⊤, if◌then◌else◌}
 pub use Rattle.std.specs.Str.{bytes_eq}
-pub use Rattle.zeb_analysis.specs.Analysing.{Analysed, AnalysesTo, AreAnalysesOf, IsAnalysisOf, Standing, first_refusal, refused_content, refused_name, refused_record, standing_in_all, units_in}
-pub use Rattle.zeb_analysis.specs.declared.faults.AnalysisFault.{AnalysisFault}
-pub use Rattle.zeb_analysis.specs.declared.faults.AnalysisFault.TheVariants.{TooManyRecords}
 pub use Rattle.zeb_change.proofs.FoldLemmas.{named_record}
 pub use Rattle.zeb_change.proofs.FoldSteps.{folded_ok}
 pub use Rattle.zeb_change.proofs.KeptLemmas.{has_same, is_ident, none_kept, same_has, AreRisingKept, kept_found}
@@ -56,13 +53,12 @@ pub use Rattle.zeb_engine.specs.Steps.{change_ends, change_from, ends, start_of,
 pub use Rattle.zeb_engine.specs.Transactions.{AsksStore}
 pub use Rattle.zeb_engine.specs.declared.commands.Command.{Command}
 pub use Rattle.zeb_engine.specs.declared.commands.Command.TheVariants.{Init, Check, Reindex, Upgrade, Create, Drop, Stat, Dump, Change, Find, Scan, Analyse}
-pub use Rattle.zeb_lower_laws.proofs.SampleAnalysis.{called, members}
+pub use Rattle.zeb_lower_laws.proofs.SampleAnalysis.{members}
 pub use Rattle.zeb_extract.proofs.Listed.{occurrences_are_listed}
 pub use Rattle.zeb_extract.proofs.Members.{Contains-flat_map, Contains-map, from_flat_map, from_map}
-pub use Rattle.zeb_extract.specs.Identifier.{identifier_of}
 pub use Rattle.zeb_extract.specs.Occurrences.{IsOccurrence}
 pub use Rattle.zeb_extract.specs.PrivateListing.{listing}
-pub use Rattle.zeb_lower_laws.specs.Sample.{moby_dick, moby_dick_analysis, title_profile, term_at}
+pub use Rattle.zeb_lower_laws.specs.Sample.{moby_dick_analysis, title_profile, term_at}
 pub use Rattle.zeb_extract.specs.declared.naming.IdentFault.{IdentFault}
 pub use Rattle.zeb_image.proofs.Bases.{named_there, with_base_has, with_base_in_order}
 pub use Rattle.zeb_image.proofs.OneText.{under_other}
@@ -78,9 +74,9 @@ pub use Rattle.zeb_keys.specs.declared.registers.Register.TheVariants.{Word, Phr
 pub use Rattle.zeb_laws.specs.Counts.{IsAccepted, FoldsTo, records_in, HasNamesake}
 pub use Rattle.zeb_laws.specs.Lasting.{NoneHas, slices_in, IsLastOf, KeepsIdent, SomeHas}
 pub use Rattle.zeb_laws.specs.Targets.{target_cmp}
-pub use Rattle.zeb_laws.specs.Worked.{book, book_base, book_conditions, faulty_file, no_books, one_book, title_plan, title_word, IsUpdateBy, IsFindBy}
+pub use Rattle.zeb_laws.specs.Worked.{whale, ahab, BookHolds, book, book_base, book_conditions, faulty_file, no_books, one_book, title_plan, title_word, IsUpdateBy, IsFindBy}
 pub use Rattle.zeb_marc.specs.Splits.{Split}
-pub use Rattle.zeb_lower_laws.specs.WorkedRecord.{worked_record, worked_fields}
+pub use Rattle.zeb_lower_laws.specs.WorkedRecord.{worked_record}
 pub use Rattle.zeb_marc.specs.declared.faults.MarcFault.{MarcFault}
 pub use Rattle.zeb_marc.specs.declared.faults.MarcFault.TheVariants.{LengthDigits}
 pub use Rattle.zeb_profile.specs.Canonical.{canonical_text}
@@ -95,7 +91,6 @@ pub use Rattle.zeb_query.specs.Plans.{PlanValue, ScanValue, plan_of, scan_of, Te
 pub use Rattle.zeb_query.specs.PrivateWalk.{words_at, unquoted}
 pub use Rattle.zeb_query.specs.declared.plans.DistanceRelation.{DistanceRelation}
 pub use Rattle.zeb_query.specs.declared.plans.Operator.{Operator}
-pub use Rattle.zeb_query.specs.declared.plans.Order.{Order}
 pub use Rattle.zeb_query.specs.declared.plans.Relation.{Relation}
 pub use Rattle.zeb_query.specs.declared.plans.Separation.{Separation}
 pub use Rattle.zeb_register.proofs.ContentChanges.{postings_apart}

@@ -4,7 +4,7 @@ use Rattle.zeb_marc.specs.Contents.{units_of}
 use Rattle.zeb_marc.specs.Records.{fields_of}
 use Rattle.zeb_engine.specs.Answers.{counted}
 use Rattle.zeb_engine.specs.Steps.{changed_by_files, initialised, ready, turned, reindexed, upgraded}
-use Rattle.zeb_laws.proofs.EveryAnswerAnalyses.{analyses_there}
+use Rattle.zeb_lower_laws.proofs.EveryAnalysis.{analyses_there}
 use Rattle.zeb_laws.proofs.EveryAnswerHolds.{IsSetOf}
 use Rattle.zeb_laws.proofs.EveryAnswerHolds.{tree_decided}
 use Rattle.zeb_laws.proofs.EveryAnswerLists.{Decided, rising_has, rising_of, rising_rises, those, those_are}

@@ -1,11 +1,10 @@
 -- A query holds or not on each number, where the set of occurrences is that of a list.
-use Rattle.zeb_laws.proofs.Cited.{◌≡◌, ◌≢◌, ◌↔◌, ◌⊎◌, ◌∙◌, ◌<◌, ◌+◌, ◌^◌, ℕ, Bool, true, false, List, [], ◌∷◌, ◌++◌, IsUtf8, refl, sym, ap, subst, inl, inr, arith, slice_cmp, nat_cmp, IsUtf8-from_is_utf8, is_utf8-from_IsUtf8, Has, Symbol, Char, Star, Matches, number_key, Register, DistanceRelation, Operator, Order, Relation, Separation, PlanValue, TermOf, PairOf, NearOf, TermPlanValue, RecordNumberOf, NoWordsOf, AlwaysOf, NumberOf, OrderedOf, CompleteOf, PhraseOf, AllWordsOf, AnyWordOf, Key, Occurrence, key_total, keys_apart, occurrence_total, occurrences_apart, key_in, told_by, AreApart, AreSeparated, IsDistant, Precedes, Stands, StandsInOrder, AreJoined, Fits, HasEntry, HasMatch, HasNear, HasPhrase, HasWord, HasWords, IsNumberAt, TermHolds, TreeHolds}
+use Rattle.zeb_laws.proofs.Cited.{◌≡◌, ◌≢◌, ◌↔◌, ◌⊎◌, ◌∙◌, ◌<◌, ◌+◌, ◌^◌, ℕ, Bool, true, false, List, [], ◌∷◌, ◌++◌, IsUtf8, refl, sym, ap, subst, inl, inr, arith, slice_cmp, nat_cmp, IsUtf8-from_is_utf8, is_utf8-from_IsUtf8, Has, Symbol, Char, Star, Matches, number_key, Register, DistanceRelation, Operator, Relation, Separation, PlanValue, TermOf, PairOf, NearOf, TermPlanValue, RecordNumberOf, NoWordsOf, AlwaysOf, NumberOf, OrderedOf, CompleteOf, PhraseOf, AllWordsOf, AnyWordOf, Key, Occurrence, key_total, keys_apart, occurrence_total, occurrences_apart, key_in, told_by, AreApart, AreSeparated, IsDistant, Precedes, Stands, StandsInOrder, AreJoined, Fits, HasEntry, HasMatch, HasNear, HasPhrase, HasWord, HasWords, IsNumberAt, TermHolds, TreeHolds}
 use Rattle.std.proofs.Common.{chars}
 use Rattle.std.specs.Str.{is_utf8}
 use Rattle.zeb_keys.specs.declared.Register.TheVariants as register
 use Rattle.zeb_query.specs.declared.plans.DistanceRelation.TheVariants as at
 use Rattle.zeb_query.specs.declared.plans.Operator.TheVariants as operator
-use Rattle.zeb_query.specs.declared.plans.Order.TheVariants as in_order
 use Rattle.zeb_query.specs.declared.plans.Relation.TheVariants as relation
 use Rattle.zeb_laws.proofs.EveryAnswerLists.{Decided, decided_as, both_decided, either_decided, denied_decided, where_decided, test_decided, less_decided, number_decided, text_decided, below_decided, upto_decided, some_below, some_decided, each_decided}
 
@@ -77,11 +76,12 @@ number_at_decided relation number term = number_found (10 ^ 18) relation number 
 precedes_decided : (a b : List ℕ) → Decided (Precedes a b)
 precedes_decided a b = less_decided (slice_cmp nat_cmp a b)
 
-in_order_decided : (order : Order) (a b : List ℕ) → Decided (StandsInOrder order a b)
-in_order_decided in_order.Less a b = precedes_decided a b
-in_order_decided in_order.LessOrEqual a b = either_decided (Precedes a b) (a ≡ b) (precedes_decided a b) (text_decided a b)
-in_order_decided in_order.GreaterOrEqual a b = either_decided (Precedes b a) (a ≡ b) (precedes_decided b a) (text_decided a b)
-in_order_decided in_order.Greater a b = precedes_decided b a
+in_order_decided : (r : Relation) (a b : List ℕ) → Decided (StandsInOrder r a b)
+in_order_decided relation.Less a b = precedes_decided a b
+in_order_decided relation.LessOrEqual a b = either_decided (Precedes a b) (a ≡ b) (precedes_decided a b) (text_decided a b)
+in_order_decided relation.Equal a b = text_decided a b
+in_order_decided relation.GreaterOrEqual a b = either_decided (Precedes b a) (a ≡ b) (precedes_decided b a) (text_decided a b)
+in_order_decided relation.Greater a b = precedes_decided b a
 
 distant_decided : (relation : DistanceRelation) (words distance : ℕ) → Decided (IsDistant relation words distance)
 distant_decided at.Less words distance = below_decided words distance
@@ -201,7 +201,7 @@ module _ (O : ℕ → Occurrence → Type 0) (all : List (ℕ × Occurrence)) (a
     term_decided (NoWordsOf index register) n = inr (λ h. h)
     term_decided (AlwaysOf index register) n = entry_decided index register (λ _. Unit {0}) (λ _. inl tt) n
     term_decided (NumberOf index relation number) n = entry_decided index register.Number (IsNumberAt relation number) (number_at_decided relation number) n
-    term_decided (OrderedOf index register order start) n = entry_decided index register (λ term. StandsInOrder order term start) (λ term. in_order_decided order term start) n
+    term_decided (OrderedOf index register relation start) n = entry_decided index register (λ term. StandsInOrder relation term start) (λ term. in_order_decided relation term start) n
     term_decided (CompleteOf index pattern) n = entry_decided index register.Phrase (Fits pattern) (fits_decided pattern) n
     term_decided (PhraseOf index [] first) n = inr (λ h. h.0 refl)
     term_decided (PhraseOf index (pattern ∷ patterns) first) n =

@@ -12,7 +12,6 @@ pub mod DeletedRecords
 pub mod EveryAnswerHolds
 pub mod EveryAnswerLists
 pub mod EveryAnswerTerms
-pub mod EveryAnswerAnalyses
 pub mod EveryAnswer
 pub mod CheckFollows
 pub mod TargetLists

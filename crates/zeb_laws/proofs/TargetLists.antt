@@ -1,5 +1,5 @@
 -- The registers that a stat counts: just those that some line of the profile has as a target, each once, in order.
-use Rattle.zeb_laws.proofs.Cited.{if◌then◌else◌, ranked, MatchOrdering, Greater, nat_cmp, ◌≡◌, ◌↔◌, ◌∙◌, ◌<◌, ◌⊎◌, ◌++◌, ◌∷◌, ℕ, Bool, true, false, List, [], Ordering, Less, zero, suc, refl, sym, ap, ap₂, subst, inl, inr, arith, Has, has_left, has_right, has_either, nat_cmp_total, Directive, Target, target_in, targets_of_index, targets_below, target_cmp, has_pair, Register, Word, Phrase, Number, register_code, joined_rises, IsTotalOrder, nat_tests, ordering_then, then_total, on_total, tied_itself, Equal}
+use Rattle.zeb_laws.proofs.Cited.{if◌then◌else◌, ranked, MatchOrdering, Greater, nat_cmp, ◌≡◌, ◌↔◌, ◌∙◌, ◌<◌, ◌⊎◌, ◌∷◌, ℕ, Bool, true, false, List, [], Ordering, Less, zero, suc, refl, sym, ap, ap₂, subst, inl, inr, arith, Has, has_left, has_right, has_either, nat_cmp_total, Directive, Target, target_in, targets_of_index, targets_below, target_cmp, has_pair, Register, Word, Phrase, Number, register_code, joined_rises, IsTotalOrder, nat_tests, ordering_then, then_total, on_total, tied_itself, Equal}
 use Rattle.std.specs.List.Sorted.{IsStrictlySortedBy}
 
 pub target_total : IsTotalOrder target_cmp

@@ -1,37 +1,18 @@
 -- "Moby Dick" is kept, and again, refused with what stands behind it, and found.
-use Rattle.zeb_laws.proofs.Cited.{◌≡◌, ◌↔◌, ◌∙◌, ℕ, ◌≤◌, Bool, true, false, not, List, [], ◌∷◌, None, Some, Ok, nat_le, refl, sym, ap, ap₂, subst, inl, inr, codes, IsUtf8, arith, Contains, bytes_eq, has_contained, nat_tests, All-contains, AllPass-from_list_all, unit_targets, LengthDigits, worked_record, worked_fields, Word, Occurrence, PlanValue, HasKey, identifier_of, IsOccurrence, moby_dick, moby_dick_analysis, title_profile, term_at, called, members, Command, Init, Check, Reindex, Upgrade, Create, Drop, Stat, Dump, Change, Find, Scan, Analyse, Update, Delete, Adelete, Limits, Inserted, Updated, Answer, done, changed, refused, found, faulty, Conditions, TreeHolds, AreNumbers, plain_word, AreShown, IsFound, IsNamed, has_name, OccursIn, occurs, Progress, at_first, counted, ident_in, splits_of, Holdings, new_base, Base, Kept, with_new, with_bytes, outcome, found_once, name_once, book, book_base, book_conditions, faulty_file, no_books, one_book, title_plan, title_word, IsUpdateBy}
+use Rattle.zeb_laws.proofs.Cited.{◌≡◌, ◌↔◌, ◌∙◌, ℕ, ◌≤◌, Bool, true, false, not, List, [], ◌∷◌, None, Some, Ok, nat_le, refl, sym, ap, ap₂, subst, inl, inr, codes, IsUtf8, arith, Contains, bytes_eq, has_contained, nat_tests, All-contains, AllPass-from_list_all, unit_targets, LengthDigits, worked_record, Word, Occurrence, PlanValue, PairOf, HasKey, IsOccurrence, moby_dick_analysis, title_profile, term_at, members, Command, Init, Check, Reindex, Upgrade, Create, Drop, Stat, Dump, Change, Find, Scan, Analyse, Update, Delete, Adelete, Limits, Inserted, Updated, Answer, done, changed, refused, found, faulty, Conditions, TreeHolds, AreNumbers, plain_word, AreShown, IsFound, IsNamed, has_name, OccursIn, occurs, Progress, at_first, counted, splits_of, Holdings, new_base, Base, Kept, with_new, with_bytes, outcome, found_once, name_once, book, book_base, book_conditions, faulty_file, no_books, one_book, title_plan, title_word, whale, ahab, BookHolds, IsUpdateBy}
 use lib.Utf8.{encode}
 use Rattle.std.specs.List.Sorted.{IsStrictlySortedBy}
-use Rattle.zeb_marc.specs.Contents.{units_of}
-use Rattle.zeb_marc.specs.Leader.{are_digits, number_of, counts, has_counts, ends_directory, has_base_address}
-use Rattle.zeb_marc.specs.Directory.{has_digits, is_in_area}
-use Rattle.zeb_marc.specs.Records.{first_fault, fields_of}
+use Rattle.zeb_marc.specs.Leader.{are_digits, number_of}
 use Rattle.zeb_marc.specs.Splits.{split_of, next_of}
 use Rattle.zeb_change.specs.declared.faults.RecordFault.TheVariants as fault
 use Rattle.zeb_change.specs.Folding.{record_folded}
 use Rattle.zeb_image.specs.Holdings.{with_base}
 use Rattle.zeb_engine.specs.Steps.{initialised, turned, changed_by_files}
+use Rattle.zeb_query.specs.declared.plans.Operator.TheVariants as operator
+use Rattle.zeb_lower_laws.proofs.SampleAnswers.{named, sound, units_are}
 use Rattle.zeb_laws.proofs.WorkedLemmas.{new_folded, old_folded, whole_file, faulty_file as fault_behind, update_done, update_refused}
 
 -- ---- the record
-
-whole : first_fault worked_record ≡ None
-unfolding first_fault are_digits number_of counts has_counts ends_directory has_base_address has_digits is_in_area
-whole = refl
-
-fields_are : fields_of worked_record ≡ worked_fields
-unfolding fields_of are_digits number_of counts has_counts ends_directory has_base_address has_digits is_in_area
-fields_are = refl
-
-fields_units : units_of worked_fields ≡ moby_dick
-unfolding units_of
-fields_units = refl
-
-units_are : units_of (fields_of worked_record) ≡ moby_dick
-units_are = ap units_of fields_are ∙ fields_units
-
-named : ident_in title_profile worked_record ≡ Ok (codes "a1")
-named = ap (identifier_of title_profile) units_are ∙ called
 
 one_slice : split_of worked_record ≡ record { slices = worked_record ∷ []; fault = None }
 unfolding split_of next_of are_digits number_of
@@ -103,6 +84,19 @@ no_hits = record {
   );
 }
 
+-- under the operators, with the word that isn't there
+pub joined : (n : ℕ) → (¬ BookHolds (PairOf operator.And whale ahab) n) × (BookHolds (PairOf operator.Or whale ahab) n ↔ (n ≡ 1))
+    × (BookHolds (PairOf operator.Not whale ahab) n ↔ (n ≡ 1)) × (¬ BookHolds (PairOf operator.Not ahab whale) n)
+joined n =
+    let here = whale_hits.each n in
+    let nowhere : ¬ BookHolds ahab n = λ holds. absurd ((no_hits.each n).1 holds) in
+    let just : BookHolds whale n → n ≡ 1 = λ holds. elim (here.1 holds) [ inl same ↦ same | inr none ↦ absurd none ] in (
+      λ both. nowhere both.1,
+      (λ either. elim either [ inl holds ↦ just holds | inr other ↦ absurd (nowhere other) ], λ same. inl (here.0 (inl same))),
+      (λ first. just first.0, λ same. (here.0 (inl same), nowhere)),
+      λ first. nowhere first.0,
+    )
+
 book_shown : AreShown book_named (1 ∷ []) ((1, codes "a1") ∷ [])
 book_shown = record { in_order = refl; named = λ hit there. elim there [ inl same ↦ subst (λ (h : ℕ × List ℕ). book_named h.0 h.1) (sym same) refl | inr none ↦ absurd none ] }
 
@@ -167,10 +161,10 @@ module _ (version : List ℕ) (limits : Limits) where
   replaced = counted (with_bytes (codes "a1") worked_record book_base) (at_first book_base) Updated
 
   put : record_folded c Update 1 1 worked_record (at_first empty) ≡ Ok inserted
-  put = new_folded c worked_record (codes "a1") empty room whole named space refl
+  put = new_folded c worked_record (codes "a1") empty room sound named space refl
 
   put_again : record_folded c Update 1 1 worked_record (at_first book_base) ≡ Ok replaced
-  put_again = old_folded c worked_record (codes "a1") book_base room whole named book refl
+  put_again = old_folded c worked_record (codes "a1") book_base room sound named book refl
 
   pub kept : (command : Command) → IsUpdateBy (worked_record ∷ []) command → outcome c command (no_books version) ≡ Some (changed 1 0 0, one_book version)
   unfolding with_base

@@ -17,6 +17,9 @@ use Rattle.zeb_image.specs.NameOf.{name_bytes}
 use Rattle.zeb_change.specs.Conditions.{Conditions, conditions}
 use Rattle.zeb_image.specs.Holdings.{Holdings, under}
 use Rattle.zeb_change.specs.Base.{Base, Kept}
+use Rattle.zeb_change.specs.Occurs.{occurs}
+use Rattle.zeb_search.specs.Holds.{TreeHolds}
+use Rattle.zeb_engine.specs.Finding.{IsNamed, has_name}
 
 -- a session under the profile of titles, dates and any words
 abbrev pub book_conditions : List ℕ → Limits → Conditions
@@ -51,6 +54,16 @@ word_plan index word = TermOf (PhraseOf index (literal (chars word) ∷ []) fals
 -- the plan of a word there
 abbrev pub title_plan : List ℕ → PlanValue
 title_plan = word_plan 0
+
+-- the plans of a word of the title and of one that no title has, and what holds on the record of such a number
+abbrev pub whale : PlanValue
+whale = title_plan (codes "whale")
+
+abbrev pub ahab : PlanValue
+ahab = title_plan (codes "ahab")
+
+abbrev pub BookHolds : PlanValue → ℕ → Type 0
+BookHolds = TreeHolds (occurs title_profile book_base.records) (IsNamed (occurs title_profile book_base.records) (has_name book_base.records))
 
 -- the command updates the database `Default` by files of these bytes
 abbrev pub IsUpdateBy : List (List ℕ) → Command → Type 0

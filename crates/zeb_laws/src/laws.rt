@@ -4,21 +4,24 @@ ghost use Rattle.zeb_lower_laws.specs.WorkedRecord.{worked_record};
 ghost use Rattle.zeb_lower_laws.specs.Sample.{title_profile};
 ghost use Rattle.zeb_engine.specs.Answers.{Answer, done, changed, refused, found};
 ghost use Rattle.zeb_change.specs.Refused.{faulty};
+ghost use Rattle.zeb_query.specs.Plans.{PairOf};
 ghost use Rattle.zeb_engine.specs.Finding.{IsFound, has_name};
 ghost use Rattle.zeb_change.specs.Occurs.{occurs};
 ghost use Rattle.zeb_register.specs.Occurring.{HasKey};
 ghost use Rattle.zeb_image.specs.Holdings.{Holdings, nothing_yet};
 ghost use Rattle.zeb_engine.specs.Steps.{Run, Step};
-ghost use Rattle.zeb_laws.specs.Worked.{book_base, book_conditions, faulty_file, no_books, one_book, title_plan, title_word, IsFindBy, IsJust, IsUpdateBy};
+ghost use Rattle.zeb_laws.specs.Worked.{book_base, book_conditions, faulty_file, no_books, one_book, title_plan, ahab, title_word, whale, BookHolds, IsFindBy, IsJust, IsUpdateBy};
 
 use zeb_change::{Limits, RecordFault};
 use zeb_engine::Command;
+use zeb_query::Operator;
 
 /// A whole example, by the definitions alone, under a profile of titles, dates and any words. `Init` leaves no database. An
 /// update by a file with "Moby Dick" keeps it under number 1, and a second one keeps that number. A file in which five
 /// letters follow the record is refused by its second record, and nothing changes. A word of the title finds the record, by
-/// its key and by a query's text, and another word finds none; nothing else is answered. `Init`, the first update and the
-/// find, one after the other, are a run from nothing.
+/// its key and by a query's text, and another word finds none; nothing else is answered. Both together hold of none, either holds of
+/// the record, and so does the first without the other, but not the other without the first. `Init`, the first update and the find,
+/// one after the other, are a run from nothing.
 pub fn worked_examples()
     ensures begun { (version : List ℕ) (limits : Limits) (before : Holdings)
         → IsJust (Step (book_conditions version limits) Command.Init before) done (no_books version) }
@@ -50,6 +53,10 @@ pub fn worked_examples()
         → IsFound (occurs title_profile book_base.records) (has_name book_base.records)
         (title_plan (codes "ahab")) 1 20 answer
         ↔ (answer ≡ found 0 []) }
+    ensures joined { (n : ℕ) → (¬ BookHolds (PairOf Operator.And whale ahab) n)
+        × (BookHolds (PairOf Operator.Or whale ahab) n ↔ (n ≡ 1))
+        × (BookHolds (PairOf Operator.Not whale ahab) n ↔ (n ≡ 1))
+        × (¬ BookHolds (PairOf Operator.Not ahab whale) n) }
     ensures asked { (version : List ℕ) (limits : Limits) (command : Command)
         → IsFindBy (codes "@attr 1=4 whale") command
         → IsJust (Step (book_conditions version limits) command (one_book version))

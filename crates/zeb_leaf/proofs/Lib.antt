@@ -6,6 +6,7 @@ pub mod Order
 pub mod Walked
 pub mod Pushing
 pub mod Finding
+pub mod Chosen
 pub mod Numbers
 pub mod Cutting
 pub mod WorkedLeaves

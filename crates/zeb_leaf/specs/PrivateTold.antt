@@ -1,10 +1,13 @@
 -- What only the contracts of private functions speak of; no public clause reaches it.
--- The parts in which an entry is told, and when they tell one.
-use Rattle.std.specs.Prelude.{ℕ, ◌+◌, ◌^◌, ◌<◌, ◌≤◌, List, [], ◌∷◌, ◌++◌, length, drop, take}
+-- The parts in which an entry is told, and when they tell one; which entries are chosen.
+use Rattle.std.specs.Prelude.{◌≡◌, ◌⊎◌, ℕ, ◌+◌, ◌^◌, ◌<◌, ◌≤◌, List, [], ◌∷◌, ◌++◌, length, drop, take}
 use Rattle.zeb_blocks.specs.Numbers.{uleb}
+use Rattle.zeb_leaf.specs.Spans.{IsInSpan}
+use Rattle.zeb_leaf.specs.Answers.{entry_of}
 use Rattle.zeb_leaf.specs.Leaves.{counted}
 use Rattle.zeb_leaf.specs.Walks.{Place}
 use Rattle.zeb_leaf.specs.declared.entries.Entry.{Entry}
+use Rattle.zeb_leaf.specs.declared.entries.Held.{Held}
 use Rattle.zeb_leaf.specs.declared.telling.Told.{Told}
 
 -- the parts of an entry
@@ -51,3 +54,11 @@ pub record Fit (place : Place) (p : Parts) : Type 0 where
 -- the entry that they tell behind a term
 abbrev pub entry_told : List ℕ → Parts → Entry
 entry_told before p = record { term = take p.shared before ++ p.suffix; block = p.block; records = p.records; bytes = p.bytes }
+
+-- ---- entries that are chosen
+
+-- the entry is put behind the others, if its key is from one on and below another
+abbrev pub TakesIfInSpan : List ℕ → ℕ → List ℕ → ℕ → Entry → (old new : List Held) → Type 0
+TakesIfInSpan first least end number e old new =
+    (IsInSpan first least end number e × (found : Held) × (e ≡ entry_of e.term found) × (new ≡ old ++ found ∷ []))
+    ⊎ ((¬ IsInSpan first least end number e) × (new ≡ old))

@@ -7,6 +7,7 @@ mod entries;
 mod laws;
 mod parting;
 mod reading;
+mod spans;
 mod telling;
 mod walking;
 mod writing;
@@ -18,5 +19,6 @@ pub use laws::{
 };
 pub use parting::part;
 pub use reading::{find, read_leaf};
+pub use spans::{BlockKey, push_span};
 pub use walking::LeafReader;
 pub use writing::{LeafWriter, spell_leaf};

@@ -72,7 +72,7 @@ module _ (s : State) (store : IsStore s) (db : ℤ) (index : ℕ) (register : Re
   pub from_leaf : (row : Row) (n : ℕ) → (there : Leaves row) → n ≤ there.1 → HasBlockFrom n row
   from_leaf row n there up = ap (λ v. is_lt (value_cmp v (Int (pos n)))) there.2 ∙ from_is there.1 n up
 
-  leaf_shape : (row : Row) → Leaves row → Shape row
+  pub leaf_shape : (row : Row) → Leaves row → Shape row
   leaf_shape row there = let it = shape_from row 0 there.0 (from_leaf row 0 there (omega arith)) in (it.0, it.1, it.2, it.3)
 
   module _ (term : List ℕ) (block : ℕ) where

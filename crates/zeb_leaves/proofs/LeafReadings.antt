@@ -20,7 +20,7 @@ one_shown leaf one two left right =
 
 -- ---- bytes and entries say one list of postings
 
-one_said : (e : Entry) (one two : List Posting) → SaysPart e one → SaysPart e two → one ≡ two
+pub one_said : (e : Entry) (one two : List Posting) → SaysPart e one → SaysPart e two → one ≡ two
 one_said e one two left right = one_spelled e.block e.bytes one two left.spelled right.spelled
 
 pub one_say : (entries : List Entry) (term : List ℕ) (block : ℕ) (one two : List Posting) → SayPart entries term block one → SayPart entries term block two → one ≡ two

@@ -1,6 +1,7 @@
 -- The statements that find leaves, each with what it is compiled to.
 use Rattle.zeb_leaves.proofs.Cited.{Row, column, row_cmp, Trees, Int, Text, Has, all_has, ◌≡◌, ◌∙◌, ◌++◌, ◌∷◌, ℕ, ℤ, pos, true, false, List, [], length, map, codes, refl, sym, ap, subst, inl, inr, arith, length-map, IsUpTo, own_key, ShowsGreatest, ShowsSome, HasBlockFrom, IsRest, IsStore, State, Shown, blocks_tree, store_schema}
-use Rattle.std.specs.Ordering.{is_lt}
+use Rattle.std.proofs.Common.{Equal, Greater, Less, Ordering}
+use Rattle.std.specs.Ordering.{is_lt, ordering_then}
 use Rattle.sqlite.specs.Command.TheVariants.{Select}
 use Rattle.sqlite.specs.Listing.{understood}
 use Rattle.sqlite.specs.Order.{value_cmp}
@@ -10,16 +11,17 @@ use Rattle.sqlite.specs.View.{is_int}
 use Rattle.sqlite.proofs.Callers.{reads_as}
 use Rattle.sqlite_tied.specs.Compute.{everything}
 use Rattle.sqlite_value.specs.declared.keys.Key.{Key as Order}
-use Rattle.zeb_leaves.specs.declared.statements.TheConstants.{ANY, OF_TERM, OF_TERMS_BELOW}
+use Rattle.zeb_leaves.specs.declared.statements.TheConstants.{ANY, BETWEEN, OF_TERM, OF_TERMS_BELOW}
 use Rattle.zeb_leaves.proofs.KeyOrder.{not_lower}
 use Rattle.zeb_register.proofs.FirstRows.{first_shown}
-use Rattle.zeb_register.proofs.PostingStatements.{blocks, blocks_static, register_of}
-use Rattle.zeb_register.proofs.PrefixSelects.{IsAfter, after_key}
+use Rattle.zeb_register.proofs.PostingStatements.{blocks, blocks_keys, blocks_static, register_of}
+use Rattle.zeb_register.proofs.PrefixSelects.{IsAfter, after_key, lists_after}
 use Rattle.zeb_register.proofs.Refusals.{IsQuery}
 use Rattle.zeb_register.proofs.Scans.{reads}
-use Rattle.zeb_register.proofs.Selects.{shown_places}
-use Rattle.zeb_register.proofs.StatementForms.{Condition, alone, at_least, descending, equals, keyed_from, less_than, one_row, reading_by, shows}
+use Rattle.zeb_register.proofs.Selects.{list_so, shown_places}
+use Rattle.zeb_register.proofs.StatementForms.{Condition, alone, at_least, descending, equals, keyed_from, less_than, no_limit, one_row, reading_by, rising, shows}
 use Rattle.zeb_register.proofs.ValueKinds.{are_fit, code}
+use Rattle.zeb_register.specs.Sql.{IsListOf}
 use Rattle.zeb_register.proofs.Writes.{codes_there, keyed_there, meets_there}
 
 abbrev leaf_places : List ℕ
@@ -176,3 +178,42 @@ pub any_shown : (old : State) → IsStore old → (db idx reg : ℤ) (new : Stat
 any_shown old store db idx reg new rows shown =
     some_so (IsAfter (old.now.trees 9) (register_of db idx reg) any_rest any_more) (IsThere db idx reg old.now.trees) rows (λ row h. ((h.0, h.1), h.2.0)) (λ row h. (h.0.0, h.0.1, (h.1, tt)))
     (some_shown old store db idx reg any_rest any_more refl any_text (any_query db idx reg) new rows shown)
+
+-- ---- those of the terms from one text on and below another
+
+-- what is lower by two columns is lower by these and more
+two_lower : (a b c : Ordering) → ordering_then a (ordering_then b Equal) ≡ Less → ordering_then a (ordering_then b c) ≡ Less
+two_lower Less b c lower = refl
+two_lower Greater b c lower = absurd (cc)
+two_lower Equal Less c lower = refl
+two_lower Equal Equal c lower = absurd (cc)
+two_lower Equal Greater c lower = absurd (cc)
+
+abbrev term_order : List ℕ
+term_order = 4 ∷ 5 ∷ []
+
+abbrev pub between_text : List ℕ
+between_text = BETWEEN.now
+
+abbrev between_more : List Condition
+between_more = at_least 4 3 ∷ less_than 4 4 ∷ at_least 5 5 ∷ []
+
+abbrev between_rest : (first end : List ℕ) → Row
+between_rest first end = Text first ∷ Text end ∷ Int (pos 0) ∷ []
+
+pub between_query : (db idx reg : ℤ) (first end : List ℕ) → IsQuery between_text (register_of db idx reg ++ between_rest first end) 9 (keyed_from 1 0 3 ++ between_more) (shows leaf_places) (rising term_order) no_limit leaf_names
+unfolding understood everything
+between_query db idx reg first end = record { is = refl; plain = (refl, refl); unlisted = refl; silent = λ schema base. refl; whole = (omega arith, refl); fit = λ trees mistyped. absurd (let t : true ≡ false = mistyped in cc) }
+
+abbrev IsBetweenRow : ℤ → ℤ → ℤ → (first end : List ℕ) → Trees → Row → Type 0
+IsBetweenRow db idx reg first end trees row =
+    (IsRest blocks_tree (register_of db idx reg) trees row × (is_lt (value_cmp (column row 0) (Text first)) ≡ false) × (is_lt (value_cmp (column row 0) (Text end)) ≡ true)) × HasBlockFrom 0 row
+
+pub between_listed : (db idx reg : ℤ) (first end : List ℕ) (old new : State) (rows : List Row) → IsStore old → Shown between_text (register_of db idx reg ++ between_rest first end) old new rows → IsListOf (IsBetweenRow db idx reg first end old.now.trees) rows
+between_listed db idx reg first end old new rows store shown =
+    let front = register_of db idx reg in
+    let P = IsAfter (old.now.trees 9) front (between_rest first end) between_more in
+    let q = between_query db idx reg first end in
+    let got = lists_after store_schema 4 blocks blocks_static _ blocks_keys between_text front (between_rest first end) between_more 3 term_order no_limit leaf_names q.is q.plain q.unlisted refl refl refl refl
+    (λ r s lower. two_lower (value_cmp (column r 4) (column s 4)) (value_cmp (column r 5) (column s 5)) _ lower) old new rows store shown in
+    list_so P (IsBetweenRow db idx reg first end old.now.trees) rows (λ x. (λ h. (((h.0, h.1), h.2.0, h.2.1.0), h.2.1.1.0), λ h. (h.0.0.0, h.0.0.1, (h.0.1, (h.0.2, (h.1, tt)))))) (subst (IsListOf P) (sym got.2) got.1)

@@ -7,7 +7,7 @@ use Rattle.zeb_leaves.proofs.LeafReadings.{one_shown}
 -- ---- entries of one term
 
 -- of two entries of a term the one of the lower block comes first
-entry_below : (term : List ℕ) (d e : Entry) → d.term ≡ term → e.term ≡ term → d.block < e.block → entry_cmp d e ≡ Less
+pub entry_below : (term : List ℕ) (d e : Entry) → d.term ≡ term → e.term ≡ term → d.block < e.block → entry_cmp d e ≡ Less
 entry_below term d e one two low =
     let terms : slice_cmp nat_cmp d.term e.term ≡ Equal = ap (λ t. slice_cmp nat_cmp t e.term) (one ∙ sym two) ∙ tied_itself nat_list_cmp_total e.term in
     ap (λ o. ordering_then o (nat_cmp d.block e.block)) terms ∙ less_is d.block e.block low

@@ -7,6 +7,16 @@ pub mod CoveringCalls
 pub mod LeafReadings
 pub mod LeafSums
 pub mod LeafContents
+pub mod OneCover
+pub mod OneLeaf
+pub mod TermEntries
+pub mod SaidMore
+pub mod SaidLists
+pub mod KeyCalls
+pub mod SpanRuns
+pub mod SpanEntries
+pub mod SpanLists
+pub mod SpanCalls
 pub mod SameLeaves
 pub mod TakenLeaves
 pub mod LeafTerms

@@ -2,5 +2,8 @@ pub mod Covering
 pub mod Readings
 pub mod LeafUnits
 pub mod HeldLeaves
+pub mod KeyReads
 pub mod Worked
 pub mod PrivateLeafReads
+pub mod PrivateSpans
+pub mod PrivateSaid

@@ -3,8 +3,10 @@
 ghost use Rattle.sqlite.specs.Held.{state};
 ghost use Rattle.zeb_leaves.specs.PrivateLeafReads.{IsInRegister, IsOfTermBelow, IsOfTermsBelow};
 ghost use Rattle.zeb_leaves.specs.PrivateLeafReads.{ShowsGreatest, ShowsSome};
+ghost use Rattle.zeb_leaves.specs.PrivateSpans.{IsRowBetween};
 ghost use Rattle.zeb_register.specs.Calls.{Reading};
 ghost use Rattle.zeb_register.specs.PrivateClauses.{IsReasonedError};
+ghost use Rattle.zeb_register.specs.PrivateRowStatements.{Lists};
 ghost use Rattle.zeb_register.specs.PrivateRowTerms.{ReadsRows};
 
 use sqlite::{Alter, Connection, Error, Row, params};
@@ -17,6 +19,9 @@ const OF_TERM: &str =
 
 const OF_TERMS_BELOW: &str =
     "SELECT term, block, data FROM blocks WHERE db = ?1 AND idx = ?2 AND reg = ?3 AND term < ?4 AND block >= ?5 ORDER BY term DESC, block DESC LIMIT 1";
+
+const BETWEEN: &str =
+    "SELECT term, block, data FROM blocks WHERE db = ?1 AND idx = ?2 AND reg = ?3 AND term >= ?4 AND term < ?5 AND block >= ?6 ORDER BY term, block";
 
 const ANY: &str =
     "SELECT block FROM blocks WHERE db = ?1 AND idx = ?2 AND reg = ?3 AND block >= ?4 LIMIT 1";
@@ -58,6 +63,23 @@ pub(crate) fn row_of_terms_below<S: Alter>(
         OF_TERMS_BELOW,
         params![db, at.index, reg, term, least],
     )
+}
+
+/// The leaves whose terms are not below `first` and are below `end`, in their order.
+pub(crate) fn rows_between<S: Alter>(
+    conn: &mut Connection<S>,
+    at: RegisterOf,
+    first: &str,
+    end: &str,
+) -> Result<Vec<Row>, Error>
+    ensures call { Reading (state S.Store conn.old) (state S.Store conn.new) result
+        (λ rows a b. Lists (IsRowBetween at first.now end.now) a b rows.items) }
+    ensures err { IsReasonedError (state S.Store conn.old) (state S.Store conn.new) result }
+{
+    let db = at.db.column();
+    let reg = u32::from(at.register.code());
+    let least: u32 = 0;
+    look_up(conn, BETWEEN, params![db, at.index, reg, first, end, least])
 }
 
 /// A row, where the register has a leaf.

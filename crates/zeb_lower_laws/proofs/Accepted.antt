@@ -7,7 +7,7 @@ use Rattle.zeb_analysis.specs.Analysing.{refusal_at, standing_in}
 use Rattle.zeb_analysis.proofs.SoFar.{as_many, refusal-append}
 use Rattle.zeb_analysis.proofs.WithinLimit.{few_analyses}
 
-neither : {T : Type 0} (a b : Option T) → option_or a b ≡ None → (a ≡ None) × (b ≡ None)
+pub neither : {T : Type 0} (a b : Option T) → option_or a b ≡ None → (a ≡ None) × (b ≡ None)
 neither None b e = (refl, e)
 neither (Some x) b e = absurd (cc)
 

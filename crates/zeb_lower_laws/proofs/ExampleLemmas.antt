@@ -58,7 +58,7 @@ pub pair_at : {left right : List Word} {x y : TreeValue} {connective : Connectiv
 pair_at {left} {right} {x} {y} {connective} place name word parameters key is good s t = is_pair (plain place name) word connective parameters left right x y key is good s t
 
 -- a text that spells a query
-spells : (text : List ℕ) (words : List Word) (query : QueryValue) → IsQuery words query → words_at 0 (chars text) ≡ words → SpellsQuery text query
+pub spells : (text : List ℕ) (words : List Word) (query : QueryValue) → IsQuery words query → words_at 0 (chars text) ≡ words → SpellsQuery text query
 spells text words query is read = record { words = words; are_words = subst (AreWords (chars text)) read (words_are_read (chars text)); spelled = is }
 
 -- a query whose attribute set is named

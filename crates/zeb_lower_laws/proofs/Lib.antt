@@ -5,10 +5,16 @@ pub mod FoldingLemmas
 pub mod Comments
 pub mod FirstFault
 pub mod TargetsRead
+pub mod NameNumbers
+pub mod Trimmed
+pub mod RisingLists
+pub mod EveryAnalysis
+pub mod SampleAnswers
 pub mod ExampleLemmas
 pub mod LookLemmas
 pub mod Example
 pub mod Stripped
 pub mod SampleAnalysis
 pub mod Accepted
+pub mod ShortestForms
 pub mod RecordParts

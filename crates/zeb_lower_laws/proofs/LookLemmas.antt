@@ -1,5 +1,5 @@
 -- In which register a term's plan looks.
-use Rattle.zeb_query.proofs.Cited.{◌≡◌, ℕ, true, false, eqb, List, [], ◌∷◌, ◌++◌, Option, Some, None, refl, ap, sym, subst, ◌∙◌, Ok, not, ◌||◌, ◌&&◌, cond, is_none, eqb-true, Symbol, BooleanOf, ParametersValue, ProximityOf, HeadValue, TreeValue, TermValue, NamedValue, PairValue, QueryValue, heads, no_head, HoldingValue, asks_number, index_in, is_complete, order_of, patterns_asked, register_of, values_held, check, clash_check, first_that_applies, index_check, index_near, number_checks, one_of, term_checks, words_check, find_checks, Operand, operand_of, parameter_checks, operand_checks, operands_checks, proximity_checks, checks_in, Refusal, PlanValue, TermPlanValue, OrderedOf, asked_with, words_asked, joined_words, entries_asked, subject_asked, texts_asked, near_asked, tree_asked, plan_of}
+use Rattle.zeb_query.proofs.Cited.{◌≡◌, ℕ, true, false, eqb, List, [], ◌∷◌, ◌++◌, Option, Some, None, refl, ap, sym, subst, ◌∙◌, Ok, not, ◌||◌, ◌&&◌, cond, is_none, eqb-true, Symbol, BooleanOf, ParametersValue, ProximityOf, HeadValue, TreeValue, TermValue, NamedValue, PairValue, QueryValue, heads, no_head, HoldingValue, asks_number, index_in, is_complete, is_equality, patterns_asked, register_of, values_held, check, clash_check, first_that_applies, index_check, index_near, number_checks, one_of, term_checks, words_check, find_checks, Operand, operand_of, parameter_checks, operand_checks, operands_checks, proximity_checks, checks_in, Refusal, PlanValue, TermPlanValue, OrderedOf, asked_with, words_asked, joined_words, entries_asked, subject_asked, texts_asked, near_asked, tree_asked, plan_of}
 use Rattle.std.specs.Prelude.{chars}
 use Rattle.zeb_text.specs.Words.{words_of}
 use Rattle.zeb_profile.specs.declared.Profile.{Profile}
@@ -14,7 +14,7 @@ use Rattle.zeb_query.specs.declared.values.Subject.{Subject}
 use Rattle.zeb_query.specs.declared.values.Subject.TheVariants.{Record, Entries}
 use Rattle.zeb_query.specs.declared.values.Values.{Values}
 use Rattle.zeb_query.specs.declared.values.Purpose.TheVariants.{Find, Near}
-use Rattle.zeb_query.specs.declared.plans.Order.{Order}
+use Rattle.zeb_query.specs.declared.plans.Relation.{Relation}
 use Rattle.zeb_query.specs.declared.keywords.OperatorWord.TheVariants.{Proximity}
 use Rattle.zeb_profile.specs.Indexes.{has_pair}
 use Rattle.zeb_query.specs.Grammar.{operator_word}
@@ -63,21 +63,24 @@ words_look v index Phrase patterns Incomplete e = refl
 words_look v index WordList patterns Incomplete e = refl
 words_look v index FreeForm patterns Incomplete e = refl
 
-texts_look : (v : Values) (index : ℕ) (structure : Structure) (text : List ℕ) (patterns : List (List Symbol)) (order : Option Order) (whole : Completeness) → asks_number structure ≡ false
-    → plan_register (texts_asked (valued v (Entries index structure) whole) index structure text patterns order) ≡ Some (index, register_of (valued v (Entries index structure) whole))
-texts_look v index structure text patterns (Some order) whole e =
+texts_look : (v : Values) (index : ℕ) (structure : Structure) (text : List ℕ) (patterns : List (List Symbol)) (relation : Relation) (whole : Completeness) → asks_number structure ≡ false
+    → plan_register (texts_asked (valued v (Entries index structure) whole) index structure text patterns relation) ≡ Some (index, register_of (valued v (Entries index structure) whole))
+texts_look v index structure text patterns relation whole e =
     let r = register_of (valued v (Entries index structure) whole) in
-    asked_look (words_of (chars text)) index r (OrderedOf index r order (joined_words text)) refl
-texts_look v index structure text patterns None whole e =
-    asked_look patterns index (register_of (valued v (Entries index structure) whole)) (words_asked index structure v.position whole patterns) (words_look v index structure patterns whole e)
+    let matched = asked_with patterns index r (words_asked index structure v.position whole patterns) in
+    let ordered = asked_with (words_of (chars text)) index r (OrderedOf index r relation (joined_words text)) in
+    elim (is_equality relation) as (λ b. plan_register (cond b matched ordered) ≡ Some (index, r)) [
+      | true ↦ asked_look patterns index r (words_asked index structure v.position whole patterns) (words_look v index structure patterns whole e)
+      | false ↦ asked_look (words_of (chars text)) index r (OrderedOf index r relation (joined_words text)) refl
+    ]
 
 entries_look : (v : Values) (index : ℕ) (structure : Structure) (text : List ℕ) (patterns : List (List Symbol)) (asked : Asked) (whole : Completeness)
     → plan_register (entries_asked (valued v (Entries index structure) whole) index structure text patterns asked) ≡ Some (index, register_of (valued v (Entries index structure) whole))
 entries_look v index structure text patterns Always whole = refl
 entries_look v index Numeric text patterns (Compared relation) whole = refl
-entries_look v index Phrase text patterns (Compared relation) whole = texts_look v index Phrase text patterns (order_of relation) whole refl
-entries_look v index WordList text patterns (Compared relation) whole = texts_look v index WordList text patterns (order_of relation) whole refl
-entries_look v index FreeForm text patterns (Compared relation) whole = texts_look v index FreeForm text patterns (order_of relation) whole refl
+entries_look v index Phrase text patterns (Compared relation) whole = texts_look v index Phrase text patterns relation whole refl
+entries_look v index WordList text patterns (Compared relation) whole = texts_look v index WordList text patterns relation whole refl
+entries_look v index FreeForm text patterns (Compared relation) whole = texts_look v index FreeForm text patterns relation whole refl
 
 has_target : (profile : Profile) (index : ℕ) (structure : Structure) (r : Register) → lacks_register profile r (Entries index structure) ≡ false → has_pair profile (index, r) ≡ true
 has_target profile index structure r e = true_of_not (has_pair profile (index, r)) e

@@ -9,3 +9,4 @@ pub mod WorkedQueries
 pub mod WorkedRecord
 pub mod Parts
 pub mod JoinedMatches
+pub mod ShortestForms

@@ -1,5 +1,6 @@
 -- Profiles read by the definitions alone.
 use Rattle.std.specs.Prelude.{◌≡◌, ℕ, List, [], ◌∷◌, codes, Some, None, Ok, Err}
+use Rattle.zeb_profile.specs.declared.directives.Directive.{Directive}
 use Rattle.zeb_profile.specs.declared.directives.Directive.TheVariants.{Store, Identifier, Att, Melm, All}
 use Rattle.zeb_profile.specs.declared.faults.ProfileFaultKind.{ProfileFaultKind}
 use Rattle.zeb_keys.specs.declared.registers.Register.TheVariants.{Word, Phrase, Number}
@@ -20,3 +21,13 @@ EachLineIsRead = profile_of (codes "# a comment\n\nstore my file\n identifier 00
 -- the text has this fault on this line
 abbrev pub IsRefused : List ℕ → ℕ → ProfileFaultKind → Type 0
 IsRefused text line kind = profile_of text ≡ Err (record { line = line; kind = kind })
+
+-- three names, of which the first comes again behind the second, in another case and in the line `all`
+abbrev pub repeated_names : List Directive
+repeated_names =
+    Store (codes "x")
+    ∷ Identifier (record { tag = codes "001"; code = None })
+    ∷ Melm (record { tag = codes "245"; code = None }) (record { name = codes "A"; register = Word } ∷ [])
+    ∷ Melm (record { tag = codes "246"; code = None }) (record { name = codes "B"; register = Word } ∷ record { name = codes "a"; register = Phrase } ∷ [])
+    ∷ All (record { name = codes "A"; register = Number } ∷ record { name = codes "C"; register = Word } ∷ [])
+    ∷ []

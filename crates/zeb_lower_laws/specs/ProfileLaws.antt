@@ -1,6 +1,6 @@
 -- Laws of profiles and their canonical texts (this project's own rules).
-use Rattle.std.specs.Prelude.{◌≡◌, ◌↔◌, ◌⊎◌, ℕ, false, true, List, [], ◌∷◌, ◌++◌, codes, map, Option, Some, None, Result, Ok, Err}
-use Rattle.std.specs.List.{IsDistinct, list_any, slice_split}
+use Rattle.std.specs.Prelude.{◌≡◌, ◌↔◌, ◌⊎◌, ℕ, ◌<◌, false, true, List, [], ◌∷◌, ◌++◌, codes, length, map, Option, Some, None, Result, Ok, Err}
+use Rattle.std.specs.List.{AllByRecursion, IsDistinct, list_all, list_any, slice_split}
 use Rattle.zeb_profile.specs.declared.directives.Directive.{Directive}
 use Rattle.zeb_profile.specs.declared.directives.Directive.TheVariants.{Store}
 use Rattle.zeb_profile.specs.declared.directives.Placed.{Placed}
@@ -10,9 +10,10 @@ use Rattle.zeb_profile.specs.declared.faults.ProfileFaultKind.{ProfileFaultKind}
 use Rattle.zeb_profile.specs.declared.faults.ProfileFaultKind.TheVariants.{DuplicateTarget}
 use Rattle.zeb_profile.specs.Canonical.{canonical_text}
 use Rattle.zeb_profile.specs.Directives.{directive_of}
-use Rattle.zeb_profile.specs.Indexes.{same_pair, store_path, unit_targets}
-use Rattle.zeb_profile.specs.Profiles.{directive_after, directives_in, first_clash, lack_of, profile_of, telling_lines}
-use Rattle.zeb_profile.specs.Words.{is_comma, same_target, target_of, targets_of}
+use Rattle.zeb_profile.specs.Indexes.{index_by_name, index_names, pair_of, same_pair, store_path, unit_targets}
+use Rattle.zeb_profile.specs.Lines.{is_blank}
+use Rattle.zeb_profile.specs.Profiles.{all_targets, directive_after, directives_in, first_clash, lack_of, profile_of, telling_lines}
+use Rattle.zeb_profile.specs.Words.{distinct_names, is_comma, same_name, same_target, target_of, targets_of}
 use Rattle.zeb_profile.specs.Laws.{IsProfile, SaysTheSame, without_store}
 
 -- the canonical text says nothing of the store, nor does anything that it settles
@@ -114,3 +115,30 @@ pub record LacksSomething (lines : List (ℕ × List ℕ)) (fault : ProfileFault
 abbrev pub FirstFaultIsAnswered : Type 0
 FirstFaultIsAnswered = (text : List ℕ) (fault : ProfileFault)
     → (profile_of text ≡ Err fault) ↔ (IsFirstFaulty (telling_lines text) fault ⊎ LacksSomething (telling_lines text) fault)
+
+-- the names of targets, in their order, as they are spelled
+abbrev pub spelled_names : List Directive → List (List ℕ)
+spelled_names directives = map (λ target. target.name) (all_targets directives)
+
+-- names are counted as they come: one that is the same as an earlier one adds nothing, and another stands behind those
+pub record CountsNames (names : List (List ℕ)) (name : List ℕ) : Type 0 where
+  pub known : list_any (same_name name) names ≡ true → distinct_names (names ++ name ∷ []) ≡ distinct_names names
+  pub new : list_any (same_name name) names ≡ false → distinct_names (names ++ name ∷ []) ≡ distinct_names names ++ name ∷ []
+
+-- a name's number is how many names come before it where it first comes; and that of each target is its name's, and below the
+-- number of names
+pub record HasNumberedNames (directives : List Directive) : Type 0 where
+  pub first : (before after : List (List ℕ)) (name : List ℕ)
+      → spelled_names directives ≡ before ++ name ∷ after → list_any (same_name name) before ≡ false
+      → index_by_name directives name ≡ Some (length (distinct_names before))
+  pub targets : AllByRecursion (λ target. (index_by_name directives target.name ≡ Some (pair_of (index_names directives) target).0)
+      × ((pair_of (index_names directives) target).0 < length (index_names directives))) (all_targets directives)
+
+-- the blanks at the ends of a text, and no others, are taken off it
+pub record IsTrimmed (text trimmed : List ℕ) : Type 0 where
+  pub before : List ℕ
+  pub after : List ℕ
+  pub whole : text ≡ before ++ (trimmed ++ after)
+  pub blanks : (list_all is_blank before ≡ true) × (list_all is_blank after ≡ true)
+  pub begins : (byte : ℕ) (rest : List ℕ) → trimmed ≡ byte ∷ rest → is_blank byte ≡ false
+  pub ends : (rest : List ℕ) (byte : ℕ) → trimmed ≡ rest ++ byte ∷ [] → is_blank byte ≡ false

@@ -4,12 +4,12 @@ use Rattle.std.specs.Prelude.{List, None, Ok, Result, Some, [], codes, false, tr
 use Rattle.zeb_profile.specs.declared.directives.Directive.{Directive}
 use Rattle.zeb_profile.specs.declared.directives.Directive.TheVariants.{All, Att, Identifier, Melm, Store}
 use Rattle.zeb_keys.specs.declared.registers.Register.TheVariants.{Number, Phrase, Word}
-use Rattle.zeb_query.specs.Grammar.{QueryValue, SpellsQuery}
+use Rattle.zeb_query.specs.Grammar.{BooleanOf, PairValue, QueryValue, SpellsQuery, TermValue, no_head}
 use Rattle.zeb_query.specs.Checks.{Refusal}
+use Rattle.zeb_query.specs.declared.plans.Operator.{Operator}
 use Rattle.zeb_query.specs.declared.plans.DistanceRelation.{DistanceRelation}
-use Rattle.zeb_query.specs.declared.plans.Order.{Order}
 use Rattle.zeb_query.specs.declared.plans.Relation.{Relation}
-use Rattle.zeb_query.specs.Plans.{NearOf, NumberOf, OrderedOf, PhraseOf, PlanValue, ScanValue, TermOf, plan_of, scan_of}
+use Rattle.zeb_query.specs.Plans.{NearOf, NumberOf, OrderedOf, PairOf, PhraseOf, PlanValue, ScanValue, TermOf, plan_of, scan_of}
 use Rattle.zeb_text.specs.Symbols.{literal}
 
 -- words and phrases of titles, numbers of dates, and any words: the indexes Title (0), Date (1) and Any (2); 99 is `c`
@@ -69,8 +69,8 @@ word_in index word = Ok (TermOf (PhraseOf index (literal word ∷ []) false))
 abbrev pub first_in : ℕ → List ℕ → Result PlanValue Refusal
 first_in index word = Ok (TermOf (PhraseOf index (literal word ∷ []) true))
 
-abbrev pub dick_by : Order → Result PlanValue Refusal
-dick_by order = Ok (TermOf (OrderedOf 0 Word order (codes "dick")))
+abbrev pub dick_by : Relation → Result PlanValue Refusal
+dick_by relation = Ok (TermOf (OrderedOf 0 Word relation (codes "dick")))
 
 abbrev pub date_by : Relation → Result PlanValue Refusal
 date_by relation = Ok (TermOf (NumberOf 1 relation 951))
@@ -78,3 +78,14 @@ date_by relation = Ok (TermOf (NumberOf 1 relation 951))
 abbrev pub a_near_b : DistanceRelation → Result PlanValue Refusal
 a_near_b relation =
     Ok (NearOf 2 (literal (codes "a")) (literal (codes "b")) (record { distance = 1; ordered = false; relation = relation }))
+
+-- ---- two terms under an operator: the text spells them, each at its place; and the plan of the words a and b
+abbrev pub SpellsPair : List ℕ → Operator → ℕ × List ℕ → ℕ × List ℕ → Type 0
+SpellsPair text operator left right = SpellsQuery text (record {
+  attrset = None;
+  tree = PairValue 0 no_head (BooleanOf operator) (TermValue left.0 no_head left.1) (TermValue right.0 no_head right.1);
+})
+
+abbrev pub pair_of_words : Operator → Result PlanValue Refusal
+pair_of_words operator =
+    Ok (PairOf operator (TermOf (PhraseOf 2 (literal (codes "a") ∷ []) false)) (TermOf (PhraseOf 2 (literal (codes "b") ∷ []) false)))

@@ -15,6 +15,10 @@ record_with head last = head ++ codes "22" ++ codes "00061 a 4500" ++ codes "001
 abbrev pub worked_record : List ℕ
 worked_record = record_with (codes "00109nam a") 29
 
+-- the same with a field terminator (0x1E) in place of the record terminator
+abbrev pub unended_record : List ℕ
+unended_record = record_with (codes "00109nam a") 30
+
 -- the record, a separator of two bytes, the record again, and one byte more
 abbrev pub worked_stream : List ℕ
 worked_stream = worked_record ++ (13 ∷ 10 ∷ (worked_record ++ (26 ∷ [])))

@@ -3,8 +3,9 @@ ghost use Rattle.std.specs.Prelude.{◌≡◌, ◌≢◌, ◌^◌, ◌-◌, ◌�
 ghost use Rattle.std.specs.List.{AllByRecursion};
 ghost use Rattle.zeb_blocks.specs.declared.postings.Posting.{Posting};
 ghost use Rattle.zeb_blocks.specs.Blocks.{BlockSpells, LiesIn};
-ghost use Rattle.zeb_blocks.specs.Numbers.{IsShortestForm, uleb};
+ghost use Rattle.zeb_blocks.specs.Numbers.{uleb};
 ghost use Rattle.zeb_blocks.specs.Worked.{at, ten_bytes};
+ghost use Rattle.zeb_lower_laws.specs.ShortestForms.{IsShortestForm};
 
 /// Every rising list in a block that isn't empty has one spelling there, and no bytes spell two lists of one block.
 pub fn spellings_and_lists_are_one_to_one()

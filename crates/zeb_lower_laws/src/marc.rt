@@ -1,5 +1,5 @@
 //! Records and streams, whatever their bytes.
-ghost use Rattle.std.specs.Prelude.{◌≡◌, ◌+◌, ◌<◌, ◌≤◌, ◌^◌, ◌↔◌, ◌∷◌, ◌++◌, [], ℕ, List, Option, Result, Some, None, codes, length, slice_get};
+ghost use Rattle.std.specs.Prelude.{◌≡◌, ◌+◌, ◌<◌, ◌≤◌, ◌^◌, ◌↔◌, ◌∷◌, ◌++◌, [], ℕ, List, Option, Result, Some, None, codes, length, replicate, slice_get};
 ghost use Rattle.std.specs.List.{AllByRecursion};
 ghost use Rattle.zeb_marc.specs.declared.faults.MarcFault.{MarcFault};
 ghost use Rattle.zeb_marc.specs.Directory.{FieldText};
@@ -9,7 +9,7 @@ ghost use Rattle.zeb_lower_laws.specs.Layout.{IsLaidOut};
 ghost use Rattle.zeb_marc.specs.Splits.{at_end, a_fault, a_slice, next_of, split_next, split_of, EndsAs, IsRun, IsSlice, IsSplit};
 ghost use Rattle.zeb_marc.specs.Unread.{Takes};
 ghost use Rattle.zeb_lower_laws.specs.Parts.{IsPart};
-ghost use Rattle.zeb_lower_laws.specs.WorkedRecord.{EntryFault, LeaderFault, record_with, small_text, with_leader, worked_fields, worked_record, worked_stream, worked_units};
+ghost use Rattle.zeb_lower_laws.specs.WorkedRecord.{EntryFault, LeaderFault, record_with, small_text, unended_record, with_leader, worked_fields, worked_record, worked_stream, worked_units};
 ghost use Rattle.zeb_marc.specs.declared.faults.MarcFault.TheVariants.{BaseAddress, EntryDigits, EntryRange, EntryTag, FieldEnd, LeaderCounts, LengthDigits, LengthRange};
 
 /// A text is a record in at most one way, and in one exactly where no check fails; and it is one exactly where it is
@@ -64,7 +64,7 @@ pub fn worked_examples()
     ensures units { units_of worked_fields ≡ worked_units }
     ensures faulty { (first_fault [] ≡ Some MarcFault.Truncated)
         × (first_fault (record_with (codes "00110nam a") 29) ≡ Some MarcFault.Truncated)
-        × (first_fault (record_with (codes "00109nam a") 30) ≡ Some MarcFault.NoTerminator) }
+        × (first_fault unended_record ≡ Some MarcFault.NoTerminator) }
     ensures stream { split_of worked_stream
         ≡ record { slices = worked_record ∷ worked_record ∷ []; fault = Some MarcFault.Truncated } }
 {}
@@ -92,4 +92,19 @@ pub fn fault_examples()
         × EntryFault (codes "0-1000300000") EntryTag
         × EntryFault (codes "001000400000") EntryRange
         × EntryFault (codes "001000200000") FieldEnd }
+{}
+
+/// Separators (CR, LF and space) at their limit: 65,535 of one kind are skipped, before a record and before the end, and 65,536 are a
+/// fault, whatever follows them, also at a file's end and behind a record.
+pub fn separators_at_examples()
+    ensures skipped { AllByRecursion (λ byte.
+        (split_of (replicate 65535 byte) ≡ record { slices = []; fault = None })
+        × (split_of (replicate 65535 byte ++ worked_record)
+        ≡ record { slices = worked_record ∷ []; fault = None })) (13 ∷ 10 ∷ 32 ∷ []) }
+    ensures refused { AllByRecursion (λ byte. (rest : List ℕ)
+        → (split_of (replicate 65536 byte ++ rest)
+        ≡ record { slices = []; fault = Some MarcFault.TooManySeparators })
+        × (split_of (worked_record ++ (replicate 65536 byte ++ rest))
+        ≡ record { slices = worked_record ∷ []; fault = Some MarcFault.TooManySeparators }))
+        (13 ∷ 10 ∷ 32 ∷ []) }
 {}

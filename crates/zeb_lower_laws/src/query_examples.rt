@@ -3,12 +3,12 @@ ghost use Rattle.std.specs.Prelude.{◌≡◌, ◌<◌, ℕ, List, length, [], �
 ghost use Rattle.zeb_text.specs.Symbols.{Star, literal};
 ghost use Rattle.zeb_keys.specs.declared.registers.Register.TheVariants.{Word, Phrase, Number};
 ghost use Rattle.zeb_query.specs.Places.{IsReadable, IsFaulty};
-ghost use Rattle.zeb_query.specs.Plans.{TermOf, PairOf, NearOf, RecordNumberOf, NoWordsOf, AlwaysOf, CompleteOf, PhraseOf, AllWordsOf, AnyWordOf};
+ghost use Rattle.zeb_query.specs.Plans.{TermOf, NearOf, RecordNumberOf, NoWordsOf, AlwaysOf, CompleteOf, PhraseOf, AllWordsOf, AnyWordOf};
 ghost use Rattle.zeb_query.specs.Checks.{refused};
 ghost use Rattle.zeb_profile.specs.Profiles.{profile_of};
-ghost use Rattle.zeb_lower_laws.specs.WorkedQueries.{PlansAs, PlansUnder, ScansAs, a_near_b, date_by, dick_by, first_in, quoted, sample_profile, times, titles_alone, word_in, words_65};
+ghost use Rattle.zeb_lower_laws.specs.WorkedQueries.{PlansAs, PlansUnder, ScansAs, SpellsPair, a_near_b, date_by, dick_by, first_in, pair_of_words, quoted, sample_profile, times, titles_alone, word_in, words_65};
 
-use zeb_query::{DistanceRelation, Operator, Order, Relation};
+use zeb_query::{DistanceRelation, Operator, Relation};
 
 /// The two profiles of the examples, each read from a text.
 pub fn profiles_at_examples()
@@ -110,14 +110,10 @@ pub fn plans_at_examples()
     ensures kinds { PlansAs (codes "@attr 1=4 Whale") (word_in 0 (codes "whale"))
         × PlansAs (codes "@attr 1=4 @attr 6=3 moby")
         (Ok (TermOf (CompleteOf 0 (literal (codes "moby")))))
-        × PlansAs (codes "@attr 1=4 @attr 2=1 Dick") (dick_by Order.Less)
+        × PlansAs (codes "@attr 1=4 @attr 2=1 Dick") (dick_by Relation.Less)
         × PlansAs (codes "@attr 1=31 @attr 4=109 @attr 2=4 951") (date_by Relation.GreaterOrEqual)
         × PlansAs (codes "@attr 4=107 007") (Ok (TermOf (RecordNumberOf 7)))
-        × PlansAs (codes "@attr 2=103 x") (Ok (TermOf (AlwaysOf 2 Word)))
-        × PlansAs (codes "@not a b")
-        (Ok (PairOf Operator.Not
-        (TermOf (PhraseOf 2 (literal (codes "a") ∷ []) false))
-        (TermOf (PhraseOf 2 (literal (codes "b") ∷ []) false)))) }
+        × PlansAs (codes "@attr 2=103 x") (Ok (TermOf (AlwaysOf 2 Word))) }
     ensures attributes { PlansAs (codes "@attr 1=9999 @attr 1=4 moby") (word_in 0 (codes "moby"))
         × PlansAs (codes "@attrset BIB-1 @attr 1=4 moby") (word_in 0 (codes "moby"))
         × PlansAs (codes "@attr 1=TITLE whale") (word_in 0 (codes "whale")) }
@@ -127,6 +123,16 @@ pub fn plans_at_examples()
     ensures no_words { PlansAs (codes "@attr 1=4 @attr 6=3 " ++ quoted [])
         (Ok (TermOf (NoWordsOf 0 Phrase)))
         × PlansAs (codes "@attr 2=1 " ++ quoted []) (Ok (TermOf (NoWordsOf 2 Word))) }
+{}
+
+/// The operators, each by its word: what two terms under it are read as, with the places of their words, and the plan.
+pub fn operators_at_examples()
+    ensures trees { SpellsPair (codes "@and a b") Operator.And (5, codes "a") (7, codes "b")
+        × SpellsPair (codes "@or a b") Operator.Or (4, codes "a") (6, codes "b")
+        × SpellsPair (codes "@not a b") Operator.Not (5, codes "a") (7, codes "b") }
+    ensures plans { PlansAs (codes "@and a b") (pair_of_words Operator.And)
+        × PlansAs (codes "@or a b") (pair_of_words Operator.Or)
+        × PlansAs (codes "@not a b") (pair_of_words Operator.Not) }
 {}
 
 /// What the values of a relation, a position, a structure and a completeness come to under that profile.
@@ -141,9 +147,9 @@ pub fn values_at_examples()
         (Ok (TermOf (AnyWordOf 0 (literal (codes "whale") ∷ literal (codes "moby") ∷ []))))
         × PlansAs (codes "@attr 1=4 @attr 6=2 moby")
         (Ok (TermOf (CompleteOf 0 (literal (codes "moby"))))) }
-    ensures orders { PlansAs (codes "@attr 1=4 @attr 2=2 Dick") (dick_by Order.LessOrEqual)
-        × PlansAs (codes "@attr 1=4 @attr 2=4 Dick") (dick_by Order.GreaterOrEqual)
-        × PlansAs (codes "@attr 1=4 @attr 2=5 Dick") (dick_by Order.Greater) }
+    ensures orders { PlansAs (codes "@attr 1=4 @attr 2=2 Dick") (dick_by Relation.LessOrEqual)
+        × PlansAs (codes "@attr 1=4 @attr 2=4 Dick") (dick_by Relation.GreaterOrEqual)
+        × PlansAs (codes "@attr 1=4 @attr 2=5 Dick") (dick_by Relation.Greater) }
     ensures numbers { PlansAs (codes "@attr 1=31 @attr 4=109 @attr 2=1 951") (date_by Relation.Less)
         × PlansAs (codes "@attr 1=31 @attr 4=109 @attr 2=2 951") (date_by Relation.LessOrEqual)
         × PlansAs (codes "@attr 1=31 @attr 4=109 951") (date_by Relation.Equal)

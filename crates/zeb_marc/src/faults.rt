@@ -1,5 +1,6 @@
 //! The faults of records and streams, and their printed names.
 
+use std::error::Error;
 use std::fmt;
 
 /// Why bytes are no record, and what else can go wrong in reading records from a stream. Positions count from 0 (ISO 2709;
@@ -61,3 +62,5 @@ impl fmt::Display for MarcFault {
         })
     }
 }
+
+impl Error for MarcFault {}

@@ -1,7 +1,6 @@
 //! The leader of a record: ISO 2709, "Record label".
 ghost use Rattle.std.specs.Prelude.{◌≡◌, ◌≤◌, ◌<◌, true, false, length, IfOk, MatchOption};
-ghost use Rattle.std.specs.Bool.{OnTrue};
-ghost use Rattle.zeb_marc.specs.Leader.{base_address, counts, announced_checks, ends_directory, has_base_address, has_counts, layout_checks, record_length};
+ghost use Rattle.zeb_marc.specs.Leader.{base_address, counts, announced_checks, has_base_address, has_counts, layout_checks, record_length};
 ghost use Rattle.zeb_marc.specs.PrivateLeader.{Answers};
 
 use crate::digits::read_number;
@@ -61,17 +60,8 @@ fn has_marc_counts(bytes: &[u8]) -> bool
         && says(bytes[22], b'0')
 }
 
-/// Whether the base address stands behind the directory's field terminator, and within the record.
-#[tactic(auto, unfolding(crate::specs::Leader::ends_directory))]
-fn is_base_address(bytes: &[u8], base: usize) -> bool
-    ensures tested { result ≡ ends_directory bytes.now base }
-    ensures bounds { OnTrue result ((25 ≤ base) × (base < length bytes.now)) }
-{
-    base > LEADER_LEN && base < bytes.len() && bytes[base - 1] == FIELD_TERMINATOR
-}
-
-/// The base address of data, where it is one.
-#[tactic(auto, unfolding(crate::specs::Leader::has_base_address))]
+/// The base address of data, where it stands behind the directory's field terminator, and within the record.
+#[tactic(auto, unfolding(crate::specs::Leader::has_base_address, crate::specs::Leader::ends_directory))]
 fn read_base_address(bytes: &[u8]) -> Option<usize>
     requires { 26 ≤ length bytes.now }
     ensures { MatchOption result (has_base_address bytes.now ≡ false)
@@ -79,7 +69,10 @@ fn read_base_address(bytes: &[u8]) -> Option<usize>
         × (base < length bytes.now)) }
 {
     let base = read_number(&bytes[12..17])?;
-    is_base_address(bytes, base).then_some(base)
+    if base <= LEADER_LEN || base >= bytes.len() || bytes[base - 1] != FIELD_TERMINATOR {
+        return None;
+    }
+    Some(base)
 }
 
 /// The base address of data of a record of the right length whose leader and ends are sound.

@@ -96,8 +96,8 @@ pub fn passed_on(answer: io::Result<usize>) -> Result<usize, ReadFailed>
 
 /// A reader that is asked for bytes, one question at a time. Every reader of std is one.
 ///
-/// What std says of one read is true of two reads too, of which the first failed. So a source asks its reader here, where `asks`
-/// tells one question from two.
+/// What std says of one read is true of two reads too, of which the first failed. So a source asks its reader only here, and `asks` says
+/// that it did so once. That this asks its reader once itself is tested, and no clause says it.
 pub trait Ask: Read {
     /// What the reader was, what it answers where it is asked once, the buffer's bytes behind that, and what the reader is then.
     ghost asks: { Self → Result ℕ ReadFailed → List ℕ → Self → Type 0 };

@@ -139,8 +139,8 @@ fn read_slice<R: Source>(source: &mut R, room: &mut [u8], first: u8) -> Result<u
 /// where it is below 26, `Truncated` where the stream ends before it, or within its first five bytes). `ReadFault` comes
 /// exactly where the source has failed. After a fault the buffer is empty.
 ///
-/// No more is read than shows the answer, and what follows is left unread: behind a record, behind 65,536 separators,
-/// behind the five bytes of a bad length. So a record or a fault that stands before a failing read is answered, and not
+/// Of a source that tells its bytes no more are taken than show the answer, and what follows is left: behind a record, behind 65,536
+/// separators, behind the five bytes of a bad length. So a record or a fault that stands before a failing read is answered, and not
 /// the failure.
 pub fn next_record<R: Source>(
     reader: &mut R,

@@ -1,3 +1,4 @@
 pub mod DiskLemmas
+pub mod OpenedLemmas
 pub mod ShelfLemmas
 pub mod WalkLemmas

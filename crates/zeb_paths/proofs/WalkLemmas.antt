@@ -1,6 +1,6 @@
 -- What a walk has left, where steps are put behind the others, turned round, and taken off.
 use Rattle.std.proofs.Common.{◌≡◌, ◌≢◌, ◌≤◌, ◌<◌, ◌+◌, ◌-◌, ◌*◌, ◌^◌, ℕ, Bool, true, false, List, [], ◌∷◌, ◌++◌, arith, inl, inr, map, nat_eq, reverse, suc, refl, ap, sym, subst, ◌∙◌}
-use Rattle.std.specs.Prelude.{◌⊎◌, Contains, IfErr, IfSome, Option, None, Some, Result, Ok, Err, String, codes, string_bytes}
+use Rattle.std.specs.Prelude.{◌⊎◌, Contains, IfErr, IfOk, IfSome, Option, None, Some, Result, Ok, Err, String, codes, string_bytes}
 use Rattle.std.specs.List.{ends_with}
 use Rattle.std.specs.declared.alloc.Global.{Global}
 use Rattle.std.proofs.Math.Nat.{mul-add, mul-lt-mul_of_pos_left, mul-one, one-le-pow, pow-suc}
@@ -8,7 +8,7 @@ use Rattle.std.proofs.lemmas.List.Sums.{sum_by-append}
 use Rattle.std.proofs.lemmas.List.{append-nil, append_assoc, map-append, reverse-append, reverse-reverse}
 use Rattle.zeb_paths.specs.declared.walk.Step.{Step}
 use Rattle.zeb_paths.specs.PrivateWalks.{Sees}
-use Rattle.zeb_paths.specs.Walks.{AreUnder, Due, GivesFile, IsBelow, IsEntered, IsFaultUntold, IsRefused, IsUnder, IsUntold, MayStand, Tells, WalksOn, due, due_of, dues_in, dues_left, fault_at, level_weight, paths_left, slashed, step_path, step_weight, walk_weight}
+use Rattle.zeb_paths.specs.Walks.{AreUnder, Due, GivesFile, GivesUnder, IsBelow, IsEntered, IsFaultUnder, IsFaultUntold, IsRefused, IsUnder, IsUntold, MayStand, Tells, WalksOn, due, due_of, dues_in, dues_left, fault_at, level_weight, paths_left, slashed, step_path, step_weight, walk_weight}
 use Rattle.zeb_paths.specs.Walks.{at_end, at_fault, at_file, at_folder, not_given, not_there, too_deep}
 use Rattle.zeb_paths.specs.declared.causes.PathCause.{PathCause}
 use Rattle.zeb_paths.specs.declared.causes.PathCause.TheVariants as cause
@@ -36,10 +36,6 @@ dues_turned = turned_back due_of
 
 last_first : {X Y : Type 0} (f : X → Y) (xs : List X) (last : X) → reverse (map f (xs ++ last ∷ [])) ≡ f last ∷ reverse (map f xs)
 last_first f xs last = ap reverse (map-append f xs (last ∷ [])) ∙ reverse-append (map f xs) (f last ∷ [])
-
--- the last step is the next
-left_last : (steps : List Step) (last : Step) → paths_left (steps ++ last ∷ []) ≡ step_path last ∷ paths_left steps
-left_last = last_first step_path
 
 pub dues_last : (before after : List Step) (last : Step) → before ≡ after ++ last ∷ [] → dues_left before ≡ due_of last ∷ dues_left after
 dues_last before after last e = ap dues_left e ∙ last_first due_of after last
@@ -85,13 +81,6 @@ below_below one folder path (front, is) (behind, same) =
 pub under_below : (named : List (List ℕ)) (folder path : List ℕ) → IsBelow folder path → IsUnder named folder → IsUnder named path
 under_below named folder path below (one, has, inl same) = (one, has, inr (subst (λ f. IsBelow f path) same below))
 under_below named folder path below (one, has, inr under) = (one, has, inr (below_below one folder path under below))
-
--- the last step, and those before it
-pub under_popped : (named : List (List ℕ)) (before after : List Step) (last : Step) → before ≡ after ++ last ∷ [] → AreUnder named (paths_left before) → IsUnder named (step_path last) × AreUnder named (paths_left after)
-under_popped named before after last e all = subst (AreUnder named) (ap paths_left e ∙ left_last after last) all
-
-pub under_pushed : (named : List (List ℕ)) (before after : List Step) (last : Step) → after ≡ before ++ last ∷ [] → IsUnder named (step_path last) → AreUnder named (paths_left before) → AreUnder named (paths_left after)
-under_pushed named before after last e one all = subst (AreUnder named) (sym (ap paths_left e ∙ left_last before last)) (one, all)
 
 -- ---- what is seen
 
@@ -200,6 +189,43 @@ walks_untold at dues result later (at_file stands same) = tt
 walks_untold at dues result later (at_folder {here = here} {rest = others} {names = names} entered on) = walks_untold at (dues_in here names ++ others) result later on
 walks_untold at dues result later (at_fault {here = here} given why refused same met) =
     subst (IsFaultUntold at.bytes) (sym met) (fault_untold at.bytes given why (subst (IsUntold at.bytes) (sym same) (refused_untold at here why refused)))
+
+pub stops_untold : (at : Tells) (left later : List Due) (result : Result (Option (String Global)) WalkFault) → WalksOn at left result later → IfErr result (IsFaultUntold at.bytes)
+stops_untold at left later result on = walks_untold at left result later on
+
+-- what stands in a folder stands below what the folder stands below
+names_under : (named : List (List ℕ)) (folder : Due) (names : List (List ℕ)) (rest : List Due) → IsUnder named folder.path → AreUnder named (map due_path rest) → AreUnder named (map due_path (dues_in folder names ++ rest))
+unfolding due_path
+names_under named folder [] rest one all = all
+names_under named folder (name ∷ names) rest one all =
+    (under_below named folder.path (slashed folder.path ++ name) (name, refl) one, names_under named folder names rest one all)
+
+fault_under : (named : List (List ℕ)) (given : String Global) (why : PathCause) → IsUnder named (string_bytes given) → IsFaultUnder named (fault_at given why)
+fault_under named given cause.Absent under = under
+fault_under named given cause.Forbidden under = under
+fault_under named given cause.Neither under = under
+fault_under named given cause.Folder under = under
+fault_under named given cause.Content under = under
+fault_under named given cause.Name under = under
+fault_under named given cause.Failed under = under
+fault_under named given cause.Memory under = tt
+
+under_dues : (at : Tells) (named : List (List ℕ)) (left : List Due) (result : Result (Option (String Global)) WalkFault) (later : List Due) → WalksOn at left result later → AreUnder named (map due_path left)
+    → GivesUnder named result × IfOk result (λ _. AreUnder named (map due_path later))
+unfolding due_path
+under_dues at named left result later at_end all = (tt, tt)
+under_dues at named left result later (at_file stands same) all = (subst (IsUnder named) (sym same) all.0, all.1)
+under_dues at named left result later (at_folder {here = here} {rest = others} {names = names} entered on) all =
+    under_dues at named (dues_in here names ++ others) result later on (names_under named here names others all.0 all.1)
+under_dues at named left result later (at_fault given why refused same met) all =
+    (subst (IsFaultUnder named) (sym met) (fault_under named given why (subst (IsUnder named) (sym same) all.0)), tt)
+
+-- what a walk gives, and what it leaves, stands below the paths that it is of
+pub walks_under : (at : Tells) (steps later : List Step) (result : Result (Option (String Global)) WalkFault) → WalksOn at (dues_left steps) result (dues_left later) → (named : List (List ℕ)) → AreUnder named (paths_left steps)
+    → GivesUnder named result × IfOk result (λ _. AreUnder named (paths_left later))
+walks_under at steps later result on named all =
+    let met = under_dues at named (dues_left steps) result (dues_left later) on (subst (AreUnder named) (sym (paths_of_dues steps)) all) in
+    (met.0, subst (λ paths. IfOk result (λ _. AreUnder named paths)) (paths_of_dues later) met.1)
 
 -- ---- weights
 

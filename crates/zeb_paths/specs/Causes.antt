@@ -2,6 +2,9 @@
 use Rattle.std.specs.Prelude.{ℕ, List, codes}
 use Rattle.std.specs.declared.io.ErrorKind.{ErrorKind}
 use Rattle.std.specs.declared.io.ErrorKind.TheVariants as system
+use Rattle.sqlite.specs.declared.error.Error.{Error}
+use Rattle.sqlite.specs.declared.error.Error.TheVariants.{SqliteFailure}
+use Rattle.sqlite.specs.declared.error.ErrorCode.TheVariants as code
 use Rattle.zeb_paths.specs.declared.causes.PathCause.{PathCause}
 use Rattle.zeb_paths.specs.declared.causes.PathCause.TheVariants as path
 use Rattle.zeb_paths.specs.declared.causes.StoreCause.{StoreCause}
@@ -48,3 +51,12 @@ store_cause_of system.StorageFull = store.Full
 store_cause_of system.QuotaExceeded = store.Full
 store_cause_of system.OutOfMemory = store.Memory
 store_cause_of _ = store.Failed
+
+-- why a store fails, where SQLite's kit says this of it
+abbrev pub sqlite_cause_of : Error → StoreCause
+sqlite_cause_of (SqliteFailure code.DatabaseBusy) = store.Held
+sqlite_cause_of (SqliteFailure code.NotADatabase) = store.Foreign
+sqlite_cause_of (SqliteFailure code.DatabaseCorrupt) = store.Damaged
+sqlite_cause_of (SqliteFailure code.DiskFull) = store.Full
+sqlite_cause_of (SqliteFailure code.OutOfMemory) = store.Memory
+sqlite_cause_of _ = store.Failed

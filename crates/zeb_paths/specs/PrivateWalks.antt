@@ -2,7 +2,7 @@
 -- What a walk sees.
 use Rattle.std.specs.Prelude.{◌≡◌, ◌<◌, ◌++◌, ◌∷◌, [], ⊤, ℕ, List, String, Result, Ok, Err, string_bytes}
 use Rattle.std.specs.declared.alloc.Global.{Global}
-use Rattle.zeb_paths.specs.Walks.{Due, IsEntered, IsFaultUnder, IsRefused, IsUnder, MayStand, Tells, dues_in, fault_at, walk_weight}
+use Rattle.zeb_paths.specs.Walks.{Due, IsEntered, IsRefused, MayStand, Tells, dues_in, fault_at, walk_weight}
 use Rattle.zeb_paths.specs.declared.causes.PathCause.{PathCause}
 use Rattle.zeb_paths.specs.declared.paths.PathKind.TheVariants as kind
 use Rattle.zeb_paths.specs.declared.walk.Seen.{Seen}
@@ -18,13 +18,6 @@ Sees at (here ∷ rest) (Ok Folder) later = (names : List (List ℕ)) × IsEnter
 Sees at (here ∷ rest) (Ok End) later = ⊥
 Sees at (here ∷ rest) (Err met) later =
     (given : String Global) × (why : PathCause) × IsRefused at here why × (string_bytes given ≡ here.path) × (met ≡ fault_at given why)
-
--- what is seen is one of these paths, or stands below one
-abbrev pub SeesUnder : List (List ℕ) → Result Seen WalkFault → Type 0
-SeesUnder named (Ok (File given)) = IsUnder named (string_bytes given)
-SeesUnder named (Ok Folder) = ⊤
-SeesUnder named (Ok End) = ⊤
-SeesUnder named (Err why) = IsFaultUnder named why
 
 -- what is left is lighter, unless nothing was left
 abbrev pub IsLighter : List Step → List Step → Seen → Type 0

@@ -1,5 +1,5 @@
 -- What a walk has left, and what it gives (this project's own).
-use Rattle.std.specs.Prelude.{◌≡◌, ◌≢◌, ◌⊎◌, ◌≤◌, ◌<◌, ◌++◌, ◌∷◌, [], ◌+◌, ◌-◌, ◌^◌, ⊤, ℕ, Contains, IfSome, IsPermutation, IsSorted, List, Option, Some, None, Result, Ok, Err, String, codes, if◌then◌else◌, map, nat_eq, reverse, string_bytes}
+use Rattle.std.specs.Prelude.{◌≡◌, ◌≢◌, ◌⊎◌, ◌≤◌, ◌<◌, ◌++◌, ◌∷◌, [], ◌+◌, ◌-◌, ◌^◌, ⊤, ℕ, Contains, IfErr, IfOk, IfSome, IsPermutation, IsSorted, List, Option, Some, None, Result, Ok, Err, String, codes, if◌then◌else◌, map, nat_eq, reverse, string_bytes}
 use Rattle.std.specs.List.{AllByRecursion, ends_with, sum_by}
 use Rattle.std.specs.String.{string_cmp}
 use Rattle.std.specs.declared.alloc.Global.{Global}
@@ -128,6 +128,27 @@ pub data WalksOn (at : Tells) : List Due → Result (Option (String Global)) Wal
       → WalksOn at (dues_in here names ++ rest) result later → WalksOn at (here ∷ rest) result later
   at_fault : {here : Due} {rest later : List Due} {met : WalkFault} → (given : String Global) → (why : PathCause) → IsRefused at here why
       → string_bytes given ≡ here.path → met ≡ fault_at given why → WalksOn at (here ∷ rest) (Err met) later
+
+-- ---- what follows of a walk
+
+-- A file of which the paths tell the bytes is given by its own path, and the walk goes on behind it.
+abbrev pub ToldIsGiven : Type 0
+ToldIsGiven = (at : Tells) (steps later : List Step) (result : Result (Option (String Global)) WalkFault) → WalksOn at (dues_left steps) result (dues_left later)
+    → (path bytes : List ℕ) (rest : List (List ℕ)) → paths_left steps ≡ path ∷ rest → at.bytes path ≡ Some bytes → GivesFile path result × (paths_left later ≡ rest)
+
+-- Behind the last path there is no file.
+abbrev pub EndIsLast : Type 0
+EndIsLast = (at : Tells) (steps later : List Step) (result : Result (Option (String Global)) WalkFault) → WalksOn at (dues_left steps) result (dues_left later)
+    → paths_left steps ≡ [] → result ≡ Ok None
+
+-- No path that a walk can't go on at is one at which the paths tell a file's bytes.
+abbrev pub StopsUntold : Type 0
+StopsUntold = (at : Tells) (left later : List Due) (result : Result (Option (String Global)) WalkFault) → WalksOn at left result later → IfErr result (IsFaultUntold at.bytes)
+
+-- Each file that a walk gives, and each path that it can't go on at, is one of the named paths or stands below one, and so is each that it leaves.
+abbrev pub StaysUnder : Type 0
+StaysUnder = (at : Tells) (steps later : List Step) (result : Result (Option (String Global)) WalkFault) → WalksOn at (dues_left steps) result (dues_left later)
+    → (named : List (List ℕ)) → AreUnder named (paths_left steps) → GivesUnder named result × IfOk result (λ _. AreUnder named (paths_left later))
 
 -- ---- its end
 

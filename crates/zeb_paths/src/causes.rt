@@ -2,7 +2,7 @@
 
 ghost use Rattle.std.specs.Prelude.{◌≡◌};
 ghost use Rattle.std.specs.IoError.{error_kind};
-ghost use Rattle.zeb_paths.specs.Causes.{path_cause_of, store_cause_of};
+ghost use Rattle.zeb_paths.specs.Causes.{path_cause_of, sqlite_cause_of, store_cause_of};
 ghost use Rattle.zeb_paths.specs.declared.causes.PathCause.TheVariants.{Memory as Starved};
 
 use sqlite::{Error, ErrorCode};
@@ -129,6 +129,8 @@ impl fmt::Display for StoreCause {
 }
 
 impl From<Error> for StoreCause {
+    ghost from_gives = { λ error cause. cause ≡ sqlite_cause_of error };
+
     /// What SQLite's kit tells; of a file that can't be opened it tells no more than that.
     fn from(error: Error) -> StoreCause {
         match error {

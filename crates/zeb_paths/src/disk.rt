@@ -1,13 +1,16 @@
 //! The paths of the file system.
 
-ghost use Rattle.std.specs.Prelude.{◌≡◌, ◌↔◌, ⊤, Err, None, Ok, Some, IfErr, IfOk, true};
+ghost use Rattle.std.specs.Prelude.{◌≡◌, ◌≢◌, ◌↔◌, ⊤, Err, None, Ok, Some, IfErr, IfOk, true};
 ghost use Rattle.std.specs.Fs.{IsDir, IsFile, file_type};
 ghost use Rattle.std.specs.IoError.{error_kind};
 ghost use Rattle.std.specs.Io.{ReadsAtMost};
+ghost use Rattle.sqlite.specs.Files.{file_state};
+ghost use Rattle.sqlite.specs.State.{HasCleanDisk};
 ghost use Rattle.sqlite_store.specs.FileStore.{faults, is_shielded, recovers, view};
 ghost use Rattle.sqlite_trees.specs.View.{IsQuiet};
 ghost use Rattle.zeb_paths.specs.Causes.{path_cause_of};
 ghost use Rattle.zeb_paths.specs.Closing.{IsOneFile};
+ghost use Rattle.zeb_paths.specs.Opened.{IsWellOpened};
 
 use crate::causes::{Closed, PathCause, StoreCause};
 use crate::looks::{may_have_store, why_unopened, why_unread};
@@ -50,6 +53,8 @@ impl<'a> Disk<'a> {
 fn kind_of(found: io::Result<Metadata>) -> Result<PathKind, PathCause>
     ensures folder { IfOk found (λ metadata. IsDir (file_type metadata) ↔ (result ≡ Ok PathKind.Folder)) }
     ensures file { IfOk found (λ metadata. IsFile (file_type metadata) ↔ (result ≡ Ok PathKind.File)) }
+    ensures other { IfOk found (λ metadata. ¬ IsDir (file_type metadata) → ¬ IsFile (file_type metadata)
+        → result ≡ Err PathCause.Neither) }
     ensures fault { IfErr found (λ error. result ≡ Err (path_cause_of (error_kind error))) }
 {
     let found = found?;
@@ -76,7 +81,11 @@ fn close_store<D: Medium + Drop>(store: FileStore<D>) -> Closed
 }
 
 /// Why a store may have failed that has met this.
-fn cause_of(met: Met) -> Option<StoreCause> {
+fn cause_of(met: Met) -> Option<StoreCause>
+    ensures damaged { met.caught ≢ 0 → result ≡ Some StoreCause.Damaged }
+    ensures full { met.caught ≡ 0 → met.refused ≢ 0 → result ≡ Some StoreCause.Full }
+    ensures none { met.caught ≡ 0 → met.refused ≡ 0 → result ≡ None }
+{
     if met.caught > 0 {
         return Some(StoreCause::Damaged);
     }
@@ -94,9 +103,13 @@ impl<'a> Paths for Disk<'a> {
 
     ghost lists = { λ _ _. None };
 
-    ghost opens = { λ _ _ _ _. ⊤ };
+    ghost opens = { λ _ _ _ store. HasCleanDisk (file_state store) → IsWellOpened (file_state store) };
+
+    ghost refuses = { λ _ _ _. ⊤ };
 
     ghost lacks = { λ _ _. ⊤ };
+
+    ghost lets_go = { λ _ _. ⊤ };
 
     ghost leaves = { λ _ closed left. IsOneFile closed left };
 
@@ -143,6 +156,8 @@ impl<'a> Paths for Disk<'a> {
     fn close(&self, store: FileStore<File>) -> Closed {
         close_store(store)
     }
+
+    fn let_go(&self, _store: FileStore<File>) {}
 }
 
 /// How far a file has been read.

@@ -3,6 +3,7 @@
 
 mod causes;
 mod disk;
+mod laws;
 mod looks;
 mod paths;
 mod shelf;
@@ -11,6 +12,10 @@ mod walk;
 
 pub use causes::{Closed, PathCause, StoreCause};
 pub use disk::{Disk, FileReader};
+pub use laws::{
+    a_told_file_is_given, a_walk_ends_behind_the_last_path, a_walk_stays_below_its_paths,
+    a_walk_stops_at_no_told_file,
+};
 pub use paths::{OpenFailed, PathKind, Paths};
 pub use shelf::{Shelf, ShelfReader, Shelved};
 pub use tally::Tally;

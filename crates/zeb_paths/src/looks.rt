@@ -1,8 +1,13 @@
 //! Looks at what stands at a path once more, to tell why it wasn't read or opened. Between the two others may have changed it.
 
-ghost use Rattle.std.specs.Prelude.{◌≡◌, ◌↔◌, IsTrue};
+ghost use Rattle.std.specs.Prelude.{◌≡◌, ◌≢◌, ◌↔◌, IfErr, IfOk, IsOk, IsTrue, Err, true};
+ghost use Rattle.sqlite.specs.declared.error.Error.TheVariants.{SqliteFailure};
+ghost use Rattle.sqlite.specs.declared.error.ErrorCode.TheVariants.{CannotOpen};
+ghost use Rattle.std.specs.Fs.{IsDir, IsFile, file_type};
 ghost use Rattle.std.specs.IoError.{error_kind};
 ghost use Rattle.std.specs.declared.io.ErrorKind.TheVariants as system;
+ghost use Rattle.zeb_paths.specs.Causes.{sqlite_cause_of};
+ghost use Rattle.zeb_paths.specs.PrivateCauses.{folder_cause_of, is_looked_up, log_cause_of};
 
 use crate::causes::{PathCause, StoreCause};
 use sqlite::{Error, ErrorCode};
@@ -68,7 +73,10 @@ pub fn may_have_store(rt: &HostRuntime, path: &str) -> bool {
 }
 
 /// Why the store at a path isn't opened, where this is what SQLite's kit says of it.
-pub fn why_unopened(rt: &HostRuntime, path: &str, error: Error) -> StoreCause {
+pub fn why_unopened(rt: &HostRuntime, path: &str, error: Error) -> StoreCause
+    ensures said { error ≢ SqliteFailure CannotOpen → result ≡ sqlite_cause_of error }
+    ensures looked { error ≡ SqliteFailure CannotOpen → is_looked_up result ≡ true }
+{
     if error != Error::SqliteFailure(ErrorCode::CannotOpen) {
         return StoreCause::from(error);
     }
@@ -79,17 +87,24 @@ pub fn why_unopened(rt: &HostRuntime, path: &str, error: Error) -> StoreCause {
 }
 
 /// Looks at what a store needs, in the kit's order, and makes nothing.
-fn open_anew(rt: &HostRuntime, path: &str) -> Result<(), StoreCause> {
+fn open_anew(rt: &HostRuntime, path: &str) -> Result<(), StoreCause>
+    ensures looked { IfErr result (λ cause. is_looked_up cause ≡ true) }
+{
     match fs::metadata(rt, path) {
         Ok(found) => use_file(rt, path, found),
-        Err(error) if is_missing(error) => Err(why_unmade(rt, path)),
+        Err(error) if is_missing(error) => Err(why_unmade(fs::metadata(rt, folder_of(path)))),
         Err(error) => Err(StoreCause::from(error)),
     }
 }
 
-/// Why no file can be made at a path where nothing stands.
-fn why_unmade(rt: &HostRuntime, path: &str) -> StoreCause {
-    match fs::metadata(rt, folder_of(path)) {
+/// Why no file can be made in a folder of which this is found.
+fn why_unmade(folder: io::Result<Metadata>) -> StoreCause
+    ensures folder { IfOk folder (λ found. IsDir (file_type found) → result ≡ StoreCause.Forbidden) }
+    ensures other { IfOk folder (λ found. (¬ IsDir (file_type found)) → result ≡ StoreCause.NoFolder) }
+    ensures fault { IfErr folder (λ error. result ≡ folder_cause_of (error_kind error)) }
+    ensures looked { is_looked_up result ≡ true }
+{
+    match folder {
         Ok(found) if found.is_dir() => StoreCause::Forbidden,
         Ok(_) => StoreCause::NoFolder,
         Err(error) if is_missing(error) => StoreCause::NoFolder,
@@ -98,7 +113,10 @@ fn why_unmade(rt: &HostRuntime, path: &str) -> StoreCause {
 }
 
 /// Looks at what a store needs whose file is there.
-fn use_file(rt: &HostRuntime, path: &str, found: Metadata) -> Result<(), StoreCause> {
+fn use_file(rt: &HostRuntime, path: &str, found: Metadata) -> Result<(), StoreCause>
+    ensures other { (¬ IsFile (file_type found)) → result ≡ Err StoreCause.NoFile }
+    ensures looked { IfErr result (λ cause. is_looked_up cause ≡ true) }
+{
     if !found.is_file() {
         return Err(StoreCause::NoFile);
     }
@@ -111,7 +129,16 @@ fn use_file(rt: &HostRuntime, path: &str, found: Metadata) -> Result<(), StoreCa
         return Err(StoreCause::Journal);
     }
     let log = format!(in rt.alloc(); "{path}-wal").map_err(|_| StoreCause::Memory)?;
-    match open_to_write(rt, log.as_str()) {
+    use_log(open_to_write(rt, log.as_str()))
+}
+
+/// Why a store whose file is there isn't opened, where its log was opened so.
+fn use_log(opened: io::Result<()>) -> Result<(), StoreCause>
+    ensures fault { IfErr opened (λ error. result ≡ Err (log_cause_of (error_kind error))) }
+    ensures there { IfOk opened (λ _. IsOk result) }
+    ensures looked { IfErr result (λ cause. is_looked_up cause ≡ true) }
+{
+    match opened {
         Err(error) if is_missing(error) => Err(StoreCause::Forbidden),
         Err(error) => Err(StoreCause::from(error)),
         Ok(()) => Ok(()),

@@ -1,7 +1,7 @@
 //! What a program asks of paths.
 
 ghost use Rattle.std.specs.Prelude.{◌≡◌, ◌⊎◌, [], ℕ, Contains, List, Option, Some, Ok, Result, false, map, string_bytes};
-ghost use Rattle.std.specs.Prelude.{IfErr, IfOk, IfSome};
+ghost use Rattle.std.specs.Prelude.{IfErr, IfOk, IfSome, OnErr};
 ghost use Rattle.sqlite.specs.Held.{Held};
 ghost use Rattle.sqlite_trees.specs.View.{IsQuiet};
 ghost use Rattle.zeb_paths.specs.Told.{AreNames};
@@ -49,8 +49,14 @@ pub trait Paths {
     /// Which connections the store at a path may be opened by, and what the paths are then: the first are those before it.
     ghost opens: { Self → Self → List ℕ → Held Self.Store → Type 0 };
 
+    /// At which paths no store may be opened, and what the paths are then, as far as is told: the first are those before it.
+    ghost refuses: { Self → Self → List ℕ → Type 0 };
+
     /// At which paths no store may stand, as far as is told.
     ghost lacks: { Self → List ℕ → Type 0 };
+
+    /// Which stores were let go, as far as is told.
+    ghost lets_go: { Self → Self.Store → Type 0 };
 
     /// How a store may be left at its path that was closed so.
     ghost leaves: { Self → Closed → Self.Store → Type 0 };
@@ -85,6 +91,7 @@ pub trait Paths {
     fn store(&mut self, path: &str) -> Result<Connection<Self::Store>, OpenFailed>
         ensures idle { IfOk result (λ connection. connection.in_transaction ≡ false) }
         ensures given { IfOk result (opens self.old self.new path.now) }
+        ensures refused { OnErr result (refuses self.old self.new path.now) }
         ensures told { (text : List ℕ) → tells self.new text ≡ tells self.old text };
 
     /// Ends a store: what was committed in it, and stands in its log, is put into its one file. Where that fails, the log keeps it.
@@ -93,4 +100,8 @@ pub trait Paths {
         ensures left { (left : Self.Store) × leaves self.now result left
             × IsQuiet Self.Store.Store.view Self.Store.Store.faults Self.Store.Store.recovers
             Self.Store.Store.is_shielded store left };
+
+    /// Ends a store that isn't used: nothing more is done to it.
+    fn let_go(&self, store: Self::Store)
+        ensures { lets_go self.now store };
 }

@@ -1,6 +1,6 @@
 //! Paths in memory, for tests.
 
-ghost use Rattle.std.specs.Prelude.{◌≡◌, ◌⊎◌, ◌||◌, [], Some, IfErr, IfOk, map, string_bytes, true};
+ghost use Rattle.std.specs.Prelude.{◌≡◌, ◌⊎◌, ◌||◌, ⊤, [], Some, IfErr, IfOk, IfSome, map, string_bytes, true};
 ghost use Rattle.std.specs.List.{before_first, list_any};
 ghost use Rattle.std.specs.Option.{is_none, is_some, option_map};
 ghost use Rattle.std.specs.Str.{bytes_eq};
@@ -136,7 +136,11 @@ impl<'a, S: Alter + Drop> Paths for Shelf<'a, S> {
 
     ghost opens = { λ shelf _ _ connection. shelf.store ≡ Some connection };
 
+    ghost refuses = { λ shelf _ _. IfSome shelf.store (λ connection. connection.in_transaction ≡ true) };
+
     ghost lacks = { λ _ _. ⊥ };
+
+    ghost lets_go = { λ _ _. ⊤ };
 
     ghost leaves = { λ _ closed _. closed.is_whole ≡ true };
 
@@ -191,6 +195,8 @@ impl<'a, S: Alter + Drop> Paths for Shelf<'a, S> {
     fn close(&self, _store: S) -> Closed {
         Closed::WHOLE
     }
+
+    fn let_go(&self, _store: S) {}
 }
 
 /// The bytes of a file in memory; each read fails where there is no such file.

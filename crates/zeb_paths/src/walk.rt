@@ -1,14 +1,13 @@
 //! The files at and below the paths that a user names.
 
-ghost use Rattle.std.specs.Prelude.{◌≡◌, ◌⊎◌, ◌≤◌, ◌<◌, ◌+◌, ◌∷◌, ◌++◌, [], ℕ, Contains, List, Some, None, Ok, map, string_bytes};
+ghost use Rattle.std.specs.Prelude.{◌≡◌, ◌⊎◌, ◌≤◌, ◌<◌, ◌+◌, ◌++◌, [], ℕ, Contains, List, map, string_bytes};
 ghost use Rattle.std.specs.Prelude.{IfErr, IfOk, IfSome};
-ghost use Rattle.zeb_paths.specs.Walks.{AreInOrder, AreUnder, GivesFile, GivesUnder, IsFaultUnder, IsFaultUntold, IsUnder};
-ghost use Rattle.zeb_paths.specs.Walks.{WalksOn, due, due_of, dues_in, dues_left, fault_at, paths_left, slashed, telling};
+ghost use Rattle.zeb_paths.specs.Walks.{AreInOrder, WalksOn, due, due_of, dues_in, dues_left, fault_at, paths_left, slashed, telling};
 ghost use Rattle.zeb_paths.specs.Walks.{step_weight, walk_weight};
 ghost use Rattle.zeb_paths.specs.declared.causes.PathCause.{PathCause as Cause};
 ghost use Rattle.zeb_paths.specs.declared.causes.PathCause.TheVariants.{Memory as NoMemory};
 ghost use Rattle.zeb_paths.specs.declared.walk.WalkFault.TheVariants.{Memory as Starved};
-ghost use Rattle.zeb_paths.specs.PrivateWalks.{IsLighter, Sees, SeesUnder};
+ghost use Rattle.zeb_paths.specs.PrivateWalks.{IsLighter, Sees};
 
 use crate::causes::PathCause;
 use crate::paths::{PathKind, Paths};
@@ -102,18 +101,11 @@ impl<'a, P: Paths> Walk<'a, P> {
     }
 
     /// The path of the next file, or `None` behind the last: what stands in a folder comes in the folder's place, in the
-    /// order of the names. After a fault the walk is of no use. A file of which the paths tell the bytes is given by its own
-    /// path, and is never a path that can't be read.
+    /// order of the names. After a fault the walk is of no use. What follows of a walk is in `laws`.
     pub fn next_file(&mut self) -> Result<Option<String>, WalkFault>
         ensures paths { self.new.paths ≡ self.old.paths }
         ensures walks { WalksOn (telling (P.tells self.old.paths.now) (P.stands self.old.paths.now)
             (P.lists self.old.paths.now)) (dues_left self.old.steps.items) result (dues_left self.new.steps.items) }
-        ensures told { (path bytes : List ℕ) (rest : List (List ℕ)) → paths_left self.old.steps.items ≡ path ∷ rest
-            → P.tells self.old.paths.now path ≡ Some bytes → GivesFile path result × (paths_left self.new.steps.items ≡ rest) }
-        ensures ended { paths_left self.old.steps.items ≡ [] → result ≡ Ok None }
-        ensures under { (named : List (List ℕ)) → AreUnder named (paths_left self.old.steps.items)
-            → GivesUnder named result × AreUnder named (paths_left self.new.steps.items) }
-        ensures untold { IfErr result (IsFaultUntold (P.tells self.old.paths.now)) }
         // So a loop over a walk ends.
         ensures lighter { IfOk result (λ found. IfSome found (λ _.
             walk_weight self.new.steps.items < walk_weight self.old.steps.items)) }
@@ -132,8 +124,6 @@ impl<'a, P: Paths> Walk<'a, P> {
         ensures paths { self.new.paths ≡ self.old.paths }
         ensures sees { Sees (telling (P.tells self.old.paths.now) (P.stands self.old.paths.now)
             (P.lists self.old.paths.now)) (dues_left self.old.steps.items) result (dues_left self.new.steps.items) }
-        ensures under { (named : List (List ℕ)) → AreUnder named (paths_left self.old.steps.items)
-            → SeesUnder named result × AreUnder named (paths_left self.new.steps.items) }
         ensures lighter { IfOk result (IsLighter self.old.steps.items self.new.steps.items) }
     {
         let Some(step) = self.steps.pop() else {
@@ -154,9 +144,6 @@ impl<'a, P: Paths> Walk<'a, P> {
     fn enter(&mut self, folder: Step) -> Result<(), WalkFault>
         requires { folder.level ≤ 32 }
         ensures paths { self.new.paths ≡ self.old.paths }
-        ensures under { (named : List (List ℕ)) → IsUnder named (string_bytes folder.path)
-            → AreUnder named (paths_left self.old.steps.items)
-            → IfErr result (IsFaultUnder named) × AreUnder named (paths_left self.new.steps.items) }
         ensures refused { IfErr result (λ met. (why : Cause) × (met ≡ fault_at folder.path why)
             × IfSome (P.lists self.old.paths.now (string_bytes folder.path))
             (λ told. (why ≡ NoMemory) ⊎ Contains told [])) }

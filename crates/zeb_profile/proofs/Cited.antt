@@ -47,10 +47,10 @@ pub use Rattle.zeb_profile.specs.Indexes.{names_in, first_spelling, first_told, 
 pub use Rattle.zeb_profile.specs.Laws.{IsProfile, SaysTheSame, without_store}
 pub use Rattle.zeb_profile.specs.Lines.{is_blank, is_no_blank, without_leading_blanks, words_of, after_word, trimmed, without_trailing_blanks, says_something}
 pub use Rattle.zeb_profile.specs.Outcomes.{◌>>=◌, FailsPlaced, GivesPlaced}
-pub use Rattle.zeb_profile.specs.PrivateKeys.{HoldsKeys, name_key, target_key, NotesNumber, NumbersNames, has_number, NotesSpellings, spelled_at, spelled_with, HasIndexKeys, spelled, numbered}
+pub use Rattle.zeb_profile.specs.PrivateKeys.{AreIndexes, name_key, target_key, NumbersNames, NotesSpelling, spelled_at, spelled, numbered}
 pub use Rattle.zeb_profile.specs.PrivateOutcomes.{Fails}
 pub use Rattle.zeb_profile.specs.PrivateRepeats.{NotesAlso, NotesClashes, directive_beside, noted_clash}
-pub use Rattle.zeb_profile.specs.PrivateResolved.{AreResolved, any_pair, directives_on, first_pairs, is_all, is_melm_for, line_value, resolved, unit_pairs}
+pub use Rattle.zeb_profile.specs.PrivateResolved.{any_pair, directives_on, first_pairs, is_all, is_melm_for, line_value, resolved, unit_pairs}
 pub use Rattle.zeb_profile.specs.PrivateSettled.{Settles}
 pub use Rattle.zeb_profile.specs.Profiles.{clash, directive_after, directives_in, first_clash, first_of, unless, at_line, has_room, is_identifier, is_store, lack_of, placed_after, placed_lines, telling_lines, ties_unknown, all_targets, first_lack, most_indexes, profile_of, targets_in}
 pub use Rattle.zeb_profile.specs.Words.{is_name, name_of, number_of, pattern_of, targets_of, same_name, same_register, same_target, target_names, distinct_names, is_colon, is_comma, is_name_byte, register_after_colon, register_of, target_of, targets_after, is_use_number}

@@ -1,5 +1,5 @@
 -- What is noted of the lines read so far refuses just what they refuse.
-use Rattle.zeb_profile.proofs.Cited.{◌≡◌, ℕ, List, [], ◌∷◌, ◌++◌, true, false, Bool, cond, Option, Some, None, refl, sym, ◌∙◌, ap, if◌then◌else◌, fun_ext, map-append, Directive, Placed, ProfileFaultKind, Repeats, directive_of, ◌>>=◌, clash, directive_after, directives_in, first_clash, first_of, unless, NotesAlso, NotesClashes, directive_beside, noted_clash}
+use Rattle.zeb_profile.proofs.Cited.{◌≡◌, ℕ, List, [], ◌∷◌, ◌++◌, Option, Some, None, refl, sym, ◌∙◌, ap, fun_ext, map-append, Directive, Placed, ProfileFaultKind, Repeats, directive_of, ◌>>=◌, clash, directive_after, directives_in, first_clash, first_of, unless, NotesAlso, NotesClashes, directive_beside, noted_clash}
 
 first_of-assoc : (a b c : Option ProfileFaultKind) → first_of (first_of a b) c ≡ first_of a (first_of b c)
 first_of-assoc None b c = refl
@@ -8,18 +8,6 @@ first_of-assoc (Some kind) b c = refl
 pub first_of-none : (a : Option ProfileFaultKind) → a ≡ first_of a None
 first_of-none None = refl
 first_of-none (Some kind) = refl
-
--- a kind that is noted now, whether or not it was
-pub noted_again : (was : Bool) (kind : ProfileFaultKind) → Some kind ≡ first_of (if was then Some kind else None) (Some kind)
-noted_again true kind = refl
-noted_again false kind = refl
-
--- a number that is noted now, where it is the one of the line or was noted
-pub noted_number : (here was : Bool) (kind : ProfileFaultKind) → (if (cond here true was) then Some kind else None) ≡ first_of (if was then Some kind else None) (if here then Some kind else None)
-noted_number true true kind = refl
-noted_number true false kind = refl
-noted_number false true kind = refl
-noted_number false false kind = refl
 
 first_clash-behind : (directives : List Directive) (directive later : Directive) → first_clash (directives ++ directive ∷ []) later ≡ first_of (first_clash directives later) (clash directive later)
 first_clash-behind [] directive later = sym (first_of-none (clash directive later))

@@ -1,5 +1,5 @@
 -- A set that holds just the keys of a list.
-use Rattle.zeb_profile.proofs.Cited.{◌≡◌, ℕ, List, [], ◌∷◌, ◌++◌, map, true, false, Bool, cond, ◌||◌, ◌&&◌, not, String, refl, sym, ◌∙◌, inl, inr, BTreeSet, Updates, UpdatesBy, contains, contains_text, slice_cmp, list_any, nat_cmp, bytes_eq, string_cmp, cases_Bool, false_from_ne_true, map-append, list_any-append, btree_set_updates_text, bytes_eq-Decides, Target, Register, Word, Phrase, Number, register_text, HoldsKeys, name_key, target_key, same_name, same_register, same_target}
+use Rattle.zeb_profile.proofs.Cited.{◌≡◌, ℕ, List, [], ◌∷◌, ◌++◌, map, true, false, Bool, cond, ◌||◌, ◌&&◌, not, String, refl, sym, ◌∙◌, inl, inr, BTreeSet, Updates, UpdatesBy, contains, contains_text, slice_cmp, list_any, nat_cmp, bytes_eq, string_cmp, cases_Bool, false_from_ne_true, map-append, list_any-append, btree_set_updates_text, bytes_eq-Decides, Target, Register, Word, Phrase, Number, register_text, name_key, target_key, same_name, same_register, same_target}
 use Rattle.std.specs.String.{string_bytes}
 
 pub bytes_eq-sym : (a b : List ℕ) → bytes_eq a b ≡ bytes_eq b a
@@ -29,6 +29,10 @@ insert_took added false among a n e = sym e
 insert_took added true among a n e = absurd (cc)
 
 module _ {Y : Type 0} where
+  -- the set has just the keys of the list
+  abbrev pub HoldsKeys : BTreeSet (String Y) → List (List ℕ) → Type 0
+  HoldsKeys set keys = (key : List ℕ) → contains_text set key ≡ list_any (bytes_eq key) keys
+
   -- with one key more the set has the keys of the list with that key behind
   pub holds_keys-push : (old new : BTreeSet (String Y)) (keys : List (List ℕ)) (key : List ℕ) → HoldsKeys old keys
       → UpdatesBy string_cmp (λ k. slice_cmp nat_cmp key (string_bytes k)) old new true → HoldsKeys new (keys ++ key ∷ [])

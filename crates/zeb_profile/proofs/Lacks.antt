@@ -1,5 +1,5 @@
 -- What the lines of a profile lack together, by what each profile has once.
-use Rattle.zeb_profile.proofs.Cited.{◌≡◌, ℕ, List, [], ◌∷◌, Bool, true, false, ◌||◌, Option, Some, None, Result, Ok, Err, option_map, subst, refl, sym, ◌∙◌, ap, length, ◌<◌, ◌≤◌, arith, le-leb, lt-leb, length-map, list_any, find, is_some, option_or, IsErr, IsErrAnd, Directive, Store, Identifier, Att, Melm, Placed, ProfileFault, ProfileFaultKind, NoIdentifier, NoStore, TooManyIndexes, UnknownIndex, first_spelling, first_told, identifier_pattern, identifier_told, index_names, path_told, store_path, UnitPattern, FailsPlaced, GivesPlaced, all_targets, directives_in, first_lack, has_room, is_identifier, is_store, lack_of, most_indexes, placed_lines, profile_of, ties_unknown, unless, target_names}
+use Rattle.zeb_profile.proofs.Cited.{◌≡◌, ◌≢◌, ℕ, List, [], ◌∷◌, Bool, true, false, ◌||◌, Option, Some, None, Result, Ok, Err, option_map, subst, refl, sym, ◌∙◌, ap, length, ◌<◌, ◌≤◌, arith, le-leb, lt-leb, length-map, list_any, find, is_some, option_or, IsErr, IsErrAnd, Directive, Store, Identifier, Att, Melm, Placed, ProfileFault, ProfileFaultKind, NoIdentifier, NoStore, TooManyIndexes, UnknownIndex, first_spelling, first_told, identifier_pattern, identifier_told, index_names, path_told, store_path, UnitPattern, FailsPlaced, GivesPlaced, all_targets, directives_in, first_lack, has_room, is_identifier, is_store, lack_of, most_indexes, placed_lines, profile_of, ties_unknown, unless, target_names}
 use Rattle.zeb_profile.specs.declared.directives.Directive.TheVariants.{All}
 
 pub lack_none : (o : Option Placed) (a b c : Bool) → first_lack o a b c ≡ None → (o ≡ None) × (a ≡ true) × (b ≡ true) × (c ≡ true)
@@ -42,6 +42,14 @@ pub lack_by : (placed : List Placed)
     → lack_of placed ≡ first_lack (untied placed) (is_some (identifier_pattern (directives_in placed))) (is_some (store_path (directives_in placed))) (has_room (directives_in placed))
 lack_by placed =
     rw (any_told identifier_told is_identifier identifier_each placed, any_told path_told is_store store_each placed) refl
+
+-- a line that ties no use attribute ties none to no index
+pub no_tie : (directives : List Directive) (d : Directive) → ((number : ℕ) (name : List ℕ) → d ≢ Att number name) → ties_unknown directives d ≡ false
+no_tie directives (Att number name) not = absurd (not number name refl)
+no_tie directives (Store path) not = refl
+no_tie directives (Identifier pattern) not = refl
+no_tie directives (Melm pattern targets) not = refl
+no_tie directives (All targets) not = refl
 
 -- the indexes are as many as the names of all targets
 pub index_count : (directives : List Directive) → length (index_names directives) ≡ length (target_names (all_targets directives))

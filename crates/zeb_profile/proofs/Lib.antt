@@ -19,10 +19,8 @@ pub mod SoundLists
 pub mod ProfilesBack
 pub mod SaysProps
 pub mod KnownKeys
-pub mod NumberedKeys
 pub mod Spellings
 pub mod Clashes
-pub mod TargetKeys
 pub mod ResolvedLines
 pub mod NamesByNumber
 pub mod Cited

@@ -118,7 +118,3 @@ pub index_names-numbered : (placed : List Placed) → fold (numbered (first_spel
 index_names-numbered placed =
     let spell = first_spelling (directives_in placed) in
     numbered_all spell (first_spelling-same (directives_in placed)) [] (names_after 0 placed) ∙ ap (map spell) (all_new (distinct_names (names_after 0 placed)))
-
--- a spelling that is the first one is the same name
-pub spelling-same : (spell : List ℕ → List ℕ) (directives : List Directive) → ((name : List ℕ) → spell name ≡ first_spelling directives name) → (name : List ℕ) → same_name (spell name) name ≡ true
-spelling-same spell directives same name = rw (same name) (first_spelling-same directives name)

@@ -1,6 +1,10 @@
 -- Lines with their targets resolved say what their directives say.
-use Rattle.zeb_profile.proofs.Cited.{◌≡◌, ℕ, List, [], ◌∷◌, ◌++◌, map, Bool, true, false, Option, Some, None, unwrap_or, refl, ap, sym, ◌∙◌, inl, inr, if◌then◌else◌, list_any, cases_Bool, map-append, list_any-append, Register, Directive, Store, Identifier, Att, Melm, Target, Line, all_line_targets, all_told, first_told, further_pairs, has_pair, index_names, is_control, melm_targets, melm_told, pair_of, same_pair, unit_targets, AreResolved, any_pair, directives_on, first_pairs, is_all, is_melm_for, line_value, resolved, Placed, all_targets, directives_in, targets_in, unit_pairs}
+use Rattle.zeb_profile.proofs.Cited.{◌≡◌, ℕ, List, [], ◌∷◌, ◌++◌, map, Bool, true, false, Option, Some, None, unwrap_or, refl, ap, sym, ◌∙◌, inl, inr, if◌then◌else◌, list_any, cases_Bool, map-append, list_any-append, Register, Directive, Store, Identifier, Att, Melm, Target, Line, all_line_targets, all_told, first_told, further_pairs, has_pair, index_names, is_control, melm_targets, melm_told, pair_of, same_pair, unit_targets, any_pair, directives_on, first_pairs, is_all, is_melm_for, line_value, resolved, Placed, all_targets, directives_in, targets_in, unit_pairs}
 use Rattle.zeb_profile.specs.declared.directives.Directive.TheVariants.{All}
+
+-- each line has the targets of its directive, by their numbers among these names
+abbrev pub AreResolved : List (List ℕ) → List Line → Type 0
+AreResolved names lines = map line_value lines ≡ map (resolved names) (directives_on lines)
 
 -- the pairs of a line that stands first, and that those behind it are resolved
 pub resolved-first : (names : List (List ℕ)) (line : Line) (lines : List Line) → AreResolved names (line ∷ lines)

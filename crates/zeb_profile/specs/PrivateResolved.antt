@@ -1,6 +1,6 @@
 -- What only the contracts of private functions speak of; no public clause reaches it.
 -- The lines of a profile with their targets as pairs of an index's number and a register.
-use Rattle.std.specs.Prelude.{◌≡◌, ℕ, Bool, true, false, List, [], ◌∷◌, ◌++◌, map, Option, if◌then◌else◌}
+use Rattle.std.specs.Prelude.{ℕ, Bool, true, false, List, [], ◌∷◌, ◌++◌, map, Option, if◌then◌else◌}
 use Rattle.zeb_profile.specs.Cited.{list_any, Directive, All, Melm, is_control}
 use Rattle.zeb_keys.specs.declared.registers.Register.{Register}
 use Rattle.zeb_profile.specs.declared.resolved.Line.{Line}
@@ -16,10 +16,6 @@ resolved names directive = (directive, map (pair_of names) (targets_in directive
 
 abbrev pub directives_on : List Line → List Directive
 directives_on lines = map (λ line. line.directive) lines
-
--- each line has the targets of its directive, by their numbers among these names
-abbrev pub AreResolved : List (List ℕ) → List Line → Type 0
-AreResolved names lines = map line_value lines ≡ map (resolved names) (directives_on lines)
 
 -- a `melm` line that fits the unit
 abbrev pub is_melm_for : List ℕ → Option ℕ → Directive → Bool

@@ -1,117 +1,77 @@
 //! The indexes of a profile: their names by number, and the number of a name.
 
-ghost use Rattle.std.specs.Prelude.{◌≡◌, ◌<◌, ◌^◌, ◌∷◌, [], List, ℕ, length, map, IfOk, OnOk, true, unwrap_or, position};
-ghost use Rattle.zeb_profile.specs.Clauses.{index_names as index_names_of, first_spelling as first_spelling_of, names_in, numbered, HasIndexKeys, HoldsKeys, NotesSpellings, name_key, spelled, spelled_at, directives_in, same_name};
+ghost use Rattle.std.specs.Prelude.{◌≡◌, ◌<◌, ◌^◌, length, IfOk, OnOk, false, true, position};
+ghost use Rattle.zeb_profile.specs.Clauses.{list_any, numbered, AreIndexes, NotesSpelling, NumbersNames, spelled, directives_in, same_name};
 
-use crate::directives::{Directive, Placed, Target};
+use crate::directives::{Directive, Placed};
 use crate::names::Name;
 use std::alloc::{AllocError, Global};
-use std::collections::{BTreeMap, BTreeSet};
+use std::collections::BTreeMap;
 
-/// The indexes of a profile: their names by number, and the keys of the names.
+/// The indexes of a profile: their names by number, and at each name's key its number.
 #[derive(Drop)]
 pub(crate) struct Indexes {
     pub names: Vec<Name>,
-    pub keys: BTreeSet<String>,
+    pub numbers: BTreeMap<String, usize>,
 }
 
-/// The indexes that lines have as targets. Names are looked up by their keys, so that the time grows little faster than the profile.
-pub(crate) fn index_names(alloc: Global, placed: &[Placed]) -> Result<Indexes, AllocError>
-    ensures names { IfOk result
-        (λ indexes. indexes.names.items ≡ index_names_of (directives_in placed.now)) }
-    ensures keys { IfOk result (λ indexes. HasIndexKeys indexes.keys (directives_in placed.now)) }
-{
-    let spellings = first_spellings(alloc, placed)?;
-    let mut keys: BTreeSet<String> = BTreeSet::new(alloc);
-    let mut names: Vec<Name> = Vec::new(alloc);
-    for line in placed {
-        for target in line.directive.targets() {
-            number_name(alloc, &mut names, &mut keys, &spellings, &target.name)?;
+impl Indexes {
+    /// The indexes that lines have as targets. Names are looked up by their keys, so that the time grows little faster than
+    /// the profile.
+    pub(crate) fn of_lines(alloc: Global, placed: &[Placed]) -> Result<Indexes, AllocError>
+        ensures { IfOk result (λ indexes. AreIndexes indexes (directives_in placed.now)) }
+    {
+        let mut indexes = Indexes {
+            names: Vec::new(alloc),
+            numbers: BTreeMap::new(alloc),
+        };
+        let mut tied: BTreeMap<String, &Name> = BTreeMap::new(alloc);
+        for line in placed {
+            if let Directive::Att(_, name) = &line.directive {
+                note_spelling(alloc, &mut tied, name)?;
+            }
+            for target in line.directive.targets() {
+                indexes.add(alloc, &tied, &target.name)?;
+            }
         }
+        Ok(indexes)
     }
-    Ok(Indexes { names, keys })
-}
 
-/// Gives a name the next number, unless its key is among the keys of the names that have one.
-fn number_name<'a>(
-    alloc: Global,
-    names: &mut Vec<Name>,
-    keys: &mut BTreeSet<String>,
-    spellings: &BTreeMap<String, &'a Name>,
-    name: &'a Name,
-) -> Result<(), AllocError>
-    requires keys { HoldsKeys keys.old (map name_key names.old.items) }
-    requires spelling { same_name (spelled spellings.now name.now) name.now ≡ true }
-    ensures names { OnOk result (names.new.items
-        ≡ numbered (spelled spellings.now) names.old.items name.now) }
-    ensures keys { OnOk result (HoldsKeys keys.new (map name_key names.new.items)) }
-{
-    let key = name.key(alloc)?;
-    let spelling = spelling_of(spellings, key.as_str(), name);
-    if !keys.insert(key)? {
-        return Ok(());
-    }
-    names.push(spelling.copy(alloc)?)?;
-    Ok(())
-}
-
-/// The spelling that is noted at the key of a name, or else the name.
-fn spelling_of<'a>(spellings: &BTreeMap<String, &'a Name>, key: &str, name: &'a Name) -> &'a Name
-    ensures { result.now ≡ unwrap_or (spelled_at spellings.now key.now) name.now }
-{
-    match spellings.get(key) {
-        Some(spelling) => spelling,
-        None => name,
+    /// Gives a name the next number, unless it has one: as it is spelled where a use attribute is tied to it, or else as it stands.
+    fn add<'a>(
+        &mut self,
+        alloc: Global,
+        tied: &BTreeMap<String, &'a Name>,
+        name: &'a Name,
+    ) -> Result<(), AllocError>
+        requires numbers { NumbersNames self.old.numbers self.old.names.items }
+        requires spelling { list_any (same_name name.now) self.old.names.items ≡ false
+            → same_name (spelled tied.now name.now) name.now ≡ true }
+        ensures names { OnOk result (self.new.names.items
+            ≡ numbered (spelled tied.now) self.old.names.items name.now) }
+        ensures numbers { OnOk result (NumbersNames self.new.numbers self.new.names.items) }
+    {
+        let key = name.key(alloc)?;
+        if self.numbers.contains_key(key.as_str()) {
+            return Ok(());
+        }
+        let spelling = match tied.get(key.as_str()) {
+            Some(spelling) => *spelling,
+            None => name,
+        };
+        self.numbers.insert(key, self.names.len())?;
+        self.names.push(spelling.copy(alloc)?)?;
+        Ok(())
     }
 }
 
-/// Each name as the first line that has it spells it, at its key.
-fn first_spellings(alloc: Global, placed: &[Placed]) -> Result<BTreeMap<String, &Name>, AllocError>
-    ensures { IfOk result
-        (λ spellings. (name : List ℕ)
-        → spelled spellings name ≡ first_spelling_of (directives_in placed.now) name) }
-{
-    let mut spellings: BTreeMap<String, &Name> = BTreeMap::new(alloc);
-    for line in placed {
-        note_spellings(alloc, &mut spellings, &line.directive)?;
-    }
-    Ok(spellings)
-}
-
-/// Notes the spellings of a line's names, each at its key unless one is noted there.
-fn note_spellings<'a>(
-    alloc: Global,
-    spellings: &mut BTreeMap<String, &'a Name>,
-    directive: &'a Directive,
-) -> Result<(), AllocError>
-    ensures { OnOk result (NotesSpellings spellings.old spellings.new (names_in directive.now)) }
-{
-    match directive {
-        Directive::Att(_, name) => note_spelling(alloc, spellings, name),
-        _ => note_target_spellings(alloc, spellings, directive.targets()),
-    }
-}
-
-fn note_target_spellings<'a>(
-    alloc: Global,
-    spellings: &mut BTreeMap<String, &'a Name>,
-    targets: &'a [Target],
-) -> Result<(), AllocError>
-    ensures { OnOk result
-        (NotesSpellings spellings.old spellings.new (map (λ target. target.name) targets.now)) }
-{
-    for target in targets {
-        note_spelling(alloc, spellings, &target.name)?;
-    }
-    Ok(())
-}
-
+/// Notes a name at its key, unless one is noted there.
 fn note_spelling<'a>(
     alloc: Global,
     spellings: &mut BTreeMap<String, &'a Name>,
     name: &'a Name,
 ) -> Result<(), AllocError>
-    ensures { OnOk result (NotesSpellings spellings.old spellings.new (name.now ∷ [])) }
+    ensures { OnOk result (NotesSpelling spellings.old spellings.new name.now) }
 {
     let key = name.key(alloc)?;
     if !spellings.contains_key(key.as_str()) {

@@ -2,10 +2,10 @@
 
 ghost use Rattle.std.specs.Prelude.{◌≡◌, length, Some, slice_get, option_copied};
 ghost use Rattle.zeb_profile.specs.Indexes as indexes;
-ghost use Rattle.zeb_profile.specs.Clauses.{canonical_text, IsProfile, SaysTheSame, GivesPlaced, profile_of, targets_left};
+ghost use Rattle.zeb_profile.specs.Clauses.{canonical_text, IsProfile, GivesPlaced, profile_of, targets_left};
 
 use crate::canonical::canonical;
-use crate::indexes::{index_names, position_of};
+use crate::indexes::{Indexes, position_of};
 use crate::names::Name;
 use crate::reading::{read_lines, settle};
 use crate::resolved::{Line, has_pair, resolve, use_name};
@@ -64,16 +64,15 @@ impl Profile {
         ensures { GivesPlaced (λ profile. profile) result (profile_of text.now) }
     {
         let placed = read_lines(alloc, text)?;
-        let indexes = index_names(alloc, &placed)?;
-        let settled = settle(alloc, &placed, indexes.names.len(), &indexes.keys)?;
+        let indexes = Indexes::of_lines(alloc, &placed)?;
+        let settled = settle(alloc, &placed, &indexes)?;
         let identifier = settled.identifier;
         let store = String::from_str(alloc, settled.store)?;
         let text = canonical(alloc, &placed)?;
-        let names = indexes.names;
-        let lines = resolve(alloc, placed, &names)?;
+        let lines = resolve(alloc, placed, &indexes)?;
         Ok(Profile {
             lines,
-            names,
+            names: indexes.names,
             identifier,
             store,
             text,
@@ -152,14 +151,5 @@ impl Profile {
         ensures { ∥ IsProfile self.now ∥₁ }
     {
         let _ = &self.lines;
-    }
-
-    /// A law: two profiles that show one text say the same of indexes, units and identifiers.
-    pub fn text_tells_all(&self, other: &Profile)
-        ensures { canonical_text self.now ≡ canonical_text other.now
-            → SaysTheSame self.now other.now }
-    {
-        self.is_of_some_text();
-        other.is_of_some_text();
     }
 }

@@ -10,9 +10,9 @@ use zeb_marc::is_tag;
 /// The place of a subfield or field in a record: a tag, and a code where only subfields with that code are meant.
 #[derive(Clone, Copy, Debug, PartialEq, Eq)]
 pub struct UnitPattern {
-    /// Three ASCII letters or digits.
+    /// Three ASCII letters or digits, of a pattern that a profile spells.
     pub tag: [u8; 3],
-    /// A printable ASCII character other than the space.
+    /// A printable ASCII character other than the space, of a pattern that a profile spells.
     pub code: Option<u8>,
 }
 

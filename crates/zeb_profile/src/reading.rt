@@ -1,14 +1,14 @@
 //! Reading a profile line by line, and what its lines lack together.
 
-ghost use Rattle.std.specs.Prelude.{◌≡◌, length, map, IfOk, IfErr, option_map, find, option_copied};
-ghost use Rattle.zeb_profile.specs.Clauses.{lines as lines_of, identifier_pattern as identifier_in, index_names, store_path as path_in, HasIndexKeys, ties_beside, says_something as tells, FailsPlaced, GivesPlaced, Gives, directives_in, placed_lines, ties_unknown as ties_unknown_index, lack_of, unless, Settles, NotesAlso, directive_beside};
+ghost use Rattle.std.specs.Prelude.{◌≡◌, map, IfOk, IfErr, option_map, find, option_copied};
+ghost use Rattle.zeb_profile.specs.Clauses.{lines as lines_of, identifier_pattern as identifier_in, store_path as path_in, AreIndexes, says_something as tells, FailsPlaced, GivesPlaced, Gives, directives_in, placed_lines, ties_unknown as ties_unknown_index, lack_of, unless, Settles, NotesAlso, directive_beside};
 
 use crate::directives::{Directive, Placed};
+use crate::indexes::Indexes;
 use crate::lines::trim;
 use crate::repeats::Repeats;
 use crate::{ProfileFault, ProfileFaultKind, UnitPattern};
 use std::alloc::{AllocError, Global};
-use std::collections::BTreeSet;
 
 /// The directives of a text with their lines, or the fault of the first faulty line. What all lines together lack is
 /// not asked.
@@ -56,13 +56,8 @@ fn read_line(
     ensures notes { IfOk result (λ directive. NotesAlso directive repeats.old repeats.new) }
 {
     let directive = Directive::read(alloc, line)?;
-    match repeats.clash(&directive) {
-        Some(kind) => Err(kind),
-        None => {
-            repeats.note(&directive)?;
-            Ok(directive)
-        }
-    }
+    repeats.note(&directive)?;
+    Ok(directive)
 }
 
 fn identifier_pattern(placed: &[Placed]) -> Option<&UnitPattern>
@@ -97,20 +92,18 @@ pub(crate) struct Settled<'a> {
 }
 
 /// What the lines of a profile settle together, or the fault of what they lack: the index of a use attribute, the
-/// identifier, the store, and room for their indexes, of which the caller has the number and the keys of the names.
+/// identifier, the store, and room for their indexes.
 pub(crate) fn settle<'a>(
     alloc: Global,
     placed: &'a [Placed],
-    index_count: usize,
-    keys: &BTreeSet<String>,
+    indexes: &Indexes,
 ) -> Result<Settled<'a>, ProfileFault>
-    requires count { index_count ≡ length (index_names (directives_in placed.now)) }
-    requires keys { HasIndexKeys keys.now (directives_in placed.now) }
+    requires { AreIndexes indexes.now (directives_in placed.now) }
     ensures settled { IfOk result (λ settled. Settles placed.now settled) }
     ensures lacks { IfErr result
         (λ fault. FailsPlaced fault (unless (lack_of placed.now) placed.now)) }
 {
-    if let Some(line) = unknown_use(alloc, placed, keys)? {
+    if let Some(line) = unknown_use(alloc, placed, indexes)? {
         return Err(ProfileFault::at_line(line, ProfileFaultKind::UnknownIndex));
     }
     let Some(identifier) = identifier_pattern(placed) else {
@@ -119,7 +112,7 @@ pub(crate) fn settle<'a>(
     let Some(store) = store_path(placed) else {
         return Err(ProfileFault::at_line(0, ProfileFaultKind::NoStore));
     };
-    if index_count > u32::MAX as usize {
+    if indexes.names.len() > u32::MAX as usize {
         return Err(ProfileFault::at_line(0, ProfileFaultKind::TooManyIndexes));
     }
     Ok(Settled {
@@ -133,32 +126,19 @@ pub(crate) fn settle<'a>(
 fn unknown_use(
     alloc: Global,
     placed: &[Placed],
-    keys: &BTreeSet<String>,
+    indexes: &Indexes,
 ) -> Result<Option<u64>, AllocError>
-    requires { HasIndexKeys keys.now (directives_in placed.now) }
+    requires { AreIndexes indexes.now (directives_in placed.now) }
     ensures { IfOk result (λ found. found ≡ option_map (λ line. line.line)
         (find (λ line. ties_unknown_index (directives_in placed.now) line.directive) placed.now)) }
 {
     for line in placed {
-        if ties_unknown(alloc, keys, &line.directive)? {
-            return Ok(Some(line.line));
+        if let Directive::Att(_, name) = &line.directive {
+            let key = name.key(alloc)?;
+            if !indexes.numbers.contains_key(key.as_str()) {
+                return Ok(Some(line.line));
+            }
         }
     }
     Ok(None)
-}
-
-fn ties_unknown(
-    alloc: Global,
-    keys: &BTreeSet<String>,
-    directive: &Directive,
-) -> Result<bool, AllocError>
-    ensures { IfOk result (λ unknown. unknown ≡ ties_beside keys.now directive.now) }
-{
-    match directive {
-        Directive::Att(_, name) => {
-            let key = name.key(alloc)?;
-            Ok(!keys.contains(key.as_str()))
-        }
-        _ => Ok(false),
-    }
 }

@@ -1,12 +1,12 @@
 //! The lines of a profile with their targets resolved: each index by its number.
 
-ghost use Rattle.std.specs.Prelude.{◌≡◌, ◌<◌, ◌^◌, List, ℕ, length, map, IfOk, OnOk, true, All, option_copied};
-ghost use Rattle.zeb_profile.specs.Clauses.{get_by_text, list_any, index_names, pair_of as pair_in, same_pair, use_name as name_of_use, NotesNumber, NumbersNames, has_number, name_key, any_pair, directives_on, first_pairs, is_all, is_melm_for, line_value, resolved, directives_in};
+ghost use Rattle.std.specs.Prelude.{◌≡◌, ◌<◌, ◌^◌, length, map, IfOk, true, All, option_copied};
+ghost use Rattle.zeb_profile.specs.Clauses.{list_any, pair_of as pair_in, same_name, same_pair, use_name as name_of_use, AreIndexes, NumbersNames, any_pair, directives_on, first_pairs, is_all, is_melm_for, line_value, resolved, directives_in};
 
 use crate::directives::{Directive, Placed, Target};
+use crate::indexes::Indexes;
 use crate::names::Name;
 use std::alloc::{AllocError, Global};
-use std::collections::BTreeMap;
 use zeb_keys::Register;
 
 /// A target: an index by its number, and a register.
@@ -24,80 +24,40 @@ pub struct Line {
 pub(crate) fn resolve(
     alloc: Global,
     placed: Vec<Placed>,
-    names: &[Name],
+    indexes: &Indexes,
 ) -> Result<Vec<Line>, AllocError>
-    requires few { length names.now < 2 ^ 32 }
-    requires names { names.now ≡ index_names (directives_in placed.items) }
+    requires few { length indexes.now.names.items < 2 ^ 32 }
+    requires indexes { AreIndexes indexes.now (directives_in placed.items) }
     ensures { IfOk result
         (λ lines. map line_value lines.items
-        ≡ map (resolved names.now) (directives_in placed.items)) }
+        ≡ map (resolved indexes.now.names.items) (directives_in placed.items)) }
 {
-    let numbers = numbers_of(alloc, names)?;
     let mut lines: Vec<Line> = Vec::new(alloc);
     for line in placed {
         let directive = line.directive;
-        let pairs = pairs_of(alloc, &numbers, directive.targets())?;
+        let pairs = pairs_of(alloc, indexes, directive.targets())?;
         lines.push(Line { directive, pairs })?;
     }
     Ok(lines)
 }
 
-/// The number of each name, at its key.
-fn numbers_of(alloc: Global, names: &[Name]) -> Result<BTreeMap<String, u32>, AllocError>
-    requires { length names.now < 2 ^ 32 }
-    ensures { IfOk result (λ numbers. NumbersNames numbers names.now) }
-{
-    let mut numbers: BTreeMap<String, u32> = BTreeMap::new(alloc);
-    for (index, name) in names.iter().enumerate() {
-        note_number(alloc, &mut numbers, name, index as u32)?;
-    }
-    Ok(numbers)
-}
-
-/// Notes a name's number at its key, unless one is noted there.
-fn note_number(
-    alloc: Global,
-    numbers: &mut BTreeMap<String, u32>,
-    name: &Name,
-    number: u32,
-) -> Result<(), AllocError>
-    ensures { OnOk result (NotesNumber numbers.old numbers.new name.now number) }
-{
-    let key = name.key(alloc)?;
-    if !numbers.contains_key(key.as_str()) {
-        numbers.insert(key, number)?;
-    }
-    Ok(())
-}
-
 /// The pairs of a line's targets, each of whose names has a number.
-fn pairs_of(
-    alloc: Global,
-    numbers: &BTreeMap<String, u32>,
-    targets: &[Target],
-) -> Result<Vec<Pair>, AllocError>
-    requires { All (λ target. has_number numbers.now target.name ≡ true) targets.now }
-    ensures { IfOk result (λ pairs. (names : List (List ℕ)) → NumbersNames numbers.now names
-        → pairs.items ≡ map (pair_in names) targets.now) }
+fn pairs_of(alloc: Global, indexes: &Indexes, targets: &[Target]) -> Result<Vec<Pair>, AllocError>
+    requires few { length indexes.now.names.items < 2 ^ 32 }
+    requires numbers { NumbersNames indexes.now.numbers indexes.now.names.items }
+    requires known { All
+        (λ target. list_any (same_name target.name) indexes.now.names.items ≡ true) targets.now }
+    ensures { IfOk result
+        (λ pairs. pairs.items ≡ map (pair_in indexes.now.names.items) targets.now) }
 {
     let mut pairs: Vec<Pair> = Vec::new(alloc);
     for target in targets {
-        if let Some(number) = number_of(alloc, numbers, &target.name)? {
-            pairs.push((number, target.register))?;
+        let key = target.name.key(alloc)?;
+        if let Some(number) = indexes.numbers.get(key.as_str()) {
+            pairs.push((*number as u32, target.register))?;
         }
     }
     Ok(pairs)
-}
-
-fn number_of(
-    alloc: Global,
-    numbers: &BTreeMap<String, u32>,
-    name: &Name,
-) -> Result<Option<u32>, AllocError>
-    ensures { IfOk result (λ number. number ≡ get_by_text numbers.now (name_key name.now)) }
-{
-    let key = name.key(alloc)?;
-    Ok(numbers.get(key.as_str()).copied())
 }
 
 /// The targets of the first `melm` line that fits a unit.

@@ -7,6 +7,7 @@ pub mod LineInputLemmas
 pub mod LineLemmas
 pub mod MemoryLemmas
 pub mod NumberLemmas
+pub mod OpenedStores
 pub mod OverLemmas
 pub mod PathLemmas
 pub mod ReaderLemmas

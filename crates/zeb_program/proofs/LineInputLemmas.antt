@@ -63,6 +63,16 @@ line_read old now new bs buffer items count none before here long one lf is =
     let taken : Consumes old new (bs ++ 10 ∷ []) = subst (λ xs. Consumes old new (bs ++ xs)) (all ∙ whole) (Consumes-trans old now new bs (take count buffer) before here) in
     subst (λ xs. IfSome old (λ left. xs ≡ whole_first_line left)) (sym (is ∙ ap (λ xs. bs ++ xs) whole)) (line_at_lf old new bs none taken)
 
+-- just it is taken
+pub line_taken : (old now new : Option (List ℕ)) (bs buffer items : List ℕ) (count : ℕ) → Consumes old now bs → Consumes now new (take count buffer) → length buffer ≡ 1 → count ≡ 1 → items ≡ bs ++ buffer → Consumes old new items
+line_taken old now new bs buffer items count before here long one is =
+    let all : take count buffer ≡ buffer = take_all count buffer (omega (arith, long, one)) in
+    subst (Consumes old new) (ap (λ xs. bs ++ xs) all ∙ sym is) (Consumes-trans old now new bs (take count buffer) before here)
+
+-- it isn't empty
+pub line_some : (new : Option (List ℕ)) (bs buffer items : List ℕ) → length buffer ≡ 1 → items ≡ bs ++ buffer → items ≡ [] → IsAtEnd new
+line_some new bs buffer items long is none = absurd (omega (arith, ap length is, ap length none, length-append bs buffer, long))
+
 -- ---- a line that isn't read
 
 -- what was read is no more than stands before its LF

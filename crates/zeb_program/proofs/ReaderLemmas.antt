@@ -1,19 +1,19 @@
 -- How far the files at some paths have come, of which readers or contents are made.
-use Rattle.std.proofs.Common.{◌≡◌, ◌≢◌, ◌≤◌, ◌∙◌, inl, inr, Bool, true, false, ℕ, List, [], ◌∷◌, ◌++◌, Vec, ap, append_assoc, arith, length, map, refl, subst, sym}
+use Rattle.std.proofs.Common.{◌≡◌, ◌≢◌, ◌≤◌, ◌∙◌, ◌-◌, ◌+◌, inl, inr, Bool, true, false, ℕ, List, [], ◌∷◌, ◌++◌, Vec, ap, append_assoc, arith, length, map, refl, subst, sym}
 use Rattle.std.specs.Prelude.{◌⊎◌, ◌||◌, Contains, IfErr, IfSome, Option, Some, None, Result, Ok, Err, String, if◌then◌else◌, string_bytes}
 use Rattle.std.specs.declared.alloc.Global.{Global}
 use Rattle.std.proofs.lemmas.List.{append-nil, map-append}
 use Rattle.std.proofs.lemmas.List.Elements.{Contains-append_right}
 use Rattle.zeb_change.specs.Reading.{NoneFailed, StayAble}
-use Rattle.zeb_program.specs.PrivateFiles.{ReadsContent, sure_bytes}
+use Rattle.zeb_program.specs.PrivateFiles.{ReadsBelow, ReadsContent, WalksFrom, WalksOver, sure_bytes}
 use Rattle.zeb_program.specs.Inputs.{AreShort, IsShort}
-use Rattle.zeb_paths.specs.Walks.{AreUnder, GivesFile, GivesUnder, IsFaultUnder, IsFaultUntold, IsUnder}
+use Rattle.zeb_paths.specs.Walks.{AreUnder, Due, GivesFile, GivesUnder, IsFaultUnder, IsFaultUntold, IsUnder, Tells, WalksOn, due}
 use Rattle.zeb_paths.specs.declared.walk.WalkFault.{WalkFault}
 use Rattle.zeb_paths.specs.declared.walk.WalkFault.TheVariants as walk
 use Rattle.zeb_program.specs.declared.faults.Fault.{Fault}
 use Rattle.zeb_program.specs.declared.faults.Fault.TheVariants as reason
 use Rattle.zeb_program.specs.FaultAnswers.{NamesUnder, NamesUntold}
-use Rattle.zeb_program.specs.PrivateFaults.{IsUnread, IsUnreadAt, fault_of}
+use Rattle.zeb_program.specs.PrivateFaults.{IsNth, IsUnfound, IsUnread, IsUnreadAt, fault_of}
 
 -- what has been made has the bytes of the first of these files, and the paths that are left lead to the others
 abbrev pub IsMet : {R : Type 0} → (R → Option (List ℕ)) → (List ℕ → Option (List ℕ)) → List (List ℕ) → List R → List (List ℕ) → Type 0
@@ -67,6 +67,58 @@ met_next bytes tells files made more (path ∷ rest) later given one met next en
     let all : map bytes more ≡ map bytes made ++ bytes one ∷ [] = ap (map bytes) grew ∙ map-append bytes made (one ∷ []) in
     ap (λ front. front ++ map tells later) all ∙ append_assoc (map bytes made) (bytes one ∷ []) (map tells later)
     ∙ ap (λ next. map bytes made ++ next ∷ map tells later) has ∙ ap (λ rest. map bytes made ++ tells path ∷ map tells rest) gives.1 ∙ met
+
+-- ---- a walk over files, of folders too
+
+named_dues : (named : List (String Global)) → map (λ path. due path 1) (map string_bytes named) ≡ map (λ path. due (string_bytes path) 1) named
+named_dues [] = refl
+named_dues (path ∷ named) = ap (λ rest. due (string_bytes path) 1 ∷ rest) (named_dues named)
+
+-- it begins
+pub walk_start : (at : Tells) (named : List (String Global)) (left : List Due) → left ≡ map (λ path. due (string_bytes path) 1) named → WalksFrom at (map string_bytes named) [] left
+walk_start at named left is = is ∙ sym (named_dues named)
+
+walk_on : (at : Tells) (first : List Due) (files : List (List ℕ)) (left later : List Due) (given : String Global) → WalksOver at first files left → WalksOn at left (Ok (Some given)) later
+    → WalksOver at first (files ++ string_bytes given ∷ []) later
+walk_on at first [] left later given over on = (given, later, subst (λ dues. WalksOn at dues (Ok (Some given)) later) over on, refl, refl)
+walk_on at first (file ∷ files) left later given over on = (over.0, over.1, over.2, over.3, walk_on at over.1 files left later given over.4 on)
+
+-- it goes on to one file more
+pub walk_more : (at : Tells) (named files : List (List ℕ)) (left later : List Due) (given : String Global) → WalksFrom at named files left → WalksOn at left (Ok (Some given)) later
+    → WalksFrom at named (files ++ string_bytes given ∷ []) later
+walk_more at named files left later given from on = walk_on at (map (λ path. due path 1) named) files left later given from on
+
+-- the readers of the first files are there, and these paths are left
+abbrev pub ReadsSoFar : {R : Type 0} → (R → Option (List ℕ)) → Tells → List (List ℕ) → List R → List Due → Type 0
+ReadsSoFar remaining at named readers left = (files : List (List ℕ)) × WalksFrom at named files left × (map remaining readers ≡ map at.bytes files)
+
+pub reads_start : {R : Type 0} (remaining : R → Option (List ℕ)) (at : Tells) (named : List (String Global)) (readers : List R) (left : List Due) → readers ≡ []
+    → left ≡ map (λ path. due (string_bytes path) 1) named → ReadsSoFar remaining at (map string_bytes named) readers left
+reads_start remaining at named readers left none is = ([], walk_start at named left is, ap (map remaining) none)
+
+pub reads_more : {R : Type 0} (remaining : R → Option (List ℕ)) (at : Tells) (named : List (List ℕ)) (readers more : List R) (left later : List Due) (given : String Global) (one : R) → ReadsSoFar remaining at named readers left
+    → WalksOn at left (Ok (Some given)) later → remaining one ≡ at.bytes (string_bytes given) → more ≡ readers ++ one ∷ [] → ReadsSoFar remaining at named more later
+reads_more remaining at named readers more left later given one (files, from, bytes) on has grew = (
+  files ++ string_bytes given ∷ [],
+  walk_more at named files left later given from on,
+  ap (map remaining) grew ∙ map-append remaining readers (one ∷ []) ∙ ap (λ front. front ++ remaining one ∷ []) bytes
+      ∙ ap (λ last. map at.bytes files ++ last ∷ []) has ∙ sym (map-append at.bytes files (string_bytes given ∷ [])),
+)
+
+pub reads_all : {R : Type 0} (remaining : R → Option (List ℕ)) (at : Tells) (named : List (List ℕ)) (readers : List R) (left later : List Due) → ReadsSoFar remaining at named readers left → WalksOn at left (Ok None) later
+    → ReadsBelow remaining at named readers
+reads_all remaining at named readers left later (files, from, same) on = record { files = files; left = left; later = later; walks = from; ends = on; bytes = same }
+
+pub count_before : (n nth number : ℕ) → n + 1 ≡ nth → number ≤ nth → (nth ≤ 1) ⊎ (nth ≤ number) → n ≡ number - 1
+count_before n nth number is far (inl first) = omega (arith, is, far, first)
+count_before n nth number is far (inr within) = omega (arith, is, far, within)
+
+-- the file that a walk gives behind so many
+pub given_nth : (at : Tells) (named files : List (List ℕ)) (number : ℕ) (found : Result (Option (String Global)) WalkFault) (r : Option (String Global)) (left later : List Due) → IfSome r (λ path. found ≡ Ok (Some path)) → GivesUnder named found
+    → length files ≡ number - 1 → WalksFrom at named files left → WalksOn at left found later → IfSome r (IsNth at named number)
+given_nth at named files number found None left later is under count from on = tt
+given_nth at named files number found (Some path) left later is under count from on =
+    (subst (GivesUnder named) is under, (files, left, later, count, from, subst (λ f. WalksOn at left f later) is on))
 
 -- ---- readers that can't fail
 
@@ -193,15 +245,11 @@ untold_fault : (tells : List ℕ → Option (List ℕ)) (why : WalkFault) (given
 untold_fault tells (walk.Unreadable path) given is untold = subst (NamesUntold tells) (sym is) untold
 untold_fault tells walk.Memory given is untold = subst (NamesUntold tells) (sym is) tt
 
-pub untold_faults : {X : Type 0} (tells : List ℕ → Option (List ℕ)) (why : WalkFault) (r : Result X Fault) → IfErr r (λ given. IsUnread given × (given ≡ fault_of why)) → IsFaultUntold tells why → IfErr r (NamesUntold tells)
-untold_faults tells why (Ok x) is untold = tt
-untold_faults tells why (Err given) is untold = untold_fault tells why given is.1 untold
-
--- the file that a walk gives
-pub given_under : (named : List (List ℕ)) (found : Result (Option (String Global)) WalkFault) (r : Option (String Global)) → IfSome r (λ path. found ≡ Ok (Some path)) → GivesUnder named found
-    → IfSome r (λ path. IsUnder named (string_bytes path))
-given_under named found None is under = tt
-given_under named found (Some path) is under = subst (GivesUnder named) is under
+-- some of the files aren't found
+pub unfound_faults : {X : Type 0} (tells : List ℕ → Option (List ℕ)) (named : List (List ℕ)) (why : WalkFault) (r : Result X Fault) → IfErr r (λ given. IsUnread given × (given ≡ fault_of why)) → IsFaultUntold tells why → IsFaultUnder named why
+    → IfErr r (IsUnfound tells named)
+unfound_faults tells named why (Ok x) is untold under = tt
+unfound_faults tells named why (Err given) is untold under = (is.0, untold_fault tells why given is.1 untold, under_fault named why given is.1 under)
 
 -- where a walk can't go on no bytes are told
 none_told : (told : Option (List ℕ)) → ((bytes : List ℕ) → told ≢ Some bytes) → IfSome told (λ bytes. ¬ IsShort bytes)

@@ -1,6 +1,6 @@
 -- A result of which the value is taken, or another one in its place; and what is made of a value.
-use Rattle.std.proofs.Common.{◌≡◌, ◌∙◌, ap, subst, sym}
-use Rattle.std.specs.Prelude.{Result, Ok, Err, IfErr, IfOk, IsErrAnd, MatchResult, OnErr}
+use Rattle.std.proofs.Common.{◌≡◌, ◌∙◌, ap, refl, subst, sym}
+use Rattle.std.specs.Prelude.{Option, Some, Result, Ok, Err, IfErr, IfOk, IsErrAnd, MatchResult, OnErr}
 use Rattle.std.specs.Result.{result_unwrap_or}
 
 pub unwrapped : {T E : Type 0} (r : Result T E) (P : T → Type 0) (other : T) → IfOk r P → OnErr r (P other) → P (result_unwrap_or r other)
@@ -32,9 +32,23 @@ pub narrowed_fault : {T F E : Type 0} (from : Result T F) (to : Result T E) (par
 narrowed_fault (Ok value) to part P Q so said is = subst (λ r. IfErr r Q) (sym is) tt
 narrowed_fault (Err fault) to part P Q so said is = subst (λ r. IfErr r Q) (sym is) (so fault said)
 
-pub narrowed_err : {T F E : Type 0} (from : Result T F) (to : Result T E) (part : F → E) (P : F → Type 0) (why : E) → IsErrAnd from (λ fault. P fault × (part fault ≡ why)) → MatchResult from (λ value. to ≡ Ok value) (λ fault. to ≡ Err (part fault)) → to ≡ Err why
-narrowed_err (Ok value) to part P why said is = absurd said
-narrowed_err (Err fault) to part P why said is = is ∙ ap (λ e. Err e) said.1
+-- a fault that has two parts
+pub given_err : {T A B : Type 0} (from : Result T (A × B)) (to : Result T (Option A × B)) (back : A) (why : B) → IsErrAnd from (λ fault. (fault.0 ≡ back) × (fault.1 ≡ why))
+    → MatchResult from (λ value. to ≡ Ok value) (λ fault. to ≡ Err (Some fault.0, fault.1)) → to ≡ Err (Some back, why)
+given_err (Ok value) to back why said is = absurd said
+given_err (Err fault) to back why said is = is ∙ ap (λ one. Err (Some one, fault.1)) said.0 ∙ ap (λ other. Err (Some back, other)) said.1
+
+abbrev pub failing : (T A B : Type 0) → A → B → Result T (A × B)
+failing T A B one other = Err (one, other)
+
+err_same : {T E : Type 0} (r : Result T E) (one other : E) → r ≡ Err one → r ≡ Err other → one ≡ other
+err_same r one other is e = cc
+
+pub second_same : (T A B : Type 0) (a c : A) (b d : B) → failing T A B a b ≡ failing T A B c d → b ≡ d
+second_same T A B a c b d e =
+    let here : A × B = (a, b) in
+    let there : A × B = (c, d) in
+    ap (λ (both : A × B). both.1) (err_same (failing T A B a b) here there refl e)
 
 pub holds_of : {T E : Type 0} (r : Result T E) (value : T) (P : T → Type 0) → r ≡ Ok value → P value → IfOk r P
 holds_of r value P is said = subst (λ it. IfOk it P) (sym is) said

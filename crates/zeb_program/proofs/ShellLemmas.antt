@@ -1,6 +1,6 @@
 -- How far the answers of a shell have come, of an input that tells its bytes.
-use Rattle.std.proofs.Common.{◌≡◌, ◌<◌, ◌+◌, ◌∙◌, inr, ℕ, Bool, false, List, [], ◌∷◌, length, ap, arith, eqb, refl, subst, sym}
-use Rattle.std.specs.Prelude.{⊤, Option, Some, None, Result, Ok, Err, IfNone, IfOk, IfSome}
+use Rattle.std.proofs.Common.{◌≡◌, ◌<◌, ◌+◌, ◌∙◌, inr, ℕ, Bool, true, false, List, [], ◌∷◌, length, ap, arith, eqb, ne_eqb, refl, subst, sym}
+use Rattle.std.specs.Prelude.{⊤, Option, Some, None, Result, Ok, Err, IfOk, IfSome}
 use Rattle.std.specs.declared.alloc.AllocError.{AllocError}
 use Rattle.std.specs.Io.KnownBytes.{Appends, Consumes, IsAtEnd, Keeps}
 use Rattle.std.specs.Str.{IsUtf8}
@@ -56,9 +56,17 @@ next_some bytes None is some = tt
 next_some bytes (Some []) is some = absurd (omega (arith, ap length is, not_empty bytes some))
 next_some bytes (Some (b ∷ bs)) is some = omega arith
 
+pub none_read : (bytes : List ℕ) → true ≡ eqb (length bytes) 0 → bytes ≡ []
+none_read [] e = refl
+none_read (b ∷ bs) e = let other : true ≡ false = e ∙ ne_eqb (length (b ∷ bs)) 0 (λ is. omega (arith, is)) in absurd cc
+
 pub next_none : (bytes : List ℕ) (left : Option (List ℕ)) → IfSome left (λ l. bytes ≡ whole_first_line l) → bytes ≡ [] → IsAtEnd left
 next_none bytes None is none = tt
 next_none bytes (Some l) is none = no_line_no_text l (sym is ∙ none)
+
+pub next_taken : (bytes : List ℕ) (left later : Option (List ℕ)) → IfSome left (λ l. bytes ≡ whole_first_line l) → Consumes left later bytes → IfSome left (λ l. Consumes (Some l) later (whole_first_line l))
+next_taken bytes None later is taken = tt
+next_taken bytes (Some l) later is taken = subst (λ line. Consumes (Some l) later line) is taken
 
 -- ---- the lines so far
 
@@ -82,24 +90,9 @@ serves_line told c old now next wrote mid writes (Some text) (Some l) None n gre
 serves_line told c old now next wrote mid writes (Some text) (Some l) (Some rest) n greatest status top is_max some taken step far =
     reaches_line told c old now next wrote mid writes 0 text n l (first_line l) rest greatest status top some refl (left_after_line l rest taken) is_max far step
 
--- the same, of what was found
-pub serves_found : (told : List ℕ → Option (List ℕ)) (c : Conditions) (old now next : State) (wrote mid writes : Option (List ℕ)) (first left later : Option (List ℕ)) (n : ℕ) (greatest status top : Status) (failed : Bool) (Clean : Type 0) (found : Option Status)
-    → found ≡ Some status → top ≡ greater greatest status → IfSome found (λ _. IfSome left (λ l. 0 < length l)) → IfSome left (λ l. Consumes (Some l) later (whole_first_line l))
-    → IfSome found (λ s. failed ≡ false → Clean → IfSome left (AnswersNext told c now next mid writes (n + 1) s)) → failed ≡ false → Clean
-    → Serves told c old now wrote mid first left n greatest → Serves told c old next wrote writes first later (n + 1) top
-serves_found told c old now next wrote mid writes first left later n greatest status top failed Clean found is is_max some taken answer sound clean =
-    let step = subst (λ f. IfSome f (λ s. failed ≡ false → Clean → IfSome left (AnswersNext told c now next mid writes (n + 1) s))) is answer in
-    serves_line told c old now next wrote mid writes first left later n greatest status top is_max
-    (subst (λ f. IfSome f (λ _. IfSome left (λ l. 0 < length l))) is some) taken (step sound clean)
-
 pub serves_end : (told : List ℕ → Option (List ℕ)) (c : Conditions) (old now : State) (wrote writes : Option (List ℕ)) (first left : Option (List ℕ)) (n : ℕ) (greatest : Status)
     → IsAtEnd left → Serves told c old now wrote writes first left n greatest
     → IfSome first (λ text. LeadsOn old now wrote writes (λ before bytes last. AnswersBatch told c 0 text before bytes greatest last))
 serves_end told c old now wrote writes None left n greatest end far = tt
 serves_end told c old now wrote writes (Some text) None n greatest end far = absurd far
 serves_end told c old now wrote writes (Some text) (Some rest) n greatest end far = reaches_end told c old now wrote writes 0 text n rest greatest end far
-
--- what is said where nothing was found
-pub found_none : (found : Option Status) (P : Type 0) → found ≡ None → IfNone found P → P
-found_none None P is h = h
-found_none (Some status) P is h = absurd cc

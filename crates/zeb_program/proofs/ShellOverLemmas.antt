@@ -57,7 +57,7 @@ module _ {X : Type 0} (Answers : ℕ → List ℕ → X → List ℕ → Status 
   goes_start wrote None old = tt
   goes_start wrote (Some text) old = answered_start Answers wrote 0 text old
 
-  goes_line : (wrote mid writes first left later : Option (List ℕ)) (n : ℕ) (greatest status top : Status) (old now next : X)
+  pub goes_line : (wrote mid writes first left later : Option (List ℕ)) (n : ℕ) (greatest status top : Status) (old now next : X)
       → top ≡ greater greatest status → IfSome left (λ l. 0 < length l) → IfSome left (λ l. Consumes (Some l) later (whole_first_line l))
       → IfSome left (λ l. Writes mid writes (λ bytes. Answers (n + 1) (first_line l) now bytes status next))
       → Goes wrote mid first left n greatest old now → Goes wrote writes first later (n + 1) top old next
@@ -66,16 +66,6 @@ module _ {X : Type 0} (Answers : ℕ → List ℕ → X → List ℕ → Status 
   goes_line wrote mid writes (Some text) (Some l) None n greatest status top old now next is_max some taken step far = absurd taken
   goes_line wrote mid writes (Some text) (Some l) (Some rest) n greatest status top old now next is_max some taken step far =
       answered_line Answers wrote mid writes 0 text old n l (first_line l) rest greatest status top now next some refl (left_after_line l rest taken) is_max far step
-
-  -- the same, of what was found
-  pub goes_found : (wrote mid writes first left later : Option (List ℕ)) (n : ℕ) (greatest status top : Status) (old now next : X) (failed : Bool) (Clean : Type 0) (found : Option Status)
-      → found ≡ Some status → top ≡ greater greatest status → IfSome found (λ _. IfSome left (λ l. 0 < length l)) → IfSome left (λ l. Consumes (Some l) later (whole_first_line l))
-      → IfSome found (λ s. failed ≡ false → Clean → IfSome left (λ l. Writes mid writes (λ bytes. Answers (n + 1) (first_line l) now bytes s next))) → failed ≡ false → Clean
-      → Goes wrote mid first left n greatest old now → Goes wrote writes first later (n + 1) top old next
-  goes_found wrote mid writes first left later n greatest status top old now next failed Clean found is is_max some taken answer sound clean =
-      let step = subst (λ f. IfSome f (λ s. failed ≡ false → Clean → IfSome left (λ l. Writes mid writes (λ bytes. Answers (n + 1) (first_line l) now bytes s next)))) is answer in
-      goes_line wrote mid writes first left later n greatest status top old now next is_max
-      (subst (λ f. IfSome f (λ _. IfSome left (λ l. 0 < length l))) is some) taken (step sound clean)
 
   pub goes_end : (wrote writes first left : Option (List ℕ)) (n : ℕ) (greatest : Status) (old now : X) → IsAtEnd left → Goes wrote writes first left n greatest old now
       → IfSome first (λ text. Writes wrote writes (λ bytes. EachLine Answers 0 text old bytes greatest [] now))

@@ -1,6 +1,6 @@
 -- What is said of the lines of a shell at its end.
 use Rattle.std.proofs.Common.{◌≡◌, ◌⊎◌, ◌↔◌, inl, inr, ℕ, Bool, true, false, List, refl, subst, sym}
-use Rattle.std.specs.Prelude.{Option, Some, None, Result, Ok, Err, IfErr, IfSome}
+use Rattle.std.specs.Prelude.{⊤, Option, Some, None, Result, Ok, Err, IfErr, IfSome}
 use Rattle.std.specs.Io.KnownBytes.{Appends, IsAtEnd, Keeps}
 use Rattle.std.proofs.KnownBytes.{Keeps-refl}
 use Rattle.sqlite.specs.Held.{Held, state}
@@ -13,6 +13,7 @@ use Rattle.zeb_program.specs.Doing.{KeepsUnread, RunsText, ServesText, StopsText
 use Rattle.zeb_program.specs.FaultLines.{unread_lines}
 use Rattle.zeb_program.specs.InputCauses.{EndsInLine, is_failed_read}
 use Rattle.zeb_program.specs.OverTables.{LineOver}
+use Rattle.zeb_program.specs.PrivateShell.{ComesTo}
 use Rattle.zeb_program.specs.declared.line_input.InputCause.{InputCause}
 use Rattle.zeb_program.specs.declared.line_input.InputCause.TheVariants.{LongLine, FailedRead}
 use Rattle.zeb_program.specs.declared.line_input.LineFault.{LineFault}
@@ -104,19 +105,20 @@ module _ {S : Type 0} (g : Ghosts S) (told : List ℕ → Option (List ℕ)) (fo
   served_part cause (Some text) left failed old new wrote writes fault_old fault_new stops is grew = first_served cause stops is grew refl
 
 -- a line that can't be read, or isn't answered, by the fault that is given for it
-unread : {S : Type 0} (why : LineFault) (held : Held S) → KeepsUnread why held held
+pub unread : {S : Type 0} (why : LineFault) (held : Held S) → KeepsUnread why held held
 unread (Unreadable cause) held = refl
 unread Memory held = tt
 
-pub given_unread : {S T : Type 0} (r : Result T LineFault) (why : LineFault) (old new : Option (List ℕ)) (held : Held S) → IfErr r (λ given. given ≡ why) → IfSome old (λ left. EndsInLine 16777216 why left new)
-    → IfErr r (λ given. KeepsUnread given held held × IfSome old (λ left. EndsInLine 16777216 given left new))
-given_unread (Ok value) why old new held is ends = tt
-given_unread (Err given) why old new held is ends = (unread given held, subst (λ it. IfSome old (λ left. EndsInLine 16777216 it left new)) (sym is) ends)
+-- it is so of a fault that is given
+pub stops_line : (Line : Status → Type 0) (End : Type 0) (Stop : LineFault → Type 0) (r : Result (Option Status) LineFault) (why : LineFault) → r ≡ Err why → Stop why → ComesTo Line End Stop r
+stops_line Line End Stop r why is stop = subst (ComesTo Line End Stop) (sym is) stop
 
-pub given_stops : {S T : Type 0} (r : Result T LineFault) (old new : Option (List ℕ)) (held last : Held S) → IfErr r (λ given. given ≡ Memory) → IfSome old (λ left. EndsInLine 16777216 Memory left new)
-    → IfErr r (λ given. KeepsUnread given held last × IfSome old (λ left. EndsInLine 16777216 given left new))
-given_stops (Ok value) old new held last is ends = tt
-given_stops (Err given) old new held last is ends = subst (λ it. KeepsUnread it held last × IfSome old (λ left. EndsInLine 16777216 it left new)) (sym is) (tt, ends)
+-- and of a line that was found, or none
+pub found_line : (Line : Status → Type 0) (End : Type 0) (found : Option Status) (status : Status) → found ≡ Some status → ComesTo Line End (λ why. ⊤) (Ok found) → Line status
+found_line Line End found status is comes = subst (λ f. ComesTo Line End (λ why. ⊤) (Ok f)) is comes
+
+pub found_end : (Line : Status → Type 0) (End : Type 0) (found : Option Status) → found ≡ None → ComesTo Line End (λ why. ⊤) (Ok found) → End
+found_end Line End found is comes = subst (λ f. ComesTo Line End (λ why. ⊤) (Ok f)) is comes
 
 -- whether a read failed, by what is answered
 pub read_sound : {T : Type 0} (failed : Bool) (r : Result T LineFault) (value : T) → (r ≡ Err (Unreadable FailedRead)) ↔ (failed ≡ true) → r ≡ Ok value → failed ≡ false

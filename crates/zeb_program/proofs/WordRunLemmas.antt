@@ -7,8 +7,10 @@ use Rattle.std.specs.Io.KnownBytes.{Appends, Keeps}
 use Rattle.std.proofs.KnownBytes.{Appends-kept, Keeps-refl, Keeps-trans}
 use Rattle.sqlite.specs.Held.{Held, state}
 use Rattle.sqlite.specs.State.{HasCleanDisk, State}
+use Rattle.sqlite.specs.Store.{Ghosts}
 use Rattle.zeb_change.specs.Conditions.{Conditions}
 use Rattle.zeb_change.specs.declared.refusals.Refusal.{Refusal}
+use Rattle.zeb_change.specs.declared.refusals.Refusal.TheVariants as refusal
 use Rattle.zeb_engine.specs.declared.commands.Command.TheVariants.{Init}
 use Rattle.zeb_engine.specs.declared.replies.Reply.{Reply}
 use Rattle.zeb_engine.specs.Replies.{reply_text}
@@ -40,18 +42,19 @@ use Rattle.zeb_program.specs.PrivateFaults.{IsOpeningFault}
 use Rattle.zeb_program.specs.PrivateServing.{StandsFor}
 use Rattle.zeb_program.specs.Serving.{AnswersFrom, ServesTask}
 use Rattle.zeb_program.specs.PrivateWordRuns.{GivesClosed, GivesFor, IsOwnOr, OpensUnder, RunsIn, RunsOnNothing, ServesIn, ServesOnNothing, TakesStore, TellsDone}
-use Rattle.zeb_program.specs.Registers.{ClosesStore, FromStore, IsTakenOver, LacksStore, kept, none, Places}
+use Rattle.zeb_program.specs.Registers.{ClosesStore, FailsOpening, shut, given_back, FromStore, IsGivenBack, IsLetGo, IsTakenOver, LacksStore, kept, none, Places}
 use Rattle.zeb_program.specs.ScriptAnswers.{AnswersStopped, AreScriptConditions, RunsFromNothing}
 use Rattle.zeb_program.specs.TaskAnswers.{AnswersOn, AnswersTask, ReadsWhole, paths_of}
 use Rattle.zeb_program.specs.WordAnswers.{TellsApart, WarnsAtMost}
-use Rattle.zeb_program.specs.WordRuns.{IsInputFault, IsText, Performs, ReadsAt, RunsBatch, batch_stopped, batch_ran, RunsLines, on_store, in_memory, no_register, RunsShell, shell_stopped, shell_ran}
-use Rattle.zeb_program.specs.WordRuns.{ServesUnder, answered, starved, unopened, StopsOpening, StopsReading, not_opened, TellsClosed, TellsWhy, WritesReply}
+use Rattle.zeb_program.specs.WordRuns.{IsInputFault, IsText, Performs, ReadsAt, RunsBatch, batch_stopped, batch_ran, RunsLines, on_store, in_memory, no_memory, no_register, RunsShell, shell_stopped, shell_ran}
+use Rattle.zeb_program.specs.WordRuns.{ServesUnder, answered, starved, unopened, none_made, StopsOpening, StopsReading, not_opened, TellsClosed, TellsWhy, WritesReply}
 use Rattle.zeb_program.specs.declared.statuses.Status.{Status}
 use Rattle.zeb_program.specs.Statuses.{IsFaultStatus, closing_status}
 use Rattle.zeb_program.specs.declared.statuses.Status.TheVariants.{Answered, Failed}
 use Rattle.zeb_program.proofs.ScriptAnswerLemmas.{RunsFromNothing-kept, RunsText-kept, Writes-kept, silent_batch}
 use Rattle.zeb_program.proofs.ShellTextLemmas.{ServesText-kept}
 use Rattle.zeb_program.specs.Scripts.{BeginsRegister}
+use Rattle.zeb_program.proofs.ResultValues.{failing, second_same}
 
 -- ---- what is passed on stays what it was
 
@@ -112,6 +115,8 @@ RunsLines-kept at profile text old mid new fault_old fault_mid fault_new _ same 
     (TellsClosed-kept fault_old fault_mid fault_new closed fault_same closes)
 RunsLines-kept at profile text old mid new fault_old fault_mid fault_new status same fault_same (in_memory lacks unmade quiet opened) =
     in_memory lacks unmade (Keeps-trans fault_old fault_mid fault_new quiet fault_same) (RunsFromNothing-kept at.tells profile 0 text old mid new status same opened)
+RunsLines-kept at profile text old mid new fault_old fault_mid fault_new status same fault_same (no_memory {why = why} lacks unmade failure quiet tells) =
+    no_memory lacks unmade failure (Keeps-trans old mid new quiet same) (Writes-kept fault_old fault_mid fault_new (λ bytes. TellsFailure (fault.Refused why) bytes status) fault_same tells)
 RunsLines-kept at profile text old mid new fault_old fault_mid fault_new status same fault_same (no_register {why = why} failure quiet tells) =
     no_register failure (Keeps-trans old mid new quiet same) (Writes-kept fault_old fault_mid fault_new (λ bytes. TellsFailure (fault.Refused why) bytes status) fault_same tells)
 
@@ -179,7 +184,7 @@ closes_none (Ok told) P Q so h = (h.0, h.1, so (closing_status told.closed) (Ok 
 closes_none (Err failure) P Q so h = (Answered, so Answered (Err failure.fault) h)
 
 -- a register wasn't opened
-pub unopened_register : {S : Type 0} (at : Places S) (profile : List Directive) (task : Task) (closed : Status) (why : Fault) → IsOpeningFault why → ServesUnder at profile task closed (Err why)
+pub unopened_register : {S : Type 0} (at : Places S) (profile : List Directive) (task : Task) (closed : Status) (why : Fault) → IsOpeningFault at profile why → ServesUnder at profile task closed (Err why)
 unopened_register at profile task closed (fault.Refused why) is = unopened is
 unopened_register at profile task closed (fault.Profile file why) is = absurd is
 unopened_register at profile task closed (fault.Unreadable path) is = absurd is
@@ -189,7 +194,7 @@ unopened_register at profile task closed fault.Memory is = absurd is
 pub on_nothing : {S : Type 0} (at : Places S) (profile : List Directive) (task : Task) (closed : Status) (tells : List ℕ → Option (List ℕ)) (answer : Result Reply Fault) → tells ≡ at.tells → LacksStore at profile → ¬ (task ≡ Ask Init)
     → ServesOnNothing tells profile task answer → ServesUnder at profile task closed answer
 on_nothing at profile task closed tells answer same lacks other (inl h) = answered h.0 h.1 (none lacks other (h.2, subst (λ t. AnswersOn t h.0 task answer nothing_yet) same h.3))
-on_nothing at profile task closed tells answer same lacks other (inr h) = subst (ServesUnder at profile task closed) (sym h.2) (unopened h.1)
+on_nothing at profile task closed tells answer same lacks other (inr h) = subst (ServesUnder at profile task closed) (sym h.2) (none_made lacks other h.1)
 
 -- what is answered on what a connection keeps is the answer on it
 given_answer : (r : Result Reply Fault) (P Q : Result Reply Refusal → Type 0) → ((answer : Result Reply Refusal) → P answer → Q answer) → GivesAnswer P r → GivesAnswer Q r
@@ -291,7 +296,7 @@ stopped_on_nothing tells profile n text old failed (Err e) = λ _. silent_batch 
 nothing_run : {S : Type 0} (at : Places S) (profile : List Directive) (text : List ℕ) (old new fault_old fault_new : Option (List ℕ)) (status : Status) → LacksStore at profile → ¬ BeginsRegister text
     → RunsOnNothing at.tells profile 0 text old new fault_old fault_new status → RunsLines at profile text old new fault_old fault_new status
 nothing_run at profile text old new fault_old fault_new status lacks unmade (inl ran) = in_memory lacks unmade ran.1 ran.0
-nothing_run at profile text old new fault_old fault_new status lacks unmade (inr (why, is, same, told)) = no_register is same told
+nothing_run at profile text old new fault_old fault_new status lacks unmade (inr (why, is, same, told)) = no_memory lacks unmade is same told
 
 pub run_none : {S : Type 0} (at : Places S) (profile : List Directive) (text : List ℕ) (n : ℕ) (old new fault_old fault_new : Option (List ℕ)) (failed fault_failed : Bool) (r : Result Status AllocError)
     → n ≡ 0 → LacksStore at profile → ¬ BeginsRegister text → IfOk r (λ status. failed ≡ false → fault_failed ≡ false → RunsOnNothing at.tells profile n text old new fault_old fault_new status)
@@ -301,7 +306,7 @@ run_none at profile text n old new fault_old fault_new failed fault_failed (Ok s
     nothing_run at profile text old new fault_old fault_new status lacks unmade (subst (λ k. RunsOnNothing at.tells profile k text old new fault_old fault_new status) first (runs sound quiet))
 
 -- or none is opened
-pub run_unopened : {S : Type 0} (at : Places S) (profile : List Directive) (text : List ℕ) (old fault_old fault_new : Option (List ℕ)) (why : Fault) (failed fault_failed : Bool) (r : Result Status AllocError) → IsOpeningFault why
+pub run_unopened : {S : Type 0} (at : Places S) (profile : List Directive) (text : List ℕ) (old fault_old fault_new : Option (List ℕ)) (why : Fault) (failed fault_failed : Bool) (r : Result Status AllocError) → IsOpeningFault at profile why
     → IfOk r (λ status. fault_failed ≡ false → Writes fault_old fault_new (λ bytes. TellsFailure why bytes status))
     → IfOk r (λ status. failed ≡ false → fault_failed ≡ false → RunsLines at profile text old old fault_old fault_new status)
 run_unopened at profile text old fault_old fault_new why failed fault_failed (Err e) is tells = tt
@@ -327,7 +332,7 @@ batch_run at config given read_failed profile text old new fault_old fault_new f
 -- ---- a shell
 
 -- no register is opened for it
-pub stops_opening : {S : Type 0} (at : Places S) (config : String Global) (profile : List Directive) (why : Fault) → ReadsAt at config (Ok profile) → IsOpeningFault why → StopsOpening at config why
+pub stops_opening : {S : Type 0} (at : Places S) (config : String Global) (profile : List Directive) (why : Fault) → ReadsAt at config (Ok profile) → IsOpeningFault at profile why → StopsOpening at config why
 stops_opening at config profile (fault.Refused why) read is = not_opened profile read is
 stops_opening at config profile (fault.Profile file why) read is = absurd is
 stops_opening at config profile (fault.Unreadable path) read is = absurd is
@@ -367,13 +372,28 @@ pub taken_store : {S : Type 0} (at : Places S) (profile : List Directive) (path 
 taken_store at profile path (Ok connection) taken Never named opens keeps failed never = (connection, (path, named, opens), keeps)
 taken_store at profile path (Err why) taken Never named opens keeps failed never = absurd (never failed)
 
+-- or there is none, and what was opened, if it was, is let go
+pub fails_opening : {S : Type 0} (T : Type 0) (at : Places S) (profile : List Directive) (path : List ℕ) (opened : Result (Held S) OpenFailed) (back : Option (Held S)) (why : Refusal) → store_path profile ≡ Some path → IfOk opened (at.opens path)
+    → OnErr opened (at.refuses path) → OnErr opened (failing T (Option (Held S)) Refusal back why ≡ failing T (Option (Held S)) Refusal None refusal.Store)
+    → IfOk opened (λ connection. (left : Held S) × (back ≡ Some left) × IsGivenBack at.store connection left why) → IfSome back (IsLetGo at.store at.lets_go) → FailsOpening at profile why
+fails_opening T at profile path (Ok connection) back why named opens refuses lost given gone =
+    given_back connection given.0 (path, named, opens) given.2 (subst (λ b. IfSome b (IsLetGo at.store at.lets_go)) given.1 gone)
+fails_opening {S} T at profile path (Err failed) back why named opens refuses lost given gone =
+    subst (FailsOpening at profile) (sym (second_same T (Option (Held S)) Refusal back None why refusal.Store lost)) (shut path named refuses)
+
+-- of the store or of the memory
+pub fails_anyway : {S : Type 0} (T : Type 0) (opened : Result (Held S) OpenFailed) (g : Ghosts S) (back : Option (Held S)) (why : Refusal) → OnErr opened (failing T (Option (Held S)) Refusal back why ≡ failing T (Option (Held S)) Refusal None refusal.Store)
+    → IfOk opened (λ connection. (left : Held S) × (back ≡ Some left) × IsGivenBack g connection left why) → IsOpeningFailure why
+fails_anyway T (Ok connection) g back why lost given = given.2.0
+fails_anyway {S} T (Err failed) g back why lost given = inl (second_same T (Option (Held S)) Refusal back None why refusal.Store lost)
+
 -- under the profile in a file
 pub opens_under : {S B E : Type 0} (at : Places S) (config : String Global) (profile : List Directive) (r : Result B E) (held : B → Held S) (c : B → Conditions) → ReadsAt at config (Ok profile)
     → IfOk r (λ session. AreScriptConditions profile (c session)) → IfOk r (λ session. TakesStore at profile (held session)) → IfOk r (λ session. OpensUnder at config (c session) (held session))
 opens_under at config profile (Ok session) held c read under takes = (profile, read, under, takes)
 opens_under at config profile (Err failure) held c read under takes = tt
 
-pub stops_so : {S B : Type 0} (at : Places S) (config : String Global) (profile : List Directive) (r : Result B Failure) → ReadsAt at config (Ok profile) → IfErr r (λ failure. IsOpeningFault failure.fault) → IfErr r (λ failure. StopsOpening at config failure.fault)
+pub stops_so : {S B : Type 0} (at : Places S) (config : String Global) (profile : List Directive) (r : Result B Failure) → ReadsAt at config (Ok profile) → IfErr r (λ failure. IsOpeningFault at profile failure.fault) → IfErr r (λ failure. StopsOpening at config failure.fault)
 stops_so at config profile (Ok session) read failed = tt
 stops_so at config profile (Err failure) read failed = stops_opening at config profile failure.fault read failed
 

@@ -11,6 +11,7 @@ pub mod Errands
 pub mod FaultAnswers
 pub mod FaultLines
 pub mod PrivateAnalyses
+pub mod PrivateEnding
 pub mod PrivateErrands
 pub mod PrivateFaults
 pub mod PrivateFiles
@@ -26,6 +27,7 @@ pub mod Registers
 pub mod Scripts
 pub mod Statuses
 pub mod PrivateServing
+pub mod PrivateShell
 pub mod TaskAnswers
 pub mod Warnings
 pub mod PrivateWarnings

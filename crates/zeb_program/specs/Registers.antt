@@ -1,30 +1,49 @@
 -- On which register words have a command carried out: that in the store at the profile's path, or one in memory (this program's own).
-use Rattle.std.specs.Prelude.{◌≡◌, ℕ, List, Option, Some}
+use Rattle.std.specs.Prelude.{◌≡◌, ℕ, IsTrue, List, Option, Some}
 use Rattle.sqlite.specs.Held.{Held, state}
-use Rattle.sqlite.specs.State.{HasCleanDisk}
+use Rattle.sqlite.specs.State.{HasCleanDisk, State}
 use Rattle.sqlite.specs.Store.{Ghosts}
 use Rattle.sqlite_trees.specs.View.{IsQuiet}
+use Rattle.zeb_change.specs.declared.refusals.Refusal.{Refusal}
+use Rattle.zeb_change.specs.declared.refusals.Refusal.TheVariants.{Store}
 use Rattle.zeb_engine.specs.Crashes.{AdoptLasts, Bears}
+use Rattle.zeb_engine.specs.Taking.{GivesBack}
 use Rattle.zeb_engine.specs.Transactions.{IsDurable}
 use Rattle.zeb_image.specs.Holdings.{Holdings, nothing_yet}
 use Rattle.zeb_image.specs.Image.{Keeps}
 use Rattle.zeb_paths.specs.declared.causes.Closed.{Closed}
+use Rattle.zeb_paths.specs.Opened.{IsWellOpened}
 use Rattle.zeb_profile.specs.declared.directives.Directive.{Directive}
 use Rattle.zeb_profile.specs.Indexes.{store_path}
+use Rattle.zeb_register.specs.Store.{IsStore}
+use Rattle.zeb_register.specs.Tables.{store_schema}
+use Rattle.zeb_program.specs.FaultAnswers.{IsOpeningFailure}
 use Rattle.zeb_program.specs.Statuses.{closing_status}
 use Rattle.zeb_program.specs.declared.statuses.Status.{Status}
 
--- What is known of the paths that a program is given: the bytes of files, by which connections the store at a path may be opened, where none may
--- stand, and how one may be left at its path that was closed.
+-- What is known of the paths that a program is given: the bytes of files, by which connections the store at a path may be opened, where it may not
+-- be, where none may stand, which stores were let go, and how one may be left at its path that was closed.
 pub record Places (S : Type 0) : Type 1 where
   pub store : Ghosts S
   pub tells : List ℕ → Option (List ℕ)
   pub opens : List ℕ → Held S → Type 0
+  pub refuses : List ℕ → Type 0
   pub lacks : List ℕ → Type 0
+  pub lets_go : S → Type 0
   pub leaves : Closed → S → Type 0
 
-abbrev pub places : {S : Type 0} → Ghosts S → (List ℕ → Option (List ℕ)) → (List ℕ → Held S → Type 0) → (List ℕ → Type 0) → (Closed → S → Type 0) → Places S
-places store tells opens lacks leaves = record { store = store; tells = tells; opens = opens; lacks = lacks; leaves = leaves }
+-- the same of paths that were these and are those, by what paths tell
+abbrev pub places : {S P : Type 0} → Ghosts S → (P → List ℕ → Option (List ℕ)) → (P → P → List ℕ → Held S → Type 0) → (P → P → List ℕ → Type 0) → (P → List ℕ → Type 0) → (P → S → Type 0) → (P → Closed → S → Type 0)
+    → P → P → Places S
+places store tells opens refuses lacks lets_go leaves old new = record {
+  store = store;
+  tells = tells old;
+  opens = opens old new;
+  refuses = refuses old new;
+  lacks = lacks old;
+  lets_go = lets_go new;
+  leaves = leaves new;
+}
 
 -- the store at the path that the profile names may be opened by this connection
 abbrev pub OpensStore : {S : Type 0} → Places S → List Directive → Held S → Type 0
@@ -34,10 +53,30 @@ OpensStore at profile opened = (path : List ℕ) × (store_path profile ≡ Some
 abbrev pub LacksStore : {S : Type 0} → Places S → List Directive → Type 0
 LacksStore at profile = (path : List ℕ) × (store_path profile ≡ Some path) × at.lacks path
 
+-- it was opened well, and has the tables of a register
+abbrev pub IsOpenedRegister : State → Type 0
+IsOpenedRegister s = IsWellOpened s × (s.now.schema ≡ store_schema)
+
+-- A connection is let go with its store: an open finds then only what it found before.
+abbrev pub IsLetGo : {S : Type 0} → Ghosts S → (S → Type 0) → Held S → Type 0
+IsLetGo {S} g lets_go back = (left : S) × lets_go left × IsQuiet g.view g.faults g.recovers g.is_shielded back.store left
+
+-- A store isn't taken over for this failure: nothing of it has changed.
+abbrev pub IsGivenBack : {S : Type 0} → Ghosts S → Held S → Held S → Refusal → Type 0
+IsGivenBack g opened back why = IsOpeningFailure why × (HasCleanDisk (state g back) → GivesBack (state g opened) (state g back) why)
+
+-- Why there is no register in the store at the profile's path: it can't be opened; or it is opened, isn't taken over, and is let go.
+pub data FailsOpening {S : Type 0} (at : Places S) (profile : List Directive) : Refusal → Type 0 where
+  shut : (path : List ℕ) → store_path profile ≡ Some path → at.refuses path → FailsOpening at profile Store
+  given_back : {why : Refusal} → (opened : Held S) → (back : Held S) → OpensStore at profile opened → IsGivenBack at.store opened back why → IsLetGo at.store at.lets_go back
+      → FailsOpening at profile why
+
 -- A store is taken over.
 pub record IsTakenOver {S : Type 0} (g : Ghosts S) (opened taken : Held S) : Type 0 where
   -- each register that it bore is kept
   pub keeps : (before : Holdings) → Bears (state g opened) before → Keeps (state g taken) before
+  -- the tables of a register are in order, whatever rows they have; so what is said of a command on any tables is said of it
+  pub store : IsOpenedRegister (state g opened) → IsTrue (state g taken).is_open → IsStore (state g taken)
   -- a crash leaves what it left before, or the store of the register that was there
   pub lasts : AdoptLasts (state g opened) (state g taken)
 

@@ -1,5 +1,5 @@
 -- The statuses that the program ends with (this program's own): the status of a run is the greatest met.
-use Rattle.std.specs.Prelude.{◌≡◌, ◌⊎◌, ℕ, if◌then◌else◌}
+use Rattle.std.specs.Prelude.{◌≡◌, ◌⊎◌, ◌≤◌, ℕ, Bool, true, if◌then◌else◌}
 use Rattle.zeb_paths.specs.declared.causes.Closed.{Closed}
 use Rattle.zeb_change.specs.declared.refusals.Refusal.{Refusal}
 use Rattle.zeb_change.specs.declared.refusals.Refusal.TheVariants as refusal
@@ -14,6 +14,11 @@ status_code Answered = 0
 status_code Refused = 1
 status_code Misused = 2
 status_code Failed = 3
+
+-- a process ends with the number of a status, and with that of `Failed` where a read or a write failed
+abbrev pub ShowsFailures : (read_failed failed fault_failed : Bool) → ℕ → Type 0
+ShowsFailures read_failed failed fault_failed code =
+    (code ≤ status_code Failed) × (read_failed ≡ true → code ≡ status_code Failed) × (failed ≡ true → code ≡ status_code Failed) × (fault_failed ≡ true → code ≡ status_code Failed)
 
 -- a process that ends with this number ends with a status of which P is so
 abbrev pub EndsWith : ℕ → (Status → Type 0) → Type 0

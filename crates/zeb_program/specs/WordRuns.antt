@@ -22,7 +22,7 @@ use Rattle.zeb_program.specs.FaultAnswers.{IsOpeningFailure, NamesUnder}
 use Rattle.zeb_program.specs.FaultLines.{IsUnclosed, TellsFailure}
 use Rattle.zeb_program.specs.Inputs.{IsInput}
 use Rattle.zeb_program.specs.ProfileFiles.{ReadsProfile}
-use Rattle.zeb_program.specs.Registers.{FromStore, LacksStore, OnRegister, Places}
+use Rattle.zeb_program.specs.Registers.{FailsOpening, FromStore, LacksStore, OnRegister, Places}
 use Rattle.zeb_program.specs.ScriptAnswers.{AnswersStopped, AreScriptConditions, RunsFromNothing}
 use Rattle.zeb_program.specs.Scripts.{BeginsRegister}
 use Rattle.zeb_program.specs.Statuses.{greater}
@@ -46,7 +46,9 @@ pub data ServesUnder {S : Type 0} (at : Places S) (profile : List Directive) (ta
   -- or memory ran out for the program itself
   starved : ServesUnder at profile task closed (Err Memory)
   -- or why none is opened
-  unopened : {why : Refusal} → IsOpeningFailure why → ServesUnder at profile task closed (Err (Refused why))
+  unopened : {why : Refusal} → FailsOpening at profile why → ServesUnder at profile task closed (Err (Refused why))
+  -- or why none is made in memory, where none stands there and none is to be made
+  none_made : {why : Refusal} → LacksStore at profile → ¬ (task ≡ Ask Init) → IsOpeningFailure why → ServesUnder at profile task closed (Err (Refused why))
 
 -- what comes of a task by the profile in this file: no more than its fault, where it isn't read
 pub data Performs {S : Type 0} (at : Places S) (config : String Global) (task : Task) (closed : Status) : Result Reply Fault → Type 0 where
@@ -71,7 +73,7 @@ TellsClosed old new status = ((status ≡ Answered) × Keeps old new) ⊎ ((stat
 -- why no line is run: the profile isn't read, or no register is opened
 pub data StopsOpening {S : Type 0} (at : Places S) (config : String Global) : Fault → Type 0 where
   not_read : {fault : Fault} → ReadsAt at config (Err fault) → StopsOpening at config fault
-  not_opened : {why : Refusal} → (profile : List Directive) → ReadsAt at config (Ok profile) → IsOpeningFailure why → StopsOpening at config (Refused why)
+  not_opened : {why : Refusal} → (profile : List Directive) → ReadsAt at config (Ok profile) → FailsOpening at profile why → StopsOpening at config (Refused why)
 
 -- the fault of an input that can't be read: it is too long or no text, where it tells its bytes and no read failed
 abbrev pub IsInputFault : Option (List ℕ) → Bool → Fault → Type 0
@@ -94,7 +96,9 @@ pub data RunsLines {S : Type 0} (at : Places S) (profile : List Directive) (text
       → TellsClosed fault_old fault_new closed → RunsLines at profile text old new fault_old fault_new (greater answered closed)
   in_memory : {status : Status} → LacksStore at profile → ¬ BeginsRegister text → Keeps fault_old fault_new
       → RunsFromNothing at.tells profile 0 text old new status → RunsLines at profile text old new fault_old fault_new status
-  no_register : {why : Refusal} → {status : Status} → IsOpeningFailure why → Keeps old new → Writes fault_old fault_new (λ bytes. TellsFailure (Refused why) bytes status)
+  no_memory : {why : Refusal} → {status : Status} → LacksStore at profile → ¬ BeginsRegister text → IsOpeningFailure why → Keeps old new → Writes fault_old fault_new (λ bytes. TellsFailure (Refused why) bytes status)
+      → RunsLines at profile text old new fault_old fault_new status
+  no_register : {why : Refusal} → {status : Status} → FailsOpening at profile why → Keeps old new → Writes fault_old fault_new (λ bytes. TellsFailure (Refused why) bytes status)
       → RunsLines at profile text old new fault_old fault_new status
 
 -- what is written for a batch, and its status, where `failed` says whether a read of the input failed

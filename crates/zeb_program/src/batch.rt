@@ -149,10 +149,11 @@ pub fn run_line<S: Alter, L: Layout, P: Paths, W: Write>(
         (conditions (version_of L.format) session.old.profile session.old.limits) number line.now
         session.old.connection bytes status session.new.connection)) }
     ensures stopped { OnErr result (output.new ≡ output.old) }
-    ensures clean { HasCleanDisk (state S.Store session.new.connection)
-        → HasCleanDisk (state S.Store session.old.connection) }
-    ensures under { (session.new.profile ≡ session.old.profile)
-        × (session.new.limits ≡ session.old.limits) }
+    // The session stays under its profile and its limits, and its disk was clean where it is.
+    ensures stays { (session.new.profile ≡ session.old.profile)
+        × (session.new.limits ≡ session.old.limits)
+        × (HasCleanDisk (state S.Store session.new.connection)
+        → HasCleanDisk (state S.Store session.old.connection)) }
 {
     match Line::read(alloc, line)? {
         Line::Remark => Ok(Status::Answered),
@@ -183,10 +184,11 @@ fn run_command<S: Alter, L: Layout, W: Write>(
         session.old.limits) command.now (state S.Store session.old.connection) bytes status
         (state S.Store session.new.connection))) }
     ensures stopped { OnErr result (output.new ≡ output.old) }
-    ensures clean { HasCleanDisk (state S.Store session.new.connection)
-        → HasCleanDisk (state S.Store session.old.connection) }
-    ensures under { (session.new.profile ≡ session.old.profile)
-        × (session.new.limits ≡ session.old.limits) }
+    // The session stays under its profile and its limits, and its disk was clean where it is.
+    ensures stays { (session.new.profile ≡ session.old.profile)
+        × (session.new.limits ≡ session.old.limits)
+        × (HasCleanDisk (state S.Store session.new.connection)
+        → HasCleanDisk (state S.Store session.old.connection)) }
 {
     match session.command(command) {
         Ok(reply) => {

@@ -56,15 +56,15 @@ pub fn run_words<R: Source, W: Output, V: Write, P: Paths>(
     ensures failed_read { R.has_failed input.new ≡ true
         → IfOk result (λ status. status ≡ Status.Failed) }
     ensures answer { IfOk result (λ status. output.new.failed ≡ false
-        → fault_output.new.failed ≡ false → AnswersWords (places P.Store.Store (P.tells paths.old)
-        (P.opens paths.old paths.new) (P.lacks paths.old) (P.leaves paths.new))
+        → fault_output.new.failed ≡ false → AnswersWords (places P.Store.Store P.tells P.opens
+        P.refuses P.lacks P.lets_go P.leaves paths.old paths.new)
         (map string_bytes words.now)
         (R.remaining input.old) (R.remaining input.new) (R.has_failed input.new)
         (W.contents output.old.writer) (W.contents output.new.writer)
         (V.contents fault_output.old.writer) (V.contents fault_output.new.writer) status) }
     ensures stopped { OnErr result (output.new.failed ≡ false → fault_output.new.failed ≡ false
-        → StopsWords (places P.Store.Store (P.tells paths.old) (P.opens paths.old paths.new)
-        (P.lacks paths.old) (P.leaves paths.new)) (map string_bytes words.now)
+        → StopsWords (places P.Store.Store P.tells P.opens P.refuses P.lacks P.lets_go P.leaves
+        paths.old paths.new) (map string_bytes words.now)
         (R.remaining input.old)
         (R.remaining input.new) (W.contents output.old.writer) (W.contents output.new.writer)
         (V.contents fault_output.old.writer) (V.contents fault_output.new.writer)) }
@@ -126,8 +126,8 @@ fn run_task<W: Write, V: Write, P: Paths>(
     fault_output: &mut Sink<V>,
 ) -> Result<Status, AllocError>
     ensures apart { IfOk result (λ status. output.new.failed ≡ false
-        → fault_output.new.failed ≡ false → TellsApart (places P.Store.Store (P.tells paths.old)
-        (P.opens paths.old paths.new) (P.lacks paths.old) (P.leaves paths.new)) config task.now
+        → fault_output.new.failed ≡ false → TellsApart (places P.Store.Store P.tells P.opens
+        P.refuses P.lacks P.lets_go P.leaves paths.old paths.new) config task.now
         (W.contents output.old.writer)
         (W.contents output.new.writer) (V.contents fault_output.old.writer)
         (V.contents fault_output.new.writer) status) }
@@ -189,14 +189,14 @@ fn run_batch<R: Source, W: Write, V: Write, P: Paths>(
         → IfOk result (λ status. status ≡ Status.Failed) }
     ensures answer { IfOk result (λ status. output.new.failed ≡ false
         → fault_output.new.failed ≡ false
-        → RunsBatch (places P.Store.Store (P.tells paths.old) (P.opens paths.old paths.new)
-        (P.lacks paths.old) (P.leaves paths.new)) config (R.remaining input.old)
+        → RunsBatch (places P.Store.Store P.tells P.opens P.refuses P.lacks P.lets_go P.leaves
+        paths.old paths.new) config (R.remaining input.old)
         (R.has_failed input.new)
         (W.contents output.old.writer) (W.contents output.new.writer)
         (V.contents fault_output.old.writer) (V.contents fault_output.new.writer) status) }
     ensures stopped { OnErr result (output.new.failed ≡ false → fault_output.new.failed ≡ false
-        → StopsBatch (places P.Store.Store (P.tells paths.old) (P.opens paths.old paths.new)
-        (P.lacks paths.old) (P.leaves paths.new)) config (R.remaining input.old)
+        → StopsBatch (places P.Store.Store P.tells P.opens P.refuses P.lacks P.lets_go P.leaves
+        paths.old paths.new) config (R.remaining input.old)
         (W.contents output.old.writer)
         (W.contents output.new.writer) (V.contents fault_output.old.writer)
         (V.contents fault_output.new.writer)) }
@@ -228,9 +228,8 @@ fn begin_batch<R: Source, P: Paths>(
     ensures begun { IfOk result (λ begun. ReadsProfile (P.tells paths.now (string_bytes config))
         config (Ok begun.0) × IsText (R.remaining input.old) (string_bytes begun.1)) }
     ensures refused { IfErr result
-        (λ failure. StopsReading (places P.Store.Store (P.tells paths.now)
-        (P.opens paths.now paths.now)
-        (P.lacks paths.now) (P.leaves paths.now)) config (R.remaining input.old)
+        (λ failure. StopsReading (places P.Store.Store P.tells P.opens P.refuses P.lacks
+        P.lets_go P.leaves paths.now paths.now) config (R.remaining input.old)
         (R.has_failed input.new)
         failure.fault) }
 {
@@ -259,14 +258,14 @@ fn serve_batch<W: Write, V: Write, P: Paths>(
 ) -> Result<Status, AllocError>
     ensures answer { batch.entry.lines_before ≡ 0 → IfOk result (λ status. output.new.failed ≡ false
         → fault_output.new.failed ≡ false
-        → RunsLines (places P.Store.Store (P.tells paths.old) (P.opens paths.old paths.new)
-        (P.lacks paths.old) (P.leaves paths.new)) profile batch.entry.text.now
+        → RunsLines (places P.Store.Store P.tells P.opens P.refuses P.lacks P.lets_go P.leaves
+        paths.old paths.new) profile batch.entry.text.now
         (W.contents output.old.writer)
         (W.contents output.new.writer) (V.contents fault_output.old.writer)
         (V.contents fault_output.new.writer) status) }
     ensures stopped { batch.entry.lines_before ≡ 0 → OnErr result (output.new.failed ≡ false
-        → fault_output.new.failed ≡ false → StopsLines (places P.Store.Store (P.tells paths.old)
-        (P.opens paths.old paths.new) (P.lacks paths.old) (P.leaves paths.new)) profile
+        → fault_output.new.failed ≡ false → StopsLines (places P.Store.Store P.tells P.opens
+        P.refuses P.lacks P.lets_go P.leaves paths.old paths.new) profile
         batch.entry.text.now
         (W.contents output.old.writer) (W.contents output.new.writer)
         (V.contents fault_output.old.writer) (V.contents fault_output.new.writer)) }
@@ -324,14 +323,14 @@ fn run_shell<R: Source, W: Output, V: Write, P: Paths>(
         ⊎ (output.new ≡ output.old)) }
     ensures answer { IfOk result (λ status. output.new.failed ≡ false
         → fault_output.new.failed ≡ false
-        → RunsShell (places P.Store.Store (P.tells paths.old) (P.opens paths.old paths.new)
-        (P.lacks paths.old) (P.leaves paths.new)) config (R.remaining input.old)
+        → RunsShell (places P.Store.Store P.tells P.opens P.refuses P.lacks P.lets_go P.leaves
+        paths.old paths.new) config (R.remaining input.old)
         (R.remaining input.new)
         (R.has_failed input.new) (W.contents output.old.writer) (W.contents output.new.writer)
         (V.contents fault_output.old.writer) (V.contents fault_output.new.writer) status) }
     ensures stopped { OnErr result (output.new.failed ≡ false → fault_output.new.failed ≡ false
-        → StopsShell (places P.Store.Store (P.tells paths.old) (P.opens paths.old paths.new)
-        (P.lacks paths.old) (P.leaves paths.new)) config (R.remaining input.old)
+        → StopsShell (places P.Store.Store P.tells P.opens P.refuses P.lacks P.lets_go P.leaves
+        paths.old paths.new) config (R.remaining input.old)
         (R.remaining input.new)
         (W.contents output.old.writer) (W.contents output.new.writer)
         (V.contents fault_output.old.writer) (V.contents fault_output.new.writer)) }
@@ -399,15 +398,13 @@ fn open<P: Paths>(
     paths: &mut P,
 ) -> Result<Session<P::Store, Blocks>, Failure>
     ensures opened { IfOk result
-        (λ session. OpensUnder (places P.Store.Store (P.tells paths.old)
-        (P.opens paths.old paths.new)
-        (P.lacks paths.old) (P.leaves paths.new)) config
+        (λ session. OpensUnder (places P.Store.Store P.tells P.opens P.refuses P.lacks P.lets_go
+        P.leaves paths.old paths.new) config
         (conditions (version_of packed_blocks) session.profile
         session.limits) session.connection) }
     ensures failed { IfErr result
-        (λ failure. StopsOpening (places P.Store.Store (P.tells paths.old)
-        (P.opens paths.old paths.new)
-        (P.lacks paths.old) (P.leaves paths.new)) config failure.fault) }
+        (λ failure. StopsOpening (places P.Store.Store P.tells P.opens P.refuses P.lacks
+        P.lets_go P.leaves paths.old paths.new) config failure.fault) }
     ensures told { P.tells paths.new ≡ P.tells paths.old }
 {
     let profile = profile_at(alloc, paths, config)?;

@@ -5,7 +5,7 @@ ghost use Rattle.std.specs.Option.{option_map};
 ghost use Rattle.zeb_program.specs.Answers.{Writes};
 ghost use Rattle.zeb_program.specs.FaultLines.{IsCauseOf, IsUnclosed, TellsFailure, cause_line, cause_lines, unclosed_lines, unread_lines};
 ghost use Rattle.zeb_program.specs.declared.failures.Cause.TheVariants.{Path as PathOf, Store as StoreOf};
-ghost use Rattle.zeb_program.specs.PrivateFaults.{IsUnread};
+ghost use Rattle.zeb_program.specs.PrivateFaults.{IsUnread, refusal_cause};
 ghost use Rattle.zeb_program.specs.Statuses.{IsFaultStatus, closing_status};
 ghost use Rattle.zeb_program.specs.declared.faults.Fault.TheVariants.{Memory, Refused};
 ghost use Rattle.std.specs.Io.KnownBytes.{Appends};
@@ -65,7 +65,8 @@ impl From<Refusal> for Failure {
 
 /// A fault, with what its path is met with where it is looked at anew.
 pub fn of_path<P: Paths>(paths: &P, fault: Fault) -> Failure
-    ensures { result.fault ≡ fault }
+    ensures fault { result.fault ≡ fault }
+    ensures cause { (met : _) × (result.cause ≡ option_map PathOf met) }
 {
     let cause = match &fault {
         Fault::Unreadable(path) => path_cause(paths.why_unread(path.as_str())),
@@ -90,7 +91,8 @@ fn store_cause(met: Option<StoreCause>) -> Option<Cause>
 
 /// A refusal; of a failed store the cause is this one.
 pub fn of_store(refusal: Refusal, cause: Option<StoreCause>) -> Failure
-    ensures { result.fault ≡ Refused refusal }
+    ensures fault { result.fault ≡ Refused refusal }
+    ensures cause { result.cause ≡ refusal_cause refusal cause }
 {
     let cause = match refusal {
         Refusal::Store => store_cause(cause),

@@ -1,11 +1,10 @@
 //! The files at the paths that words or a line name.
 
 ghost use Rattle.std.specs.Prelude.{◌≡◌, ◌+◌, ℕ, List, Some, Ok, map, string_bytes, Err, IfErr, IfOk, IfSome, false, true};
-ghost use Rattle.zeb_paths.specs.Walks.{IsUnder};
+ghost use Rattle.zeb_paths.specs.Walks.{telling};
 ghost use Rattle.zeb_program.specs.Inputs.{TakesAtMost};
-ghost use Rattle.zeb_program.specs.FaultAnswers.{NamesUnder, NamesUntold};
-ghost use Rattle.zeb_program.specs.PrivateFaults.{IsUnread};
-ghost use Rattle.zeb_program.specs.PrivateFiles.{ReadsContent, sure_bytes};
+ghost use Rattle.zeb_program.specs.PrivateFaults.{IsNth, IsUnfound, IsUnread};
+ghost use Rattle.zeb_program.specs.PrivateFiles.{ReadsBelow, ReadsContent, sure_bytes};
 ghost use Rattle.zeb_program.specs.ProfileFiles.{ReadsProfile};
 ghost use Rattle.zeb_program.specs.TaskAnswers.{AreTold};
 ghost use Rattle.zeb_program.specs.declared.faults.Fault.TheVariants.{Memory, Unreadable};
@@ -72,9 +71,11 @@ pub fn readers_of<P: Paths>(
         map (sure_bytes P.Reader.remaining P.Reader.may_fail P.Reader.has_failed) readers.items ≡ map Some files) }
     ensures memory { (files : List (List ℕ)) → AreTold (P.tells paths.now) (map string_bytes named.now) files
         → IfErr result (λ fault. fault ≡ Memory) }
-    ensures untold { IfErr result (NamesUntold (P.tells paths.now)) }
-    ensures unread { IfErr result IsUnread }
-    ensures under { IfErr result (NamesUnder (map string_bytes named.now)) }
+    // Of folders too, as far as the paths tell what stands in them.
+    ensures given { IfOk result (λ readers. ReadsBelow P.Reader.remaining
+        (telling (P.tells paths.now) (P.stands paths.now) (P.lists paths.now))
+        (map string_bytes named.now) readers.items) }
+    ensures unfound { IfErr result (IsUnfound (P.tells paths.now) (map string_bytes named.now)) }
 {
     let mut readers = Vec::new(alloc);
     let mut walk = Walk::new(alloc, paths, named)?;
@@ -91,13 +92,17 @@ pub fn path_of_file<P: Paths>(
     named: &[String],
     number: u64,
 ) -> Option<String>
-    ensures { IfSome result (λ path. IsUnder (map string_bytes named.now) (string_bytes path)) }
+    ensures { IfSome result (IsNth
+        (telling (P.tells paths.now) (P.stands paths.now) (P.lists paths.now))
+        (map string_bytes named.now) number) }
 {
     let Ok(mut walk) = Walk::new(alloc, paths, named) else {
         return None;
     };
-    for _ in 1..number {
-        let _passed = given(walk.next_file())?;
+    for _nth in 1..number {
+        let Some(_passed) = given(walk.next_file()) else {
+            return None;
+        };
     }
     given(walk.next_file())
 }

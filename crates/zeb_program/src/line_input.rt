@@ -1,10 +1,9 @@
 //! Reading a source line by line.
 
-ghost use Rattle.std.specs.Prelude.{◌≡◌, ◌↔◌, ◌≤◌, ◌+◌, true, false, IfErr, IfOk, IfSome, []};
-ghost use Rattle.std.specs.Io.KnownBytes.{Consumes, IsAtEnd};
+ghost use Rattle.std.specs.Prelude.{◌≡◌, ◌↔◌, ◌≤◌, ◌+◌, true, false, IfErr, IfOk, IfSome};
 ghost use Rattle.zeb_program.specs.InputCauses.{EndsInLine};
 ghost use Rattle.zeb_program.specs.Inputs.{TakesAtMost};
-ghost use Rattle.zeb_program.specs.PrivateLines.{whole_first_line};
+ghost use Rattle.zeb_program.specs.PrivateLines.{ReadsLine};
 ghost use Rattle.zeb_program.specs.declared.line_input.InputCause.TheVariants.{FailedRead};
 ghost use Rattle.zeb_program.specs.declared.line_input.LineFault.TheVariants.{Unreadable, Memory};
 
@@ -71,9 +70,7 @@ pub fn read_line<R: Source>(
 ) -> Result<Vec<u8>, LineFault>
     requires sound { R.has_failed source.old ≡ false }
     requires bounded { most ≤ GREATEST_INPUT }
-    ensures line { IfOk result (λ line. IfSome (R.remaining source.old) (λ left. line.items ≡ whole_first_line left)) }
-    ensures taken { IfOk result (λ line. Consumes (R.remaining source.old) (R.remaining source.new) line.items) }
-    ensures end { IfOk result (λ line. line.items ≡ [] → IsAtEnd (R.remaining source.new)) }
+    ensures read { IfOk result (λ line. ReadsLine (R.remaining source.old) (R.remaining source.new) line.items) }
     ensures sound { IfOk result (λ _. R.has_failed source.new ≡ false) }
     // A source that tells its bytes is refused only for a line that is too long, for a read that failed, or for memory.
     ensures stops { IfErr result (λ fault. IfSome (R.remaining source.old)

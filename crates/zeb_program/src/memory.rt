@@ -36,7 +36,10 @@ pub fn session_in_memory(
         (conditions (version_of packed_blocks) session.profile session.limits)) }
     ensures failed { IfErr result IsOpeningFailure }
 {
-    session_over(alloc, open_in_memory(alloc), profile)
+    match session_over(alloc, open_in_memory(alloc), profile) {
+        Ok(session) => Ok(session),
+        Err((_, refusal)) => Err(refusal),
+    }
 }
 
 /// Opens a store over two new files in memory: it has no table. It fails where memory runs out.

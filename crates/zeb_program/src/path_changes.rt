@@ -70,10 +70,11 @@ pub fn run_path_change<S: Alter, L: Layout, P: Paths, W: Write>(
         (state S.Store session.old.connection) bytes status
         (state S.Store session.new.connection))) }
     ensures stopped { OnErr result (output.new ≡ output.old) }
-    ensures clean { HasCleanDisk (state S.Store session.new.connection)
-        → HasCleanDisk (state S.Store session.old.connection) }
-    ensures under { (session.new.profile ≡ session.old.profile)
-        × (session.new.limits ≡ session.old.limits) }
+    // The session stays under its profile and its limits, and its disk was clean where it is.
+    ensures stays { (session.new.profile ≡ session.old.profile)
+        × (session.new.limits ≡ session.old.limits)
+        × (HasCleanDisk (state S.Store session.new.connection)
+        → HasCleanDisk (state S.Store session.old.connection)) }
 {
     let named = slice::from_ref(&change.path);
     match change_by_paths(alloc, session, paths, change.kind, &change.database, named) {

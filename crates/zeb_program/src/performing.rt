@@ -1,11 +1,13 @@
 //! A task from the words to what is told of it: the register is opened, the task is carried out, and the register is closed.
 
-ghost use Rattle.std.specs.Prelude.{◌≡◌, IfErr, IfOk, IfSome, Result, string_bytes};
+ghost use Rattle.std.specs.Prelude.{◌≡◌, ◌≢◌, [], IfErr, IfOk, IfSome, None, Result, Some, string_bytes};
+ghost use Rattle.sqlite.specs.Held.{state};
+ghost use Rattle.zeb_paths.specs.Walks.{telling};
 ghost use Rattle.zeb_engine.specs.declared.replies.Reply.{Reply};
 ghost use Rattle.zeb_program.specs.PrivateServing.{StandsFor};
 ghost use Rattle.zeb_program.specs.PrivateWordRuns.{GivesClosed, GivesFor, IsOwnOr, ServesOnNothing, TakesStore, fault_given};
 ghost use Rattle.zeb_program.specs.ProfileFiles.{ReadsProfile};
-ghost use Rattle.zeb_program.specs.Registers.{ClosesStore, places};
+ghost use Rattle.zeb_program.specs.Registers.{ClosesStore, IsLetGo, places};
 ghost use Rattle.zeb_program.specs.Statuses.{closing_status};
 ghost use Rattle.zeb_program.specs.TaskAnswers.{paths_of};
 ghost use Rattle.zeb_program.specs.WordRuns.{Performs, ServesUnder};
@@ -13,7 +15,7 @@ ghost use Rattle.std.specs.Option.{option_map};
 ghost use Rattle.zeb_change.specs.Conditions.{conditions};
 ghost use Rattle.zeb_register.specs.Formats.{packed_blocks, version_of};
 ghost use Rattle.zeb_program.specs.FaultLines.{file_in};
-ghost use Rattle.zeb_program.specs.PrivateFaults.{IsFileOf, IsOpeningFault};
+ghost use Rattle.zeb_program.specs.PrivateFaults.{IsFileOf, IsOpeningFault, NamesItsFile};
 ghost use Rattle.zeb_program.specs.ScriptAnswers.{AreScriptConditions};
 ghost use Rattle.zeb_program.specs.PrivateWarnings as spec;
 ghost use Rattle.zeb_program.specs.declared.faults.Fault.{Fault};
@@ -54,8 +56,8 @@ pub fn perform<P: Paths>(
     ensures warns { IfOk result
         (λ told. spec.MayWarn task.now (option_map string_bytes told.warning)) }
     ensures performs { GivesClosed result
-        (Performs (places P.Store.Store (P.tells paths.old) (P.opens paths.old paths.new)
-        (P.lacks paths.old) (P.leaves paths.new))
+        (Performs (places P.Store.Store P.tells P.opens P.refuses P.lacks P.lets_go P.leaves
+        paths.old paths.new)
         config task.now) }
 {
     let profile = profile_at(alloc, paths, config)?;
@@ -75,8 +77,8 @@ fn perform_in_register<P: Paths>(
     ensures warns { IfOk result
         (λ told. spec.MayWarn task.now (option_map string_bytes told.warning)) }
     ensures serves { GivesClosed result
-        (ServesUnder (places P.Store.Store (P.tells paths.old) (P.opens paths.old paths.new)
-        (P.lacks paths.old) (P.leaves paths.new)) profile task.now) }
+        (ServesUnder (places P.Store.Store P.tells P.opens P.refuses P.lacks P.lets_go P.leaves
+        paths.old paths.new) profile task.now) }
 {
     let mut session = open_register(alloc, paths, profile)?;
     let served = carry_out(alloc, &mut session, paths, task);
@@ -140,7 +142,10 @@ fn explained<P: Paths>(
     fault: Fault,
     closed: Closed,
 ) -> Failure
-    ensures { result.fault ≡ fault }
+    ensures fault { result.fault ≡ fault }
+    ensures names { IfSome result.cause (NamesItsFile
+        (telling (P.tells paths.now) (P.stands paths.now) (P.lists paths.now))
+        (paths_of task.now)) }
 {
     match fault {
         Fault::Refused(refusal) => match file_of(&refusal) {
@@ -168,7 +173,9 @@ fn file_of(refusal: &Refusal) -> Option<u64>
 
 /// The path of a task's file of this number, where it is found again.
 fn file_cause<P: Paths>(alloc: Global, paths: &P, task: &Task, number: u64) -> Option<Cause>
-    ensures { IfSome result (IsFileOf (paths_of task.now) number) }
+    ensures { IfSome result (IsFileOf
+        (telling (P.tells paths.now) (P.stands paths.now) (P.lists paths.now)) (paths_of task.now)
+        number) }
 {
     let path = path_of_file(alloc, paths, task.named(), number)?;
     Some(Cause::File { number, path })
@@ -190,25 +197,44 @@ pub fn open_register<P: Paths>(
     paths: &mut P,
     profile: Profile,
 ) -> Result<Session<P::Store, Blocks>, Failure>
-    ensures failed { IfErr result (λ failure. IsOpeningFault failure.fault) }
+    ensures failed { IfErr result (λ failure. IsOpeningFault
+        (places P.Store.Store P.tells P.opens P.refuses P.lacks P.lets_go P.leaves paths.old
+        paths.new) profile failure.fault) }
     ensures under { IfOk result (λ session. AreScriptConditions profile
         (conditions (version_of packed_blocks) session.profile session.limits)) }
     ensures opened { IfOk result
-        (λ session. TakesStore (places P.Store.Store (P.tells paths.old)
-        (P.opens paths.old paths.new)
-        (P.lacks paths.old) (P.leaves paths.new)) profile session.connection) }
+        (λ session. TakesStore (places P.Store.Store P.tells P.opens P.refuses P.lacks P.lets_go
+        P.leaves paths.old paths.new) profile session.connection) }
     ensures told { P.tells paths.new ≡ P.tells paths.old }
 {
     let opened = paths.store(profile.store_path());
     let cause = opening_cause(&opened);
     match session_over(alloc, opened, profile) {
         Ok(session) => Ok(session),
-        Err(refusal) => Err(of_store(refusal, cause)),
+        Err((back, refusal)) => {
+            let_go(paths, back);
+            Err(of_store(refusal, cause))
+        }
+    }
+}
+
+/// Ends a connection over which there is no session, where there is one.
+fn let_go<P: Paths>(paths: &P, back: Option<Connection<P::Store>>)
+    ensures { IfSome back (IsLetGo P.Store.Store (P.lets_go paths.now)) }
+{
+    if let Some(connection) = back {
+        paths.let_go(connection.into_store());
     }
 }
 
 /// Why there would be no register over what was opened: it wasn't, or it has other tables.
-fn opening_cause<S: Alter>(opened: &Result<Connection<S>, OpenFailed>) -> Option<StoreCause> {
+fn opening_cause<S: Alter>(opened: &Result<Connection<S>, OpenFailed>) -> Option<StoreCause>
+    ensures bare { IfOk opened.now (λ connection. (state S.Store connection).now.schema.tables ≡ []
+        → result ≡ None) }
+    ensures other { IfOk opened.now (λ connection. (state S.Store connection).now.schema.tables ≢ []
+        → result ≡ Some StoreCause.Foreign) }
+    ensures failed { IfErr opened.now (λ failed. result ≡ failed.cause) }
+{
     match opened {
         Ok(connection) if connection.schema().tables.is_empty() => None,
         Ok(_) => Some(StoreCause::Foreign),

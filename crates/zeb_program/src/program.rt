@@ -1,11 +1,12 @@
 //! The program without its outside: words and input come in, output and a status go out.
 
-ghost use Rattle.std.specs.Prelude.{◌≡◌, ◌≢◌, ◌⊎◌, ◌≤◌, ◌+◌, [], true, false, map, string_bytes, IfOk, IfSome, OnErr};
+ghost use Rattle.std.specs.Prelude.{◌≡◌, ◌≢◌, ◌⊎◌, ◌+◌, [], true, false, map, string_bytes, IfOk, IfSome, OnErr};
 ghost use Rattle.std.specs.Io.KnownBytes.{Appends, Keeps};
 ghost use Rattle.zeb_program.specs.Inputs.{TakesAtMost};
 ghost use Rattle.zeb_program.specs.Registers.{places};
 ghost use Rattle.zeb_program.specs.ScriptAnswers.{AnswersScript, EndsEarly, EndsScript, fault_line};
-ghost use Rattle.zeb_program.specs.Statuses.{EndsWith, fault_status, status_code};
+ghost use Rattle.zeb_program.specs.PrivateEnding.{IsLastStatus, PassesOn};
+ghost use Rattle.zeb_program.specs.Statuses.{EndsWith, ShowsFailures, fault_status};
 ghost use Rattle.zeb_program.specs.WordAnswers.{EndsWords, NamesLines, NamesNothing, NamesShell};
 
 use crate::batch::run_in_memory;
@@ -47,42 +48,36 @@ pub fn run<R: Source, W: Output, V: Output, P: Paths>(
     files: &mut P,
 ) -> u8
     requires { R.has_failed input.old ≡ false }
-    ensures range { result ≤ status_code Status.Failed }
+    // A failed read of the input, and a failed write, show in the status.
+    ensures status { ShowsFailures (R.has_failed input.new) output.new.failed
+        fault_output.new.failed result }
 
     // However long the input is, and whatever the answer, but for a shell. Words leave it alone, but where they name a batch or a shell.
-    ensures bounded { ¬ NamesShell (map string_bytes words.now) →
-        TakesAtMost (GREATEST_INPUT + 1) (R.remaining input.old) (R.remaining input.new) }
-    ensures unread { words.now ≢ [] → ¬ NamesLines (map string_bytes words.now)
-        → input.new ≡ input.old }
+    ensures input { (¬ NamesShell (map string_bytes words.now)
+        → TakesAtMost (GREATEST_INPUT + 1) (R.remaining input.old) (R.remaining input.new))
+        × (words.now ≢ [] → ¬ NamesLines (map string_bytes words.now) → input.new ≡ input.old) }
 
     // No store is opened without a word, nor for words that name no command.
-    ensures kept { words.now ≡ [] → files.new ≡ files.old }
-    ensures untouched { NamesNothing (map string_bytes words.now) → files.new ≡ files.old }
-
-    // A failed read of the input, and a failed write, show in the status.
-    ensures failed_read { R.has_failed input.new ≡ true → result ≡ status_code Status.Failed }
-    ensures failed_write { output.new.failed ≡ true → result ≡ status_code Status.Failed }
-    ensures failed_fault { fault_output.new.failed ≡ true → result ≡ status_code Status.Failed }
+    ensures untouched { (words.now ≡ []) ⊎ NamesNothing (map string_bytes words.now)
+        → files.new ≡ files.old }
 
     // Where no write has failed, nothing of what was written is held back.
-    ensures passed { output.new.failed ≡ false → W.held_back output.new.writer ≡ [] }
-    ensures passed_fault { fault_output.new.failed ≡ false
-        → V.held_back fault_output.new.writer ≡ [] }
+    ensures passed { (output.new.failed ≡ false → W.held_back output.new.writer ≡ [])
+        × (fault_output.new.failed ≡ false → V.held_back fault_output.new.writer ≡ []) }
 
-    // Without a word: what is written, where the input tells its bytes and neither a read nor a write failed. The answers of lines are
-    // told where the paths tell the bytes of each file that a line names by its path.
-    ensures script { words.now ≡ [] → R.has_failed input.new ≡ false → output.new.failed ≡ false
-        → fault_output.new.failed ≡ false → IfSome (R.remaining input.old)
-        (λ text. EndsWith result (EndsScript (P.tells files.old) text (W.contents output.old.writer)
-        (W.contents output.new.writer))) }
-    ensures quiet { words.now ≡ [] → fault_output.new.failed ≡ false →
-        Keeps (V.contents fault_output.old.writer) (V.contents fault_output.new.writer) }
+    // Without a word: what is written, where the input tells its bytes and neither a read nor a write failed, and that nothing goes to
+    // the fault output. The answers of lines are told where the paths tell the bytes of each file that a line names by its path.
+    ensures script { words.now ≡ [] → fault_output.new.failed ≡ false
+        → Keeps (V.contents fault_output.old.writer) (V.contents fault_output.new.writer)
+        × (R.has_failed input.new ≡ false → output.new.failed ≡ false
+        → IfSome (R.remaining input.old) (λ text. EndsWith result
+        (EndsScript (P.tells files.old) text (W.contents output.old.writer)
+        (W.contents output.new.writer)))) }
 
     // With words: what is told of the register that they have a command carried out on is told where the paths tell what opens it.
     ensures words { words.now ≢ [] → output.new.failed ≡ false → fault_output.new.failed ≡ false
-        → EndsWith result (EndsWords (places P.Store.Store (P.tells files.old)
-        (P.opens files.old files.new)
-        (P.lacks files.old) (P.leaves files.new)) (map string_bytes words.now)
+        → EndsWith result (EndsWords (places P.Store.Store P.tells P.opens P.refuses P.lacks
+        P.lets_go P.leaves files.old files.new) (map string_bytes words.now)
         (R.remaining input.old)
         (R.remaining input.new) (R.has_failed input.new) (W.contents output.old.writer)
         (W.contents output.new.writer) (V.contents fault_output.old.writer)
@@ -104,19 +99,13 @@ fn finish<W: Output, V: Output>(
     output: &mut Sink<W>,
     fault_output: &mut Sink<V>,
 ) -> Status
-    ensures either { (result ≡ status) ⊎ (result ≡ Status.Failed) }
-    ensures status { output.new.failed ≡ false → fault_output.new.failed ≡ false → result ≡ status }
-    ensures failed_write { output.new.failed ≡ true → result ≡ Status.Failed }
-    ensures failed_fault { fault_output.new.failed ≡ true → result ≡ Status.Failed }
-    ensures sound { output.new.failed ≡ false → output.old.failed ≡ false }
-    ensures sound_fault { fault_output.new.failed ≡ false → fault_output.old.failed ≡ false }
-    ensures passed { output.new.failed ≡ false → W.held_back output.new.writer ≡ [] }
-    ensures passed_fault { fault_output.new.failed ≡ false
-        → V.held_back fault_output.new.writer ≡ [] }
-    ensures bytes { output.new.failed ≡ false → Keeps (W.contents output.old.writer)
+    ensures status { IsLastStatus output.new.failed fault_output.new.failed status result }
+    ensures passed { output.new.failed ≡ false → PassesOn output.old.failed
+        (W.held_back output.new.writer) (W.contents output.old.writer)
         (W.contents output.new.writer) }
-    ensures bytes_fault { fault_output.new.failed ≡ false →
-        Keeps (V.contents fault_output.old.writer) (V.contents fault_output.new.writer) }
+    ensures passed_fault { fault_output.new.failed ≡ false → PassesOn fault_output.old.failed
+        (V.held_back fault_output.new.writer) (V.contents fault_output.old.writer)
+        (V.contents fault_output.new.writer) }
 {
     output.flush();
     fault_output.flush();

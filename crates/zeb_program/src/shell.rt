@@ -1,17 +1,16 @@
 //! A shell: the lines of the input in one session, each answered before the next is read.
 
-ghost use Rattle.std.specs.Prelude.{◌≡◌, ◌≢◌, ◌⊎◌, ◌↔◌, ◌<◌, [], length, true, false, Some, IfErr, IfOk, IfNone, IfSome, OnErr};
-ghost use Rattle.std.specs.Io.KnownBytes.{Consumes, IsAtEnd};
+ghost use Rattle.std.specs.Prelude.{◌≡◌, ◌≢◌, ◌⊎◌, ◌↔◌, [], true, false, IfErr, IfOk, IfSome, OnErr};
+ghost use Rattle.std.specs.Io.KnownBytes.{IsAtEnd};
 ghost use Rattle.sqlite.specs.Held.{state};
 ghost use Rattle.sqlite.specs.State.{HasCleanDisk};
 ghost use Rattle.zeb_change.specs.Conditions.{conditions};
 ghost use Rattle.zeb_register.specs.Formats.{version_of};
 ghost use Rattle.zeb_program.specs.Answers.{AnswersAsTold, Writes};
-ghost use Rattle.zeb_program.specs.Doing.{KeepsUnread, RunsText, ServesText, StopsText};
-ghost use Rattle.zeb_program.specs.InputCauses.{EndsInLine};
+ghost use Rattle.zeb_program.specs.Doing.{RunsText, ServesText, StopsText};
 ghost use Rattle.zeb_program.specs.Lines.{first_line, after_first_line};
-ghost use Rattle.zeb_program.specs.PrivateLines.{whole_first_line};
 ghost use Rattle.zeb_program.specs.OverTables.{LineOver};
+ghost use Rattle.zeb_program.specs.PrivateShell.{AnswersNextLine, ComesTo, StopsAtLine};
 ghost use Rattle.zeb_program.specs.Serving.{LeadsOn};
 ghost use Rattle.zeb_program.specs.declared.line_input.InputCause.TheVariants.{FailedRead};
 ghost use Rattle.zeb_program.specs.declared.line_input.LineFault.TheVariants.{Unreadable, Memory};
@@ -140,39 +139,21 @@ fn run_next_line<R: Source, S: Alter, L: Layout, P: Paths, W: Output>(
     // No line is run whose answer could not be seen.
     requires seen { output.old.failed ≡ false }
     ensures sound { output.new.failed ≡ false → output.old.failed ≡ false }
-    ensures answer { IfOk result (λ found. IfSome found (λ status. output.new.failed ≡ false
-        → HasCleanDisk (state S.Store session.new.connection) → IfSome (R.remaining input.old)
-        (λ left. LeadsOn (state S.Store session.old.connection)
-        (state S.Store session.new.connection)
-        (W.contents output.old.writer) (W.contents output.new.writer)
-        (λ before bytes later. AnswersAsTold (P.tells paths.now)
+    // At the input's end nothing is done, and nothing is written for a line that can't be read, or isn't answered.
+    ensures line { ComesTo (AnswersNextLine S.Store (P.tells paths.now) L.format
         (conditions (version_of L.format) session.old.profile session.old.limits) number
-        (first_line left) before bytes status later)))) }
-    ensures over { IfOk result (λ found. IfSome found (λ status. output.new.failed ≡ false
-        → HasCleanDisk (state S.Store session.new.connection) → IfSome (R.remaining input.old)
-        (λ left. Writes (W.contents output.old.writer) (W.contents output.new.writer)
-        (λ bytes. LineOver S.Store (P.tells paths.now) L.format
-        (conditions (version_of L.format) session.old.profile session.old.limits) number
-        (first_line left) session.old.connection bytes status session.new.connection)))) }
-    ensures stopped { OnErr result (output.new ≡ output.old) }
-    ensures clean { HasCleanDisk (state S.Store session.new.connection)
-        → HasCleanDisk (state S.Store session.old.connection) }
-    ensures under { (session.new.profile ≡ session.old.profile)
-        × (session.new.limits ≡ session.old.limits) }
-    ensures taken { IfOk result (λ _. IfSome (R.remaining input.old) (λ left.
-        Consumes (Some left) (R.remaining input.new) (whole_first_line left))) }
-    ensures some { IfOk result
-        (λ found. IfSome found (λ _. IfSome (R.remaining input.old) (λ left. 0 < length left))) }
-    ensures end { IfOk result (λ found. IfNone found (IsAtEnd (R.remaining input.new))) }
-    ensures idle { IfOk result (λ found. IfNone found (IsAtEnd (R.remaining input.old)
-        × (session.new ≡ session.old) × (output.new ≡ output.old))) }
-    // Of a line that can't be read, or isn't answered.
-    ensures stops { IfErr result (λ fault. KeepsUnread fault session.old.connection
-        session.new.connection × IfSome (R.remaining input.old)
-        (λ left. EndsInLine GREATEST_INPUT fault left (R.remaining input.new))) }
-    ensures going { IfOk result (λ _. R.has_failed input.new ≡ false) }
-    ensures passed { IfOk result (λ found. IfSome found (λ _. output.new.failed ≡ false
-        → W.held_back output.new.writer ≡ [])) }
+        (R.remaining input.old) (R.remaining input.new) output.new.failed
+        (W.held_back output.new.writer) (W.contents output.old.writer)
+        (W.contents output.new.writer) session.old.connection session.new.connection)
+        (IsAtEnd (R.remaining input.old) × IsAtEnd (R.remaining input.new)
+        × (session.new ≡ session.old) × (output.new ≡ output.old))
+        (λ fault. StopsAtLine (R.remaining input.old) (R.remaining input.new)
+        session.old.connection session.new.connection fault × (output.new ≡ output.old)) result }
+    // The session stays under its profile and its limits, and its disk was clean where it is.
+    ensures stays { (session.new.profile ≡ session.old.profile)
+        × (session.new.limits ≡ session.old.limits)
+        × (HasCleanDisk (state S.Store session.new.connection)
+        → HasCleanDisk (state S.Store session.old.connection)) }
     ensures failed { result ≡ Err (Unreadable FailedRead) ↔ R.has_failed input.new ≡ true }
 {
     let bytes = read_line(alloc, input, GREATEST_INPUT)?;
@@ -209,10 +190,11 @@ fn run_bytes<S: Alter, L: Layout, P: Paths, W: Write>(
         (conditions (version_of L.format) session.old.profile session.old.limits) number
         (first_line bytes.items) session.old.connection written status session.new.connection)) }
     ensures stopped { OnErr result (output.new ≡ output.old) }
-    ensures clean { HasCleanDisk (state S.Store session.new.connection)
-        → HasCleanDisk (state S.Store session.old.connection) }
-    ensures under { (session.new.profile ≡ session.old.profile)
-        × (session.new.limits ≡ session.old.limits) }
+    // The session stays under its profile and its limits, and its disk was clean where it is.
+    ensures stays { (session.new.profile ≡ session.old.profile)
+        × (session.new.limits ≡ session.old.limits)
+        × (HasCleanDisk (state S.Store session.new.connection)
+        → HasCleanDisk (state S.Store session.old.connection)) }
 {
     let Ok(text) = String::from_utf8(bytes) else {
         return Ok(refuse_line(number, output));

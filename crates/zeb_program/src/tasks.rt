@@ -166,11 +166,9 @@ pub fn carry_out<S: Alter, L: Layout, P: Paths>(
         (state S.Store session.new.connection) answer }
     ensures clean { HasCleanDisk (state S.Store session.new.connection)
         → HasCleanDisk (state S.Store session.old.connection) }
-    // An analysis leaves the connection as it is, whatever it is answered.
-    ensures still { ReadsWhole task.now → session.new.connection ≡ session.old.connection }
-    // Where something couldn't be read, the register was asked for nothing.
-    ensures unread { IfErr result (λ fault. IsUnread fault → session.new ≡ session.old) }
-    ensures names { IfErr result (NamesUnder (paths_of task.now)) }
+    // An analysis leaves the connection as it is, whatever it is answered. Where something couldn't be read, the register was asked for nothing.
+    ensures still { (ReadsWhole task.now → session.new.connection ≡ session.old.connection)
+        × IfErr result (λ fault. IsUnread fault → session.new ≡ session.old) }
     // Where the bytes of a file at each path are told; and of another task than an analysis nothing is to be warned of.
     ensures unmarked { (files : List (List ℕ)) → AreTold (P.tells paths.now) (paths_of task.now)
         files → IfOk result (λ served. spec.unmarked_in served ≡ spec.unmarked_by task.now files) }
@@ -231,10 +229,11 @@ pub fn change_by_paths<S: Alter, L: Layout, P: Paths>(
     database: &DbName,
     named: &[String],
 ) -> Result<Reply, Fault>
-    ensures clean { HasCleanDisk (state S.Store session.new.connection)
-        → HasCleanDisk (state S.Store session.old.connection) }
-    ensures under { (session.new.profile ≡ session.old.profile)
-        × (session.new.limits ≡ session.old.limits) }
+    // The session stays under its profile and its limits, and its disk was clean where it is.
+    ensures stays { (session.new.profile ≡ session.old.profile)
+        × (session.new.limits ≡ session.old.limits)
+        × (HasCleanDisk (state S.Store session.new.connection)
+        → HasCleanDisk (state S.Store session.old.connection)) }
     // On any tables, and whatever the paths tell.
     ensures over { HasCleanDisk (state S.Store session.new.connection)
         → PathsOver (P.tells paths.now) L.format session.old.profile kind session.old.limits

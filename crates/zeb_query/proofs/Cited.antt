@@ -17,20 +17,20 @@ pub use Rattle.std.proofs.lemmas.Str.Parse.{numerals_by_value, tells_all_ascii_d
 pub use Rattle.std.proofs.lemmas.Str.Pattern.{split_once_first}
 pub use Rattle.std.specs.Char.{len_utf8, is_ascii_digit}
 pub use Rattle.std.specs.List.{list_all, list_any, position_or_len, before_first, after_first, find, AllPass, flat_map}
-pub use Rattle.std.specs.Option.{is_none, unwrap_or, option_map, option_to_list}
+pub use Rattle.std.specs.Option.{is_none, option_copied, unwrap_or, option_map, option_to_list}
 pub use Rattle.std.specs.Prelude.{Result, Ok, Err, IfOk, not, map, ◌||◌, option_and_then, ◌&&◌, IfSome, nat_lt, nat_le, slice_get, if◌then◌else◌, ◌==◌, string_bytes}
 pub use Rattle.std.specs.Result.{OnOk, IfErr, result_ok}
 pub use Rattle.std.specs.Str.{all_ascii_digits, bytes_eq, NonePass}
 pub use Rattle.std.specs.Str.Parse.{digits_value, ParsesUnsigned}
 pub use Rattle.zeb_keys.specs.declared.Register.{Register}
 pub use Rattle.zeb_profile.specs.declared.Profile.{Profile}
-pub use Rattle.zeb_query.specs.Attributes.{HoldingValue, asks_number, completeness_of, index_in, index_used, is_bib1, is_complete, is_local_number, is_other_kind, is_other_set, joined_words, order_of, patterns_asked, position_of, register_of, relation_of, sets_in, structure_of, truncation_of, value_held, values_held}
+pub use Rattle.zeb_query.specs.Attributes.{HoldingValue, asks_number, completeness_of, index_in, index_used, is_bib1, is_equality, is_complete, is_local_number, is_other_kind, is_other_set, joined_words, patterns_asked, position_of, register_of, relation_of, sets_in, structure_of, truncation_of, value_held, values_held}
 pub use Rattle.zeb_query.specs.Checks.{Check, Fails, Gives, Operand, Refusal, answered, check, checked_by, checks_in, clash_check, distance_relations, find_checks, first_that_applies, index_check, index_near, kind_check, number_check, number_checks, one_of, operand_checks, operand_of, operands_checks, orderings, parameter_checks, proximity_checks, refused, scan_checks, scan_checks_in, separation_of, set_check, term_checks, type_check, use_checks, words_check, written}
-pub use Rattle.zeb_query.specs.Grammar.{few, many, is_number, number_of, TreeValue, TermValue, NamedValue, PairValue, QueryValue, IsStructure, is_term, is_named, is_attribute, is_attribute_of_set, is_typed, is_pair, IsQuery, is_structure_of_set, kept_text, has_equals, is_good, text_of, connective_of, ConnectiveValue, BooleanOf, ProximityOf, ParametersValue, parameters_value, under, with_attribute, with_type, no_head, SpellsQuery, keyword_of, is_structure, is_equals_sign, HeadValue, keyword_by, if_any, is_good_spelling, heads, or_else, AttributeValue, attribute_value, head_value, query_value, tree_value}
+pub use Rattle.zeb_query.specs.Grammar.{few, many, is_number, number_of, TreeValue, TermValue, NamedValue, PairValue, QueryValue, IsStructure, is_term, is_named, is_attribute, is_attribute_of_set, is_typed, is_pair, IsQuery, is_structure_of_set, kept_text, has_equals, is_good, text_of, connective_of, ConnectiveValue, BooleanOf, ProximityOf, ParametersValue, parameters_value, under, with_attribute, with_type, no_head, SpellsQuery, keyword_of, is_structure, is_equals_sign, HeadValue, if_any, is_good_spelling, heads, or_else, AttributeValue, attribute_value, head_value, query_value, tree_value}
 pub use Rattle.zeb_query.specs.Places.{IsBeginning, IsQueryWithin, IsBeginningWithin, IsStrange, IsUnfinished, IsUnspelled, IsCrowded, operators, IsFaultOf, IsReadable, IsFaulty, is_long, is_unspelled, is_crowded}
 pub use Rattle.zeb_query.specs.Plans.{BeginsAtKey, HasSmallNumber, HasSmallNumbers, NearOf, NumberOf, OrderedOf, PairOf, PlanValue, RecordNumberOf, ScanValue, TermOf, TermPlanValue, asked_with, entries_asked, near_asked, operand_pattern, plan_of, plan_value, scan_value, start_asked, subject_asked, texts_asked, tree_asked, tree_scanned, words_asked}
 pub use Rattle.zeb_query.specs.PrivatePlanning.{◌>>=◌, index_read, kept_or, operands_plan, passed, patterns_read, related_plan, subject_index, subject_plan, subject_read, tree_plan}
-pub use Rattle.zeb_query.specs.PrivateReading.{words_with, first_keyword, word_of, left, fault_of, IsAfterFirst, ReadsFirst, ReadsWord, IsSpec, SpellsAttribute, SpellsHead, SpellsParameters, SpellsOperator, SpellsSet, Spells, IsFault, held_with, first_set, first_set_of, IsDiagnostic, holding_value}
+pub use Rattle.zeb_query.specs.PrivateReading.{words_with, first_keyword, word_of, left, fault_of, ReadsWord, IsSpec, SpellsAttribute, SpellsHead, SpellsParameters, SpellsOperator, SpellsSet, Spells, IsFault, held_with, with_set, IsDiagnostic, holding_value}
 pub use Rattle.zeb_query.specs.PrivateWalk.{parameter_count, words_at, Due, Start, Structures, SetOrSpec, Spec, MoreWords, words_then, fault, fault_at_end, Step, Allowed, Refused, step, good_step, structure_step, start_step, spec_step, operator_step, Begun, unquoted, in_word, in_quotes, plain_word, quoted_word, with_front}
 pub use Rattle.zeb_query.specs.Words.{Word, AreWords, is_blank, Sign, Itself, Escaped, sign_text, meant, is_sign, IsCutOff, IsWritten, is_plain, is_braced, is_quoted, is_open, Stretch, stretch_text, stretch_word, IsStretch}
 pub use Rattle.zeb_query.specs.declared.attributes.Asked.{Asked}
@@ -45,7 +45,7 @@ pub use Rattle.zeb_query.specs.declared.faults.QueryFault.TheVariants.{Diagnosti
 pub use Rattle.zeb_query.specs.declared.grammar.Rest.{Rest}
 pub use Rattle.zeb_query.specs.declared.keywords.Keyword.{Keyword}
 pub use Rattle.zeb_query.specs.declared.keywords.Keyword.TheVariants.{Operator, AttributeSet, Attribute, TermType, ResultSet}
-pub use Rattle.zeb_query.specs.declared.plans.Order.{Order}
+pub use Rattle.zeb_query.specs.declared.plans.Relation.{Relation}
 pub use Rattle.zeb_query.specs.declared.plans.Relation.TheVariants.{Equal}
 pub use Rattle.zeb_query.specs.declared.plans.Separation.{Separation}
 pub use Rattle.zeb_query.specs.declared.keywords.OperatorWord.{OperatorWord}

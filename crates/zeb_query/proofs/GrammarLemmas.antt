@@ -1,5 +1,5 @@
 -- Steps of a reader of queries, in the words of the grammar.
-use Rattle.zeb_query.proofs.Cited.{◌≡◌, ◌≢◌, ℕ, suc, ◌<◌, true, false, List, [], ◌∷◌, ◌++◌, Option, Some, None, length, cond, eqb, refl, ap, sym, subst, ◌∙◌, arith, append_assoc, option_and_then, nat_lt, map, list_all, before_first, after_first, position_or_len, nat_tests, map-append, length-map, Rest, Spelling, Plain, Quoted, Bad, OperatorWord, Keyword, AttributeSet, Attribute, TermType, ResultSet, Operator, number_of, keyword_of, keyword_by, if_any, is_equals_sign, has_equals, is_good, is_good_spelling, IsStructure, is_attribute, is_attribute_of_set, is_typed, under, heads, no_head, or_else, with_type, text_of, is_term, is_named, is_pair, parameter_count, is_structure, is_structure_of_set, AttributeValue, HeadValue, TreeValue, TermValue, NamedValue, PairValue, Word, left, fault_of, first_keyword, IsAfterFirst, ReadsFirst, ReadsWord, IsSpec, SpellsAttribute, SpellsHead, SpellsParameters, SpellsOperator, SpellsSet, Spells, Due, Start, Structures, MoreWords, words_then, fault, Step, Allowed, Refused, step, structure_step, start_step, And, Or, Not, Proximity, ConnectiveValue, connective_of, ◌&&◌}
+use Rattle.zeb_query.proofs.Cited.{◌≡◌, ◌≢◌, ℕ, suc, ◌<◌, ◌+◌, true, false, List, [], ◌∷◌, ◌++◌, Option, Some, None, length, cond, eqb, refl, ap, sym, subst, ◌∙◌, arith, append_assoc, option_and_then, nat_lt, map, list_all, before_first, after_first, position_or_len, nat_tests, map-append, length-map, length-append, Rest, Spelling, Plain, Quoted, Bad, OperatorWord, Keyword, AttributeSet, Attribute, TermType, ResultSet, Operator, number_of, keyword_of, if_any, is_equals_sign, has_equals, is_good, is_good_spelling, IsStructure, is_attribute, is_attribute_of_set, is_typed, under, heads, no_head, or_else, with_type, text_of, is_term, is_named, is_pair, parameter_count, is_structure, is_structure_of_set, AttributeValue, HeadValue, TreeValue, TermValue, NamedValue, PairValue, Word, left, word_of, fault_of, first_keyword, ReadsWord, IsSpec, SpellsAttribute, SpellsHead, SpellsParameters, SpellsOperator, SpellsSet, Spells, Due, Start, Structures, MoreWords, words_then, fault, Step, Allowed, Refused, step, structure_step, start_step, And, Or, Not, Proximity, ConnectiveValue, connective_of, ◌&&◌}
 use Rattle.std.proofs.lemmas.List.Folds.{list_all-append}
 use Rattle.zeb_query.specs.Grammar.{kind_and_value}
 
@@ -69,31 +69,30 @@ fault_of-read rest after word reads due next over =
     ∙ ap (λ end. fault end rest.room next (left after)) (sym reads.end)
     ∙ ap (λ room. fault after.end room next (left after)) (sym reads.room)
 
--- the first word, by its keyword
-pub first_is : (k : Keyword) (words after : List Word) → IsAfterFirst words after → first_keyword words ≡ Some k → (w : Word) × (words ≡ w ∷ after) × (keyword_of w ≡ Some k)
-first_is k [] after is e = absurd is
-first_is k (w ∷ ws) after is e = (w, ap (λ xs. w ∷ xs) (sym is), e)
-
-good_by : (s : Spelling) (text : List ℕ) (k : Keyword) → keyword_by s text ≡ Some k → is_good_spelling s ≡ true
-good_by Plain text k e = refl
-good_by Quoted text k e = refl
-good_by Bad text k e = cc
+good_by : (w : Word) (s : Spelling) (k : Keyword) → keyword_of (record w { spelling = s }) ≡ Some k → is_good_spelling s ≡ true
+good_by w Plain k e = refl
+good_by w Quoted k e = refl
+good_by w Bad k e = cc
 
 pub good_from_keyword : (w : Word) (k : Keyword) → keyword_of w ≡ Some k → is_good w ≡ true
-good_from_keyword w k e = good_by w.spelling w.text k e
+good_from_keyword w k e = good_by w w.spelling k e
+
+-- how much is left after some words, and after a word and others
+pub left_after : (rest after : Rest) (words : List Word) → left rest ≡ words ++ left after → length rest.words.now ≡ length words + length after.words.now
+left_after rest after words is =
+    sym (length-map rest.words.now word_of) ∙ ap length is ∙ length-append words (left after) ∙ ap (λ n. length words + n) (length-map after.words.now word_of)
+
+pub less_after : (rest after : Rest) (w : Word) (words : List Word) → left rest ≡ w ∷ (words ++ left after) → length after.words.now < length rest.words.now
+less_after rest after w words is = let e : length rest.words.now ≡ suc (length words) + length after.words.now = left_after rest after (w ∷ words) is in omega (arith, e)
 
 pub step-structure : (room n : ℕ) (w : Word) → is_good w ≡ true → step room w (Structures (suc n)) ≡ structure_step room (keyword_of w) n
 step-structure room n w good = rw good refl
 
 -- a keyword at the front of a structure
-pub fault_of-keyword : (k : Keyword) (rest middle : Rest) → first_keyword (left rest) ≡ Some k → ReadsFirst rest middle → (n : ℕ) (due : Due) → structure_step rest.room (Some k) n ≡ Allowed rest.room due → fault_of rest (Structures (suc n)) ≡ fault_of middle due
-fault_of-keyword k rest middle found reads n due allowed =
-    let f = first_is k (left rest) (left middle) reads.is found in
-    ap (λ ws. fault rest.end rest.room (Structures (suc n)) ws) f.1
-    ∙ fault-step rest.end rest.room (Structures (suc n)) f.0 (left middle) (Allowed rest.room due)
-    (step-structure rest.room n f.0 (good_from_keyword f.0 k f.2) ∙ ap (λ key. structure_step rest.room key n) f.2 ∙ allowed)
-    ∙ ap (λ end. fault end rest.room due (left middle)) (sym reads.end)
-    ∙ ap (λ room. fault middle.end room due (left middle)) (sym reads.room)
+pub fault_of-keyword : (k : Keyword) (rest middle : Rest) (w : Word) → ReadsWord rest middle w → keyword_of w ≡ Some k → (n : ℕ) (due : Due) → ((room : ℕ) → structure_step room (Some k) n ≡ Allowed room due) → fault_of rest (Structures (suc n)) ≡ fault_of middle due
+fault_of-keyword k rest middle w reads found n due allowed =
+    fault_of-read rest middle w reads (Structures (suc n)) due (λ end room ws. fault-step end room (Structures (suc n)) w ws (Allowed room due)
+    (step-structure room n w (good_from_keyword w k found) ∙ ap (λ key. structure_step room key n) found ∙ allowed room))
 
 -- a word of any kind where words are due
 pub fault_of-word : (rest middle : Rest) (w : Word) → ReadsWord rest middle w → is_good w ≡ true → (k n : ℕ) → fault_of rest (MoreWords k n) ≡ fault_of middle (words_then k n)
@@ -130,17 +129,15 @@ spells_more start rest after head piece words is spells s = record {
       (s.spells (words ++ more) (under piece tree) (spells more tree spelled)));
 }
 
-pub spells_more_attribute : (start rest middle after : Rest) (head : HeadValue) (a : AttributeValue) → first_keyword (left rest) ≡ Some Attribute → ReadsFirst rest middle → SpellsAttribute middle after a → SpellsHead start rest head → SpellsHead start after (heads head (record { attributes = a ∷ []; term_type = None }))
-spells_more_attribute start rest middle after head a found reads at s =
-    let f = first_is Attribute (left rest) (left middle) reads.is found in
-    spells_more start rest after head (record { attributes = a ∷ []; term_type = None }) (f.0 ∷ at.words)
-    (f.1 ∙ ap (λ ws. f.0 ∷ ws) at.is) (λ more tree spelled. at.spells f.0 more tree f.2 spelled) s
+pub spells_more_attribute : (start rest middle after : Rest) (head : HeadValue) (a : AttributeValue) (attr : Word) → ReadsWord rest middle attr → keyword_of attr ≡ Some Attribute → SpellsAttribute middle after a → SpellsHead start rest head → SpellsHead start after (heads head (record { attributes = a ∷ []; term_type = None }))
+spells_more_attribute start rest middle after head a attr reads found at s =
+    spells_more start rest after head (record { attributes = a ∷ []; term_type = None }) (attr ∷ at.words)
+    (reads.is ∙ ap (λ ws. attr ∷ ws) at.is) (λ more tree spelled. at.spells attr more tree found spelled) s
 
-pub spells_more_type : (start rest middle after : Rest) (head : HeadValue) (w : Word) → first_keyword (left rest) ≡ Some TermType → ReadsFirst rest middle → ReadsWord middle after w → is_good w ≡ true → SpellsHead start rest head → SpellsHead start after (heads head (with_type w.text))
-spells_more_type start rest middle after head w found reads word good s =
-    let f = first_is TermType (left rest) (left middle) reads.is found in
-    spells_more start rest after head (with_type w.text) (f.0 ∷ w ∷ [])
-    (f.1 ∙ ap (λ ws. f.0 ∷ ws) word.is) (λ more tree spelled. is_typed f.0 w more tree f.2 good spelled) s
+pub spells_more_type : (start rest middle after : Rest) (head : HeadValue) (keyword w : Word) → ReadsWord rest middle keyword → keyword_of keyword ≡ Some TermType → ReadsWord middle after w → is_good w ≡ true → SpellsHead start rest head → SpellsHead start after (heads head (with_type w.text))
+spells_more_type start rest middle after head keyword w reads found word good s =
+    spells_more start rest after head (with_type w.text) (keyword ∷ w ∷ [])
+    (reads.is ∙ ap (λ ws. keyword ∷ ws) word.is) (λ more tree spelled. is_typed keyword w more tree found good spelled) s
 
 pub heads-with_type : (h : HeadValue) (t : List ℕ) → record { attributes = h.attributes; term_type = Some t } ≡ heads h (with_type t)
 heads-with_type h t = ap (λ attributes. record { attributes = attributes; term_type = Some t }) (sym (append-nil h.attributes))
@@ -247,12 +244,11 @@ fault-start end room (w ∷ ws) ne =
 pub spells_no_set : (rest : Rest) → SpellsSet rest rest None
 spells_no_set rest = record { words = []; is = refl; spells = λ more tree spelled. is_structure more tree spelled }
 
-pub spells_set : (rest middle after : Rest) (w : Word) (text : List ℕ) → first_keyword (left rest) ≡ Some AttributeSet → ReadsFirst rest middle → ReadsWord middle after w → is_good w ≡ true → text ≡ w.text → SpellsSet rest after (Some text)
-spells_set rest middle after w text found reads word good same =
-    let f = first_is AttributeSet (left rest) (left middle) reads.is found in
+pub spells_set : (rest middle after : Rest) (keyword w : Word) (text : List ℕ) → ReadsWord rest middle keyword → keyword_of keyword ≡ Some AttributeSet → ReadsWord middle after w → is_good w ≡ true → text ≡ w.text → SpellsSet rest after (Some text)
+spells_set rest middle after keyword w text reads found word good same =
     subst (λ t. SpellsSet rest after (Some t)) (sym same)
     (record {
-      words = f.0 ∷ w ∷ [];
-      is = f.1 ∙ ap (λ ws. f.0 ∷ ws) word.is;
-      spells = λ more tree spelled. is_structure_of_set f.0 w more tree f.2 good spelled;
+      words = keyword ∷ w ∷ [];
+      is = reads.is ∙ ap (λ ws. keyword ∷ ws) word.is;
+      spells = λ more tree spelled. is_structure_of_set keyword w more tree found good spelled;
     })

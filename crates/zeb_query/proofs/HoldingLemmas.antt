@@ -1,10 +1,10 @@
 -- The attributes that hold, one attribute after another.
-use Rattle.zeb_query.proofs.Cited.{◌≡◌, ℕ, ◌+◌, ◌<◌, Bool, true, false, List, [], ◌∷◌, ◌++◌, Option, Some, None, length, get_or, take, cond, eqb, arith, ◌≤◌, refl, ap, sym, ◌∙◌, append_assoc, map, not, option_to_list, find, map-append, take_more, common_steps, AttributeValue, HeadValue, attribute_value, no_head, HoldingValue, is_bib1, is_other_set, is_other_kind, sets_in, or_else, value_held, held_with, first_set, first_set_of}
+use Rattle.zeb_query.proofs.Cited.{◌≡◌, ℕ, ◌+◌, ◌<◌, Bool, true, false, List, [], ◌∷◌, ◌++◌, Option, Some, None, length, get_or, take, cond, eqb, arith, ◌≤◌, refl, ap, sym, ◌∙◌, append_assoc, map, not, option_to_list, find, map-append, take_more, common_steps, AttributeValue, HeadValue, attribute_value, no_head, HoldingValue, is_other_set, is_other_kind, sets_in, or_else, value_held, held_with}
 use Rattle.zeb_query.specs.declared.queries.Attribute.{Attribute}
 use Rattle.zeb_query.specs.Attributes.{holding_of}
 use Rattle.zeb_query.proofs.GrammarLemmas.{append-nil}
 
-same_holding : {a a' : Option (List ℕ)} {b b' : Option ℕ} {c c' d d' e e' f f' g g' h h' i i' : Option (List ℕ)} → a ≡ a' → b ≡ b' → c ≡ c' → d ≡ d' → e ≡ e' → f ≡ f' → g ≡ g' → h ≡ h' → i ≡ i' →
+pub same_holding : {a a' : Option (List ℕ)} {b b' : Option ℕ} {c c' d d' e e' f f' g g' h h' i i' : Option (List ℕ)} → a ≡ a' → b ≡ b' → c ≡ c' → d ≡ d' → e ≡ e' → f ≡ f' → g ≡ g' → h ≡ h' → i ≡ i' →
     ◌≡◌ {A = HoldingValue}
     (record { other_set = a; other_kind = b; term_type = c; use_attribute = d; relation = e; position = f; structure = g; truncation = h; completeness = i })
     (record { other_set = a'; other_kind = b'; term_type = c'; use_attribute = d'; relation = e'; position = f'; structure = g'; truncation = h'; completeness = i' })
@@ -22,15 +22,9 @@ sets_in-append : (attrs bs : List AttributeValue) → sets_in (attrs ++ bs) ≡ 
 sets_in-append [] bs = refl
 sets_in-append (a ∷ attrs) bs = ap (λ ss. option_to_list a.set ++ ss) (sets_in-append attrs bs) ∙ sym (append_assoc (option_to_list a.set) (sets_in attrs) (sets_in bs))
 
-first_by : (found set : Option (List ℕ)) → first_set_of found set ≡ or_else found (find is_other_set (option_to_list set ++ []))
-first_by (Some x) (Some set) = refl
-first_by (Some x) None = refl
-first_by None None = refl
-first_by None (Some set) = at (is_bib1 set)
-  where
-    at : (b : Bool) → cond b None (Some set) ≡ cond (not b) (Some set) None
-    at true = refl
-    at false = refl
+first_by : (found set : Option (List ℕ)) → or_else found (find is_other_set (option_to_list set)) ≡ or_else found (find is_other_set (option_to_list set ++ []))
+first_by found (Some set) = refl
+first_by found None = refl
 
 value_held-push : (k : ℕ) (attrs : List AttributeValue) (a : AttributeValue) → value_held k (attrs ++ a ∷ []) ≡ cond (eqb a.kind k) (Some a.value) (value_held k attrs)
 value_held-push k [] a = refl
@@ -70,13 +64,9 @@ pub holding_of-type : (set : Option (List ℕ)) (attrs : List AttributeValue) (o
 unfolding holding_of
 holding_of-type set attrs outer type h e = ap {A = HoldingValue} (λ g. record g { term_type = Some type }) e
 
-pub holding_of-nothing : holding_of None no_head ≡ record { other_set = None; other_kind = None; term_type = None; use_attribute = None; relation = None; position = None; structure = None; truncation = None; completeness = None }
+pub holding_of-set : (set : Option (List ℕ)) → holding_of set no_head ≡ record { other_set = find is_other_set (option_to_list set); other_kind = None; term_type = None; use_attribute = None; relation = None; position = None; structure = None; truncation = None; completeness = None }
 unfolding holding_of
-holding_of-nothing = refl
-
-pub holding_of-set : (s : List ℕ) → holding_of (Some s) no_head ≡ record { other_set = first_set None s; other_kind = None; term_type = None; use_attribute = None; relation = None; position = None; structure = None; truncation = None; completeness = None }
-unfolding holding_of
-holding_of-set s = same_holding (sym (first_by None (Some s))) refl refl refl refl refl refl refl refl
+holding_of-set set = same_holding (sym (first_by None set)) refl refl refl refl refl refl refl refl
 
 pub take_whole : {A : Type 0} (xs : List A) (i : ℕ) → length xs ≤ i → take i xs ≡ xs
 take_whole xs i h = grind (arith, common_steps)

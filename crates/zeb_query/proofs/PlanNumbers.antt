@@ -1,5 +1,5 @@
 -- How great the numbers of a plan are, and where a scan of numbers begins.
-use Rattle.zeb_query.proofs.Cited.{◌≡◌, ℕ, ◌<◌, ◌^◌, Bool, true, false, cond, List, [], ◌∷◌, Option, Some, None, refl, subst, Ok, not, ◌||◌, is_none, bytes_eq, digits_value, Profile, Register, Symbol, Structure, Phrase, WordList, FreeForm, Numeric, Asked, Compared, Always, Equal, Order, Completeness, Complete, Incomplete, Subject, Record, Entries, Values, Find, Scan, BooleanOf, ParametersValue, ProximityOf, is_number, few, many, heads, no_head, HeadValue, TreeValue, TermValue, NamedValue, PairValue, QueryValue, HoldingValue, asks_number, index_in, is_complete, joined_words, order_of, patterns_asked, register_of, values_held, Check, check, checked_by, first_that_applies, index_check, number_check, number_checks, find_checks, scan_checks, term_checks, Operand, kept_text, orderings, distance_relations, operand_of, parameter_checks, separation_of, operands_checks, proximity_checks, checks_in, NumberOf, OrderedOf, PlanValue, TermPlanValue, asked_with, words_asked, near_asked, start_asked, subject_asked, texts_asked, tree_asked, plan_of, HasSmallNumber, HasSmallNumbers, ScanValue, BeginsAtKey}
+use Rattle.zeb_query.proofs.Cited.{◌≡◌, ℕ, ◌<◌, ◌^◌, Bool, true, false, cond, List, [], ◌∷◌, Option, Some, None, refl, subst, Ok, not, ◌||◌, is_none, bytes_eq, digits_value, Profile, Register, Symbol, Structure, Phrase, WordList, FreeForm, Numeric, Asked, Compared, Always, Equal, Relation, is_equality, Completeness, Complete, Incomplete, Subject, Record, Entries, Values, Find, Scan, BooleanOf, ParametersValue, ProximityOf, is_number, few, many, heads, no_head, HeadValue, TreeValue, TermValue, NamedValue, PairValue, QueryValue, HoldingValue, asks_number, index_in, is_complete, joined_words, patterns_asked, register_of, values_held, Check, check, checked_by, first_that_applies, index_check, number_check, number_checks, find_checks, scan_checks, term_checks, Operand, kept_text, orderings, distance_relations, operand_of, parameter_checks, separation_of, operands_checks, proximity_checks, checks_in, NumberOf, OrderedOf, PlanValue, TermPlanValue, asked_with, words_asked, near_asked, start_asked, subject_asked, texts_asked, tree_asked, plan_of, HasSmallNumber, HasSmallNumbers, ScanValue, BeginsAtKey}
 use Rattle.std.specs.Prelude.{chars, codes}
 use Rattle.zeb_text.specs.Words.{words_of}
 use Rattle.zeb_query.specs.declared.attributes.Position.{Position}
@@ -26,10 +26,18 @@ words_small index WordList position Incomplete patterns = tt
 words_small index FreeForm position Incomplete patterns = tt
 words_small index Numeric position Incomplete patterns = tt
 
-texts_small : (v : Values) (index : ℕ) (structure : Structure) (text : List ℕ) (patterns : List (List Symbol)) (order : Option Order) → HasSmallNumber (texts_asked v index structure text patterns order)
-texts_small v index structure text patterns (Some order) = asked_small (words_of (chars text)) index (register_of v) (OrderedOf index (register_of v) order (joined_words text)) tt
-texts_small v index structure text patterns None =
-    asked_small patterns index (register_of v) (words_asked index structure v.position v.completeness patterns) (words_small index structure v.position v.completeness patterns)
+texts_small : (v : Values) (index : ℕ) (structure : Structure) (text : List ℕ) (patterns : List (List Symbol)) (relation : Relation) → HasSmallNumber (texts_asked v index structure text patterns relation)
+texts_small v index structure text patterns relation = at (is_equality relation)
+  where
+    matched : TermPlanValue
+    matched = asked_with patterns index (register_of v) (words_asked index structure v.position v.completeness patterns)
+
+    ordered : TermPlanValue
+    ordered = asked_with (words_of (chars text)) index (register_of v) (OrderedOf index (register_of v) relation (joined_words text))
+
+    at : (b : Bool) → HasSmallNumber (cond b matched ordered)
+    at true = asked_small patterns index (register_of v) (words_asked index structure v.position v.completeness patterns) (words_small index structure v.position v.completeness patterns)
+    at false = asked_small (words_of (chars text)) index (register_of v) (OrderedOf index (register_of v) relation (joined_words text)) tt
 
 subject_small : (v : Values) (place : ℕ) (text : List ℕ) (patterns : List (List Symbol)) (subject : Subject) (asked : Asked) → first_that_applies (number_checks place text subject asked) ≡ None
     → HasSmallNumber (subject_asked (record v { relation = asked }) text patterns subject)
@@ -38,9 +46,9 @@ subject_small v place text patterns (Entries index structure) Always e = tt
 subject_small v place text patterns (Entries index structure) (Compared relation) e = at (asks_number structure) e
   where
     at : (b : Bool) → first_that_applies (cond b (number_check many place text ∷ []) []) ≡ None
-        → HasSmallNumber (cond b (NumberOf index relation (digits_value 10 text)) (texts_asked (record v { relation = Compared relation }) index structure text patterns (order_of relation)))
+        → HasSmallNumber (cond b (NumberOf index relation (digits_value 10 text)) (texts_asked (record v { relation = Compared relation }) index structure text patterns relation))
     at true e' = number_is many place text e'
-    at false e' = texts_small (record v { relation = Compared relation }) index structure text patterns (order_of relation)
+    at false e' = texts_small (record v { relation = Compared relation }) index structure text patterns relation
 
 leaf_small : (profile : Profile) (h : HoldingValue) (place : ℕ) (text : List ℕ) → first_that_applies (find_checks profile place h text) ≡ None → HasSmallNumber (plan_asked profile h text)
 unfolding plan_asked

@@ -1,5 +1,5 @@
 -- A term is refused by the first of its checks that applies, and else its plan, or where a scan begins, is what its attributes ask for.
-use Rattle.zeb_query.proofs.Cited.{◌≡◌, ℕ, Bool, true, false, cond, List, [], ◌∷◌, ◌++◌, Option, Some, None, refl, Ok, not, ◌&&◌, is_none, unwrap_or, digits_value, Profile, Register, Symbol, Structure, Phrase, Asked, Compared, Always, Equal, Any, Incomplete, Subject, Record, Entries, Values, Purpose, Find, Scan, Near, HoldingValue, asks_number, completeness_of, index_in, index_used, is_local_number, joined_words, order_of, patterns_asked, position_of, register_of, relation_of, structure_of, truncation_of, values_held, Check, check, checked_by, clash_check, find_checks, index_check, kind_check, number_check, number_checks, one_of, operand_checks, Operand, scan_checks, set_check, term_checks, type_check, use_checks, words_check, written, entries_asked, index_near, operand_pattern, subject_asked, start_asked, texts_asked, NumberOf, RecordNumberOf, ScanValue, Err, number_of, answered, passed, ◌>>=◌, index_read, kept_or, patterns_read, related_plan, subject_index, subject_plan, subject_read, few, many}
+use Rattle.zeb_query.proofs.Cited.{◌≡◌, ℕ, Bool, true, false, cond, List, [], ◌∷◌, ◌++◌, Option, Some, None, refl, Ok, not, ◌&&◌, is_none, unwrap_or, digits_value, Profile, Register, Symbol, Structure, Phrase, Asked, Compared, Always, Equal, Any, Incomplete, Subject, Record, Entries, Values, Purpose, Find, Scan, Near, HoldingValue, asks_number, completeness_of, index_in, index_used, is_local_number, joined_words, patterns_asked, position_of, register_of, relation_of, structure_of, truncation_of, values_held, Check, check, checked_by, clash_check, find_checks, index_check, kind_check, number_check, number_checks, one_of, operand_checks, Operand, scan_checks, set_check, term_checks, type_check, use_checks, words_check, written, entries_asked, index_near, operand_pattern, subject_asked, start_asked, texts_asked, NumberOf, RecordNumberOf, ScanValue, Err, number_of, answered, passed, ◌>>=◌, index_read, kept_or, patterns_read, related_plan, subject_index, subject_plan, subject_read, few, many}
 use Rattle.zeb_text.specs.declared.Cut.TheVariants as cut
 use Rattle.zeb_text.specs.Numbers.{number_key}
 use Rattle.zeb_query.specs.Plans.{plan_asked, scan_asked}
@@ -100,8 +100,8 @@ related_steps : (place : ℕ) (text : List ℕ) (v : Values) (index : ℕ) (stru
 unfolding compared_plan
 related_steps place text v index structure patterns Always = refl
 related_steps place text v index structure patterns (Compared relation) = elim (asks_number structure) as (λ b.
-    cond b (kept_or 126 place (Some text) (number_of many text) >>= λ number. Ok (NumberOf index relation number)) (Ok (texts_asked v index structure text patterns (order_of relation)))
-    ≡ checked_by (cond b (number_check many place text ∷ []) []) (cond b (NumberOf index relation (digits_value 10 text)) (texts_asked v index structure text patterns (order_of relation)))) [
+    cond b (kept_or 126 place (Some text) (number_of many text) >>= λ number. Ok (NumberOf index relation number)) (Ok (texts_asked v index structure text patterns relation))
+    ≡ checked_by (cond b (number_check many place text ∷ []) []) (cond b (NumberOf index relation (digits_value 10 text)) (texts_asked v index structure text patterns relation))) [
       | true ↦ number_then 126 place many text (λ number. Ok (NumberOf index relation number)) [] (NumberOf index relation (digits_value 10 text)) refl
       | false ↦ refl
     ]

@@ -5,15 +5,14 @@
 -- of which the leftmost is told; that a value of more than nine digits is no number; that a use attribute that is no number is the
 -- name of an index; which values are kept; what holds where there is no attribute of a type; that 1 and 2 are one for the position and
 -- the structure, and 2 and 3 for the completeness; and that structure 107, a local number, is the record's system number.
-use Rattle.zeb_query.specs.Cited.{to_ascii_lowercase, join_with_byte, is_some, option_map_or, index_by_name, index_by_use, Symbol, Always, Any, Asked, Compared, Complete, Completeness, Cut, Each, Ends, Entries, First, FreeForm, Incomplete, Numeric, Order, Phrase, Position, Profile, Record, Register, Relation, Spread, Structure, Subject, Values, WordList}
+use Rattle.zeb_query.specs.Cited.{to_ascii_lowercase, join_with_byte, option_map_or, index_by_name, index_by_use, Symbol, Always, Any, Asked, Compared, Complete, Completeness, Cut, Each, Ends, Entries, First, FreeForm, Incomplete, Numeric, Phrase, Position, Profile, Record, Register, Relation, Spread, Structure, Subject, Values, WordList}
 use Rattle.std.specs.Prelude.{Bool, List, None, Option, Some, [], chars, codes, encode_utf8_all, false, if◌then◌else◌, map, nat_lt, not, option_and_then, true, ℕ, ◌&&◌, ◌++◌, ◌==◌, ◌∷◌, ◌||◌, find, option_to_list, unwrap_or, bytes_eq}
 use Rattle.zeb_keys.specs.declared.Register.TheVariants as register
 use Rattle.zeb_text.specs.Truncation.{patterns_of}
 use Rattle.zeb_text.specs.Words.{words_of}
 use Rattle.zeb_text.specs.declared.Cut.TheVariants as cut
-use Rattle.zeb_query.specs.declared.plans.Order.TheVariants as in_order
 use Rattle.zeb_query.specs.declared.plans.Relation.TheVariants.{Equal, Greater, GreaterOrEqual, Less, LessOrEqual}
-use Rattle.zeb_query.specs.Grammar.{AttributeValue, HeadValue, few, number_of, or_else}
+use Rattle.zeb_query.specs.Grammar.{AttributeValue, HeadValue, few, number_of, or_else, row_for}
 
 -- ---- the attributes over a term
 
@@ -65,11 +64,6 @@ holding_of set head = record {
 
 -- ---- the values that are kept: of each type the numbers, and what each stands for
 
--- what a number stands for in a table
-abbrev pub kept : {A : Type 0} → List (ℕ × A) → ℕ → Option A
-kept [] number = None
-kept (row ∷ rows) number = if number == row.0 then Some row.1 else kept rows number
-
 -- the number of an attribute's value, or the default where there is no attribute
 abbrev pub number_or : ℕ → Option (List ℕ) → Option ℕ
 number_or default None = Some default
@@ -77,7 +71,7 @@ number_or default (Some text) = number_of few text
 
 -- what a value stands for, if it is kept
 abbrev pub value_of : {A : Type 0} → ℕ → List (ℕ × A) → Option (List ℕ) → Option A
-value_of default table text = option_and_then (kept table) (number_or default text)
+value_of default table text = option_and_then (λ number. row_for (λ value. number == value) table) (number_or default text)
 
 -- type 2, relation: the default is equal
 abbrev pub relation_of : Option (List ℕ) → Option Asked
@@ -141,32 +135,25 @@ is_complete Incomplete = false
 is_complete Complete = true
 
 abbrev pub is_truncated : Cut → Bool
-is_truncated cut.None = false
-is_truncated _ = true
+is_truncated c = elim c [ cut.None ↦ false | cut.Right ↦ true | cut.Left ↦ true | cut.Both ↦ true | cut.Hash ↦ true ]
 
--- the order that a relation is, but for equality
-abbrev pub order_of : Relation → Option Order
-order_of Less = Some in_order.Less
-order_of LessOrEqual = Some in_order.LessOrEqual
-order_of Equal = None
-order_of GreaterOrEqual = Some in_order.GreaterOrEqual
-order_of Greater = Some in_order.Greater
+abbrev pub is_equality : Relation → Bool
+is_equality r = elim r [ Less ↦ false | LessOrEqual ↦ false | Equal ↦ true | GreaterOrEqual ↦ false | Greater ↦ false ]
 
 abbrev pub is_ordered : Asked → Bool
-is_ordered (Compared relation) = is_some (order_of relation)
+is_ordered (Compared relation) = not (is_equality relation)
 is_ordered Always = false
 
 abbrev pub is_equal : Asked → Bool
-is_equal (Compared Equal) = true
-is_equal _ = false
+is_equal (Compared relation) = is_equality relation
+is_equal Always = false
 
 abbrev pub is_local : Subject → Bool
 is_local Record = true
 is_local (Entries index structure) = false
 
 abbrev pub asks_number : Structure → Bool
-asks_number Numeric = true
-asks_number _ = false
+asks_number s = elim s [ Phrase ↦ false | WordList ↦ false | FreeForm ↦ false | Numeric ↦ true ]
 
 abbrev pub is_numeric : Subject → Bool
 is_numeric Record = false
@@ -174,9 +161,8 @@ is_numeric (Entries index structure) = asks_number structure
 
 -- words without an order
 abbrev pub is_list : Subject → Bool
-is_list (Entries index WordList) = true
-is_list (Entries index FreeForm) = true
-is_list _ = false
+is_list Record = false
+is_list (Entries index s) = elim s [ Phrase ↦ false | WordList ↦ true | FreeForm ↦ true | Numeric ↦ false ]
 
 -- ---- what is compared
 
@@ -192,7 +178,8 @@ register_of v =
 -- the words of the term are compared: it is no number, and its relation isn't "always matches"
 abbrev pub compares_words : Subject → Asked → Bool
 compares_words (Entries index structure) (Compared relation) = not (asks_number structure)
-compares_words _ _ = false
+compares_words (Entries index structure) Always = false
+compares_words Record asked = false
 
 -- a truncation puts stars on each word of a list, else at the ends
 abbrev pub spread_of : Subject → Spread

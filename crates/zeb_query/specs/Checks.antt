@@ -8,7 +8,7 @@
 -- Proximity (YAZ manual, Prefix Query Format: `@prox`; ANSI/NISO Z39.50-2003, the proximity operator): the six parameters are exclusion,
 -- distance, ordered, relation, which-code and unit-code. Own rules too: which of their values are kept; that others, and operands that
 -- are no terms, are refused by 110; and that the operands are of one word each, in one index, with the attributes that are left.
-use Rattle.zeb_query.specs.Cited.{is_none, is_some, option_map_or, digits_value, has_pair, QueryFault, Diagnostic, Memory, Always, And, Asked, Compared, DistanceRelation, Entries, Find, Near, Not, Numeric, OperatorWord, Or, Phrase, Profile, Proximity, Purpose, Record, Register, Scan, Separation, Subject, Values}
+use Rattle.zeb_query.specs.Cited.{is_none, is_some, option_map_or, digits_value, has_pair, QueryFault, Diagnostic, Memory, Always, And, Asked, Compared, DistanceRelation, Entries, Find, FreeForm, Near, Not, Numeric, OperatorWord, Or, Phrase, Profile, Proximity, Purpose, Record, Register, Scan, Separation, Subject, Values, WordList}
 use Rattle.std.specs.Prelude.{Bool, Err, List, None, Ok, Option, Result, Some, [], codes, false, if◌then◌else◌, length, nat_lt, not, string_bytes, true, ℕ, ◌&&◌, ◌++◌, ◌==◌, ◌∷◌, ◌≡◌, ◌||◌, decimal, unwrap_or, bytes_eq}
 use Rattle.zeb_query.specs.declared.plans.DistanceRelation.TheVariants.{Equal, Greater, GreaterOrEqual, Less, LessOrEqual, NotEqual}
 use Rattle.zeb_query.specs.declared.plans.Relation.TheVariants as relation
@@ -110,7 +110,8 @@ abbrev pub clashes_with : Subject → Values → Bool
 clashes_with Record v = is_limited v || not (is_equal v.relation)
 clashes_with (Entries index Numeric) v = is_limited v
 clashes_with (Entries index Phrase) v = false
-clashes_with (Entries index words) v = is_first v.position || (is_complete v.completeness || is_ordered v.relation)
+clashes_with (Entries index WordList) v = is_first v.position || (is_complete v.completeness || is_ordered v.relation)
+clashes_with (Entries index FreeForm) v = is_first v.position || (is_complete v.completeness || is_ordered v.relation)
 
 -- values that a scan, or a word near another, doesn't take, though a find may
 abbrev pub is_beyond : Purpose → Values → Bool
@@ -210,7 +211,8 @@ pub record Operand : Type 0 where
 -- the term that a structure is, over which the set is named and the head stands
 abbrev pub operand_of : Option (List ℕ) → HeadValue → TreeValue → Option Operand
 operand_of set outer (TermValue place head text) = Some (record { place = place; held = holding_of set (heads outer head); text = text })
-operand_of set outer other = None
+operand_of set outer (NamedValue place head name) = None
+operand_of set outer (PairValue place head connective left right) = None
 
 -- the one element of a list, if it has just one
 abbrev pub one_of : {A : Type 0} → List A → Option A

@@ -21,7 +21,6 @@ pub use Rattle.zeb_query.specs.declared.keywords.OperatorWord.{OperatorWord}
 pub use Rattle.zeb_query.specs.declared.keywords.OperatorWord.TheVariants.{And, Not, Or, Proximity}
 pub use Rattle.zeb_query.specs.declared.plans.DistanceRelation.{DistanceRelation}
 pub use Rattle.zeb_query.specs.declared.plans.Operator.{Operator}
-pub use Rattle.zeb_query.specs.declared.plans.Order.{Order}
 pub use Rattle.zeb_query.specs.declared.plans.Relation.{Relation}
 pub use Rattle.zeb_query.specs.declared.plans.Separation.{Separation}
 pub use Rattle.zeb_query.specs.declared.values.Purpose.{Purpose}

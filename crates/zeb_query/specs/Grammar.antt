@@ -9,7 +9,7 @@
 -- Own rules of this project, which the manual leaves open or has otherwise: that a type is a number of at most nine digits; that a value
 -- has at least one character; that keywords are in lower case and unquoted, and have no meaning where a SET, a TYPE, a NAME or a W is due;
 -- that an unquoted word which begins with @ and is no keyword is a TERM; and that no query has a bad word.
-use Rattle.zeb_query.specs.Cited.{is_ascii_digit, after_first, before_first, list_all, list_any, position_or_len, digits_value, Keyword, OperatorWord, And, Not, Or, Proximity, Spelling, Bad, Plain}
+use Rattle.zeb_query.specs.Cited.{is_ascii_digit, after_first, before_first, list_all, list_any, position_or_len, digits_value, Keyword, OperatorWord, And, Not, Or, Proximity, Spelling, Bad, Plain, Quoted}
 use Rattle.zeb_query.specs.declared.keywords.Keyword.TheVariants.{Attribute, AttributeSet, Operator, ResultSet, TermType}
 use Rattle.std.specs.Prelude.{Bool, List, None, Option, Some, [], chars, codes, false, if◌then◌else◌, length, map, nat_le, nat_lt, option_and_then, string_bytes, true, ℕ, ◌&&◌, ◌++◌, ◌==◌, ◌∷◌, ◌≡◌, option_map, bytes_eq}
 use Rattle.zeb_query.specs.declared.queries.Attribute.{Attribute as AttributeOfQuery}
@@ -119,36 +119,30 @@ operator_word Or = codes "@or"
 operator_word Not = codes "@not"
 operator_word Proximity = codes "@prox"
 
--- what a text stands for in a table
-abbrev pub kept_text : {A : Type 0} → List (List ℕ × A) → List ℕ → Option A
-kept_text [] text = None
-kept_text (row ∷ rows) text = if bytes_eq text row.0 then Some row.1 else kept_text rows text
+-- what the first row of a table stands for whose entry is the one that is looked for, and of a table of texts that of a text
+abbrev pub row_for : {K A : Type 0} → (K → Bool) → List (K × A) → Option A
+row_for is_it [] = None
+row_for is_it (row ∷ rows) = if is_it row.0 then Some row.1 else row_for is_it rows
 
-abbrev pub operator_spelled : List ℕ → Option OperatorWord
-operator_spelled text = kept_text (map (λ word. (operator_word word, word)) (And ∷ Or ∷ Not ∷ Proximity ∷ [])) text
+abbrev pub kept_text : {A : Type 0} → List (List ℕ × A) → List ℕ → Option A
+kept_text table text = row_for (bytes_eq text) table
 
 -- the keyword of a text
 abbrev pub keyword_spelled : List ℕ → Option Keyword
-keyword_spelled text =
-    if bytes_eq text (codes "@attrset") then Some AttributeSet else (
-    if bytes_eq text (codes "@attr") then Some Attribute else (
-    if bytes_eq text (codes "@term") then Some TermType else (
-    if bytes_eq text (codes "@set") then Some ResultSet else
-    option_map Operator (operator_spelled text))))
+keyword_spelled text = kept_text (
+    (codes "@attrset", AttributeSet) ∷ (codes "@attr", Attribute) ∷ (codes "@term", TermType) ∷ (codes "@set", ResultSet)
+    ∷ map (λ word. (operator_word word, Operator word)) (And ∷ Or ∷ Not ∷ Proximity ∷ [])) text
 
--- the keyword that a word of this spelling and text is
-abbrev pub keyword_by : Spelling → List ℕ → Option Keyword
-keyword_by Plain text = keyword_spelled text
-keyword_by spelling text = None
-
+-- the keyword that a word is
 abbrev pub keyword_of : Word → Option Keyword
-keyword_of word = keyword_by word.spelling word.text
+keyword_of word = elim word.spelling [ Plain ↦ keyword_spelled word.text | Quoted ↦ None | Bad ↦ None ]
 
 -- ---- structures and queries
 
 abbrev pub is_good_spelling : Spelling → Bool
+is_good_spelling Plain = true
+is_good_spelling Quoted = true
 is_good_spelling Bad = false
-is_good_spelling spelling = true
 
 -- a word that isn't bad
 abbrev pub is_good : Word → Bool

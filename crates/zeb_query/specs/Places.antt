@@ -8,14 +8,15 @@ use Rattle.std.specs.Prelude.{List, Some, [], chars, length, slice_get, string_b
 use Rattle.zeb_query.specs.Cited.{QueryFault, Diagnostic, Memory, OperatorWord}
 use Rattle.zeb_query.specs.declared.keywords.Keyword.TheVariants.{Operator}
 use Rattle.zeb_query.specs.Words.{AreWords, Word}
-use Rattle.zeb_query.specs.Grammar.{IsQuery, PairValue, QueryValue, SpellsQuery, TreeValue, keyword_of}
+use Rattle.zeb_query.specs.Grammar.{IsQuery, NamedValue, PairValue, QueryValue, SpellsQuery, TermValue, TreeValue, keyword_of}
 
 -- ---- beginnings of queries
 
 -- the places of the operators, in the order of the text
 abbrev pub operators : TreeValue → List ℕ
 operators (PairValue place head connective left right) = place ∷ (operators left ++ operators right)
-operators other = []
+operators (TermValue place head text) = []
+operators (NamedValue place head name) = []
 
 -- some query begins with the words
 abbrev pub IsBeginning : List Word → Type 0

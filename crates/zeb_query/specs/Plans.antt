@@ -3,8 +3,8 @@
 -- Bib-1 says what a relation, a position, a structure and a completeness ask for. Own rules of this project: what a plan has where Bib-1
 -- leaves it open, which are the words of a term, the register, system numbers for structure 107, and that a term has no other plan where
 -- its words are compared and it has none.
-use Rattle.std.specs.Prelude.{Bool, List, None, Option, Result, Some, [], ◌∷◌, chars, if◌then◌else◌, string_bytes, ℕ, ◌<◌, ◌^◌, ◌≡◌, unwrap_or}
-use Rattle.zeb_query.specs.Cited.{digits_value, number_key, Symbol, Always, Asked, Compared, Complete, Completeness, Entries, FreeForm, Incomplete, Operator, Order, Position, Profile, Record, Register, Relation, Separation, Structure, Subject, Values, WordList}
+use Rattle.std.specs.Prelude.{Bool, List, Option, Result, Some, [], ◌∷◌, chars, if◌then◌else◌, string_bytes, ℕ, ◌<◌, ◌^◌, ◌≡◌, unwrap_or}
+use Rattle.zeb_query.specs.Cited.{digits_value, number_key, Symbol, Always, Asked, Compared, Complete, Completeness, Entries, FreeForm, Incomplete, Numeric, Operator, Phrase, Position, Profile, Record, Register, Relation, Separation, Structure, Subject, Values, WordList}
 use Rattle.zeb_keys.specs.declared.Register.TheVariants as register
 use Rattle.zeb_text.specs.Truncation.{joined_patterns}
 use Rattle.zeb_text.specs.Words.{words_of}
@@ -14,7 +14,7 @@ use Rattle.zeb_query.specs.declared.plans.TermPlan.{TermPlan}
 use Rattle.zeb_query.specs.declared.plans.TermPlan.TheVariants as term
 use Rattle.zeb_query.specs.Grammar.{BooleanOf, HeadValue, NamedValue, PairValue, ParametersValue, ProximityOf, QueryValue, TermValue, TreeValue, heads, no_head}
 use Rattle.zeb_query.specs.Checks.{Operand, Refusal, checked_by, checks_in, index_near, one_of, operand_of, scan_checks_in, separation_of}
-use Rattle.zeb_query.specs.Attributes.{HoldingValue, asks_number, holding_of, index_in, is_first, is_numeric, joined_words, order_of, patterns_asked, register_of, values_held}
+use Rattle.zeb_query.specs.Attributes.{HoldingValue, asks_number, holding_of, index_in, is_equality, is_first, is_numeric, joined_words, patterns_asked, register_of, values_held}
 
 -- ---- plans as values
 
@@ -24,7 +24,7 @@ pub data TermPlanValue : Type 0 where
   NoWordsOf : ℕ → Register → TermPlanValue
   AlwaysOf : ℕ → Register → TermPlanValue
   NumberOf : ℕ → Relation → ℕ → TermPlanValue
-  OrderedOf : ℕ → Register → Order → List ℕ → TermPlanValue
+  OrderedOf : ℕ → Register → Relation → List ℕ → TermPlanValue
   CompleteOf : ℕ → List Symbol → TermPlanValue
   PhraseOf : ℕ → List (List Symbol) → Bool → TermPlanValue
   AllWordsOf : ℕ → List (List Symbol) → TermPlanValue
@@ -40,7 +40,7 @@ term_plan_value (term.RecordNumber number) = RecordNumberOf number
 term_plan_value (term.NoWords index register) = NoWordsOf index register
 term_plan_value (term.Always index register) = AlwaysOf index register
 term_plan_value (term.Number index relation number) = NumberOf index relation number
-term_plan_value (term.Ordered index register order start) = OrderedOf index register order (string_bytes start)
+term_plan_value (term.Ordered index register relation start) = OrderedOf index register relation (string_bytes start)
 term_plan_value (term.Complete index pattern) = CompleteOf index pattern
 term_plan_value (term.Phrase index patterns first) = PhraseOf index patterns.items first
 term_plan_value (term.AllWords index patterns) = AllWordsOf index patterns.items
@@ -63,22 +63,23 @@ abbrev pub words_asked : ℕ → Structure → Position → Completeness → Lis
 words_asked index structure position Complete patterns = CompleteOf index (joined_patterns patterns)
 words_asked index WordList position Incomplete patterns = AllWordsOf index patterns
 words_asked index FreeForm position Incomplete patterns = AnyWordOf index patterns
-words_asked index structure position Incomplete patterns = PhraseOf index patterns (is_first position)
+words_asked index Phrase position Incomplete patterns = PhraseOf index patterns (is_first position)
+words_asked index Numeric position Incomplete patterns = PhraseOf index patterns (is_first position)
 
 abbrev pub matched_asked : Values → ℕ → Structure → List (List Symbol) → TermPlanValue
 matched_asked v index structure patterns =
     asked_with patterns index (register_of v) (words_asked index structure v.position v.completeness patterns)
 
-abbrev pub texts_asked : Values → ℕ → Structure → List ℕ → List (List Symbol) → Option Order → TermPlanValue
-texts_asked v index structure text patterns (Some order) =
-    asked_with (words_of (chars text)) index (register_of v) (OrderedOf index (register_of v) order (joined_words text))
-texts_asked v index structure text patterns None = matched_asked v index structure patterns
+abbrev pub texts_asked : Values → ℕ → Structure → List ℕ → List (List Symbol) → Relation → TermPlanValue
+texts_asked v index structure text patterns relation =
+    if is_equality relation then matched_asked v index structure patterns else
+    asked_with (words_of (chars text)) index (register_of v) (OrderedOf index (register_of v) relation (joined_words text))
 
 abbrev pub entries_asked : Values → ℕ → Structure → List ℕ → List (List Symbol) → Asked → TermPlanValue
 entries_asked v index structure text patterns Always = AlwaysOf index (register_of v)
 entries_asked v index structure text patterns (Compared relation) =
     if asks_number structure then NumberOf index relation (digits_value 10 text) else
-    texts_asked v index structure text patterns (order_of relation)
+    texts_asked v index structure text patterns relation
 
 abbrev pub subject_asked : Values → List ℕ → List (List Symbol) → Subject → TermPlanValue
 subject_asked v text patterns Record = RecordNumberOf (digits_value 10 text)
@@ -124,7 +125,13 @@ plan_of profile query = checked_by (checks_in profile query.attrset no_head quer
 abbrev pub HasSmallNumber : TermPlanValue → Type 0
 HasSmallNumber (RecordNumberOf number) = number < 10 ^ 9
 HasSmallNumber (NumberOf index relation number) = number < 10 ^ 18
-HasSmallNumber other = Unit {0}
+HasSmallNumber (NoWordsOf index register) = Unit {0}
+HasSmallNumber (AlwaysOf index register) = Unit {0}
+HasSmallNumber (OrderedOf index register relation start) = Unit {0}
+HasSmallNumber (CompleteOf index pattern) = Unit {0}
+HasSmallNumber (PhraseOf index patterns first) = Unit {0}
+HasSmallNumber (AllWordsOf index patterns) = Unit {0}
+HasSmallNumber (AnyWordOf index patterns) = Unit {0}
 
 abbrev pub HasSmallNumbers : PlanValue → Type 0
 HasSmallNumbers (TermOf plan) = HasSmallNumber plan
@@ -159,7 +166,8 @@ no_scan = record { index = 0; register = register.Word; start = [] }
 
 abbrev pub tree_scanned : Profile → Option (List ℕ) → TreeValue → ScanValue
 tree_scanned profile set (TermValue place head text) = scan_asked profile (holding_of set (heads no_head head)) text
-tree_scanned profile set other = no_scan
+tree_scanned profile set (NamedValue place head name) = no_scan
+tree_scanned profile set (PairValue place head connective left right) = no_scan
 
 -- the first diagnostic of the scan's checks, or where it begins
 abbrev pub scan_of : Profile → QueryValue → Result ScanValue Refusal

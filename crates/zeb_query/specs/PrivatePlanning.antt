@@ -3,7 +3,7 @@
 use Rattle.zeb_query.specs.Cited.{is_some, number_key, Symbol, Always, Asked, Compared, Entries, Find, Near, Profile, Proximity, Purpose, Record, Relation, Scan, Separation, Structure, Subject, Values}
 use Rattle.std.specs.Prelude.{Bool, Err, List, None, Ok, Option, Result, Some, [], codes, false, if◌then◌else◌, not, true, ℕ, ◌==◌, ◌||◌, bytes_eq}
 use Rattle.zeb_query.specs.Grammar.{BooleanOf, HeadValue, NamedValue, PairValue, ParametersValue, ProximityOf, TermValue, TreeValue, few, heads, kept_text, many, number_of, operator_word}
-use Rattle.zeb_query.specs.Attributes.{HoldingValue, asks_number, completeness_of, holding_of, index_in, index_used, is_local_number, is_numeric, joined_words, order_of, patterns_asked, position_of, register_of, relation_of, structure_of, truncation_of}
+use Rattle.zeb_query.specs.Attributes.{HoldingValue, asks_number, completeness_of, holding_of, index_in, index_used, is_local_number, is_numeric, joined_words, patterns_asked, position_of, register_of, relation_of, structure_of, truncation_of}
 use Rattle.zeb_query.specs.Checks.{Check, Operand, Refusal, check, clash_check, distance_relations, index_check, kind_check, one_of, operand_of, orderings, refused, set_check, type_check, words_check, written}
 use Rattle.zeb_query.specs.Plans.{AlwaysOf, NearOf, NumberOf, PairOf, PlanValue, RecordNumberOf, ScanValue, TermOf, TermPlanValue, texts_asked}
 
@@ -76,7 +76,7 @@ number_in most place text = kept_or 126 place (Some text) (number_of most text)
 unfoldable pub compared_plan : ℕ → List ℕ → Values → ℕ → Structure → List (List Symbol) → Relation → Result TermPlanValue Refusal
 compared_plan place text v index structure patterns relation =
     if asks_number structure then (number_in many place text >>= λ number. Ok (NumberOf index relation number)) else (
-    Ok (texts_asked v index structure text patterns (order_of relation)))
+    Ok (texts_asked v index structure text patterns relation))
 
 abbrev pub related_plan : ℕ → List ℕ → Values → ℕ → Structure → List (List Symbol) → Asked → Result TermPlanValue Refusal
 related_plan place text v index structure patterns Always = Ok (AlwaysOf index (register_of v))
@@ -104,17 +104,14 @@ leaf_scan profile h place text = do
 
 -- ---- proximity
 
-abbrev pub parameter_kept : ℕ → List ℕ → Bool → Result (Unit {0}) Refusal
-parameter_kept place text is_kept = passed (check place 110 text (not is_kept))
-
 unfoldable pub separation_read : ℕ → ParametersValue → Result Separation Refusal
 separation_read place p = do
-  _ ← parameter_kept place p.exclusion (bytes_eq p.exclusion (codes "0"))
+  _ ← passed (check place 110 p.exclusion (not (bytes_eq p.exclusion (codes "0"))))
   distance ← kept_or 110 place (Some p.distance) (number_of few p.distance)
   ordered ← kept_or 110 place (Some p.ordered) (kept_text orderings p.ordered)
   relation ← kept_or 110 place (Some p.relation) (kept_text distance_relations p.relation)
-  _ ← parameter_kept place p.which_code (bytes_eq p.which_code (codes "k") || bytes_eq p.which_code (codes "known"))
-  _ ← parameter_kept place p.unit_code (bytes_eq p.unit_code (codes "2"))
+  _ ← passed (check place 110 p.which_code (not (bytes_eq p.which_code (codes "k") || bytes_eq p.which_code (codes "known"))))
+  _ ← passed (check place 110 p.unit_code (not (bytes_eq p.unit_code (codes "2"))))
   Ok (record { distance = distance; ordered = ordered; relation = relation })
 
 -- the index and the one pattern of a term near another

@@ -1,6 +1,6 @@
 -- What only the contracts of private functions speak of; no public clause reaches it.
 -- What the functions that read a text give, in the words of the grammar.
-use Rattle.std.specs.Prelude.{ℕ, List, ◌++◌, map, string_bytes, ◌≡◌, [], ◌∷◌, true, Option, Some, None, ◌==◌, if◌then◌else◌, option_copied}
+use Rattle.std.specs.Prelude.{ℕ, List, ◌++◌, map, string_bytes, ◌≡◌, [], ◌∷◌, true, Option, Some, None, ◌==◌, if◌then◌else◌, option_copied, find, option_to_list}
 use Rattle.zeb_query.specs.Cited.{list_all, QueryFault, Diagnostic, Memory, OperatorWord, Keyword}
 use Rattle.zeb_query.specs.declared.keywords.Keyword.TheVariants.{Attribute, Operator}
 use Rattle.std.specs.Borrow.{Bor}
@@ -15,7 +15,7 @@ use Rattle.zeb_query.specs.declared.holding.Holding.{Holding}
 use Rattle.zeb_query.specs.Words.{Word}
 use Rattle.zeb_query.specs.PrivateWalk.{words_at, in_word, in_quotes, escaped, plain_word, quoted_word, with_front, Due, fault}
 use Rattle.zeb_query.specs.Grammar.{keyword_of, IsStructure, IsQuery, under, is_good, text_of, kind_and_value, connective_of, AttributeValue, ConnectiveValue, HeadValue, ParametersValue, TreeValue, or_else}
-use Rattle.zeb_query.specs.Attributes.{HoldingValue, is_bib1, is_other_kind}
+use Rattle.zeb_query.specs.Attributes.{HoldingValue, is_other_kind, is_other_set}
 
 -- ---- faults
 
@@ -93,16 +93,6 @@ pub record ReadsWord (rest after : Rest) (word : Word) : Type 0 where
   pub end : after.end ≡ rest.end
   pub room : after.room ≡ rest.room
 
-abbrev pub IsAfterFirst : List Word → List Word → Type 0
-IsAfterFirst [] after = ⊥
-IsAfterFirst (word ∷ words) after = after ≡ words
-
--- the first word is read from a rest, and what follows is left
-pub record ReadsFirst (rest after : Rest) : Type 0 where
-  pub is : IsAfterFirst (left rest) (left after)
-  pub end : after.end ≡ rest.end
-  pub room : after.room ≡ rest.room
-
 -- a number and a text, without where the text lies in memory
 abbrev pub pair_value : Option (ℕ × Bor (List ℕ)) → Option (ℕ × List ℕ)
 pair_value None = None
@@ -177,20 +167,14 @@ holding_value holding = record {
   completeness = option_copied holding.completeness;
 }
 
+-- a set that is named inside of all others, if one is
+abbrev pub with_set : HoldingValue → Option (List ℕ) → HoldingValue
+with_set holding set = record holding { other_set = or_else holding.other_set (find is_other_set (option_to_list set)) }
+
 -- one more attribute inside of all others
-abbrev pub first_set : Option (List ℕ) → List ℕ → Option (List ℕ)
-first_set (Some set) other = Some set
-first_set None other = if is_bib1 other then None else Some other
-
-abbrev pub first_set_of : Option (List ℕ) → Option (List ℕ) → Option (List ℕ)
-first_set_of found None = found
-first_set_of found (Some set) = first_set found set
-
 abbrev pub held_with : HoldingValue → AttributeValue → HoldingValue
-held_with holding a = record {
-  other_set = first_set_of holding.other_set a.set;
+held_with holding a = record (with_set holding a.set) {
   other_kind = or_else holding.other_kind (if is_other_kind a.kind then Some a.kind else None);
-  term_type = holding.term_type;
   use_attribute = if a.kind == 1 then Some a.value else holding.use_attribute;
   relation = if a.kind == 2 then Some a.value else holding.relation;
   position = if a.kind == 3 then Some a.value else holding.position;

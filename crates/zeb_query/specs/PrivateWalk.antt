@@ -1,7 +1,7 @@
 -- What only the contracts of private functions speak of; no public clause reaches it.
 -- The words of a text and its fault as the functions that read it find them, from the left one after another. What is found
 -- is proved to be just what `AreWords` and `IsFaulty` say.
-use Rattle.zeb_query.specs.Cited.{len_utf8, is_some, Keyword, OperatorWord, Proximity, Spelling, Bad, Plain, Quoted}
+use Rattle.zeb_query.specs.Cited.{len_utf8, is_some, Keyword, OperatorWord, And, Not, Or, Proximity, Spelling, Bad, Plain, Quoted}
 use Rattle.zeb_query.specs.declared.keywords.Keyword.TheVariants.{Attribute, AttributeSet, Operator, ResultSet, TermType}
 use Rattle.std.specs.Prelude.{Bool, List, None, Option, Some, [], encode_utf8, false, if◌then◌else◌, suc, true, zero, ℕ, ◌++◌, ◌+◌, ◌==◌, ◌∷◌}
 use Rattle.zeb_query.specs.Words.{Word, is_blank}
@@ -83,8 +83,7 @@ words_then (suc k) n = MoreWords k n
 
 -- how many parameters an operator has
 abbrev pub parameter_count : OperatorWord → ℕ
-parameter_count Proximity = 6
-parameter_count word = 0
+parameter_count word = elim word [ And ↦ 0 | Or ↦ 0 | Not ↦ 0 | Proximity ↦ 6 ]
 
 abbrev pub operator_step : ℕ → OperatorWord → ℕ → Step
 operator_step zero connective n = Refused 6

@@ -2,8 +2,8 @@
 ghost use Rattle.std.specs.Prelude.{◌≡◌, option_copied};
 ghost use Rattle.zeb_query.specs.Attributes as values;
 
+use crate::Relation;
 use crate::digits::short_number;
-use crate::{Order, Relation};
 use zeb_text::Cut;
 
 /// What a relation attribute asks for (Bib-1, attribute type 2).
@@ -13,21 +13,6 @@ pub enum Asked {
     Compared(Relation),
     /// 103, always matches.
     Always,
-}
-
-impl Relation {
-    /// The order that it is, if it isn't equality.
-    pub(crate) fn order(self) -> Option<Order>
-        ensures { result ≡ values.order_of self }
-    {
-        match self {
-            Relation::Less => Some(Order::Less),
-            Relation::LessOrEqual => Some(Order::LessOrEqual),
-            Relation::Equal => None,
-            Relation::GreaterOrEqual => Some(Order::GreaterOrEqual),
-            Relation::Greater => Some(Order::Greater),
-        }
-    }
 }
 
 /// Where in a field a term stands (Bib-1, attribute type 3).
@@ -50,14 +35,6 @@ pub enum Structure {
     FreeForm,
     /// 109, numeric string.
     Numeric,
-}
-
-impl Structure {
-    pub(crate) fn is_numeric(self) -> bool
-        ensures { result ≡ values.asks_number self }
-    {
-        self == Structure::Numeric
-    }
 }
 
 /// How much of a field a term stands for (Bib-1, attribute type 6).

@@ -1,6 +1,6 @@
 //! Reading the words of a text as a query, from the left, an operator before its operands.
-ghost use Rattle.std.specs.Prelude.{◌≡◌, ◌≢◌, ◌<◌, ◌≤◌, List, ℕ, suc, ◌∷◌, Some, None, length, map, IfOk, OnOk, IfErr, IfSome, true, string_bytes, [], option_map, IfNone};
-ghost use Rattle.zeb_query.specs.Clauses.{Attribute as AttributeKeyword, TermType as TermTypeKeyword, Operator as OperatorKeyword, IsFault, WordOfQuery, word_of, left, first_keyword, fault_of, pair_value, IsSpec, SpellsAttribute, SpellsProximity, SpellsHead, SpellsParameters, SpellsOperator, SpellsSet, Spells, attribute_value, connective_value, head_value, parameters_value, tree_value, query_value, PairValue, IsQuery, kind_and_value, has_equals, heads, Start, Structures, SetOrSpec, Spec, MoreWords, fault, words_then, first_place, ReadsWord, ReadsFirst, is_good, Due, fault_at_end};
+ghost use Rattle.std.specs.Prelude.{◌≡◌, ◌≢◌, List, ℕ, suc, ◌∷◌, Some, None, map, IfOk, OnOk, IfErr, true, string_bytes, [], option_map};
+ghost use Rattle.zeb_query.specs.Clauses.{Attribute as AttributeKeyword, TermType as TermTypeKeyword, Operator as OperatorKeyword, IsFault, WordOfQuery, word_of, left, first_keyword, fault_of, pair_value, IsSpec, SpellsAttribute, SpellsProximity, SpellsHead, SpellsParameters, SpellsOperator, SpellsSet, Spells, attribute_value, connective_value, head_value, parameters_value, tree_value, query_value, PairValue, IsQuery, kind_and_value, has_equals, heads, Start, Structures, SetOrSpec, Spec, MoreWords, fault, words_then, first_place, ReadsWord, is_good, Due, fault_at_end};
 
 use crate::diagnostics::{Condition, Site};
 use crate::digits::short_number;
@@ -36,8 +36,6 @@ impl<'a> Rest<'a> {
 
     /// The first word, whatever it is but a bad one, and what follows it.
     fn word(&self, alloc: Global) -> Result<(&'a Word, Rest<'a>), QueryFault>
-        ensures shorter { IfOk result
-            (λ read. length read.1.words.now < length self.now.words.now) }
         ensures reads { IfOk result (λ read. ReadsWord self.now read.1 (word_of read.0.now)) }
         ensures good { IfOk result (λ read. is_good (word_of read.0.now) ≡ true) }
         ensures fails { IfErr result (λ e. (due : Due) →
@@ -56,22 +54,6 @@ impl<'a> Rest<'a> {
         ensures { result ≡ first_keyword (left self.now) }
     {
         self.words.first()?.keyword()
-    }
-
-    /// What follows the keyword, if that is the first word.
-    fn after(&self, keyword: Keyword) -> Option<Rest<'a>>
-        ensures shorter { IfSome result
-            (λ rest. length rest.words.now < length self.now.words.now) }
-        ensures reads { IfSome result (ReadsFirst self.now) }
-        ensures found { IfSome result (λ _. first_keyword (left self.now) ≡ Some keyword) }
-        ensures absent { IfNone result (first_keyword (left self.now) ≢ Some keyword) }
-    {
-        let (word, words) = self.words.split_first()?;
-        if word.keyword() == Some(keyword) {
-            Some(Rest { words, ..*self })
-        } else {
-            None
-        }
     }
 }
 
@@ -105,9 +87,10 @@ fn attribute_set_of<'a>(
         (λ read. SpellsSet rest.entry read.1 (option_map string_bytes read.0)) }
     ensures fails { IfErr result (λ e. IsFault e (fault_of rest.entry Start)) }
 {
-    let Some(after) = rest.after(Keyword::AttributeSet) else {
+    if rest.keyword() != Some(Keyword::AttributeSet) {
         return Ok((None, rest));
-    };
+    }
+    let (_, after) = rest.word(alloc)?;
     let (word, after) = after.word(alloc)?;
     Ok((Some(word.text.clone()?), after))
 }
@@ -115,7 +98,6 @@ fn attribute_set_of<'a>(
 /// A term, a named result set, or an operator and its operands, after the attributes and term types that hold for
 /// it.
 fn structure<'a>(alloc: Global, rest: Rest<'a>) -> Result<(Tree, Rest<'a>), QueryFault>
-    ensures shorter { IfOk result (λ read. length read.1.words.now < length rest.entry.words.now) }
     ensures goes { IfOk result (λ read. (n : ℕ) →
         fault_of rest.entry (Structures (suc n)) ≡ fault_of read.1 (Structures n)) }
     ensures spelled { IfOk result (λ read. Spells rest.entry read.1 (tree_value read.0)) }
@@ -174,7 +156,6 @@ fn pair_tree(
 /// The attributes and term types at the front: `@attr [ SET ] SPEC` and `@term TYPE`, any number of them. Of several
 /// term types the last is kept, since the innermost holds.
 fn head_of<'a>(alloc: Global, rest: Rest<'a>) -> Result<(Head, Rest<'a>), QueryFault>
-    ensures shorter { IfOk result (λ read. length read.1.words.now ≤ length rest.entry.words.now) }
     ensures goes { IfOk result (λ read. (n : ℕ) →
         fault_of rest.entry (Structures (suc n)) ≡ fault_of read.1 (Structures (suc n))) }
     ensures spelled { IfOk result (λ read. SpellsHead rest.entry read.1 (head_value read.0)) }
@@ -189,16 +170,22 @@ fn head_of<'a>(alloc: Global, rest: Rest<'a>) -> Result<(Head, Rest<'a>), QueryF
         term_type: None,
     };
     loop {
-        if let Some(after) = rest.after(Keyword::Attribute) {
-            let (attribute, after) = attribute_of(alloc, after)?;
-            push_attribute(&mut head, attribute)?;
-            rest = after;
-        } else if let Some(after) = rest.after(Keyword::TermType) {
-            let (word, after) = after.word(alloc)?;
-            head.term_type = Some(word.text.clone()?);
-            rest = after;
-        } else {
-            return Ok((head, rest));
+        match rest.keyword() {
+            Some(Keyword::Attribute) => {
+                let (_, after) = rest.word(alloc)?;
+                let (attribute, after) = attribute_of(alloc, after)?;
+                push_attribute(&mut head, attribute)?;
+                rest = after;
+            }
+            Some(Keyword::TermType) => {
+                let (_, after) = rest.word(alloc)?;
+                let (word, after) = after.word(alloc)?;
+                head.term_type = Some(word.text.clone()?);
+                rest = after;
+            }
+            Some(Keyword::AttributeSet | Keyword::ResultSet | Keyword::Operator(_)) | None => {
+                return Ok((head, rest));
+            }
         }
     }
 }
@@ -215,7 +202,6 @@ fn push_attribute(head: &mut Head, attribute: Attribute) -> Result<(), AllocErro
 
 /// `[ SET ] SPEC`, what follows `@attr`: a word without `=` is the set.
 fn attribute_of<'a>(alloc: Global, rest: Rest<'a>) -> Result<(Attribute, Rest<'a>), QueryFault>
-    ensures shorter { IfOk result (λ read. length read.1.words.now < length rest.entry.words.now) }
     ensures goes { IfOk result (λ read. (n : ℕ) → fault_of rest.entry (SetOrSpec n)
         ≡ fault_of read.1 (Structures (suc n))) }
     ensures spelled { IfOk result
@@ -275,7 +261,6 @@ fn connective_of<'a>(
     rest: Rest<'a>,
 ) -> Result<(usize, Connective, Rest<'a>), QueryFault>
     requires { first_keyword (left rest) ≡ Some (OperatorKeyword operator) }
-    ensures shorter { IfOk result (λ read. length read.2.words.now < length rest.entry.words.now) }
     ensures goes { IfOk result (λ read. (n : ℕ) →
         fault_of rest.entry (Structures (suc n)) ≡ fault_of read.2 (Structures (suc (suc n)))) }
     ensures spelled { IfOk result (λ read. SpellsOperator rest.entry read.2 operator read.0
@@ -304,7 +289,6 @@ fn connective_of<'a>(
 }
 
 fn parameters_of<'a>(alloc: Global, rest: Rest<'a>) -> Result<(Parameters, Rest<'a>), QueryFault>
-    ensures shorter { IfOk result (λ read. length read.1.words.now ≤ length rest.entry.words.now) }
     ensures goes { IfOk result (λ read. (n : ℕ) → fault_of rest.entry (words_then 6 n)
         ≡ fault_of read.1 (Structures n)) }
     ensures spelled { IfOk result
@@ -330,7 +314,6 @@ fn parameters_of<'a>(alloc: Global, rest: Rest<'a>) -> Result<(Parameters, Rest<
 
 /// A word of any kind.
 fn parameter<'a>(alloc: Global, rest: Rest<'a>) -> Result<(String, Rest<'a>), QueryFault>
-    ensures shorter { IfOk result (λ read. length read.1.words.now ≤ length rest.entry.words.now) }
     ensures goes { IfOk result (λ read. (k n : ℕ) → fault_of rest.entry (MoreWords k n)
         ≡ fault_of read.1 (words_then k n)) }
     ensures spelled { IfOk result

@@ -1,6 +1,6 @@
 //! The attributes and the term type that hold over a term, the innermost of each type.
-ghost use Rattle.std.specs.Prelude.{◌≡◌, List, ℕ, Option};
-ghost use Rattle.zeb_query.specs.Clauses.{is_bib1, holding_of, attribute_value, head_value, query_value, HeadValue, heads, no_head, holding_value, held_with, first_set};
+ghost use Rattle.std.specs.Prelude.{◌≡◌, List, ℕ, Option, option_map, string_bytes};
+ghost use Rattle.zeb_query.specs.Clauses.{is_bib1, holding_of, attribute_value, head_value, query_value, HeadValue, heads, no_head, holding_value, held_with, with_set};
 
 use crate::{Attribute, Head, Query};
 
@@ -8,7 +8,7 @@ use crate::{Attribute, Head, Query};
 ///
 /// For each type the innermost attribute holds. One that an inner one replaces still counts for the faults of its set
 /// and of its type, of which the leftmost is told.
-#[derive(Clone, Copy)]
+#[derive(Clone, Copy, Default)]
 pub(crate) struct Holding<'a> {
     /// The leftmost name of an attribute set other than Bib-1.
     pub other_set: Option<&'a str>,
@@ -30,20 +30,8 @@ impl<'a> Holding<'a> {
     pub(crate) fn over(query: &'a Query) -> Holding<'a>
         ensures { holding_value result ≡ holding_of (query_value query.now).attrset no_head }
     {
-        let mut holding = Holding {
-            other_set: None,
-            other_kind: None,
-            term_type: None,
-            use_attribute: None,
-            relation: None,
-            position: None,
-            structure: None,
-            truncation: None,
-            completeness: None,
-        };
-        if let Some(set) = &query.attrset {
-            holding.name_set(set.as_str());
-        }
+        let mut holding = Holding::default();
+        holding.name_set(&query.attrset);
         holding
     }
 
@@ -68,9 +56,7 @@ impl<'a> Holding<'a> {
         ensures { holding_value self.new
             ≡ held_with (holding_value self.old) (attribute_value attribute.now) }
     {
-        if let Some(set) = &attribute.set {
-            self.name_set(set.as_str());
-        }
+        self.name_set(&attribute.set);
         let value = Some(attribute.value.as_str());
         match attribute.kind {
             1 => self.use_attribute = value,
@@ -87,14 +73,15 @@ impl<'a> Holding<'a> {
         }
     }
 
-    fn name_set(&mut self, set: &'a str)
+    fn name_set(&mut self, set: &'a Option<String>)
         ensures { holding_value self.new
-            ≡ record (holding_value self.old) {
-              other_set = first_set (holding_value self.old).other_set set.now;
-            } }
+            ≡ with_set (holding_value self.old) (option_map string_bytes set.now) }
     {
-        if self.other_set.is_none() && !is_bib1(set) {
-            self.other_set = Some(set);
+        match set {
+            Some(set) if self.other_set.is_none() && !is_bib1(set.as_str()) => {
+                self.other_set = Some(set.as_str());
+            }
+            _ => {}
         }
     }
 }

@@ -28,8 +28,7 @@ pub use attributes::{Asked, Completeness, Position, Structure};
 pub use faults::QueryFault;
 pub use planning::plan;
 pub use plans::{
-    DistanceRelation, NearPlan, Operator, Order, PairPlan, Plan, Relation, ScanPlan, Separation,
-    TermPlan,
+    DistanceRelation, NearPlan, Operator, PairPlan, Plan, Relation, ScanPlan, Separation, TermPlan,
 };
 pub use queries::{Attribute, Connective, Head, Leaf, Parameters, Query, Tree};
 pub use reading::read_pqf;

@@ -146,7 +146,7 @@ fn compared(
     ensures { Gives plans.term_plan_value result (steps.compared_plan site.place text.now values.now
         index structure patterns.items relation) }
 {
-    if structure.is_numeric() {
+    if structure == Structure::Numeric {
         let number = number_in(site, text)?;
         return Ok(TermPlan::Number {
             index,
@@ -154,9 +154,9 @@ fn compared(
             number,
         });
     }
-    let Some(order) = relation.order() else {
+    if relation == Relation::Equal {
         return Ok(matching(site.alloc, values, index, structure, patterns)?);
-    };
+    }
     let register = values.register();
     let words = words(site.alloc, text)?;
     if words.is_empty() {
@@ -166,7 +166,7 @@ fn compared(
     Ok(TermPlan::Ordered {
         index,
         register,
-        order,
+        relation,
         start,
     })
 }

@@ -1,4 +1,5 @@
-//! Plans: what a query asks for of the registers, and where a scan begins.
+//! Plans: what a query asks for of the registers, and where a scan begins. What is said here of ranges and texts is so of the plans that
+//! `plan` and `plan_scan` give, by their contracts; another caller may build others.
 use zeb_keys::Register;
 use zeb_text::Pattern;
 
@@ -28,19 +29,6 @@ pub enum Relation {
     Greater,
 }
 
-/// How an entry stands to a term in an order (Bib-1, relation attributes 1, 2, 4 and 5).
-#[derive(Clone, Copy, Debug, PartialEq, Eq)]
-pub enum Order {
-    /// 1: the entry comes before the term.
-    Less,
-    /// 2: it comes before the term or is the term.
-    LessOrEqual,
-    /// 4: it is the term or comes after it.
-    GreaterOrEqual,
-    /// 5: it comes after the term.
-    Greater,
-}
-
 /// What a term asks for, with indexes by their number in the profile. `zeb_search` says on which records it holds, and is proved
 /// to find just these.
 #[derive(Debug, Drop)]
@@ -64,12 +52,12 @@ pub enum TermPlan {
         relation: Relation,
         number: u64,
     },
-    /// The records with an entry that stands so to the term's words, joined by one space, in the order of their
-    /// bytes.
+    /// The records with an entry that stands in the relation to the term's words, joined by one space, in the order of their
+    /// bytes. The relation of a term is another one than equality here: that asks for patterns.
     Ordered {
         index: u32,
         register: Register,
-        order: Order,
+        relation: Relation,
         start: String,
     },
     /// The records with a whole phrase that matches the pattern.

@@ -1,5 +1,5 @@
 //! The plan of `@prox`: two words near each other in one unit.
-ghost use Rattle.std.specs.Prelude.{◌≡◌, List, ℕ, Option, Some, string_bytes};
+ghost use Rattle.std.specs.Prelude.{◌≡◌, List, ℕ, Option, string_bytes};
 ghost use Rattle.zeb_query.specs.Clauses.{HeadValue, parameters_value, tree_value, head_value, heads, kept_text, Gives, one_of, operand_of, orderings, distance_relations, holding_of, holding_value, plan_value};
 ghost use Rattle.zeb_query.specs.PrivatePlanning as steps;
 
@@ -53,41 +53,30 @@ fn separation_of(site: Site, parameters: &Parameters) -> Result<Separation, Quer
     ensures { Gives (λ x. x) result
         (steps.separation_read site.place (parameters_value parameters.now)) }
 {
-    let exclusion = parameters.exclusion.as_str();
-    check_parameter(site, exclusion, exclusion == "0")?;
-    let distance = parameters.distance.as_str();
-    let distance = asked(site, distance, short_number(distance))?;
-    let ordered = parameters.ordered.as_str();
-    let ordered = asked(site, ordered, ordering_of(ordered))?;
-    let relation = parameters.relation.as_str();
-    let relation = asked(site, relation, distance_relation_of(relation))?;
-    let which_code = parameters.which_code.as_str();
-    check_parameter(site, which_code, which_code == "k" || which_code == "known")?;
-    let unit_code = parameters.unit_code.as_str();
-    check_parameter(site, unit_code, unit_code == "2")?;
+    let condition = Condition::Operator;
+    let text = parameters.exclusion.as_str();
+    if text != "0" {
+        return Err(site.about(condition, text));
+    }
+    let text = parameters.distance.as_str();
+    let distance = kept(site, condition, Some(text), short_number(text))?;
+    let text = parameters.ordered.as_str();
+    let ordered = kept(site, condition, Some(text), ordering_of(text))?;
+    let text = parameters.relation.as_str();
+    let relation = kept(site, condition, Some(text), distance_relation_of(text))?;
+    let text = parameters.which_code.as_str();
+    if text != "k" && text != "known" {
+        return Err(site.about(condition, text));
+    }
+    let text = parameters.unit_code.as_str();
+    if text != "2" {
+        return Err(site.about(condition, text));
+    }
     Ok(Separation {
         distance,
         ordered,
         relation,
     })
-}
-
-/// What a parameter asks for, or the fault of one that isn't kept.
-fn asked<T>(site: Site, parameter: &str, value: Option<T>) -> Result<T, QueryFault>
-    ensures { Gives (λ x. x) result (steps.kept_or 110 site.place (Some parameter.now) value) }
-{
-    kept(site, Condition::Operator, Some(parameter), value)
-}
-
-/// The fault of a parameter that isn't kept.
-fn check_parameter(site: Site, parameter: &str, is_kept: bool) -> Result<(), QueryFault>
-    ensures { Gives (λ x. x) result (steps.parameter_kept site.place parameter.now is_kept) }
-{
-    if is_kept {
-        Ok(())
-    } else {
-        Err(site.about(Condition::Operator, parameter))
-    }
 }
 
 /// Whether the words have to stand in the order of the query.
@@ -142,14 +131,9 @@ fn near_operand(
     Ok((index, pattern))
 }
 
-fn only(patterns: Vec<Pattern>) -> Option<Pattern>
+fn only(mut patterns: Vec<Pattern>) -> Option<Pattern>
     ensures { result ≡ one_of patterns.items }
 {
-    let mut patterns = patterns;
     let pattern = patterns.pop()?;
-    if patterns.is_empty() {
-        Some(pattern)
-    } else {
-        None
-    }
+    patterns.is_empty().then_some(pattern)
 }

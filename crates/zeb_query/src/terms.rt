@@ -1,6 +1,6 @@
 //! Reading a term: the values of its attributes and the patterns of its words, or its first diagnostic.
 ghost use Rattle.std.specs.Prelude.{◌≡◌, IfOk, Some, option_copied};
-ghost use Rattle.zeb_query.specs.Clauses.{Gives, type_check, condition_number, holding_value};
+ghost use Rattle.zeb_query.specs.Clauses.{Gives, condition_number, holding_value};
 ghost use Rattle.zeb_query.specs.PrivatePlanning as steps;
 
 use crate::QueryFault;
@@ -99,24 +99,17 @@ fn values_of(site: Site, holding: &Holding<'_>, profile: &Profile) -> Result<Val
     })
 }
 
-fn check_type(site: Site, term_type: Option<&str>) -> Result<(), QueryFault>
-    ensures { Gives (λ x. x) result
-        (steps.passed (type_check site.place (option_copied term_type.entry))) }
-{
-    match term_type {
-        Some(text) if text != "general" && text != "string" => {
-            Err(site.about(Condition::TermType, text))
-        }
-        _ => Ok(()),
-    }
-}
-
 /// The faults of a term's type and of the sets and types of the attributes over it.
 #[tactic(auto, unfolding(crate::specs::PrivatePlanning::head_read))]
 fn check_holding(site: Site, holding: &Holding<'_>) -> Result<(), QueryFault>
     ensures { Gives (λ x. x) result (steps.head_read site.place (holding_value holding.now)) }
 {
-    check_type(site, holding.term_type)?;
+    match holding.term_type {
+        Some(text) if text != "general" && text != "string" => {
+            return Err(site.about(Condition::TermType, text));
+        }
+        _ => {}
+    }
     if let Some(set) = holding.other_set {
         return Err(site.about(Condition::AttributeSet, set));
     }

@@ -53,10 +53,7 @@ impl Values {
     fn is_ordered(&self) -> bool
         ensures { result ≡ values.is_ordered self.now.relation }
     {
-        match self.relation {
-            Asked::Compared(relation) => relation.order().is_some(),
-            Asked::Always => false,
-        }
+        self.relation != Asked::Always && !self.is_equal()
     }
 
     pub(crate) fn is_first(&self) -> bool
@@ -82,7 +79,7 @@ impl Values {
     {
         match self.subject {
             Subject::Record => false,
-            Subject::Entries { structure, .. } => structure.is_numeric(),
+            Subject::Entries { structure, .. } => structure == Structure::Numeric,
         }
     }
 
@@ -101,10 +98,7 @@ impl Values {
     pub(crate) fn compares_words(&self) -> bool
         ensures { result ≡ values.compares_words self.now.subject self.now.relation }
     {
-        match (self.subject, self.relation) {
-            (Subject::Entries { structure, .. }, Asked::Compared(_)) => !structure.is_numeric(),
-            _ => false,
-        }
+        self.subject != Subject::Record && self.relation != Asked::Always && !self.is_numeric()
     }
 
     /// Whether a position, a truncation or a completeness is asked for.

@@ -1,5 +1,5 @@
 -- What a term asks for holds on the records that the rows of its attributes say.
-use Rattle.zeb_search.proofs.Cited.{◌≡◌, ◌≢◌, ◌↔◌, ◌∙◌, ℕ, false, cond, List, [], ◌∷◌, Option, Some, None, refl, sym, ap, subst, inl, inr, Ok, Symbol, Register, Order, Relation, Occurrence, TermPlanValue, PlanValue, TermOf, NumberOf, OrderedOf, CompleteOf, PhraseOf, AllWordsOf, AnyWordOf, Has, TermHolds, TreeHolds, chars}
+use Rattle.zeb_search.proofs.Cited.{◌≡◌, ◌≢◌, ◌↔◌, ◌∙◌, ℕ, false, cond, List, [], ◌∷◌, Option, Some, None, refl, sym, ap, subst, inl, inr, Ok, Symbol, Register, Relation, Occurrence, TermPlanValue, PlanValue, TermOf, NumberOf, OrderedOf, CompleteOf, PhraseOf, AllWordsOf, AnyWordOf, Has, TermHolds, TreeHolds, chars}
 use Rattle.std.specs.Str.Parse.{digits_value}
 use Rattle.zeb_keys.specs.declared.Register.TheVariants as register
 use Rattle.zeb_profile.specs.declared.Profile.{Profile}
@@ -11,13 +11,12 @@ use Rattle.zeb_query.specs.declared.attributes.Completeness.{Completeness}
 use Rattle.zeb_query.specs.declared.attributes.Completeness.TheVariants.{Complete, Incomplete}
 use Rattle.zeb_query.specs.declared.attributes.Structure.{Structure}
 use Rattle.zeb_query.specs.declared.attributes.Structure.TheVariants.{FreeForm, Numeric, Phrase, WordList}
-use Rattle.zeb_query.specs.declared.plans.Order.TheVariants as in_order
 use Rattle.zeb_query.specs.declared.plans.Relation.TheVariants.{Equal, Greater, GreaterOrEqual, Less, LessOrEqual}
 use Rattle.zeb_query.specs.declared.values.Subject.{Subject}
 use Rattle.zeb_query.specs.declared.values.Subject.TheVariants.{Entries, Record}
 use Rattle.zeb_query.specs.declared.values.Values.{Values}
 use Rattle.zeb_query.specs.Grammar.{HeadValue, TermValue, heads, no_head}
-use Rattle.zeb_query.specs.Attributes.{HoldingValue, asks_number, holding_of, is_first, joined_words, order_of, patterns_asked, register_of, values_held}
+use Rattle.zeb_query.specs.Attributes.{HoldingValue, asks_number, holding_of, is_equality, is_first, joined_words, patterns_asked, register_of, values_held}
 use Rattle.zeb_query.specs.Checks.{find_checks, first_that_applies}
 use Rattle.zeb_query.specs.Plans.{asked_with, entries_asked, plan_asked, plan_of, subject_asked, texts_asked, words_asked}
 use Rattle.zeb_query.proofs.CheckLemmas.{answered_ok}
@@ -30,19 +29,27 @@ module _ (v : Values) (text : List ℕ) (patterns : List (List Symbol)) where
   related index structure asked s r =
       ap (λ x. subject_asked v text patterns x) s ∙ ap (λ x. entries_asked v index structure text patterns x) r
 
-  compared : (index : ℕ) (structure : Structure) (relation : Relation) (order : Option Order)
-      → v.subject ≡ Entries index structure → asks_number structure ≡ false → v.relation ≡ Compared relation → order_of relation ≡ order
-      → subject_asked v text patterns v.subject ≡ texts_asked v index structure text patterns order
-  compared index structure relation order s n r o =
+  compared : (index : ℕ) (structure : Structure) (relation : Relation)
+      → v.subject ≡ Entries index structure → asks_number structure ≡ false → v.relation ≡ Compared relation
+      → subject_asked v text patterns v.subject ≡ texts_asked v index structure text patterns relation
+  compared index structure relation s n r =
       related index structure (Compared relation) s r
-      ∙ ap (λ b. cond b (NumberOf index relation (digits_value 10 text)) (texts_asked v index structure text patterns (order_of relation))) n
-      ∙ ap (λ x. texts_asked v index structure text patterns x) o
+      ∙ ap (λ b. cond b (NumberOf index relation (digits_value 10 text)) (texts_asked v index structure text patterns relation)) n
+
+  ordered : (index : ℕ) (structure : Structure) (relation : Relation)
+      → v.subject ≡ Entries index structure → asks_number structure ≡ false → v.relation ≡ Compared relation → is_equality relation ≡ false
+      → subject_asked v text patterns v.subject
+      ≡ asked_with (words_of (chars text)) index (register_of v) (OrderedOf index (register_of v) relation (joined_words text))
+  ordered index structure relation s n r o =
+      compared index structure relation s n r
+      ∙ ap (λ b. cond b (asked_with patterns index (register_of v) (words_asked index structure v.position v.completeness patterns))
+      (asked_with (words_of (chars text)) index (register_of v) (OrderedOf index (register_of v) relation (joined_words text)))) o
 
   matched : (index : ℕ) (structure : Structure) (complete : Completeness)
       → v.subject ≡ Entries index structure → asks_number structure ≡ false → v.relation ≡ Compared Equal → v.completeness ≡ complete
       → subject_asked v text patterns v.subject ≡ asked_with patterns index (register_of v) (words_asked index structure v.position complete patterns)
   matched index structure complete s n r c =
-      compared index structure Equal None s n r refl ∙ ap (λ x. asked_with patterns index (register_of v) (words_asked index structure v.position x patterns)) c
+      compared index structure Equal s n r ∙ ap (λ x. asked_with patterns index (register_of v) (words_asked index structure v.position x patterns)) c
 
 -- ---- the rows
 
@@ -72,8 +79,8 @@ module _ (O : ℕ → Occurrence → Type 0) (K : ℕ → Type 0) where
     system_number = λ row. holds_as _ _ _ (ap (λ x. subject_asked v text patterns x) row) (λ n. (λ x. x, λ x. x));
     any_entry = λ index row. holds_as _ _ _ (related v text patterns index row.1.0 Always row.1.1 row.0) (λ n. (λ x. x, λ x. x));
     number = λ index relation row. holds_as _ _ _ (related v text patterns index Numeric (Compared relation) row.1 row.0) (λ n. (λ x. x, λ x. x));
-    ordered = λ index order row. holds_as _ _ _ (compared v text patterns index row.1.0 row.0.0 (Some order) row.1.2 row.1.1 row.0.2 row.0.1)
-        (asked_by (words_of (chars text)) index (register_of v) (OrderedOf index (register_of v) order (joined_words text)));
+    ordered = λ index relation row. holds_as _ _ _ (ordered v text patterns index row.1.1.0 relation row.1.1.2 row.1.1.1 row.1.0 row.0)
+        (asked_by (words_of (chars text)) index (register_of v) (OrderedOf index (register_of v) relation (joined_words text)));
     whole = λ index row. holds_as _ _ _ (matched v text patterns index row.1.1.0 Complete row.1.1.2 row.1.1.1 row.0 row.1.0)
         (asked_by patterns index (register_of v) (CompleteOf index (joined_patterns patterns)));
     each_word = λ index row. holds_as _ _ _ (matched v text patterns index WordList Incomplete row.1.1 refl row.0 row.1.0)
@@ -107,10 +114,10 @@ with v subject asked complete = record v { subject = subject; relation = asked; 
 -- of a structure that is no number, where it has a row for relation 3 and completeness 1
 texts_row : (v : Values) (index : ℕ) (structure : Structure) (relation : Relation) (complete : Completeness) → asks_number structure ≡ false
     → HasRow (with v (Entries index structure) (Compared Equal) Incomplete) → HasRow (with v (Entries index structure) (Compared relation) complete)
-texts_row v index structure Less complete n words = inr (index, inr (inr (inl (in_order.Less, ((Less, refl, refl), (structure, n, refl))))))
-texts_row v index structure LessOrEqual complete n words = inr (index, inr (inr (inl (in_order.LessOrEqual, ((LessOrEqual, refl, refl), (structure, n, refl))))))
-texts_row v index structure GreaterOrEqual complete n words = inr (index, inr (inr (inl (in_order.GreaterOrEqual, ((GreaterOrEqual, refl, refl), (structure, n, refl))))))
-texts_row v index structure Greater complete n words = inr (index, inr (inr (inl (in_order.Greater, ((Greater, refl, refl), (structure, n, refl))))))
+texts_row v index structure Less complete n words = inr (index, inr (inr (inl (Less, (refl, (refl, (structure, n, refl)))))))
+texts_row v index structure LessOrEqual complete n words = inr (index, inr (inr (inl (LessOrEqual, (refl, (refl, (structure, n, refl)))))))
+texts_row v index structure GreaterOrEqual complete n words = inr (index, inr (inr (inl (GreaterOrEqual, (refl, (refl, (structure, n, refl)))))))
+texts_row v index structure Greater complete n words = inr (index, inr (inr (inl (Greater, (refl, (refl, (structure, n, refl)))))))
 texts_row v index structure Equal Complete n words = inr (index, inr (inr (inr (inl (refl, (refl, (structure, n, refl)))))))
 texts_row v index structure Equal Incomplete n words = words
 

@@ -3,16 +3,14 @@ pub use Rattle.sqlite.proofs.Callers.{unchanged_then}
 pub use Rattle.sqlite.proofs.RunLemmas.{has_got}
 pub use Rattle.sqlite.specs.Effect.{Database}
 pub use Rattle.sqlite.specs.Held.{state}
-pub use Rattle.sqlite.specs.Order.{Row, column, row_cmp, value_cmp}
+pub use Rattle.sqlite.specs.Order.{Row, column}
 pub use Rattle.sqlite.specs.State.{State, HasCleanDisk, Survives, IsUnchanged}
 pub use Rattle.sqlite.specs.Tree.{Trees}
-pub use Rattle.sqlite.specs.declared.types.Value.{Value}
-pub use Rattle.sqlite.specs.declared.types.Value.TheVariants.{Null, Text}
+pub use Rattle.sqlite.specs.declared.types.Value.TheVariants.{Text}
 pub use Rattle.sqlite_rules.proofs.ListLemmas.{all_has, has_at, has_left, has_right, has_either, contains_had, all_from, has_contained, has_filtered, has_kept}
 pub use Rattle.sqlite_rules.proofs.ProbeLemmas.{has_mapped, mapped_has}
 pub use Rattle.sqlite_rules.specs.Lists.{Has}
-pub use Rattle.sqlite_value.proofs.OrderLemmas.{row_cmp_total, value_cmp-Text}
-pub use Rattle.std.proofs.Common.{◌≡◌, ◌↔◌, ◌⊎◌, ◌∙◌, ◌++◌, ◌<◌, ℕ, List, [], ◌∷◌, IsTrue, true, false, refl, sym, ap, subst, inl, inr, Ordering, Less, Equal, Greater, arith, ◌+◌, ◌*◌, ◌≤◌, ℤ, Some, None, length, map, length-append, zero, suc, Bool, cond, get_or, take, Option, ◌-◌, ◌≢◌, drop, ap₂, String, string_bytes, Result, Ok, Err, OnOk, Vec, subst₂, ◌&&◌, nat_eq, not, filter, IsUtf8, chars, encode_utf8_all, pos, ◌==◌, eqb-true, eq-eqb, ◌^◌, min, MatchBool, slice_get, IfOk, is_ok, rules}
+pub use Rattle.std.proofs.Common.{◌≡◌, ◌↔◌, ◌⊎◌, ◌∙◌, ◌++◌, ◌<◌, ℕ, List, [], ◌∷◌, IsTrue, true, false, refl, sym, ap, subst, inl, inr, Ordering, Less, Equal, Greater, arith, ◌+◌, ◌*◌, ◌≤◌, ℤ, Some, None, length, map, length-append, zero, suc, Bool, cond, get_or, take, Option, ◌-◌, ◌≢◌, drop, String, string_bytes, Result, Ok, Err, OnOk, Vec, subst₂, ◌&&◌, nat_eq, not, filter, IsUtf8, chars, encode_utf8_all, pos, ◌==◌, eqb-true, eq-eqb, ◌^◌, min, MatchBool, slice_get, IfOk, is_ok, rules}
 pub use Rattle.std.proofs.Math.Nat.{mul-add, mul-le-mul_left}
 pub use Rattle.std.proofs.lemmas.Bool.{cases_lt}
 pub use Rattle.std.proofs.lemmas.Bool.Decides.{nat_tests}
@@ -31,7 +29,7 @@ pub use Rattle.std.specs.Cmp.Lexicographic.{slice_cmp, nat_list_cmp_total}
 pub use Rattle.std.specs.List.{Contains}
 pub use Rattle.std.specs.List.Retain.{IsFiltered, DiffersFromLast}
 pub use Rattle.std.specs.List.Sorted.{IsPermutation, IsSorted}
-pub use Rattle.std.specs.Ordering.{nat_cmp, is_lt, is_le, is_ge, is_gt, ordering_reverse, ordering_then, eq_by_cmp}
+pub use Rattle.std.specs.Ordering.{nat_cmp, is_lt, is_le, is_eq, is_ge, is_gt, ordering_reverse, ordering_then, eq_by_cmp}
 pub use Rattle.std.specs.Str.Pattern.{FindsTextPrefix, HasPrefixMatch}
 pub use Rattle.std.specs.declared.alloc.Global.{Global}
 pub use Rattle.zeb_keys.proofs.Rising.{numbers_apart}
@@ -41,55 +39,46 @@ pub use Rattle.zeb_keys.specs.declared.Register.{Register}
 pub use Rattle.zeb_keys.specs.declared.keys.Key.{Key}
 pub use Rattle.zeb_keys.specs.declared.keys.Occurrence.{Occurrence}
 pub use Rattle.zeb_query.proofs.HoldingLemmas.{take_whole}
-pub use Rattle.zeb_query.specs.Plans.{PlanValue, TermOf, PairOf, NearOf, TermPlanValue, RecordNumberOf, NoWordsOf, AlwaysOf, NumberOf, OrderedOf, CompleteOf, PhraseOf, AllWordsOf, AnyWordOf, term_plan_value, plan_value}
+pub use Rattle.zeb_query.specs.Plans.{PlanValue, TermOf, PairOf, NearOf, TermPlanValue, RecordNumberOf, NoWordsOf, AlwaysOf, NumberOf, OrderedOf, CompleteOf, PhraseOf, AllWordsOf, AnyWordOf, plan_value}
 pub use Rattle.zeb_query.specs.declared.plans.Operator.{Operator}
 pub use Rattle.zeb_query.specs.declared.plans.Operator.TheVariants.{And, Or, Not}
-pub use Rattle.zeb_query.specs.declared.plans.Order.{Order}
 pub use Rattle.zeb_query.specs.declared.plans.PairPlan.{PairPlan}
 pub use Rattle.zeb_query.specs.declared.plans.Relation.{Relation}
 pub use Rattle.zeb_query.specs.declared.plans.Separation.{Separation}
-pub use Rattle.zeb_query.specs.declared.plans.TermPlan.{TermPlan}
-pub use Rattle.zeb_register.proofs.BetweenLists.{AreListsSound}
 pub use Rattle.zeb_register.proofs.Calls.{nothing_still, nothing_then, store_same}
 pub use Rattle.zeb_register.proofs.CallsInTurn.{quiet_still, quiet_then}
 pub use Rattle.zeb_register.proofs.Causes.{may_after}
 pub use Rattle.zeb_register.proofs.ContentChanges.{posting_total, postings_apart}
 pub use Rattle.zeb_register.proofs.CountLemmas.{is_less, less_is}
-pub use Rattle.zeb_register.proofs.FormatLemmas.{registers_rise}
-pub use Rattle.zeb_register.proofs.PostingStatements.{dict, dict_keys, dict_static}
 pub use Rattle.zeb_register.proofs.RisingLists.{never_back, never_itself, pushed_rises, before_last, front_rises, joined_rises}
 pub use Rattle.zeb_register.proofs.RowLemmas.{same_bytes}
-pub use Rattle.zeb_register.proofs.SharedKeys.{single}
-pub use Rattle.zeb_register.proofs.TermLists.{above_least, least_above, has_taken}
-pub use Rattle.zeb_register.proofs.TermRows.{taken_below, taken_more, take_rises, last_view}
-pub use Rattle.zeb_register.specs.Between.{IsPostingBetween, AreKeysBetween}
+pub use Rattle.zeb_register.proofs.TermLists.{above_least, least_above}
+pub use Rattle.zeb_register.proofs.TermRows.{taken_below, taken_more, last_view}
+pub use Rattle.zeb_register.specs.Between.{AreKeysBetween}
 pub use Rattle.zeb_register.specs.Calls.{ChangesNothing, Reading}
 pub use Rattle.zeb_register.specs.Clauses.{OnStore, TellsHeld, IsReasoned}
 pub use Rattle.zeb_register.specs.Content.{Content, posted, posting_cmp, Posting, IsStorable}
 pub use Rattle.zeb_register.specs.Formats.{Format, holds_in, plain_rows, packed_blocks}
 pub use Rattle.zeb_register.specs.Kept.{IsIdentOf, AreReadableIdents}
-pub use Rattle.zeb_register.specs.Occurring.{AreTermsOf, TermIn, key_in, AreTermsFrom, is_from, term_cmp}
+pub use Rattle.zeb_register.specs.Occurring.{AreTermsOf, TermIn, key_in, term_cmp}
 pub use Rattle.zeb_register.specs.PlainRows.{register_front}
-pub use Rattle.zeb_register.specs.Sound.{IsListSound}
-pub use Rattle.zeb_register.specs.Sql.{IsListOf}
 pub use Rattle.zeb_register.specs.Store.{IsStore, HasRecord}
 pub use Rattle.zeb_register.specs.Tallies.{Works, Rises}
 pub use Rattle.zeb_register.specs.declared.RegFault.{RegFault}
-pub use Rattle.zeb_register.specs.declared.RegFault.TheVariants.{Store}
 pub use Rattle.zeb_register.specs.declared.registers.RegisterOf.{RegisterOf}
 pub use Rattle.zeb_register.specs.declared.registers.TermCount.{TermCount}
 pub use Rattle.zeb_register.specs.declared.registers.Work.{Work}
 pub use Rattle.zeb_search.specs.Comparing.{Precedes, StandsInOrder, Stands, AreApart, IsDistant}
 pub use Rattle.zeb_search.specs.DictRows.{EntryDict, PlanDict, RegisterDict, TermDict, WordDict}
-pub use Rattle.zeb_search.specs.Finds.{FindsEntries, FindsPlan, FindsWords, Follow, HasAll, HasAsked, HasEach, HasPosting, HasRun, HasSome, HidesEntries, HidesWord, HidesWords, IsCounted, IsNear, IsReached, IsShown, IsStray, Occurs, PlanFinds, PlanHides, ReadsEntries, ReadsWord, ReadsWords, TermFinds, TermHides}
-pub use Rattle.zeb_search.specs.PrivateFinds.{FindsEntry, FindsKeys, FindsTerm, HidesKeys, IsReachedBy, ListsKeys, PlacesFound, ReadsKeys, ReadsPlaces, ReadsRun, FindsRuns, MeetsTerms, ReadsPhrases}
+pub use Rattle.zeb_search.specs.Finds.{FindsEntries, FindsPlan, FindsWords, Follow, HasAll, HasEach, HasPosting, HasRun, HasSome, HidesEntries, HidesWord, HidesWords, IsCounted, IsNear, IsReached, IsShown, IsStray, Occurs, PlanFinds, PlanHides, ReadsEntries, ReadsWord, ReadsWords, TermFinds, TermHides}
+pub use Rattle.zeb_search.specs.PrivateFinds.{FindsTerm, HidesKeys, IsReachedBy, ListsKeys, PlacesFound}
 pub use Rattle.zeb_search.specs.Holds.{AreJoined, HasEntry, HasWord, HasWords, HasNear, TermHolds, TreeHolds, Fits, HasMatch, HasPhrase, IsNumberAt}
 pub use Rattle.zeb_search.specs.ListRows.{AreKeysOf, EntryRows, rows_under, WordRows, PlanRows}
 pub use Rattle.zeb_search.specs.Lists.{AreNumbers, AreJust, Rise}
 pub use Rattle.zeb_search.specs.PrivateLists.{ArePostings}
 pub use Rattle.zeb_search.specs.PrivateMet.{IsShownAmong, IsShownWith, AreKeysIn, AreMet, HasMet, MeetsCounts}
 pub use Rattle.zeb_search.specs.PrivateSearchCounts.{NoRows}
-pub use Rattle.zeb_search.specs.PrivateTerms.{TermsRise, BeginsAt, IsAmong, LeadsTo, AreTaken, IsWanted, NamesEntry, AreFound, AreNeighbours, AreRun, IsPostingOf, StandTogether, StandsWithin, HasBehind, EndsAt}
+pub use Rattle.zeb_search.specs.PrivateTerms.{TermsRise, BeginsAt, IsAmong, LeadsTo, AreTaken, IsWanted, NamesEntry, AreFound, AreRun, StandTogether, StandsWithin, HasBehind, EndsAt}
 pub use Rattle.zeb_search.specs.PrivateWalks.{HasWithin, IsBefore, IsBehind, IsUpTo, IsWithin, IsFollowed, IsNearBy, IsWithinSome}
 pub use Rattle.zeb_search.specs.PrivateWordCounts.{CountedMatches, CountedWords}
 pub use Rattle.zeb_search.specs.Registers.{HoldsIn, is_kept_in, NamesReadable, TermNamesReadable}

@@ -1,6 +1,6 @@
 -- Texts compared by their bytes.
-use Rattle.zeb_search.proofs.Cited.{◌≡◌, ◌↔◌, ◌⊎◌, ◌∙◌, ◌++◌, ◌<◌, ℕ, List, [], ◌∷◌, IsTrue, true, false, refl, sym, ap, subst, inl, inr, Ordering, Less, Equal, Greater, arith, slice_cmp, nat_list_cmp_total, nat_cmp, is_lt, is_le, is_ge, is_gt, ordering_reverse, ordering_then, nat_tests, tied_itself, never_back, never_itself, same_bytes, above_least, least_above, Precedes, StandsInOrder}
-use Rattle.zeb_query.specs.declared.plans.Order.TheVariants as in_order
+use Rattle.zeb_search.proofs.Cited.{◌≡◌, ◌↔◌, ◌⊎◌, ◌∙◌, ◌++◌, ◌<◌, ℕ, List, [], ◌∷◌, IsTrue, true, false, refl, sym, ap, subst, inl, inr, Ordering, Less, Equal, Greater, arith, slice_cmp, nat_list_cmp_total, nat_cmp, is_lt, is_le, is_eq, is_ge, is_gt, ordering_reverse, ordering_then, nat_tests, tied_itself, never_back, never_itself, same_bytes, above_least, least_above, Precedes, StandsInOrder}
+use Rattle.zeb_query.specs.declared.plans.Relation.TheVariants as relation
 
 pub turned : (a b : List ℕ) → slice_cmp nat_cmp a b ≡ Greater → Precedes b a
 turned a b h = nat_list_cmp_total.antisymm b a ∙ ap ordering_reverse h
@@ -13,17 +13,22 @@ tied_back a b e = ap (slice_cmp nat_cmp a) (sym e) ∙ tied_itself nat_list_cmp_
 
 -- ---- a test of how two texts compare, and how they stand
 
-pub le_stands : (a b : List ℕ) (o : Ordering) → o ≡ slice_cmp nat_cmp a b → IsTrue (is_le o) ↔ StandsInOrder in_order.LessOrEqual a b
+pub le_stands : (a b : List ℕ) (o : Ordering) → o ≡ slice_cmp nat_cmp a b → IsTrue (is_le o) ↔ StandsInOrder relation.LessOrEqual a b
 le_stands a b Less e = (λ _. inl (sym e), λ _. refl)
 le_stands a b Equal e = (λ _. inr (same_bytes a b (sym e)), λ _. refl)
 le_stands a b Greater e = (λ h. absurd (cc), λ h. elim h [ inl less ↦ absurd (cc) | inr same ↦ absurd (let t = tied_back a b same in cc) ])
 
-pub ge_stands : (a b : List ℕ) (o : Ordering) → o ≡ slice_cmp nat_cmp a b → IsTrue (is_ge o) ↔ StandsInOrder in_order.GreaterOrEqual a b
+pub eq_stands : (a b : List ℕ) (o : Ordering) → o ≡ slice_cmp nat_cmp a b → IsTrue (is_eq o) ↔ StandsInOrder relation.Equal a b
+eq_stands a b Less e = (λ h. absurd (cc), λ h. absurd (let t = tied_back a b h in cc))
+eq_stands a b Equal e = (λ _. same_bytes a b (sym e), λ _. refl)
+eq_stands a b Greater e = (λ h. absurd (cc), λ h. absurd (let t = tied_back a b h in cc))
+
+pub ge_stands : (a b : List ℕ) (o : Ordering) → o ≡ slice_cmp nat_cmp a b → IsTrue (is_ge o) ↔ StandsInOrder relation.GreaterOrEqual a b
 ge_stands a b Less e = (λ h. absurd (cc), λ h. elim h [ inl more ↦ absurd (let t = turned_back a b more in cc) | inr same ↦ absurd (let t = tied_back a b same in cc) ])
 ge_stands a b Equal e = (λ _. inr (same_bytes a b (sym e)), λ _. refl)
 ge_stands a b Greater e = (λ _. inl (turned a b (sym e)), λ _. refl)
 
-pub gt_stands : (a b : List ℕ) (o : Ordering) → o ≡ slice_cmp nat_cmp a b → IsTrue (is_gt o) ↔ StandsInOrder in_order.Greater a b
+pub gt_stands : (a b : List ℕ) (o : Ordering) → o ≡ slice_cmp nat_cmp a b → IsTrue (is_gt o) ↔ StandsInOrder relation.Greater a b
 gt_stands a b Less e = (λ h. absurd (cc), λ h. absurd (let t = turned_back a b h in cc))
 gt_stands a b Equal e = (λ h. absurd (cc), λ h. absurd (let t = turned_back a b h in cc))
 gt_stands a b Greater e = (λ _. turned a b (sym e), λ _. refl)

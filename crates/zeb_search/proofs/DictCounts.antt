@@ -108,7 +108,7 @@ module _ (row_work : ℕ) (content : Content) (db : ℤ) where
   named_term (NoWordsOf index register) n none named = none
   named_term (AlwaysOf index register) n all named = absurd named
   named_term (NumberOf index relation number) n terms named = named_entry (IsOneKey relation number) index register.Number n terms named
-  named_term (OrderedOf index register order start) n all named = absurd named
+  named_term (OrderedOf index register relation start) n all named = absurd named
   named_term (CompleteOf index pattern) n terms named = named_entry (HasNoStar pattern) index register.Phrase n terms named
   named_term (PhraseOf index patterns first) n words named = named_words index patterns n words named
   named_term (AllWordsOf index patterns) n words named = named_words index patterns n words named

@@ -25,7 +25,7 @@ module _ (O P : ℕ → Occurrence → Type 0) (so : (n : ℕ) (o : Occurrence) 
     term_along (NoWordsOf index register) n h = h
     term_along (AlwaysOf index register) n h = entry_along index register _ n h
     term_along (NumberOf index relation number) n h = entry_along index _ _ n h
-    term_along (OrderedOf index register order start) n h = entry_along index register _ n h
+    term_along (OrderedOf index register relation start) n h = entry_along index register _ n h
     term_along (CompleteOf index pattern) n h = entry_along index _ _ n h
     term_along (PhraseOf index patterns first) n h = (h.0, (h.1.0, h.1.1, h.1.2, words_along index patterns n h.1.0 h.1.1 h.1.3))
     term_along (AllWordsOf index patterns) n h = (h.0, λ pattern there. entry_along index _ _ n (h.1 pattern there))

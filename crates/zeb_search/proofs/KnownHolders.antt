@@ -18,7 +18,7 @@ module _ (O : ℕ → Occurrence → Type 0) (K : ℕ → Type 0) where
   term_known (NoWordsOf index register) n h = absurd h
   term_known (AlwaysOf index register) n h = entry_known index register _ n h
   term_known (NumberOf index relation number) n h = entry_known index _ _ n h
-  term_known (OrderedOf index register order start) n h = entry_known index register _ n h
+  term_known (OrderedOf index register relation start) n h = entry_known index register _ n h
   term_known (CompleteOf index pattern) n h = entry_known index _ _ n h
   term_known (PhraseOf index [] first) n h = absurd (h.0 refl)
   term_known (PhraseOf index (pattern ∷ patterns) first) n h = word_known index pattern n h.1.0 h.1.1 h.1.3.0

@@ -4,9 +4,6 @@ use Rattle.zeb_search.proofs.ReadLemmas.{IsRead, clean_before, still_store, stil
 
 -- what the earlier of two calls has met, and what the later one has, said of the tables as they were before both
 module _ (a b c : State) (P : Trees → Type 0) (crash : Survives b c (λ _. ⊥)) where
-  pub met_earlier : OnStore a b P → OnStore a c P
-  met_earlier met clean store = met (clean_before b c crash clean) store
-
   pub met_later : IsRead a b → OnStore b c P → OnStore a c P
   met_later read met clean store =
       let first = clean_before b c crash clean in

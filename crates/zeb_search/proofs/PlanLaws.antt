@@ -15,7 +15,7 @@ module _ (format : Format) (trees : Trees) (db : ℤ) where
   term_rises (NoWordsOf index register) hits finds = finds.rising
   term_rises (AlwaysOf index register) hits finds = finds.2.rising
   term_rises (NumberOf index relation number) hits finds = finds.2.rising
-  term_rises (OrderedOf index register order start) hits finds = finds.2.rising
+  term_rises (OrderedOf index register relation start) hits finds = finds.2.rising
   term_rises (CompleteOf index pattern) hits finds = finds.2.rising
   term_rises (PhraseOf index patterns first) hits finds = finds.2.rising
   term_rises (AllWordsOf index patterns) hits finds = finds.2.rising
@@ -33,7 +33,7 @@ module _ (format : Format) (trees : Trees) (db : ℤ) where
   term_sound (NoWordsOf index register) hits finds = tt
   term_sound (AlwaysOf index register) hits finds = read_sound format trees db ⊥ index register (λ _. Unit {0}) finds.0 finds.1
   term_sound (NumberOf index relation number) hits finds = read_sound format trees db (IsOneKey relation number) index register.Number (IsNumberAt relation number) finds.0 finds.1
-  term_sound (OrderedOf index register order start) hits finds = read_sound format trees db ⊥ index register (λ term. StandsInOrder order term start) finds.0 finds.1
+  term_sound (OrderedOf index register relation start) hits finds = read_sound format trees db ⊥ index register (λ term. StandsInOrder relation term start) finds.0 finds.1
   term_sound (CompleteOf index pattern) hits finds = read_sound format trees db (HasNoStar pattern) index register.Phrase (Fits pattern) finds.0 finds.1
   term_sound (PhraseOf index patterns first) hits finds = words_sound format trees db index patterns finds.0 finds.1
   term_sound (AllWordsOf index patterns) hits finds = words_sound format trees db index patterns finds.0 finds.1
@@ -55,7 +55,7 @@ module _ (format : Format) (trees : Trees) (db : ℤ) where
     term_held (NoWordsOf index register) hits finds = finds
     term_held (AlwaysOf index register) hits finds = entries_held format trees db ⊥ index register (λ _. Unit {0}) content holds hits finds
     term_held (NumberOf index relation number) hits finds = entries_held format trees db (IsOneKey relation number) index register.Number (IsNumberAt relation number) content holds hits finds
-    term_held (OrderedOf index register order start) hits finds = entries_held format trees db ⊥ index register (λ term. StandsInOrder order term start) content holds hits finds
+    term_held (OrderedOf index register relation start) hits finds = entries_held format trees db ⊥ index register (λ term. StandsInOrder relation term start) content holds hits finds
     term_held (CompleteOf index pattern) hits finds = entries_held format trees db (HasNoStar pattern) index register.Phrase (Fits pattern) content holds hits finds
     term_held (PhraseOf index patterns first) hits finds =
         just_same (HasRun finds.0 first) (Holds (TermOf (PhraseOf index patterns first))) hits (run_held format trees db index content holds patterns finds.0 finds.1 first) finds.2
@@ -81,7 +81,7 @@ module _ (format : Format) (trees : Trees) (db : ℤ) where
       term_shown (NoWordsOf index register) readable hidden = absurd hidden
       term_shown (AlwaysOf index register) readable hidden = none_hidden format trees db ⊥ index register (λ _. Unit {0}) content holds storable hidden
       term_shown (NumberOf index relation number) readable hidden = none_hidden format trees db (IsOneKey relation number) index register.Number (IsNumberAt relation number) content holds storable hidden
-      term_shown (OrderedOf index register order start) readable hidden = none_hidden format trees db ⊥ index register (λ term. StandsInOrder order term start) content holds storable hidden
+      term_shown (OrderedOf index register relation start) readable hidden = none_hidden format trees db ⊥ index register (λ term. StandsInOrder relation term start) content holds storable hidden
       term_shown (CompleteOf index pattern) readable hidden = none_hidden format trees db (HasNoStar pattern) index register.Phrase (Fits pattern) content holds storable hidden
       term_shown (PhraseOf index patterns first) readable hidden = no_word_hidden format trees db index content holds storable patterns hidden
       term_shown (AllWordsOf index patterns) readable hidden = no_word_hidden format trees db index content holds storable patterns hidden

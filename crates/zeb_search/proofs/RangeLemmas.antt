@@ -1,6 +1,5 @@
 -- Where the entries that are asked for begin and end, in the order of their bytes.
-use Rattle.zeb_search.proofs.Cited.{◌≡◌, ◌⊎◌, ◌∙◌, ◌<◌, ◌≤◌, ◌^◌, ◌++◌, ℕ, min, Bool, true, false, not, IsTrue, MatchBool, None, List, [], ◌∷◌, sym, subst, inl, inr, arith, Ordering, IsUtf8, chars, encode_utf8_all, append-nil, FindsTextPrefix, HasPrefixMatch, nat_cmp, is_ge, slice_cmp, number_key, Matches, Symbol, Star, literal, keys_order, after_literal, cut_bytes, literal-same, Order, Relation, is_less, less_is, Precedes, Stands, StandsInOrder, Fits, IsNumberAt}
-use Rattle.zeb_query.specs.declared.plans.Order.TheVariants as in_order
+use Rattle.zeb_search.proofs.Cited.{◌≡◌, ◌⊎◌, ◌∙◌, ◌<◌, ◌≤◌, ◌^◌, ◌++◌, ℕ, min, Bool, true, false, not, IsTrue, MatchBool, None, List, [], ◌∷◌, sym, subst, inl, inr, arith, Ordering, IsUtf8, chars, encode_utf8_all, append-nil, FindsTextPrefix, HasPrefixMatch, nat_cmp, is_ge, slice_cmp, number_key, Matches, Symbol, Star, literal, keys_order, after_literal, cut_bytes, literal-same, Relation, is_less, less_is, Precedes, Stands, StandsInOrder, Fits, IsNumberAt}
 use Rattle.zeb_query.specs.declared.plans.Relation.TheVariants as relation
 use Rattle.zeb_search.proofs.Comparisons.{begins_between, ge_stands, never_after, never_before_itself, none_between, not_before_front, precedes_then}
 
@@ -44,24 +43,31 @@ number_behind r number value term behind small is last at h =
 
 -- ---- texts in an order
 
-module _ (order : Order) (text start : List ℕ) where
-  pub texts_begin : order ≡ in_order.GreaterOrEqual → start ≡ text → (term : List ℕ) → StandsInOrder order term text → ¬ Precedes term start
-  texts_begin which is term stands h = elim (subst (λ (o : Order). StandsInOrder o term text) which stands) [
+module _ (r : Relation) (text start : List ℕ) where
+  pub texts_begin : (r ≡ relation.Equal) ⊎ (r ≡ relation.GreaterOrEqual) → start ≡ text → (term : List ℕ) → StandsInOrder r term text → ¬ Precedes term start
+  texts_begin (inl which) is term stands h =
+      never_before_itself text (subst (λ (t : List ℕ). Precedes t text) (subst (λ (q : Relation). StandsInOrder q term text) which stands) (subst (Precedes term) is h))
+  texts_begin (inr which) is term stands h = elim (subst (λ (q : Relation). StandsInOrder q term text) which stands) [
     | inl above ↦ never_after text term above (subst (Precedes term) is h)
     | inr same ↦ never_before_itself text (subst (λ (t : List ℕ). Precedes t text) same (subst (Precedes term) is h))
   ]
 
-  pub texts_begin_above : order ≡ in_order.Greater → start ≡ text ++ 0 ∷ [] → (term : List ℕ) → StandsInOrder order term text → ¬ Precedes term start
-  texts_begin_above which is term stands h = none_between text term (subst (λ (o : Order). StandsInOrder o term text) which stands) (subst (Precedes term) is h)
+  pub texts_begin_above : r ≡ relation.Greater → start ≡ text ++ 0 ∷ [] → (term : List ℕ) → StandsInOrder r term text → ¬ Precedes term start
+  texts_begin_above which is term stands h = none_between text term (subst (λ (q : Relation). StandsInOrder q term text) which stands) (subst (Precedes term) is h)
 
-stands_below : (order : Order) (text other : List ℕ) → (order ≡ in_order.Less) ⊎ (order ≡ in_order.LessOrEqual) → StandsInOrder order text other → Precedes text other ⊎ (text ≡ other)
-stands_below order text other (inl is) h = inl (subst (λ (o : Order). StandsInOrder o text other) is h)
-stands_below order text other (inr is) h = subst (λ (o : Order). StandsInOrder o text other) is h
+-- a relation that no greater text has
+abbrev IsUpTo : Relation → Type 0
+IsUpTo r = (r ≡ relation.Less) ⊎ ((r ≡ relation.LessOrEqual) ⊎ (r ≡ relation.Equal))
 
-pub texts_end : (order : Order) (text other : List ℕ) (o : Ordering) → (order ≡ in_order.Less) ⊎ (order ≡ in_order.LessOrEqual) → o ≡ slice_cmp nat_cmp text other → IsTrue (is_ge o)
-    → (behind : List ℕ) → Precedes text behind → ¬ StandsInOrder order behind other
-texts_end order text other o which is high behind up stands =
-    let below : Precedes text other = elim (stands_below order behind other which stands) [ inl low ↦ precedes_then text behind other up low | inr same ↦ subst (Precedes text) same up ] in
+stands_below : (r : Relation) (text other : List ℕ) → IsUpTo r → StandsInOrder r text other → Precedes text other ⊎ (text ≡ other)
+stands_below r text other (inl is) h = inl (subst (λ (q : Relation). StandsInOrder q text other) is h)
+stands_below r text other (inr (inl is)) h = subst (λ (q : Relation). StandsInOrder q text other) is h
+stands_below r text other (inr (inr is)) h = inr (subst (λ (q : Relation). StandsInOrder q text other) is h)
+
+pub texts_end : (r : Relation) (text other : List ℕ) (o : Ordering) → IsUpTo r → o ≡ slice_cmp nat_cmp text other → IsTrue (is_ge o)
+    → (behind : List ℕ) → Precedes text behind → ¬ StandsInOrder r behind other
+texts_end r text other o which is high behind up stands =
+    let below : Precedes text other = elim (stands_below r behind other which stands) [ inl low ↦ precedes_then text behind other up low | inr same ↦ subst (Precedes text) same up ] in
     elim ((ge_stands text other o is).0 high) [ inl above ↦ never_after text other below above | inr same ↦ never_before_itself other (subst (λ (t : List ℕ). Precedes t other) same below) ]
 
 -- ---- patterns

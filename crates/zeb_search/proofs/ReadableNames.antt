@@ -7,7 +7,7 @@ module _ (trees : Trees) (db : ℤ) (readable : (n : ℕ) → AreReadableIdents 
   term_readable (NoWordsOf index register) = tt
   term_readable (AlwaysOf index register) = tt
   term_readable (NumberOf index relation number) = tt
-  term_readable (OrderedOf index register order start) = tt
+  term_readable (OrderedOf index register relation start) = tt
   term_readable (CompleteOf index pattern) = tt
   term_readable (PhraseOf index patterns first) = tt
   term_readable (AllWordsOf index patterns) = tt

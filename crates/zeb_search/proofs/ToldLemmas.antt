@@ -28,10 +28,6 @@ tells_later D P a b c read crash (Err fault) tells clean store =
       λ is. may_after a b c read.crash (λ opened. ((read.untouched first).1 opened).0.is_open) (λ _. it.1 is),
     )
 
--- an accepted one, of the same tables
-pub told_earlier : {A : Type 0} (D : Trees → Type 0) (P : Trees → A → Type 0) (a b c : State) (x : A) → Survives b c (λ _. ⊥) → TellsOr D P a b (Ok x) → TellsOr D P a c (Ok x)
-told_earlier D P a b c x crash tells clean store = tells (clean_before b c crash clean) store
-
 -- a refusal whose causes are told one by one
 pub told_refused : {A B : Type 0} (E : Trees → Type 0) (Q : Trees → B → Type 0) (old new : State) (cause : RegFault) (r : Result B RegFault) → r ≡ Err cause
     → OnStore old new (λ trees. ◌≡◌ {A = Result A RegFault} (Err cause) (Err Damaged) → E trees) → IsReasoned {A = A} old new (Err cause) → TellsOr E Q old new r

@@ -15,13 +15,12 @@ use Rattle.zeb_query.specs.declared.attributes.Asked.TheVariants.{Always, Compar
 use Rattle.zeb_query.specs.declared.attributes.Completeness.TheVariants.{Complete, Incomplete}
 use Rattle.zeb_query.specs.declared.attributes.Structure.{Structure}
 use Rattle.zeb_query.specs.declared.attributes.Structure.TheVariants.{FreeForm, Numeric, Phrase, WordList}
-use Rattle.zeb_query.specs.declared.plans.Order.{Order}
 use Rattle.zeb_query.specs.declared.plans.Relation.{Relation}
 use Rattle.zeb_query.specs.declared.plans.Relation.TheVariants.{Equal}
 use Rattle.zeb_query.specs.declared.values.Subject.{Subject}
 use Rattle.zeb_query.specs.declared.values.Subject.TheVariants.{Entries, Record}
 use Rattle.zeb_query.specs.declared.values.Values.{Values}
-use Rattle.zeb_query.specs.Attributes.{HoldingValue, asks_number, completeness_of, index_used, is_first, is_local_number, joined_words, order_of, patterns_asked, position_of, register_of, relation_of, structure_of, truncation_of}
+use Rattle.zeb_query.specs.Attributes.{HoldingValue, asks_number, completeness_of, index_used, is_equality, is_first, is_local_number, joined_words, patterns_asked, position_of, register_of, relation_of, structure_of, truncation_of}
 use Rattle.zeb_search.specs.Comparing.{StandsInOrder}
 use Rattle.zeb_search.specs.Holds.{Fits, HasEntry, HasMatch, HasPhrase, IsNumberAt}
 
@@ -67,9 +66,9 @@ ComparesNumbers index relation v = (v.relation ≡ Compared relation) × (v.subj
 abbrev pub NamesTexts : ℕ → Values → Type 0
 NamesTexts index v = (structure : Structure) × (asks_number structure ≡ false) × (v.subject ≡ Entries index structure)
 
--- such a structure, and relation 1, 2, 4 or 5
-abbrev pub ComparesTexts : ℕ → Order → Values → Type 0
-ComparesTexts index order v = ((relation : Relation) × (order_of relation ≡ Some order) × (v.relation ≡ Compared relation)) × NamesTexts index v
+-- such a structure, and a relation that compares, but for equality: 1, 2, 4 or 5
+abbrev pub ComparesTexts : ℕ → Relation → Values → Type 0
+ComparesTexts index relation v = (is_equality relation ≡ false) × ((v.relation ≡ Compared relation) × NamesTexts index v)
 
 -- such a structure, relation 3 and completeness 2 or 3
 abbrev pub MatchesWhole : ℕ → Values → Type 0
@@ -86,7 +85,7 @@ HasRow v =
     ⊎ ((index : ℕ)
     × (AlwaysMatches index v
     ⊎ (((relation : Relation) × ComparesNumbers index relation v)
-    ⊎ (((order : Order) × ComparesTexts index order v)
+    ⊎ (((relation : Relation) × ComparesTexts index relation v)
     ⊎ (MatchesWhole index v
     ⊎ (MatchesWords WordList index v
     ⊎ (MatchesWords FreeForm index v
@@ -103,9 +102,9 @@ pub record HoldsByAttributes (O : ℕ → Occurrence → Type 0) (IsKept : ℕ �
   -- a number in the relation to the one that the term spells
   pub number : (index : ℕ) (relation : Relation) → ComparesNumbers index relation v → (n : ℕ)
       → Holds n ↔ HasEntry O index register.Number (IsNumberAt relation (digits_value 10 text)) n
-  -- an entry that comes before or after the term's words, or is the same, as the order says
-  pub ordered : (index : ℕ) (order : Order) → ComparesTexts index order v → (n : ℕ)
-      → Holds n ↔ ((words_of (chars text) ≢ []) × HasEntry O index (register_of v) (λ term. StandsInOrder order term (joined_words text)) n)
+  -- an entry that comes before or after the term's words, or is the same, as the relation says
+  pub ordered : (index : ℕ) (relation : Relation) → ComparesTexts index relation v → (n : ℕ)
+      → Holds n ↔ ((words_of (chars text) ≢ []) × HasEntry O index (register_of v) (λ term. StandsInOrder relation term (joined_words text)) n)
   -- a whole text that matches the term's words, one after another
   pub whole : (index : ℕ) → MatchesWhole index v → (n : ℕ)
       → Holds n ↔ ((patterns_asked v text ≢ []) × HasEntry O index register.Phrase (Fits (joined_patterns (patterns_asked v text))) n)

@@ -7,8 +7,6 @@ use Rattle.std.specs.Ordering.{nat_cmp}
 use Rattle.std.specs.Cmp.Lexicographic.{slice_cmp}
 use Rattle.zeb_query.specs.declared.plans.DistanceRelation.{DistanceRelation}
 use Rattle.zeb_query.specs.declared.plans.DistanceRelation.TheVariants as at
-use Rattle.zeb_query.specs.declared.plans.Order.{Order}
-use Rattle.zeb_query.specs.declared.plans.Order.TheVariants as in_order
 use Rattle.zeb_query.specs.declared.plans.Relation.{Relation}
 use Rattle.zeb_query.specs.declared.plans.Relation.TheVariants as relation
 use Rattle.zeb_query.specs.declared.plans.Separation.{Separation}
@@ -25,12 +23,13 @@ Stands relation.Greater a b = b < a
 abbrev pub Precedes : List ℕ → List ℕ → Type 0
 Precedes a b = slice_cmp nat_cmp a b ≡ ordering.Less
 
--- the first text stands so to the other
-abbrev pub StandsInOrder : Order → List ℕ → List ℕ → Type 0
-StandsInOrder in_order.Less a b = Precedes a b
-StandsInOrder in_order.LessOrEqual a b = Precedes a b ⊎ (a ≡ b)
-StandsInOrder in_order.GreaterOrEqual a b = Precedes b a ⊎ (a ≡ b)
-StandsInOrder in_order.Greater a b = Precedes b a
+-- the first text stands in the relation to the other
+abbrev pub StandsInOrder : Relation → List ℕ → List ℕ → Type 0
+StandsInOrder relation.Less a b = Precedes a b
+StandsInOrder relation.LessOrEqual a b = Precedes a b ⊎ (a ≡ b)
+StandsInOrder relation.Equal a b = a ≡ b
+StandsInOrder relation.GreaterOrEqual a b = Precedes b a ⊎ (a ≡ b)
+StandsInOrder relation.Greater a b = Precedes b a
 
 -- the number of words from one word to another stands so to the distance
 abbrev pub IsDistant : DistanceRelation → ℕ → ℕ → Type 0

@@ -31,7 +31,7 @@ module _ (row_work : ℕ) (content : Content) (db : ℤ) where
   TermDict (NoWordsOf index register) n = n ≡ 0
   TermDict (AlwaysOf index register) n = RegisterDict index register n
   TermDict (NumberOf index relation number) n = EntryDict (IsOneKey relation number) index register.Number n
-  TermDict (OrderedOf index register order start) n = RegisterDict index register n
+  TermDict (OrderedOf index register relation start) n = RegisterDict index register n
   TermDict (CompleteOf index pattern) n = EntryDict (HasNoStar pattern) index register.Phrase n
   TermDict (PhraseOf index patterns first) n = WordDict index patterns n
   TermDict (AllWordsOf index patterns) n = WordDict index patterns n

@@ -142,7 +142,7 @@ module _ (format : Format) (trees : Trees) (db : ℤ) where
   TermFinds (NoWordsOf index register) hits = AreNumbers (λ _. ⊥) hits
   TermFinds (AlwaysOf index register) hits = FindsEntries ⊥ index register (λ _. Unit {0}) hits
   TermFinds (NumberOf index relation number) hits = FindsEntries (IsOneKey relation number) index register.Number (IsNumberAt relation number) hits
-  TermFinds (OrderedOf index register order start) hits = FindsEntries ⊥ index register (λ term. StandsInOrder order term start) hits
+  TermFinds (OrderedOf index register relation start) hits = FindsEntries ⊥ index register (λ term. StandsInOrder relation term start) hits
   TermFinds (CompleteOf index pattern) hits = FindsEntries (HasNoStar pattern) index register.Phrase (Fits pattern) hits
   TermFinds (PhraseOf index patterns first) hits = FindsWords (λ lists. HasRun lists first) index patterns hits
   TermFinds (AllWordsOf index patterns) hits = FindsWords HasEach index patterns hits
@@ -154,7 +154,7 @@ module _ (format : Format) (trees : Trees) (db : ℤ) where
   TermHides (NoWordsOf index register) = ⊥
   TermHides (AlwaysOf index register) = HidesEntries ⊥ index register (λ _. Unit {0})
   TermHides (NumberOf index relation number) = HidesEntries (IsOneKey relation number) index register.Number (IsNumberAt relation number)
-  TermHides (OrderedOf index register order start) = HidesEntries ⊥ index register (λ term. StandsInOrder order term start)
+  TermHides (OrderedOf index register relation start) = HidesEntries ⊥ index register (λ term. StandsInOrder relation term start)
   TermHides (CompleteOf index pattern) = HidesEntries (HasNoStar pattern) index register.Phrase (Fits pattern)
   TermHides (PhraseOf index patterns first) = HidesWords index patterns
   TermHides (AllWordsOf index patterns) = HidesWords index patterns

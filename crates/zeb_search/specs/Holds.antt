@@ -74,7 +74,7 @@ module _ (O : ℕ → Occurrence → Type 0) where
     TermHolds (NoWordsOf index register) n = ⊥
     TermHolds (AlwaysOf index register) n = HasEntry index register (λ _. Unit {0}) n
     TermHolds (NumberOf index relation number) n = HasEntry index register.Number (IsNumberAt relation number) n
-    TermHolds (OrderedOf index register order start) n = HasEntry index register (λ term. StandsInOrder order term start) n
+    TermHolds (OrderedOf index register relation start) n = HasEntry index register (λ term. StandsInOrder relation term start) n
     TermHolds (CompleteOf index pattern) n = HasEntry index register.Phrase (Fits pattern) n
     TermHolds (PhraseOf index patterns first) n = (patterns ≢ []) × HasPhrase index patterns first n
     TermHolds (AllWordsOf index patterns) n = (patterns ≢ []) × ((pattern : List Symbol) → Has patterns pattern → HasMatch index pattern n)

@@ -42,7 +42,7 @@ module _ (rows : List Posting → ℕ) (content : Content) (db : ℤ) where
   TermRows (NoWordsOf index register) n = n ≡ 0
   TermRows (AlwaysOf index register) n = EntryRows index register (λ _. Unit {0}) n
   TermRows (NumberOf index relation number) n = EntryRows index register.Number (IsNumberAt relation number) n
-  TermRows (OrderedOf index register order start) n = EntryRows index register (λ term. StandsInOrder order term start) n
+  TermRows (OrderedOf index register relation start) n = EntryRows index register (λ term. StandsInOrder relation term start) n
   TermRows (CompleteOf index pattern) n = EntryRows index register.Phrase (Fits pattern) n
   TermRows (PhraseOf index patterns first) n = WordRows index patterns n
   TermRows (AllWordsOf index patterns) n = WordRows index patterns n

@@ -23,14 +23,14 @@ abbrev pub IsWanted : Wanted → List ℕ → Type 0
 IsWanted wanted.All term = Unit {0}
 IsWanted (wanted.Matching pattern) term = Fits pattern.now term
 IsWanted (wanted.Number relation number) term = IsNumberAt relation number term
-IsWanted (wanted.Text order start) term = StandsInOrder order term start.now
+IsWanted (wanted.Text relation start) term = StandsInOrder relation term start.now
 
 -- one entry is asked for, by its name
 abbrev pub NamesEntry : Wanted → Type 0
 NamesEntry wanted.All = ⊥
 NamesEntry (wanted.Matching pattern) = HasNoStar pattern.now
 NamesEntry (wanted.Number relation number) = IsOneKey relation number
-NamesEntry (wanted.Text order start) = ⊥
+NamesEntry (wanted.Text relation start) = ⊥
 
 -- the text comes neither before the first one nor behind the last one
 abbrev pub StandsWithin : (first last : List ℕ) → List ℕ → Type 0

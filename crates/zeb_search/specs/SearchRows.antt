@@ -30,7 +30,7 @@ module _ (format : Format) (trees : Trees) (db : ℤ) where
   AreTermRowsSound (NoWordsOf index register) = Unit {0}
   AreTermRowsSound (AlwaysOf index register) = AreEntriesSound ⊥ index register (λ _. Unit {0})
   AreTermRowsSound (NumberOf index relation number) = AreEntriesSound (IsOneKey relation number) index register.Number (IsNumberAt relation number)
-  AreTermRowsSound (OrderedOf index register order start) = AreEntriesSound ⊥ index register (λ term. StandsInOrder order term start)
+  AreTermRowsSound (OrderedOf index register relation start) = AreEntriesSound ⊥ index register (λ term. StandsInOrder relation term start)
   AreTermRowsSound (CompleteOf index pattern) = AreEntriesSound (HasNoStar pattern) index register.Phrase (Fits pattern)
   AreTermRowsSound (PhraseOf index patterns first) = AreWordsSound index patterns
   AreTermRowsSound (AllWordsOf index patterns) = AreWordsSound index patterns

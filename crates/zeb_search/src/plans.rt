@@ -107,7 +107,7 @@ fn term_hits<S: Alter, L: Layout>(
         TermPlan::Ordered {
             index,
             register,
-            order,
+            relation,
             start,
         } => {
             let of = RegisterOf {
@@ -115,7 +115,7 @@ fn term_hits<S: Alter, L: Layout>(
                 index: *index,
                 register: *register,
             };
-            let wanted = Wanted::Text(*order, start.as_str());
+            let wanted = Wanted::Text(*relation, start.as_str());
             numbers_wanted::<S, L>(alloc, connection, work, of, wanted)
         }
         TermPlan::Complete { index, pattern } => {

@@ -7,7 +7,7 @@ ghost use Rattle.zeb_search.specs.PrivateTerms.{BeginsAt, EndsAt};
 
 use crate::terms::{KEYS_END, Wanted};
 use std::alloc::{AllocError, Global};
-use zeb_query::{Order, Relation};
+use zeb_query::Relation;
 use zeb_text::{key_of_number, number_of_key};
 
 impl Wanted<'_> {
@@ -28,7 +28,7 @@ impl Wanted<'_> {
             Wanted::All => Ok(String::new(alloc)),
             Wanted::Matching(pattern) => String::from_str(alloc, pattern.prefix()),
             Wanted::Number(relation, number) => first_key(alloc, *relation, *number),
-            Wanted::Text(order, text) => first_text(alloc, *order, text),
+            Wanted::Text(relation, text) => first_text(alloc, *relation, text),
         }
     }
 
@@ -43,7 +43,7 @@ impl Wanted<'_> {
                 Some(value) => is_last_number(*relation, value, *number),
                 None => false,
             },
-            Wanted::Text(order, text) => is_last_text(*order, term, text),
+            Wanted::Text(relation, text) => is_last_text(*relation, term, text),
         }
     }
 }
@@ -71,14 +71,14 @@ fn first_key(alloc: Global, relation: Relation, number: u64) -> Result<String, A
 }
 
 /// A text before which no text stands so to this one.
-fn first_text(alloc: Global, order: Order, text: &str) -> Result<String, AllocError>
-    ensures { IfOk result (λ start. (term : List ℕ) → StandsInOrder order term text.now
+fn first_text(alloc: Global, relation: Relation, text: &str) -> Result<String, AllocError>
+    ensures { IfOk result (λ start. (term : List ℕ) → StandsInOrder relation term text.now
         → ¬ Precedes term (string_bytes start)) }
 {
-    match order {
-        Order::Less | Order::LessOrEqual => Ok(String::new(alloc)),
-        Order::GreaterOrEqual => String::from_str(alloc, text),
-        Order::Greater => text_above(alloc, text),
+    match relation {
+        Relation::Less | Relation::LessOrEqual => Ok(String::new(alloc)),
+        Relation::Equal | Relation::GreaterOrEqual => String::from_str(alloc, text),
+        Relation::Greater => text_above(alloc, text),
     }
 }
 
@@ -100,12 +100,12 @@ fn is_last_number(relation: Relation, value: u64, number: u64) -> bool
 }
 
 /// Whether no text behind the first one stands so to the other.
-fn is_last_text(order: Order, text: &str, other: &str) -> bool
+fn is_last_text(relation: Relation, text: &str, other: &str) -> bool
     ensures { IsTrue result → (behind : List ℕ) → Precedes text.now behind
-        → ¬ StandsInOrder order behind other.now }
+        → ¬ StandsInOrder relation behind other.now }
 {
-    match order {
-        Order::Less | Order::LessOrEqual => text.cmp(other).is_ge(),
-        Order::GreaterOrEqual | Order::Greater => false,
+    match relation {
+        Relation::Less | Relation::LessOrEqual | Relation::Equal => text.cmp(other).is_ge(),
+        Relation::GreaterOrEqual | Relation::Greater => false,
     }
 }

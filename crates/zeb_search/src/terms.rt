@@ -8,7 +8,7 @@ ghost use Rattle.zeb_search.specs.PrivateTerms.{IsWanted, NamesEntry};
 
 use std::alloc::{AllocError, Global};
 use zeb_keys::Term;
-use zeb_query::{Order, Relation};
+use zeb_query::Relation;
 use zeb_text::{Pattern, key_of_number, number_of_key};
 
 /// The numbers that have a key end below this one.
@@ -23,8 +23,8 @@ pub(crate) enum Wanted<'a> {
     Matching(&'a Pattern),
     /// Those that are the key of a number below 10^18 which stands in a relation to this one.
     Number(Relation, u64),
-    /// Those that stand so to a text, in the order of their bytes.
-    Text(Order, &'a str),
+    /// Those that stand in a relation to a text, in the order of their bytes.
+    Text(Relation, &'a str),
 }
 
 impl Wanted<'_> {
@@ -39,7 +39,7 @@ impl Wanted<'_> {
                 Some(value) => stands(*relation, value, *number),
                 None => false,
             },
-            Wanted::Text(order, start) => stands_in_order(*order, term, start),
+            Wanted::Text(relation, start) => stands_in_order(*relation, term, start),
         }
     }
 
@@ -87,15 +87,16 @@ fn stands(relation: Relation, value: u64, number: u64) -> bool
     }
 }
 
-/// Whether the first text stands so to the other, in the order of their bytes.
-fn stands_in_order(order: Order, text: &str, start: &str) -> bool
-    ensures { IsTrue result ↔ StandsInOrder order text.now start.now }
+/// Whether the first text stands in the relation to the other, in the order of their bytes.
+fn stands_in_order(relation: Relation, text: &str, start: &str) -> bool
+    ensures { IsTrue result ↔ StandsInOrder relation text.now start.now }
 {
     let ordering = text.cmp(start);
-    match order {
-        Order::Less => ordering.is_lt(),
-        Order::LessOrEqual => ordering.is_le(),
-        Order::GreaterOrEqual => ordering.is_ge(),
-        Order::Greater => ordering.is_gt(),
+    match relation {
+        Relation::Less => ordering.is_lt(),
+        Relation::LessOrEqual => ordering.is_le(),
+        Relation::Equal => ordering.is_eq(),
+        Relation::GreaterOrEqual => ordering.is_ge(),
+        Relation::Greater => ordering.is_gt(),
     }
 }

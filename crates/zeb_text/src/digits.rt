@@ -1,10 +1,9 @@
 //! The runs of digits of a text, one after the other.
-ghost use Rattle.std.specs.Prelude.{◌≡◌, ◌<◌, ◌≤◌, ℕ, [], ◌∷◌, IfNone, IfSome, chars, length, not, slice_index};
+ghost use Rattle.std.specs.Prelude.{◌≡◌, ◌<◌, ◌≤◌, ℕ, [], ◌∷◌, IfNone, IfSome, length, not, slice_index};
 ghost use Rattle.std.specs.Char.{is_ascii_digit};
 ghost use Rattle.std.specs.List.{AllPass};
 ghost use Rattle.std.specs.Str.Parse.{digits_value};
 ghost use Rattle.zeb_text.specs.Words.{runs_of};
-ghost use Rattle.zeb_text.specs.Numbers.{numbers_of};
 ghost use Rattle.zeb_text.specs.NumbersLeft.{numbers_left};
 ghost use Rattle.std.specs.Iterator.{YieldsFirst, item_count};
 
@@ -14,17 +13,7 @@ pub const KEY_DIGITS: usize = 18;
 /// The numbers of a text, as [`numbers`](crate::numbers) finds them. It takes no memory.
 #[derive(Drop)]
 pub struct Numbers<'a> {
-    rest: &'a [u8],
-}
-
-impl<'a> Numbers<'a> {
-    pub(crate) fn new(text: &'a str) -> Self
-        ensures { numbers_left result ≡ numbers_of (chars text.now) }
-    {
-        Numbers {
-            rest: text.as_bytes(),
-        }
-    }
+    pub(crate) rest: &'a [u8],
 }
 
 impl<'a> Iterator for Numbers<'a> {

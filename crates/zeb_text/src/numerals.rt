@@ -11,7 +11,9 @@ use std::alloc::{AllocError, Global};
 pub fn numbers(text: &str) -> Numbers<'_>
     ensures { numbers_left result ≡ numbers_of (chars text.now) }
 {
-    Numbers::new(text)
+    Numbers {
+        rest: text.as_bytes(),
+    }
 }
 
 /// The key of a number below 10^18: 18 digits, with leading zeros. Keys are ordered, byte by byte, as their numbers are.

@@ -41,11 +41,11 @@ fn other_line(alloc: Global, term: &TermPlan) -> Result<String, AllocError> {
         TermPlan::Ordered {
             index,
             register,
-            order,
+            relation,
             start,
         } => {
             let start = start.as_str();
-            format!(in alloc; "ordered {index} {register} {order:?} {start}")
+            format!(in alloc; "ordered {index} {register} {relation:?} {start}")
         }
         TermPlan::Complete { index, pattern } => {
             let pattern = pattern.literal().unwrap_or("*");

@@ -5,35 +5,35 @@ use Rattle.zeb_analysis.proofs.analysing.analyse_record.Goals as goal
 
 pub returns-then-before-setting-clause-err : goal.returns-then-before-setting-clause-err
 returns-then-before-setting-clause-err c other =
-    one_too_many c.args.setting.now.profile.now c.args.setting.now.limit c.args.before c.args.incoming.place.file c.args.incoming.place.nth c.args.incoming.bytes.now c.if-before-setting.true
+    one_too_many c.args.setting.now.profile.now c.args.setting.now.limit c.args.before c.args.place.file c.args.place.nth c.args.bytes.now c.if-before-setting.true
 
 pub returns-in-Err-clause-err : goal.returns-in-Err-clause-err
 returns-in-Err-clause-err c other =
-    no_record c.args.setting.now.profile.now c.args.setting.now.limit c.args.before c.args.incoming.place.file c.args.incoming.place.nth c.args.incoming.bytes.now c.if-before-setting.false
+    no_record c.args.setting.now.profile.now c.args.setting.now.limit c.args.before c.args.place.file c.args.place.nth c.args.bytes.now c.if-before-setting.false
     c.in-Err.fault c.in-Err.ensures
 
 pub returns-in-Err-identifier-clause-err : goal.returns-in-Err-identifier-clause-err
 returns-in-Err-identifier-clause-err c other =
     let profile = c.args.setting.now.profile.now in
-    let bytes = c.args.incoming.bytes.now in
+    let bytes = c.args.bytes.now in
     let problem = c.in-Err-identifier.fault in
     let said : problem ≢ Memory → identifier_of profile (units_in bytes) ≡ Err problem = λ otherwise.
     ap (λ fields. identifier_of profile (units_of fields)) (sym c.in-Ok.ensures.fields_are) ∙ c.in-Err-identifier.ensures.err otherwise in
     let is = c.of_identifier.ensures in
-    no_name profile c.args.setting.now.limit c.args.before c.args.incoming.place.file c.args.incoming.place.nth bytes c.if-before-setting.false c.in-Ok.ensures.sound problem said (λ same. other (is ∙ same))
+    no_name profile c.args.setting.now.limit c.args.before c.args.place.file c.args.place.nth bytes c.if-before-setting.false c.in-Ok.ensures.sound problem said (λ same. other (is ∙ same))
     ∙ ap Some (sym is)
 
 pub returns-clause-passed : goal.returns-clause-passed
 returns-clause-passed c =
     let profile = c.args.setting.now.profile.now in
-    named_record profile c.args.setting.now.limit c.args.before c.args.incoming.place.file c.args.incoming.place.nth c.args.incoming.bytes.now c.if-before-setting.false c.in-Ok.ensures.sound
+    named_record profile c.args.setting.now.limit c.args.before c.args.place.file c.args.place.nth c.args.bytes.now c.if-before-setting.false c.in-Ok.ensures.sound
     (string_bytes c.in-Ok-identifier.ident) (ap (λ fields. identifier_of profile (units_of fields)) (sym c.in-Ok.ensures.fields_are) ∙ c.in-Ok-identifier.ensures.ok)
 
 pub returns-clause-ok : goal.returns-clause-ok
 returns-clause-ok c =
     let profile = c.args.setting.now.profile.now in
     record {
-      bytes = c.args.incoming.bytes.now;
+      bytes = c.args.bytes.now;
       stands = refl;
       same_file = refl;
       same_place = refl;

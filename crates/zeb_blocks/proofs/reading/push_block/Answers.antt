@@ -9,12 +9,12 @@ returns-in_default-clause-damaged c = no_start c.args.block c.args.bytes.now c.i
 
 pub returns-in_default-2-clause-damaged : goal.returns-in_default-2-clause-damaged
 returns-in_default-2-clause-damaged c =
-    let none = rw (c.in_default-2.is, c.in-Some.ensures.1) at c.in_ok-last.ensures in
+    let none = rw (c.in_default-2.is, c.in-Some.ensures.1) at c.in_ok-last.ensures.found in
     no_list c.args.block c.args.bytes.now none
 
 pub returns-then-is_empty-clause-damaged : goal.returns-then-is_empty-clause-damaged
 returns-then-is_empty-clause-damaged c =
-    let found = rw (c.in-Some-2.is, c.in-Some.ensures.1) at c.in_ok-last.ensures in
+    let found = rw (c.in-Some-2.is, c.in-Some.ensures.1) at c.in_ok-last.ensures.found in
     elim c.then-is_empty.either [
       | inl empty ↦ nothing_spelled c.args.block c.args.bytes.now (grind (arith, common_steps, empty))
       | inr far ↦ outside c.args.block c.args.bytes.now found.0 found.1 (λ inside. far.1 (ap (λ (p : Posting). p.sysno / 256) (sym found.2) ∙ inside))
@@ -22,7 +22,7 @@ returns-then-is_empty-clause-damaged c =
 
 pub returns-clause-spelled : goal.returns-clause-spelled
 returns-clause-spelled c =
-    let found = rw (c.in-Some-2.is, c.in-Some.ensures.1) at c.in_ok-last.ensures in
+    let found = rw (c.in-Some-2.is, c.in-Some.ensures.1) at c.in_ok-last.ensures.found in
     let inside = ap (λ (p : Posting). p.sysno / 256) found.2 ∙ c.if-not-is_inside.false in
     let some : length c.args.bytes.now ≢ 0 = λ none. grind (arith, common_steps, none) in
     (found.0, block_spelled c.args.block found.0 c.args.bytes.now found.1 some inside, found.3)

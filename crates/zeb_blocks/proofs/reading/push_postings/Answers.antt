@@ -7,8 +7,8 @@ use Rattle.zeb_blocks.proofs.reading.push_postings.Goals as goal
 pub loop-left-init : goal.loop-left-init
 loop-left-init c = walked_none c.args.start c.args.bytes.now c.args.postings.now.items
 
-pub returns-in_default : goal.returns-in_default
-returns-in_default c =
+pub returns-in_default-clause-found : goal.returns-in_default-clause-found
+returns-in_default-clause-found c =
     let some : 0 < length c.loop-left.left.now = grind (arith, common_steps) in
     walked_damaged c.args.start c.args.bytes.now c.args.postings.now.items c.loop-left.postings.items c.loop-left.last c.loop-left.left.now c.loop-left.invariant some c.in_default.ensures
 
@@ -24,7 +24,7 @@ loop-left-preserved c =
     let walked = walked_more c.args.start c.args.bytes.now old c.loop-left.postings.items c.loop-left.last c.in-Some.posting c.loop-left.left.now c.in-Some.behind.now c.loop-left.invariant c.in-Some.ensures.0 c.in-Some.ensures.1 in
     subst (λ items. IsWalked c.args.start c.args.bytes.now old items c.in-Some.posting c.in-Some.behind.now) (sym c.in_ok-push.ensures.items) walked
 
-pub returns : goal.returns
-returns c =
+pub returns-clause-found : goal.returns-clause-found
+returns-clause-found c =
     let none : length c.loop-left.left.now ≡ 0 = grind (arith, common_steps) in
     walked_all c.args.start c.args.bytes.now c.args.postings.now.items c.loop-left.postings.items c.loop-left.last c.loop-left.left.now c.loop-left.invariant none

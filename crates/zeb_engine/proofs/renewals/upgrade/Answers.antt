@@ -1,5 +1,8 @@
-use Rattle.zeb_engine.proofs.Cited.{◌≡◌, ◌∙◌, true, false, Result, Ok, Err, IsTrue, IsUtf8, inl, inr, refl, rules, sym, ap, subst, arith, state, clean_before, IsSettled, IsStore, IsUpgradable, Holdings, Keeps, Always, HasCleanDisk, plain_rows, version_of, nothing_then, quiet_then, store_same, conditions, StaysOpen, UpgradeLeaves, Standing, FindsStanding, IsLook, RefusesUpgrade, Refusal, Reply, Done, register_refusal}
+use Rattle.zeb_engine.proofs.Cited.{◌≡◌, ◌∙◌, true, false, Result, Ok, Err, IsTrue, IsUtf8, inl, inr, refl, rules, sym, ap, subst, arith, state, clean_before, IsSettled, IsStore, List, Trees, AreSessions, Base, Holdings, Keeps, WriteDoes, Always, HasCleanDisk, plain_rows, version_of, nothing_then, quiet_then, store_same, conditions, StaysOpen, UpgradeLeaves, Standing, FindsStanding, IsLook, RefusesUpgrade, Refusal, Reply, Done, register_refusal}
 use Rattle.zeb_change.specs.declared.refusals.Refusal.TheVariants as refusal
+use Rattle.zeb_engine.specs.declared.writes.Write.TheVariants as write
+use Rattle.zeb_engine.specs.Steps.{upgradable, upgraded}
+use Rattle.zeb_engine.proofs.ChangeNumbers.{showing}
 use Rattle.zeb_engine.proofs.CheckAnswers.{tells_none, told_image}
 use Rattle.zeb_engine.proofs.CommandedConnections.{commanded_then, reads_command}
 use Rattle.zeb_engine.proofs.CommandsDone.{nothing_commits, unread_as, upgrade_done}
@@ -7,7 +10,11 @@ use Rattle.zeb_engine.proofs.CommitCrashes.{survives_after}
 use Rattle.zeb_engine.proofs.ListedDatabases.{fault_fails}
 use Rattle.zeb_engine.proofs.ReadyTexts.{fault_reads}
 use Rattle.zeb_engine.proofs.RenewalAnswers.{damage_unserved, first_leaves, first_met, first_tells, layout_unserved, own_not_first, own_serves, own_unrefused}
+use Rattle.zeb_engine.proofs.ReadsInTurn.{asked_unread}
+use Rattle.zeb_engine.proofs.RenewalWork.{upgrade_leads, upgrade_sound}
 use Rattle.zeb_engine.proofs.ServesLemmas.{keeps_still, on_ok}
+use Rattle.zeb_engine.proofs.TransactedOutcomes.{LeadsOn, RefusesAs, rows_commit, rows_serve}
+use Rattle.zeb_engine.proofs.TurnedOutcomes.{Leads}
 use Rattle.zeb_engine.proofs.renewals.upgrade.Goals as goal
 
 pub returns-in_err-standing-clause-done : goal.returns-in_err-standing-clause-done
@@ -91,25 +98,32 @@ returns-then-branch-clause-done g c limits =
     let end = c.transact.new.connection in
     let new = state g.S.Store end in
     let answer = c.transact.result in
-    let done = c.transact.ensures.done in
+    let did = c.transact.ensures.transacts in
     let it = c.in_ok-is_image-in-First.field-0 in
     let yes : IsTrue it = search rules in
     let idle : IsTrue c.is_autocommit-settled.result = search rules in
-    let second : HasCleanDisk new → HasCleanDisk late = λ clean. omega (arith, done.survives.clean) in
+    let second : HasCleanDisk new → HasCleanDisk late = λ clean. omega (arith, did.survives.clean) in
     let opened = λ (clean : HasCleanDisk late). ((image.call.ok clean).1 yes).0.is_open in
-    let of : HasCleanDisk late → (before : Holdings) → Keeps old before → IsUpgradable own profile k before = λ seen before keeps.
-    let met = first_met k old mid (look seen) before keeps in (record { version_is = refl; profile_is = refl; sound = c.is_of_some_text.ensures }, (met.0, met.2)) in
+    let session : AreSessions g.L.Layout.format k = record { version_is = refl; sound = c.is_of_some_text.ensures } in
+    let Does = WriteDoes g.L.Layout.format (write.Upgrade c.args.alloc c.args.profile) in
+    let Fit = λ (trees : Trees) (before : Holdings). (bases : List Base) × (upgradable k before ≡ Ok bases) in
+    let leads : LeadsOn Does Fit (upgraded k) late = λ before store image fits next told does.
+    subst (λ (r : Reply). Leads (showing late next) r (upgraded k before)) (sym does.0) (upgrade_leads g.L.Layout.format k session late before image fits.0 fits.1 (subst IsUtf8 c.version-version.ensures c.version-version.utf8) next does.1) in
+    let refuses : RefusesAs Does Fit (upgraded k) late = λ before image fits next refusal does.
+    elim does [ inl failed ↦ inl failed | inr damaged ↦ absurd (upgrade_sound g.L.Layout.format k session late before image fits.0 fits.1 damaged.1) ] in
+    let of : HasCleanDisk late → (before : Holdings) → Keeps old before → (bases : List Base) × (upgradable k before ≡ Ok bases) = λ seen before keeps.
+    let met = first_met k old mid (look seen) before keeps in (met.0, met.2) in
     let serves = λ (clean : HasCleanDisk new) (before : Holdings) (fits : IsTrue old.is_open → Always old.now.trees before) (keeps : Keeps old before).
-    let seen = second clean in done.serves clean k (opened seen) before (λ _. of seen before keeps) (keeps_still before old late (same seen) keeps) in
+    let seen = second clean in rows_serve Does Fit (upgraded k) late leads (opened seen) refuses new answer c.transact.ensures.call did clean before (λ _. of seen before keeps) (keeps_still before old late (same seen) keeps) in
     let told = λ (clean : HasCleanDisk late) (store : IsStore old). let still = ((look clean).same (look clean).found.1).1 in told_image k (version_of plain_rows) old mid still it (image.value clean (store_same old mid still store)) yes in
     let settled : IsSettled old = λ is_open. sym (c.is_autocommit-settled.ensures.settled idle is_open) in
     upgrade_done g.S.Store g.L.Layout.format g.L.Layout.row_work g.L.Layout.block_rows k begun end answer (commanded_then old late new answer second (quiet_then old mid late quiet image.call.crash) (λ clean. ((look clean).found.0, opened clean)) same c.transact.ensures.call)
-    (survives_after old late new _ _ (quiet_then old mid late quiet image.call.crash) done.survives (λ clean db made before fits keeps. let seen = second clean in made.0 k (opened seen) before (λ _. of seen before keeps) (keeps_still before old late (same seen) keeps)))
+    (survives_after old late new _ _ (quiet_then old mid late quiet image.call.crash) did.survives (λ clean db made before fits keeps. let seen = second clean in rows_commit Does Fit (upgraded k) late leads (opened seen) db made before (λ _. of seen before keeps) (keeps_still before old late (same seen) keeps)))
     serves (λ clean. record {
       told = λ store. let texts = (look (second clean)).told store in inr (inr (texts.1, texts.0, first_tells k old store settled (told (second clean) store) new answer (serves clean)));
       stays = λ store texts. absurd (own_not_first own profile old store texts ((look (second clean)).told store));
       leaves = on_ok answer (StaysOpen late new) (UpgradeLeaves old new) (λ stays store. first_leaves k old store settled (told (second clean) store) new answer stays.1 (serves clean)) (c.transact.ensures.call.accepted clean);
-    }) c.transact.ensures.unread
+    }) (asked_unread answer c.transact.ensures.few)
 
 pub returns-else-branch-clause-done : goal.returns-else-branch-clause-done
 returns-else-branch-clause-done g c limits =

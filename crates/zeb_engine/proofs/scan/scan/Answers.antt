@@ -1,4 +1,4 @@
-use Rattle.zeb_engine.proofs.Cited.{rules, ◌≡◌, ℕ, pos, List, Vec, Global, Ok, Err, sym, subst, inl, inr, state, Trees, Directive, TermCount, ScanValue, scan_value, query_value, Format, holds_in, ReadsAlone, Scanned, query_refusal, register_refusal, name_bytes, Around, OfDatabase, HidesAround, HidesPlanned, HidesTerms, ScanOver, ScanTells, TellsAround}
+use Rattle.zeb_engine.proofs.Cited.{rules, ◌≡◌, ℕ, pos, List, Vec, Global, Ok, Err, sym, subst, inl, inr, state, Trees, Directive, TermCount, ScanValue, scan_value, query_value, Format, holds_in, Scanned, query_refusal, register_refusal, name_bytes, Around, OfDatabase, HidesAround, HidesPlanned, HidesTerms, ScanOver, ScanTells, TellsAround}
 use Rattle.zeb_register.proofs.Answered.{or_reasoned}
 use Rattle.zeb_register.specs.declared.catalog.Database.{Database}
 use Rattle.zeb_search.specs.Untouched.{IsUntouched}
@@ -33,39 +33,30 @@ returns-in_err-query-clause-reads g c =
 
 pub returns-in_err-database-clause-reads : goal.returns-in_err-database-clause-reads
 returns-in_err-database-clause-reads g c =
-    reads_passed {A = Database} g.S.Store c.args.connection.now c.existing_database.new.connection c.in_err-database.field-0.0
-    (record { idle = c.existing_database.ensures.idle; same = c.existing_database.ensures.same; opened = λ clean. tt; crash = c.existing_database.ensures.crash; caused = c.in_err-database.ensures.caused }) c.from_residual-in_err-database.result (search rules)
+    reads_passed {A = Database} g.S.Store c.args.connection.now c.existing_database.new.connection c.in_err-database.field-0.0 c.in_err-database.ensures.reads c.from_residual-in_err-database.result (search rules)
 
 pub returns-in_err-plan-clause-reads : goal.returns-in_err-plan-clause-reads
 returns-in_err-plan-clause-reads g c =
-    let looked : ReadsAlone g.S.Store c.args.connection.now c.existing_database.new.connection (Ok c.in_ok-database.database) =
-    record { idle = c.existing_database.ensures.idle; same = c.existing_database.ensures.same; opened = c.in_ok-database.ensures.found; crash = c.existing_database.ensures.crash; caused = λ clean store. tt } in
     let old = state g.S.Store c.args.connection.now in
     let mid = state g.S.Store c.existing_database.new.connection in
     let fault = c.in_err-plan.field-0.0 in
-    reads_end g.S.Store c.args.connection.now c.existing_database.new.connection c.in_ok-database.database looked c.existing_database.new.connection (read_still mid) (query_refusal fault) (query_caused old mid fault)
+    reads_end g.S.Store c.args.connection.now c.existing_database.new.connection c.in_ok-database.database c.in_ok-database.ensures.reads c.existing_database.new.connection (read_still mid) (query_refusal fault) (query_caused old mid fault)
     c.from_residual-in_err-plan.result (search rules)
 
 pub returns-in_err-entries-clause-reads : goal.returns-in_err-entries-clause-reads
 returns-in_err-entries-clause-reads g c =
-    let looked : ReadsAlone g.S.Store c.args.connection.now c.existing_database.new.connection (Ok c.in_ok-database.database) =
-    record { idle = c.existing_database.ensures.idle; same = c.existing_database.ensures.same; opened = c.in_ok-database.ensures.found; crash = c.existing_database.ensures.crash; caused = λ clean store. tt } in
-    let old = state g.S.Store c.args.connection.now in
     let mid = state g.S.Store c.existing_database.new.connection in
     let format = g.L.Layout.format in
     let plan = scan_value c.in_ok-plan.plan in
     let database = c.in_ok-database.database in
     let fault = c.in_err-entries.field-0.0 in
-    reads_fail g.S.Store c.args.connection.now c.existing_database.new.connection database looked mid c.terms_around.new.connection (read_still mid) (λ _. IsUntouched) fault c.in_err-entries.ensures.call
+    reads_fail g.S.Store c.args.connection.now c.existing_database.new.connection database c.in_ok-database.ensures.reads mid c.terms_around.new.connection (read_still mid) (λ _. IsUntouched) fault c.in_err-entries.ensures.call
     (or_reasoned (HidesAsked format plan c.args.around database) (TellsAsked format plan c.args.around database) mid (state g.S.Store c.terms_around.new.connection) (Err fault) c.in_err-entries.ensures.told) c.from_residual-in_err-entries.result (search rules)
 
 pub returns-clause-reads : goal.returns-clause-reads
 returns-clause-reads g c =
-    let looked : ReadsAlone g.S.Store c.args.connection.now c.existing_database.new.connection (Ok c.in_ok-database.database) =
-    record { idle = c.existing_database.ensures.idle; same = c.existing_database.ensures.same; opened = c.in_ok-database.ensures.found; crash = c.existing_database.ensures.crash; caused = λ clean store. tt } in
-    let old = state g.S.Store c.args.connection.now in
     let mid = state g.S.Store c.existing_database.new.connection in
-    reads_on g.S.Store c.args.connection.now c.existing_database.new.connection c.in_ok-database.database looked c.terms_around.new.connection
+    reads_on g.S.Store c.args.connection.now c.existing_database.new.connection c.in_ok-database.database c.in_ok-database.ensures.reads c.terms_around.new.connection
     (as_read mid (state g.S.Store c.terms_around.new.connection) c.in_ok-entries.entries c.in_ok-entries.ensures.call) (Scanned c.in_ok-plan.plan.register c.in_ok-entries.entries)
 
 -- ---- which refusals it gives, and what it counts
@@ -89,10 +80,8 @@ pub returns-clause-work : goal.returns-clause-work
 returns-clause-work g c = (
   λ none. c.terms_around.ensures.work.0 none,
   λ clean store content held.
-      let looked : ReadsAlone g.S.Store c.args.connection.now c.existing_database.new.connection (Ok c.in_ok-database.database) =
-      record { idle = c.existing_database.ensures.idle; same = c.existing_database.ensures.same; opened = c.in_ok-database.ensures.found; crash = c.existing_database.ensures.crash; caused = λ clean store. tt } in
       let first = clean_before (state g.S.Store c.existing_database.new.connection) (state g.S.Store c.terms_around.new.connection) c.terms_around.ensures.call.crash clean in
-      let at = shown_still g.S.Store c.args.connection.now c.existing_database.new.connection c.in_ok-database.database looked first store in
+      let at = shown_still g.S.Store c.args.connection.now c.existing_database.new.connection c.in_ok-database.database c.in_ok-database.ensures.reads first store in
       c.in_ok-entries.ensures.work.1 clean at.0 content (subst (λ (t : Trees). holds_in g.L.Layout.format t content) (sym at.1) held),
 )
 
@@ -115,7 +104,7 @@ returns-in_err-database-clause-tables g c clean store =
     let Tells = tells g.L.Layout.format c.args.profile.now c.args.around trees in
     let name = name_bytes c.args.name.now in
     let Hides = hides g.L.Layout.format c.args.profile.now name c.args.around in
-    rw told (asked_over Tells name Hides trees c.args.around.query.now c.in_ok-query.ensures.readable (Err refusal) (misses_hidden Tells name Hides trees (λ is. (c.in_ok-query.ensures.readable, inl is)) refusal (c.in_err-database.ensures.misses clean store)))
+    rw told (asked_over Tells name Hides trees c.args.around.query.now c.in_ok-query.ensures.readable (Err refusal) (misses_hidden Tells name Hides trees (λ is. (c.in_ok-query.ensures.readable, inl is)) refusal (c.in_err-database.ensures.finds clean store)))
 
 pub returns-in_err-plan-clause-tables : goal.returns-in_err-plan-clause-tables
 returns-in_err-plan-clause-tables g c clean store =
@@ -126,13 +115,11 @@ returns-in_err-plan-clause-tables g c clean store =
     let name = name_bytes c.args.name.now in
     let text = c.args.around.query.now in
     let Hides = hides g.L.Layout.format c.args.profile.now name c.args.around in
-    rw told (or_fails (tells g.L.Layout.format c.args.profile.now c.args.around trees) name Hides trees text c.in_ok-query.ensures.readable database.id.0 (pos database.last) (c.in_ok-database.ensures.row clean store) (query_refusal fault)
+    rw told (or_fails (tells g.L.Layout.format c.args.profile.now c.args.around trees) name Hides trees text c.in_ok-query.ensures.readable database.id.0 (pos database.last) (c.in_ok-database.ensures.finds clean store) (query_refusal fault)
     (plan_scanned c.args.profile.now text (query_value c.in_ok-query.query) c.in_ok-query.ensures.spelled (TellsAround g.L.Layout.format trees database.id.0) c.args.around.number c.args.around.position fault c.in_err-plan.ensures.planned))
 
 pub returns-in_err-entries-clause-tables : goal.returns-in_err-entries-clause-tables
 returns-in_err-entries-clause-tables g c clean store =
-    let looked : ReadsAlone g.S.Store c.args.connection.now c.existing_database.new.connection (Ok c.in_ok-database.database) =
-    record { idle = c.existing_database.ensures.idle; same = c.existing_database.ensures.same; opened = c.in_ok-database.ensures.found; crash = c.existing_database.ensures.crash; caused = λ clean store. tt } in
     let old = state g.S.Store c.args.connection.now in
     let mid = state g.S.Store c.existing_database.new.connection in
     let format = g.L.Layout.format in
@@ -147,14 +134,12 @@ returns-in_err-entries-clause-tables g c clean store =
     let first = clean_before mid new c.terms_around.ensures.call.crash clean in
     let fault = c.in_err-entries.field-0.0 in
     let told : c.from_residual-in_err-entries.result ≡ Err (register_refusal fault) = search rules in
-    let hidden = told_back g.S.Store c.args.connection.now c.existing_database.new.connection database looked (HidesAsked format plan around database) (TellsAsked format plan around database) new c.terms_around.ensures.call.crash (Err fault) c.in_err-entries.ensures.told clean store in
-    rw told (hidden_read text c.in_ok-query.ensures.readable (ScanOver format profile name text around.number around.position) (λ t id. HidesPlanned format profile text around.number around.position t id) name trees database.id.0 (pos database.last) (c.in_ok-database.ensures.row first store) (register_refusal fault)
+    let hidden = told_back g.S.Store c.args.connection.now c.existing_database.new.connection database c.in_ok-database.ensures.reads (HidesAsked format plan around database) (TellsAsked format plan around database) new c.terms_around.ensures.call.crash (Err fault) c.in_err-entries.ensures.told clean store in
+    rw told (hidden_read text c.in_ok-query.ensures.readable (ScanOver format profile name text around.number around.position) (λ t id. HidesPlanned format profile text around.number around.position t id) name trees database.id.0 (pos database.last) (c.in_ok-database.ensures.finds first store) (register_refusal fault)
     (fault_or_damage (HidesPlanned format profile text around.number around.position trees database.id.0) fault (λ is. (plan, (query_value c.in_ok-query.query, c.in_ok-query.ensures.spelled, c.in_ok-plan.ensures.planned), hidden is))))
 
 pub returns-clause-tables : goal.returns-clause-tables
 returns-clause-tables g c clean store =
-    let looked : ReadsAlone g.S.Store c.args.connection.now c.existing_database.new.connection (Ok c.in_ok-database.database) =
-    record { idle = c.existing_database.ensures.idle; same = c.existing_database.ensures.same; opened = c.in_ok-database.ensures.found; crash = c.existing_database.ensures.crash; caused = λ clean store. tt } in
     let old = state g.S.Store c.args.connection.now in
     let mid = state g.S.Store c.existing_database.new.connection in
     let format = g.L.Layout.format in
@@ -165,13 +150,13 @@ returns-clause-tables g c clean store =
     let plan = scan_value c.in_ok-plan.plan in
     let entries = c.in_ok-entries.entries in
     let first = clean_before mid new c.terms_around.ensures.call.crash clean in
-    let told = told_back g.S.Store c.args.connection.now c.existing_database.new.connection database looked (HidesAsked format plan around database) (TellsAsked format plan around database) new c.terms_around.ensures.call.crash (Ok entries) c.in_ok-entries.ensures.told clean store in
+    let told = told_back g.S.Store c.args.connection.now c.existing_database.new.connection database c.in_ok-database.ensures.reads (HidesAsked format plan around database) (TellsAsked format plan around database) new c.terms_around.ensures.call.crash (Ok entries) c.in_ok-entries.ensures.told clean store in
     inl (inl (
       c.in_ok-query.ensures.readable,
       inr (
         database.id.0,
         pos database.last,
-        c.in_ok-database.ensures.row first store,
+        c.in_ok-database.ensures.finds first store,
         terms_scanned c.args.profile.now around.query.now (query_value c.in_ok-query.query) c.in_ok-query.ensures.spelled (TellsAround format trees database.id.0) around.number around.position plan c.in_ok-plan.ensures.planned entries.items told,
       ),
     ))

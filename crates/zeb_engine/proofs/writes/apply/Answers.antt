@@ -1,67 +1,54 @@
-use Rattle.zeb_engine.proofs.Cited.{[], state, TakesWhole, IsStore, Conditions, IsImage, name_bytes, MakesDatabase, IsRemade, holding, AreOf, version_of}
-use Rattle.zeb_engine.proofs.HiddenRows.{work_done}
-use Rattle.zeb_engine.proofs.WriteSteps.{init_works, begun_so, nothing_so}
+use Rattle.zeb_engine.proofs.Cited.{◌≢◌, Result, Ok, Err, OnOk, IfErr, ap, state, RegFault, register_refusal, IsFailing, why_of, fault_fails, IsAskRefusal, LeavesNoDatabase}
+use Rattle.zeb_register.specs.Answers.{Answers, IfDamaged}
+use Rattle.zeb_register.specs.declared.RegFault.TheVariants as register
+use Rattle.zeb_engine.proofs.ReadsInTurn.{fault_asked}
 use Rattle.zeb_engine.proofs.writes.apply.Goals as goal
 
--- ---- what is done to the tables
+-- it is refused for no damage
+whole_answers : (Done : Type 0) (r : Result (Unit {0}) RegFault) → r ≢ Err register.Damaged → OnOk r Done → Answers (IfDamaged ⊥) (λ _. Done) r
+whole_answers Done (Ok x) whole did = did
+whole_answers Done (Err fault) whole did = λ is. whole (ap Err is)
 
-pub returns-in-Init-clause-done : goal.returns-in-Init-clause-done
-returns-in-Init-clause-done g c clean inside =
-    let old = state g.S.Store c.args.tx.now.conn.now in
-    let new = state g.S.Store c.init.new.tx.conn.now in
-    let version = version_of g.L.Layout.format in
-    let profile = c.in-Init.profile.now in
-    let pattern = c.in-Init.pattern.now in
-    let did = c.init.ensures in
-    rw c.in-Init.is (record {
-      works = λ k reached. init_works g.L.Layout.format k version profile pattern old new c.init.result (did.stays clean inside) (did.ok clean inside) (did.begun clean inside) did.failed;
-      leaves = begun_so c.init.result (IsStore old) (IsStore new × ((k : Conditions) → AreOf version profile pattern k → IsImage new.now.trees (holding k []))) (did.begun clean inside);
-    })
+whole_fails : (r : Result (Unit {0}) RegFault) → r ≢ Err register.Damaged → IfErr r (λ fault. IsFailing (why_of (register_refusal fault)))
+whole_fails (Ok x) whole = tt
+whole_fails (Err fault) whole = fault_fails fault (λ is. whole (ap Err is))
 
-pub returns-in-Create-clause-done : goal.returns-in-Create-clause-done
-returns-in-Create-clause-done g c clean inside =
-    let old = state g.S.Store c.args.tx.now.conn.now in
-    let new = state g.S.Store c.create.new.tx.conn.now in
-    rw c.in-Create.is (record {
-      works = λ k opened. c.create.ensures.works clean inside opened k;
-      leaves = begun_so c.create.result (IsStore old) (MakesDatabase (name_bytes c.in-Create.name.now) old new) (c.create.ensures.makes clean inside);
-    })
+any_asked : (r : Result (Unit {0}) RegFault) → IfErr r (λ fault. IsAskRefusal (register_refusal fault))
+any_asked (Ok x) = tt
+any_asked (Err fault) = fault_asked fault
 
-pub returns-in-Drop-clause-done : goal.returns-in-Drop-clause-done
-returns-in-Drop-clause-done g c clean inside =
-    let old = state g.S.Store c.args.tx.now.conn.now in
-    let new = state g.S.Store c.take.new.tx.conn.now in
-    rw c.in-Drop.is (record {
-      works = λ k opened. c.take.ensures.works clean inside k;
-      leaves = begun_so c.take.result (IsStore old) (TakesWhole c.in-Drop.id.0 old new) (c.take.ensures.takes clean inside);
-    })
+-- ---- what is done to the rows
 
-pub returns-in-Reindex-clause-done : goal.returns-in-Reindex-clause-done
-returns-in-Reindex-clause-done g c clean inside =
-    let old = state g.S.Store c.args.tx.now.conn.now in
-    let new = state g.S.Store c.reindex.new.tx.conn.now in
-    rw c.in-Reindex.is (record {
-      works = λ k opened. c.reindex.ensures.works clean inside opened k;
-      leaves = begun_so c.reindex.result (IsStore old) (IsStore new × IsRemade g.L.Layout.format c.in-Reindex.profile.now old.now.trees new.now.trees) (c.reindex.ensures.remade clean inside);
-    })
+pub returns-in-Init-clause-works : goal.returns-in-Init-clause-works
+returns-in-Init-clause-works g c clean inside store =
+    rw c.in-Init.is
+    (whole_answers (LeavesNoDatabase g.L.Layout.format c.in-Init.profile.now c.in-Init.pattern.now (state g.S.Store c.init.new.tx.conn.now).now) c.init.result c.init.ensures.whole (c.init.ensures.begins clean inside store))
 
-pub returns-in-Upgrade-clause-done : goal.returns-in-Upgrade-clause-done
-returns-in-Upgrade-clause-done g c clean inside =
-    rw c.in-Upgrade.is (record { works = λ k opened. c.upgrade.ensures.works clean inside opened k; leaves = nothing_so c.upgrade.result })
+pub returns-in-Create-clause-works : goal.returns-in-Create-clause-works
+returns-in-Create-clause-works g c clean inside store = rw c.in-Create.is (c.create.ensures.makes clean inside store)
 
--- ---- what is told
+pub returns-in-Drop-clause-works : goal.returns-in-Drop-clause-works
+returns-in-Drop-clause-works g c clean inside store = rw c.in-Drop.is (c.take.ensures.takes clean inside store)
 
-pub returns-in-Init-clause-tells : goal.returns-in-Init-clause-tells
-returns-in-Init-clause-tells g c = rw c.in-Init.is c.init.ensures.failed
+pub returns-in-Reindex-clause-works : goal.returns-in-Reindex-clause-works
+returns-in-Reindex-clause-works g c clean inside store = rw c.in-Reindex.is (c.reindex.ensures.remakes clean inside store)
 
-pub returns-in-Create-clause-tells : goal.returns-in-Create-clause-tells
-returns-in-Create-clause-tells g c = rw c.in-Create.is (λ known store. work_done c.create.result (c.create.ensures.honest known.0 known.1 store))
+pub returns-in-Upgrade-clause-works : goal.returns-in-Upgrade-clause-works
+returns-in-Upgrade-clause-works g c clean inside store = rw c.in-Upgrade.is (c.upgrade.ensures.remakes clean inside store)
 
-pub returns-in-Drop-clause-tells : goal.returns-in-Drop-clause-tells
-returns-in-Drop-clause-tells g c = rw c.in-Drop.is (λ known store. work_done c.take.result c.take.ensures.honest)
+-- ---- which refusals it gives
 
-pub returns-in-Reindex-clause-tells : goal.returns-in-Reindex-clause-tells
-returns-in-Reindex-clause-tells g c = rw c.in-Reindex.is (λ known. c.reindex.ensures.sound known.0 known.1)
+pub returns-in-Init-clause-few : goal.returns-in-Init-clause-few
+returns-in-Init-clause-few g c = rw c.in-Init.is (whole_fails c.init.result c.init.ensures.whole)
 
-pub returns-in-Upgrade-clause-tells : goal.returns-in-Upgrade-clause-tells
-returns-in-Upgrade-clause-tells g c = rw c.in-Upgrade.is tt
+pub returns-in-Create-clause-few : goal.returns-in-Create-clause-few
+returns-in-Create-clause-few g c = rw c.in-Create.is (any_asked c.create.result)
+
+pub returns-in-Drop-clause-few : goal.returns-in-Drop-clause-few
+returns-in-Drop-clause-few g c = rw c.in-Drop.is (any_asked c.take.result)
+
+pub returns-in-Reindex-clause-few : goal.returns-in-Reindex-clause-few
+returns-in-Reindex-clause-few g c = rw c.in-Reindex.is (any_asked c.reindex.result)
+
+pub returns-in-Upgrade-clause-few : goal.returns-in-Upgrade-clause-few
+returns-in-Upgrade-clause-few g c = rw c.in-Upgrade.is (any_asked c.upgrade.result)

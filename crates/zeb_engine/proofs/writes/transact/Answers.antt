@@ -1,69 +1,95 @@
-use Rattle.zeb_engine.proofs.Cited.{◌≡◌, Ok, Err, IsTrue, inl, refl, rules, arith, sym, subst, subst₂, HasCleanDisk, state, quiet_then, ChangesNothing, Store, register_refusal, Done, Fits, WriteDone, written, version_of}
+use Rattle.zeb_engine.proofs.Cited.{rules, arith, ◌≡◌, Ok, Err, IsTrue, inl, refl, sym, subst, subst₂, Held, state, Survives, quiet_then, Store, register_refusal, Done, Write, Transacts, DamagesWrite, WriteDoes, IsWriteRefusal}
+use Rattle.zeb_engine.specs.declared.writes.Write.TheVariants as write
 use Rattle.zeb_engine.proofs.CommandsDone.{nothing_commits}
-use Rattle.zeb_engine.proofs.CommitCrashes.{survives_inside}
-use Rattle.zeb_engine.proofs.ServesLemmas.{early_serves, refusal_serves, reply_serves, reached_inside, tells_failed, tells_over}
-use Rattle.zeb_engine.proofs.WriteSteps.{leaves_over, work_survives}
+use Rattle.zeb_engine.proofs.CommitCrashes.{commit_survives, survives_inside}
+use Rattle.zeb_engine.proofs.ListedDatabases.{fault_or_damage}
+use Rattle.zeb_engine.proofs.TransactedRows.{committed, uncommitted, undone}
 use Rattle.zeb_engine.proofs.writes.transact.Goals as goal
 
-pub returns-in_err-apply-clause-done : goal.returns-in_err-apply-clause-done
-returns-in_err-apply-clause-done g c =
-    let begun = c.transaction-tx.ensures.begun in
-    let write = c.args.write.now in
-    let old = c.args.connection.now in
-    let inside = c.transaction-tx.result.conn.now in
-    let mid = state g.S.Store c.apply.new.tx.conn.now in
-    let end = c.drop-tx.new.self.0 in
-    let new = state g.S.Store end in
-    let why = register_refusal c.in_err-apply.field-0.0 in
-    let work = c.in_err-apply.ensures in
-    let same : end ≡ c.connection-1.given.0 = search rules in
-    let told : c.from_residual.result ≡ Err why = search rules in
-    let entered : IsTrue (state g.S.Store inside).in_transaction = rw begun refl in
-    let first : HasCleanDisk new → HasCleanDisk mid = λ clean. omega (arith, c.drop-tx.ensures.survives.clean) in
-    subst₂ (λ h r. WriteDone g.S.Store g.L.Layout.format write old h r) same (sym told) (record {
-      survives = nothing_commits (state g.S.Store old) new _ (survives_inside g.S.Store old inside new (λ _. ⊥) begun (quiet_then (state g.S.Store inside) mid new c.apply.ensures.crash c.drop-tx.ensures.survives));
-      serves = λ clean k reached.
-          refusal_serves (written k write) g.S.Store (Fits (version_of g.L.Layout.format) k write) old inside mid new why begun
-          ((work.done (first clean) entered).works k (reached_inside g.S.Store write old inside begun reached)) (c.drop-tx.ensures.undone clean);
-      leaves = λ clean. tt;
-      tells = tells_over g.S.Store write (HasCleanDisk mid × IsTrue (state g.S.Store inside).in_transaction) (HasCleanDisk new) (λ clean. (first clean, entered)) old inside (Err why) begun work.tells;
-    })
+-- ---- what is done to the rows
 
-pub returns-in_err-commit-clause-done : goal.returns-in_err-commit-clause-done
-returns-in_err-commit-clause-done g c =
-    let write = c.args.write.now in
-    let old = c.args.connection.now in
+pub returns-in_err-apply-clause-transacts : goal.returns-in_err-apply-clause-transacts
+returns-in_err-apply-clause-transacts g c =
+    let begun = c.transaction-tx.ensures.begun in
+    let inside = c.transaction-tx.result.conn.now in
+    let fault = c.in_err-apply.field-0.0 in
+    let end = c.drop-tx.new.self.0 in
+    let same : end ≡ c.connection-1.given.0 = search rules in
+    let told : c.from_residual.result ≡ Err (register_refusal fault) = search rules in
+    let Does = WriteDoes g.L.Layout.format c.args.write.now in
+    subst₂ (λ h r. Transacts Does (state g.S.Store c.args.connection.now) (state g.S.Store h) r) same (sym told)
+    (undone Does g.S.Store c.args.connection.now inside (state g.S.Store c.apply.new.tx.conn.now) begun c.apply.ensures.call.crash end (register_refusal fault) c.drop-tx.ensures.survives
+    (λ clean store new. fault_or_damage (DamagesWrite c.args.write.now (state g.S.Store inside).now.trees) fault (c.in_err-apply.ensures.works clean (rw begun refl) store)))
+
+pub returns-in_err-commit-clause-transacts : goal.returns-in_err-commit-clause-transacts
+returns-in_err-commit-clause-transacts g c =
+    let begun = c.transaction-tx.ensures.begun in
     let end = c.commit.new.self.0 in
-    let new = state g.S.Store end in
     let same : end ≡ c.connection-2-1.given.0 = search rules in
     let told : c.from_residual-in_err-commit.result ≡ Err Store = search rules in
-    subst₂ (λ h r. WriteDone g.S.Store g.L.Layout.format write old h r) same (sym told) (record {
-      survives = work_survives g.L.Layout.format g.S.Store write old c.transaction-tx.result.conn.now (state g.S.Store c.apply.new.tx.conn.now) end c.transaction-tx.ensures.begun c.apply.ensures.crash c.commit.ensures.survives c.in_ok-apply.ensures.done;
-      serves = λ clean k reached.
-          let nothing : ChangesNothing (state g.S.Store old) new = search rules in
-          early_serves (written k write) (Fits (version_of g.L.Layout.format) k write) (state g.S.Store old) new Store nothing (λ before fits keeps. inl (inl refl));
-      leaves = λ clean. tt;
-      tells = tells_failed write (HasCleanDisk new) (state g.S.Store old);
-    })
+    let Does = WriteDoes g.L.Layout.format c.args.write.now in
+    subst₂ (λ h r. Transacts Does (state g.S.Store c.args.connection.now) (state g.S.Store h) r) same (sym told)
+    (uncommitted Does g.S.Store c.args.connection.now c.transaction-tx.result.conn.now (state g.S.Store c.apply.new.tx.conn.now) begun c.apply.ensures.call.crash end Done c.commit.ensures.survives
+    (λ clean store. (refl, c.in_ok-apply.ensures.works clean (rw begun refl) store)) Store (λ new. inl (inl refl)))
 
-pub returns-clause-done : goal.returns-clause-done
-returns-clause-done g c =
+pub returns-clause-transacts : goal.returns-clause-transacts
+returns-clause-transacts g c =
     let begun = c.transaction-tx.ensures.begun in
-    let write = c.args.write.now in
+    let end = c.commit.new.self.0 in
+    let same : end ≡ c.connection-2-1.given.0 = search rules in
+    let Does = WriteDoes g.L.Layout.format c.args.write.now in
+    subst (λ h. Transacts Does (state g.S.Store c.args.connection.now) (state g.S.Store h) (Ok Done)) same
+    (committed Does g.S.Store c.args.connection.now c.transaction-tx.result.conn.now (state g.S.Store c.apply.new.tx.conn.now) begun c.apply.ensures.call.crash end Done c.commit.ensures.survives
+    (λ clean store. (refl, c.in_ok-apply.ensures.works clean (rw begun refl) store)) (λ clean. (c.in_ok-commit.ensures.ok clean).1))
+
+-- ---- nothing is committed of a connection that is shut
+
+pub returns-in_err-apply-clause-opened : goal.returns-in_err-apply-clause-opened
+returns-in_err-apply-clause-opened g c =
+    let begun = c.transaction-tx.ensures.begun in
     let old = c.args.connection.now in
     let inside = c.transaction-tx.result.conn.now in
-    let mid = state g.S.Store c.apply.new.tx.conn.now in
+    let end = c.drop-tx.new.self.0 in
+    let same : end ≡ c.connection-1.given.0 = search rules in
+    subst (λ (h : Held _). Survives (state g.S.Store old) (state g.S.Store h) (λ _. IsTrue (state g.S.Store old).is_open)) same
+    (nothing_commits (state g.S.Store old) (state g.S.Store end) _ (survives_inside g.S.Store old inside (state g.S.Store end) (λ _. ⊥) begun
+    (quiet_then (state g.S.Store inside) (state g.S.Store c.apply.new.tx.conn.now) (state g.S.Store end) c.apply.ensures.call.crash c.drop-tx.ensures.survives)))
+
+pub returns-in_err-commit-clause-opened : goal.returns-in_err-commit-clause-opened
+returns-in_err-commit-clause-opened g c =
+    let begun = c.transaction-tx.ensures.begun in
+    let old = c.args.connection.now in
     let end = c.commit.new.self.0 in
-    let new = state g.S.Store end in
-    let work = c.in_ok-apply.ensures in
     let same : end ≡ c.connection-2-1.given.0 = search rules in
-    let entered : IsTrue (state g.S.Store inside).in_transaction = rw begun refl in
-    let first : HasCleanDisk new → HasCleanDisk mid = λ clean. omega (arith, c.commit.ensures.survives.clean) in
-    subst (λ h. WriteDone g.S.Store g.L.Layout.format write old h (Ok Done)) same (record {
-      survives = work_survives g.L.Layout.format g.S.Store write old inside mid end begun c.apply.ensures.crash c.commit.ensures.survives work.done;
-      serves = λ clean k reached.
-          reply_serves (written k write) g.S.Store (Fits (version_of g.L.Layout.format) k write) old inside mid new Done begun
-          ((work.done (first clean) entered).works k (reached_inside g.S.Store write old inside begun reached)) (c.in_ok-commit.ensures.ok clean).1;
-      leaves = λ clean. leaves_over g.L.Layout.format g.S.Store write old inside mid new begun (c.in_ok-commit.ensures.ok clean).1 (work.done (first clean) entered).leaves;
-      tells = tells_over g.S.Store write (HasCleanDisk mid × IsTrue (state g.S.Store inside).in_transaction) (HasCleanDisk new) (λ clean. (first clean, entered)) old inside (Ok Done) begun work.tells;
-    })
+    subst (λ (h : Held _). Survives (state g.S.Store old) (state g.S.Store h) (λ _. IsTrue (state g.S.Store old).is_open)) same
+    (commit_survives g.S.Store old c.transaction-tx.result.conn.now (state g.S.Store c.apply.new.tx.conn.now) (state g.S.Store end) _ begun c.apply.ensures.call.crash c.commit.ensures.survives
+    (λ clean db is. subst (λ (h : Held _). IsTrue (state g.S.Store h).is_open) begun (c.in_ok-apply.ensures.call.ok (omega (arith, clean, c.commit.ensures.survives.clean)) (rw begun refl)).was_open))
+
+pub returns-clause-opened : goal.returns-clause-opened
+returns-clause-opened g c =
+    let begun = c.transaction-tx.ensures.begun in
+    let old = c.args.connection.now in
+    let end = c.commit.new.self.0 in
+    let same : end ≡ c.connection-2-1.given.0 = search rules in
+    subst (λ (h : Held _). Survives (state g.S.Store old) (state g.S.Store h) (λ _. IsTrue (state g.S.Store old).is_open)) same
+    (commit_survives g.S.Store old c.transaction-tx.result.conn.now (state g.S.Store c.apply.new.tx.conn.now) (state g.S.Store end) _ begun c.apply.ensures.call.crash c.commit.ensures.survives
+    (λ clean db is. subst (λ (h : Held _). IsTrue (state g.S.Store h).is_open) begun (c.in_ok-apply.ensures.call.ok (omega (arith, clean, c.commit.ensures.survives.clean)) (rw begun refl)).was_open))
+
+-- ---- which refusals it gives
+
+store_few : (w : Write) → IsWriteRefusal w Store
+store_few (write.Init profile pattern) = inl refl
+store_few (write.Create name) = tt
+store_few (write.Drop name id) = tt
+store_few (write.Reindex alloc profile) = tt
+store_few (write.Upgrade alloc profile) = tt
+
+pub returns-in_err-apply-clause-few : goal.returns-in_err-apply-clause-few
+returns-in_err-apply-clause-few g c =
+    let told : c.from_residual.result ≡ Err (register_refusal c.in_err-apply.field-0.0) = search rules in
+    rw told c.in_err-apply.ensures.few
+
+pub returns-in_err-commit-clause-few : goal.returns-in_err-commit-clause-few
+returns-in_err-commit-clause-few g c =
+    let told : c.from_residual-in_err-commit.result ≡ Err Store = search rules in
+    rw told (store_few c.args.write.now)

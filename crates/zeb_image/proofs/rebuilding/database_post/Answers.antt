@@ -1,4 +1,4 @@
-use Rattle.zeb_image.proofs.Cited.{◌≡◌, ℕ, ℤ, IsTrue, pos, Some, None, Result, Ok, Err, OnOk, refl, sym, subst, arith, rules, string_bytes, Database, state, HasCleanDisk, State, Survives, Trees, OnlyReads, Content, IsStorable, holds_in, IsFirstFrom, IsStore, KeepsLists, Damaged, Record, store_same, one_number, Continues, StaysInside, WillHold, OccursIn, keeps_then, ok_so, held_whole, will_begin, continues_then, kept_then, kept_of, IsRecordPosted, LacksDatabase, WillHoldSuch}
+use Rattle.zeb_image.proofs.Cited.{◌≡◌, ℕ, ℤ, IsTrue, pos, Some, None, Result, Ok, Err, OnOk, refl, sym, ap, subst, arith, rules, string_bytes, Database, state, HasCleanDisk, State, Survives, Trees, OnlyReads, Content, IsStorable, holds_in, IsFirstFrom, IsStore, KeepsLists, Damaged, Record, store_same, one_number, Continues, StaysInside, WillHold, OccursIn, keeps_then, held_whole, will_begin, continues_then, kept_then, kept_of, IsRecordPosted, LacksDatabase, WillHoldSuch, PostsDatabase, AreSoundIn, AreReadable, RegFault, Format, Directive, List}
 use Rattle.zeb_image.proofs.RebuiltPostings.{IsPostedBelow, all_posted, all_sound, first_lacks, first_still, next_posted, next_sound, none_posted, readable_still}
 use Rattle.zeb_image.proofs.rebuilding.database_post.Given as given
 use Rattle.zeb_image.proofs.rebuilding.database_post.Goals.{After-write_where_full}
@@ -33,6 +33,13 @@ ok_both (Err fault) One Two Three so one two = one
 stays_then : {T E : Type 0} (old mid new : State) (result : Result T E) → Continues old mid → StaysInside mid new result → StaysInside old new result
 stays_then old mid new (Ok value) one two = continues_then old mid new one two
 stays_then old mid new (Err fault) one two = kept_then old mid new one two
+
+-- the two sides of what is said of a call
+posts_by : (format : Format) (profile : List Directive) (id : ℤ) (old new : State) (result : Result (Unit {0}) RegFault) → OnOk result (PostsDatabase format profile id old new (Ok tt))
+    → (result ≡ Err Damaged → (before : Content) → holds_in format old.now.trees before → IsStorable before → LacksDatabase id before → ¬ (AreReadable old.now.trees id × AreSoundIn profile old.now.trees id))
+    → PostsDatabase format profile id old new result
+posts_by format profile id old new (Ok tt) done harm = done
+posts_by format profile id old new (Err fault) done harm = λ is. harm (ap Err is)
 
 same_lists : (lists : Trees) (old new : State) → new.now ≡ old.now → KeepsLists lists old.now.trees → KeepsLists lists new.now.trees
 same_lists lists old new same keeps = subst (λ (db : Database). KeepsLists lists db.trees) (sym same) keeps
@@ -141,42 +148,20 @@ loop-turn-preserved g c =
 
 -- ---- behind the last record
 
-pub returns-in_default-clause-stays : goal.returns-in_default-clause-stays
-returns-in_default-clause-stays g c clean mode =
-    let old = state g.S.Store c.args.tx.now.conn.now in
-    let now = state g.S.Store c.loop-turn.tx.conn.now in
-    let mid = state g.S.Store c.record_from_inside.new.tx.conn.now in
-    let new = state g.S.Store c.write_pending.new.tx.conn.now in
-    let at = asked old now mid (omega (arith, c.write_pending.ensures.call.crash.clean)) c.record_from_inside.ensures.call.crash (λ clean_now. c.loop-turn.invariant.stays clean_now mode) c.in_ok-record.ensures.call.ok in
-    stays_then old mid new c.write_pending.result at.goes (c.write_pending.ensures.call.stays clean at.goes.mode)
-
-pub returns-in_default-clause-kept : goal.returns-in_default-clause-kept
-returns-in_default-clause-kept g c clean mode store =
-    let old = state g.S.Store c.args.tx.now.conn.now in
-    let now = state g.S.Store c.loop-turn.tx.conn.now in
-    let mid = state g.S.Store c.record_from_inside.new.tx.conn.now in
-    let new = state g.S.Store c.write_pending.new.tx.conn.now in
-    let at = asked old now mid (omega (arith, c.write_pending.ensures.call.crash.clean)) c.record_from_inside.ensures.call.crash (λ clean_now. c.loop-turn.invariant.stays clean_now mode) c.in_ok-record.ensures.call.ok in
-    let kept = c.loop-turn.invariant.kept at.clean mode store in
-    ok_so c.write_pending.result _ _ (λ settled. (settled.0, keeps_then old.now.trees mid.now.trees new.now.trees (same_lists old.now.trees now mid at.on.now_is kept.1) settled.1))
-    (c.write_pending.ensures.call.written clean at.on.mode (store_same now mid at.on.now_is kept.0))
-
-pub returns-in_default-clause-checked : goal.returns-in_default-clause-checked
-returns-in_default-clause-checked g c clean mode store =
-    let old = state g.S.Store c.args.tx.now.conn.now in
-    let now = state g.S.Store c.loop-turn.tx.conn.now in
-    let mid = state g.S.Store c.record_from_inside.new.tx.conn.now in
-    let id = c.args.db.0 in
-    let clean_mid : HasCleanDisk mid = omega (arith, c.write_pending.ensures.call.crash.clean) in
-    let at = asked old now mid clean_mid c.record_from_inside.ensures.call.crash (λ clean_now. c.loop-turn.invariant.stays clean_now mode) c.in_ok-record.ensures.call.ok in
-    let kept = c.loop-turn.invariant.kept at.clean mode store in
-    let value = subst (IsFirstFrom now.now.trees id c.loop-turn.next) c.in_default.is (c.in_ok-record.ensures.value clean_mid at.was.mode kept.0 (omega (arith, c.loop-turn.invariant.small))) in
-    let sound = all_sound c.args.profile.now old.now.trees id c.loop-turn.next (c.loop-turn.invariant.checked at.clean mode store) (first_still old.now.trees now.now.trees kept.1 id c.loop-turn.next None value) in
-    ok_so c.write_pending.result _ _ (λ settled. sound) (c.write_pending.ensures.call.written clean at.on.mode (store_same now mid at.on.now_is kept.0))
+pub returns-in_default-clause-inside : goal.returns-in_default-clause-inside
+returns-in_default-clause-inside g c = record {
+  stays = λ clean mode.
+      let old = state g.S.Store c.args.tx.now.conn.now in
+      let now = state g.S.Store c.loop-turn.tx.conn.now in
+      let mid = state g.S.Store c.record_from_inside.new.tx.conn.now in
+      let at = asked old now mid (omega (arith, c.write_pending.ensures.call.crash.clean)) c.record_from_inside.ensures.call.crash (λ clean_now. c.loop-turn.invariant.stays clean_now mode) c.in_ok-record.ensures.call.ok in
+      stays_then old mid (state g.S.Store c.write_pending.new.tx.conn.now) c.write_pending.result at.goes (c.write_pending.ensures.call.stays clean at.goes.mode);
+  crash = search rules;
+}
 
 -- what is noted is the content that the registers hold then
-pub returns-in_default-clause-posted : goal.returns-in_default-clause-posted
-returns-in_default-clause-posted g c clean mode store =
+pub returns-in_default-clause-posts : goal.returns-in_default-clause-posts
+returns-in_default-clause-posts g c clean mode store =
     let old = state g.S.Store c.args.tx.now.conn.now in
     let now = state g.S.Store c.loop-turn.tx.conn.now in
     let mid = state g.S.Store c.record_from_inside.new.tx.conn.now in
@@ -187,47 +172,46 @@ returns-in_default-clause-posted g c clean mode store =
     let clean_mid : HasCleanDisk mid = omega (arith, c.write_pending.ensures.call.crash.clean) in
     let at = asked old now mid clean_mid c.record_from_inside.ensures.call.crash (λ clean_now. c.loop-turn.invariant.stays clean_now mode) c.in_ok-record.ensures.call.ok in
     let kept = c.loop-turn.invariant.kept at.clean mode store in
+    let there = store_same now mid at.on.now_is kept.0 in
     let value = subst (IsFirstFrom now.now.trees id c.loop-turn.next) c.in_default.is (c.in_ok-record.ensures.value clean_mid at.was.mode kept.0 (omega (arith, c.loop-turn.invariant.small))) in
     let none = first_still old.now.trees now.now.trees kept.1 id c.loop-turn.next None value in
-    ok_both c.write_pending.result _ _ _ (λ settled all before had storable lacks.
+    let sound = all_sound profile old.now.trees id c.loop-turn.next (c.loop-turn.invariant.checked at.clean mode store) none in
+    posts_by format profile id old new c.write_pending.result
+    (ok_both c.write_pending.result _ _ _ (λ settled all. (
+      settled.0,
+      keeps_then old.now.trees mid.now.trees new.now.trees (same_lists old.now.trees now mid at.on.now_is kept.1) settled.1,
+      sound,
+      λ before had storable lacks.
+          let such = c.loop-turn.invariant.posted at.clean mode store before had storable lacks in
+          let held = subst (λ (db : Database). WillHold format db.trees id c.loop-turn.pending such.content) (sym at.on.now_is) such.held in
+          record {
+            content = such.content;
+            held = held_whole format new.now.trees id c.write_pending.new.pending such.content all (settled.2 such.content such.storable held).0;
+            storable = such.storable;
+            is = all_posted profile old.now.trees id c.loop-turn.next before such.content such.is none;
+          },
+    )) (c.write_pending.ensures.call.written clean at.on.mode there) c.write_pending.ensures.all)
+    (λ told before had storable lacks fine.
     let such = c.loop-turn.invariant.posted at.clean mode store before had storable lacks in
     let held = subst (λ (db : Database). WillHold format db.trees id c.loop-turn.pending such.content) (sym at.on.now_is) such.held in
-    record {
-      content = such.content;
-      held = held_whole format new.now.trees id c.write_pending.new.pending such.content all (settled.2 such.content such.storable held).0;
-      storable = such.storable;
-      is = all_posted profile old.now.trees id c.loop-turn.next before such.content such.is none;
-    })
-    (c.write_pending.ensures.call.written clean at.on.mode (store_same now mid at.on.now_is kept.0)) c.write_pending.ensures.all
-
--- the registers hold what the noted changes say
-pub returns-in_default-clause-damaged : goal.returns-in_default-clause-damaged
-returns-in_default-clause-damaged g c clean mode store told before had storable lacks readable sound =
-    let old = state g.S.Store c.args.tx.now.conn.now in
-    let now = state g.S.Store c.loop-turn.tx.conn.now in
-    let mid = state g.S.Store c.record_from_inside.new.tx.conn.now in
-    let at = asked old now mid (omega (arith, c.write_pending.ensures.call.crash.clean)) c.record_from_inside.ensures.call.crash (λ clean_now. c.loop-turn.invariant.stays clean_now mode) c.in_ok-record.ensures.call.ok in
-    let kept = c.loop-turn.invariant.kept at.clean mode store in
-    let such = c.loop-turn.invariant.posted at.clean mode store before had storable lacks in
-    let held = subst (λ (db : Database). WillHold g.L.Layout.format db.trees c.args.db.0 c.loop-turn.pending such.content) (sym at.on.now_is) such.held in
-    c.write_pending.ensures.call.honest clean at.on.mode (store_same now mid at.on.now_is kept.0) told such.content such.storable held
+    c.write_pending.ensures.call.honest clean at.on.mode there told such.content such.storable held)
 
 -- ---- before it
 
 -- what can be read is read
-pub returns-in_err-record-clause-damaged : goal.returns-in_err-record-clause-damaged
-returns-in_err-record-clause-damaged g c = λ clean mode store told before had storable lacks readable sound.
+pub returns-in_err-record-clause-posts : goal.returns-in_err-record-clause-posts
+returns-in_err-record-clause-posts g c clean mode store =
     let old = state g.S.Store c.args.tx.now.conn.now in
     let now = state g.S.Store c.loop-turn.tx.conn.now in
     let clean_now : HasCleanDisk now = omega (arith, c.record_from_inside.ensures.call.crash.clean) in
     let was = c.loop-turn.invariant.stays clean_now mode in
     let kept = c.loop-turn.invariant.kept clean_now mode store in
-    let fault : c.record_from_inside.result ≡ Err Damaged = search rules in
-    c.record_from_inside.ensures.honest clean was.mode kept.0 fault (readable_still old.now.trees now.now.trees kept.1 c.args.db.0 readable)
+    let told : c.from_residual.result ≡ Err c.in_err-record.field-0.0 = search rules in
+    rw told (λ is before had storable lacks fine. c.in_err-record.ensures.honest clean was.mode kept.0 (ap Err is) (readable_still old.now.trees now.now.trees kept.1 c.args.db.0 fine.0))
 
 -- a record that isn't sound
-pub returns-in_err-record_note-clause-damaged : goal.returns-in_err-record_note-clause-damaged
-returns-in_err-record_note-clause-damaged g c = λ clean mode store told before had storable lacks readable sound.
+pub returns-in_err-record_note-clause-posts : goal.returns-in_err-record_note-clause-posts
+returns-in_err-record_note-clause-posts g c clean mode store =
     let old = state g.S.Store c.args.tx.now.conn.now in
     let now = state g.S.Store c.loop-turn.tx.conn.now in
     let id = c.args.db.0 in
@@ -237,14 +221,15 @@ returns-in_err-record_note-clause-damaged g c = λ clean mode store told before 
     let kept = c.loop-turn.invariant.kept clean_now mode store in
     let value = subst (IsFirstFrom now.now.trees id c.loop-turn.next) c.in-Some.is (c.in_ok-record.ensures.value clean was.mode kept.0 (omega (arith, c.loop-turn.invariant.small))) in
     let first = first_still old.now.trees now.now.trees kept.1 id c.loop-turn.next (Some found) value in
-    let fault : c.record_note.result ≡ Err Damaged = search rules in
-    c.record_note.ensures.damaged fault (sound found.sysno (string_bytes found.ident) found.bytes.items first.0)
+    let told : c.from_residual-in_err-record_note.result ≡ Err c.in_err-record_note.field-0.0 = search rules in
+    rw told (λ is before had storable lacks fine. c.in_err-record_note.ensures.damaged (ap Err is) (fine.1 found.sysno (string_bytes found.ident) found.bytes.items first.0))
 
 -- the registers hold what the noted changes say
-pub returns-in_err-write_where_full-clause-damaged : goal.returns-in_err-write_where_full-clause-damaged
-returns-in_err-write_where_full-clause-damaged g c = λ clean mode store told before had storable lacks readable sound.
-    let full = (goal.at.returns-in_err-write_where_full-clause-damaged g c).After-write_where_full in
+pub returns-in_err-write_where_full-clause-posts : goal.returns-in_err-write_where_full-clause-posts
+returns-in_err-write_where_full-clause-posts g c clean mode store =
+    let full = (goal.at.returns-in_err-write_where_full-clause-posts g c).After-write_where_full in
+    let told : c.from_residual-in_err-write_where_full.result ≡ Err c.in_err-write_where_full.field-0.0 = search rules in
+    rw told (λ is before had storable lacks fine.
     let read = next_read g full clean mode store in
     let noted = (then_noted g full clean mode store before had storable lacks).1 in
-    let fault : c.write_where_full.result ≡ Err Damaged = search rules in
-    c.write_where_full.ensures.call.honest clean read.at.on.mode read.store fault noted.content noted.storable noted.held
+    c.in_err-write_where_full.ensures.call.honest clean read.at.on.mode read.store (ap Err is) noted.content noted.storable noted.held)

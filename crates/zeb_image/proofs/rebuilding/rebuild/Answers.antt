@@ -1,4 +1,4 @@
-use Rattle.zeb_image.proofs.Cited.{◌≡◌, ◌∙◌, ◌+◌, ◌++◌, ◌∷◌, ℤ, [], pos, IsTrue, List, Err, map, take, drop, suc, inl, inr, refl, sym, ap, subst, arith, rules, string_bytes, map-append, take_more, take_all, split_at, Database, state, HasCleanDisk, State, Has, has_either, has_right, Directive, ListedDatabase, Damaged, GoesOn, OnlyReads, AreDatabases, Format, holds_in, HasDatabase, IsStore, KeepsLists, store_same, registers_empty, Continues, keeps_then, goes_on, kept_then, HoldsSuch, LacksDatabase, AreSoundIn}
+use Rattle.zeb_image.proofs.Cited.{◌≡◌, ◌∙◌, ◌+◌, ◌++◌, ◌∷◌, ℤ, [], pos, IsTrue, List, Result, Err, map, take, drop, suc, inl, inr, refl, sym, ap, subst, arith, rules, string_bytes, map-append, take_more, take_all, split_at, Database, state, HasCleanDisk, State, Has, has_either, has_right, Directive, ListedDatabase, RegFault, Damaged, GoesOn, OnlyReads, AreDatabases, Format, holds_in, HasDatabase, IsStore, KeepsLists, store_same, registers_empty, Continues, keeps_then, goes_on, kept_then, HoldsSuch, LacksDatabase, AreSoundIn}
 use Rattle.zeb_image.proofs.RebuiltImages.{id_in, listed_id, listed_there, lists_readable, lists_sound, new_id, readable_databases, rebuilt, same_databases}
 use Rattle.zeb_image.proofs.RebuiltPostings.{ArePostedIn, more_posted, new_lacks, nothing_posted, posted_still, readable_still, sound_still, sound_then}
 use Rattle.zeb_image.proofs.rebuilding.rebuild.Given as given
@@ -7,6 +7,9 @@ use Rattle.zeb_image.proofs.rebuilding.rebuild.Goals as goal
 
 read_then : (old mid new : State) → GoesOn old mid → OnlyReads mid new → GoesOn old new
 read_then old mid new one two = record { was_open = one.was_open; is_open = two.is_open; now_is = refl; committed_is = two.committed_is ∙ one.committed_is; mode = two.mode }
+
+fault_same : (fault : RegFault) (result : Result (Unit {0}) RegFault) → result ≡ Err fault → result ≡ Err Damaged → fault ≡ Damaged
+fault_same fault result is told = let both : ◌≡◌ {A = Result (Unit {0}) RegFault} (Err fault) (Err Damaged) = sym is ∙ told in cc
 
 goes_further : (old mid new : State) → GoesOn old mid → Continues mid new → GoesOn old new
 goes_further old mid new one two =
@@ -63,7 +66,7 @@ next_listed g c clean mode store =
     let index = c.loop-database.database-index in
     let item = c.database-item.result in
     let done = take index items in
-    let clean_now : HasCleanDisk (state g.S.Store c.loop-database.tx.conn.now) = omega (arith, c.database_post.ensures.crash.clean) in
+    let clean_now : HasCleanDisk (state g.S.Store c.loop-database.tx.conn.now) = omega (arith, c.database_post.ensures.inside.crash.clean) in
     let are = c.loop-database.invariant.listed clean_now mode store in
     let such = c.loop-database.invariant.posted clean_now mode store in
     let split : items ≡ done ++ item ∷ drop (suc index) items = split_at items index item c.loop-database-test.true ∙ ap (λ x. done ++ x ∷ drop (suc index) items) (sym c.database-item.is) in
@@ -88,24 +91,24 @@ loop-database-preserved g c =
     let index = c.loop-database.database-index in
     let item = c.database-item.result in
     let done = take index items in
-    let clean_now = λ (clean : HasCleanDisk new). (let e : HasCleanDisk now = omega (arith, c.database_post.ensures.crash.clean) in e) in
+    let clean_now = λ (clean : HasCleanDisk new). (let e : HasCleanDisk now = omega (arith, c.database_post.ensures.inside.crash.clean) in e) in
     let more : take (index + 1) items ≡ done ++ item ∷ [] = take_more items index item c.loop-database-test.true ∙ ap (λ x. done ++ x ∷ []) (sym c.database-item.is) in
     record {
       same = search rules;
       crash = search rules;
       goes_on = λ clean mode.
           let on = c.loop-database.invariant.goes_on (clean_now clean) mode in
-          goes_further old now new on (c.in_ok-database_post.ensures.stays clean on.mode);
+          goes_further old now new on (c.in_ok-database_post.ensures.inside.stays clean on.mode);
       kept = λ clean mode store.
           let on = c.loop-database.invariant.goes_on (clean_now clean) mode in
           let kept = c.loop-database.invariant.kept (clean_now clean) mode store in
-          let then_kept = c.in_ok-database_post.ensures.kept clean on.mode kept.0 in
+          let then_kept = c.in_ok-database_post.ensures.posts clean on.mode kept.0 in
           (then_kept.0, keeps_then old.now.trees now.now.trees new.now.trees kept.1 then_kept.1);
       listed = λ clean mode store. c.loop-database.invariant.listed (clean_now clean) mode store;
       checked = λ clean mode store d there.
           let on = c.loop-database.invariant.goes_on (clean_now clean) mode in
           let kept = c.loop-database.invariant.kept (clean_now clean) mode store in
-          let here = sound_still old.now.trees now.now.trees kept.1 profile item.id.0 (c.in_ok-database_post.ensures.checked clean on.mode kept.0) in
+          let here = sound_still old.now.trees now.now.trees kept.1 profile item.id.0 (c.in_ok-database_post.ensures.posts clean on.mode kept.0).2 in
           elim (has_either done (item ∷ []) d (subst (λ l. Has l d) more there)) [
             | inl before ↦ c.loop-database.invariant.checked (clean_now clean) mode store d before
             | inr last ↦ elim last [ inl same ↦ subst (λ (x : ListedDatabase). AreSoundIn profile old.now.trees x.id.0) (sym same) here | inr none ↦ absurd none ]
@@ -113,7 +116,7 @@ loop-database-preserved g c =
       posted = λ clean mode store.
           let base = next_listed g (goal.at.loop-database-preserved g c).After-database_post clean mode store in
           let such = base.such in
-          let then_such = c.in_ok-database_post.ensures.posted clean base.on.mode base.kept.0 such.content such.held such.storable base.lacks in
+          let then_such = (c.in_ok-database_post.ensures.posts clean base.on.mode base.kept.0).3 such.content such.held such.storable base.lacks in
           let ids : map id_in (take (index + 1) items) ≡ map id_in done ++ item.id.0 ∷ [] = ap (map id_in) more ∙ map-append id_in done (item ∷ []) in
           record {
             content = then_such.content;
@@ -175,10 +178,9 @@ returns-in_err-database_post-clause-damaged g c = λ clean mode store told reada
     let old = state g.S.Store c.args.tx.now.conn.now in
     let now = state g.S.Store c.loop-database.tx.conn.now in
     let item = c.database-item.result in
-    let fault : c.database_post.result ≡ Err Damaged = search rules in
-    c.database_post.ensures.damaged clean base.on.mode base.kept.0 fault base.such.content base.such.held base.such.storable base.lacks
-    (readable_still old.now.trees now.now.trees base.kept.1 item.id.0 (readable.records item.id.0 (string_bytes item.name) (pos item.last) base.there))
-    (sound_then old.now.trees now.now.trees base.kept.1 c.args.profile.now item.id.0 (sound item.id.0 (string_bytes item.name) (pos item.last) base.there))
+    let passed : c.from_residual-in_err-database_post.result ≡ Err c.in_err-database_post.field-0.0 = search rules in
+    c.in_err-database_post.ensures.posts clean base.on.mode base.kept.0 (fault_same c.in_err-database_post.field-0.0 c.from_residual-in_err-database_post.result passed told) base.such.content base.such.held base.such.storable base.lacks
+    (readable_still old.now.trees now.now.trees base.kept.1 item.id.0 (readable.records item.id.0 (string_bytes item.name) (pos item.last) base.there), sound_then old.now.trees now.now.trees base.kept.1 c.args.profile.now item.id.0 (sound item.id.0 (string_bytes item.name) (pos item.last) base.there))
 
 pub returns-in_err-database_post-clause-honest : goal.returns-in_err-database_post-clause-honest
 returns-in_err-database_post-clause-honest g c = λ clean mode store told bases these are.
@@ -194,8 +196,8 @@ returns-in_err-database_post-clause-call g c =
     record {
       ok = λ clean mode. rw told tt;
       err = λ clean mode.
-          let clean_now : HasCleanDisk now = omega (arith, c.database_post.ensures.crash.clean) in
+          let clean_now : HasCleanDisk now = omega (arith, c.database_post.ensures.inside.crash.clean) in
           let on = c.loop-database.invariant.goes_on clean_now mode in
-          rw told (kept_then old now new (goes_on old now on) (c.in_err-database_post.ensures.stays clean on.mode));
+          rw told (kept_then old now new (goes_on old now on) (c.in_err-database_post.ensures.inside.stays clean on.mode));
       crash = search rules;
     }

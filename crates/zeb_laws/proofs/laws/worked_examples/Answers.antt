@@ -1,6 +1,6 @@
 use Rattle.zeb_laws.proofs.Cited.{Init, done, changed, refused, faulty, book_conditions, no_books, one_book, step_is}
 use Rattle.zeb_change.specs.declared.faults.RecordFault.TheVariants as fault
-use Rattle.zeb_laws.proofs.WorkedAnswers.{begun, kept, again, refused_new, refused_old, has_no_other, word_found, word_not_found}
+use Rattle.zeb_laws.proofs.WorkedAnswers.{begun, kept, again, refused_new, refused_old, has_no_other, joined, word_found, word_not_found}
 use Rattle.zeb_laws.proofs.WorkedQuery.{asked}
 use Rattle.zeb_laws.proofs.WorkedRun.{run}
 use Rattle.zeb_laws.proofs.laws.worked_examples.Goals as goal
@@ -28,6 +28,9 @@ returns-clause-other_word c = has_no_other
 
 pub returns-clause-not_found : goal.returns-clause-not_found
 returns-clause-not_found c = word_not_found
+
+pub returns-clause-joined : goal.returns-clause-joined
+returns-clause-joined c = joined
 
 pub returns-clause-asked : goal.returns-clause-asked
 returns-clause-asked c version limits command by answer later = asked version limits answer later command by

@@ -1,5 +1,6 @@
 -- The lemmas on shortest forms, one for each clause.
-use Rattle.zeb_blocks.proofs.ShortestForms.{length-uleb, shortest_only, uleb_shortest}
+use Rattle.zeb_blocks.proofs.Bytes.{length-uleb}
+use Rattle.zeb_lower_laws.proofs.ShortestForms.{shortest_only, uleb_shortest}
 use Rattle.zeb_lower_laws.proofs.blocks.numbers_are_in_their_shortest_form.Goals as goal
 
 pub returns-clause-shortest : goal.returns-clause-shortest

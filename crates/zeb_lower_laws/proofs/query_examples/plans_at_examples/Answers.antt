@@ -1,7 +1,6 @@
 use Rattle.zeb_query.proofs.Cited.{refl, [], ◌∷◌, ◌++◌, is_structure}
-use Rattle.zeb_query.specs.declared.keywords.OperatorWord.TheVariants.{Not}
 use Rattle.std.proofs.Common.{codes}
-use Rattle.zeb_lower_laws.proofs.ExampleLemmas.{chars, is_utf8, digits, encode, ucd_category, caseless, folded, is_word_character, runs_of, truncated, number_key, kind_and_value, holding_of, plan_asked, scan_asked, planned, term_at, under_at, pair_at, of_set, quoted_at}
+use Rattle.zeb_lower_laws.proofs.ExampleLemmas.{chars, is_utf8, digits, encode, ucd_category, caseless, folded, is_word_character, runs_of, truncated, number_key, kind_and_value, holding_of, plan_asked, scan_asked, planned, term_at, under_at, of_set, quoted_at}
 use Rattle.zeb_lower_laws.proofs.query_examples.plans_at_examples.Goals as goal
 
 pub returns : goal.returns
@@ -14,7 +13,6 @@ returns c = record {
     planned (is_structure _ _ (under_at 0 6 (codes "1=31") (1, codes "31") refl (under_at 11 17 (codes "4=109") (4, codes "109") refl (under_at 23 29 (codes "2=4") (2, codes "4") refl (term_at 33 (codes "951") refl))))) refl refl,
     planned (is_structure _ _ (under_at 0 6 (codes "4=107") (4, codes "107") refl (term_at 12 (codes "007") refl))) refl refl,
     planned (is_structure _ _ (under_at 0 6 (codes "2=103") (2, codes "103") refl (term_at 12 (codes "x") refl))) refl refl,
-    planned (is_structure _ _ (pair_at 0 (codes "@not") Not [] refl refl refl (term_at 5 (codes "a") refl) (term_at 7 (codes "b") refl))) refl refl,
   );
   attributes = (
     planned (is_structure _ _ (under_at 0 6 (codes "1=9999") (1, codes "9999") refl (under_at 13 19 (codes "1=4") (1, codes "4") refl (term_at 23 (codes "moby") refl)))) refl refl,

@@ -4,5 +4,5 @@ use Rattle.zeb_profile.proofs.resolved.resolve.Given as goal
 abbrev pub invariant-loop-line : goal.invariant-loop-line
 invariant-loop-line l = record {
   items : into_iter_items l.initial.line-iterator ≡ l.yielded ++ into_iter_items l.line-iterator;
-  added : map line_value l.lines.items ≡ map (resolved l.names) (directives_in l.yielded);
+  added : map line_value l.lines.items ≡ map (resolved l.indexes.names.items) (directives_in l.yielded);
 }

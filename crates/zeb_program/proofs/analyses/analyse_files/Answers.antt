@@ -1,6 +1,7 @@
 use Rattle.std.proofs.Common.{◌≡◌, ◌⊎◌, ◌∙◌, Err, Ok, Some, ap, map, refl, rules, string_bytes, subst, sym}
 use Rattle.std.specs.Prelude.{IfErr}
-use Rattle.zeb_paths.specs.Walks.{GivesUnder, IsFaultUntold, paths_left}
+use Rattle.zeb_paths.specs.Walks.{GivesUnder, WalksOn, dues_left, paths_left, telling}
+use Rattle.zeb_paths.proofs.WalkLemmas.{walks_ended, walks_told, walks_under, walks_untold}
 use Rattle.zeb_program.specs.Inputs.{AreShort}
 use Rattle.zeb_program.specs.PrivateFaults.{IsUnread, IsUnreadAt, fault_of}
 use Rattle.zeb_program.specs.declared.faults.Fault.TheVariants.{Memory}
@@ -19,47 +20,72 @@ loop-file-init g c =
 
 pub loop-file-preserved : goal.loop-file-preserved
 loop-file-preserved g c =
-    let left = paths_left c.loop-file.walk.steps.items in
-    let later = paths_left c.next_file.new.self.steps.items in
+    let at = telling (g.P.Paths.tells c.args.paths.now) (g.P.Paths.stands c.args.paths.now) (g.P.Paths.lists c.args.paths.now) in
+    let steps = c.loop-file.walk.steps.items in
+    let after = c.next_file.new.self.steps.items in
+    let on : WalksOn at (dues_left steps) (Ok c.in_ok-path.field-0) (dues_left after) =
+    subst (λ p. WalksOn (telling (g.P.Paths.tells p) (g.P.Paths.stands p) (g.P.Paths.lists p)) (dues_left steps) (Ok c.in_ok-path.field-0) (dues_left after)) c.loop-file.invariant.paths c.in_ok-path.ensures.walks in
+    let left = paths_left steps in
+    let later = paths_left after in
     let tells = g.P.Paths.tells c.args.paths.now in
-    let next = subst (λ p. GivesNext (g.P.Paths.tells p) left later (Ok c.in_ok-path.field-0)) c.loop-file.invariant.paths c.in_ok-path.ensures.told in
+    let next : GivesNext tells left later (Ok c.in_ok-path.field-0) = walks_told at steps after (Ok c.in_ok-path.field-0) on in
     record {
       paths = ap (λ p. p.now) c.in_ok-path.ensures.paths ∙ c.loop-file.invariant.paths;
-      under = (c.in_ok-path.ensures.under (map string_bytes c.args.named.now) c.loop-file.invariant.under).1;
+      under = (walks_under at steps after (Ok c.in_ok-path.field-0) on (map string_bytes c.args.named.now) c.loop-file.invariant.under).1;
       read =
           goes_on tells c.args.session.now.profile c.args.session.now.limits.records (map string_bytes c.args.named.now) c.loop-file.file c.loop-file.lines c.loop-file.unmarked.items left later
           c.loop-file.invariant.read c.in-Some.path c.in_ok-bytes.bytes c.deref-in-loop-file.result.now c.deref.result.now c.with_file-lines.result c.note_unmarked.new.unmarked.items
           (subst (λ found. GivesNext tells left later (Ok found)) c.in-Some.is next)
-          (subst (λ found. Ends left (Ok found)) c.in-Some.is c.in_ok-path.ensures.ended)
+          (subst (λ found. Ends left (Ok found)) c.in-Some.is (walks_ended at steps after (Ok c.in_ok-path.field-0) on))
           c.in_ok-bytes.ensures c.deref-in-loop-file.ensures.value c.deref.ensures.value c.with_file-lines.ensures c.in_ok-note_unmarked.ensures;
     }
 
 pub returns-in_err-path-clause-reason : goal.returns-in_err-path-clause-reason
 returns-in_err-path-clause-reason g c files told =
-    let left = paths_left c.loop-file.walk.steps.items in
-    let later = paths_left c.next_file.new.self.steps.items in
+    let at = telling (g.P.Paths.tells c.args.paths.now) (g.P.Paths.stands c.args.paths.now) (g.P.Paths.lists c.args.paths.now) in
+    let steps = c.loop-file.walk.steps.items in
+    let after = c.next_file.new.self.steps.items in
+    let on : WalksOn at (dues_left steps) (Err c.in_err-path.field-0.0) (dues_left after) =
+    subst (λ p. WalksOn (telling (g.P.Paths.tells p) (g.P.Paths.stands p) (g.P.Paths.lists p)) (dues_left steps) (Err c.in_err-path.field-0.0) (dues_left after)) c.loop-file.invariant.paths c.in_err-path.ensures.walks in
+    let left = paths_left steps in
+    let later = paths_left after in
     let why = c.in_err-path.field-0.0 in
     absurd (met_fault (λ content. Some content.items) (g.P.Paths.tells c.args.paths.now) files c.loop-file.invariant.read.contents left later why
-    (c.loop-file.invariant.read.met files told) (subst (λ p. GivesNext (g.P.Paths.tells p) left later (Err why)) c.loop-file.invariant.paths c.in_err-path.ensures.told) c.in_err-path.ensures.ended)
+    (c.loop-file.invariant.read.met files told) (walks_told at steps after (Err c.in_err-path.field-0.0) on) (walks_ended at steps after (Err c.in_err-path.field-0.0) on))
 
 pub returns-in_err-path-clause-under : goal.returns-in_err-path-clause-under
 returns-in_err-path-clause-under g c =
+    let at = telling (g.P.Paths.tells c.args.paths.now) (g.P.Paths.stands c.args.paths.now) (g.P.Paths.lists c.args.paths.now) in
+    let steps = c.loop-file.walk.steps.items in
+    let after = c.next_file.new.self.steps.items in
+    let on : WalksOn at (dues_left steps) (Err c.in_err-path.field-0.0) (dues_left after) =
+    subst (λ p. WalksOn (telling (g.P.Paths.tells p) (g.P.Paths.stands p) (g.P.Paths.lists p)) (dues_left steps) (Err c.in_err-path.field-0.0) (dues_left after)) c.loop-file.invariant.paths c.in_err-path.ensures.walks in
     let why = c.in_err-path.field-0.0 in
     let from : IfErr c.from_residual-in_err-path.result (λ given. IsUnread given × (given ≡ fault_of why)) = search rules in
-    under_faults (map string_bytes c.args.named.now) why c.from_residual-in_err-path.result from (c.in_err-path.ensures.under (map string_bytes c.args.named.now) c.loop-file.invariant.under).0
+    under_faults (map string_bytes c.args.named.now) why c.from_residual-in_err-path.result from (walks_under at steps after (Err c.in_err-path.field-0.0) on (map string_bytes c.args.named.now) c.loop-file.invariant.under).0
 
 pub returns-in_err-path-clause-unread : goal.returns-in_err-path-clause-unread
 returns-in_err-path-clause-unread g c =
+    let at = telling (g.P.Paths.tells c.args.paths.now) (g.P.Paths.stands c.args.paths.now) (g.P.Paths.lists c.args.paths.now) in
+    let steps = c.loop-file.walk.steps.items in
+    let after = c.next_file.new.self.steps.items in
+    let on : WalksOn at (dues_left steps) (Err c.in_err-path.field-0.0) (dues_left after) =
+    subst (λ p. WalksOn (telling (g.P.Paths.tells p) (g.P.Paths.stands p) (g.P.Paths.lists p)) (dues_left steps) (Err c.in_err-path.field-0.0) (dues_left after)) c.loop-file.invariant.paths c.in_err-path.ensures.walks in
     let why = c.in_err-path.field-0.0 in
     let from : IfErr c.from_residual-in_err-path.result (λ given. IsUnread given × (given ≡ fault_of why)) = search rules in
-    unread_faults (g.P.Paths.tells c.args.paths.now) why c.from_residual-in_err-path.result from (subst (λ p. IsFaultUntold (g.P.Paths.tells p) why) c.loop-file.invariant.paths c.in_err-path.ensures.untold)
+    unread_faults (g.P.Paths.tells c.args.paths.now) why c.from_residual-in_err-path.result from (walks_untold at (dues_left steps) (Err c.in_err-path.field-0.0) (dues_left after) on)
 
 pub returns-in_err-bytes-clause-under : goal.returns-in_err-bytes-clause-under
 returns-in_err-bytes-clause-under g c =
+    let at = telling (g.P.Paths.tells c.args.paths.now) (g.P.Paths.stands c.args.paths.now) (g.P.Paths.lists c.args.paths.now) in
+    let steps = c.loop-file.walk.steps.items in
+    let after = c.next_file.new.self.steps.items in
+    let on : WalksOn at (dues_left steps) (Ok c.in_ok-path.field-0) (dues_left after) =
+    subst (λ p. WalksOn (telling (g.P.Paths.tells p) (g.P.Paths.stands p) (g.P.Paths.lists p)) (dues_left steps) (Ok c.in_ok-path.field-0) (dues_left after)) c.loop-file.invariant.paths c.in_ok-path.ensures.walks in
     let why = c.in_err-bytes.field-0.0 in
     let is : c.from_residual-in_err-bytes.result ≡ Err why = search rules in
     under_files (map string_bytes c.args.named.now) c.in-Some.path c.from_residual-in_err-bytes.result why is (content_fault c.in-Some.path _ why c.in_err-bytes.ensures).0
-    (subst (λ found. GivesUnder (map string_bytes c.args.named.now) (Ok found)) c.in-Some.is (c.in_ok-path.ensures.under (map string_bytes c.args.named.now) c.loop-file.invariant.under).0)
+    (subst (λ found. GivesUnder (map string_bytes c.args.named.now) (Ok found)) c.in-Some.is (walks_under at steps after (Ok c.in_ok-path.field-0) on (map string_bytes c.args.named.now) c.loop-file.invariant.under).0)
 
 pub returns-in_err-bytes-clause-unread : goal.returns-in_err-bytes-clause-unread
 returns-in_err-bytes-clause-unread g c =
@@ -70,22 +96,32 @@ returns-in_err-bytes-clause-unread g c =
 -- a file that is told isn't given only where it is too long
 pub returns-in_err-bytes-clause-reason : goal.returns-in_err-bytes-clause-reason
 returns-in_err-bytes-clause-reason g c files told =
+    let at = telling (g.P.Paths.tells c.args.paths.now) (g.P.Paths.stands c.args.paths.now) (g.P.Paths.lists c.args.paths.now) in
+    let steps = c.loop-file.walk.steps.items in
+    let after = c.next_file.new.self.steps.items in
+    let on : WalksOn at (dues_left steps) (Ok c.in_ok-path.field-0) (dues_left after) =
+    subst (λ p. WalksOn (telling (g.P.Paths.tells p) (g.P.Paths.stands p) (g.P.Paths.lists p)) (dues_left steps) (Ok c.in_ok-path.field-0) (dues_left after)) c.loop-file.invariant.paths c.in_ok-path.ensures.walks in
     let left = paths_left c.loop-file.walk.steps.items in
     let later = paths_left c.next_file.new.self.steps.items in
     let tells = g.P.Paths.tells c.args.paths.now in
     let why = c.in_err-bytes.field-0.0 in
     let is : c.from_residual-in_err-bytes.result ≡ Err why = search rules in
-    let next = subst (λ p. GivesNext (g.P.Paths.tells p) left later (Ok c.in_ok-path.field-0)) c.loop-file.invariant.paths c.in_ok-path.ensures.told in
+    let next : GivesNext tells left later (Ok c.in_ok-path.field-0) = walks_told at steps after (Ok c.in_ok-path.field-0) on in
     subst (λ r. IfErr r (λ fault. (fault ≡ Memory) ⊎ (¬ AreShort files))) (sym is)
     (met_refused (λ content. Some content.items) tells files c.loop-file.invariant.read.contents left later c.in-Some.path why (c.loop-file.invariant.read.met files told)
     (subst (λ found. GivesNext tells left later (Ok found)) c.in-Some.is next)
-    (subst (λ found. Ends left (Ok found)) c.in-Some.is c.in_ok-path.ensures.ended) c.in_err-bytes.ensures)
+    (subst (λ found. Ends left (Ok found)) c.in-Some.is (walks_ended at steps after (Ok c.in_ok-path.field-0) on)) c.in_err-bytes.ensures)
 
 pub returns-in_default-clause-reads : goal.returns-in_default-clause-reads
 returns-in_default-clause-reads g c =
-    let left = paths_left c.loop-file.walk.steps.items in
-    let later = paths_left c.next_file.new.self.steps.items in
+    let at = telling (g.P.Paths.tells c.args.paths.now) (g.P.Paths.stands c.args.paths.now) (g.P.Paths.lists c.args.paths.now) in
+    let steps = c.loop-file.walk.steps.items in
+    let after = c.next_file.new.self.steps.items in
+    let on : WalksOn at (dues_left steps) (Ok c.in_ok-path.field-0) (dues_left after) =
+    subst (λ p. WalksOn (telling (g.P.Paths.tells p) (g.P.Paths.stands p) (g.P.Paths.lists p)) (dues_left steps) (Ok c.in_ok-path.field-0) (dues_left after)) c.loop-file.invariant.paths c.in_ok-path.ensures.walks in
+    let left = paths_left steps in
+    let later = paths_left after in
     let tells = g.P.Paths.tells c.args.paths.now in
-    let next = subst (λ p. GivesNext (g.P.Paths.tells p) left later (Ok c.in_ok-path.field-0)) c.loop-file.invariant.paths c.in_ok-path.ensures.told in
+    let next : GivesNext tells left later (Ok c.in_ok-path.field-0) = walks_told at steps after (Ok c.in_ok-path.field-0) on in
     all_read tells c.args.session.now.profile c.args.session.now.limits.records (map string_bytes c.args.named.now) c.loop-file.file c.loop-file.lines c.loop-file.unmarked.items left later
     c.loop-file.invariant.read _ refl refl (subst (λ found. GivesNext tells left later (Ok found)) c.in_default.is next)

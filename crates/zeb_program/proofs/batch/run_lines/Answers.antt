@@ -43,16 +43,16 @@ loop-rest-preserved g c =
       text = subst IsUtf8 (sym c.cut_line.ensures.rest) (after_first_line-IsUtf8 rest c.loop-rest.invariant.text);
       room = omega (arith, ap length c.cut_line.ensures.rest, length-after_first_line rest some);
       sound = λ sound. c.loop-rest.invariant.sound (c.run_line.ensures.sound sound);
-      under = (c.run_line.ensures.under.0 ∙ same.0, c.run_line.ensures.under.1 ∙ same.1);
-      clean = λ clean. c.loop-rest.invariant.clean (c.run_line.ensures.clean clean);
+      under = (c.run_line.ensures.stays.0 ∙ same.0, c.run_line.ensures.stays.1 ∙ same.1);
+      clean = λ clean. c.loop-rest.invariant.clean (c.run_line.ensures.stays.2 clean);
       over = λ sound clean.
-          let was = c.loop-rest.invariant.over (c.run_line.ensures.sound sound) (c.run_line.ensures.clean clean) in
+          let was = c.loop-rest.invariant.over (c.run_line.ensures.sound sound) (c.run_line.ensures.stays.2 clean) in
           let step = subst₂ (λ p l. Writes (g.W.Write.contents c.loop-rest.output.writer) (g.W.Write.contents c.run_line.new.output.writer)
           (λ bytes. LineOver g.S.Store tells g.L.Layout.format (conditions (version_of g.L.Layout.format) p l) (number + 1) line c.loop-rest.session.connection bytes c.in_ok-run_line.field-0 c.run_line.new.session.connection)) same.0 same.1 (c.in_ok-run_line.ensures.over sound clean) in
           answered_line (LineOver g.S.Store tells g.L.Layout.format k) _ _ _ _ _ _ number rest line c.cut_line.result.1.now c.loop-rest.greatest c.in_ok-run_line.field-0 c.max-greatest.result
           c.loop-rest.session.connection c.run_line.new.session.connection some c.cut_line.ensures.line c.cut_line.ensures.rest (c.max-greatest.ensures ∙ max_greater c.loop-rest.greatest c.in_ok-run_line.field-0) was step;
       answers = λ sound clean.
-          let was = c.loop-rest.invariant.answers (c.run_line.ensures.sound sound) (c.run_line.ensures.clean clean) in
+          let was = c.loop-rest.invariant.answers (c.run_line.ensures.sound sound) (c.run_line.ensures.stays.2 clean) in
           let step = subst₂ (λ p l. LeadsOn now next (g.W.Write.contents c.loop-rest.output.writer) (g.W.Write.contents c.run_line.new.output.writer)
           (λ held bytes then. AnswersAsTold tells (conditions (version_of g.L.Layout.format) p l) (number + 1) line held bytes c.in_ok-run_line.field-0 then)) same.0 same.1 (c.in_ok-run_line.ensures.answer sound clean) in
           reaches_line tells k old now next _ _ _ _ _ number rest line c.cut_line.result.1.now c.loop-rest.greatest c.in_ok-run_line.field-0 c.max-greatest.result some
@@ -77,4 +77,4 @@ returns-in_err-run_line-clause-stopped g c =
     let clean = HasCleanDisk (state g.S.Store c.run_line.new.session.connection) in
     rw c.in_err-run_line.ensures.stopped
     (reaches_failure (g.P.Paths.tells c.args.paths.now) k old now (g.W.Write.contents c.args.output.now.writer) (g.W.Write.contents c.loop-rest.output.writer) c.args.batch.lines_before c.args.batch.text.now c.loop-rest.number rest c.loop-rest.greatest
-    c.from_residual.result c.loop-rest.output.failed clean (not_empty rest c.loop-rest-test.ensures) (λ sound clean. c.loop-rest.invariant.answers sound (c.run_line.ensures.clean clean)))
+    c.from_residual.result c.loop-rest.output.failed clean (not_empty rest c.loop-rest-test.ensures) (λ sound clean. c.loop-rest.invariant.answers sound (c.run_line.ensures.stays.2 clean)))

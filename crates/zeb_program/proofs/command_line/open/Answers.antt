@@ -8,12 +8,12 @@ use Rattle.zeb_program.proofs.WordRunLemmas.{opens_under, passed_fault, stops_so
 use Rattle.zeb_program.proofs.command_line.open.Goals as goal
 
 pub returns-clause-opened : goal.returns-clause-opened
-returns-clause-opened g c = opens_under (places g.P.Store.Store (g.P.Paths.tells c.args.paths.now) (g.P.Paths.opens c.args.paths.now c.open_register.new.paths) (g.P.Paths.lacks c.args.paths.now) (g.P.Paths.leaves c.open_register.new.paths)) c.args.config c.in_ok-profile.profile c.open_register.result (λ session. session.connection) (λ session. conditions (version_of packed_blocks) session.profile session.limits) c.in_ok-profile.ensures c.open_register.ensures.under c.open_register.ensures.opened
+returns-clause-opened g c = opens_under (places g.P.Store.Store g.P.Paths.tells g.P.Paths.opens g.P.Paths.refuses g.P.Paths.lacks g.P.Paths.lets_go g.P.Paths.leaves c.args.paths.now c.open_register.new.paths) c.args.config c.in_ok-profile.profile c.open_register.result (λ session. session.connection) (λ session. conditions (version_of packed_blocks) session.profile session.limits) c.in_ok-profile.ensures c.open_register.ensures.under c.open_register.ensures.opened
 
 pub returns-clause-failed : goal.returns-clause-failed
-returns-clause-failed g c = stops_so (places g.P.Store.Store (g.P.Paths.tells c.args.paths.now) (g.P.Paths.opens c.args.paths.now c.open_register.new.paths) (g.P.Paths.lacks c.args.paths.now) (g.P.Paths.leaves c.open_register.new.paths)) c.args.config c.in_ok-profile.profile c.open_register.result c.in_ok-profile.ensures c.open_register.ensures.failed
+returns-clause-failed g c = stops_so (places g.P.Store.Store g.P.Paths.tells g.P.Paths.opens g.P.Paths.refuses g.P.Paths.lacks g.P.Paths.lets_go g.P.Paths.leaves c.args.paths.now c.open_register.new.paths) c.args.config c.in_ok-profile.profile c.open_register.result c.in_ok-profile.ensures c.open_register.ensures.failed
 
 pub returns-in_err-profile-clause-failed : goal.returns-in_err-profile-clause-failed
 returns-in_err-profile-clause-failed g c =
     let is : c.from_residual.result ≡ Err c.in_err-profile.field-0.0 = search rules in
-    passed_fault (StopsOpening (places g.P.Store.Store (g.P.Paths.tells c.args.paths.now) (g.P.Paths.opens c.args.paths.now c.args.paths.now) (g.P.Paths.lacks c.args.paths.now) (g.P.Paths.leaves c.args.paths.now)) c.args.config) c.from_residual.result c.in_err-profile.field-0.0 is (not_read c.in_err-profile.ensures)
+    passed_fault (StopsOpening (places g.P.Store.Store g.P.Paths.tells g.P.Paths.opens g.P.Paths.refuses g.P.Paths.lacks g.P.Paths.lets_go g.P.Paths.leaves c.args.paths.now c.args.paths.now) c.args.config) c.from_residual.result c.in_err-profile.field-0.0 is (not_read c.in_err-profile.ensures)

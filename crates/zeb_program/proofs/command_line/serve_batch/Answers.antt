@@ -10,32 +10,32 @@ pub returns-then-not-has_store-clause-answer : goal.returns-then-not-has_store-c
 returns-then-not-has_store-clause-answer g c = λ first.
     let lacking : c.has_store.result ≡ false = search rules in
     let unmade : c.begins.result ≡ false = search rules in
-    run_none (places g.P.Store.Store (g.P.Paths.tells c.args.paths.now) (g.P.Paths.opens c.args.paths.now c.args.paths.now) (g.P.Paths.lacks c.args.paths.now) (g.P.Paths.leaves c.args.paths.now)) c.args.profile c.args.batch.text.now c.args.batch.lines_before _ _ _ _ _ _ c.run_on_nothing.result first
+    run_none (places g.P.Store.Store g.P.Paths.tells g.P.Paths.opens g.P.Paths.refuses g.P.Paths.lacks g.P.Paths.lets_go g.P.Paths.leaves c.args.paths.now c.args.paths.now) c.args.profile c.args.batch.text.now c.args.batch.lines_before _ _ _ _ _ _ c.run_on_nothing.result first
     (c.store_path.result.now, c.store_path.ensures, c.has_store.ensures lacking) (c.begins.ensures.none unmade) c.run_on_nothing.ensures.answer
 
 pub returns-in-Ok-clause-answer : goal.returns-in-Ok-clause-answer
 returns-in-Ok-clause-answer g c = λ first.
     let session = c.in-Ok.session in
-    run_kept (places g.P.Store.Store (g.P.Paths.tells c.args.paths.now) (g.P.Paths.opens c.args.paths.now c.open_register.new.paths) (g.P.Paths.lacks c.args.paths.now) (g.P.Paths.leaves c.open_register.new.paths)) c.args.profile c.args.batch.text.now (g.P.Paths.tells c.open_register.new.paths) (conditions (version_of packed_blocks) session.profile session.limits) session.connection c.args.batch.lines_before
+    run_kept (places g.P.Store.Store g.P.Paths.tells g.P.Paths.opens g.P.Paths.refuses g.P.Paths.lacks g.P.Paths.lets_go g.P.Paths.leaves c.args.paths.now c.open_register.new.paths) c.args.profile c.args.batch.text.now (g.P.Paths.tells c.open_register.new.paths) (conditions (version_of packed_blocks) session.profile session.limits) session.connection c.args.batch.lines_before
     _ _ _ _ _ _ c.run_in.result first c.open_register.ensures.told c.in-Ok.ensures.under c.in-Ok.ensures.opened c.run_in.ensures.answer
 
 pub returns-in-Err-clause-answer : goal.returns-in-Err-clause-answer
 returns-in-Err-clause-answer g c = λ first.
-    run_unopened (places g.P.Store.Store (g.P.Paths.tells c.args.paths.now) (g.P.Paths.opens c.args.paths.now c.open_register.new.paths) (g.P.Paths.lacks c.args.paths.now) (g.P.Paths.leaves c.open_register.new.paths)) c.args.profile c.args.batch.text.now _ _ _ c.in-Err.failure.fault _ _ c.tell_failure.result c.in-Err.ensures.failed c.tell_failure.ensures.told
+    run_unopened (places g.P.Store.Store g.P.Paths.tells g.P.Paths.opens g.P.Paths.refuses g.P.Paths.lacks g.P.Paths.lets_go g.P.Paths.leaves c.args.paths.now c.open_register.new.paths) c.args.profile c.args.batch.text.now _ _ _ c.in-Err.failure.fault _ _ c.tell_failure.result c.in-Err.ensures.failed c.tell_failure.ensures.told
 
 pub returns-then-not-has_store-clause-stopped : goal.returns-then-not-has_store-clause-stopped
 returns-then-not-has_store-clause-stopped g c = λ first.
     let lacking : c.has_store.result ≡ false = search rules in
     let unmade : c.begins.result ≡ false = search rules in
-    stop_none (places g.P.Store.Store (g.P.Paths.tells c.args.paths.now) (g.P.Paths.opens c.args.paths.now c.args.paths.now) (g.P.Paths.lacks c.args.paths.now) (g.P.Paths.leaves c.args.paths.now)) c.args.profile c.args.batch.text.now c.args.batch.lines_before _ _ (λ sink. g.V.Write.contents sink.writer) c.args.fault_output.now c.run_on_nothing.new.fault_output _ _ c.run_on_nothing.result first
+    stop_none (places g.P.Store.Store g.P.Paths.tells g.P.Paths.opens g.P.Paths.refuses g.P.Paths.lacks g.P.Paths.lets_go g.P.Paths.leaves c.args.paths.now c.args.paths.now) c.args.profile c.args.batch.text.now c.args.batch.lines_before _ _ (λ sink. g.V.Write.contents sink.writer) c.args.fault_output.now c.run_on_nothing.new.fault_output _ _ c.run_on_nothing.result first
     (c.store_path.result.now, c.store_path.ensures, c.has_store.ensures lacking) (c.begins.ensures.none unmade) c.run_on_nothing.ensures.silent c.run_on_nothing.ensures.stopped
 
 pub returns-in-Ok-clause-stopped : goal.returns-in-Ok-clause-stopped
 returns-in-Ok-clause-stopped g c = λ first.
     let session = c.in-Ok.session in
-    stop_kept (places g.P.Store.Store (g.P.Paths.tells c.args.paths.now) (g.P.Paths.opens c.args.paths.now c.open_register.new.paths) (g.P.Paths.lacks c.args.paths.now) (g.P.Paths.leaves c.open_register.new.paths)) c.args.profile c.args.batch.text.now (g.P.Paths.tells c.open_register.new.paths) (conditions (version_of packed_blocks) session.profile session.limits) session.connection c.args.batch.lines_before
+    stop_kept (places g.P.Store.Store g.P.Paths.tells g.P.Paths.opens g.P.Paths.refuses g.P.Paths.lacks g.P.Paths.lets_go g.P.Paths.leaves c.args.paths.now c.open_register.new.paths) c.args.profile c.args.batch.text.now (g.P.Paths.tells c.open_register.new.paths) (conditions (version_of packed_blocks) session.profile session.limits) session.connection c.args.batch.lines_before
     _ _ _ _ _ _ c.run_in.result first c.open_register.ensures.told c.in-Ok.ensures.under c.in-Ok.ensures.opened c.run_in.ensures.stopped
 
 pub returns-in-Err-clause-stopped : goal.returns-in-Err-clause-stopped
 returns-in-Err-clause-stopped g c = λ first.
-    stop_unopened (places g.P.Store.Store (g.P.Paths.tells c.args.paths.now) (g.P.Paths.opens c.args.paths.now c.open_register.new.paths) (g.P.Paths.lacks c.args.paths.now) (g.P.Paths.leaves c.open_register.new.paths)) c.args.profile c.args.batch.text.now _ (λ sink. g.V.Write.contents sink.writer) c.args.fault_output.now c.tell_failure.new.output _ _ c.tell_failure.result c.tell_failure.ensures.silent
+    stop_unopened (places g.P.Store.Store g.P.Paths.tells g.P.Paths.opens g.P.Paths.refuses g.P.Paths.lacks g.P.Paths.lets_go g.P.Paths.leaves c.args.paths.now c.open_register.new.paths) c.args.profile c.args.batch.text.now _ (λ sink. g.V.Write.contents sink.writer) c.args.fault_output.now c.tell_failure.new.output _ _ c.tell_failure.result c.tell_failure.ensures.silent

@@ -1,9 +1,10 @@
 use Rattle.std.proofs.Common.{Err, Ok, ap, map, rules, string_bytes, subst, ◌∙◌, ◌≡◌}
 use Rattle.std.specs.Prelude.{IfErr}
 use Rattle.zeb_program.specs.PrivateFaults.{IsUnread, fault_of}
-use Rattle.zeb_paths.specs.Walks.{IsFaultUntold, paths_left}
+use Rattle.zeb_paths.specs.Walks.{WalksOn, dues_left, paths_left, telling}
+use Rattle.zeb_paths.proofs.WalkLemmas.{walks_ended, walks_told, walks_under, walks_untold}
 use Rattle.zeb_program.specs.PrivateFiles.{sure_bytes}
-use Rattle.zeb_program.proofs.ReaderLemmas.{untold_faults, under_faults, under_start, GivesNext, Ends, met_start, met_fault, met_end, met_next, sure_of}
+use Rattle.zeb_program.proofs.ReaderLemmas.{Ends, GivesNext, met_end, met_fault, met_next, met_start, reads_all, reads_more, reads_start, sure_of, under_start, unfound_faults}
 use Rattle.zeb_program.proofs.files.readers_of.Goals as goal
 
 pub loop-walk-init : goal.loop-walk-init
@@ -12,49 +13,73 @@ loop-walk-init g c =
       paths = ap (λ p. p.now) c.in_ok-walk.ensures.paths;
       under = under_start (map string_bytes c.args.named.now) _ c.in_ok-walk.ensures.left;
       met = λ files told. met_start (sure_bytes g.P.Reader.Source.remaining g.P.Reader.Source.may_fail g.P.Reader.Source.has_failed) (g.P.Paths.tells c.args.paths.now) files c.new-readers.result.items _ (map string_bytes c.args.named.now) c.new-readers.ensures.items c.in_ok-walk.ensures.left told;
+      so_far = reads_start g.P.Reader.Source.remaining (telling (g.P.Paths.tells c.args.paths.now) (g.P.Paths.stands c.args.paths.now) (g.P.Paths.lists c.args.paths.now)) c.args.named.now c.new-readers.result.items _ c.new-readers.ensures.items c.in_ok-walk.ensures.levels;
     }
 
 pub returns-in_err-path-clause-memory : goal.returns-in_err-path-clause-memory
 returns-in_err-path-clause-memory g c files told =
-    let left = paths_left c.loop-walk.walk.steps.items in
-    let later = paths_left c.next_file.new.self.steps.items in
-    let why = c.in_err-path.field-0.0 in
-    absurd (met_fault (sure_bytes g.P.Reader.Source.remaining g.P.Reader.Source.may_fail g.P.Reader.Source.has_failed) (g.P.Paths.tells c.args.paths.now) files c.loop-walk.readers.items left later why
-    (c.loop-walk.invariant.met files told) (subst (λ p. GivesNext (g.P.Paths.tells p) left later (Err why)) c.loop-walk.invariant.paths c.in_err-path.ensures.told) c.in_err-path.ensures.ended)
+    let at = telling (g.P.Paths.tells c.args.paths.now) (g.P.Paths.stands c.args.paths.now) (g.P.Paths.lists c.args.paths.now) in
+    let steps = c.loop-walk.walk.steps.items in
+    let after = c.next_file.new.self.steps.items in
+    let on : WalksOn at (dues_left steps) (Err c.in_err-path.field-0.0) (dues_left after) =
+    subst (λ p. WalksOn (telling (g.P.Paths.tells p) (g.P.Paths.stands p) (g.P.Paths.lists p)) (dues_left steps) (Err c.in_err-path.field-0.0) (dues_left after)) c.loop-walk.invariant.paths c.in_err-path.ensures.walks in
+    absurd (met_fault (sure_bytes g.P.Reader.Source.remaining g.P.Reader.Source.may_fail g.P.Reader.Source.has_failed) (g.P.Paths.tells c.args.paths.now) files c.loop-walk.readers.items (paths_left steps) (paths_left after) c.in_err-path.field-0.0
+    (c.loop-walk.invariant.met files told) (walks_told at steps after (Err c.in_err-path.field-0.0) on) (walks_ended at steps after (Err c.in_err-path.field-0.0) on))
 
 pub returns-clause-told : goal.returns-clause-told
 returns-clause-told g c files told =
-    let left = paths_left c.loop-walk.walk.steps.items in
-    let later = paths_left c.next_file.new.self.steps.items in
-    let next = subst (λ p. GivesNext (g.P.Paths.tells p) left later (Ok c.in_ok-path.field-0)) c.loop-walk.invariant.paths c.in_ok-path.ensures.told in
-    met_end (sure_bytes g.P.Reader.Source.remaining g.P.Reader.Source.may_fail g.P.Reader.Source.has_failed) (g.P.Paths.tells c.args.paths.now) files c.loop-walk.readers.items left later
-    (c.loop-walk.invariant.met files told) (subst (λ found. GivesNext (g.P.Paths.tells c.args.paths.now) left later (Ok found)) c.in_default.is next)
+    let at = telling (g.P.Paths.tells c.args.paths.now) (g.P.Paths.stands c.args.paths.now) (g.P.Paths.lists c.args.paths.now) in
+    let steps = c.loop-walk.walk.steps.items in
+    let after = c.next_file.new.self.steps.items in
+    let on : WalksOn at (dues_left steps) (Ok c.in_ok-path.field-0) (dues_left after) =
+    subst (λ p. WalksOn (telling (g.P.Paths.tells p) (g.P.Paths.stands p) (g.P.Paths.lists p)) (dues_left steps) (Ok c.in_ok-path.field-0) (dues_left after)) c.loop-walk.invariant.paths c.in_ok-path.ensures.walks in
+    let next : GivesNext (g.P.Paths.tells c.args.paths.now) (paths_left steps) (paths_left after) (Ok c.in_ok-path.field-0) = walks_told at steps after (Ok c.in_ok-path.field-0) on in
+    met_end (sure_bytes g.P.Reader.Source.remaining g.P.Reader.Source.may_fail g.P.Reader.Source.has_failed) (g.P.Paths.tells c.args.paths.now) files c.loop-walk.readers.items (paths_left steps) (paths_left after)
+    (c.loop-walk.invariant.met files told) (subst (λ found. GivesNext (g.P.Paths.tells c.args.paths.now) (paths_left steps) (paths_left after) (Ok found)) c.in_default.is next)
+
+pub returns-clause-given : goal.returns-clause-given
+returns-clause-given g c =
+    let at = telling (g.P.Paths.tells c.args.paths.now) (g.P.Paths.stands c.args.paths.now) (g.P.Paths.lists c.args.paths.now) in
+    let steps = c.loop-walk.walk.steps.items in
+    let after = c.next_file.new.self.steps.items in
+    let on : WalksOn at (dues_left steps) (Ok c.in_ok-path.field-0) (dues_left after) =
+    subst (λ p. WalksOn (telling (g.P.Paths.tells p) (g.P.Paths.stands p) (g.P.Paths.lists p)) (dues_left steps) (Ok c.in_ok-path.field-0) (dues_left after)) c.loop-walk.invariant.paths c.in_ok-path.ensures.walks in
+    reads_all g.P.Reader.Source.remaining at (map string_bytes c.args.named.now) c.loop-walk.readers.items (dues_left steps) (dues_left after) c.loop-walk.invariant.so_far
+    (subst (λ found. WalksOn at (dues_left steps) (Ok found) (dues_left after)) c.in_default.is on)
 
 pub loop-walk-preserved : goal.loop-walk-preserved
 loop-walk-preserved g c =
-    let left = paths_left c.loop-walk.walk.steps.items in
-    let later = paths_left c.next_file.new.self.steps.items in
+    let at = telling (g.P.Paths.tells c.args.paths.now) (g.P.Paths.stands c.args.paths.now) (g.P.Paths.lists c.args.paths.now) in
+    let steps = c.loop-walk.walk.steps.items in
+    let after = c.next_file.new.self.steps.items in
+    let on : WalksOn at (dues_left steps) (Ok c.in_ok-path.field-0) (dues_left after) =
+    subst (λ p. WalksOn (telling (g.P.Paths.tells p) (g.P.Paths.stands p) (g.P.Paths.lists p)) (dues_left steps) (Ok c.in_ok-path.field-0) (dues_left after)) c.loop-walk.invariant.paths c.in_ok-path.ensures.walks in
     let tells = g.P.Paths.tells c.args.paths.now in
-    let next = subst (λ p. GivesNext (g.P.Paths.tells p) left later (Ok c.in_ok-path.field-0)) c.loop-walk.invariant.paths c.in_ok-path.ensures.told in
+    let next : GivesNext tells (paths_left steps) (paths_left after) (Ok c.in_ok-path.field-0) = walks_told at steps after (Ok c.in_ok-path.field-0) on in
+    let ended : Ends (paths_left steps) (Ok c.in_ok-path.field-0) = walks_ended at steps after (Ok c.in_ok-path.field-0) on in
     let read : g.P.Reader.Source.remaining c.reader.result ≡ tells (string_bytes c.in-Some.path) = c.reader.ensures.bytes in
     record {
       paths = ap (λ p. p.now) c.in_ok-path.ensures.paths ∙ c.loop-walk.invariant.paths;
-      under = (c.in_ok-path.ensures.under (map string_bytes c.args.named.now) c.loop-walk.invariant.under).1;
+      under = (walks_under at steps after (Ok c.in_ok-path.field-0) on (map string_bytes c.args.named.now) c.loop-walk.invariant.under).1;
       met = λ files told.
-          met_next (sure_bytes g.P.Reader.Source.remaining g.P.Reader.Source.may_fail g.P.Reader.Source.has_failed) tells files c.loop-walk.readers.items c.push.new.self.items left later c.in-Some.path c.reader.result
-          (c.loop-walk.invariant.met files told) (subst (λ found. GivesNext tells left later (Ok found)) c.in-Some.is next)
-          (subst (λ found. Ends left (Ok found)) c.in-Some.is c.in_ok-path.ensures.ended)
+          met_next (sure_bytes g.P.Reader.Source.remaining g.P.Reader.Source.may_fail g.P.Reader.Source.has_failed) tells files c.loop-walk.readers.items c.push.new.self.items (paths_left steps) (paths_left after) c.in-Some.path c.reader.result
+          (c.loop-walk.invariant.met files told) (subst (λ found. GivesNext tells (paths_left steps) (paths_left after) (Ok found)) c.in-Some.is next)
+          (subst (λ found. Ends (paths_left steps) (Ok found)) c.in-Some.is ended)
           (λ file known. sure_of g.P.Reader.Source.remaining g.P.Reader.Source.may_fail g.P.Reader.Source.has_failed c.reader.result file (read ∙ known) (c.reader.ensures.able file known) c.reader.ensures.sound) c.in_ok-push.ensures.items;
+      so_far =
+          reads_more g.P.Reader.Source.remaining at (map string_bytes c.args.named.now) c.loop-walk.readers.items c.push.new.self.items (dues_left steps) (dues_left after) c.in-Some.path c.reader.result c.loop-walk.invariant.so_far
+          (subst (λ found. WalksOn at (dues_left steps) (Ok found) (dues_left after)) c.in-Some.is on) read c.in_ok-push.ensures.items;
     }
 
-pub returns-in_err-path-clause-under : goal.returns-in_err-path-clause-under
-returns-in_err-path-clause-under g c =
+pub returns-in_err-path-clause-unfound : goal.returns-in_err-path-clause-unfound
+returns-in_err-path-clause-unfound g c =
+    let at = telling (g.P.Paths.tells c.args.paths.now) (g.P.Paths.stands c.args.paths.now) (g.P.Paths.lists c.args.paths.now) in
+    let steps = c.loop-walk.walk.steps.items in
+    let after = c.next_file.new.self.steps.items in
+    let on : WalksOn at (dues_left steps) (Err c.in_err-path.field-0.0) (dues_left after) =
+    subst (λ p. WalksOn (telling (g.P.Paths.tells p) (g.P.Paths.stands p) (g.P.Paths.lists p)) (dues_left steps) (Err c.in_err-path.field-0.0) (dues_left after)) c.loop-walk.invariant.paths c.in_err-path.ensures.walks in
+    let named = map string_bytes c.args.named.now in
     let why = c.in_err-path.field-0.0 in
     let from : IfErr c.from_residual-in_err-path.result (λ given. IsUnread given × (given ≡ fault_of why)) = search rules in
-    under_faults (map string_bytes c.args.named.now) why c.from_residual-in_err-path.result from (c.in_err-path.ensures.under (map string_bytes c.args.named.now) c.loop-walk.invariant.under).0
-
-pub returns-in_err-path-clause-untold : goal.returns-in_err-path-clause-untold
-returns-in_err-path-clause-untold g c =
-    let why = c.in_err-path.field-0.0 in
-    let from : IfErr c.from_residual-in_err-path.result (λ given. IsUnread given × (given ≡ fault_of why)) = search rules in
-    untold_faults (g.P.Paths.tells c.args.paths.now) why c.from_residual-in_err-path.result from (subst (λ p. IsFaultUntold (g.P.Paths.tells p) why) c.loop-walk.invariant.paths c.in_err-path.ensures.untold)
+    unfound_faults (g.P.Paths.tells c.args.paths.now) named why c.from_residual-in_err-path.result from
+    (walks_untold at (dues_left steps) (Err c.in_err-path.field-0.0) (dues_left after) on) (walks_under at steps after (Err c.in_err-path.field-0.0) on named c.loop-walk.invariant.under).0

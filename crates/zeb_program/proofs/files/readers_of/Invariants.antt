@@ -1,8 +1,8 @@
 use Rattle.std.proofs.Common.{◌≡◌, List, ℕ, map, string_bytes}
-use Rattle.zeb_paths.specs.Walks.{AreUnder, paths_left, walk_weight}
+use Rattle.zeb_paths.specs.Walks.{AreUnder, dues_left, paths_left, telling, walk_weight}
 use Rattle.zeb_program.specs.PrivateFiles.{sure_bytes}
 use Rattle.zeb_program.specs.TaskAnswers.{AreTold}
-use Rattle.zeb_program.proofs.ReaderLemmas.{IsMet}
+use Rattle.zeb_program.proofs.ReaderLemmas.{IsMet, ReadsSoFar}
 use Rattle.zeb_program.proofs.files.readers_of.Given as goal
 
 -- The readers of the first files are there, and the paths of the others are left.
@@ -13,6 +13,7 @@ invariant-loop-walk g l =
       under : AreUnder (map string_bytes l.named) (paths_left l.walk.steps.items);
       met : (files : List (List ℕ)) → AreTold (g.P.Paths.tells l.paths) (map string_bytes l.named) files
           → IsMet (sure_bytes g.P.Reader.Source.remaining g.P.Reader.Source.may_fail g.P.Reader.Source.has_failed) (g.P.Paths.tells l.paths) files l.readers.items (paths_left l.walk.steps.items);
+      so_far : ReadsSoFar g.P.Reader.Source.remaining (telling (g.P.Paths.tells l.paths) (g.P.Paths.stands l.paths) (g.P.Paths.lists l.paths)) (map string_bytes l.named) l.readers.items (dues_left l.walk.steps.items);
     }
 
 abbrev pub decreases-loop-walk : goal.decreases-loop-walk

@@ -1,13 +1,18 @@
 use Rattle.std.proofs.Common.{arith, rules, take}
-use Rattle.zeb_program.proofs.LineInputLemmas.{line_read, ends_failed, ends_long, ends_starved, given_ends}
+use Rattle.zeb_program.proofs.LineInputLemmas.{line_read, line_some, line_taken, ends_failed, ends_long, ends_starved, given_ends}
 use Rattle.zeb_program.specs.declared.line_input.InputCause.TheVariants.{FailedRead}
 use Rattle.zeb_program.specs.declared.line_input.LineFault.TheVariants.{Unreadable, Memory}
 use Rattle.zeb_program.proofs.line_input.read_line.Goals as goal
 
-pub returns-then-byte-eq10-clause-line : goal.returns-then-byte-eq10-clause-line
-returns-then-byte-eq10-clause-line g c =
-    line_read _ _ _ c.loop-byte.line.items c.read.new.buffer _ c.in_ok-read.field-0 c.loop-byte.invariant.none c.loop-byte.invariant.taken c.in_ok-read.ensures.bytes.0
-    (search rules) (search rules) c.if-byte-eq10.true c.in_ok-extend_from_slice.ensures.items
+pub returns-then-byte-eq10-clause-read : goal.returns-then-byte-eq10-clause-read
+returns-then-byte-eq10-clause-read g c =
+    let before = c.loop-byte.invariant.taken in
+    let here = c.in_ok-read.ensures.bytes.0 in
+    let grew = c.in_ok-extend_from_slice.ensures.items in (
+      line_read _ _ _ c.loop-byte.line.items c.read.new.buffer _ c.in_ok-read.field-0 c.loop-byte.invariant.none before here (search rules) (search rules) c.if-byte-eq10.true grew,
+      line_taken _ _ _ c.loop-byte.line.items c.read.new.buffer _ c.in_ok-read.field-0 before here (search rules) (search rules) grew,
+      line_some _ c.loop-byte.line.items c.read.new.buffer _ (search rules) grew,
+    )
 
 pub returns-in_err-read-clause-stops : goal.returns-in_err-read-clause-stops
 returns-in_err-read-clause-stops g c =

@@ -1,4 +1,5 @@
 use Rattle.std.proofs.Common.{inr, refl}
+use Rattle.std.specs.Prelude.{None, Ok}
 use Rattle.sqlite.specs.Files.{file_state, over_files}
 use Rattle.sqlite.specs.State.{HasCleanDisk}
 use Rattle.sqlite.specs.Steps.{IsEmpty}
@@ -8,13 +9,17 @@ use Rattle.zeb_image.specs.Image.{Keeps}
 use Rattle.zeb_program.proofs.MemoryLemmas.{always_clean}
 use Rattle.zeb_program.specs.Registers.{IsTakenOver}
 use Rattle.zeb_program.proofs.ResultValues.{made_of}
+use Rattle.zeb_program.proofs.WordRunLemmas.{fails_anyway}
 use Rattle.zeb_program.proofs.memory.session_in_memory.Goals as goal
 
 -- An empty store bears a register that holds nothing, which the session keeps.
-pub returns-clause-empty : goal.returns-clause-empty
-returns-clause-empty c =
-    made_of c.open_in_memory.result c.session_over.result (λ connection. IsEmpty (file_state connection))
+pub returns-in-Ok-clause-empty : goal.returns-in-Ok-clause-empty
+returns-in-Ok-clause-empty c =
+    made_of c.open_in_memory.result (Ok c.in-Ok.session) (λ connection. IsEmpty (file_state connection))
     (λ connection session. HasCleanDisk (file_state session.connection) → IsTakenOver over_files connection session.connection)
-    (λ session. Keeps (file_state session.connection) nothing_yet) Store
-    c.open_in_memory.ensures.empty c.session_over.ensures.keeps c.session_over.ensures.unopened
+    (λ session. Keeps (file_state session.connection) nothing_yet) (None, Store)
+    c.open_in_memory.ensures.empty c.in-Ok.ensures.keeps c.in-Ok.ensures.unopened
     (λ connection session empty taken. (taken (always_clean (λ _. refl) session.connection)).keeps nothing_yet (inr (empty.2, refl)))
+
+pub returns-clause-failed : goal.returns-clause-failed
+returns-clause-failed c = fails_anyway _ c.open_in_memory.result over_files _ _ c.in-Err.ensures.unopened c.in-Err.ensures.refused

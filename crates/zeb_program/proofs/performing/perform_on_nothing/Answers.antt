@@ -4,7 +4,7 @@ use Rattle.zeb_change.specs.Conditions.{conditions}
 use Rattle.zeb_register.specs.Formats.{packed_blocks, version_of}
 use Rattle.zeb_program.specs.PrivateWordRuns.{IsOwnOr, ServesOnNothing}
 use Rattle.zeb_program.proofs.MemoryLemmas.{always_clean}
-use Rattle.zeb_program.proofs.WordRunLemmas.{gives_for, replied_under, served_nothing}
+use Rattle.zeb_program.proofs.WordRunLemmas.{gives_for, served_nothing}
 use Rattle.zeb_program.proofs.performing.perform_on_nothing.Goals as goal
 
 pub returns-clause-serves : goal.returns-clause-serves
@@ -16,4 +16,4 @@ returns-clause-serves g c =
     let last = c.carry_out-served.new.session.connection in
     gives_for c.told_of.result (λ answer. IsOwnOr answer own) (ServesOnNothing (g.P.Paths.tells c.args.paths.now) c.args.profile c.args.task.now)
     (λ answer. served_nothing (g.P.Paths.tells c.args.paths.now) c.args.profile c.args.task.now k (file_state session.connection) (file_state last) own answer
-    c.in_ok-session.ensures.under c.in_ok-session.ensures.empty (done.2.serves (always_clean (λ _. refl) last)) (replied_under _ c.carry_out-served.result own done.1 c.carry_out-served.ensures.names)) (c.told_of.ensures.gives own done.1)
+    c.in_ok-session.ensures.under c.in_ok-session.ensures.empty (done.2.serves (always_clean (λ _. refl) last)) done.2.names) (c.told_of.ensures.gives own done.1)

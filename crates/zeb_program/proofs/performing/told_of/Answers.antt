@@ -33,4 +33,4 @@ returns-in_ok-warning-in-Ok-Shown-clause-gives g c = λ own stands.
 pub returns-in-Err-clause-gives : goal.returns-in-Err-clause-gives
 returns-in-Err-clause-gives g c = λ own stands.
     let it = subst (λ served. StandsFor served own) c.in-Err.is stands in
-    inl (ap Err c.explained.ensures ∙ sym it)
+    inl (ap Err c.explained.ensures.fault ∙ sym it)

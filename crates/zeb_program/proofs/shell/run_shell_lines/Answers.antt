@@ -1,4 +1,4 @@
-use Rattle.std.proofs.Common.{◌≡◌, ◌∙◌, ◌+◌, false, refl, rules, subst₂}
+use Rattle.std.proofs.Common.{◌≡◌, ◌∙◌, ◌+◌, inr, refl, rules, subst₂}
 use Rattle.std.specs.Prelude.{IfErr, IfSome}
 use Rattle.sqlite.specs.Held.{state}
 use Rattle.sqlite.specs.State.{HasCleanDisk}
@@ -9,9 +9,9 @@ use Rattle.zeb_program.specs.Lines.{first_line}
 use Rattle.zeb_program.specs.OverTables.{LineOver}
 use Rattle.zeb_program.specs.declared.line_input.LineFault.TheVariants.{Memory}
 use Rattle.zeb_program.proofs.LineInputLemmas.{ends_before}
-use Rattle.zeb_program.proofs.ShellOverLemmas.{goes_start, goes_found}
-use Rattle.zeb_program.proofs.ShellLemmas.{AnswersNext, serves_start, serves_found, found_none}
-use Rattle.zeb_program.proofs.ShellTextLemmas.{text_done, text_failure, text_stopped}
+use Rattle.zeb_program.proofs.ShellOverLemmas.{goes_line, goes_start}
+use Rattle.zeb_program.proofs.ShellLemmas.{AnswersNext, serves_line, serves_start}
+use Rattle.zeb_program.proofs.ShellTextLemmas.{found_end, found_line, read_sound, text_done, text_failure, text_stopped}
 use Rattle.zeb_program.proofs.shell.run_shell_lines.Goals as goal
 use Rattle.zeb_program.proofs.StatusLemmas.{max_greater}
 
@@ -39,27 +39,27 @@ loop-lines_before-preserved g c =
     let writes = g.W.Write.contents c.run_next_line.new.output.writer in
     let left = g.R.Source.remaining c.loop-lines_before.input in
     let n = c.loop-lines_before.lines_before in
-    let failed = c.run_next_line.new.output.failed in
     let same = c.loop-lines_before.invariant.under in
+    let line = found_line _ _ c.in_ok-status.field-0 c.in-Some.status c.in-Some.is c.in_ok-status.ensures.line in
     record {
-      read = search rules;
+      read = read_sound (g.R.Source.has_failed c.run_next_line.new.input) c.run_next_line.result c.in_ok-status.field-0 c.run_next_line.ensures.failed (search rules);
       sound = λ sound. c.loop-lines_before.invariant.sound (c.run_next_line.ensures.sound sound);
-      under = (c.run_next_line.ensures.under.0 ∙ same.0, c.run_next_line.ensures.under.1 ∙ same.1);
-      clean = λ clean. c.loop-lines_before.invariant.clean (c.run_next_line.ensures.clean clean);
+      under = (c.run_next_line.ensures.stays.0 ∙ same.0, c.run_next_line.ensures.stays.1 ∙ same.1);
+      clean = λ clean. c.loop-lines_before.invariant.clean (c.run_next_line.ensures.stays.2 clean);
       over = λ sound clean.
-          let step = subst₂ (λ p l. IfSome c.in_ok-status.field-0 (λ s. failed ≡ false → HasCleanDisk next → IfSome left (λ text. Writes mid writes (λ bytes. LineOver g.S.Store tells g.L.Layout.format (conditions (version_of g.L.Layout.format) p l)
-          (n + 1) (first_line text) c.loop-lines_before.session.connection bytes s c.run_next_line.new.session.connection)))) same.0 same.1 c.in_ok-status.ensures.over in
-          goes_found (LineOver g.S.Store tells g.L.Layout.format k) (g.W.Write.contents c.args.output.now.writer) mid writes (g.R.Source.remaining c.args.input.now) left (g.R.Source.remaining c.run_next_line.new.input)
-          n c.loop-lines_before.greatest c.in-Some.status c.max-greatest.result c.args.session.now.connection c.loop-lines_before.session.connection c.run_next_line.new.session.connection failed (HasCleanDisk next) c.in_ok-status.field-0
-          c.in-Some.is (c.max-greatest.ensures ∙ max_greater c.loop-lines_before.greatest c.in-Some.status) c.in_ok-status.ensures.some c.in_ok-status.ensures.taken step sound clean
-          (c.loop-lines_before.invariant.over (c.run_next_line.ensures.sound sound) (c.run_next_line.ensures.clean clean));
+          let step = subst₂ (λ p l. IfSome left (λ text. Writes mid writes (λ bytes. LineOver g.S.Store tells g.L.Layout.format (conditions (version_of g.L.Layout.format) p l)
+          (n + 1) (first_line text) c.loop-lines_before.session.connection bytes c.in-Some.status c.run_next_line.new.session.connection))) same.0 same.1 (line.over sound clean) in
+          goes_line (LineOver g.S.Store tells g.L.Layout.format k) (g.W.Write.contents c.args.output.now.writer) mid writes (g.R.Source.remaining c.args.input.now) left (g.R.Source.remaining c.run_next_line.new.input)
+          n c.loop-lines_before.greatest c.in-Some.status c.max-greatest.result c.args.session.now.connection c.loop-lines_before.session.connection c.run_next_line.new.session.connection
+          (c.max-greatest.ensures ∙ max_greater c.loop-lines_before.greatest c.in-Some.status) line.some line.taken step
+          (c.loop-lines_before.invariant.over (c.run_next_line.ensures.sound sound) (c.run_next_line.ensures.stays.2 clean));
       answers = λ sound clean.
-          let step = subst₂ (λ p l. IfSome c.in_ok-status.field-0 (λ s. failed ≡ false → HasCleanDisk next → IfSome left (AnswersNext tells (conditions (version_of g.L.Layout.format) p l) now next mid writes (n + 1) s)))
-          same.0 same.1 c.in_ok-status.ensures.answer in
-          serves_found tells k old now next (g.W.Write.contents c.args.output.now.writer) mid writes (g.R.Source.remaining c.args.input.now) left (g.R.Source.remaining c.run_next_line.new.input)
-          n c.loop-lines_before.greatest c.in-Some.status c.max-greatest.result failed (HasCleanDisk next) c.in_ok-status.field-0
-          c.in-Some.is (c.max-greatest.ensures ∙ max_greater c.loop-lines_before.greatest c.in-Some.status) c.in_ok-status.ensures.some c.in_ok-status.ensures.taken step sound clean
-          (c.loop-lines_before.invariant.answers (c.run_next_line.ensures.sound sound) (c.run_next_line.ensures.clean clean));
+          let step = subst₂ (λ p l. IfSome left (AnswersNext tells (conditions (version_of g.L.Layout.format) p l) now next mid writes (n + 1) c.in-Some.status))
+          same.0 same.1 (line.answer sound clean) in
+          serves_line tells k old now next (g.W.Write.contents c.args.output.now.writer) mid writes (g.R.Source.remaining c.args.input.now) left (g.R.Source.remaining c.run_next_line.new.input)
+          n c.loop-lines_before.greatest c.in-Some.status c.max-greatest.result
+          (c.max-greatest.ensures ∙ max_greater c.loop-lines_before.greatest c.in-Some.status) line.some line.taken step
+          (c.loop-lines_before.invariant.answers (c.run_next_line.ensures.sound sound) (c.run_next_line.ensures.stays.2 clean));
     }
 
 -- The line before which it ended is the one that couldn't be read, or for which memory ran out.
@@ -68,20 +68,23 @@ returns-in_err-status-clause-stopped g c =
     let k = conditions (version_of g.L.Layout.format) c.args.session.now.profile c.args.session.now.limits in
     let why = c.in_err-status.field-0.0 in
     let given : IfErr c.from_residual.result (λ given. given ≡ why) = search rules in
-    rw c.in_err-status.ensures.stopped
+    rw c.in_err-status.ensures.line.1
     (text_failure g.S.Store (g.P.Paths.tells c.args.paths.now) g.L.Layout.format k c.from_residual.result why (g.W.Write.contents c.args.output.now.writer) (g.W.Write.contents c.loop-lines_before.output.writer)
     (g.R.Source.remaining c.args.input.now) (g.R.Source.remaining c.loop-lines_before.input) (g.R.Source.remaining c.run_next_line.new.input) c.loop-lines_before.lines_before c.loop-lines_before.greatest
-    c.args.session.now.connection c.loop-lines_before.session.connection c.run_next_line.new.session.connection c.loop-lines_before.output.failed (HasCleanDisk (state g.S.Store c.run_next_line.new.session.connection)) given c.in_err-status.ensures.stops.0 c.in_err-status.ensures.stops.1
-    (λ sound clean. c.loop-lines_before.invariant.over sound (c.run_next_line.ensures.clean clean)) (λ sound clean. c.loop-lines_before.invariant.answers sound (c.run_next_line.ensures.clean clean)))
+    c.args.session.now.connection c.loop-lines_before.session.connection c.run_next_line.new.session.connection c.loop-lines_before.output.failed (HasCleanDisk (state g.S.Store c.run_next_line.new.session.connection)) given c.in_err-status.ensures.line.0.0 c.in_err-status.ensures.line.0.1
+    (λ sound clean. c.loop-lines_before.invariant.over sound (c.run_next_line.ensures.stays.2 clean)) (λ sound clean. c.loop-lines_before.invariant.answers sound (c.run_next_line.ensures.stays.2 clean)))
 
 pub returns-in-None-clause-answer : goal.returns-in-None-clause-answer
 returns-in-None-clause-answer g c =
     let k = conditions (version_of g.L.Layout.format) c.args.session.now.profile c.args.session.now.limits in
-    let idle = found_none c.in_ok-status.field-0 _ c.in-None.is c.in_ok-status.ensures.idle in
-    rw (idle.1, idle.2)
+    let idle = found_end _ _ c.in_ok-status.field-0 c.in-None.is c.in_ok-status.ensures.line in
+    rw (idle.2, idle.3)
     (λ sound clean. text_done g.S.Store (g.P.Paths.tells c.args.paths.now) g.L.Layout.format k (g.W.Write.contents c.args.output.now.writer)
     (g.W.Write.contents c.loop-lines_before.output.writer) (g.R.Source.remaining c.args.input.now) (g.R.Source.remaining c.loop-lines_before.input) c.loop-lines_before.lines_before c.loop-lines_before.greatest
     c.args.session.now.connection c.loop-lines_before.session.connection idle.0 (c.loop-lines_before.invariant.over sound clean) (c.loop-lines_before.invariant.answers sound clean))
+
+pub returns-in-None-clause-whole : goal.returns-in-None-clause-whole
+returns-in-None-clause-whole g c = inr (found_end _ _ c.in_ok-status.field-0 c.in-None.is c.in_ok-status.ensures.line).1
 
 pub returns-clause-stopped : goal.returns-clause-stopped
 returns-clause-stopped g c = λ sound clean.

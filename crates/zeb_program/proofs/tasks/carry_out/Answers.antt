@@ -4,8 +4,9 @@ use Rattle.zeb_change.specs.Conditions.{conditions}
 use Rattle.zeb_register.specs.Formats.{version_of}
 use Rattle.zeb_program.specs.TaskAnswers.{ReadsWhole, paths_of}
 use Rattle.zeb_program.proofs.OverLemmas.{analysed_task_over, asked_task_over, changed_task_over}
-use Rattle.zeb_program.proofs.TaskLemmas.{analysed_files, analysed_task, analysis_under, asked_task, change_under, changed_task, read_under, served_under}
+use Rattle.zeb_program.proofs.TaskLemmas.{analysed_files, analysed_task, analysis_under, asked_task, change_under, changed_task, read_under}
 use Rattle.zeb_program.proofs.WarningLemmas.{served_whole}
+use Rattle.zeb_program.proofs.WordRunLemmas.{replied_under}
 use Rattle.zeb_program.proofs.tasks.carry_out.Goals as goal
 
 pub returns-in-Ask-clause-done : goal.returns-in-Ask-clause-done
@@ -19,6 +20,7 @@ returns-in-Ask-clause-done g c =
       record {
         serves = λ clean. asked_task told k c.args.task.now old new c.ask.result c.in-Ask.command c.in-Ask.is (c.ask.ensures.answer clean);
         over = λ clean. asked_task_over told g.L.Layout.format k c.args.task.now old new c.ask.result c.in-Ask.command c.in-Ask.is (c.ask.ensures.over clean) (c.ask.ensures.refused clean);
+        names = read_under (paths_of c.args.task.now) c.ask.result c.ask.ensures.read;
       },
     )
 
@@ -38,6 +40,7 @@ returns-in-Change-clause-done g c =
         over = λ clean.
             changed_task_over told g.L.Layout.format k c.args.task.now old new own c.in-Change.kind c.in-Change.database c.in-Change.named c.deref.result.now
             c.in-Change.is c.deref.ensures.value (c.change_by_paths.ensures.over clean) (c.change_by_paths.ensures.leaves clean);
+        names = change_under c.args.task.now c.in-Change.kind c.in-Change.database c.in-Change.named c.deref.result.now c.change_by_paths.result c.in-Change.is c.deref.ensures.value c.change_by_paths.ensures.names;
       },
     )
 
@@ -55,21 +58,9 @@ returns-in-Analyse-clause-done g c =
             (λ files known. analysed_files k told _ files known held done.0 done.2);
         over = λ clean.
             analysed_task_over told g.L.Layout.format k c.args.task.now held held done.0 c.in-Analyse.named c.deref-in-Analyse.result.now c.in-Analyse.is c.deref-in-Analyse.ensures.value done.2 refl;
+        names = replied_under (paths_of c.args.task.now) c.analyse_paths.result done.0 done.1 (analysis_under c.args.task.now c.in-Analyse.named c.deref-in-Analyse.result.now c.analyse_paths.result c.in-Analyse.is c.deref-in-Analyse.ensures.value c.analyse_paths.ensures.names);
       },
     )
-
-pub returns-in-Ask-clause-names : goal.returns-in-Ask-clause-names
-returns-in-Ask-clause-names g c =
-    served_under (paths_of c.args.task.now) c.to_serve.result c.ask.result c.to_serve.ensures.reply (read_under (paths_of c.args.task.now) c.ask.result c.ask.ensures.read)
-
-pub returns-in-Change-clause-names : goal.returns-in-Change-clause-names
-returns-in-Change-clause-names g c =
-    served_under (paths_of c.args.task.now) c.to_serve-in-Change.result c.change_by_paths.result c.to_serve-in-Change.ensures.reply
-    (change_under c.args.task.now c.in-Change.kind c.in-Change.database c.in-Change.named c.deref.result.now c.change_by_paths.result c.in-Change.is c.deref.ensures.value c.change_by_paths.ensures.names)
-
-pub returns-in-Analyse-clause-names : goal.returns-in-Analyse-clause-names
-returns-in-Analyse-clause-names g c =
-    analysis_under c.args.task.now c.in-Analyse.named c.deref-in-Analyse.result.now c.analyse_paths.result c.in-Analyse.is c.deref-in-Analyse.ensures.value c.analyse_paths.ensures.names
 
 pub returns-in-Ask-clause-shown : goal.returns-in-Ask-clause-shown
 returns-in-Ask-clause-shown g c = c.to_serve.ensures.shown c.args.task.now

@@ -57,7 +57,7 @@ returns-in_err-readers-clause-leaves g c = λ clean.
     let why = c.in_err-readers.field-0.0 in
     let is : c.from_residual.result ≡ Err why = search rules in
     subst (PathsLeave told k c.args.kind (name_bytes c.args.database.now) paths held held) (sym is)
-    (unread_leaves told k c.args.kind (name_bytes c.args.database.now) paths held why c.in_err-readers.ensures.unread c.in_err-readers.ensures.memory)
+    (unread_leaves told k c.args.kind (name_bytes c.args.database.now) paths held why c.in_err-readers.ensures.unfound.0 c.in_err-readers.ensures.memory)
 
 pub returns-in-Ok-clause-over : goal.returns-in-Ok-clause-over
 returns-in-Ok-clause-over g c = λ clean.
@@ -87,4 +87,4 @@ returns-in_err-readers-clause-over g c = λ clean.
     let why = c.in_err-readers.field-0.0 in
     let is : c.from_residual.result ≡ Err why = search rules in
     subst (PathsOver told format profile c.args.kind limits name paths held) (sym is)
-    (unread_over told format profile c.args.kind limits name paths held why c.in_err-readers.ensures.unread c.in_err-readers.ensures.untold c.in_err-readers.ensures.memory)
+    (unread_over told format profile c.args.kind limits name paths held why c.in_err-readers.ensures.unfound.0 c.in_err-readers.ensures.unfound.1 c.in_err-readers.ensures.memory)

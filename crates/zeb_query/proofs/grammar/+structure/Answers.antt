@@ -1,6 +1,24 @@
-use Rattle.zeb_query.proofs.Cited.{Some, ◌∙◌, ap, subst, sym, first_keyword, word_of, Spells, head_value}
-use Rattle.zeb_query.proofs.GrammarLemmas.{spells_term, spells_named, spells_pair}
+use Rattle.zeb_query.proofs.Cited.{Some, ◌∙◌, ap, subst, sym, arith, first_keyword, word_of, Spells, head_value}
+use Rattle.zeb_query.proofs.GrammarLemmas.{spells_term, spells_named, spells_pair, left_after, less_after}
 use Rattle.zeb_query.proofs.grammar.+structure.Goals as goal
+
+pub structure-requires : goal.structure-requires
+structure-requires t c =
+    let head = c.in_ok-head.ensures.spelled in
+    let operator = c.in_ok-place-in-Some-Operator.ensures.spelled in
+    omega (arith, left_after c.args.rest c.in_ok-head.rest head.words head.is, less_after c.in_ok-head.rest c.in_ok-place-in-Some-Operator.after operator.operator operator.words operator.is)
+
+pub structure-requires-in-Some-Operator : goal.structure-requires-in-Some-Operator
+structure-requires-in-Some-Operator t c =
+    let head = c.in_ok-head.ensures.spelled in
+    let operator = c.in_ok-place-in-Some-Operator.ensures.spelled in
+    let left = c.in_ok-left-in-Some-Operator.ensures.spelled in
+    omega (
+      arith,
+      left_after c.args.rest c.in_ok-head.rest head.words head.is,
+      less_after c.in_ok-head.rest c.in_ok-place-in-Some-Operator.after operator.operator operator.words operator.is,
+      left_after c.in_ok-place-in-Some-Operator.after c.in_ok-left-in-Some-Operator.after left.words left.is,
+    )
 
 pub returns-in_ok-text-in-None-clause-spelled : goal.returns-in_ok-text-in-None-clause-spelled
 returns-in_ok-text-in-None-clause-spelled t c =

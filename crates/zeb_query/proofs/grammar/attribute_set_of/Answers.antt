@@ -1,10 +1,13 @@
-use Rattle.zeb_query.proofs.Cited.{word_of}
+use Rattle.zeb_query.proofs.Cited.{◌≡◌, Some, sym, ap, ◌∙◌, AttributeSet, first_keyword, left, word_of}
 use Rattle.zeb_query.proofs.GrammarLemmas.{spells_no_set, spells_set}
+use Rattle.std.proofs.Common.{rules}
 use Rattle.zeb_query.proofs.grammar.attribute_set_of.Goals as goal
 
-pub returns-in_default-clause-spelled : goal.returns-in_default-clause-spelled
-returns-in_default-clause-spelled c = spells_no_set c.args.rest
+pub returns-then-ne-clause-spelled : goal.returns-then-ne-clause-spelled
+returns-then-ne-clause-spelled c = spells_no_set c.args.rest
 
 pub returns-clause-spelled : goal.returns-clause-spelled
 returns-clause-spelled c =
-    spells_set c.args.rest c.in-Some.after c.in_ok-word.after (word_of c.in_ok-word.word.now) _ c.in-Some.ensures.found c.in-Some.ensures.reads c.in_ok-word.ensures.reads c.in_ok-word.ensures.good c.in_ok-clone.ensures.cases
+    let found : first_keyword (left c.args.rest) ≡ Some AttributeSet = search rules in
+    spells_set c.args.rest c.in_ok-after.after c.in_ok-word.after (word_of c.in_ok-after.field-0-0.now) (word_of c.in_ok-word.word.now) _ c.in_ok-after.ensures.reads
+    (sym (ap first_keyword c.in_ok-after.ensures.reads.is) ∙ found) c.in_ok-word.ensures.reads c.in_ok-word.ensures.good c.in_ok-clone.ensures.cases

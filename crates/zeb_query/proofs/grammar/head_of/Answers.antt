@@ -1,24 +1,33 @@
-use Rattle.zeb_query.proofs.Cited.{suc, Some, ◌∙◌, refl, ap, subst, sym, arith, Attribute, TermType, word_of, SpellsHead, attribute_value, head_value, SetOrSpec, MoreWords}
+use Rattle.zeb_query.proofs.Cited.{suc, Some, ◌∙◌, refl, ap, subst, sym, first_keyword, Attribute, TermType, word_of, SpellsHead, attribute_value, head_value, SetOrSpec, MoreWords}
 use Rattle.zeb_query.proofs.GrammarLemmas.{fault_of-keyword, fault_of-word, spells_more_attribute, spells_more_type, heads-with_type}
 use Rattle.zeb_query.proofs.grammar.head_of.Goals as goal
 
-pub loop-after-preserved-in-Some : goal.loop-after-preserved-in-Some
-loop-after-preserved-in-Some c = record {
-  shorter = omega (arith, c.in-Some.ensures.shorter, c.in_ok-attribute.ensures.shorter, c.loop-after.invariant.shorter);
-  goes = λ n. c.loop-after.invariant.goes n
-      ∙ fault_of-keyword Attribute c.loop-after.rest c.in-Some.after c.in-Some.ensures.found c.in-Some.ensures.reads n (SetOrSpec n) refl
-      ∙ c.in_ok-attribute.ensures.goes n;
-  spelled = subst (λ head. SpellsHead c.args.rest c.in_ok-attribute.after head) (sym c.in_ok-push_attribute.ensures)
-      (spells_more_attribute c.args.rest c.loop-after.rest c.in-Some.after c.in_ok-attribute.after (head_value c.loop-after.head) (attribute_value c.in_ok-attribute.attribute) c.in-Some.ensures.found c.in-Some.ensures.reads c.in_ok-attribute.ensures.spelled c.loop-after.invariant.spelled);
-}
+pub loop-rest-preserved-in-Attribute-1 : goal.loop-rest-preserved-in-Attribute-1
+loop-rest-preserved-in-Attribute-1 c =
+    let attr = word_of c.in_ok-after-in-Some-Attribute.field-0-0.now in
+    let reads = c.in_ok-after-in-Some-Attribute.ensures.reads in
+    let found = sym (ap (λ k. Some k) (sym c.in-Some-Attribute.field-0-is) ∙ c.in-Some-Attribute.ensures ∙ ap first_keyword reads.is) in
+    let after = c.in_ok-attribute-in-Some-Attribute in
+    record {
+      goes = λ n. c.loop-rest.invariant.goes n
+          ∙ fault_of-keyword Attribute c.loop-rest.rest c.in_ok-after-in-Some-Attribute.after attr reads found n (SetOrSpec n) (λ room. refl)
+          ∙ after.ensures.goes n;
+      spelled = subst (λ head. SpellsHead c.args.rest after.after head) (sym c.in_ok-push_attribute-in-Some-Attribute.ensures)
+          (spells_more_attribute c.args.rest c.loop-rest.rest c.in_ok-after-in-Some-Attribute.after after.after (head_value c.loop-rest.head) (attribute_value after.attribute) attr reads found after.ensures.spelled c.loop-rest.invariant.spelled);
+    }
 
-pub loop-after-preserved : goal.loop-after-preserved
-loop-after-preserved c = record {
-  shorter = omega (arith, c.in-Some-after.ensures.shorter, c.in_ok-word.ensures.shorter, c.loop-after.invariant.shorter);
-  goes = λ n. c.loop-after.invariant.goes n
-      ∙ fault_of-keyword TermType c.loop-after.rest c.in-Some-after.after c.in-Some-after.ensures.found c.in-Some-after.ensures.reads n (MoreWords 0 (suc n)) refl
-      ∙ fault_of-word c.in-Some-after.after c.in_ok-word.after (word_of c.in_ok-word.word.now) c.in_ok-word.ensures.reads c.in_ok-word.ensures.good 0 (suc n);
-  spelled = subst (λ head. SpellsHead c.args.rest c.in_ok-word.after head)
-      (sym (heads-with_type (head_value c.loop-after.head) (word_of c.in_ok-word.word.now).text) ∙ ap (λ text. record { attributes = (head_value c.loop-after.head).attributes; term_type = Some text }) (sym c.in_ok-clone.ensures.cases))
-      (spells_more_type c.args.rest c.loop-after.rest c.in-Some-after.after c.in_ok-word.after (head_value c.loop-after.head) (word_of c.in_ok-word.word.now) c.in-Some-after.ensures.found c.in-Some-after.ensures.reads c.in_ok-word.ensures.reads c.in_ok-word.ensures.good c.loop-after.invariant.spelled);
-}
+pub loop-rest-preserved : goal.loop-rest-preserved
+loop-rest-preserved c =
+    let keyword = word_of c.in_ok-after-in-Some-TermType.field-0-0.now in
+    let reads = c.in_ok-after-in-Some-TermType.ensures.reads in
+    let found = sym (ap (λ k. Some k) (sym c.in-Some-TermType.field-0-is) ∙ c.in-Some-TermType.ensures ∙ ap first_keyword reads.is) in
+    let type = c.in_ok-word-in-Some-TermType in
+    let text = (word_of type.word.now).text in
+    record {
+      goes = λ n. c.loop-rest.invariant.goes n
+          ∙ fault_of-keyword TermType c.loop-rest.rest c.in_ok-after-in-Some-TermType.after keyword reads found n (MoreWords 0 (suc n)) (λ room. refl)
+          ∙ fault_of-word c.in_ok-after-in-Some-TermType.after type.after (word_of type.word.now) type.ensures.reads type.ensures.good 0 (suc n);
+      spelled = subst (λ head. SpellsHead c.args.rest type.after head)
+          (sym (heads-with_type (head_value c.loop-rest.head) text) ∙ ap (λ t. record { attributes = (head_value c.loop-rest.head).attributes; term_type = Some t }) (sym c.in_ok-clone-in-Some-TermType.ensures.cases))
+          (spells_more_type c.args.rest c.loop-rest.rest c.in_ok-after-in-Some-TermType.after type.after (head_value c.loop-rest.head) keyword (word_of type.word.now) reads found type.ensures.reads type.ensures.good c.loop-rest.invariant.spelled);
+    }

@@ -57,7 +57,7 @@ returns-in-Ordered-clause-work g c =
     let db = c.args.database.0 in
     let index = c.in-Ordered.index in
     let register = c.in-Ordered.register in
-    let entries = λ (content : Content). EntryRows g.L.Layout.block_rows content db index register (λ term. StandsInOrder c.in-Ordered.order term c.as_str.result.now) in
+    let entries = λ (content : Content). EntryRows g.L.Layout.block_rows content db index register (λ term. StandsInOrder c.in-Ordered.relation term c.as_str.result.now) in
     rw (c.in-Ordered.is, ← c.as_str.ensures.value) (on_ok_weaker c.numbers_wanted-in-Ordered.result
     (counted_for g.L.Layout.format (λ content. EntryDict row_work content db ⊥ index register) (λ content. RegisterDict row_work content db index register) entries entries (state g.S.Store c.args.connection.now)
     (state g.S.Store c.numbers_wanted-in-Ordered.new.connection) c.args.work.now c.numbers_wanted-in-Ordered.new.work (λ content n terms. unnamed row_work content db index register n terms) (λ content n rows. rows))

@@ -1,4 +1,4 @@
-use Rattle.zeb_engine.proofs.Cited.{◌∙◌, rules, not, sym, ap, IsTrue, Database, state, StaysOpen, ChangesNothing, EnduresRefusal, MayBeTaken, KeepsTables}
+use Rattle.zeb_engine.proofs.Cited.{◌∙◌, rules, not, sym, ap, IsTrue, Database, state, StaysOpen, ChangesNothing, EnduresRefusal, MakesTables}
 use Rattle.zeb_engine.proofs.CommitCrashes.{adopted_commits, adopted_keeps, survives_as}
 use Rattle.zeb_engine.proofs.TakenStores.{bears_keeps, has_own, reopens}
 use Rattle.zeb_engine.proofs.session.Session.adopt.Goals as goal
@@ -10,18 +10,15 @@ returns-clause-taken g c clean =
     let new = state g.S.Store now in
     let settled = c.is_autocommit-settled.ensures in
     let idle : IsTrue c.is_autocommit-settled.result = settled.value ∙ ap not c.make_absent_tables.ensures.idle in
-    let opened : StaysOpen old new = search rules in
-    let taken : MayBeTaken old = search rules in
-    let there = c.in_default.ensures.there clean in
-    let made = c.in_default.ensures.made clean in
-    let rows : IsTrue new.is_open → KeepsTables old.now new.now = search rules in
-    let keeps = bears_keeps old new opened there made in
+    let opened : StaysOpen old new = c.in_default.ensures.call.accepted clean in
+    let makes : MakesTables old new = c.in_default.ensures.makes clean in
+    let keeps = bears_keeps old new opened makes in
     record {
-      ours = has_own old new opened taken there made;
+      ours = has_own old new opened c.in_default.ensures.takes makes;
       stays = opened;
       durable = λ is_open db left. g.met.S.Store.settled now.store db is_open left ∙ ap (λ (d : Database). d.trees) (sym (settled.settled idle is_open));
-      there = there;
-      rows = rows;
+      there = makes.there;
+      rows = makes.rows;
       keeps = keeps;
       reopened = reopens old new keeps;
     }

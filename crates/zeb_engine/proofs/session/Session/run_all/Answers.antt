@@ -1,4 +1,4 @@
-use Rattle.zeb_engine.proofs.Cited.{◌≡◌, ◌∙◌, ◌++◌, ◌∷◌, ◌+◌, [], rules, arith, sym, ap, ap₂, map, take, subst, subst₂, AllByRecursion, IsErr, take_more, map-append, state, HasCleanDisk, Survives, survives_then, take_whole, answer_of, conditions, CommitsCommand, CommitsOne, CommandTurns, EnduresRun, FindOpen, InTurn, Runs, ServesCommand, version_of, Database, IsTrue, true}
+use Rattle.zeb_engine.proofs.Cited.{◌≡◌, ◌∙◌, ◌++◌, ◌∷◌, ◌+◌, [], rules, arith, sym, ap, ap₂, map, take, subst, subst₂, AllByRecursion, IsErr, take_more, map-append, state, HasCleanDisk, Survives, survives_then, take_whole, answer_of, conditions, CommitsCommand, CommitsOne, CommandTurns, EnduresRun, FindOpen, InTurn, Runs, ServesCommand, version_of, Database, IsTrue}
 use Rattle.zeb_engine.proofs.CommitCrashes.{survives_step}
 use Rattle.zeb_engine.proofs.RunCommits.{carries, commits_earlier, commits_latest}
 use Rattle.zeb_engine.proofs.RunCrashes.{crash_more}

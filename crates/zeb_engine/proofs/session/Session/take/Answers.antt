@@ -1,7 +1,12 @@
-use Rattle.zeb_engine.proofs.Cited.{◌≡◌, Err, rules, arith, refl, state, HasCleanDisk, conditions, name_bytes, DropOver, HidesDatabase, Drop, version_of}
-use Rattle.zeb_engine.specs.Steps.{dropped}
-use Rattle.zeb_engine.proofs.MadeTables.{drops_ready}
-use Rattle.zeb_engine.proofs.ReadyDone.{commanded_after, texts_after, told_behind, turn_commits, turn_serves, unready_done}
+use Rattle.zeb_engine.proofs.Cited.{◌≡◌, Err, rules, arith, refl, subst, sym, state, HasCleanDisk, conditions, name_bytes, Drop, Reply, IsReady, DropsNamed, version_of}
+use Rattle.zeb_engine.specs.Steps.{turned, dropped}
+use Rattle.zeb_engine.proofs.ChangeNumbers.{showing}
+use Rattle.zeb_engine.proofs.MadeTables.{drops_takes, drops_told}
+use Rattle.zeb_engine.proofs.ReadsInTurn.{asked_never, asked_unread}
+use Rattle.zeb_engine.proofs.ReadyDone.{commanded_after, rows_behind, texts_after, turn_commits, turn_serves, unready_done}
+use Rattle.zeb_engine.proofs.TransactedOutcomes.{LeadsOn, rows_commit, rows_serve}
+use Rattle.zeb_engine.proofs.WriteSteps.{drop_leads, drop_refuses}
+use Rattle.zeb_engine.proofs.TurnedOutcomes.{Leads}
 use Rattle.zeb_engine.proofs.session.Session.take.Goals as goal
 
 pub returns-in_err-check_ready-clause-done : goal.returns-in_err-check_ready-clause-done
@@ -13,23 +18,30 @@ returns-in_err-check_ready-clause-done g c =
 pub returns-clause-done : goal.returns-clause-done
 returns-clause-done g c =
     let held = c.args.self.now in
-    let k = conditions (version_of g.L.Layout.format) held.profile held.limits in
+    let format = g.L.Layout.format in
+    let k = conditions (version_of format) held.profile held.limits in
     let name = name_bytes c.args.name.now in
+    let old = state g.S.Store held.connection in
     let mid = state g.S.Store c.check_ready.new.connection in
-    let new = c.drop_database.new.connection in
+    let end = c.drop_database.new.connection in
+    let new = state g.S.Store end in
     let answer = c.drop_database.result in
     let looked = c.in_ok-check_ready.ensures.looks in
-    let done = c.drop_database.ensures in
-    let first : HasCleanDisk (state g.S.Store new) → HasCleanDisk mid = λ clean. omega (arith, done.survives.clean) in
+    let did = c.drop_database.ensures in
+    let first : HasCleanDisk new → HasCleanDisk mid = λ clean. omega (arith, did.transacts.survives.clean) in
+    let step = turned k (dropped name) in
+    let leads : LeadsOn (DropsNamed format name) (IsReady k) step mid =
+    λ before store image known next told does. subst (λ (r : Reply). Leads (showing mid next) r (step before)) (sym does.2) (drop_leads k mid name before image known.0 known.1 format refl does.0 does.1 next does.3) in
     record {
-      call = commanded_after looked new first answer done.call;
-      survives = turn_commits looked new first held.limits (dropped name) _ (λ db made. made k refl) done.survives;
-      step = turn_serves looked new first held.limits (dropped name) answer (λ clean. done.serves clean k refl);
-      does = λ clean settled. record {
-        ready = texts_after looked new first answer done.ready clean;
-        told = told_behind looked new first (DropOver name) (HidesDatabase name) answer done.tables clean;
-        drops = drops_ready name (state g.S.Store held.connection) mid (state g.S.Store new) (looked.reads.same (first clean)) (looked.reads.opened (first clean)) answer (done.drops clean);
+      call = commanded_after looked end first answer did.call;
+      survives = turn_commits looked end first held.limits (dropped name) _ (rows_commit (DropsNamed format name) (IsReady k) step mid leads) did.transacts.survives;
+      step = turn_serves looked end first held.limits (dropped name) answer (λ clean opened. rows_serve (DropsNamed format name) (IsReady k) step mid leads opened
+          (λ before image known next refusal does. drop_refuses k mid name before image known.0 known.1 refusal does) new answer did.call did.transacts clean);
+      does = λ clean settled. let rows = rows_behind looked end first (DropsNamed format name) answer did.transacts clean in record {
+        ready = texts_after looked end first answer (asked_never answer did.few) clean;
+        told = λ store texts. drops_told name old new format answer (rows store);
+        drops = drops_takes name old new format answer rows;
       };
-      answers = done.unread;
+      answers = asked_unread answer did.few;
       counts = record { counted = c.requires.fresh; none = λ _. c.requires.fresh };
     }

@@ -1,5 +1,5 @@
-use Rattle.std.proofs.Common.{◌≡◌, ◌+◌, ◌*◌, ◌++◌, ℕ, List, map, string_bytes, vec_len}
-use Rattle.zeb_paths.specs.Walks.{AreUnder, IsUnder, due_of, dues_in, dues_left, level_weight, paths_left, walk_weight}
+use Rattle.std.proofs.Common.{◌≡◌, ◌+◌, ◌*◌, ◌++◌, map, string_bytes, vec_len}
+use Rattle.zeb_paths.specs.Walks.{due_of, dues_in, dues_left, level_weight, walk_weight}
 use Rattle.zeb_paths.proofs.walk.Walk.enter.Given as goal
 
 -- what is left has become heavier by each name that was put in, and stands behind those that weren't yet
@@ -7,7 +7,6 @@ abbrev pub invariant-loop-name : goal.invariant-loop-name
 invariant-loop-name g l =
     record {
       paths : l.self.paths ≡ l.initial.self.paths;
-      under : (named : List (List ℕ)) → IsUnder named (string_bytes l.folder.path) → AreUnder named (paths_left l.initial.self.steps.items) → AreUnder named (paths_left l.self.steps.items);
       entered : dues_in (due_of l.folder) (map string_bytes l.names.items) ++ dues_left l.self.steps.items
           ≡ dues_in (due_of l.folder) (map string_bytes l.initial.names.items) ++ dues_left l.initial.self.steps.items;
       weight : walk_weight l.self.steps.items + level_weight (l.folder.level + 1) * vec_len l.names ≡ walk_weight l.initial.self.steps.items + level_weight (l.folder.level + 1) * vec_len l.initial.names;

@@ -1,25 +1,11 @@
 use Rattle.std.proofs.Common.{◌≡◌, ◌<◌, ◌∙◌, Err, Ok, arith, rules, subst, sym}
 use Rattle.std.specs.Prelude.{None, Some}
-use Rattle.zeb_paths.specs.PrivateWalks.{IsLighter, Sees, SeesUnder}
-use Rattle.zeb_paths.specs.Walks.{GivesUnder, WalksOn, dues_left, telling, walk_weight}
+use Rattle.zeb_paths.specs.PrivateWalks.{IsLighter, Sees}
+use Rattle.zeb_paths.specs.Walks.{WalksOn, dues_left, telling, walk_weight}
 use Rattle.zeb_paths.specs.declared.walk.Seen.{Seen}
 use Rattle.zeb_paths.specs.declared.walk.Seen.TheVariants.{End, File, Folder}
-use Rattle.zeb_paths.proofs.WalkLemmas.{sees_end, sees_fault, sees_file, sees_folder, walks_ended, walks_told, walks_untold}
+use Rattle.zeb_paths.proofs.WalkLemmas.{sees_end, sees_fault, sees_file, sees_folder}
 use Rattle.zeb_paths.proofs.walk.Walk.next_file.Goals as goal
-
-pub returns-in_err-path-clause-under : goal.returns-in_err-path-clause-under
-returns-in_err-path-clause-under g c named all =
-    let met = c.in_err-path.ensures.under named (c.loop-path.invariant.under named all) in
-    let is : c.from_residual.result ≡ Err c.in_err-path.field-0.0 = search rules in
-    (subst (GivesUnder named) (sym is) met.0, met.1)
-
-pub returns-in-File-clause-under : goal.returns-in-File-clause-under
-returns-in-File-clause-under g c named all =
-    let met = c.in_ok-path.ensures.under named (c.loop-path.invariant.under named all) in
-    (subst (λ (seen : Seen). SeesUnder named (Ok seen)) c.in-File.is met.0, met.1)
-
-pub returns-in-End-clause-under : goal.returns-in-End-clause-under
-returns-in-End-clause-under g c named all = (tt, (c.in_ok-path.ensures.under named (c.loop-path.invariant.under named all)).1)
 
 pub returns-in_err-path-clause-walks : goal.returns-in_err-path-clause-walks
 returns-in_err-path-clause-walks g c =
@@ -31,21 +17,6 @@ returns-in_err-path-clause-walks g c =
     let is : c.from_residual.result ≡ Err c.in_err-path.field-0.0 = search rules in
     c.loop-path.invariant.walked c.from_residual.result later (subst (λ r. WalksOn at left r later) (sym is) (sees_fault at left later c.in_err-path.field-0.0 seen))
 
-pub returns-in_err-path-clause-told : goal.returns-in_err-path-clause-told
-returns-in_err-path-clause-told g c path bytes rest is told =
-    let at = telling (g.P.Paths.tells c.args.self.now.paths.now) (g.P.Paths.stands c.args.self.now.paths.now) (g.P.Paths.lists c.args.self.now.paths.now) in
-    walks_told at c.args.self.now.steps.items c.look.new.self.steps.items c.from_residual.result (returns-in_err-path-clause-walks g c) path bytes rest is told
-
-pub returns-in_err-path-clause-ended : goal.returns-in_err-path-clause-ended
-returns-in_err-path-clause-ended g c none =
-    let at = telling (g.P.Paths.tells c.args.self.now.paths.now) (g.P.Paths.stands c.args.self.now.paths.now) (g.P.Paths.lists c.args.self.now.paths.now) in
-    walks_ended at c.args.self.now.steps.items c.look.new.self.steps.items c.from_residual.result (returns-in_err-path-clause-walks g c) none
-
-pub returns-in_err-path-clause-untold : goal.returns-in_err-path-clause-untold
-returns-in_err-path-clause-untold g c =
-    let at = telling (g.P.Paths.tells c.args.self.now.paths.now) (g.P.Paths.stands c.args.self.now.paths.now) (g.P.Paths.lists c.args.self.now.paths.now) in
-    walks_untold at (dues_left c.args.self.now.steps.items) c.from_residual.result (dues_left c.look.new.self.steps.items) (returns-in_err-path-clause-walks g c)
-
 pub returns-in-File-clause-walks : goal.returns-in-File-clause-walks
 returns-in-File-clause-walks g c =
     let at = telling (g.P.Paths.tells c.args.self.now.paths.now) (g.P.Paths.stands c.args.self.now.paths.now) (g.P.Paths.lists c.args.self.now.paths.now) in
@@ -55,16 +26,6 @@ returns-in-File-clause-walks g c =
     subst (λ (seen : Seen). Sees at left (Ok seen) later) c.in-File.is (subst (λ paths. Sees (telling (g.P.Paths.tells paths.now) (g.P.Paths.stands paths.now) (g.P.Paths.lists paths.now)) left (Ok c.in_ok-path.field-0) later) c.loop-path.invariant.paths c.in_ok-path.ensures.sees) in
     c.loop-path.invariant.walked (Ok (Some c.in-File.path)) later (sees_file at left later c.in-File.path seen)
 
-pub returns-in-File-clause-told : goal.returns-in-File-clause-told
-returns-in-File-clause-told g c path bytes rest is told =
-    let at = telling (g.P.Paths.tells c.args.self.now.paths.now) (g.P.Paths.stands c.args.self.now.paths.now) (g.P.Paths.lists c.args.self.now.paths.now) in
-    walks_told at c.args.self.now.steps.items c.look.new.self.steps.items (Ok (Some c.in-File.path)) (returns-in-File-clause-walks g c) path bytes rest is told
-
-pub returns-in-File-clause-ended : goal.returns-in-File-clause-ended
-returns-in-File-clause-ended g c none =
-    let at = telling (g.P.Paths.tells c.args.self.now.paths.now) (g.P.Paths.stands c.args.self.now.paths.now) (g.P.Paths.lists c.args.self.now.paths.now) in
-    walks_ended at c.args.self.now.steps.items c.look.new.self.steps.items (Ok (Some c.in-File.path)) (returns-in-File-clause-walks g c) none
-
 pub returns-in-End-clause-walks : goal.returns-in-End-clause-walks
 returns-in-End-clause-walks g c =
     let at = telling (g.P.Paths.tells c.args.self.now.paths.now) (g.P.Paths.stands c.args.self.now.paths.now) (g.P.Paths.lists c.args.self.now.paths.now) in
@@ -73,16 +34,6 @@ returns-in-End-clause-walks g c =
     let seen : Sees at left (Ok End) later =
     subst (λ (seen : Seen). Sees at left (Ok seen) later) c.in-End.is (subst (λ paths. Sees (telling (g.P.Paths.tells paths.now) (g.P.Paths.stands paths.now) (g.P.Paths.lists paths.now)) left (Ok c.in_ok-path.field-0) later) c.loop-path.invariant.paths c.in_ok-path.ensures.sees) in
     c.loop-path.invariant.walked (Ok None) later (sees_end at left later seen)
-
-pub returns-in-End-clause-told : goal.returns-in-End-clause-told
-returns-in-End-clause-told g c path bytes rest is told =
-    let at = telling (g.P.Paths.tells c.args.self.now.paths.now) (g.P.Paths.stands c.args.self.now.paths.now) (g.P.Paths.lists c.args.self.now.paths.now) in
-    walks_told at c.args.self.now.steps.items c.look.new.self.steps.items (Ok None) (returns-in-End-clause-walks g c) path bytes rest is told
-
-pub returns-in-End-clause-ended : goal.returns-in-End-clause-ended
-returns-in-End-clause-ended g c none =
-    let at = telling (g.P.Paths.tells c.args.self.now.paths.now) (g.P.Paths.stands c.args.self.now.paths.now) (g.P.Paths.lists c.args.self.now.paths.now) in
-    walks_ended at c.args.self.now.steps.items c.look.new.self.steps.items (Ok None) (returns-in-End-clause-walks g c) none
 
 pub loop-path-preserved : goal.loop-path-preserved
 loop-path-preserved g c =
@@ -96,6 +47,5 @@ loop-path-preserved g c =
     record {
       paths = c.in_ok-path.ensures.paths ∙ c.loop-path.invariant.paths;
       walked = λ result behind on. c.loop-path.invariant.walked result behind (sees_folder at left later result behind seen on);
-      under = λ named all. (c.in_ok-path.ensures.under named (c.loop-path.invariant.under named all)).1;
       lighter = omega (arith, lighter, c.loop-path.invariant.lighter);
     }

@@ -1,4 +1,5 @@
-use Rattle.zeb_profile.proofs.Cited.{◌≡◌, [], map, drop, HoldsKeys, target_key, targets_after}
+use Rattle.zeb_profile.proofs.Cited.{◌≡◌, [], map, drop, target_key, targets_after}
+use Rattle.zeb_profile.proofs.KnownKeys.{HoldsKeys}
 use Rattle.zeb_profile.proofs.directives.TargetList.read.Given as goal
 
 abbrev pub invariant-loop-part : goal.invariant-loop-part

@@ -1,4 +1,4 @@
-use Rattle.zeb_profile.proofs.Cited.{◌≡◌, ◌<◌, ◌^◌, length, Some, Ok, ap, refl, ◌∙◌, subst, sym, ℕ, List, Placed, canonical_text, index_names, directives_on, line_value, resolved, Settles, FailsPlaced, directives_in, lack_of, placed_lines, profile_of, unless, map}
+use Rattle.zeb_profile.proofs.Cited.{◌≡◌, ◌<◌, ◌^◌, length, Some, Ok, ap, refl, ◌∙◌, subst, sym, ℕ, List, Placed, canonical_text, AreIndexes, index_names, directives_on, line_value, resolved, Settles, FailsPlaced, directives_in, lack_of, placed_lines, profile_of, unless, map}
 use Rattle.zeb_profile.proofs.Lacks.{fault_given, lack_of_text}
 use Rattle.zeb_profile.proofs.ResolvedLines.{resolved-directives}
 use Rattle.zeb_profile.proofs.lookups.Profile.read.Goals as goal
@@ -9,9 +9,9 @@ invariant_of-result c =
     let directives = directives_in placed in
     let settled : Settles placed c.in_ok-settled.settled = subst (λ (lines : List Placed). Settles lines c.in_ok-settled.settled) c.deref-2.ensures.value c.in_ok-settled.ensures.settled in
     let said : profile_of c.args.text.now ≡ Ok directives = rw (c.in_ok-placed.ensures, settled.whole) refl in
-    let names : c.in_ok-indexes.indexes.names.items ≡ index_names directives = c.in_ok-indexes.ensures.names ∙ ap (λ lines. index_names (directives_in lines)) c.deref.ensures.value in
-    let known : c.deref-4.result.now ≡ c.in_ok-indexes.indexes.names.items = c.deref-4.ensures.value in
-    let lines : map line_value c.in_ok-lines.lines.items ≡ map (resolved c.in_ok-indexes.indexes.names.items) directives = rw known at c.in_ok-lines.ensures in
+    let are : AreIndexes c.in_ok-indexes.indexes directives = subst (λ (lines : List Placed). AreIndexes c.in_ok-indexes.indexes (directives_in lines)) c.deref.ensures.value c.in_ok-indexes.ensures in
+    let names : c.in_ok-indexes.indexes.names.items ≡ index_names directives = are.names in
+    let lines : map line_value c.in_ok-lines.lines.items ≡ map (resolved c.in_ok-indexes.indexes.names.items) directives = c.in_ok-lines.ensures in
     let same : directives_on c.in_ok-lines.lines.items ≡ directives = resolved-directives _ _ _ lines in
     rw same (
       names,
@@ -38,7 +38,6 @@ returns c =
     let directives = directives_in placed in
     let settled : Settles placed c.in_ok-settled.settled = subst (λ (lines : List Placed). Settles lines c.in_ok-settled.settled) c.deref-2.ensures.value c.in_ok-settled.ensures.settled in
     let said : profile_of c.args.text.now ≡ Ok directives = rw (c.in_ok-placed.ensures, settled.whole) refl in
-    let known : c.deref-4.result.now ≡ c.in_ok-indexes.indexes.names.items = c.deref-4.ensures.value in
-    let lines : map line_value c.in_ok-lines.lines.items ≡ map (resolved c.in_ok-indexes.indexes.names.items) directives = rw known at c.in_ok-lines.ensures in
+    let lines : map line_value c.in_ok-lines.lines.items ≡ map (resolved c.in_ok-indexes.indexes.names.items) directives = c.in_ok-lines.ensures in
     let same : directives_on c.in_ok-lines.lines.items ≡ directives = resolved-directives _ _ _ lines in
     said ∙ ap Ok (sym same)

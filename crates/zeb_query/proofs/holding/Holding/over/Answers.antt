@@ -1,15 +1,12 @@
-use Rattle.zeb_query.proofs.Cited.{sym, ap, ◌∙◌, Some, option_map, string_bytes, no_head}
-use Rattle.zeb_query.specs.Attributes.{holding_of}
-use Rattle.zeb_query.proofs.HoldingLemmas.{holding_of-nothing, holding_of-set}
+use Rattle.zeb_query.proofs.Cited.{sym, ap, ◌∙◌, option_copied, option_map, string_bytes, option_to_list, or_else, find, is_other_set}
+use Rattle.zeb_query.proofs.HoldingLemmas.{holding_of-set, same_holding}
 use Rattle.zeb_query.proofs.holding.Holding.over.Goals as goal
 
-pub returns-in-Some : goal.returns-in-Some
-returns-in-Some c =
+pub returns : goal.returns
+returns c =
+    let set = option_map (λ s. string_bytes s) c.args.query.now.attrset in
+    let e = c.default-holding.ensures in
     c.name_set.ensures
-    ∙ sym (holding_of-set c.as_str.result.now)
-    ∙ ap (λ text. holding_of (Some text) no_head) c.as_str.ensures.value
-    ∙ sym (ap (λ set. holding_of (option_map (λ s. string_bytes s) set) no_head) c.in-Some.is)
-
-pub returns-in_default : goal.returns-in_default
-returns-in_default c =
-    sym holding_of-nothing ∙ sym (ap (λ set. holding_of (option_map (λ s. string_bytes s) set) no_head) c.in_default.is)
+    ∙ same_holding (ap (λ o. or_else (option_copied o) (find is_other_set (option_to_list set))) e.0) e.1.0
+    (ap option_copied e.1.1.0) (ap option_copied e.1.1.1.0) (ap option_copied e.1.1.1.1.0) (ap option_copied e.1.1.1.1.1.0) (ap option_copied e.1.1.1.1.1.1.0) (ap option_copied e.1.1.1.1.1.1.1.0) (ap option_copied e.1.1.1.1.1.1.1.1)
+    ∙ sym (holding_of-set set)

@@ -1,0 +1,188 @@
+//! What is read of keys, by the leaves of a register. A line is a term and behind ` ->` its postings, each as `1:2.3`, the number of the
+//! record, of the unit and of the word in it, and the number of its records; or a fault by its name. Of two terms with `..` between it is the
+//! postings of all terms from the one to the other.
+
+use sqlite::{Alter, Connection, params};
+use std::alloc::Global;
+use std::fmt::Write;
+use std::test::Fail;
+use zeb_keys::{Key, Register, Term};
+use zeb_leaves::{key_count, key_list, postings_between};
+use zeb_register::{DatabaseId, Posting, RegFault, RegisterOf, database_put, make_tables};
+
+/// Whether all that was asked got its answer.
+type Outcome = Result<(), Fail>;
+
+/// A leaf from the empty term on: a in record 1, b in record 1.
+static FIRST: &[u8] = &[0, 1, 0x61, 0, 1, 3, 1, 2, 2, 0, 1, 0x62, 0, 1, 3, 1, 2, 2];
+
+/// A leaf from block 1 of b on: b in record 256, c in records 1 and 255.
+static SECOND: &[u8] = &[
+    0, 1, 0x62, 1, 1, 3, 0, 2, 2, 0, 1, 0x63, 0, 2, 7, 1, 2, 2, 0xfe, 1, 1, 1,
+];
+
+/// What both leaves say.
+static WHOLE: &str = "\
+a -> 1:2.2, of 1
+b -> 1:2.2,256:2.2, of 2
+c -> 1:2.2,255:1.1, of 2
+aa -> of 0
+d -> of 0
+a..a -> 1:2.2,
+a..b -> 1:2.2,1:2.2,256:2.2,
+b..d -> 1:2.2,256:2.2,1:2.2,255:1.1,
+aa..az -> none
+c..a -> none";
+
+/// What they say where the second is cut.
+static CUT: &str = "\
+a -> 1:2.2, of 1
+b -> Damaged
+c -> Damaged
+d -> Damaged
+aa -> of 0
+a..aa -> 1:2.2,
+a..b -> Damaged
+c..d -> Damaged
+d..a -> none";
+
+/// What is said where there is no first leaf.
+static HEADLESS: &str = "\
+a -> Damaged
+b -> Damaged
+c -> 1:2.2,255:1.1, of 2
+a..c -> Damaged
+c..d -> 1:2.2,255:1.1,";
+
+/// What is said where there is no leaf.
+static EMPTY: &str = "\
+a -> of 0
+b -> of 0
+a..b -> none";
+
+/// Makes the tables, and a database.
+fn begin<S: Alter>(conn: &mut Connection<S>) -> Result<DatabaseId, RegFault> {
+    if !conn.is_autocommit() {
+        return Err(RegFault::Store);
+    }
+    let mut tx = conn.transaction();
+    make_tables(&mut tx)?;
+    let db = database_put(&mut tx, "Default", 256)?;
+    tx.commit()?;
+    Ok(db)
+}
+
+/// Puts a leaf with this key of its own.
+fn put_leaf<S: Alter>(
+    conn: &mut Connection<S>,
+    db: DatabaseId,
+    term: &str,
+    block: u32,
+    bytes: &[u8],
+) -> Result<(), RegFault> {
+    let db = db.column();
+    let (index, register): (u32, u32) = (0, 0);
+    conn.execute(
+        "INSERT INTO blocks VALUES (?1, ?2, ?3, ?4, ?5, ?6)",
+        params![db, index, register, term, block, bytes],
+    )?;
+    Ok(())
+}
+
+fn put_postings(list: &[Posting], text: &mut String) -> Result<(), RegFault> {
+    for posting in list {
+        write!(text, "{}:{}.{},", posting.sysno, posting.seq, posting.pos)?;
+    }
+    Ok(())
+}
+
+/// What is read of a term of the first index's words.
+fn read_key<S: Alter>(
+    alloc: Global,
+    conn: &mut Connection<S>,
+    db: DatabaseId,
+    term: &str,
+) -> Result<String, RegFault> {
+    let key = Key {
+        index: 0,
+        register: Register::Word,
+        term: Term::new(String::from_str(alloc, term)?),
+    };
+    let mut text = String::new(alloc);
+    put_postings(&key_list(alloc, conn, db, &key)?, &mut text)?;
+    let records = key_count(alloc, conn, db, &key)?;
+    let separator = if text.is_empty() { "" } else { " " };
+    write!(text, "{separator}of {records}")?;
+    Ok(text)
+}
+
+/// What is read of the terms from one to another.
+fn read_between<S: Alter>(
+    alloc: Global,
+    conn: &mut Connection<S>,
+    db: DatabaseId,
+    first: &str,
+    last: &str,
+) -> Result<String, RegFault> {
+    let at = RegisterOf {
+        db,
+        index: 0,
+        register: Register::Word,
+    };
+    let mut text = String::new(alloc);
+    put_postings(&postings_between(alloc, conn, at, first, last)?, &mut text)?;
+    if text.is_empty() {
+        text.push_str("none")?;
+    }
+    Ok(text)
+}
+
+/// What is read of a term, or of the terms between two.
+fn read<S: Alter>(
+    alloc: Global,
+    conn: &mut Connection<S>,
+    db: DatabaseId,
+    words: &str,
+) -> Result<String, RegFault> {
+    match words.split_once("..") {
+        Some((first, last)) => read_between(alloc, conn, db, first, last),
+        None => read_key(alloc, conn, db, words),
+    }
+}
+
+/// Each line gets its answer.
+fn run<S: Alter>(alloc: Global, conn: &mut Connection<S>, db: DatabaseId, lines: &str) -> Outcome {
+    for line in lines.split('\n') {
+        let (words, wanted) = line.split_once(" -> ").unwrap_or((line, ""));
+        let text = match read(alloc, conn, db, words) {
+            Ok(text) => text,
+            Err(fault) => format!(in alloc; "{fault}")?,
+        };
+        if text.as_str() != wanted {
+            return Err(Fail::new(format!(in alloc; "{line}: {text}")?));
+        }
+    }
+    Ok(())
+}
+
+#[test]
+fn a_key_is_read_in_all_its_leaves(rt: HostRuntime) -> Outcome {
+    let alloc = rt.alloc();
+    let mut conn = Connection::open_in_memory(alloc)?;
+    let db = begin(&mut conn)?;
+    run(alloc, &mut conn, db, EMPTY)?;
+    put_leaf(&mut conn, db, "", 0, FIRST)?;
+    put_leaf(&mut conn, db, "b", 1, SECOND)?;
+    run(alloc, &mut conn, db, WHOLE)?;
+    conn.execute("UPDATE blocks SET data = x'00' WHERE block = 1", &[])?;
+    run(alloc, &mut conn, db, CUT)
+}
+
+#[test]
+fn a_key_below_each_leaf_is_damaged(rt: HostRuntime) -> Outcome {
+    let alloc = rt.alloc();
+    let mut conn = Connection::open_in_memory(alloc)?;
+    let db = begin(&mut conn)?;
+    put_leaf(&mut conn, db, "b", 1, SECOND)?;
+    run(alloc, &mut conn, db, HEADLESS)
+}

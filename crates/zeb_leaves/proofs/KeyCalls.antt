@@ -1,0 +1,206 @@
+-- What calls that read a key answer, by the leaves that they found: the key's term is the first and the last of its neighbours.
+use Rattle.zeb_leaves.proofs.Cited.{Row, row_cmp, Has, ◌≡◌, ◌≢◌, ◌∙◌, ◌<◌, ◌+◌, ◌≤◌, ◌++◌, ◌∷◌, ℕ, ℤ, List, Ok, Err, Result, [], true, false, refl, sym, ap, subst, inl, inr, arith, Ordering, Less, Equal, Greater, nat_cmp, nat_list_cmp_total, slice_cmp, ordering_then, ordering_reverse, tied_itself, is_less, less_is, sum_by, Entry, Key, Posting, State, IsStore, AreLeavesMiscounted, Covers, HasMalformedLeaf, IsEntryOf, IsLeafOf, IsPartMalformed, IsUncovered, LacksSum, LeavesCount, LeavesReadBlock, SayPart, SaysPart, leaf_key, own_key}
+use Rattle.std.proofs.lemmas.Bool.{cases_lt}
+use Rattle.std.proofs.lemmas.List.Sums.{sum_by-cons}
+use Rattle.std.specs.Ordering.{is_lt}
+use Rattle.std.specs.Prelude.{Vec}
+use Rattle.std.specs.declared.alloc.Global.{Global}
+use Rattle.zeb_keys.proofs.Rising.{texts_apart}
+use Rattle.zeb_leaf.specs.declared.entries.Held.{Held}
+use Rattle.zeb_leaves.proofs.CoveringLeaves.{leaf_shape}
+use Rattle.zeb_leaves.proofs.KeyOrder.{greater_is, key_order}
+use Rattle.zeb_leaves.proofs.SaidLists.{block_said, list_of_parts}
+use Rattle.zeb_leaves.proofs.SpanEntries.{AreHeld, HeldIn, all_spans, in_leaf}
+use Rattle.zeb_leaves.proofs.SpanLists.{entry_held, said_of_held}
+use Rattle.zeb_leaves.proofs.SpanRuns.{up_itself}
+use Rattle.zeb_leaves.proofs.TermEntries.{HasOwn, own_summed}
+use Rattle.zeb_leaves.proofs.OneLeaf.{one_leaf}
+use Rattle.zeb_leaves.proofs.OneCover.{covers_itself}
+use Rattle.zeb_leaves.specs.KeyReads.{ListsLeaves}
+use Rattle.zeb_leaves.specs.PrivateSaid.{SayAll, SaysBlock, SaysNoBlock, SomeSaysNone}
+use Rattle.zeb_leaves.specs.PrivateSpans.{AreSpanLeaves, ShowAllSpans, ShowsSpan, SomeShowsNoKey}
+use Rattle.zeb_register.specs.Answers.{Answers, IfDamaged, IfRefused}
+use Rattle.zeb_register.specs.Between.{IsBetween}
+use Rattle.zeb_register.specs.declared.faults.RegFault.{RegFault}
+use Rattle.zeb_register.specs.declared.faults.RegFault.TheVariants.{Memory, Store}
+
+-- ---- one text from itself to itself
+
+pub itself_between : (term : List ℕ) → IsBetween term term term
+itself_between term = let tie = ap is_lt (tied_itself nat_list_cmp_total term) in (tie, tie)
+
+only : (term t : List ℕ) → IsBetween term term t → t ≡ term
+only term t between = from (slice_cmp nat_cmp t term) refl
+  where
+    from : (o : Ordering) → slice_cmp nat_cmp t term ≡ o → t ≡ term
+    from Less is = let e : true ≡ false = sym (ap is_lt is) ∙ between.0 in absurd (cc)
+    from Equal is = texts_apart t term is
+    from Greater is =
+        let back : slice_cmp nat_cmp term t ≡ Less = nat_list_cmp_total.antisymm term t ∙ ap ordering_reverse is in
+        let e : true ≡ false = sym (ap is_lt back) ∙ between.1 in absurd (cc)
+
+-- ---- what is held counts as its entries do
+
+held_sum : (own : List Entry) (held : List Held) → AreHeld own held → sum_by (λ (e : Entry). e.records) own ≡ sum_by (λ (one : Held). one.records) held
+held_sum [] held are = sym (ap (sum_by (λ (one : Held). one.records)) are)
+held_sum (e ∷ own) held are =
+    let first : e.records ≡ are.0.records = ap (λ (d : Entry). d.records) are.2 in
+    sum_by-cons (λ (d : Entry). d.records) e own ∙ ap (λ n. n + sum_by (λ (d : Entry). d.records) own) first ∙ ap (λ n. are.0.records + n) (held_sum own are.1 are.4)
+    ∙ sym (sum_by-cons (λ (one : Held). one.records) are.0 are.1) ∙ sym (ap (sum_by (λ (one : Held). one.records)) are.3)
+
+-- ---- the calls
+
+-- a leaf that covers a block of the key shows no entries, and so the block is malformed
+pub lacking_malformed : (s : State) (db : ℤ) (key : Key) → LacksSum (IsLeafOf s.now.trees db key) key.term → HasMalformedLeaf s.now.trees db key
+lacking_malformed s db key lacks = (lacks.0, inl lacks.1)
+
+pub uncovered_lacking : (Leaves : Row → Type 0) (term : List ℕ) → IsUncovered Leaves (leaf_key term 0) → LacksSum Leaves term
+uncovered_lacking Leaves term none = (0, inr none)
+
+module _ (s : State) (store : IsStore s) (db : ℤ) (key : Key) where
+  abbrev Leaves : Row → Type 0
+  Leaves = IsLeafOf s.now.trees db key
+
+  -- an entry of what is held, which says nothing, or something else than is asked
+  unsaid : (In : List ℕ → ℕ → Type 0) (held : List Held) (it : HeldIn Leaves In held) → ((t : List ℕ) (b : ℕ) → In t b → t ≡ key.term) → SomeSaysNone held → (b : ℕ) × In key.term b × IsPartMalformed Leaves key.term b
+  unsaid In held it only_term bad =
+      let found = entry_held it.own held it.are bad.0 bad.1 in
+      let e = found.0 in
+      let known = (it.has.each e).0 found.1 in
+      let same : e.term ≡ key.term = only_term e.term e.block known.0 in
+      let of : IsEntryOf Leaves key.term e = subst (λ t. IsEntryOf Leaves t e) same known.1 in
+      let bad_part = λ (part : List Posting) (say : SayPart of.2 key.term e.block part).
+      let says = say.said e of.5 (of.0, refl) in
+      let own = subst (λ (d : Entry). SaysPart d part) found.2 says in
+      bad.2 part (own.spelled, own.counted) in
+      (e.block, subst (λ t. In t e.block) same known.0, inr (of.1, of.2, of.3, of.4, bad_part))
+
+  -- what is held of the key's blocks that are In
+  own_of : (In : List ℕ → ℕ → Type 0) (held : List Held) (it : HeldIn Leaves In held) → ((t : List ℕ) (b : ℕ) → In t b → t ≡ key.term) → HasOwn Leaves key.term (In key.term) it.own
+  own_of In held it only_term = record {
+    whole = λ block is. it.has.whole key.term block is;
+    rising = it.has.rising;
+    each = λ e. (
+      λ h.
+          let known = (it.has.each e).0 h in
+          let same = only_term e.term e.block known.0 in
+          (subst (λ t. In t e.block) same known.0, subst (λ t. IsEntryOf Leaves t e) same known.1),
+      λ h. (it.has.each e).1 (subst (λ t. In t e.block) (sym h.1.0) h.0, subst (λ t. IsEntryOf Leaves t e) (sym h.1.0) h.1),
+    );
+  }
+
+  module _ (rows : List Row) (are : AreSpanLeaves Leaves key.term key.term rows) where
+    pub unread_lacking : SomeShowsNoKey rows → LacksSum Leaves key.term
+    unread_lacking bad = by rows are bad.1
+      where
+        at_block : (b : ℕ) → Covers Leaves (leaf_key key.term b) bad.0 → LacksSum Leaves key.term
+        at_block b covers = elim bad.2 [
+          | inl none ↦ (b, inl (bad.0, covers, none))
+          | inr none ↦ let it = leaf_shape s store db key.index key.register bad.0 covers.is in absurd (none it.0 it.1 (ap own_key it.3))
+        ]
+
+        by : (rows : List Row) → AreSpanLeaves Leaves key.term key.term rows → Has rows bad.0 → LacksSum Leaves key.term
+        by [] none here = absurd here
+        by (row ∷ rows) are (inl same) = at_block 0 (subst (Covers Leaves (leaf_key key.term 0)) (sym same) are.0)
+        by (row ∷ rows) are (inr later) =
+            let is = (are.1.each bad.0).0 later in
+            let own : own_key bad.0 ≡ leaf_key key.term is.2 = is.3 ∙ ap (λ t. leaf_key t is.2) (only key.term is.1 is.4) in
+            at_block is.2 (covers_itself Leaves (leaf_shape s store db key.index key.register) (one_leaf s store db key.index key.register) bad.0 is.0 key.term is.2 own)
+
+    module _ (held : List Held) (shows : ShowAllSpans (key.term ++ 0 ∷ []) key.term rows held) where
+      abbrev Here : List ℕ → ℕ → Type 0
+      Here t b = IsBetween key.term key.term t
+
+      it : HeldIn Leaves Here held
+      it = all_spans Leaves (leaf_shape s store db key.index key.register) (one_leaf s store db key.index key.register) key.term key.term (itself_between key.term) rows held are shows
+
+      has : HasOwn Leaves key.term (λ b. 0 ≤ b) it.own
+      has = let own = own_of Here held it (λ t b is. only key.term t is) in record {
+        whole = λ block any. own.whole block (itself_between key.term);
+        rising = own.rising;
+        each = λ e. (λ h. (omega arith, ((own.each e).0 h).1), λ h. (own.each e).1 (itself_between key.term, h.1));
+      }
+
+      pub answers_listed : (new : State) (result : Result (Vec Posting Global) RegFault) → Answers (λ fault. (fault ≢ Store) × IfDamaged (SomeSaysNone held) fault) (λ list. SayAll held list.items) result
+          → Answers (IfRefused s new (HasMalformedLeaf s.now.trees db key)) (λ list. ListsLeaves s.now.trees db key list.items) result
+      answers_listed new (Ok list) say = list_of_parts s.now.trees db key it.own has list.items (said_of_held it.own held list.items it.are say)
+      answers_listed new (Err fault) told = (
+        λ damaged. let bad = unsaid Here held it (λ t b is. only key.term t is) (told.1 damaged) in (bad.0, bad.2),
+        λ failed. absurd (told.0 failed),
+      )
+
+      pub answers_counted : (new : State) (result : Result ℕ RegFault) → Answers (λ fault. fault ≡ Memory) (λ records. records ≡ sum_by (λ (one : Held). one.records) held) result
+          → Answers (IfRefused s new (AreLeavesMiscounted s.now.trees db key)) (λ records. LeavesCount s.now.trees db key records) result
+      answers_counted new (Ok records) is = own_summed Leaves key.term it.own records has (is ∙ sym (held_sum it.own held it.are))
+      answers_counted new (Err fault) memory = (λ damaged. absurd (cc), λ failed. absurd (cc))
+
+-- ---- one block of a key
+
+-- what entries say that a row has for it
+pub answers_said : (term : List ℕ) (block : ℕ) (row : Row) (held : List Held) → ShowsSpan term block term (block + 1) row held → (result : Result (Vec Posting Global) RegFault)
+    → Answers (λ fault. (fault ≢ Store) × IfDamaged (SomeSaysNone held) fault) (λ list. SayAll held list.items) result → Answers (λ fault. (fault ≢ Store) × IfDamaged (SaysNoBlock term block row) fault) (λ list. SaysBlock term block row list.items) result
+answers_said term block row held shows (Ok list) say = (held, shows, say)
+answers_said term block row held shows (Err fault) told = (told.0, λ damaged. inr (held, shows, told.1 damaged))
+
+-- the keys from a block on and below the next one of the term are one
+within : (term : List ℕ) (block : ℕ) → ordering_then (slice_cmp nat_cmp term term) (nat_cmp block (block + 1)) ≡ Less
+within term block = ap (λ o. ordering_then o (nat_cmp block (block + 1))) (tied_itself nat_list_cmp_total term) ∙ less_is block (block + 1) (omega arith)
+
+one_key : (term t : List ℕ) (block b : ℕ) → row_cmp (leaf_key term block) (leaf_key t b) ≢ Greater → ordering_then (slice_cmp nat_cmp t term) (nat_cmp b (block + 1)) ≡ Less → (t ≡ term) × (b ≡ block)
+one_key term t block b up below = from (slice_cmp nat_cmp t term) refl
+  where
+    order : row_cmp (leaf_key term block) (leaf_key t b) ≡ ordering_then (slice_cmp nat_cmp term t) (nat_cmp block b)
+    order = key_order term t block b
+
+    from : (o : Ordering) → slice_cmp nat_cmp t term ≡ o → (t ≡ term) × (b ≡ block)
+    from Less is =
+        let back : slice_cmp nat_cmp term t ≡ Greater = nat_list_cmp_total.antisymm term t ∙ ap ordering_reverse is in
+        absurd (up (order ∙ ap (λ o. ordering_then o (nat_cmp block b)) back))
+    from Greater is = absurd (let e : Greater ≡ Less = sym (ap (λ o. ordering_then o (nat_cmp b (block + 1))) is) ∙ below in cc)
+    from Equal is =
+        let back : slice_cmp nat_cmp term t ≡ Equal = nat_list_cmp_total.antisymm term t ∙ ap ordering_reverse is in
+        let high : b < block + 1 = is_less b (block + 1) (sym (ap (λ o. ordering_then o (nat_cmp b (block + 1))) is) ∙ below) in
+        let low : block ≤ b = elim (cases_lt b block) [
+          | inl less ↦ absurd (up (order ∙ ap (λ o. ordering_then o (nat_cmp block b)) back ∙ greater_is block b less))
+          | inr more ↦ more
+        ] in
+        (texts_apart t term is, omega (arith, high, low))
+
+module _ (s : State) (store : IsStore s) (db : ℤ) (key : Key) (block : ℕ) (row : Row) (covers : Covers (IsLeafOf s.now.trees db key) (leaf_key key.term block) row) where
+  abbrev BlockLeaves : Row → Type 0
+  BlockLeaves = IsLeafOf s.now.trees db key
+
+  abbrev InBlock : List ℕ → ℕ → Type 0
+  InBlock t b = (t ≡ key.term) × (b ≡ block)
+
+  block_has : (held : List Held) → ShowsSpan key.term block key.term (block + 1) row held → HeldIn BlockLeaves InBlock held
+  block_has held shows =
+      in_leaf BlockLeaves (leaf_shape s store db key.index key.register) (one_leaf s store db key.index key.register) row InBlock key.term block key.term (block + 1) held
+      (λ t b is. subst (λ (u : List ℕ). Covers BlockLeaves (leaf_key u b) row) (sym is.0) (subst (λ (n : ℕ). Covers BlockLeaves (leaf_key key.term n) row) (sym is.1) covers))
+      (λ t b is. (
+        λ above. up_itself (leaf_key key.term block) (ap (row_cmp (leaf_key key.term block)) (sym (ap (λ u. leaf_key u b) is.0 ∙ ap (leaf_key key.term) is.1)) ∙ above),
+        ap (λ u. ordering_then (slice_cmp nat_cmp u key.term) (nat_cmp b (block + 1))) is.0 ∙ ap (λ n. ordering_then (slice_cmp nat_cmp key.term key.term) (nat_cmp n (block + 1))) is.1 ∙ within key.term block,
+      ))
+      (λ t b up below. one_key key.term t block b up below) shows
+
+  block_own : (held : List Held) (it : HeldIn BlockLeaves InBlock held) → HasOwn BlockLeaves key.term (λ b. b ≡ block) it.own
+  block_own held it =
+      let own = own_of s store db key InBlock held it (λ t b is. is.0) in
+      record {
+        whole = λ b is. own.whole b (refl, is);
+        rising = own.rising;
+        each = λ e. (λ h. let known = (own.each e).0 h in (known.0.1, known.1), λ h. (own.each e).1 ((refl, h.0), h.1));
+      }
+
+  pub answers_block : (new : State) (result : Result (Vec Posting Global) RegFault) → Answers (λ fault. (fault ≢ Store) × IfDamaged (SaysNoBlock key.term block row) fault) (λ list. SaysBlock key.term block row list.items) result
+      → Answers (IfRefused s new (IsPartMalformed BlockLeaves key.term block)) (λ list. LeavesReadBlock s.now.trees db key block list.items) result
+  answers_block new (Ok list) says =
+      let it = block_has says.0 says.1 in
+      block_said BlockLeaves key.term block it.own (block_own says.0 it) list.items (said_of_held it.own says.0 list.items it.are says.2)
+  answers_block new (Err fault) told = (λ damaged. bad (told.1 damaged), λ failed. absurd (told.0 failed))
+    where
+      bad : SaysNoBlock key.term block row → IsPartMalformed BlockLeaves key.term block
+      bad (inl none) = inl (inl (row, covers, none))
+      bad (inr it) =
+          let found = unsaid s store db key InBlock it.0 (block_has it.0 it.1) (λ t b is. is.0) it.2 in
+          subst (IsPartMalformed BlockLeaves key.term) found.1.1 found.2

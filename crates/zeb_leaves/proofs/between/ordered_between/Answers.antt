@@ -1,0 +1,48 @@
+use Rattle.zeb_leaves.proofs.Cited.{◌≡◌, ◌≢◌, ◌∙◌, ℕ, List, Err, false, ap, subst, rules, state, nat_cmp, nat_list_cmp_total, slice_cmp, tied_itself}
+use Rattle.std.specs.Ordering.{is_lt}
+use Rattle.zeb_leaf.specs.declared.entries.Held.{Held}
+use Rattle.zeb_leaves.proofs.SpanCalls.{answers_between, uncovered_between, unshown_between}
+use Rattle.zeb_leaves.specs.PrivateSaid.{SayAll, SomeSaysNone}
+use Rattle.zeb_leaves.specs.PrivateSpans.{SomeShowsNoKey}
+use Rattle.zeb_register.proofs.Answered.{refused_so}
+use Rattle.zeb_register.specs.Answers.{Answers, IfDamaged}
+use Rattle.zeb_register.specs.Between.{IsBetween}
+use Rattle.zeb_register.specs.declared.faults.RegFault.TheVariants.{Store}
+use Rattle.zeb_leaves.proofs.between.ordered_between.Goals as goal
+
+-- a text that isn't above the last stands from itself to the last
+itself_between : (first last : List ℕ) → is_lt (slice_cmp nat_cmp last first) ≡ false → IsBetween first last first
+itself_between first last up = (ap is_lt (tied_itself nat_list_cmp_total first), up)
+
+pub returns-clause-units : goal.returns-clause-units
+returns-clause-units g c clean store =
+    let s0 = state g.S.Store c.args.conn.now in
+    let first = c.args.first.now in
+    let last = c.args.last.now in
+    let known = itself_between first last c.requires in
+    let rows = c.in_ok-rows.rows.items in
+    let held = c.in_ok-held.held.items in
+    let are = c.in_ok-rows.ensures.finds clean store last (c.as_str.ensures.value ∙ c.in_ok-end.ensures) in
+    let shows = rw (c.deref.ensures.value, c.as_bytes.ensures.value, c.as_bytes-2.ensures.value, c.as_str-2.ensures.value, c.in_ok-end.ensures) at c.in_ok-held.ensures in
+    answers_between s0 store c.args.at first last known rows are held shows (state g.S.Store c.span_leaves.new.conn) c.postings_said.result (subst (λ (h : List Held). Answers (λ fault. (fault ≢ Store) × IfDamaged (SomeSaysNone h) fault) (λ list. SayAll h list.items) c.postings_said.result) c.deref-2.ensures.value c.postings_said.ensures)
+
+pub returns-in_err-held-clause-units : goal.returns-in_err-held-clause-units
+returns-in_err-held-clause-units g c clean store =
+    let s0 = state g.S.Store c.args.conn.now in
+    let first = c.args.first.now in
+    let last = c.args.last.now in
+    let are = c.in_ok-rows.ensures.finds clean store last (c.as_str.ensures.value ∙ c.in_ok-end.ensures) in
+    refused_so _ _ c.from_residual-in_err-held.result c.in_err-held.field-0.0 (search rules) (
+      λ told. unshown_between s0 store c.args.at first last (itself_between first last c.requires) c.in_ok-rows.rows.items are (subst SomeShowsNoKey c.deref.ensures.value (c.in_err-held.ensures.1 told)),
+      λ failed. absurd (c.in_err-held.ensures.0 failed),
+    )
+
+pub returns-in_err-rows-clause-units : goal.returns-in_err-rows-clause-units
+returns-in_err-rows-clause-units g c clean store =
+    let s0 = state g.S.Store c.args.conn.now in
+    let first = c.args.first.now in
+    let last = c.args.last.now in
+    refused_so _ _ c.from_residual-in_err-rows.result c.in_err-rows.field-0.0 (search rules) (
+      λ told. uncovered_between s0 store c.args.at first last (itself_between first last c.requires) (c.in_err-rows.ensures.finds clean store told),
+      λ failed. c.in_err-rows.ensures.refused clean store (ap Err failed),
+    )

@@ -1,0 +1,10 @@
+use Rattle.zeb_leaves.proofs.Cited.{◌∙◌, sym, state}
+use Rattle.zeb_leaves.proofs.SpanCalls.{answers_none}
+use Rattle.zeb_leaves.proofs.between.postings_between.Goals as goal
+
+pub ordered_between-requires : goal.ordered_between-requires
+ordered_between-requires g c = sym c.comes_before.ensures ∙ c.if-comes_before.false
+
+pub returns-then-comes_before-clause-units : goal.returns-then-comes_before-clause-units
+returns-then-comes_before-clause-units g c clean store =
+    answers_none (state g.S.Store c.args.conn.now) store c.args.at c.args.first.now c.args.last.now (sym c.comes_before.ensures ∙ c.if-comes_before.true) (state g.S.Store c.none_between.new.conn) c.none_between.result c.none_between.ensures.none c.none_between.ensures.honest (c.none_between.ensures.refused clean store)

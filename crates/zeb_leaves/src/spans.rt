@@ -1,0 +1,173 @@
+//! The leaves that cover the blocks of neighbouring terms, and what they have of these.
+
+ghost use Rattle.std.specs.Prelude.{◌≡◌, ◌≢◌, ◌++◌, ◌∷◌, [], ℕ, List, Err, IfErr, IfOk};
+ghost use Rattle.sqlite.specs.Held.{state};
+ghost use Rattle.sqlite.specs.Order.{column};
+ghost use Rattle.sqlite.specs.State.{IsUnchanged};
+ghost use Rattle.sqlite.specs.declared.types.Value.TheVariants.{Text};
+ghost use Rattle.zeb_leaves.specs.Covering.{leaf_key};
+ghost use Rattle.zeb_leaves.specs.PrivateLeafReads.{IsLeafIn, IsUncovered};
+ghost use Rattle.zeb_leaves.specs.PrivateSpans.{AreSpanLeaves, IsRowBetween, ShowAllSpans, ShowSpans};
+ghost use Rattle.zeb_leaves.specs.PrivateSpans.{ShowsKey, ShowsNone, ShowsSpan, SomeShowsNoKey};
+ghost use Rattle.zeb_register.specs.Answers.{Answers, IfDamaged};
+ghost use Rattle.zeb_register.specs.Calls.{Reading};
+ghost use Rattle.zeb_register.specs.Clauses.{IsReasoned, OnStore, Tells};
+ghost use Rattle.zeb_register.specs.Sql.{IsListOf};
+
+use crate::covering::leaf_at;
+use crate::statements::rows_between;
+use sqlite::types::ValueRef;
+use sqlite::{Alter, Connection, Row};
+use std::alloc::Global;
+use zeb_leaf::{BlockKey, Held, LeafFault, push_span};
+use zeb_register::for_layouts::{read_bytes, read_number};
+use zeb_register::{RegFault, RegisterOf};
+
+/// A leaf, and behind it the rows of the terms from the first text on and below the end.
+fn span_from<S: Alter>(
+    conn: &mut Connection<S>,
+    at: RegisterOf,
+    first: &str,
+    end: &str,
+    leaf: Row,
+) -> Result<Vec<Row>, RegFault>
+    ensures call { Reading (state S.Store conn.old) (state S.Store conn.new) result
+        (λ _. IsUnchanged) }
+    ensures lists { Tells (state S.Store conn.old) (state S.Store conn.new) result
+        (λ trees rows. (behind : List _) × (rows.items ≡ leaf ∷ behind)
+        × IsListOf (IsRowBetween at first.now end.now trees) behind) }
+    ensures honest { result ≢ Err RegFault.Damaged }
+    ensures refused { IsReasoned (state S.Store conn.old) (state S.Store conn.new) result }
+{
+    let mut rows = rows_between(conn, at, first, end)?;
+    rows.insert(0, leaf)?;
+    Ok(rows)
+}
+
+/// The leaves that cover the blocks of the terms from the first text on and below the end, which is the least text above `last`: none where
+/// the register has none. The first may stand there twice. `Damaged` just where it has one, and none covers the first text's first block.
+pub(crate) fn span_leaves<S: Alter>(
+    alloc: Global,
+    conn: &mut Connection<S>,
+    at: RegisterOf,
+    first: &str,
+    end: &str,
+) -> Result<Vec<Row>, RegFault>
+    ensures call { Reading (state S.Store conn.old) (state S.Store conn.new) result
+        (λ _. IsUnchanged) }
+    ensures finds { OnStore (state S.Store conn.old) (state S.Store conn.new) (λ trees. Answers
+        (IfDamaged (IsUncovered (IsLeafIn trees at) (leaf_key first.now 0)))
+        (λ rows. (last : List ℕ) → end.now ≡ last ++ 0 ∷ []
+        → AreSpanLeaves (IsLeafIn trees at) first.now last rows.items) result) }
+    ensures refused { IsReasoned (state S.Store conn.old) (state S.Store conn.new) result }
+{
+    match leaf_at(conn, at, first, 0)? {
+        Some(leaf) => span_from(conn, at, first, end, leaf),
+        None => Ok(Vec::new(alloc)),
+    }
+}
+
+/// The bytes of the text at this place of a row, as they lie there. They take no memory: they are refused as `Damaged` alone, where there
+/// is another type.
+fn read_text(row: &Row, at: usize) -> Result<&[u8], RegFault>
+    ensures ok { IfOk result (λ bytes. column row.now at ≡ Text bytes.now) }
+    ensures refused { IfErr result (λ fault. (fault ≡ RegFault.Damaged)
+        × ((bytes : List ℕ) → column row.now at ≢ Text bytes)) }
+{
+    match row.get_ref(at) {
+        Ok(ValueRef::Text(bytes)) => Ok(bytes),
+        _ => Err(RegFault::Damaged),
+    }
+}
+
+/// The own key of a leaf. It takes no memory: it is refused as `Damaged` alone, where the row shows none.
+#[tactic(auto, using(crate::proofs::SpanCalls::key_shown, crate::proofs::SpanCalls::no_text, crate::proofs::SpanCalls::no_number))]
+fn own_key(row: &Row) -> Result<BlockKey<'_>, RegFault>
+    ensures ok { IfOk result (λ key. ShowsKey row.now key.term.now key.block) }
+    ensures refused { IfErr result (λ fault. (fault ≡ RegFault.Damaged)
+        × ((term : List ℕ) (block : ℕ) → ¬ ShowsKey row.now term block)) }
+{
+    let term = read_text(row, 0)?;
+    let block = read_number(row, 1)?;
+    Ok(BlockKey { term, block })
+}
+
+/// As what the fault of a leaf is told.
+fn told_of_leaf(fault: LeafFault) -> RegFault
+    ensures damaged { result ≡ RegFault.Damaged → fault ≡ LeafFault.Malformed }
+    ensures unstored { result ≢ RegFault.Store }
+{
+    match fault {
+        LeafFault::Malformed => RegFault::Damaged,
+        LeafFault::Memory => RegFault::Memory,
+    }
+}
+
+/// Puts what a row has from the first key on and below the end behind the others. A row without bytes has nothing; it is refused where the
+/// bytes are no leaf.
+pub(crate) fn push_row_span<'a>(
+    alloc: Global,
+    held: &mut Vec<Held<'a>>,
+    row: &'a Row,
+    first: BlockKey,
+    end: BlockKey,
+) -> Result<(), RegFault>
+    ensures { Answers (λ fault. (fault ≢ RegFault.Store) × IfDamaged (ShowsNone row.now) fault)
+        (λ _. (among : List _)
+        × ShowsSpan first.entry.term.now first.entry.block end.entry.term.now end.entry.block
+        row.now among × (held.new.items ≡ held.old.items ++ among)) result }
+{
+    let bytes = read_bytes(row, 2)?;
+    if bytes.is_empty() {
+        return Ok(());
+    }
+    push_span(alloc, held, bytes, first, end).map_err(told_of_leaf)
+}
+
+/// What rows have of the terms from the first text on and below the end: each up to the own key of the next row.
+fn spans_from<'a>(
+    alloc: Global,
+    leaf: &'a Row,
+    behind: &'a [Row],
+    first: &'a [u8],
+    end: &[u8],
+) -> Result<Vec<Held<'a>>, RegFault>
+    ensures { Answers (λ fault. (fault ≢ RegFault.Store)
+        × IfDamaged (SomeShowsNoKey (leaf.now ∷ behind.now)) fault)
+        (λ held. ShowSpans end.now first.now 0 leaf.now behind.now held.items) result }
+{
+    let mut held = Vec::new(alloc);
+    let mut row = leaf;
+    let mut from = BlockKey {
+        term: first,
+        block: 0,
+    };
+    for next in behind {
+        let own = own_key(next)?;
+        push_row_span(alloc, &mut held, row, from, own)?;
+        row = next;
+        from = own;
+    }
+    let last = BlockKey {
+        term: end,
+        block: 0,
+    };
+    push_row_span(alloc, &mut held, row, from, last)?;
+    Ok(held)
+}
+
+/// What these leaves have of the terms from the first text on and below the end.
+pub(crate) fn spans_in<'a>(
+    alloc: Global,
+    rows: &'a [Row],
+    first: &'a [u8],
+    end: &[u8],
+) -> Result<Vec<Held<'a>>, RegFault>
+    ensures { Answers (λ fault. (fault ≢ RegFault.Store) × IfDamaged (SomeShowsNoKey rows.now) fault)
+        (λ held. ShowAllSpans end.now first.now rows.now held.items) result }
+{
+    match rows.split_first() {
+        Some((leaf, behind)) => spans_from(alloc, leaf, behind, first, end),
+        None => Ok(Vec::new(alloc)),
+    }
+}
