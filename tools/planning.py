@@ -19,8 +19,8 @@ AT_ONCE = 2
 IN_CHAIN = 3
 # By how much proofs of shorter chains lower their priority, and all other tasks.
 PROOF_GIVES_WAY, OTHERS_GIVE_WAY = 3, 6
-# What part of the longest chain one has to have that is nearly as long.
-NEARLY = 0.9
+# What part of the longest chain one has to have that is nearly as long: lines tell the time of a proof no better than that.
+NEARLY = 0.85
 
 
 def work_of(name):

@@ -1,13 +1,14 @@
 //! What is read of keys, by the leaves of a register. A line is a term and behind ` ->` its postings, each as `1:2.3`, the number of the
 //! record, of the unit and of the word in it, and the number of its records; or a fault by its name. Of two terms with `..` between it is the
-//! postings of all terms from the one to the other.
+//! postings of all terms from the one to the other. Of `*` it is each term of the register with the number of its records, and of `#` how many
+//! terms it has, and how many postings.
 
 use sqlite::{Alter, Connection, params};
 use std::alloc::Global;
 use std::fmt::Write;
 use std::test::Fail;
 use zeb_keys::{Key, Register, Term};
-use zeb_leaves::{key_count, key_list, postings_between};
+use zeb_leaves::{key_count, key_list, postings_between, terms_of, totals};
 use zeb_register::{DatabaseId, Posting, RegFault, RegisterOf, database_put, make_tables};
 
 /// Whether all that was asked got its answer.
@@ -32,7 +33,9 @@ a..a -> 1:2.2,
 a..b -> 1:2.2,1:2.2,256:2.2,
 b..d -> 1:2.2,256:2.2,1:2.2,255:1.1,
 aa..az -> none
-c..a -> none";
+c..a -> none
+* -> a:1,b:2,c:2,
+# -> 3 terms, 5 postings";
 
 /// What they say where the second is cut.
 static CUT: &str = "\
@@ -44,7 +47,9 @@ aa -> of 0
 a..aa -> 1:2.2,
 a..b -> Damaged
 c..d -> Damaged
-d..a -> none";
+d..a -> none
+* -> Damaged
+# -> Damaged";
 
 /// What is said where there is no first leaf.
 static HEADLESS: &str = "\
@@ -52,13 +57,45 @@ a -> Damaged
 b -> Damaged
 c -> 1:2.2,255:1.1, of 2
 a..c -> Damaged
-c..d -> 1:2.2,255:1.1,";
+c..d -> 1:2.2,255:1.1,
+* -> Damaged
+# -> Damaged";
 
 /// What is said where there is no leaf.
 static EMPTY: &str = "\
 a -> of 0
 b -> of 0
-a..b -> none";
+a..b -> none
+* -> none
+# -> 0 terms, 0 postings";
+
+/// The first leaf again, and in it c in record 1, which the second leaf covers.
+static STRAY: &[u8] = &[
+    0, 1, 0x61, 0, 1, 3, 1, 2, 2, 0, 1, 0x62, 0, 1, 3, 1, 2, 2, 0, 1, 0x63, 0, 1, 3, 1, 2, 2,
+];
+
+/// What is said of the terms where nobody reads the first leaf's c.
+static ONCE: &str = "\
+* -> a:1,b:2,c:2,
+# -> 3 terms, 5 postings";
+
+/// The first leaf again, but it says of a that two records have it, where its block has one.
+static MISCOUNTED: &[u8] = &[0, 1, 0x61, 0, 2, 3, 1, 2, 2, 0, 1, 0x62, 0, 1, 3, 1, 2, 2];
+
+/// What is said of the terms where a is miscounted.
+static COUNTED: &str = "\
+* -> a:2,b:2,c:2,
+# -> Damaged";
+
+/// The first leaf again, with a and the byte 0xff in place of b.
+static NO_TEXT: &[u8] = &[0, 1, 0x61, 0, 1, 3, 1, 2, 2, 1, 1, 0xff, 0, 1, 3, 1, 2, 2];
+
+/// What is said of the terms where one isn't UTF-8.
+static UNTOLD: &str = "\
+a -> 1:2.2, of 1
+c -> 1:2.2,255:1.1, of 2
+* -> Damaged
+# -> Damaged";
 
 /// Makes the tables, and a database.
 fn begin<S: Alter>(conn: &mut Connection<S>) -> Result<DatabaseId, RegFault> {
@@ -124,26 +161,67 @@ fn read_between<S: Alter>(
     first: &str,
     last: &str,
 ) -> Result<String, RegFault> {
-    let at = RegisterOf {
-        db,
-        index: 0,
-        register: Register::Word,
-    };
     let mut text = String::new(alloc);
-    put_postings(&postings_between(alloc, conn, at, first, last)?, &mut text)?;
+    put_postings(
+        &postings_between(alloc, conn, words_of(db), first, last)?,
+        &mut text,
+    )?;
     if text.is_empty() {
         text.push_str("none")?;
     }
     Ok(text)
 }
 
-/// What is read of a term, or of the terms between two.
+/// The register of the first index's words.
+fn words_of(db: DatabaseId) -> RegisterOf {
+    RegisterOf {
+        db,
+        index: 0,
+        register: Register::Word,
+    }
+}
+
+/// The terms of the register, each with the number of its records.
+fn read_terms<S: Alter>(
+    alloc: Global,
+    conn: &mut Connection<S>,
+    db: DatabaseId,
+) -> Result<String, RegFault> {
+    let mut text = String::new(alloc);
+    for count in &terms_of(alloc, conn, words_of(db))? {
+        write!(text, "{}:{},", count.term, count.records)?;
+    }
+    if text.is_empty() {
+        text.push_str("none")?;
+    }
+    Ok(text)
+}
+
+/// How many terms the register has, and how many postings.
+fn read_totals<S: Alter>(
+    alloc: Global,
+    conn: &mut Connection<S>,
+    db: DatabaseId,
+) -> Result<String, RegFault> {
+    let sums = totals(alloc, conn, words_of(db))?;
+    let mut text = String::new(alloc);
+    write!(text, "{} terms, {} postings", sums.terms, sums.occurrences)?;
+    Ok(text)
+}
+
+/// What is read of a term, of the terms between two, or of all.
 fn read<S: Alter>(
     alloc: Global,
     conn: &mut Connection<S>,
     db: DatabaseId,
     words: &str,
 ) -> Result<String, RegFault> {
+    if words == "*" {
+        return read_terms(alloc, conn, db);
+    }
+    if words == "#" {
+        return read_totals(alloc, conn, db);
+    }
     match words.split_once("..") {
         Some((first, last)) => read_between(alloc, conn, db, first, last),
         None => read_key(alloc, conn, db, words),
@@ -185,4 +263,38 @@ fn a_key_below_each_leaf_is_damaged(rt: HostRuntime) -> Outcome {
     let db = begin(&mut conn)?;
     put_leaf(&mut conn, db, "b", 1, SECOND)?;
     run(alloc, &mut conn, db, HEADLESS)
+}
+
+/// A register of this first leaf and the second one answers so.
+fn run_beside<S: Alter>(
+    alloc: Global,
+    conn: &mut Connection<S>,
+    first: &[u8],
+    lines: &str,
+) -> Outcome {
+    let db = begin(conn)?;
+    put_leaf(conn, db, "", 0, first)?;
+    put_leaf(conn, db, "b", 1, SECOND)?;
+    run(alloc, conn, db, lines)
+}
+
+#[test]
+fn an_entry_of_another_leaf_is_not_counted(rt: HostRuntime) -> Outcome {
+    let alloc = rt.alloc();
+    let mut conn = Connection::open_in_memory(alloc)?;
+    run_beside(alloc, &mut conn, STRAY, ONCE)
+}
+
+#[test]
+fn a_miscounted_block_is_counted_and_not_summed(rt: HostRuntime) -> Outcome {
+    let alloc = rt.alloc();
+    let mut conn = Connection::open_in_memory(alloc)?;
+    run_beside(alloc, &mut conn, MISCOUNTED, COUNTED)
+}
+
+#[test]
+fn a_term_that_is_no_text_is_not_told(rt: HostRuntime) -> Outcome {
+    let alloc = rt.alloc();
+    let mut conn = Connection::open_in_memory(alloc)?;
+    run_beside(alloc, &mut conn, NO_TEXT, UNTOLD)
 }

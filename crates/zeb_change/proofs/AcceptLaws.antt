@@ -29,13 +29,13 @@ module _ (s : State) (setting : Setting) (format : Format) (row_work : ℕ) (db 
 
   -- these records are taken: what else the tables have is passed on, and no more of them are taken than the limit allows
   pub record IsAccepted (slices : List (List ℕ)) (old new : At) : Type 0 where
-    pub passes : PassesOn setting.profile.now db old.fold.progress.last new.fold.progress.last (showing old.tables) (showing new.tables)
+    pub passes : PassesOn format setting.profile.now db old.fold.progress.last new.fold.progress.last (showing old.tables) (showing new.tables)
     pub takes : TakesNamed setting.profile.now db slices old.fold.progress.last old.fold.tally.records old.tables.trees new.fold.progress.last new.fold.tally.records new.tables.trees
     pub most : old.fold.tally.records ≤ setting.limits.records → new.fold.tally.records ≤ setting.limits.records
 
   pub accepts_none : (a : At) → IsStore (showing a.tables) → IsAccepted [] a a
   accepts_none a store = record {
-    passes = passes_seen setting.profile.now db a.fold.progress.last (showing a.tables) (showing a.tables) store refl;
+    passes = passes_seen format setting.profile.now db a.fold.progress.last (showing a.tables) (showing a.tables) store refl;
     takes = none_taken setting.profile.now db a.fold.progress.last a.fold.tally.records a.tables.trees;
     most = λ few. few;
   }
@@ -50,7 +50,7 @@ module _ (s : State) (setting : Setting) (format : Format) (row_work : ℕ) (db 
       let one = counted_one fate old.fold.tally new.fold.tally folds.1.2 in
       let below = folds.0 in
       record {
-        passes = law.passes setting db bytes (showing old.tables) (showing new.tables) old.pending new.pending old.fold.progress.last new.fold.progress.last store fate accepts refl;
+        passes = law.passes setting db bytes (showing old.tables) (showing new.tables) old.pending new.pending old.fold.progress.last new.fold.progress.last store fate accepts refl format;
         takes = one_taken setting.profile.now db bytes old.fold.progress.last old.fold.tally.records old.tables.trees new.fold.progress.last new.fold.tally.records new.tables.trees
             (turned_last setting db accepts.ident bytes setting.kind accepts.elder (point_in old) (point_in new) fate accepts.done) one (accepts.ident, (accepts.sound.whole, accepts.sound.named))
             (law.named setting db bytes (showing old.tables) (showing new.tables) old.pending new.pending old.fold.progress.last new.fold.progress.last store fate accepts refl)
@@ -62,9 +62,9 @@ module _ (s : State) (setting : Setting) (format : Format) (row_work : ℕ) (db 
   -- what is noted is written
   pub accepts_settled : (slices : List (List ℕ)) (old mid new : At) → IsAccepted slices old mid → SettlesNotes format row_work db mid new → IsAccepted slices old new
   accepts_settled slices old mid new one settles = record {
-    passes = passes_then setting.profile.now db old.fold.progress.last mid.fold.progress.last (showing old.tables) (showing mid.tables) one.passes new.fold.progress.last (showing new.tables)
-        (subst (λ (l : ℕ). PassesOn setting.profile.now db mid.fold.progress.last l (showing mid.tables) (showing new.tables)) (sym settles.last)
-        (passes_same setting.profile.now db mid.fold.progress.last (showing mid.tables) (showing new.tables) (store_of (showing new.tables) settles.store) settles.lists settles.beside settles.malformed));
+    passes = passes_then format setting.profile.now db old.fold.progress.last mid.fold.progress.last (showing old.tables) (showing mid.tables) one.passes new.fold.progress.last (showing new.tables)
+        (subst (λ (l : ℕ). PassesOn format setting.profile.now db mid.fold.progress.last l (showing mid.tables) (showing new.tables)) (sym settles.last)
+        (passes_same format setting.profile.now db mid.fold.progress.last (showing mid.tables) (showing new.tables) (store_of (showing new.tables) settles.store) settles.lists settles.beside settles.malformed));
     takes = subst (λ (l : ℕ). TakesNamed setting.profile.now db slices old.fold.progress.last old.fold.tally.records old.tables.trees l new.fold.tally.records new.tables.trees) (sym settles.last)
         (subst (λ (t : Tally). TakesNamed setting.profile.now db slices old.fold.progress.last old.fold.tally.records old.tables.trees mid.fold.progress.last t.records new.tables.trees) (sym settles.tally)
         (taken_written setting.profile.now db slices old.fold.progress.last old.fold.tally.records old.tables.trees mid.fold.progress.last mid.fold.tally.records mid.tables.trees new.tables.trees one.takes settles.lists.2));
@@ -74,7 +74,7 @@ module _ (s : State) (setting : Setting) (format : Format) (row_work : ℕ) (db 
   -- others behind them
   pub accepts_then : (xs ys : List (List ℕ)) (old mid new : At) → IsAccepted xs old mid → IsAccepted ys mid new → IsAccepted (xs ++ ys) old new
   accepts_then xs ys old mid new one two = record {
-    passes = passes_then setting.profile.now db old.fold.progress.last mid.fold.progress.last (showing old.tables) (showing mid.tables) one.passes new.fold.progress.last (showing new.tables) two.passes;
+    passes = passes_then format setting.profile.now db old.fold.progress.last mid.fold.progress.last (showing old.tables) (showing mid.tables) one.passes new.fold.progress.last (showing new.tables) two.passes;
     takes = takes_then setting.profile.now db old.fold.progress.last old.fold.tally.records (showing old.tables) mid.fold.progress.last mid.fold.tally.records (showing mid.tables) xs one.passes one.takes
         ys new.fold.progress.last new.fold.tally.records new.tables.trees two.takes;
     most = λ few. two.most (one.most few);

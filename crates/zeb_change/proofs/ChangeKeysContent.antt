@@ -93,9 +93,8 @@ moved_is db sysno elder newer changed content up are was = record {
         → Has (moved db sysno changed content db key) (posting_at sysno place) ↔ Contains newer (occurrence_at key place)
     part key place (inl there) =
         let from = has_mapped key_in changed key there in
-        let c = from.0 in
-        let places = moved_part db sysno changed content up are.once c from.1 in
-        let told = (are.new c (contains_had changed c from.1)).each place in
+        let places = moved_part db sysno changed content up are.once from.0 from.1 in
+        let told = (are.new from.0 (contains_had changed from.0 from.1)).each place in
         subst (λ k. Has (moved db sysno changed content db k) (posting_at sysno place) ↔ Contains newer (occurrence_at k place)) (sym from.2)
         (λ h. told.0 ((places place).1 h), λ h. (places place).0 (told.1 h))
     part key place (inr none) =

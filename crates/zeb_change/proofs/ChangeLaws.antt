@@ -41,7 +41,7 @@ module _ (setting : Setting) (format : Format) (row_work : ℕ) (db : ℤ) (spli
         let taken = f.changes.0 in
         accepts_settled b setting format row_work db (slices_in splits) (at a f.none fold) taken.0 (at b f.pending folded) (accepts_files b setting format row_work db splits 1 (at a f.none fold) taken.0 shown taken.1) taken.2
 
-    pub passes : Folds (Ok tt) → PassesOn setting.profile.now db fold.progress.last folded.progress.last a b
+    pub passes : Folds (Ok tt) → PassesOn format setting.profile.now db fold.progress.last folded.progress.last a b
     passes f =
         let is = (accepted f).passes in
         record {
@@ -159,13 +159,12 @@ module _ (setting : Setting) (format : Format) (row_work : ℕ) (db : ℤ) (spli
         → (n : ℕ) × IsFilesCost (conditions_of version setting) setting.kind 1 splits p n × IsWorkFor row_work n fold.progress.work folded.progress.work
     works f p stands under =
         let old = at a f.none fold in
-        let taken = f.changes.0 in
         let will : folds.IsUnder b version setting format db records_of old p = (stands, under_first f.none f.unnoted p.base under) in
-        let cost = files_cost b version setting format row_work db records_of splits 1 old taken.0 p will f.counts taken.1 in (
+        let cost = files_cost b version setting format row_work db records_of splits 1 old f.changes.0.0 p will f.counts f.changes.0.1 in (
           cost.0,
           cost.1,
           by cost.0 cost.2.0 (files_folded (conditions_of version setting) setting.kind 1 splits p)
-              (folds.files_take b version setting format db records_of row_work 1 splits old taken.0 p will (Ok tt) taken.1),
+              (folds.files_take b version setting format db records_of row_work 1 splits old f.changes.0.0 p will (Ok tt) f.changes.0.1),
         )
       where
         by : (n : ℕ) → IsDueFor row_work n fold.progress.work f.changes.0.0.fold.progress.work f.none f.changes.0.0.pending → (said : Result Progress Why)

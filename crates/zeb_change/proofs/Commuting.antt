@@ -1,8 +1,6 @@
 -- Changes of different records commute: given by the numbers of their records, the changes of a key come to the same content.
-use Rattle.zeb_change.proofs.Cited.{◌≡◌, ◌≢◌, ◌↔◌, ◌⊎◌, List, [], ◌∷◌, ◌++◌, sym, subst, inl, inr, nat_cmp_total, IsStableByKey, Has, numbers_apart, RecordChange, AreListChanges, ArePlacesOf, IsListChanged, OldsRise, Posting, place_cmp, posting_at, posting_cmp, at_sysno, list_changed, posting_is, told_by, KeyChange, AreTurns, AreGivenInOrder, number_in}
+use Rattle.zeb_change.proofs.Cited.{◌≡◌, ◌≢◌, ◌↔◌, ◌⊎◌, List, [], ◌∷◌, ◌++◌, sym, subst, inl, inr, nat_cmp_total, IsStableByKey, Has, numbers_apart, RecordChange, AreListChanges, ArePlacesOf, IsListChanged, OldsRise, Posting, place_cmp, posting_at, posting_cmp, at_sysno, list_changed, posting_is, told_by, KeyChange, AreTurns, AreGivenInOrder, number_in, IsStrictlySortedBy, place_of}
 use Rattle.std.proofs.Common.{nat_cmp}
-use Rattle.std.specs.List.Sorted.{IsStrictlySortedBy}
-use Rattle.zeb_register.proofs.ListChanges.{place_of}
 use Rattle.zeb_change.proofs.LeadsToContent.{turns_given, turns_rise}
 use Rattle.zeb_change.proofs.StableReorderings.{AreApart, all_of, of_reordered}
 

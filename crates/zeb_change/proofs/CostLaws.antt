@@ -1,6 +1,5 @@
 -- What a change costs, of tables that are an image.
-use Rattle.zeb_change.proofs.Cited.{◌≡◌, ◌+◌, ℕ, ℤ, List, [], ◌∷◌, Option, Some, None, Result, Ok, Err, inl, inr, refl, sym, subst, arith, State, MarcFault, Split, Work, Format, Setting, Kept, IsCostIn, IsFilesCost, IsSlicesCost, Progress, IsDueFor, noted_count, AreInRange, At, TakesFiles, TakesRecord, TakesRest, point_in, Meets, Why, conditions_of}
-use Rattle.zeb_change.specs.Folding.{file_folded, record_folded}
+use Rattle.zeb_change.proofs.Cited.{◌≡◌, ◌+◌, ℕ, ℤ, List, [], ◌∷◌, Option, Some, None, Result, Ok, Err, inl, inr, refl, sym, subst, arith, State, MarcFault, Split, Work, Format, Setting, Kept, IsCostIn, IsFilesCost, IsSlicesCost, Progress, IsDueFor, noted_count, AreInRange, At, TakesFiles, TakesRecord, TakesRest, point_in, Meets, Why, conditions_of, file_folded, record_folded}
 use Rattle.zeb_change.proofs.CostLemmas.{due_more, due_noted, due_then}
 use Rattle.zeb_change.proofs.FoldLaws.{IsFoldedTo, IsUnder, content_storable, file_takes, record_folds, record_takes, showing}
 use Rattle.zeb_change.proofs.RecordLaws as law

@@ -14,9 +14,8 @@ module _ (c : Conditions) (kind : Kind) (file nth : ℕ) (bytes : List ℕ) (bas
 
   pub no_ident : (fault : IdentFault) → first_fault bytes ≡ None → (fault ≢ ident_fault.Memory → ident_in c.profile bytes ≡ Err fault)
       → IsFailing (why_of (identifier_refusal file nth fault)) ⊎ (changed_record c kind file nth bytes base ≡ Err (why_of (identifier_refusal file nth fault)))
-  no_ident ident_fault.NoIdentifier whole said = inr (whole_record whole ∙ ap (with_ident c kind file nth bytes base) (said (λ same. cc)))
-  no_ident ident_fault.BadIdentifier whole said = inr (whole_record whole ∙ ap (with_ident c kind file nth bytes base) (said (λ same. cc)))
   no_ident ident_fault.Memory whole said = inl (inr refl)
+  no_ident _ whole said = inr (whole_record whole ∙ ap (with_ident c kind file nth bytes base) (said (λ same. cc)))
 
   pub named_record : (ident : List ℕ) → first_fault bytes ≡ None → ident_in c.profile bytes ≡ Ok ident → changed_record c kind file nth bytes base ≡ changed_by c kind file nth bytes ident base
   named_record ident whole named = whole_record whole ∙ ap (with_ident c kind file nth bytes base) named

@@ -1,5 +1,5 @@
 -- The parts of the fold of files, as calls say them, put together.
-use Rattle.zeb_change.proofs.Cited.{◌≡◌, ◌∙◌, ◌+◌, ◌<◌, ℕ, ℤ, Bool, true, false, List, [], ◌∷◌, drop, get_or, length, map, Option, Some, None, Result, Ok, Err, inl, inr, refl, sym, ap, subst, drop_more, Int, State, MarcFault, Split, a_fault, a_slice, next_of, split_of-next, RegFault, Elder, Work, Format, KeepsMalformed, KeepsRowsBeside, IsStore, Fold, Pending, Refusal, Kind, Update, Delete, Adelete, Limits, Setting, Fate, IsSettled, marc_refusal, register_refusal, AreInRange, AreStores, Point, Steps, Turns, Advances, AreReadAs, At, FoldsRecord, IsReadAs, IsUnsettled, OfReaders, SettlesNotes, TakesFiles, TakesReader, TakesReaders, TakesRecord, TakesRest, ThenSettles, at}
+use Rattle.zeb_change.proofs.Cited.{◌≡◌, ◌∙◌, ◌+◌, ◌<◌, ℕ, ℤ, Bool, true, false, List, [], ◌∷◌, drop, get_or, length, map, Option, Some, None, Result, Ok, Err, inl, inr, refl, sym, ap, subst, drop_more, Int, State, MarcFault, Split, a_fault, a_slice, next_of, split_of-next, RegFault, Elder, Work, Format, keeps_malformed, KeepsRowsBeside, IsStore, Fold, Pending, Refusal, Kind, Update, Delete, Adelete, Limits, Setting, Fate, IsSettled, marc_refusal, register_refusal, AreInRange, AreStores, Point, Steps, Turns, Advances, AreReadAs, At, FoldsRecord, IsReadAs, IsUnsettled, OfReaders, SettlesNotes, TakesFiles, TakesReader, TakesReaders, TakesRecord, TakesRest, ThenSettles, at}
 use Rattle.zeb_marc.specs.Splits.{at_end, split_of}
 use Rattle.zeb_register.specs.declared.faults.RegFault.TheVariants as fault
 use Rattle.zeb_change.specs.declared.records.Progress.{Progress}
@@ -29,8 +29,7 @@ turned_stores setting db ident bytes Adelete (Some elder) old new fate are done 
 -- one record is folded in
 pub folded_stores : (setting : Setting) (db : ℤ) (file nth : ℕ) (bytes : List ℕ) (old new : At) → AreStores old.tables → FoldsRecord setting db file nth bytes old new (Ok tt) → AreStores new.tables
 folded_stores setting db file nth bytes old new are folds =
-    let accepts = folds.1.1 in
-    turned_stores setting db accepts.ident bytes setting.kind accepts.elder _ _ folds.1.0 are accepts.done
+    turned_stores setting db folds.1.1.ident bytes setting.kind folds.1.1.elder _ _ folds.1.0 are folds.1.1.done
 
 -- ---- how far it goes
 
@@ -52,7 +51,7 @@ advances_worked limits row_work old mid work one same = record { database = one.
 
 module _ (format : Format) (row_work : ℕ) (db : ℤ) where
   pub settled_at : (old new : State) (before after : Pending) (fold : Fold) (work : Work) → IsSettled format row_work db old new before after fold.progress.work work
-      → KeepsRowsBeside (Int db ∷ []) old.now.trees new.now.trees → KeepsMalformed old.now.trees new.now.trees → AreInRange work
+      → KeepsRowsBeside (Int db ∷ []) old.now.trees new.now.trees → keeps_malformed format old.now.trees new.now.trees → AreInRange work
       → SettlesNotes format row_work db (at old before fold) (at new after (worked fold work))
   settled_at old new before after fold work is beside malformed counts = record {
     store = stores new is.0;

@@ -65,7 +65,5 @@ module _ (format : Format) (c : Conditions) (id : ℤ) (records_of : ℤ → Lis
         where
           in_base : (f : Fate) (base : Base) → WillBe format c.profile id records_of new base → WillBe format c.profile id records_of new (counted base p f).base
           in_base Inserted base h = h
-          in_base Updated base h = h
-          in_base Deleted base h = h
-          in_base PassedOver base h = h
+          in_base _ base h = h
       by (Err why) is taken = absurd taken

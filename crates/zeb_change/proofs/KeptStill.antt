@@ -1,5 +1,5 @@
 -- What is kept still while records of a change are taken, whatever rows the tables have.
-use Rattle.zeb_change.proofs.Cited.{◌≡◌, ◌≢◌, ◌↔◌, ◌⊎◌, ◌∙◌, ◌≤◌, ◌+◌, ◌∷◌, ℕ, ℤ, pos, true, false, List, [], Some, Result, Ok, Err, OnOk, inl, inr, sym, ap, subst, arith, bytes_eq, bytes_eq-Decides, Int, Text, Database, Row, State, Trees, Has, Directive, Elder, IsElderOf, KeepsMalformed, KeepsRowsBeside, KeepsOthers, Loses, Replaces, Changes, HasNumber, HasRecord, IsStore, KeepsLists, SharesRecord, databases_tree, meta_tree, record_row, records_tree, store_schema, store_same, beside_same, beside_seen, beside_then, malformed_same, malformed_seen, malformed_then, one_number, Refusal, IsSoOrDamaged, IsUpTo, KeepsWhole, KeepsWholeTo, PassesOn, KeepsOtherRecords, KeepsNames}
+use Rattle.zeb_change.proofs.Cited.{◌≡◌, ◌≢◌, ◌↔◌, ◌⊎◌, ◌∙◌, ◌≤◌, ◌+◌, ◌∷◌, ℕ, ℤ, pos, true, false, List, [], Some, Result, Ok, Err, OnOk, inl, inr, sym, ap, subst, arith, bytes_eq, bytes_eq-Decides, Int, Text, Database, Row, State, Trees, Has, Directive, Elder, Format, IsElderOf, KeepsRegisters, keeps_malformed, KeepsRowsBeside, KeepsOthers, Loses, Replaces, Changes, HasNumber, HasRecord, IsStore, KeepsLists, SharesRecord, databases_tree, meta_tree, record_row, records_tree, store_schema, store_same, beside_same, beside_seen, beside_then, malformed_same, malformed_seen, malformed_then, one_number, Refusal, IsSoOrDamaged, IsUpTo, KeepsWhole, KeepsWholeTo, PassesOn, KeepsOtherRecords, KeepsNames}
 use Rattle.zeb_change.proofs.KeptLemmas.{tests}
 
 pub same_ident : (one two : List ℕ) → (one ≡ two) ⊎ (one ≢ two)
@@ -40,11 +40,8 @@ module _ (db : ℤ) (ident : List ℕ) (number last after : ℕ) (rises : last �
     names_stay : KeepsNames old new
     names_stay = (others.0 (λ e. absurd (omega (arith, e))), others.1.0 (λ e. absurd (omega (arith, e))))
 
-    malformed_stay : KeepsMalformed old.now.trees new.now.trees
-    malformed_stay = malformed_same old.now.trees new.now.trees (others.1.1.1.1.0 (λ e. absurd (omega (arith, e)))) (others.1.1.1.1.1.0 (λ e. absurd (omega (arith, e))))
-
-    rows_stay : KeepsRowsBeside (Int db ∷ []) old.now.trees new.now.trees
-    rows_stay = beside_same (Int db ∷ []) old.now.trees new.now.trees (
+    registers_still : KeepsRegisters old.now.trees new.now.trees
+    registers_still = (
       others.1.1.1.0 (λ e. absurd (omega (arith, e))),
       others.1.1.1.1.0 (λ e. absurd (omega (arith, e))),
       others.1.1.1.1.1.0 (λ e. absurd (omega (arith, e))),
@@ -68,9 +65,8 @@ module _ (db : ℤ) (ident : List ℕ) (number last after : ℕ) (rises : last �
       ],
       λ before. (put.rows (record_row other sysno name kept)).1 (inl (before, not_shared other sysno name kept differs)),
     );
-    beside = rows_stay put.others;
+    registers = registers_still put.others;
     names = names_stay put.others;
-    malformed = malformed_stay put.others;
   }
 
   pub take_keeps : Changes records_tree (Loses (HasNumber db (pos number))) old new → KeepsOtherRecords db ident last after old new
@@ -82,9 +78,8 @@ module _ (db : ℤ) (ident : List ℕ) (number last after : ℕ) (rises : last �
       λ after. ((take.rows (record_row other sysno name kept)).0 after).0,
       λ before. (take.rows (record_row other sysno name kept)).1 (before, λ numbers. other_database other db differs numbers.0),
     );
-    beside = rows_stay take.others;
+    registers = registers_still take.others;
     names = names_stay take.others;
-    malformed = malformed_stay take.others;
   }
 
 -- the row with the elder's number is the elder's
@@ -95,10 +90,6 @@ elder_owns s store db ident elder is last other bytes there below = (one_number 
 -- no row up to the last number has the next one
 pub none_owns : (trees : Trees) (db : ℤ) (ident : List ℕ) (last : ℕ) (other bytes : List ℕ) → HasRecord trees db (pos (last + 1)) other bytes → last + 1 ≤ last → other ≡ ident
 none_owns trees db ident last other bytes there below = absurd (omega (arith, below))
-
-names_from : (old mid new : State) → mid.now ≡ old.now → KeepsNames mid new → KeepsNames old new
-names_from old mid new same kept =
-    (kept.0 ∙ ap (λ (d : Database). d.trees meta_tree) same, kept.1 ∙ ap (λ (d : Database). d.trees databases_tree) same)
 
 -- ---- records are passed on
 
@@ -112,10 +103,10 @@ both_ways one two = (λ a. two.0 (one.0 a), λ c. one.1 (two.1 c))
 pub beside_id : (one two : ℤ) (old new : Trees) → one ≡ two → KeepsRowsBeside (Int one ∷ []) old new → KeepsRowsBeside (Int two ∷ []) old new
 beside_id one two old new same kept = subst (λ (db : ℤ). KeepsRowsBeside (Int db ∷ []) old new) same kept
 
-module _ (profile : List Directive) (db : ℤ) where
+module _ (format : Format) (profile : List Directive) (db : ℤ) where
   -- what is kept under the one identifier was found whole
   pub passes_by : (ident : List ℕ) (last after : ℕ) (old new : State) {T : Type 0} (result : Result T Refusal) → IsSoOrDamaged (KeepsWhole profile old.now.trees db ident) result
-      → OnOk result (KeepsOtherRecords db ident last after old new) → OnOk result (PassesOn profile db last after old new)
+      → OnOk result (KeepsOtherRecords db ident last after old new) → OnOk result (PassesOn format profile db last after old new)
   passes_by ident last after old new (Ok x) whole kept = record {
     store = kept.store;
     rises = kept.rises;
@@ -124,15 +115,15 @@ module _ (profile : List Directive) (db : ℤ) where
       | inr differs ↦ inr (kept.others other differs sysno bytes there up)
     ];
     aside = kept.aside;
-    beside = kept.beside;
+    beside = beside_same (Int db ∷ []) old.now.trees new.now.trees kept.registers;
     names = kept.names;
-    malformed = kept.malformed;
+    malformed = malformed_same format old.now.trees new.now.trees kept.registers.1 kept.registers.2;
   }
   passes_by ident last after old new (Err refusal) whole kept = tt
 
   -- the lists are as they were
   pub passes_same : (last : ℕ) (old new : State) → IsStore new → KeepsLists old.now.trees new.now.trees → KeepsRowsBeside (Int db ∷ []) old.now.trees new.now.trees
-      → KeepsMalformed old.now.trees new.now.trees → PassesOn profile db last last old new
+      → keeps_malformed format old.now.trees new.now.trees → PassesOn format profile db last last old new
   passes_same last old new store lists beside malformed = record {
     store = store;
     rises = omega arith;
@@ -147,14 +138,14 @@ module _ (profile : List Directive) (db : ℤ) where
   }
 
   -- a look left everything as it was
-  pub passes_seen : (last : ℕ) (old new : State) → IsStore old → new.now ≡ old.now → PassesOn profile db last last old new
+  pub passes_seen : (last : ℕ) (old new : State) → IsStore old → new.now ≡ old.now → PassesOn format profile db last last old new
   passes_seen last old new store same =
       passes_same last old new (store_same old new same store)
       (ap (λ (d : Database). d.trees meta_tree) same, ap (λ (d : Database). d.trees databases_tree) same, ap (λ (d : Database). d.trees records_tree) same)
-      (beside_seen (Int db ∷ []) old.now new.now same) (malformed_seen old.now new.now same)
+      (beside_seen (Int db ∷ []) old.now new.now same) (malformed_seen format old.now new.now same)
 
-  module _ (last mid : ℕ) (a b : State) (one : PassesOn profile db last mid a b) where
-    pub passes_then : (after : ℕ) (c : State) → PassesOn profile db mid after b c → PassesOn profile db last after a c
+  module _ (last mid : ℕ) (a b : State) (one : PassesOn format profile db last mid a b) where
+    pub passes_then : (after : ℕ) (c : State) → PassesOn format profile db mid after b c → PassesOn format profile db last after a c
     passes_then after c two = record {
       store = two.store;
       rises = omega (arith, one.rises, two.rises);
@@ -165,7 +156,7 @@ module _ (profile : List Directive) (db : ℤ) where
       aside = λ other sysno ident bytes differs. both_ways (two.aside other sysno ident bytes differs) (one.aside other sysno ident bytes differs);
       beside = beside_then (Int db ∷ []) a.now.trees b.now.trees c.now.trees one.beside two.beside;
       names = (two.names.0 ∙ one.names.0, two.names.1 ∙ one.names.1);
-      malformed = malformed_then a.now.trees b.now.trees c.now.trees one.malformed two.malformed;
+      malformed = malformed_then format a.now.trees b.now.trees c.now.trees one.malformed two.malformed;
     }
 
     -- what is whole now was whole before

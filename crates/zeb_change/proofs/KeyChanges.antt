@@ -191,8 +191,7 @@ module _ (key : Key) (elder newer run_elder run_newer : List Occurrence) (change
       crossed : (k : Key) (place : Place) (from to : List Occurrence) → IsRunOf key from → IsRunOf key to → map place_in from ≡ map place_in to → Has from (occurrence_at k place) → Has to (occurrence_at k place)
       crossed k place from to of_from of_to same here =
           let is : k ≡ key = of_from _ here in
-          let placed = has_mapped place_in from (occurrence_at k place) here in
-          subst (λ z. Has to (occurrence_at z place)) (sym is) ((run_places key to of_to place).0 (subst (λ ps. Has ps place) same placed))
+          subst (λ z. Has to (occurrence_at z place)) (sym is) ((run_places key to of_to place).0 (subst (λ ps. Has ps place) same (has_mapped place_in from (occurrence_at k place) here)))
 
   -- the runs differ, and the key is noted with both
   module _ (c : ChangedKey) (key_is : key_in c ≡ key) (old_is : c.old.items ≡ map place_in run_elder) (new_is : c.new.items ≡ map place_in run_newer)

@@ -3,14 +3,9 @@ use Rattle.zeb_change.proofs.Cited.{◌≡◌, ◌≢◌, ◌&&◌, Bool, true, 
 
 same_register : (r s : Register) → sameb the_type r s ≡ true → r ≡ s
 same_register Word Word e = refl
-same_register Word Phrase e = absurd (cc)
-same_register Word Number e = absurd (cc)
-same_register Phrase Word e = absurd (cc)
 same_register Phrase Phrase e = refl
-same_register Phrase Number e = absurd (cc)
-same_register Number Word e = absurd (cc)
-same_register Number Phrase e = absurd (cc)
 same_register Number Number e = refl
+same_register _ _ e = absurd (cc)
 
 same_parts : (a b : Key) → a.index ≡ b.index → a.register ≡ b.register → a.term ≡ b.term → a ≡ b
 same_parts a b index register term = λ i. record { index = index i; register = register i; term = term i }

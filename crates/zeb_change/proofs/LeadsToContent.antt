@@ -1,7 +1,5 @@
 -- The content that the registers hold once the noted changes are written, as a change is noted and where nothing is.
-use Rattle.zeb_change.proofs.Cited.{◌≡◌, ◌≢◌, ◌⊎◌, ◌∙◌, ℕ, ℤ, List, [], ◌∷◌, ◌++◌, ◌+◌, drop, map, Option, None, inl, inr, refl, sym, ap, subst, subst₂, AllByRecursion, append-nil, append_assoc, Trees, Key, key_total, keys_apart, RecordChange, Place, AreListChanges, ArePlacesOf, Content, IsChangedAt, IsListChanged, HasRisingLists, IsStorable, Posting, place_cmp, posting_cmp, Format, holds_in, posting_total, registers_rise, same_list, told_by, KeyNotes, PlaceCounts, Pending, KeyChange, AreTurns, IsNothingNoted, LeadsList, LeadsTo, WillHold, notes_at, IsCutOff, counts_in, AreGivenAs, IsNotedAlso}
-use Rattle.std.specs.List.Sorted.{IsStrictlySortedBy}
-use Rattle.zeb_change.specs.PrivateNoteWords.{places_in}
+use Rattle.zeb_change.proofs.Cited.{◌≡◌, ◌≢◌, ◌⊎◌, ◌∙◌, ℕ, ℤ, List, [], ◌∷◌, ◌++◌, ◌+◌, drop, map, Option, None, inl, inr, refl, sym, ap, subst, subst₂, AllByRecursion, append-nil, append_assoc, Trees, Key, key_total, keys_apart, RecordChange, Place, AreListChanges, ArePlacesOf, Content, IsChangedAt, IsListChanged, HasRisingLists, IsStorable, Posting, place_cmp, posting_cmp, Format, holds_in, posting_total, registers_rise, same_list, told_by, KeyNotes, PlaceCounts, Pending, KeyChange, AreTurns, IsNothingNoted, LeadsList, LeadsTo, WillHold, notes_at, IsCutOff, counts_in, AreGivenAs, IsNotedAlso, IsStrictlySortedBy, places_in}
 use Rattle.zeb_change.proofs.NotedChanges.{nothing_at}
 use Rattle.zeb_change.proofs.StoredLemmas.{told_id}
 

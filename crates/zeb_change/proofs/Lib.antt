@@ -1,6 +1,5 @@
 pub mod TransactionLemmas
 pub mod ZippedLists
-pub mod ResultLemmas
 pub mod KeptLemmas
 pub mod KeptChanges
 pub mod BaseLemmas

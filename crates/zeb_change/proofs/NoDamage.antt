@@ -16,18 +16,7 @@ TellsNoDamage (Err why) = IsNoDamage why
 
 marc_tells : (file nth : ℕ) (fault : MarcFault) → IsNoDamage (why_of (marc_refusal file nth fault))
 marc_tells file nth marc.LengthDigits = tt
-marc_tells file nth marc.LengthRange = tt
-marc_tells file nth marc.Truncated = tt
-marc_tells file nth marc.NoTerminator = tt
-marc_tells file nth marc.LeaderCounts = tt
-marc_tells file nth marc.BaseAddress = tt
-marc_tells file nth marc.DirectoryLength = tt
-marc_tells file nth marc.EntryDigits = tt
-marc_tells file nth marc.EntryTag = tt
-marc_tells file nth marc.EntryRange = tt
-marc_tells file nth marc.FieldEnd = tt
-marc_tells file nth marc.TooManySeparators = tt
-marc_tells file nth marc.ReadFault = tt
+marc_tells file nth _ = tt
 
 updated_tells : (c : Conditions) (ident bytes : List ℕ) (base : Base) (elder : Option Kept) → TellsNoDamage (updated c ident bytes base elder)
 updated_tells c ident bytes base (Some kept) = tt

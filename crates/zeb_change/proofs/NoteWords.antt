@@ -1,7 +1,6 @@
 -- Numbers, places and changes, taken from the front of the words in which they are noted.
-use Rattle.zeb_change.proofs.Cited.{◌≡◌, ◌∙◌, ◌+◌, ◌*◌, ◌/◌, ◌%◌, ◌<◌, ◌≤◌, ℕ, List, [], ◌∷◌, ◌++◌, length, length-append, map, refl, sym, ap, inl, inr, arith, cases_lt, lt-ltb, le-ltb, append-nil, append_assoc, Place, KeyNotes, PlaceCounts, KeyChange, IsNotedIn, TakesChange, TakesNumber, TakesPlaces, counts_in}
+use Rattle.zeb_change.proofs.Cited.{◌≡◌, ◌∙◌, ◌+◌, ◌*◌, ◌/◌, ◌%◌, ◌<◌, ◌≤◌, ℕ, List, [], ◌∷◌, ◌++◌, length, length-append, map, refl, sym, ap, inl, inr, arith, cases_lt, lt-ltb, le-ltb, append-nil, append_assoc, Place, KeyNotes, PlaceCounts, KeyChange, IsNotedIn, TakesChange, TakesNumber, TakesPlaces, counts_in, places_in}
 use Rattle.zeb_change.specs.NoteWords.{change_words, number_words, place_words, words_of_changes}
-use Rattle.zeb_change.specs.PrivateNoteWords.{places_in}
 
 -- ---- numbers
 
@@ -78,9 +77,6 @@ abbrev pub AreLeft : List ℕ → List ℕ → ℕ → ℕ → List Place → Li
 AreLeft words left count taken old now =
     (places : List Place) (rest : List ℕ) → length places ≡ count → words ≡ place_words places ++ rest
     → (more : List Place) × (count ≡ taken + length more) × (left ≡ place_words more ++ rest) × (now ++ more ≡ old ++ places)
-
-pub none_taken : (words : List ℕ) (count : ℕ) (old : List Place) → AreLeft words words count 0 old old
-none_taken words count old places rest many is = (places, omega (arith, many), is, refl)
 
 pub one_taken : (words left behind back : List ℕ) (count taken : ℕ) (old now after : List Place) (seq pos : ℕ) → taken < count → AreLeft words left count taken old now
     → TakesNumber left seq behind → TakesNumber behind pos back → after ≡ now ++ record { seq = seq; pos = pos } ∷ [] → AreLeft words back count (taken + 1) old after
@@ -161,15 +157,6 @@ one_read notes left behind taken counts now places after below so_far takes chan
           ap (λ (l : List Place). l ++ places_in more) told.2 ∙ append_assoc places (change.old ++ change.new) (places_in more)
               ∙ ap (λ (l : List Place). places ++ l) (append_assoc change.old change.new (places_in more)) ∙ all,
         )
-
-pub all_read : (notes : KeyNotes) (left : List ℕ) (taken : ℕ) (counts : List PlaceCounts) (places : List Place) → notes.count ≤ taken → AreUnread notes left taken counts places
-    → (changes : List KeyChange) → IsNotedIn notes changes → (counts ≡ map counts_in changes) × (places ≡ places_in changes)
-all_read notes left taken counts places done so_far changes noted = by (so_far changes noted)
-  where
-    by : ((more : List KeyChange) × (notes.count ≡ taken + length more) × (left ≡ words_of_changes more) × (counts ++ map counts_in more ≡ map counts_in changes)
-        × (places ++ places_in more ≡ places_in changes)) → (counts ≡ map counts_in changes) × (places ≡ places_in changes)
-    by ([], counted, left_is, many, all) = (sym (append-nil counts) ∙ many, sym (append-nil places) ∙ all)
-    by (change ∷ more, counted, left_is, many, all) = absurd (omega (arith, counted, done))
 
 -- one change more is noted
 pub words_more : (changes : List KeyChange) (change : KeyChange) → words_of_changes (changes ++ change ∷ []) ≡ words_of_changes changes ++ change_words change

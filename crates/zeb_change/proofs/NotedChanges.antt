@@ -1,12 +1,9 @@
 -- The changes that are noted of each key, and how many there are, as a change is noted and as a key's changes are taken out.
-use Rattle.zeb_change.proofs.Cited.{All, all_from, contains_had, ◌≡◌, ◌≢◌, ◌∙◌, ◌+◌, Bool, true, false, List, [], ◌∷◌, ◌++◌, Option, Some, None, refl, sym, ap, subst, arith, Less, is_eq, lookup, set_value, BTreeMap, get, insert_entry, is_at, Updates, WritesThrough, Key, key_order, keys_apart, KeyNotes, Pending, KeyChange, AreNoted, IsNotedIn, IsNothingNoted, changes_among, notes_at, noted_count, IsNotNoted, IsNotedAlso, IsTakenOut}
+use Rattle.zeb_change.proofs.Cited.{All, all_from, contains_had, ◌≡◌, ◌≢◌, ◌∙◌, ◌+◌, Bool, true, false, List, [], ◌∷◌, ◌++◌, Option, Some, None, refl, sym, ap, subst, arith, Less, is_eq, lookup, set_value, BTreeMap, get, insert_entry, is_at, Updates, WritesThrough, Key, key_order, keys_apart, KeyNotes, Pending, KeyChange, AreNoted, IsNotedIn, IsNothingNoted, changes_among, notes_at, noted_count, IsNotNoted, IsNotedAlso, IsTakenOut, change_words, IsOrdered, keys, DoKeysRise}
 use Rattle.std.specs.declared.cmp.Ordering.{Ordering}
 use Rattle.std.specs.declared.cmp.Ordering.TheVariants.{Equal, Greater}
-use Rattle.zeb_change.specs.NoteWords.{change_words}
-use Rattle.std.specs.BTreeMap.{IsOrdered, keys}
 use Rattle.std.specs.BTreeMap.Range.{IsLtBy}
 use Rattle.std.specs.List.Sorted.{IsStrictlySortedBy}
-use Rattle.zeb_change.specs.PrivatePending.{DoKeysRise}
 use Rattle.zeb_change.proofs.NoteWords.{noted_more, one_noted}
 
 -- ---- how many
@@ -47,9 +44,8 @@ pub apart_at : (key k : Key) → k ≢ key → is_at (key_order key) k ≡ false
 apart_at key k differs = by (key_order key k) refl
   where
     by : (o : Ordering) → key_order key k ≡ o → is_eq o ≡ false
-    by Less is = refl
     by Equal is = absurd (differs (sym (keys_apart key k is)))
-    by Greater is = refl
+    by _ is = refl
 
 -- a key has a change already
 noted_behind : (key : Key) (change : KeyChange) (v w : KeyNotes) (old new : Pending) → get key_order old.notes key ≡ Some v → w.count ≡ v.count + 1

@@ -1,7 +1,6 @@
 -- Noted keys in their order, each with its notes: a key stands once, and what is noted of it is what stands there.
-use Rattle.zeb_change.proofs.Cited.{◌≡◌, ◌≢◌, ◌∙◌, ◌++◌, List, [], ◌∷◌, Some, None, map, refl, sym, ap, subst, inl, inr, Less, Has, all_from, all_has, has_left, has_mapped, has_right, mapped_has, tied_itself, lookup, is_at, Key, key_order, key_total, never_itself, KeyNotes, Pending, notes_at}
+use Rattle.zeb_change.proofs.Cited.{◌≡◌, ◌≢◌, ◌∙◌, ◌++◌, List, [], ◌∷◌, Some, None, map, refl, sym, ap, subst, inl, inr, Less, Has, all_from, all_has, has_left, has_mapped, has_right, mapped_has, tied_itself, lookup, is_at, Key, key_order, key_total, never_itself, KeyNotes, Pending, notes_at, DoKeysRise}
 use Rattle.std.specs.List.Sorted.{IsStrictlySortedBy}
-use Rattle.zeb_change.specs.PrivatePending.{DoKeysRise}
 use Rattle.zeb_change.proofs.NotedChanges.{apart_at}
 
 -- the key of no value is that of one behind it

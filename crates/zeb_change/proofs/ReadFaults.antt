@@ -1,15 +1,13 @@
 -- Of which faults it is told that a reader failed, and which refusals come of no fold.
-use Rattle.zeb_change.proofs.Cited.{◌≡◌, ◌≢◌, ℕ, ℤ, List, [], ◌∷◌, Option, Some, None, Result, Err, inl, inr, subst, sym, ⊤, Trees, MarcFault, IsRecordFault, Split, Directive, IdentFault, Kind, Limits, RegFault, FoldFault, TakeFault, Refusal, Damaged, ReadFault, TooManyRecords, Unknown, as_refusal, fold_refusal, identifier_refusal, marc_refusal, register_refusal, take_refusal, IsAtFault, IsRefusedFor, NeverUnready, Why, why_of}
+use Rattle.zeb_change.proofs.Cited.{◌≡◌, ◌≢◌, ℕ, ℤ, List, [], ◌∷◌, Option, Some, None, Result, Err, inl, inr, subst, sym, ⊤, Trees, MarcFault, IsRecordFault, Split, Directive, IdentFault, Kind, Limits, RegFault, FoldFault, TakeFault, Refusal, Damaged, ReadFault, TooManyRecords, Unknown, as_refusal, fold_refusal, identifier_refusal, marc_refusal, register_refusal, take_refusal, IsAtFault, IsRefusedFor, NeverUnready, Why, why_of, not_initialised, old_format, profile_changed, DatabaseFull, NotInitialised, OldFormat, ProfileChanged}
 use Rattle.zeb_marc.specs.declared.faults.MarcFault.TheVariants as marc
 use Rattle.zeb_extract.specs.declared.naming.IdentFault.TheVariants as ident
 use Rattle.zeb_register.specs.declared.faults.RegFault.TheVariants as register
-use Rattle.zeb_change.specs.Refused.{not_initialised, old_format, profile_changed}
 use Rattle.zeb_change.specs.declared.part_faults.IncomingFault.TheVariants as incoming
 use Rattle.zeb_change.specs.declared.part_faults.TurnFault.TheVariants as turn
 use Rattle.zeb_change.specs.declared.part_faults.ChangeFault.TheVariants as change
 use Rattle.zeb_change.specs.declared.part_faults.TakeFault.TheVariants as take
 use Rattle.zeb_change.specs.declared.part_faults.FoldFault.TheVariants as fold
-use Rattle.zeb_change.specs.declared.refusals.Refusal.TheVariants.{DatabaseFull, NotInitialised, OldFormat, ProfileChanged}
 
 -- a text that is no record is no reader that failed
 pub no_read_fault : (fault : MarcFault) → IsRecordFault fault → fault ≢ marc.ReadFault
@@ -35,8 +33,7 @@ never_reads {T} f result told file is =
 -- so is no fault of the store
 pub no_register_reads : {T : Type 0} (f : RegFault) (file : ℕ) → ◌≢◌ {A = Result T Refusal} (Err (register_refusal f)) (Err (ReadFault file))
 no_register_reads register.Damaged file is = cc
-no_register_reads register.Store file is = cc
-no_register_reads register.Memory file is = cc
+no_register_reads _ file is = cc
 
 -- ---- no fold is refused for a register that isn't ready
 
@@ -49,23 +46,11 @@ IsOfReady why = ⊤
 
 marc_ready : (file nth : ℕ) (fault : MarcFault) → IsOfReady (why_of (marc_refusal file nth fault))
 marc_ready file nth marc.LengthDigits = tt
-marc_ready file nth marc.LengthRange = tt
-marc_ready file nth marc.Truncated = tt
-marc_ready file nth marc.NoTerminator = tt
-marc_ready file nth marc.LeaderCounts = tt
-marc_ready file nth marc.BaseAddress = tt
-marc_ready file nth marc.DirectoryLength = tt
-marc_ready file nth marc.EntryDigits = tt
-marc_ready file nth marc.EntryTag = tt
-marc_ready file nth marc.EntryRange = tt
-marc_ready file nth marc.FieldEnd = tt
-marc_ready file nth marc.TooManySeparators = tt
-marc_ready file nth marc.ReadFault = tt
+marc_ready file nth _ = tt
 
 ident_ready : (file nth : ℕ) (fault : IdentFault) → IsOfReady (why_of (identifier_refusal file nth fault))
 ident_ready file nth ident.NoIdentifier = tt
-ident_ready file nth ident.BadIdentifier = tt
-ident_ready file nth ident.Memory = tt
+ident_ready file nth _ = tt
 
 told_ready : (refusal other : Refusal) → refusal ≡ other → IsOfReady (why_of other) → IsOfReady (why_of refusal)
 told_ready refusal other same = subst (λ (r : Refusal). IsOfReady (why_of r)) (sym same)

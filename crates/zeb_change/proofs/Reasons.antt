@@ -1,5 +1,5 @@
 -- Why records of a change are refused, one behind the other, and what those before them lose.
-use Rattle.zeb_change.proofs.Cited.{◌≡◌, ◌⊎◌, ◌+◌, ◌<◌, ◌≤◌, ℕ, ℤ, List, [], ◌∷◌, ◌++◌, length-append, Option, None, inl, inr, arith, refl, ap, sym, subst, State, Trees, has_either, has_left, has_right, MarcFault, Directive, Elder, IsElderOf, records_tree, Refusal, TooManyRecords, Unknown, Kind, Delete, Update, Limits, Fate, Inserted, Updated, Deleted, PassedOver, Tally, AreWholeBefore, IsWholeBefore, PassesOn, KeepsOtherRecords, IsDamageOrFailure, IsFullOrFails, IsRecordRefused, LosesJustNamed, TakesNamed, IsTallied, AreNamed, HasReasonAt, IsAllowed, IsAtFault, IsNamed, IsNewAt, NamesAny, why_of, IsFailing}
+use Rattle.zeb_change.proofs.Cited.{◌≡◌, ◌⊎◌, ◌+◌, ◌<◌, ◌≤◌, ℕ, ℤ, List, [], ◌∷◌, ◌++◌, length-append, Option, None, inl, inr, arith, refl, ap, sym, subst, State, Trees, has_either, has_left, has_right, MarcFault, Directive, Elder, Format, IsElderOf, records_tree, Refusal, TooManyRecords, Unknown, Kind, Delete, Update, Limits, Fate, Inserted, Updated, Deleted, PassedOver, Tally, AreWholeBefore, IsWholeBefore, PassesOn, KeepsOtherRecords, IsDamageOrFailure, IsFullOrFails, IsRecordRefused, LosesJustNamed, TakesNamed, IsTallied, AreNamed, HasReasonAt, IsAllowed, IsAtFault, IsNamed, IsNewAt, NamesAny, why_of, IsFailing}
 use Rattle.zeb_change.proofs.KeptStill.{rows_same, same_ident, up_more, whole_before}
 
 -- ---- answers
@@ -61,9 +61,7 @@ one_taken profile db bytes last taken old after counted new few all sound named 
 
 pub counted_one : (fate : Fate) (old new : Tally) → IsTallied fate old new → new.records ≡ old.records + 1
 counted_one Inserted old new is = is.0
-counted_one Updated old new is = is.0
-counted_one Deleted old new is = is.0
-counted_one PassedOver old new is = is.0
+counted_one _ old new is = is.0
 
 -- what is written behind them leaves the table of records
 pub taken_written : (profile : List Directive) (db : ℤ) (slices : List (List ℕ)) (last taken : ℕ) (old : Trees) (after counted : ℕ) (mid new : Trees) → TakesNamed profile db slices last taken old after counted mid
@@ -76,12 +74,12 @@ taken_written profile db slices last taken old after counted mid new takes same 
   whole = takes.whole;
 }
 
-module _ (profile : List Directive) (db : ℤ) (last taken : ℕ) (a : State) (mid counted : ℕ) (b : State) (earlier : List (List ℕ)) (passes : PassesOn profile db last mid a b)
+module _ {format : Format} (profile : List Directive) (db : ℤ) (last taken : ℕ) (a : State) (mid counted : ℕ) (b : State) (earlier : List (List ℕ)) (passes : PassesOn format profile db last mid a b)
     (one : TakesNamed profile db earlier last taken a.now.trees mid counted b.now.trees) where
   pub whole_behind : (later : List (List ℕ)) → AreWholeBefore profile mid b.now.trees db later → AreWholeBefore profile last a.now.trees db (earlier ++ later)
   whole_behind later second slice there = elim (has_either earlier later slice there) [
     | inl first ↦ one.whole slice first
-    | inr behind ↦ λ ident whole named. whole_before profile db last mid a b passes ident (second slice behind ident whole named)
+    | inr behind ↦ λ ident whole named. whole_before format profile db last mid a b passes ident (second slice behind ident whole named)
   ]
 
   pub named_behind : (later : List (List ℕ)) → AreNamed profile later → AreNamed profile (earlier ++ later)

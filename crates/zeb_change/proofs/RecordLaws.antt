@@ -1,12 +1,13 @@
 -- What follows from what a change does with one record: of tables that are an image, and of any tables of a store.
-use Rattle.zeb_change.proofs.Cited.{◌≡◌, ◌≢◌, ◌⊎◌, ◌↔◌, ◌∙◌, ◌+◌, ◌<◌, ◌≤◌, ℕ, ℤ, List, [], ◌∷◌, Option, Some, None, Result, Ok, Err, IfErr, IfOk, OnOk, IsUtf8, inl, inr, refl, sym, ap, subst, subst₂, arith, nat_le, true, Contains, nat_tests, Database, State, Trees, has_contained, Occurrence, Directive, Elder, Format, IsElderOf, Changes, IsStore, records_tree, registers_stay, first_fault, Pending, Refusal, Damaged, Kind, Update, Delete, Adelete, Setting, Fate, Updated, PassedOver, Base, Kept, kept_as, IsCostIn, IsRecordCost, newer_of, occurs_by, KeepsWhole, PassesOn, Changed, changed_by, deleted, ident_in, updated, noted_count, AreOccurrencesOf, identifier_refusal, KeepsOtherRecords, IsRecordRefused, LosesJustNamed, GoesBy, IsElderAs, IsNewer, IsWholeElder, elder_bytes, WillBe, WillBeTaken, standing, IsNamed, Accepts, ChangesRecord, HasOccurrences, IsSound, IsWithdrawn, NotesRecord, Point, RefusesTurn, Turns, WritesRecords, point, IsFailing, Meets, Why, unknown, why_of, conditions_of}
+use Rattle.zeb_change.proofs.Cited.{◌≡◌, ◌≢◌, ◌⊎◌, ◌↔◌, ◌∙◌, ◌+◌, ◌<◌, ◌≤◌, ℕ, ℤ, List, [], ◌∷◌, Option, Some, None, Result, Ok, Err, IfErr, IfOk, OnOk, IsUtf8, inl, inr, refl, sym, ap, subst, subst₂, arith, nat_le, true, Contains, nat_tests, Database, State, Trees, has_contained, Occurrence, Directive, Elder, Format, IsElderOf, Changes, IsStore, databases_tree, meta_tree, records_tree, registers_stay, store_same, first_fault, Pending, Refusal, Damaged, Kind, Update, Delete, Adelete, Setting, Fate, Updated, PassedOver, Base, Kept, kept_as, IsCostIn, IsRecordCost, newer_of, occurs_by, KeepsWhole, PassesOn, Changed, changed_by, deleted, ident_in, updated, noted_count, AreOccurrencesOf, identifier_refusal, KeepsOtherRecords, IsRecordRefused, LosesJustNamed, GoesBy, IsElderAs, IsNewer, IsWholeElder, elder_bytes, WillBe, WillBeTaken, standing, IsNamed, Accepts, ChangesRecord, HasOccurrences, IsSound, IsWithdrawn, NotesRecord, Point, RefusesTurn, Turns, WritesRecords, point, IsFailing, Meets, Why, unknown, why_of, conditions_of}
+use Rattle.zeb_register.specs.Store.{blocks_tree, dict_tree, postings_tree}
 use Rattle.zeb_change.specs.Folding.{changed_record}
 use Rattle.zeb_change.proofs.BaseLemmas.{one_ident}
 use Rattle.zeb_change.proofs.CostLemmas.{cost_as, cost_in, same_cost}
 use Rattle.zeb_change.proofs.Elders.{failed_so, so_undamaged, whole_kept}
 use Rattle.zeb_change.proofs.EqualReplacements.{elder_alike, updated_alike}
 use Rattle.zeb_change.proofs.FoldLemmas.{named_record, no_ident, no_record}
-use Rattle.zeb_change.proofs.KeptStill.{elder_owns, none_owns, passes_by, passes_seen, put_keeps, rows_same, take_keeps}
+use Rattle.zeb_change.proofs.KeptStill.{elder_owns, none_owns, passes_by, put_keeps, rows_same, take_keeps}
 use Rattle.zeb_change.proofs.Reasons.{fault_refuses, full_refuses, loses_own, unknown_refuses}
 use Rattle.zeb_change.proofs.StoredLemmas.{elder_is, record_has}
 use Rattle.zeb_change.proofs.TurnLemmas.{inserted, passed_over, replaced, withdrawn}
@@ -40,15 +41,15 @@ module _ (setting : Setting) (db : ℤ) (bytes : List ℕ) (old new : State) (be
       rests : (ident : List ℕ) → point new after next ≡ point old before last → KeepsOtherRecords db ident last next old new
       rests ident same =
           let now = ap (λ (p : Point). p.tables) same in
-          let seen = passes_seen setting.profile.now db last old new store now in
+          let lists = ap (λ (d : Database). d.trees records_tree) now in
           record {
-            store = seen.store;
+            store = store_same old new now store;
             rises = let is = ap (λ (p : Point). p.last) same in omega (arith, is);
-            others = λ other differs sysno kept there up. rows_same old.now.trees new.now.trees (ap (λ (d : Database). d.trees records_tree) now) db sysno other kept there;
-            aside = seen.aside;
-            beside = seen.beside;
-            names = seen.names;
-            malformed = seen.malformed;
+            others = λ other differs sysno kept there up. rows_same old.now.trees new.now.trees lists db sysno other kept there;
+            aside = λ other sysno name kept differs.
+                (rows_same new.now.trees old.now.trees (sym lists) other sysno name kept, rows_same old.now.trees new.now.trees lists other sysno name kept);
+            registers = (ap (λ (d : Database). d.trees postings_tree) now, ap (λ (d : Database). d.trees blocks_tree) now, ap (λ (d : Database). d.trees dict_tree) now);
+            names = (ap (λ (d : Database). d.trees meta_tree) now, ap (λ (d : Database). d.trees databases_tree) now);
           }
 
       takes_others : (ident : List ℕ) (elder : Elder) → IsElderOf old.now.trees db ident (Some elder) → IsWithdrawn setting db ident elder (point old before last) (point new after next) fate → KeepsOtherRecords db ident last next old new
@@ -70,8 +71,8 @@ module _ (setting : Setting) (db : ℤ) (bytes : List ℕ) (old new : State) (be
       keeps_others : KeepsOtherRecords db accepts.ident last next old new
       keeps_others = turns_others accepts.ident setting.kind accepts.elder accepts.there accepts.done
 
-      pub passes : PassesOn setting.profile.now db last next old new
-      passes = passes_by setting.profile.now db accepts.ident last next old new (Ok fate) accepts_whole keeps_others
+      pub passes : (format : Format) → PassesOn format setting.profile.now db last next old new
+      passes format = passes_by format setting.profile.now db accepts.ident last next old new (Ok fate) accepts_whole keeps_others
 
       pub named : LosesJustNamed setting.profile.now last db (bytes ∷ []) old.now.trees new.now.trees
       named = loses_own setting.profile.now db bytes last accepts.ident (accepts.sound.whole, accepts.sound.named) next old new keeps_others

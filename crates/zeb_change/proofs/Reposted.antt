@@ -1,6 +1,5 @@
 -- The content in which one record has other occurrences.
-use Rattle.zeb_change.proofs.Cited.{◌≡◌, ◌≢◌, ◌⊎◌, ◌↔◌, ℕ, ℤ, List, [], ◌∷◌, inl, inr, refl, sym, ap, subst, Contains, Has, has_contained, contains_had, Key, Occurrence, key_total, keys_apart, Place, Content, HasRisingLists, posting_at, posting_cmp, IsChangedAt, Posting, told_by, changed_at, change_is, occurrence_at, IsReposted}
-use Rattle.std.specs.List.Sorted.{IsStrictlySortedBy}
+use Rattle.zeb_change.proofs.Cited.{◌≡◌, ◌≢◌, ◌⊎◌, ◌↔◌, ℕ, ℤ, List, [], ◌∷◌, inl, inr, refl, sym, ap, subst, Contains, Has, has_contained, contains_had, Key, Occurrence, key_total, keys_apart, Place, Content, HasRisingLists, posting_at, posting_cmp, IsChangedAt, Posting, told_by, changed_at, change_is, occurrence_at, IsReposted, IsStrictlySortedBy}
 use Rattle.zeb_register.proofs.ContentChanges.{choose}
 use Rattle.zeb_change.proofs.StoredLemmas.{told_id}
 

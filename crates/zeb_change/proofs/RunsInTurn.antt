@@ -1,11 +1,12 @@
 -- A run of keys that are changed, and then another, told as the run of all these keys.
 use Rattle.zeb_change.proofs.Cited.{◌∙◌, ◌++◌, ℕ, ℤ, List, sym, inl, inr, Has, all_from, all_has, has_either, has_left, has_right, Row, Trees, Key, RecordChange, Format}
-use Rattle.zeb_register.specs.Formats.{plain_rows, packed_blocks}
-use Rattle.zeb_register.specs.RunChanges.{IsAmong, IsCountAmong, IsOwnCount, KeysRise, PutsKeys, TurnsAny, puts_run_rows, run_key}
+use Rattle.zeb_register.specs.Formats.{packed_blocks, packed_leaves, plain_rows}
+use Rattle.zeb_register.specs.RunChanges.{IsAmong, IsCountAmong, IsOwnCount, IsUnitAmong, KeysRise, PutsKeys, TurnsAny, puts_run_rows, run_key}
 use Rattle.zeb_register.specs.Store.{blocks_tree, dict_tree, postings_tree}
 use Rattle.zeb_register.specs.UnitChanges.{IsBlockAmong, IsOwnBlock, IsOwnPlace, IsPlaceAmong, KeepsBut}
 use Rattle.zeb_register.specs.declared.registers.KeyChanges.{KeyChanges}
-use Rattle.zeb_register.proofs.AlikeRows.{AreAlike, alike_back, turns_from, turns_to}
+use Rattle.zeb_register.proofs.AlikeRows.{are_alike, alike_back, turns_from, turns_to}
+use Rattle.zeb_register.proofs.KeptLeaves.{kept_then}
 use Rattle.zeb_register.proofs.RunRows.{beside_alike, rows_beside}
 use Rattle.zeb_change.proofs.ChangeKeysContent.{keeps_then}
 use Rattle.zeb_change.proofs.NotedEntries.{keys_apart_by}
@@ -41,19 +42,21 @@ module _ (front back : List KeyChanges) (old mid new : Trees) where
     dict = both_kept (IsCountAmong db) (IsOwnCount db) dict_tree one.dict two.dict;
     postings = two.postings ∙ one.postings;
   }
+  both_rows packed_leaves db one two = kept_then db (IsUnitAmong front) (IsUnitAmong back) (IsUnitAmong (front ++ back))
+      (λ key n it. (it.0, has_left front back it.0 it.1, it.2)) (λ key n it. (it.0, has_right front back it.0 it.1, it.2)) old mid new one two
 
   pub runs_then : (format : Format) (db : ℤ) → KeysRise (front ++ back) → PutsKeys format db front old mid → PutsKeys format db back mid new → PutsKeys format db (front ++ back) old new
   runs_then format db rise one two = record {
     each = all_from (λ (y : KeyChanges). TurnsAny format db y.key.now y.changes.now old new) (front ++ back) (λ y here. elim (has_either front back y here) [
-      | inl first ↦ turns_to db y.key.now mid new (after y first) format y.changes.now old (all_has (λ (z : KeyChanges). TurnsAny format db z.key.now z.changes.now old mid) front y one.each first)
-      | inr later ↦ turns_from db y.key.now mid old (alike_back db y.key.now old mid (before y later)) format y.changes.now new (all_has (λ (z : KeyChanges). TurnsAny format db z.key.now z.changes.now mid new) back y two.each later)
+      | inl first ↦ turns_to format db y.key.now mid new (after y first) y.changes.now old (all_has (λ (z : KeyChanges). TurnsAny format db z.key.now z.changes.now old mid) front y one.each first)
+      | inr later ↦ turns_from format db y.key.now mid old (alike_back format db y.key.now old mid (before y later)) y.changes.now new (all_has (λ (z : KeyChanges). TurnsAny format db z.key.now z.changes.now mid new) back y two.each later)
     ]);
     rows = both_rows format db one.rows two.rows;
     lists = keeps_then old mid new one.lists two.lists;
   }
     where
-      after : (y : KeyChanges) → Has front y → AreAlike db y.key.now mid new
-      after y first = beside_alike db back y.key.now mid new (λ it. keys_apart_by run_key front back rise y it.0 first it.1 it.2) (rows_beside format db back mid new two.rows)
+      after : (y : KeyChanges) → Has front y → are_alike format db y.key.now mid new
+      after y first = beside_alike format db back y.key.now mid new (λ it. keys_apart_by run_key front back rise y it.0 first it.1 it.2) (rows_beside format db back mid new two.rows)
 
-      before : (y : KeyChanges) → Has back y → AreAlike db y.key.now old mid
-      before y later = beside_alike db front y.key.now old mid (λ it. keys_apart_by run_key front back rise it.0 y it.1 later (sym it.2)) (rows_beside format db front old mid one.rows)
+      before : (y : KeyChanges) → Has back y → are_alike format db y.key.now old mid
+      before y later = beside_alike format db front y.key.now old mid (λ it. keys_apart_by run_key front back rise it.0 y it.1 later (sym it.2)) (rows_beside format db front old mid one.rows)

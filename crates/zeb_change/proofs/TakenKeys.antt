@@ -1,14 +1,5 @@
 -- Keys that are taken out of the notes with their changes, one after the other, and given to a layout as a run.
-use Rattle.zeb_change.proofs.Cited.{◌≡◌, ◌≢◌, ◌∙◌, ◌++◌, ◌<◌, ◌≤◌, ℕ, true, false, List, [], ◌∷◌, length, length-append, eqb-true, map, refl, sym, ap, ap₂, subst, subst₂, arith, append-nil, append_assoc, AllZip, all_from, Key, key_order, KeyNotes, Pending, IsNothingNoted, changes_among, IsTakenOut}
-use Rattle.std.specs.Prelude.{◌==◌}
-use Rattle.std.specs.List.Sorted.{IsStrictlySortedBy}
-use Rattle.zeb_register.specs.RunChanges.{IsRun, changes_in, run_key}
-use Rattle.zeb_register.specs.UnitChanges.{NumbersRise}
-use Rattle.zeb_register.specs.declared.registers.KeyChanges.{KeyChanges}
-use Rattle.zeb_change.specs.declared.pending.TakenKey.{TakenKey}
-use Rattle.zeb_change.specs.declared.writing.GivenKey.{GivenKey}
-use Rattle.zeb_change.specs.PrivatePending.{AreTakenOut, DoKeysRise, IsGivenFrom, IsTakenFrom}
-use Rattle.zeb_change.specs.PrivateWriting.{IsGivenOf}
+use Rattle.zeb_change.proofs.Cited.{◌≡◌, ◌≢◌, ◌∙◌, ◌++◌, ◌<◌, ◌≤◌, ℕ, true, false, List, [], ◌∷◌, length, length-append, eqb-true, map, refl, sym, ap, ap₂, subst, subst₂, arith, append-nil, append_assoc, AllZip, all_from, Key, key_order, KeyNotes, Pending, IsNothingNoted, changes_among, IsTakenOut, ◌==◌, IsStrictlySortedBy, IsRun, changes_in, run_key, NumbersRise, KeyChanges, TakenKey, GivenKey, AreTakenOut, DoKeysRise, IsGivenFrom, IsTakenFrom, IsGivenOf}
 use Rattle.zeb_change.proofs.NotedEntries.{front_rises, key_noted}
 use Rattle.zeb_change.proofs.ZippedLists.{zip_right, zip_same, zip_then}
 

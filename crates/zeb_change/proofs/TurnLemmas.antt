@@ -1,7 +1,6 @@
 -- What becomes of one record, as the calls on the tables say it.
-use Rattle.zeb_change.proofs.Cited.{◌≡◌, ◌∙◌, ℕ, ℤ, pos, ◌+◌, ◌≤◌, ◌<◌, false, List, [], Some, None, Option, Result, Ok, IsUtf8, refl, sym, ap, subst, arith, nat_le, nat_tests, Trees, State, contains_had, first_fault, Directive, Occurrence, IsRising, Elder, Content, Loses, Changes, KeepsRegisters, records_tree, HasNumber, Fate, Inserted, Updated, Deleted, Why, Meets, Conditions, Changed, updated, deleted, ident_in, Base, Kept, kept_as, with_new, with_bytes, without_ident, IsBase, IsKept, IsNewer, IsElderAs, AreOccurrencesOf, Pending, WillBe, WillBeTaken, standing, Format, holds_in}
+use Rattle.zeb_change.proofs.Cited.{◌≡◌, ◌∙◌, ℕ, ℤ, pos, ◌+◌, ◌≤◌, ◌<◌, false, List, [], Some, None, Option, Result, Ok, refl, sym, ap, subst, arith, nat_le, nat_tests, Trees, State, Directive, Occurrence, IsRising, Elder, Content, Loses, Changes, KeepsRegisters, records_tree, HasNumber, Fate, Inserted, Updated, Deleted, Why, Meets, Conditions, Changed, updated, deleted, Base, Kept, kept_as, with_new, with_bytes, without_ident, IsNewer, IsElderAs, AreOccurrencesOf, Pending, WillBe, WillBeTaken, standing, Format, holds_in}
 use Rattle.std.specs.List.Sorted.{IsStrictlySortedBy}
-use Rattle.zeb_change.proofs.KeptLemmas.{kept_found}
 use Rattle.zeb_change.proofs.UnderWay.{same_way, same_names, IsMoved}
 use Rattle.zeb_change.proofs.TakenLemmas.{PutAs, insert_taken, replace_taken, withdraw_taken}
 
@@ -18,18 +17,6 @@ none_rise = tt
 
 not_full : (numbers last : ℕ) → last < numbers → nat_le numbers last ≡ false
 not_full numbers last = grind (arith, nat_tests)
-
--- the record that the database keeps is one, under this identifier
-pub elder_kept : (profile : List Directive) (ident : List ℕ) (base : Base) (elder : Elder) → IsBase profile base → IsElderAs ident base (Some elder)
-    → IsKept profile (record { sysno = 0; ident = ident; bytes = elder.bytes.items })
-elder_kept profile ident base elder is there =
-    let found = kept_found ident base there.0 there.1 in
-    let sound = is.sound there.0 (contains_had base.records there.0 found.0) in
-    record {
-      whole = subst (λ (bytes : List ℕ). first_fault bytes ≡ None) there.3 sound.whole;
-      named = subst (λ (bytes : List ℕ). ident_in profile bytes ≡ Ok ident) there.3 (sound.named ∙ ap Ok found.1);
-      text = subst IsUtf8 found.1 sound.text;
-    }
 
 module _ (format : Format) (stays : (old new : Trees) (content : Content) → KeepsRegisters old new → holds_in format old content → holds_in format new content)
     (profile : List Directive) (id : ℤ) (records_of : ℤ → List Kept) (old mid : State) (pending pending' : Pending) (base : Base) (under : WillBe format profile id records_of (standing old pending) base) (ident : List ℕ) where

@@ -1,12 +1,12 @@
 -- What is noted is written in runs of keys: that is what all keys come to as one run, and the registers hold what they would have held then.
-use Rattle.zeb_change.proofs.Cited.{◌≡◌, ◌∙◌, ◌++◌, ℕ, ℤ, List, [], ◌∷◌, Result, Ok, Err, OnOk, map, sym, subst, inl, inr, AllZip, Has, all_from, has_left, has_mapped, has_right, State, Trees, Int, Key, key_order, RegFault, Work, AreListChanges, OldsRise, Content, Format, holds_in, IsStore, KeepsMalformed, KeepsRowsBeside, registers_rise, with_list, KeyNotes, Pending, IsNothingNoted, LeadsList, Settles, IsSettled, IsDueFor, WillHold, notes_at}
+use Rattle.zeb_change.proofs.Cited.{◌≡◌, ◌∙◌, ◌++◌, ℕ, ℤ, List, [], ◌∷◌, Result, Ok, Err, OnOk, map, sym, subst, inl, inr, AllZip, Has, all_from, has_left, has_mapped, has_right, State, Trees, Int, Key, key_order, RegFault, Work, AreListChanges, OldsRise, Content, Format, holds_in, IsStore, KeepsRowsBeside, keeps_malformed, registers_rise, with_list, KeyNotes, Pending, IsNothingNoted, LeadsList, Settles, IsSettled, IsDueFor, WillHold, notes_at}
 use Rattle.std.specs.List.Sorted.{IsStrictlySortedBy}
 use Rattle.zeb_register.specs.declared.faults.RegFault.TheVariants.{Damaged, Memory}
-use Rattle.zeb_register.specs.declared.registers.KeyChanges.{KeyChanges}
 use Rattle.zeb_register.specs.Answers.{IfDamaged}
 use Rattle.zeb_register.specs.Clauses.{InStore}
 use Rattle.zeb_register.specs.RunChanges.{AreChangedBy, ChangesKeys, IsOfRun, KeysRise, run_key}
-use Rattle.zeb_register.proofs.AlikeRows.{AreAlike, allows_alike}
+use Rattle.zeb_register.specs.declared.registers.KeyChanges.{KeyChanges}
+use Rattle.zeb_register.proofs.AlikeRows.{allows_alike, are_alike}
 use Rattle.zeb_register.proofs.ListChanges.{content_changed}
 use Rattle.zeb_register.proofs.RunLaws.{beside_database, run_beside, run_held, run_malformed}
 use Rattle.zeb_register.proofs.RunRows.{beside_alike, rows_beside}
@@ -81,7 +81,7 @@ module _ (format : Format) (db : ℤ) where
         given = it.given;
         rising = rise;
         stored = it.stored;
-        refused = λ were are allows. it.refused were are (allows_alike db it.one.key.now old mid alike format it.one.changes.now were are allows);
+        refused = λ were are allows. it.refused were are (allows_alike format db it.one.key.now old mid alike it.one.changes.now were are allows);
       }
         where
           apart : ¬ IsOfRun one.run it.one.key.now
@@ -89,8 +89,8 @@ module _ (format : Format) (db : ℤ) where
               let from = zip_right IsGivenOf front one.run one.given of.0 of.1 in
               keys_apart_by key_noted front back rise from.0 it.entry from.1 it.there (sym it.given.key ∙ sym of.2 ∙ from.2.key)
 
-          alike : AreAlike db it.one.key.now old mid
-          alike = beside_alike db one.run it.one.key.now old mid apart (rows_beside format db one.run old mid one.puts.rows)
+          alike : are_alike format db it.one.key.now old mid
+          alike = beside_alike format db one.run it.one.key.now old mid apart (rows_beside format db one.run old mid one.puts.rows)
 
       pub then_written : (new : Trees) (result : Result (Unit {0}) RegFault) → WritesNotes format db back mid new result → WritesNotes format db (front ++ back) old new result
       then_written new (Ok done) two = both_put new two
@@ -174,11 +174,11 @@ module _ (format : Format) (db : ℤ) (before : Pending) (s t : State) where
       lacking (Ok done) it told ahead will = absurd (cc)
       lacking (Err fault) it told ahead will = not_lacking format db before s.now.trees ahead will (it.1 (let e : fault ≡ Damaged = cc in e))
 
-  pub settled_malformed : (result : Result (Unit {0}) RegFault) → Writes result → InStore s t (λ trees. OnOk result (KeepsMalformed trees t.now.trees))
+  pub settled_malformed : (result : Result (Unit {0}) RegFault) → Writes result → InStore s t (λ trees. OnOk result (keeps_malformed format trees t.now.trees))
   settled_malformed (Ok done) writes clean mode store = let it = (writes clean mode store).1 in run_malformed format db it.run s.now.trees t.now.trees it.rising it.puts
   settled_malformed (Err fault) writes clean mode store = tt
 
   pub settled_beside : (result : Result (Unit {0}) RegFault) → Writes result → InStore s t (λ trees. OnOk result (KeepsRowsBeside (Int db ∷ []) trees t.now.trees))
   settled_beside (Ok done) writes clean mode store =
-      let it = (writes clean mode store).1 in beside_database db it.run s.now.trees t.now.trees (run_beside format db it.run s.now.trees t.now.trees it.puts)
+      let it = (writes clean mode store).1 in beside_database format db it.run s.now.trees t.now.trees (run_beside format db it.run s.now.trees t.now.trees it.puts)
   settled_beside (Err fault) writes clean mode store = tt

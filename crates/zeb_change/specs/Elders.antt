@@ -8,7 +8,8 @@ use Rattle.zeb_marc.specs.declared.faults.MarcFault.{MarcFault}
 use Rattle.zeb_marc.specs.Records.{first_fault}
 use Rattle.zeb_marc.specs.Splits.{Split}
 use Rattle.zeb_profile.specs.declared.directives.Directive.{Directive}
-use Rattle.zeb_register.specs.Sound.{KeepsMalformed, KeepsRowsBeside}
+use Rattle.zeb_register.specs.Formats.{Format}
+use Rattle.zeb_register.specs.Sound.{KeepsRowsBeside, keeps_malformed}
 use Rattle.zeb_register.specs.Store.{HasRecord, IsStore}
 use Rattle.zeb_change.specs.declared.refusals.Refusal.{Refusal}
 use Rattle.zeb_change.specs.declared.refusals.Refusal.TheVariants.{Damaged}
@@ -89,13 +90,13 @@ KeepsAside db old new = (other sysno : ℤ) (ident bytes : List ℕ) → other �
     → HasRecord new other sysno ident bytes ↔ HasRecord old other sysno ident bytes
 
 -- What an accepted change of a database does to any tables, and each part of it: only whole records are lost up to the last number, which
--- doesn't fall; no record and no row of the registers is touched of another database, and no text and no row of the databases; and no
--- malformed row of the packed registers is taken out or altered.
-pub record PassesOn (profile : List Directive) (db : ℤ) (last after : ℕ) (old new : State) : Type 0 where
+-- doesn't fall; no record and no row of the registers is touched of another database, and no text and no row of the databases; and what is
+-- malformed in the packed registers is so still, each such row as it was.
+pub record PassesOn (format : Format) (profile : List Directive) (db : ℤ) (last after : ℕ) (old new : State) : Type 0 where
   pub store : IsStore new
   pub rises : last ≤ after
   pub each : LosesWholeAlone profile last db old.now.trees new.now.trees
   pub aside : KeepsAside db old.now.trees new.now.trees
   pub beside : KeepsRowsBeside (Int db ∷ []) old.now.trees new.now.trees
   pub names : KeepsNames old new
-  pub malformed : KeepsMalformed old.now.trees new.now.trees
+  pub malformed : keeps_malformed format old.now.trees new.now.trees

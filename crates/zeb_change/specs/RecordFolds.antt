@@ -6,7 +6,7 @@ use Rattle.zeb_marc.specs.declared.faults.MarcFault.{MarcFault}
 use Rattle.zeb_marc.specs.Splits.{Split}
 use Rattle.zeb_register.specs.Content.{Content, IsStorable}
 use Rattle.zeb_register.specs.Formats.{Format}
-use Rattle.zeb_register.specs.Sound.{KeepsMalformed, KeepsRowsBeside}
+use Rattle.zeb_register.specs.Sound.{KeepsRowsBeside, keeps_malformed}
 use Rattle.zeb_register.specs.Store.{KeepsLists}
 use Rattle.zeb_change.specs.declared.files.Fold.{Fold}
 use Rattle.zeb_change.specs.declared.pending.Pending.{Pending}
@@ -51,7 +51,7 @@ pub record SettlesNotes (format : Format) (row_work : ℕ) (db : ℤ) (old new :
   pub store : AreStores new.tables
   pub lists : KeepsLists old.tables.trees new.tables.trees
   pub beside : KeepsRowsBeside (Int db ∷ []) old.tables.trees new.tables.trees
-  pub malformed : KeepsMalformed old.tables.trees new.tables.trees
+  pub malformed : keeps_malformed format old.tables.trees new.tables.trees
   pub holds : (ahead : Content) → IsStorable ahead → WillHold format old.tables.trees db old.pending ahead
       → WillHold format new.tables.trees db new.pending ahead
       × IsDueFor row_work 0 old.fold.progress.work new.fold.progress.work old.pending new.pending

@@ -101,7 +101,7 @@ pub fn an_accepted_fold_passes_on<S: Alter>(old: &Connection<S>, new: &Connectio
         → IsStore (state S.Store old.now)
         → FoldsFiles setting format row_work db splits
         (state S.Store old.now).now (state S.Store new.now).now first last (Ok tt)
-        → PassesOn setting.profile.now db first.progress.last last.progress.last
+        → PassesOn format setting.profile.now db first.progress.last last.progress.last
         (state S.Store old.now) (state S.Store new.now) }
     ensures named { (setting : Setting) (format : Format) (row_work : ℕ) (db : ℤ)
         (splits : List Split) (first last : Fold)

@@ -8,7 +8,7 @@ ghost use Rattle.sqlite.specs.Held.{state};
 ghost use Rattle.zeb_keys.specs.Order.{key_order};
 ghost use Rattle.zeb_register.specs.Calls.{GoesOn, Inside};
 ghost use Rattle.zeb_register.specs.Clauses.{InStore};
-ghost use Rattle.zeb_register.specs.Sound.{KeepsMalformed, KeepsRowsBeside};
+ghost use Rattle.zeb_register.specs.Sound.{KeepsRowsBeside, keeps_malformed};
 ghost use Rattle.zeb_register.specs.UnitChanges.{NumbersRise};
 ghost use Rattle.zeb_change.specs.declared.key_notes.KeyNotes.{KeyNotes};
 ghost use Rattle.zeb_change.specs.Costs.{IsWorkFor};
@@ -175,7 +175,7 @@ pub fn write_pending<S: Alter, L: Layout>(
     ensures all { OnOk result (IsNothingNoted pending.new) }
     ensures malformed { InStore (state S.Store tx.old.conn.now) (state S.Store tx.new.conn.now)
         (λ trees. OnOk result
-        (KeepsMalformed trees (state S.Store tx.new.conn.now).now.trees)) }
+        (keeps_malformed L.format trees (state S.Store tx.new.conn.now).now.trees)) }
     ensures beside { InStore (state S.Store tx.old.conn.now) (state S.Store tx.new.conn.now)
         (λ trees. OnOk result
         (KeepsRowsBeside (Int db.0 ∷ []) trees (state S.Store tx.new.conn.now).now.trees)) }
@@ -199,7 +199,7 @@ pub fn write_where_full<S: Alter, L: Layout>(
         work.old work.new result }
     ensures malformed { InStore (state S.Store tx.old.conn.now) (state S.Store tx.new.conn.now)
         (λ trees. OnOk result
-        (KeepsMalformed trees (state S.Store tx.new.conn.now).now.trees)) }
+        (keeps_malformed L.format trees (state S.Store tx.new.conn.now).now.trees)) }
     ensures beside { InStore (state S.Store tx.old.conn.now) (state S.Store tx.new.conn.now)
         (λ trees. OnOk result
         (KeepsRowsBeside (Int db.0 ∷ []) trees (state S.Store tx.new.conn.now).now.trees)) }

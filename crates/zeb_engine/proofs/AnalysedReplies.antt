@@ -1,9 +1,7 @@
 -- Files that are analysed one after the other: the lines are those of a reply to the analysis of all, and a refusal stays.
-use Rattle.zeb_engine.proofs.Cited.{◌≡◌, ◌⊎◌, ◌∙◌, ◌<◌, ◌^◌, ◌∷◌, ◌++◌, [], ℕ, List, Result, Ok, Err, inl, inr, refl, sym, ap, arith, flat_map, length, length-map, map, string_bytes, Directive, index_names, AnalysedLines, AnalysisFault, AreLines, GivesLines, HasLines, IsAnalysed, Refusal, Reply, analysed, analysis_refusal, few_analyses, refused, refused_still, reply_answer, record_lines, Vec, why_of}
-use Rattle.std.specs.declared.alloc.Global.{Global}
+use Rattle.zeb_engine.proofs.Cited.{◌≡◌, ◌⊎◌, ◌∙◌, ◌<◌, ◌^◌, ◌∷◌, ◌++◌, [], ℕ, List, Result, Ok, Err, inl, inr, refl, sym, ap, arith, flat_map, length, length-map, map, string_bytes, Directive, index_names, AnalysedLines, AnalysisFault, AreLines, GivesLines, HasLines, IsAnalysed, Refusal, Reply, analysed, analysis_refusal, few_analyses, refused, refused_still, reply_answer, record_lines, Vec, why_of, Global, reply_text}
 use Rattle.zeb_analysis.specs.Analysing as analysing
 use Rattle.zeb_change.specs.declared.refusals.Refusal.TheVariants as refusal
-use Rattle.zeb_engine.specs.Replies.{reply_text}
 use Rattle.zeb_engine.specs.declared.replies.Reply.TheVariants.{Analysed}
 use Rattle.zeb_engine.proofs.AnalysisRefusals.{fault_told}
 

@@ -9,16 +9,5 @@ refusal_of_texts profile limit texts fault is =
     refusal_at_place profile limit texts it.before it.standing fault it.there it.refused
 
 pub fault_of_text : (fault : MarcFault) → fault ≢ marc.ReadFault → IsOfText (Some fault)
-fault_of_text marc.LengthDigits is = tt
-fault_of_text marc.LengthRange is = tt
-fault_of_text marc.Truncated is = tt
-fault_of_text marc.NoTerminator is = tt
-fault_of_text marc.LeaderCounts is = tt
-fault_of_text marc.BaseAddress is = tt
-fault_of_text marc.DirectoryLength is = tt
-fault_of_text marc.EntryDigits is = tt
-fault_of_text marc.EntryTag is = tt
-fault_of_text marc.EntryRange is = tt
-fault_of_text marc.FieldEnd is = tt
-fault_of_text marc.TooManySeparators is = tt
 fault_of_text marc.ReadFault is = absurd (is refl)
+fault_of_text _ is = tt

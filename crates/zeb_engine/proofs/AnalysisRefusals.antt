@@ -14,14 +14,10 @@ module _ (profile : List Directive) (limit : ℕ) (texts : List (List ℕ)) wher
   -- by what the files hold, or by want of memory
   pub fault_told : (fault : AnalysisFault) → (fault ≢ analysis.Memory → AnalysesTo profile limit texts (Err fault))
       → IsAnalysed profile limit texts (refused (why_of (analysis_refusal fault))) ⊎ ◌≡◌ {A = Result Reply Refusal} (Err (analysis_refusal fault)) (Err refusal.Memory)
-  fault_told (analysis.Marc place fault) said = inl (Err (analysis.Marc place fault), said (λ is. cc), refl)
-  fault_told (analysis.Ident place fault) said = inl (Err (analysis.Ident place fault), said (λ is. cc), refl)
-  fault_told analysis.TooManyRecords said = inl (Err analysis.TooManyRecords, said (λ is. cc), refl)
   fault_told analysis.Memory said = inr refl
+  fault_told fault said = inl (Err fault, said (λ is. cc), refl)
 
   pub fault_unread : (fault : AnalysisFault) → (fault ≢ analysis.Memory → AnalysesTo profile limit texts (Err fault)) → (file : ℕ)
       → ◌≡◌ {A = Result Reply Refusal} (Err (analysis_refusal fault)) (Err (refusal.ReadFault file)) → ⊥
-  fault_unread (analysis.Marc place fault) said = own_unread (analysis.Marc place fault) (refusal_of_texts profile limit texts (analysis.Marc place fault) (said (λ is. cc)))
-  fault_unread (analysis.Ident place fault) said = own_unread (analysis.Ident place fault) (refusal_of_texts profile limit texts (analysis.Ident place fault) (said (λ is. cc)))
-  fault_unread analysis.TooManyRecords said = own_unread analysis.TooManyRecords (refusal_of_texts profile limit texts analysis.TooManyRecords (said (λ is. cc)))
   fault_unread analysis.Memory said = λ file is. cc
+  fault_unread fault said = own_unread fault (refusal_of_texts profile limit texts fault (said (λ is. cc)))

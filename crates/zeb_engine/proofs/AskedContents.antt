@@ -1,10 +1,8 @@
 -- Commands that ask, on tables that hold a content: what is said of any tables is then the answer by the registers alone, and the reason
 -- why a find is refused.
-use Rattle.zeb_engine.proofs.Cited.{◌≡◌, ◌⊎◌, ◌+◌, ◌-◌, ℕ, ℤ, List, [], Result, Ok, Err, refl, inl, inr, Trees, State, Directive, PlanRefusal, PlanValue, ScanValue, plan_of, scan_of, TermCount, Content, IsStorable, posted, Format, holds_in, IsStore, has_ident_in, HasDatabase, IsReadable, PlanFinds, PlanHides, Refusal, Damaged, why_of, Why, diagnostic, Reply, Alone, IsAsked, IsSaid, IsSaidOrMissed, OfDatabase, TellsUnlessHidden, Answer, IsFailure, no_database, refused, reply_answer, AreAround, FindOver, FindSays, FindTells, HidesFind, HidesFound, HidesOf, HidesPlan, RefusedAlone, RefusesFind, MeetsDamage, IsPlanOf, IsPlanned, IsPlannedBy, ScanOver, ScanSays, ScanTells, HidesTerms, TellsAround, IsScanPlanned, IsScanPlannedBy, StatOver, StatSays, StatTells, HidesRegisters, IsExtent, IsSummedUp, Target, target_list, Extent}
+use Rattle.zeb_engine.proofs.Cited.{◌≡◌, ◌⊎◌, ◌+◌, ◌-◌, ℕ, ℤ, List, [], Result, Ok, Err, refl, inl, inr, Trees, State, Directive, PlanRefusal, PlanValue, ScanValue, plan_of, scan_of, TermCount, Content, IsStorable, posted, Format, holds_in, IsStore, has_ident_in, HasDatabase, IsReadable, PlanFinds, PlanHides, Refusal, Damaged, why_of, Why, diagnostic, Reply, Alone, IsAsked, IsSaid, IsSaidOrMissed, OfDatabase, TellsUnlessHidden, Answer, IsFailure, no_database, refused, reply_answer, AreAround, FindOver, FindSays, FindTells, HidesFind, HidesFound, HidesOf, HidesPlan, RefusedAlone, RefusesFind, MeetsDamage, IsPlanOf, IsPlanned, IsPlannedBy, ScanOver, ScanSays, ScanTells, HidesTerms, TellsAround, IsScanPlanned, IsScanPlannedBy, StatOver, StatSays, StatTells, HidesRegisters, IsExtent, IsSummedUp, Target, target_list, Extent, before_held, from_held, totals_held, plan_held, plan_shown}
 use Rattle.zeb_engine.specs.declared.replies.Reply.TheVariants as reply
 use Rattle.zeb_query.proofs.PlanNumbers.{plan_numbers}
-use Rattle.zeb_register.proofs.CountLists.{before_held, from_held, totals_held}
-use Rattle.zeb_search.proofs.PlanLaws.{plan_held, plan_shown}
 use Rattle.zeb_engine.proofs.FindRefusals.{asked_small}
 use Rattle.zeb_engine.proofs.ScanAnswers.{around_lists}
 use Rattle.zeb_engine.proofs.StatAnswers.{paired_so}
@@ -13,21 +11,11 @@ use Rattle.zeb_engine.proofs.StatAnswers.{paired_so}
 
 reply_never : (it : Reply) (why : Why) → reply_answer it ≡ refused why → ⊥
 reply_never reply.Done why is = cc
-reply_never (reply.Changed inserted updated deleted) why is = cc
-reply_never (reply.Found hits shown) why is = cc
-reply_never (reply.Scanned register entries) why is = cc
-reply_never (reply.Counted records last holdings) why is = cc
-reply_never (reply.Dumped bytes) why is = cc
-reply_never (reply.Analysed names records) why is = cc
+reply_never _ why is = cc
 
 reply_fails : (it : Reply) → IsFailure (reply_answer it) → ⊥
 reply_fails reply.Done failed = failed
-reply_fails (reply.Changed inserted updated deleted) failed = failed
-reply_fails (reply.Found hits shown) failed = failed
-reply_fails (reply.Scanned register entries) failed = failed
-reply_fails (reply.Counted records last holdings) failed = failed
-reply_fails (reply.Dumped bytes) failed = failed
-reply_fails (reply.Analysed names records) failed = failed
+reply_fails _ failed = failed
 
 -- so an accepted command tells of the database of the name
 module _ (Tells : Trees → OfDatabase) (name : List ℕ) (Hides : Trees → Type 0) (trees : Trees) (it : Reply) where
@@ -88,27 +76,24 @@ module _ (format : Format) (profile : List Directive) (name : List ℕ) (s : Sta
   pub stat_alone : (result : Result Reply Refusal) → (IsStore s → TellsUnlessHidden (StatOver format profile name) (HidesRegisters format profile name) s.now.trees result) → Alone format (StatSays profile) name s result
   stat_alone (Err why) told store content holds = tt
   stat_alone (Ok it) told store content holds =
-      let trees = s.now.trees in
-      let said = said_ok (λ t. StatTells format profile t) name (HidesRegisters format profile name) trees it (told store) in
-      (said.0, said.1, said.2, stat_content format trees content holds said.0 profile said.1 (reply_answer it) said.3)
+      let said = said_ok (λ t. StatTells format profile t) name (HidesRegisters format profile name) s.now.trees it (told store) in
+      (said.0, said.1, said.2, stat_content format s.now.trees content holds said.0 profile said.1 (reply_answer it) said.3)
 
   pub find_alone : (text : List ℕ) (first count : ℕ) (result : Result Reply Refusal)
       → (IsStore s → TellsUnlessHidden (FindOver format profile name text first count) (HidesFind format profile name text first count) s.now.trees result)
       → Alone format (FindSays profile text first count) name s result
   find_alone text first count (Err why) told store content holds = tt
   find_alone text first count (Ok it) told store content holds =
-      let trees = s.now.trees in
-      let said = asked_ok (λ t. FindTells format profile text first count t) name (HidesFind format profile name text first count) trees it text (told store) in
-      (said.0, said.1, said.2, find_content format trees content holds said.0 profile text first count (reply_answer it) said.1 said.3)
+      let said = asked_ok (λ t. FindTells format profile text first count t) name (HidesFind format profile name text first count) s.now.trees it text (told store) in
+      (said.0, said.1, said.2, find_content format s.now.trees content holds said.0 profile text first count (reply_answer it) said.1 said.3)
 
   pub scan_alone : (text : List ℕ) (number position : ℕ) (result : Result Reply Refusal)
       → (IsStore s → TellsUnlessHidden (ScanOver format profile name text number position) (HidesTerms format profile name text number position) s.now.trees result)
       → Alone format (ScanSays profile text number position) name s result
   scan_alone text number position (Err why) told store content holds = tt
   scan_alone text number position (Ok it) told store content holds =
-      let trees = s.now.trees in
-      let said = asked_ok (λ t. ScanTells format profile text number position t) name (HidesTerms format profile name text number position) trees it text (told store) in
-      (said.0, said.1, said.2, scan_content format trees content holds said.0 profile text number position (reply_answer it) said.1 said.3)
+      let said = asked_ok (λ t. ScanTells format profile text number position t) name (HidesTerms format profile name text number position) s.now.trees it text (told store) in
+      (said.0, said.1, said.2, scan_content format s.now.trees content holds said.0 profile text number position (reply_answer it) said.1 said.3)
 
 -- ---- why a find is refused
 

@@ -1,7 +1,5 @@
 -- What a command has done that asks of a database behind a look which found the register ready: by the one relation of its call.
-use Rattle.zeb_engine.proofs.Cited.{◌≡◌, ◌⊎◌, ◌∙◌, ◌≤◌, ◌+◌, ◌*◌, ℕ, List, Result, Ok, IfErr, OnOk, String, string_bytes, refl, sym, ap, subst, inl, inr, Global, Ghosts, Held, state, HasCleanDisk, Posting, Work, Directive, IsProfile, Format, version_of, IsStore, clean_before, Refusal, Reply, DbName, name_bytes, Answer, answer_of, IsFailure, TellsUnlessHidden, Conditions, conditions, Limits, AreSessions, Holdings, Base, IsImage, AskedFrom, AskedAmong, CountedFrom, dumped_from, OnlyAnswers, FindAnswers, ScanAnswers, ServesBy, Dump, Find, Scan, Stat, FindOver, FindReads, FindSays, HidesFind, RefusesFind, ScanOver, ScanReads, ScanSays, HidesTerms, StatOver, StatSays, HidesRegisters, DumpOver, HidesRecords, PlanValue, IsPlanOf, PlanReads, CountsAtMost, IsAskRefusal, LooksReady, ReadsAlone, TellsReady, CommandDone, no_work}
-use Rattle.zeb_engine.specs.Steps.{ready}
-use Rattle.zeb_register.specs.Clauses.{OnStore}
+use Rattle.zeb_engine.proofs.Cited.{◌≡◌, ◌⊎◌, ◌∙◌, ◌≤◌, ◌+◌, ◌*◌, ℕ, List, Result, Ok, IfErr, OnOk, String, string_bytes, refl, sym, ap, subst, inl, inr, Global, Ghosts, Held, state, HasCleanDisk, Posting, Work, Directive, IsProfile, Format, version_of, IsStore, clean_before, Refusal, Reply, DbName, name_bytes, Answer, answer_of, IsFailure, TellsUnlessHidden, Conditions, conditions, Limits, AreSessions, Holdings, Base, IsImage, AskedFrom, AskedAmong, CountedFrom, dumped_from, OnlyAnswers, FindAnswers, ScanAnswers, ServesBy, Dump, Find, Scan, Stat, FindOver, FindReads, FindSays, HidesFind, RefusesFind, ScanOver, ScanReads, ScanSays, HidesTerms, StatOver, StatSays, HidesRegisters, DumpOver, HidesRecords, PlanValue, IsPlanOf, PlanReads, CountsAtMost, IsAskRefusal, LooksReady, ReadsAlone, TellsReady, CommandDone, no_work, ready, OnStore}
 use Rattle.zeb_engine.proofs.AskedContents.{find_alone, find_refused, scan_alone, stat_alone}
 use Rattle.zeb_engine.proofs.AskedImages.{dump_image, find_image, scan_image, stat_image}
 use Rattle.zeb_engine.proofs.AskedReads.{told_after}

@@ -1,12 +1,7 @@
 -- Commands that ask, on tables that are the image of what is held: what is said of any tables is then the answer of the definition.
-use Rattle.zeb_engine.proofs.Cited.{◌≡◌, ◌⊎◌, ◌∙◌, ℕ, ℤ, pos, List, Option, Some, None, Result, Ok, refl, sym, ap, ap₂, subst, subst₂, inl, inr, IsUtf8, arith, nat_cmp_total, on_total, Trees, Has, has_contained, contains_had, Directive, PlanValue, plan_of, scan_of, HasDatabase, HasRecord, AreReadable, Format, has_ident_in, same_list, one_number, base_numbered, named_there, Holdings, Base, Kept, base_named, IsImage, Conditions, AreSessions, occurs, posted, has_name, Refusal, Reply, Answer, answer_of, dumped, IsFailure, IsAsked, IsSaidOrMissed, OfDatabase, HidesOf, TellsUnlessHidden, AskedAmong, AskedIn, dumped_in, DumpOver, DumpTells, HidesRecords, StatAnswers, StatOver, StatTells, HidesRegister, HidesRegisters, IsExtent, IsSummedUp, Target, Extent, target_list, FindAnswers, FindOver, FindTells, HidesFind, HidesPlan, HidesFound, PlanHides, ScanAnswers, ScanOver, ScanTells, HidesTerms, HidesPlanned}
+use Rattle.zeb_engine.proofs.Cited.{◌≡◌, ◌⊎◌, ◌∙◌, ℕ, ℤ, pos, List, Option, Some, None, Result, Ok, refl, sym, ap, ap₂, subst, subst₂, inl, inr, IsUtf8, arith, nat_cmp_total, on_total, Trees, Has, has_contained, contains_had, Directive, PlanValue, plan_of, scan_of, HasDatabase, HasRecord, AreReadable, Format, has_ident_in, same_list, one_number, base_numbered, named_there, Holdings, Base, Kept, base_named, IsImage, Conditions, AreSessions, occurs, posted, has_name, Refusal, Reply, Answer, answer_of, dumped, IsFailure, IsAsked, IsSaidOrMissed, OfDatabase, HidesOf, TellsUnlessHidden, AskedAmong, AskedIn, dumped_in, DumpOver, DumpTells, HidesRecords, StatAnswers, StatOver, StatTells, HidesRegister, HidesRegisters, IsExtent, IsSummedUp, Target, Extent, target_list, FindAnswers, FindOver, FindTells, HidesFind, HidesPlan, HidesFound, PlanHides, ScanAnswers, ScanOver, ScanTells, HidesTerms, HidesPlanned, AreRecordsOf, ready, key_in, held_shows, plan_held, plan_shown}
 use Rattle.zeb_engine.specs.Answers.{counted}
-use Rattle.zeb_engine.specs.Dumping.{AreRecordsOf}
-use Rattle.zeb_engine.specs.Steps.{ready}
-use Rattle.zeb_register.specs.Occurring.{key_in}
-use Rattle.zeb_register.proofs.CountLists.{held_shows}
 use Rattle.zeb_register.proofs.KeyLists.{held_whole, whole_sound}
-use Rattle.zeb_search.proofs.PlanLaws.{plan_held, plan_shown}
 use Rattle.zeb_engine.proofs.AskedContents.{extent_content, find_content, scan_content}
 use Rattle.zeb_engine.proofs.DatabasesOfImages.{IsHeld, base_held, kept_as_named, named_as_kept}
 use Rattle.zeb_engine.proofs.DumpAnswers.{as_many, bytes_in}
@@ -63,12 +58,9 @@ module _ (format : Format) (profile : List Directive) (trees : Trees) (id : ℤ)
 
   stat_shown : ¬ HidesRegister format (target_list profile) trees id
   stat_shown hidden =
-      let index = hidden.0.0 in
-      let register = hidden.0.1 in
-      let bad = hidden.2 in
-      elim bad.1 [
-        | inl uncounted ↦ held_shows format trees id index register held.content held.held held.storable bad.0 uncounted
-        | inr malformed ↦ (let key = key_in index register bad.0 in whole_sound format trees id key (held_whole format trees held.content held.held id key) malformed.1)
+      elim hidden.2.1 [
+        | inl uncounted ↦ held_shows format trees id hidden.0.0 hidden.0.1 held.content held.held held.storable hidden.2.0 uncounted
+        | inr malformed ↦ (let key = key_in hidden.0.0 hidden.0.1 hidden.2.0 in whole_sound format trees id key (held_whole format trees held.content held.held id key) malformed.1)
       ]
 
   module _ (text : List ℕ) (first count : ℕ) where
@@ -84,8 +76,7 @@ module _ (format : Format) (profile : List Directive) (trees : Trees) (id : ℤ)
     plan_hidden : (plan : PlanValue) → ¬ (PlanHides format trees id plan ⊎ HidesFound format trees id plan first count)
     plan_hidden plan (inl hides) = plan_shown format trees id held.content held.held held.storable plan (idents_readable format profile trees id base held plan) hides
     plan_hidden plan (inr found) =
-        let are = plan_held format trees id held.content held.held plan found.0 found.2 in
-        let each = asked_kept format profile trees id base held plan found.0 found.1 first count are found.3 in
+        let each = asked_kept format profile trees id base held plan found.0 found.1 first count (plan_held format trees id held.content held.held plan found.0 found.2) found.3 in
         let hidden = found.4 (λ n there. (each n there).1) in
         hidden.2 (each hidden.0 hidden.1).0
 
@@ -100,8 +91,7 @@ module _ (format : Format) (profile : List Directive) (trees : Trees) (id : ℤ)
 
     scan_shown : ¬ HidesPlanned format profile text number position trees id
     scan_shown hidden =
-        let plan = hidden.0 in
-        let never = held_shows format trees id plan.index plan.register held.content held.held held.storable in
+        let never = held_shows format trees id hidden.0.index hidden.0.register held.content held.held held.storable in
         elim hidden.2 [ inl before ↦ never before.term before.hidden | inr behind ↦ never behind.term behind.hidden ]
 
 -- ---- the database of a name
@@ -114,9 +104,8 @@ module _ (format : Format) (c : Conditions) (session : AreSessions format c) (tr
   row_held : (id last : ℤ) → HasDatabase trees id name last → (base : Base) × (base_named name bases ≡ Some base) × IsHeld format c.profile trees id base × (last ≡ pos base.last)
   row_held id last row =
       let found = (at.image.lists.listed id name last).0 row in
-      let base = found.0 in
-      let named = subst (λ n. base_named n bases ≡ Some base) (sym found.3) (named_there bases base at.are.rising (has_contained bases base found.1)) in
-      (base, named, base_held format c.profile trees bases at.are at.image id base found.1 (subst₂ (λ (n : List ℕ) (l : ℤ). HasDatabase trees id n l) found.3 found.4 row), found.4)
+      let named = subst (λ n. base_named n bases ≡ Some found.0) (sym found.3) (named_there bases found.0 at.are.rising (has_contained bases found.0 found.1)) in
+      (found.0, named, base_held format c.profile trees bases at.are at.image id found.0 found.1 (subst₂ (λ (n : List ℕ) (l : ℤ). HasDatabase trees id n l) found.3 found.4 row), found.4)
 
   said_held : (Tells : OfDatabase) (Says : Base → Answer → Type 0) (answer : Answer) → ((id : ℤ) (base : Base) → IsHeld format c.profile trees id base → Tells id (pos base.last) answer → Says base answer)
       → IsSaidOrMissed Tells name trees answer → AskedIn Says name (base_named name bases) answer

@@ -1,15 +1,13 @@
 -- What the tables know of a name, and the database that a change begins with.
-use Rattle.zeb_engine.proofs.Cited.{◌≡◌, ◌≢◌, ℕ, pos, List, Option, Some, None, Ok, Err, refl, subst, State, HasDatabase, Kind, Update, Delete, Adelete, BeginsWith, MayBeginUnder, Conditions, Holdings, Base, IsImage, no_database, start_of}
+use Rattle.zeb_engine.proofs.Cited.{◌≡◌, ◌≢◌, ℕ, pos, List, Option, Some, None, Ok, Err, refl, subst, State, HasDatabase, Kind, Update, BeginsWith, MayBeginUnder, Conditions, Holdings, Base, IsImage, no_database, start_of, ready}
 use Rattle.zeb_register.specs.declared.catalog.Database.{Database}
-use Rattle.zeb_engine.specs.Steps.{ready}
 use Rattle.zeb_engine.proofs.ListedDatabases.{none_named, row_named}
 use Rattle.zeb_engine.proofs.ReadyImages.{image_some}
 
 -- there is no database to begin with
 pub none_starts : (kind : Kind) (name : List ℕ) → kind ≢ Update → start_of kind name None ≡ Err (no_database name)
 none_starts Update name other = absurd (other refl)
-none_starts Delete name other = refl
-none_starts Adelete name other = refl
+none_starts _ name other = refl
 
 -- what the rows tell is told of the image
 pub may_begin : (c : Conditions) (s : State) (before : Holdings) (bases : List Base) → ready c before ≡ Ok bases → IsImage s.now.trees before → (kind : Kind) (name : List ℕ) (found : Option Database)

@@ -1,5 +1,5 @@
 -- What a change finds kept under the identifiers of its records, and what it leaves, step by step.
-use Rattle.zeb_engine.proofs.Cited.{◌≡◌, ◌≢◌, ◌↔◌, ◌⊎◌, ◌∙◌, ℕ, ℤ, pos, List, [], ◌∷◌, Option, Some, None, Result, Ok, Err, arith, inl, inr, refl, sym, subst, subst₂, flat_map, Int, Database, Row, State, Trees, Split, Directive, ChangesNothing, IsDatabaseOf, PutsDatabase, KeepsBeside, KeepsMalformed, KeepsRowsBeside, HasRow, Changes, HasDatabase, HasRecord, IsStore, blocks_tree, databases_tree, dict_tree, meta_tree, postings_tree, store_same, malformed_same, malformed_then, one_last, Refusal, Kind, Update, Limits, AllFindWhole, FirstFindsWhole, IsUpTo, KeepsAside, KeepsWhole, LosesWholeAlone, PassesOn, splits_of, LosesNamedAlone, NamesAny, passed_error, files_find, StaysOpen, AreFewRecords, EachFindsWhole, ElderOver, EldersOver, HasNumbersTo, IsOrBecomes, LeavesRows, LosesNamedOver, LosesWhole, BeginsWith, IsMissedFor, last_of}
+use Rattle.zeb_engine.proofs.Cited.{◌≡◌, ◌≢◌, ◌↔◌, ◌⊎◌, ◌∙◌, ℕ, ℤ, pos, List, [], ◌∷◌, Option, Some, None, Result, Ok, Err, arith, inl, inr, refl, sym, subst, subst₂, flat_map, Int, Database, Row, State, Trees, Split, Directive, Format, one_format, version_of, ChangesNothing, IsDatabaseOf, PutsDatabase, KeepsBeside, KeepsRowsBeside, keeps_malformed, HasRow, Changes, HasDatabase, HasRecord, IsStore, blocks_tree, databases_tree, dict_tree, meta_tree, postings_tree, store_same, malformed_same, malformed_then, one_last, Refusal, Kind, Update, Limits, AllFindWhole, FirstFindsWhole, IsUpTo, KeepsAside, KeepsWhole, LosesWholeAlone, PassesOn, splits_of, LosesNamedAlone, NamesAny, passed_error, files_find, StaysOpen, AreFewRecords, EachFindsWhole, ElderOver, EldersOver, HasNumbersTo, IsOrBecomes, LeavesRows, LosesNamedOver, LosesWhole, BeginsWith, IsMissedFor, last_of}
 use Rattle.zeb_register.specs.declared.catalog.Database as catalog
 use Rattle.zeb_engine.proofs.ChangeSteps.{kept_records, kept_registers, kept_texts}
 use Rattle.zeb_engine.proofs.OverTables.{IsFew}
@@ -84,9 +84,9 @@ module _ (profile : List Directive) where
 -- ---- what is kept after
 
 -- a database's row stands beside those of the registers
-put_malformed : (id : ℤ) (name : List ℕ) (last : ℤ) (old new : State) → Changes databases_tree (PutsDatabase id name last) old new → KeepsMalformed old.now.trees new.now.trees
-put_malformed id name last old new put =
-    malformed_same old.now.trees new.now.trees (put.others.1.1.1.1.0 (λ e. absurd (omega (arith, e)))) (put.others.1.1.1.1.1.0 (λ e. absurd (omega (arith, e))))
+put_malformed : (format : Format) (id : ℤ) (name : List ℕ) (last : ℤ) (old new : State) → Changes databases_tree (PutsDatabase id name last) old new → keeps_malformed format old.now.trees new.now.trees
+put_malformed format id name last old new put =
+    malformed_same format old.now.trees new.now.trees (put.others.1.1.1.1.0 (λ e. absurd (omega (arith, e)))) (put.others.1.1.1.1.1.0 (λ e. absurd (omega (arith, e))))
 
 -- a table of the registers that only rows of one database were changed of
 beside_still : (front : Row) (tree : ℕ) (old mid now new : Trees) → mid tree ≡ old tree → new tree ≡ now tree → KeepsBeside front tree mid now → KeepsBeside front tree old new
@@ -124,22 +124,22 @@ module _ (name : List ℕ) (id again : ℤ) (last after : ℕ) (old mid now new 
     own = put.own;
   }
 
-module _ (profile : List Directive) (kind : Kind) (name : List ℕ) (old mid now new : State) (id : ℤ) where
+module _ (format : Format) (profile : List Directive) (kind : Kind) (name : List ℕ) (old mid now new : State) (id : ℤ) where
   -- a part of a change goes by the rows of records alone
-  rows_pass : (last after : ℕ) → PassesOn profile id last after mid now → mid.now.trees 4 ≡ old.now.trees 4 → now.now.trees 4 ≡ new.now.trees 4
+  rows_pass : (last after : ℕ) → PassesOn format profile id last after mid now → mid.now.trees 4 ≡ old.now.trees 4 → now.now.trees 4 ≡ new.now.trees 4
       → LosesWholeAlone profile last id old.now.trees new.now.trees × KeepsAside id old.now.trees new.now.trees
   rows_pass last after passes before behind =
       subst₂ (λ (a b : List Row). LosesWholeAlone profile last id (λ tree. a) (λ tree. b) × KeepsAside id (λ tree. a) (λ tree. b)) before behind (passes.each, passes.aside)
 
   -- the row of its database is written before the records and after them
   pub put_leaves : (found : Option catalog.Database) (after : ℕ) → Changes databases_tree (PutsDatabase id name (pos (last_of found))) old mid → BeginsWith kind old.now.trees name found
-      → HasNumbersTo (last_of found) old.now.trees id → PassesOn profile id (last_of found) after mid now → (again : ℤ) → Changes databases_tree (PutsDatabase again name (pos after)) now new
-      → LeavesRows profile kind name old.now.trees new
+      → HasNumbersTo (last_of found) old.now.trees id → PassesOn format profile id (last_of found) after mid now → (again : ℤ) → Changes databases_tree (PutsDatabase again name (pos after)) now new
+      → LeavesRows (version_of format) profile kind name old.now.trees new
   put_leaves found after put is numbers passes again kept =
       let last = last_of found in
       let left = rows_pass last after passes (kept_records id name (pos last) old mid put) (sym (kept_records again name (pos after) now new kept)) in
-      let begun = put_malformed id name (pos last) old mid put in
-      let ended = put_malformed again name (pos after) now new kept in
+      let begun = put_malformed format id name (pos last) old mid put in
+      let ended = put_malformed format again name (pos after) now new kept in
       let before = kept_registers id name (pos last) old mid put in
       let behind = kept_registers again name (pos after) now new kept in
       record {
@@ -159,7 +159,8 @@ module _ (profile : List Directive) (kind : Kind) (name : List ℕ) (old mid now
           dict = beside_still (Int id ∷ []) dict_tree old.now.trees mid.now.trees now.now.trees new.now.trees before.2 behind.2 passes.beside.dict;
         };
         texts = kept_texts again name (pos after) now new kept ∙ passes.names.0 ∙ kept_texts id name (pos last) old mid put;
-        malformed = malformed_then old.now.trees mid.now.trees new.now.trees begun (malformed_then mid.now.trees now.now.trees new.now.trees passes.malformed ended);
+        malformed = λ other same. subst (λ (f : Format). keeps_malformed f old.now.trees new.now.trees) (one_format format other same)
+            (malformed_then format old.now.trees mid.now.trees new.now.trees begun (malformed_then format mid.now.trees now.now.trees new.now.trees passes.malformed ended));
       }
 
   -- what it has lost has identifiers of the files' records
@@ -173,8 +174,8 @@ module _ (profile : List Directive) (kind : Kind) (name : List ℕ) (old mid now
       (sym (put.rows.kept i l there)) (λ sysno ident bytes was. left sysno ident bytes was (up_to last old.now.trees id numbers sysno ident bytes was))
 
 -- of tables that a commit left as they were
-pub leaves_same : (profile : List Directive) (kind : Kind) (name : List ℕ) (old : Trees) (mid new : State) → new.now ≡ mid.now → LeavesRows profile kind name old mid → LeavesRows profile kind name old new
-leaves_same profile kind name old mid new same left = record {
+pub leaves_same : (version : List ℕ) (profile : List Directive) (kind : Kind) (name : List ℕ) (old : Trees) (mid new : State) → new.now ≡ mid.now → LeavesRows version profile kind name old mid → LeavesRows version profile kind name old new
+leaves_same version profile kind name old mid new same left = record {
   store = store_same mid new same left.store;
   id = left.id;
   last = left.last;
@@ -187,5 +188,5 @@ leaves_same profile kind name old mid new same left = record {
   aside = subst (λ (d : Database). KeepsAside left.id old d.trees) (sym same) left.aside;
   beside = subst (λ (d : Database). KeepsRowsBeside (Int left.id ∷ []) old d.trees) (sym same) left.beside;
   texts = subst (λ (d : Database). d.trees meta_tree ≡ old meta_tree) (sym same) left.texts;
-  malformed = subst (λ (d : Database). KeepsMalformed old d.trees) (sym same) left.malformed;
+  malformed = λ format is. subst (λ (d : Database). keeps_malformed format old d.trees) (sym same) (left.malformed format is);
 }

@@ -1,9 +1,7 @@
 -- A change of a database, from its first write to its last: what the tables hold on the way, and what the definition says of it.
-use Rattle.zeb_engine.proofs.Cited.{◌≡◌, ◌⊎◌, ◌∙◌, ℕ, ℤ, pos, List, Option, Some, None, Result, Ok, Err, refl, sym, ap, subst, inl, inr, arith, Contains, option_map, Trees, State, contains_had, Split, canonical_text, pattern_text, identifier_pattern, PutsDatabase, Content, IsStore, Changes, HasDatabase, KeepsRegisters, databases_tree, Fold, Kind, Refusal, Why, why_of, Meets, changed, refused, reply_answer, IsFailure, MayBeginUnder, last_of, Conditions, AreSessions, IsDatabaseName, Progress, at_first, files_folded, Holdings, new_base, base_named, Base, AreBases, HasTexts, IsImage, IsImageOf, start_of, IsFolded, IsUnderWay, named_found, Format, holds_in}
+use Rattle.zeb_engine.proofs.Cited.{◌≡◌, ◌⊎◌, ◌∙◌, ℕ, ℤ, pos, List, Option, Some, None, Result, Ok, Err, refl, sym, ap, subst, inl, inr, arith, Contains, option_map, Trees, State, contains_had, Split, canonical_text, pattern_text, identifier_pattern, PutsDatabase, Content, IsStore, Changes, HasDatabase, KeepsRegisters, databases_tree, Fold, Kind, Refusal, Why, why_of, Meets, changed, refused, reply_answer, IsFailure, MayBeginUnder, last_of, Conditions, AreSessions, IsDatabaseName, Progress, at_first, files_folded, Holdings, new_base, base_named, Base, AreBases, HasTexts, IsImage, IsImageOf, start_of, IsFolded, IsUnderWay, named_found, Format, holds_in, with_base, changed_by_files, ready, turned}
 use Rattle.zeb_register.specs.declared.catalog.Database.{Database}
 use Rattle.zeb_engine.specs.declared.replies.Reply.TheVariants as reply
-use Rattle.zeb_image.specs.Holdings.{with_base}
-use Rattle.zeb_engine.specs.Steps.{changed_by_files, ready, turned}
 use Rattle.zeb_engine.proofs.DatabasesOfImages.{image_numbered}
 use Rattle.zeb_engine.proofs.Beginning.{texts_still}
 use Rattle.zeb_engine.proofs.Creating.{with_new_base, created_image, new_base_in}
@@ -50,9 +48,8 @@ module _ (format : Format) (stays : (a b : Trees) (content : Content) → KeepsR
     begun_new : MayBeginUnder kind name None c old.now.trees before → Changes databases_tree (PutsDatabase id name (pos 0)) old mid → IsBegun format c kind name before id 0 mid
     begun_new fits put =
         let at = image_ready format c session old.now.trees before fits.0 fits.1 image in
-        let registers = kept_registers id name (pos 0) old mid put in
         let records = kept_records id name (pos 0) old mid put in
-        let made = created_image format stays c.profile old.now.trees mid.now.trees name fits.0 at.image at.are fits.2 id put.rows records registers in
+        let made = created_image format stays c.profile old.now.trees mid.now.trees name fits.0 at.image at.are fits.2 id put.rows records (kept_registers id name (pos 0) old mid put) in
         record {
           bases = fits.0;
           start = new_base name;

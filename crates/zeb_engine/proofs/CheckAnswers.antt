@@ -1,7 +1,6 @@
 -- What a look at whole tables tells of a check and of an upgrade.
-use Rattle.zeb_engine.proofs.Cited.{◌≡◌, ◌↔◌, ◌∙◌, ℕ, Bool, true, false, List, Ok, Err, IsTrue, refl, sym, ap, subst, inl, inr, Database, Trees, State, canonical_text, ChangesNothing, IsStore, Refusal, Base, Conditions, Meets, Holdings, under, IsImage, Keeps, Done, IsSomeImage, TellsImage, IsUnready, IsReadyFor, IsRefusedOver, checked, checked_from, Always, Serves}
+use Rattle.zeb_engine.proofs.Cited.{◌≡◌, ◌↔◌, ◌∙◌, ℕ, Bool, true, false, List, Ok, Err, IsTrue, refl, sym, ap, subst, inl, inr, Database, Trees, State, canonical_text, ChangesNothing, IsStore, Refusal, Base, Conditions, Meets, Holdings, under, IsImage, Keeps, Done, IsSomeImage, TellsImage, IsUnready, IsReadyFor, IsRefusedOver, checked, checked_from, Always, Serves, ready}
 use Rattle.zeb_change.specs.declared.refusals.Refusal.TheVariants as refusal
-use Rattle.zeb_engine.specs.Steps.{ready}
 use Rattle.zeb_engine.proofs.Ready.{ready_good, ready_is}
 use Rattle.zeb_engine.proofs.RenewalTexts.{ready_held}
 use Rattle.zeb_engine.proofs.ServesLemmas.{keeps_still}
@@ -49,14 +48,7 @@ module _ (c : Conditions) (s : State) (store : IsStore s) (texts : IsReadyFor c.
   unready_tells Good refusal.Damaged met few is = inr (inl (no_image Good met, refl))
   unready_tells Good refusal.Store met few is = inr (inr (inl refl))
   unready_tells Good refusal.Memory met few is = inr (inr (inr refl))
-  unready_tells Good refusal.IdentifierRuleChanged met few is = absurd few
-  unready_tells Good (refusal.Diagnostic number place addinfo) met few is = absurd few
-  unready_tells Good refusal.Exists met few is = absurd few
-  unready_tells Good (refusal.Record file nth fault) met few is = absurd few
-  unready_tells Good (refusal.Unknown file nth) met few is = absurd few
-  unready_tells Good refusal.DatabaseFull met few is = absurd few
-  unready_tells Good refusal.TooManyRecords met few is = absurd few
-  unready_tells Good (refusal.ReadFault file) met few is = absurd few
+  unready_tells Good _ met few is = absurd few
 
 -- ---- a register that is ready
 

@@ -47,13 +47,14 @@ pub use Rattle.zeb_analysis.proofs.WithinLimit.{few_analyses}
 pub use Rattle.zeb_analysis.specs.Analysing.{AnalysesTo, standing_in_all, Analysed}
 pub use Rattle.zeb_analysis.specs.Laws.{IsRefusal}
 pub use Rattle.zeb_analysis.specs.Lines.{AreLines, GivesLines}
-pub use Rattle.zeb_analysis.specs.declared.lines.AnalysedLines.{AnalysedLines}
 pub use Rattle.zeb_analysis.specs.declared.faults.AnalysisFault.{AnalysisFault}
+pub use Rattle.zeb_analysis.specs.declared.lines.AnalysedLines.{AnalysedLines}
 pub use Rattle.zeb_change.proofs.BaseLemmas.{base_numbered}
 pub use Rattle.zeb_change.proofs.ElderSteps.{files_find}
 pub use Rattle.zeb_change.proofs.Elders.{passed_error}
 pub use Rattle.zeb_change.proofs.FoldAll.{fine_at, one_failed}
 pub use Rattle.zeb_change.proofs.KeptLemmas.{one_number, AreRisingKept, push_rises}
+pub use Rattle.zeb_change.proofs.ReadFaults.{IsOfReady, never_unready, no_register_reads}
 pub use Rattle.zeb_change.proofs.StoredLemmas.{told_id}
 pub use Rattle.zeb_change.proofs.TermTexts.{posted_storable}
 pub use Rattle.zeb_change.proofs.TransactionLemmas.{continues_then, kept_then, goes_on}
@@ -62,16 +63,16 @@ pub use Rattle.zeb_change.specs.Base.{Base, Kept, kept_as, with_new}
 pub use Rattle.zeb_change.specs.Conditions.{Conditions, conditions}
 pub use Rattle.zeb_change.specs.Elders.{AllFindWhole, FirstFindsWhole, IsUpTo, KeepsAside, KeepsWhole, LosesWholeAlone, PassesOn, AreWholeBefore}
 pub use Rattle.zeb_change.specs.Folding.{splits_of, Progress, at_first, files_folded, at_end, Changed, updated, deleted, changed_by, with_ident, ident_in, with_record, counted, ◌then◌, slices_folded}
-pub use Rattle.zeb_change.specs.RecordChanges.{AreStores}
-pub use Rattle.zeb_change.specs.RecordFolds.{FoldsFiles, OfReaders}
 pub use Rattle.zeb_change.specs.Occurs.{occurs}
 pub use Rattle.zeb_change.specs.Outcomes.{analysis_refusal, register_refusal, query_refusal, marc_refusal}
 pub use Rattle.zeb_change.specs.PrivateConditions.{AreSessions}
 pub use Rattle.zeb_change.specs.Reading.{HasFailedAt, NamesFailed, NoneFailed, NoReadFault, StayAble, TellsFaults}
 pub use Rattle.zeb_change.specs.Reasons.{LosesNamedAlone, NamesAny, HasReasonAt, IsNewAt, IsRefusedAt, IsRefusedFor}
+pub use Rattle.zeb_change.specs.RecordChanges.{AreStores}
+pub use Rattle.zeb_change.specs.RecordFolds.{FoldsFiles, OfReaders}
 pub use Rattle.zeb_change.specs.Refused.{why_of, Why, Meets, diagnostic, database_full, too_many_records, unknown, damaged, old_format, profile_changed, rule_changed, read_fault, store_failed, out_of_memory, not_initialised, NeverUnready, IsFailing, exists}
 pub use Rattle.zeb_change.specs.Stored.{AreKept, IsBase, AreStored, ArePosted}
-pub use Rattle.zeb_change.specs.UnderWay.{IsFolded, IsUnderWay, conditions_of, with_records, HaveSystemNumbers}
+pub use Rattle.zeb_change.specs.UnderWay.{IsFolded, IsUnderWay, conditions_of, with_records, HaveSystemNumbers, StandsFor}
 pub use Rattle.zeb_change.specs.declared.files.Fold.{Fold}
 pub use Rattle.zeb_change.specs.declared.refusals.Refusal.{Refusal}
 pub use Rattle.zeb_change.specs.declared.refusals.Refusal.TheVariants.{Damaged, ReadFault, Store, OldFormat, ProfileChanged, IdentifierRuleChanged, NotInitialised, Exists}
@@ -79,40 +80,40 @@ pub use Rattle.zeb_change.specs.declared.settings.Kind.{Kind}
 pub use Rattle.zeb_change.specs.declared.settings.Kind.TheVariants.{Update, Delete, Adelete}
 pub use Rattle.zeb_change.specs.declared.settings.Limits.{Limits}
 pub use Rattle.zeb_change.specs.declared.tally.Fate.{Fate}
-pub use Rattle.zeb_change.specs.declared.tally.Fate.TheVariants.{Inserted, Updated, Deleted, PassedOver}
+pub use Rattle.zeb_change.specs.declared.tally.Fate.TheVariants.{Inserted, PassedOver}
 pub use Rattle.zeb_engine.specs.Adopting.{StaysOpen, HasOwnTables}
-pub use Rattle.zeb_engine.specs.Finding.{FindSays, HidesOne, MeetsDamage, RefusesFind, RefusedAlone, CanBeShown, FindOver, FindTells, FindDoes, HidesFind, HidesFound, HidesPlan, has_name, AreShown, IsAnswered, IsNamed, IsPlanned, IsShown, asked_of, IsFound, IsAnsweredBy, IsPlannedBy, FindReads, IsPlanOf, PlanReads}
-pub use Rattle.zeb_engine.specs.Asking.{IsSaidOrMissed, OfDatabase, IsAsked, Alone, IsSaid, Said}
-pub use Rattle.zeb_engine.specs.Scanning.{ScanSays, HidesAround, HidesPlanned, HidesTerms, ScanOver, TellsAround, ScanTells, ScanDoes, ScanReads, IsScanned, IsScanPlanned, around, IsScannedBy, IsScanPlannedBy, AreAround}
-pub use Rattle.zeb_engine.specs.Counting.{StatSays, HidesRegisters, HidesRegister, StatOver, IsSummedUp, StatTells, IsCounted, IsExtent, Paired, Target, target_list, targets_below}
 pub use Rattle.zeb_engine.specs.Analysed.{HasLines, IsAnalysed, analysis_answer, IsAnalysis}
 pub use Rattle.zeb_engine.specs.Answers.{refused, IsFailure, changed, reply_answer, Answer, answer_of, found, scanned, Extent, done, extent_of, analysed, dumped, no_database}
-pub use Rattle.zeb_engine.specs.Making.{DropsDatabase, OnAccepted, MakesDatabase, CreateOver, DropOver, CountedAnswers}
-pub use Rattle.zeb_engine.specs.Hidden.{HidesDatabase, HidesOf, TellsUnlessHidden, UnlessHidden}
-pub use Rattle.zeb_engine.specs.Dumping.{HidesRecords, JoinsRecords, DumpOver, DumpTells}
+pub use Rattle.zeb_engine.specs.Asking.{IsSaidOrMissed, OfDatabase, IsAsked, Alone, IsSaid, Said}
+pub use Rattle.zeb_engine.specs.Causes.{HasStoreCause, OnlyLooks}
 pub use Rattle.zeb_engine.specs.Changing.{AreFewRecords, EachFindsWhole, ElderOver, EldersOver, HasNumbersTo, IsOrBecomes, LeavesRows, LosesNamedOver, LosesWhole, ReasonsOver}
-pub use Rattle.zeb_engine.specs.Causes.{HasStoreCause}
-pub use Rattle.zeb_engine.specs.Checking.{IsSomeImage, TellsImage}
-pub use Rattle.zeb_engine.specs.Reindexing.{CanBeRemade, IsRemade, ReindexLeaves, TellsSound, IsReadyToReindex, RefusesReindex, KeepsRule}
-pub use Rattle.zeb_engine.specs.Upgrading.{UpgradeDoes, UpgradeLeaves, RefusesUpgrade, KeepsUpgradable}
+pub use Rattle.zeb_engine.specs.Checking.{IsSomeImage, TellsImage, ChecksTables}
 pub use Rattle.zeb_engine.specs.Costs.{no_work, Costs}
+pub use Rattle.zeb_engine.specs.Counting.{StatSays, HidesRegisters, HidesRegister, StatOver, IsSummedUp, StatTells, IsCounted, IsExtent, Paired, Target, target_list, targets_below}
 pub use Rattle.zeb_engine.specs.Crashes.{Accepts, Bears, KeepsDisk, IsStoreDisk, Stands, Leaves, CommitsBy, CommitsAdopted, Endures, IsRefused, CommitsReindex, CommitsCommand, MayCommit, CommitsOne, IsCarriedOut, LeavesOne, AreRefused, EnduresRun, RunLeft}
 pub use Rattle.zeb_engine.specs.Does.{AnswersAnyway, Does, InitLeaves}
+pub use Rattle.zeb_engine.specs.Dumping.{HidesRecords, JoinsRecords, DumpOver, DumpTells, AreRecordsOf}
+pub use Rattle.zeb_engine.specs.Finding.{FindSays, HidesOne, MeetsDamage, RefusesFind, RefusedAlone, CanBeShown, FindOver, FindTells, FindDoes, HidesFind, HidesFound, HidesPlan, has_name, AreShown, IsAnswered, IsNamed, IsPlanned, IsShown, asked_of, IsFound, IsAnsweredBy, IsPlannedBy, FindReads, IsPlanOf, PlanReads}
+pub use Rattle.zeb_engine.specs.Hidden.{HidesDatabase, HidesOf, TellsUnlessHidden, UnlessHidden}
+pub use Rattle.zeb_engine.specs.Making.{DropsDatabase, OnAccepted, MakesDatabase, CreateOver, DropOver, CountedAnswers}
 pub use Rattle.zeb_engine.specs.PrivateAdopting.{MakesTables, MayBeTaken}
 pub use Rattle.zeb_engine.specs.PrivateChanging.{MayBeginUnder, BeginsWith, last_of, IsMissedFor, comes_to}
-pub use Rattle.zeb_engine.specs.PrivateCrashes.{IsEmptyDisk, Commits, CommitsTables}
 pub use Rattle.zeb_engine.specs.PrivateConnections.{IsSettled, LooksReady, ReadsAlone, TellsReady}
-pub use Rattle.zeb_engine.specs.PrivateDone.{CommandDone, ReadersDone}
+pub use Rattle.zeb_engine.specs.PrivateCrashes.{IsEmptyDisk, Commits, CommitsTables}
 pub use Rattle.zeb_engine.specs.PrivateDatabaseChanges.{Asked, AcceptsChange, AppliesChange, ChangesDatabase, CommitsRows, FoldsInto, Transacts, asked}
+pub use Rattle.zeb_engine.specs.PrivateDone.{CommandDone, ReadersDone}
 pub use Rattle.zeb_engine.specs.PrivateLooking.{MissesDatabase, IsAskRefusal, IsUnready, FindsStanding, IsLook, RefusesText, RefusesTexts, RefusesVersion, TellsStanding, TellsText}
 pub use Rattle.zeb_engine.specs.PrivateNumbers.{AreGiven, AreWellNumbered, IsMisnumbered, PutsRow}
 pub use Rattle.zeb_engine.specs.PrivateWorks.{Always, Serves, IsReady}
 pub use Rattle.zeb_engine.specs.PrivateWriting.{AreOf, PutsTexts, HoldsRemade, LeavesNoDatabase, CreatesDatabase, DamagesWrite, DropsNamed, IsUnsound, IsWriteRefusal, MakesRow, RemakesRows, TakesRows, WriteDoes}
 pub use Rattle.zeb_engine.specs.Readiness.{IsReadyFor, IsRefusedOver, GoesByTexts, KeepsText}
-pub use Rattle.zeb_engine.specs.Replies.{shown_number, record_lines, records_text, holding_line, entry_line, hits_text, hit_line}
+pub use Rattle.zeb_engine.specs.Reindexing.{CanBeRemade, IsRemade, ReindexLeaves, TellsSound, IsReadyToReindex, RefusesReindex, KeepsRule}
+pub use Rattle.zeb_engine.specs.Replies.{shown_number, record_lines, records_text, holding_line, entry_line, hits_text, hit_line, reply_text}
 pub use Rattle.zeb_engine.specs.Rules.{same_rule, are_same, is_rule_line, rule_line}
-pub use Rattle.zeb_engine.specs.Steps.{holding, start_of, checked, checked_from, Step, Ends, Outcome, dumped_by, dumped_from, dumped_in, FindAnswers, AskedAmong, AskedFrom, AskedIn, ScanAnswers, CountedFrom, CountedIn, Turn, change_ends, change_from, created_in, dropped_in, ends, turned_from, all_stay, OnlyAnswers, FoundFrom, ScannedFrom, Run, TellsOrFails, StatAnswers, TakesFiles}
+pub use Rattle.zeb_engine.specs.Scanning.{ScanSays, HidesAround, HidesPlanned, HidesTerms, ScanOver, TellsAround, ScanTells, ScanDoes, ScanReads, IsScanned, IsScanPlanned, around, IsScannedBy, IsScanPlannedBy, AreAround}
+pub use Rattle.zeb_engine.specs.Steps.{holding, start_of, checked, checked_from, Step, Ends, Outcome, dumped_by, dumped_from, dumped_in, FindAnswers, AskedAmong, AskedFrom, AskedIn, ScanAnswers, CountedFrom, CountedIn, Turn, change_ends, change_from, created_in, dropped_in, ends, turned_from, all_stay, OnlyAnswers, FoundFrom, ScannedFrom, Run, TellsOrFails, StatAnswers, TakesFiles, ready, changed_by_files, turned, upgraded, created, dropped, reindexed, ruled, upgradable, initialised}
 pub use Rattle.zeb_engine.specs.Transactions.{AsksStore, Commanded, CommandedBy, EnduresRefusal, LeavesNoMore, IsDurable, NoneAsks}
+pub use Rattle.zeb_engine.specs.Upgrading.{UpgradeDoes, UpgradeLeaves, RefusesUpgrade, KeepsUpgradable}
 pub use Rattle.zeb_engine.specs.Works.{ServesBy, ServesCommand, Runs, FindOpen, InTurn, CommandTurns}
 pub use Rattle.zeb_engine.specs.declared.commands.Command.{Command}
 pub use Rattle.zeb_engine.specs.declared.commands.Command.TheVariants.{Find, Scan, Change, Init, Check, Reindex, Upgrade, Create, Drop, Stat, Dump, Analyse}
@@ -129,7 +130,7 @@ pub use Rattle.zeb_extract.specs.declared.naming.IdentFault.{IdentFault}
 pub use Rattle.zeb_image.proofs.Bases.{named_found, bytes_other, named_none, with_base_has, with_base_in_order, bytes_told, name_order, without_base_has, without_base_in_order, named_there}
 pub use Rattle.zeb_image.proofs.Ids.{none_in, id_same, id_other, ids_told}
 pub use Rattle.zeb_image.proofs.OneText.{under_other, bases_so}
-pub use Rattle.zeb_image.specs.Holdings.{Holdings, base_named, new_base, under, base_placed, without_base, nothing_yet}
+pub use Rattle.zeb_image.specs.Holdings.{Holdings, base_named, new_base, under, base_placed, without_base, nothing_yet, with_base}
 pub use Rattle.zeb_image.specs.Image.{HasTexts, AreBases, IsImage, IsImageOf, Keeps, AreListed, IsImageUnder, AreListsOf}
 pub use Rattle.zeb_image.specs.NameOf.{name_bytes}
 pub use Rattle.zeb_image.specs.Names.{IsDatabaseName}
@@ -142,12 +143,12 @@ pub use Rattle.zeb_marc.proofs.FaultLaws.{record_faults}
 pub use Rattle.zeb_marc.specs.Contents.{UnitText, units_of}
 pub use Rattle.zeb_marc.specs.Leader.{first_failing, slice_checks}
 pub use Rattle.zeb_marc.specs.Records.{first_fault, IsRecordFault, fields_of}
-pub use Rattle.zeb_marc.specs.Splits.{Split, Next, a_slice, a_fault, is_separator, next_if, next_behind, split_next, split_within}
+pub use Rattle.zeb_marc.specs.Splits.{Split, Next, a_slice, a_fault, is_separator, next_if, next_behind, split_next, split_within, split_of}
 pub use Rattle.zeb_marc.specs.declared.faults.MarcFault.{MarcFault}
 pub use Rattle.zeb_profile.proofs.DirectivesBack.{IsRead}
 pub use Rattle.zeb_profile.proofs.LinesBack.{is_line_feed}
 pub use Rattle.zeb_profile.proofs.ProfilesBack.{profile_sound}
-pub use Rattle.zeb_profile.proofs.WrittenLines.{AllRead, written_one_line}
+pub use Rattle.zeb_profile.proofs.WrittenLines.{AllRead, written_one_line, written}
 pub use Rattle.zeb_profile.specs.Canonical.{canonical_text, pattern_text, canonical_line, targets_text}
 pub use Rattle.zeb_profile.specs.Indexes.{identifier_pattern, index_names}
 pub use Rattle.zeb_profile.specs.Laws.{IsProfile}
@@ -161,14 +162,16 @@ pub use Rattle.zeb_query.proofs.TextFaults.{apart, one_fault, one_query}
 pub use Rattle.zeb_query.specs.Checks.{Fails, Refusal as PlanRefusal}
 pub use Rattle.zeb_query.specs.Grammar.{QueryValue, SpellsQuery, query_value}
 pub use Rattle.zeb_query.specs.Places.{IsReadable, IsFaultOf}
-pub use Rattle.zeb_query.specs.Plans.{PlanValue, plan_of, AllWordsOf, AlwaysOf, AnyWordOf, CompleteOf, HasSmallNumber, HasSmallNumbers, NearOf, NoWordsOf, NumberOf, OrderedOf, PairOf, PhraseOf, RecordNumberOf, TermOf, TermPlanValue, ScanValue, scan_of, plan_value, scan_value}
+pub use Rattle.zeb_query.specs.Plans.{PlanValue, plan_of, HasSmallNumber, HasSmallNumbers, NearOf, NoWordsOf, PairOf, RecordNumberOf, TermOf, TermPlanValue, ScanValue, scan_of, plan_value, scan_value}
 pub use Rattle.zeb_query.specs.declared.faults.QueryFault.{QueryFault}
 pub use Rattle.zeb_query.specs.declared.faults.QueryFault.TheVariants.{Diagnostic, Memory}
+pub use Rattle.zeb_register.proofs.Answered.{or_reasoned}
 pub use Rattle.zeb_register.proofs.Calls.{store_same, nothing_then, goes_keeps, goes_then, on_err, reads_goes, nothing_still}
-pub use Rattle.zeb_register.proofs.CallsInTurn.{quiet_then}
+pub use Rattle.zeb_register.proofs.CallsInTurn.{quiet_then, quiet_still}
 pub use Rattle.zeb_register.proofs.Causes.{may_after}
 pub use Rattle.zeb_register.proofs.ContentLemmas.{ints_order}
 pub use Rattle.zeb_register.proofs.CountLemmas.{is_less, less_is}
+pub use Rattle.zeb_register.proofs.CountLists.{before_held, from_held, totals_held, held_shows}
 pub use Rattle.zeb_register.proofs.DatabaseStatements.{one_name}
 pub use Rattle.zeb_register.proofs.FormatLemmas.{registers_empty, registers_stay, one_format}
 pub use Rattle.zeb_register.proofs.Malformed.{malformed_same, malformed_then}
@@ -176,14 +179,15 @@ pub use Rattle.zeb_register.proofs.OccurringLemmas.{one_terms, one_totals, terms
 pub use Rattle.zeb_register.proofs.RisingLists.{same_list}
 pub use Rattle.zeb_register.proofs.RowsAreLists.{one_last, one_text}
 pub use Rattle.zeb_register.proofs.TermLists.{has_taken}
-pub use Rattle.zeb_register.specs.Calls.{ChangesNothing, OnlyReads, GoesOn, Alters, Inside, MayRefuse}
+pub use Rattle.zeb_register.specs.Answers.{Answers, IfDamaged, TellsOr}
+pub use Rattle.zeb_register.specs.Calls.{ChangesNothing, OnlyReads, GoesOn, Alters, Inside, MayRefuse, Reading}
 pub use Rattle.zeb_register.specs.Catalog.{IsDatabaseOf, PutsDatabase, AreCountedDatabases}
-pub use Rattle.zeb_register.specs.Clauses.{IsReasoned}
+pub use Rattle.zeb_register.specs.Clauses.{IsReasoned, OnStore}
 pub use Rattle.zeb_register.specs.Content.{Content, Posting, posting_cmp, IsStorable, posted, HasRisingLists, IsWithout, TakesWhole}
 pub use Rattle.zeb_register.specs.Formats.{Format, holds_in, version_of, plain_rows}
 pub use Rattle.zeb_register.specs.Kept.{IsFirstFrom, AreReadable, IsNumberOf, IsRecordCount, IsIdentOf, AreReadableIdents}
-pub use Rattle.zeb_register.specs.Occurring.{AreTermsBefore, AreTermsFrom, is_before, is_from, last}
-pub use Rattle.zeb_register.specs.Sound.{KeepsBeside, KeepsMalformed, KeepsRowsBeside}
+pub use Rattle.zeb_register.specs.Occurring.{AreTermsBefore, AreTermsFrom, is_before, is_from, last, key_in}
+pub use Rattle.zeb_register.specs.Sound.{KeepsBeside, KeepsRowsBeside, keeps_malformed}
 pub use Rattle.zeb_register.specs.Terms.{HidesBefore, HidesFrom, HidesSums, ListsBefore, ListsFrom, SumsUp}
 pub use Rattle.zeb_register.specs.Sql.{HasRow, Replaces, KeepsOthers, Loses}
 pub use Rattle.zeb_register.specs.Store.{IsStore, IsEmptyStore, Changes, LacksRegisters, meta_tree, entry, IsEntryOf, record_row, HasDatabase, HasRecord, blocks_tree, databases_tree, dict_tree, postings_tree, KeepsRegisters, IsRecordIn, TakesDatabase, IsValueOf, AreReadableTexts, KeepsLists}
@@ -195,15 +199,18 @@ pub use Rattle.zeb_register.specs.declared.registers.TermCount.{TermCount}
 pub use Rattle.zeb_register.specs.declared.registers.Work.{Work}
 pub use Rattle.zeb_search.proofs.FindCalls.{hits_reasoned}
 pub use Rattle.zeb_search.proofs.HoldsAlike.{tree_alike}
-pub use Rattle.zeb_search.proofs.KnownHolders.{holder_known}
-pub use Rattle.zeb_search.proofs.ReadLemmas.{clean_before}
+pub use Rattle.zeb_search.proofs.KnownHolders.{holder_known, IsKnown}
+pub use Rattle.zeb_search.proofs.PlanLaws.{plan_held, plan_shown}
+pub use Rattle.zeb_search.proofs.ReadLemmas.{clean_before, accepted, one_read, read_still, read_then, still_store, still_trees, as_read}
 pub use Rattle.zeb_search.proofs.ReadableNames.{names_readable}
 pub use Rattle.zeb_search.proofs.SearchCountLemmas.{counts_then, counts_within, terms_count}
+pub use Rattle.zeb_search.proofs.ToldLemmas.{tells_later, tells_refused, told_refused}
 pub use Rattle.zeb_search.specs.Finds.{PlanFinds, PlanHides}
 pub use Rattle.zeb_search.specs.Holds.{TreeHolds, TermHolds}
 pub use Rattle.zeb_search.specs.Lists.{AreNumbers}
 pub use Rattle.zeb_search.specs.Registers.{has_ident_in, HoldsIn, is_kept_in, NamesReadable}
 pub use Rattle.zeb_search.specs.SearchCounts.{CountsAtMost}
+pub use Rattle.zeb_search.specs.Untouched.{IsUntouched}
 pub use Rattle.zeb_text.proofs.KeyLemmas.{value_of_key, digits_of_key, length_of_key, digits_from_all, all_from_digits, is_key}
 pub use Rattle.zeb_text.specs.Numbers.{number_key}
 pub use base.Stored.{Coded-set}

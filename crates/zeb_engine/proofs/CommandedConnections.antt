@@ -1,5 +1,5 @@
 -- What a command did to a connection, by whether it asked the store.
-use Rattle.zeb_engine.proofs.Cited.{◌≡◌, ◌⊎◌, Result, Ok, Err, IfErr, OnErr, OnOk, inl, inr, refl, rules, subst, sym, Held, state, State, HasCleanDisk, Survives, Ghosts, ChangesNothing, nothing_then, Command, Init, Check, Reindex, Upgrade, Create, Drop, Stat, Dump, Change, Find, Scan, Analyse, Refusal, StaysOpen, Answer, Conditions, Holdings, Step, AsksStore, Commanded, CommandedBy, EnduresRefusal, LeavesNoMore}
+use Rattle.zeb_engine.proofs.Cited.{◌≡◌, ◌⊎◌, Result, Ok, Err, IfErr, OnErr, OnOk, inl, inr, refl, rules, subst, sym, Held, state, State, HasCleanDisk, Survives, Ghosts, ChangesNothing, nothing_then, Command, Analyse, Refusal, StaysOpen, Answer, Conditions, Holdings, Step, AsksStore, Commanded, CommandedBy, EnduresRefusal, LeavesNoMore}
 
 -- the connection is as it was
 pub record IsAsItWas (old new : State) : Type 0 where
@@ -16,18 +16,8 @@ as_it_was g old new same =
     subst (λ (held : Held _). IsAsItWas (state g old) (state g held)) (sym same) record { is_open = refl; nothing = λ is_open. (is_open, refl, refl); no_more = λ db left. left }
 
 pub did : {S T : Type 0} (g : Ghosts S) (command : Command) (old new : Held S) (result : Result T Refusal) → CommandedBy g command old new result → AsksOrStays command (state g old) (state g new) result
-did g Init old new result it = inl (tt, it)
-did g Check old new result it = inl (tt, it)
-did g Reindex old new result it = inl (tt, it)
-did g Upgrade old new result it = inl (tt, it)
-did g (Create name) old new result it = inl (tt, it)
-did g (Drop name) old new result it = inl (tt, it)
-did g (Stat name) old new result it = inl (tt, it)
-did g (Dump name) old new result it = inl (tt, it)
-did g (Change kind name files) old new result it = inl (tt, it)
-did g (Find name query first count) old new result it = inl (tt, it)
-did g (Scan name query number position) old new result it = inl (tt, it)
 did g (Analyse files) old new result it = inr (λ asks. asks, as_it_was g old new it)
+did g _ old new result it = inl (tt, it)
 
 on_any : {T E : Type 0} (r : Result T E) (P : Type 0) → P → OnErr r P
 on_any (Ok x) P p = search rules
@@ -48,18 +38,8 @@ module _ {T : Type 0} (command : Command) (old new : State) (result : Result T R
 
 -- a command that asks nothing of the store leaves what is held
 pub unasked_still : (c : Conditions) (command : Command) (before later : Holdings) (answer : Answer) → (¬ AsksStore command) → Step c command before answer later → later ≡ before
-unasked_still c Init before later answer not step = absurd (not tt)
-unasked_still c Check before later answer not step = absurd (not tt)
-unasked_still c Reindex before later answer not step = absurd (not tt)
-unasked_still c Upgrade before later answer not step = absurd (not tt)
-unasked_still c (Create name) before later answer not step = absurd (not tt)
-unasked_still c (Drop name) before later answer not step = absurd (not tt)
-unasked_still c (Stat name) before later answer not step = absurd (not tt)
-unasked_still c (Dump name) before later answer not step = absurd (not tt)
-unasked_still c (Change kind name files) before later answer not step = absurd (not tt)
-unasked_still c (Find name query first count) before later answer not step = absurd (not tt)
-unasked_still c (Scan name query number position) before later answer not step = absurd (not tt)
 unasked_still c (Analyse files) before later answer not step = step.1
+unasked_still c _ before later answer not step = absurd (not tt)
 
 -- a command that reads
 pub reads_command : {T : Type 0} (old new : State) (result : Result T Refusal) → (HasCleanDisk new → OnOk result (StaysOpen old new)) → (HasCleanDisk new → ChangesNothing old new) → Survives old new (λ _. ⊥)

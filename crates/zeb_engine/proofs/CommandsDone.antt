@@ -1,7 +1,5 @@
 -- What a command has done, by what its own call says of the values that the command has.
-use Rattle.zeb_engine.proofs.Cited.{◌≡◌, ◌∙◌, ℕ, Bool, List, Option, Some, Result, Err, OnOk, inr, String, Vec, map, string_bytes, refl, sym, ap, subst, Global, Ghosts, Held, state, State, HasCleanDisk, Survives, nothing_still, Work, Posting, Format, Conditions, Limits, Reply, Refusal, DbName, name_bytes, Analyse, Change, Check, Find, Init, Scan, Upgrade, Commanded, Commits, Trees, UpgradeDoes, Directive, Kind, NoneFailed, NamesFailed, HasFailedAt, IsRefusedOver, conditions, version_of, CommandDone, ReadersDone, FindDoes, ScanDoes, FindReads, ScanReads, FoundFrom, ScannedFrom, OnlyAnswers, ServesBy, Always, Serves, checked, IsAnalysis, ReadsAlone, TellsReady, no_work, NoReadFault}
-use Rattle.zeb_engine.specs.Steps.{ready, upgraded}
-use Rattle.zeb_engine.specs.Checking.{ChecksTables}
+use Rattle.zeb_engine.proofs.Cited.{◌≡◌, ◌∙◌, ℕ, Bool, List, Option, Some, Result, Err, OnOk, inr, String, Vec, map, string_bytes, refl, sym, ap, subst, Global, Ghosts, Held, state, State, HasCleanDisk, Survives, nothing_still, Work, Posting, Format, Conditions, Limits, Reply, Refusal, DbName, name_bytes, Analyse, Change, Check, Find, Init, Scan, Upgrade, Commanded, Commits, Trees, UpgradeDoes, Directive, Kind, NoneFailed, NamesFailed, HasFailedAt, IsRefusedOver, conditions, version_of, CommandDone, ReadersDone, FindDoes, ScanDoes, FindReads, ScanReads, FoundFrom, ScannedFrom, OnlyAnswers, ServesBy, Always, Serves, checked, IsAnalysis, ReadsAlone, TellsReady, no_work, NoReadFault, ready, upgraded, ChecksTables}
 use Rattle.zeb_change.specs.declared.refusals.Refusal.TheVariants as refusal
 use Rattle.zeb_engine.proofs.ChangeElders.{few_elder}
 use Rattle.zeb_engine.proofs.ChangeReasons.{few_reasons}

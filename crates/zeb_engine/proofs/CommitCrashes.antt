@@ -1,5 +1,5 @@
 -- What a crash leaves, by what a transaction was given to commit.
-use Rattle.zeb_engine.proofs.Cited.{◌≡◌, ◌⊎◌, ◌∙◌, true, Result, Ok, Err, IfErr, OnOk, inl, inr, arith, refl, sym, ap, subst, IsTrue, Trees, Ghosts, Database, IsDatabase, State, HasCleanDisk, IsLive, IsUnchanged, Opens, Survives, Held, state, Schema, lists_once, catalog_tree, survives_then, GoesOn, IsStore, IsEmptyStore, no_schema, store_schema, Reply, Refusal, StaysOpen, Answer, reply_answer, IsFailure, Conditions, Accepts, Bears, KeepsDisk, IsStoreDisk, Stands, Leaves, CommitsBy, CommitsCommand, MayCommit, CommitsAdopted, Endures, IsEmptyDisk, Command, Init, Create, Drop, Change, Find, Scan, Check, Reindex, Upgrade, Stat, Dump, Analyse, Commits, CommitsTables, Holdings, IsImage, Keeps, Ends, Outcome, EnduresRefusal, IsDurable, LeavesNoMore, ServesBy, Always, Format}
+use Rattle.zeb_engine.proofs.Cited.{◌≡◌, ◌⊎◌, ◌∙◌, true, Result, Ok, Err, IfErr, OnOk, inl, inr, arith, refl, sym, ap, subst, IsTrue, Trees, Ghosts, Database, IsDatabase, State, HasCleanDisk, IsLive, IsUnchanged, Opens, Survives, Held, state, Schema, lists_once, catalog_tree, survives_then, GoesOn, IsStore, IsEmptyStore, no_schema, store_schema, Reply, Refusal, StaysOpen, Answer, reply_answer, IsFailure, Conditions, Accepts, Bears, KeepsDisk, IsStoreDisk, Stands, Leaves, CommitsBy, CommitsCommand, MayCommit, CommitsAdopted, Endures, IsEmptyDisk, Command, Init, Create, Drop, Change, Reindex, Upgrade, Commits, CommitsTables, Holdings, IsImage, Keeps, Ends, Outcome, EnduresRefusal, IsDurable, LeavesNoMore, ServesBy, Always, Format}
 use Rattle.zeb_engine.specs.declared.replies.Reply.TheVariants as reply
 use Rattle.zeb_change.specs.declared.refusals.Refusal.TheVariants as refusal
 
@@ -18,8 +18,7 @@ opened_store s live opens disk =
 pub opened_bears : (s : State) (held : Holdings) → IsLive s → Opens s → Stands s.now.trees held → Bears s held
 opened_bears s held live opens (inl stands) = inl (λ is_open. ((opened_store s live opens stands.0, stands.1), sym opens.clean))
 opened_bears s held live opens (inr bare) =
-    let found = (live opens.is_open).0 in
-    inr (lists_once (s.now.trees catalog_tree) s.now.schema no_schema found.lists bare.0.lists, bare.1)
+    inr (lists_once (s.now.trees catalog_tree) s.now.schema no_schema ((live opens.is_open).0).lists bare.0.lists, bare.1)
 
 pub keeps_stand : (s : State) (held : Holdings) → IsTrue s.is_open → Keeps s held → Stands s.now.trees held
 keeps_stand s held is_open keeps = let at = (keeps is_open).0 in inl (store_disk s at.0, at.1)
@@ -27,22 +26,12 @@ keeps_stand s held is_open keeps = let at = (keeps is_open).0 in inl (store_disk
 -- an accepted command answers no failure
 pub no_failure : (answer : Reply) → IsFailure (reply_answer answer) → ⊥
 no_failure reply.Done failed = failed
-no_failure (reply.Changed inserted updated deleted) failed = failed
-no_failure (reply.Found hits shown) failed = failed
-no_failure (reply.Counted records last holdings) failed = failed
-no_failure (reply.Dumped bytes) failed = failed
-no_failure (reply.Scanned register entries) failed = failed
-no_failure (reply.Analysed names records) failed = failed
+no_failure _ failed = failed
 
 -- it is accepted, whatever it answers
 pub reply_accepts : (answer : Reply) → Accepts (reply_answer answer)
 reply_accepts reply.Done why is = absurd cc
-reply_accepts (reply.Changed inserted updated deleted) why is = absurd cc
-reply_accepts (reply.Found hits shown) why is = absurd cc
-reply_accepts (reply.Counted records last holdings) why is = absurd cc
-reply_accepts (reply.Dumped bytes) why is = absurd cc
-reply_accepts (reply.Scanned register entries) why is = absurd cc
-reply_accepts (reply.Analysed names records) why is = absurd cc
+reply_accepts _ why is = absurd cc
 
 -- ---- what survives
 
@@ -77,12 +66,7 @@ commits_step format c (Drop name) old db made = made
 commits_step format c (Change kind name files) old db made = made
 commits_step format c Reindex old db made = made.0
 commits_step format c Upgrade old db made = made
-commits_step format c (Find name query first count) old db made = absurd made
-commits_step format c (Scan name query number position) old db made = absurd made
-commits_step format c Check old db made = absurd made
-commits_step format c (Stat name) old db made = absurd made
-commits_step format c (Dump name) old db made = absurd made
-commits_step format c (Analyse files) old db made = absurd made
+commits_step format c _ old db made = absurd made
 
 pub survives_step : (format : Format) (c : Conditions) (command : Command) (old new : State) → Survives old new (MayCommit format c command old) → Survives old new (CommitsCommand c command old)
 survives_step format c command old new survives = survives_as old new _ _ (λ clean db. commits_step format c command old db) survives
@@ -110,20 +94,8 @@ module _ (Told : Holdings → Answer → Holdings → Type 0) (old new : State) 
       → ((before : Holdings) → Keeps old before → Leaves old before → (db : Trees) → new.may_leave db
       → Stands db before ⊎ ((answer : Answer) × (later : Holdings) × Told before answer later × Stands db later))
       → Endures Told old new (Err why)
-  endures_refusal refusal.NotInitialised no_more either = λ before leaves db left. leaves db (no_more (λ is. cc) db left)
-  endures_refusal refusal.OldFormat no_more either = λ before leaves db left. leaves db (no_more (λ is. cc) db left)
-  endures_refusal refusal.ProfileChanged no_more either = λ before leaves db left. leaves db (no_more (λ is. cc) db left)
-  endures_refusal (refusal.Diagnostic number place addinfo) no_more either = λ before leaves db left. leaves db (no_more (λ is. cc) db left)
-  endures_refusal refusal.Exists no_more either = λ before leaves db left. leaves db (no_more (λ is. cc) db left)
-  endures_refusal (refusal.Record file nth fault) no_more either = λ before leaves db left. leaves db (no_more (λ is. cc) db left)
-  endures_refusal (refusal.Unknown file nth) no_more either = λ before leaves db left. leaves db (no_more (λ is. cc) db left)
-  endures_refusal refusal.DatabaseFull no_more either = λ before leaves db left. leaves db (no_more (λ is. cc) db left)
-  endures_refusal refusal.TooManyRecords no_more either = λ before leaves db left. leaves db (no_more (λ is. cc) db left)
-  endures_refusal refusal.Damaged no_more either = λ before leaves db left. leaves db (no_more (λ is. cc) db left)
-  endures_refusal refusal.IdentifierRuleChanged no_more either = λ before leaves db left. leaves db (no_more (λ is. cc) db left)
-  endures_refusal (refusal.ReadFault file) no_more either = λ before leaves db left. leaves db (no_more (λ is. cc) db left)
   endures_refusal refusal.Store no_more either = either
-  endures_refusal refusal.Memory no_more either = λ before leaves db left. leaves db (no_more (λ is. cc) db left)
+  endures_refusal _ no_more either = λ before leaves db left. leaves db (no_more (λ is. cc) db left)
 
   pub endures : (result : Result Reply Refusal) → HasCleanDisk new → IsDurable new → OnOk result (StaysOpen old new) → IfErr result (EnduresRefusal old new) → Survives old new (CommitsBy Told old)
       → ServesBy Told old new result → Endures Told old new result

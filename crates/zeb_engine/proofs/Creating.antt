@@ -1,7 +1,6 @@
 -- A database is made: the tables are then the image of one database more.
-use Rattle.zeb_engine.proofs.Cited.{◌≡◌, ◌≢◌, ◌⊎◌, ◌∙◌, ℕ, ℤ, pos, cond, List, [], ◌∷◌, None, refl, sym, ap, subst, inl, inr, arith, Contains, bytes_eq, bytes_eq-Decides, Int, Trees, Has, has_contained, contains_had, Directive, Content, PutsDatabase, HasDatabase, KeepsRegisters, record_row, Base, new_base, base_named, IsDatabaseName, AreBases, AreListed, IsImageOf, AreKept, IsBase, bytes_other, named_none, with_base_has, with_base_in_order, none_in, Format, holds_in}
+use Rattle.zeb_engine.proofs.Cited.{◌≡◌, ◌≢◌, ◌⊎◌, ◌∙◌, ℕ, ℤ, pos, cond, List, [], ◌∷◌, None, refl, sym, ap, subst, inl, inr, arith, Contains, bytes_eq, bytes_eq-Decides, Int, Trees, Has, has_contained, contains_had, Directive, Content, PutsDatabase, HasDatabase, KeepsRegisters, record_row, Base, new_base, base_named, IsDatabaseName, AreBases, AreListed, IsImageOf, AreKept, IsBase, bytes_other, named_none, with_base_has, with_base_in_order, none_in, Format, holds_in, with_base}
 use Rattle.std.specs.List.Sorted.{IsStrictlySortedBy}
-use Rattle.zeb_image.specs.Holdings.{with_base}
 
 -- what a new database has
 none_wrong : (profile : List Directive) (name : List ℕ) → IsBase profile (new_base name)

@@ -1,11 +1,8 @@
 -- What follows from what a change of a database does, in rows (`ChangesDatabase`): all that a session promises of a change.
-use Rattle.zeb_engine.proofs.Cited.{◌≡◌, ◌≢◌, ◌⊎◌, ◌∙◌, ◌<◌, ◌≤◌, ℕ, ℤ, pos, length, map, List, Option, Some, None, Result, Ok, Err, OnOk, IsTrue, inl, inr, refl, sym, ap, subst, subst₂, arith, flat_map, Database, State, Trees, HasCleanDisk, Split, Directive, IsProfile, Work, PutsDatabase, IsDatabaseOf, AreCountedDatabases, version_of, Changes, IsStore, databases_tree, registers_stay, Refusal, Damaged, Kind, Update, AllFindWhole, PassesOn, Progress, at_first, files_folded, splits_of, LosesNamedAlone, IsRefusedFor, FoldsFiles, NeverUnready, IsFailing, Meets, Why, why_of, IsFolded, IsUnderWay, conditions_of, Conditions, AreSessions, Holdings, Base, IsImage, Keeps, name_bytes, Reply, refused, IsFailure, no_database, start_of, Outcome, Costs, ElderOver, EldersOver, LeavesRows, LosesNamedOver, ReasonsOver, BeginsWith, IsMissedFor, comes_to, last_of, IsMisnumbered, Asked, FoldsInto, AcceptsChange, ChangesDatabase, CommitsRows, Transacts, Commanded, IsReady, Serves, Commits}
+use Rattle.zeb_engine.proofs.Cited.{◌≡◌, ◌≢◌, ◌⊎◌, ◌∙◌, ◌<◌, ◌≤◌, ℕ, ℤ, pos, length, map, List, Option, Some, None, Result, Ok, Err, OnOk, IsTrue, inl, inr, refl, sym, ap, subst, subst₂, arith, flat_map, Database, State, Trees, HasCleanDisk, Split, Directive, IsProfile, Work, PutsDatabase, IsDatabaseOf, AreCountedDatabases, version_of, Changes, IsStore, databases_tree, registers_stay, Refusal, Damaged, Kind, Update, AllFindWhole, PassesOn, Progress, at_first, files_folded, splits_of, LosesNamedAlone, IsRefusedFor, FoldsFiles, NeverUnready, IsFailing, Meets, Why, why_of, IsFolded, IsUnderWay, conditions_of, Conditions, AreSessions, Holdings, Base, IsImage, Keeps, name_bytes, Reply, refused, IsFailure, no_database, start_of, Outcome, Costs, ElderOver, EldersOver, LeavesRows, LosesNamedOver, ReasonsOver, BeginsWith, IsMissedFor, comes_to, last_of, IsMisnumbered, Asked, FoldsInto, AcceptsChange, ChangesDatabase, CommitsRows, Transacts, Commanded, IsReady, Serves, Commits, StandsFor, ready, IsOfReady, never_unready}
 use Rattle.zeb_register.specs.declared.catalog.Database as catalog
-use Rattle.zeb_change.specs.UnderWay.{StandsFor}
 use Rattle.zeb_change.specs.Costs.{IsWorkFor}
-use Rattle.zeb_engine.specs.Steps.{ready}
 use Rattle.zeb_change.proofs.ChangeLaws as law
-use Rattle.zeb_change.proofs.ReadFaults.{IsOfReady, never_unready}
 use Rattle.zeb_engine.proofs.ChangeBegins.{may_begin, none_starts}
 use Rattle.zeb_engine.proofs.ChangeElders.{begins_at, few_elder, found_elder, leaves_same, missed_elder, put_elder, put_elders, put_leaves, put_named}
 use Rattle.zeb_engine.proofs.ChangeNumbers.{begins_sound, put_row, showing}
@@ -160,16 +157,16 @@ module _ (Fine : Type 0) (a : Asked) (work : Work) (s : State) where
 
       named_in : (texts : List (List ℕ)) → Told texts → LosesNamedOver profile name texts s.now.trees new.trees
       named_in texts read_so =
-          put_named profile kind name (showing s s.now) (showing s f.mid) (showing s f.now) (showing s new) its texts found f.fold.progress.last first_put f.numbers
+          put_named a.format profile kind name (showing s s.now) (showing s f.mid) (showing s f.now) (showing s new) its texts found f.fold.progress.last first_put f.numbers
           (subst (λ (l : ℕ). LosesNamedAlone profile l its (splits_of texts) f.mid.trees f.now.trees) f.at_first.last_is
           (law.named a.setting a.format a.row_work its (splits_of texts) (showing s f.mid) (showing s f.now) f.first f.fold first_put.layout (all_read texts read_so)))
           accepts.id last_put
 
-      leaves_in : (end : State) → end.now ≡ new → LeavesRows profile kind name s.now.trees end
+      leaves_in : (end : State) → end.now ≡ new → LeavesRows (version_of a.format) profile kind name s.now.trees end
       leaves_in end is =
-          leaves_same profile kind name s.now.trees (showing s new) end is
-          (put_leaves profile kind name (showing s s.now) (showing s f.mid) (showing s f.now) (showing s new) its found f.fold.progress.last first_put begins f.numbers
-          (subst (λ (l : ℕ). PassesOn profile its l f.fold.progress.last (showing s f.mid) (showing s f.now)) f.at_first.last_is
+          leaves_same (version_of a.format) profile kind name s.now.trees (showing s new) end is
+          (put_leaves a.format profile kind name (showing s s.now) (showing s f.mid) (showing s f.now) (showing s new) its found f.fold.progress.last first_put begins f.numbers
+          (subst (λ (l : ℕ). PassesOn a.format profile its l f.fold.progress.last (showing s f.mid) (showing s f.now)) f.at_first.last_is
           (law.passes a.setting a.format a.row_work its f.folds.0 (showing s f.mid) (showing s f.now) f.first f.fold first_put.layout f.folds.2))
           accepts.id last_put)
 
@@ -247,7 +244,7 @@ module _ (Fine : Type 0) (a : Asked) (work : Work) (s : State) where
     named (Ok told) does texts read_so = named_in does.found does.begins worked new told does.applies texts read_so
     named (Err refusal) does texts read_so = tt
 
-    pub leaves : (end : State) → end.now ≡ new → (result : Result Reply Refusal) → Does result → OnOk result (LeavesRows profile kind name s.now.trees end)
+    pub leaves : (end : State) → end.now ≡ new → (result : Result Reply Refusal) → Does result → OnOk result (LeavesRows (version_of a.format) profile kind name s.now.trees end)
     leaves end is (Ok told) does = leaves_in does.found does.begins worked new told does.applies end is
     leaves end is (Err refusal) does = tt
 

@@ -20,9 +20,8 @@ base_of_id id_of id (first ∷ rest) = elim (told_id id (id_of first.name)) [
 pub image_numbered : (format : Format) (profile : List Directive) (trees : Trees) (bases : List Base) → AreBases profile bases → (image : IsImageOf format profile trees bases) → HaveSystemNumbers image.lists.records_of
 image_numbered format profile trees bases are image id kept there = elim (base_of_id image.lists.id_of id bases) [
   | inl it ↦
-      let base = it.0 in
-      let among = contains_had bases base it.1 in
-      base_numbered profile base (are.each base among) kept (subst (λ (l : List Kept). Contains l kept) (ap image.lists.records_of it.2 ∙ image.lists.of_base base among) there)
+      let among = contains_had bases it.0 it.1 in
+      base_numbered profile it.0 (are.each it.0 among) kept (subst (λ (l : List Kept). Contains l kept) (ap image.lists.records_of it.2 ∙ image.lists.of_base it.0 among) there)
   | inr none ↦ absurd (image.lists.of_none id (λ base among. none base (has_contained bases base among)) kept there)
 ]
 

@@ -13,19 +13,8 @@ IsOfText (Some marc.ReadFault) = ⊥
 IsOfText fault = ⊤
 
 record_fault : (fault : MarcFault) → IsRecordFault fault → IsOfText (Some fault)
-record_fault marc.LengthDigits is = tt
-record_fault marc.LengthRange is = tt
-record_fault marc.Truncated is = tt
-record_fault marc.NoTerminator is = tt
-record_fault marc.LeaderCounts is = tt
-record_fault marc.BaseAddress is = tt
-record_fault marc.DirectoryLength is = tt
-record_fault marc.EntryDigits is = tt
-record_fault marc.EntryTag is = tt
-record_fault marc.EntryRange is = tt
-record_fault marc.FieldEnd is = tt
-record_fault marc.TooManySeparators is = tt
 record_fault marc.ReadFault is = absurd is
+record_fault _ is = tt
 
 pub first_of_text : (text : List ℕ) → IsOfText (first_fault text)
 first_of_text text = go (first_fault text) refl

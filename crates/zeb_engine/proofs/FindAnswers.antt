@@ -1,6 +1,5 @@
 -- A find, step by step: what a plan holds of by the postings of its key, and that sets of the same occurrences have the same answers.
-use Rattle.zeb_engine.proofs.Cited.{◌≡◌, ◌↔◌, ◌-◌, ◌&&◌, ℕ, ℤ, zero, suc, pos, Bool, true, false, if◌then◌else◌, List, [], ◌∷◌, length, take, drop, nat_lt, Result, Ok, Err, refl, sym, ap, subst, inl, inr, arith, IsUtf8, Contains, decimal, Trees, Has, Directive, PlanRefusal, PlanValue, Occurrence, posted, Format, has_taken, Answer, Why, diagnostic, Meets, AreShown, IsNamed, IsPlanned, IsShown, asked_of, TreeHolds, AreNumbers, HoldsIn, is_kept_in, NamesReadable, names_readable, tree_alike, holder_known, Base, Kept, base_numbered}
-use Rattle.zeb_search.proofs.KnownHolders.{IsKnown}
+use Rattle.zeb_engine.proofs.Cited.{◌≡◌, ◌↔◌, ◌-◌, ◌&&◌, ℕ, ℤ, zero, suc, pos, Bool, true, false, if◌then◌else◌, List, [], ◌∷◌, length, take, drop, nat_lt, Result, Ok, Err, refl, sym, ap, subst, inl, inr, arith, IsUtf8, Contains, decimal, Trees, Has, Directive, PlanRefusal, PlanValue, Occurrence, posted, Format, has_taken, Answer, Why, diagnostic, Meets, AreShown, IsNamed, IsPlanned, IsShown, asked_of, TreeHolds, AreNumbers, HoldsIn, is_kept_in, NamesReadable, names_readable, tree_alike, holder_known, Base, Kept, base_numbered, IsKnown}
 use Rattle.zeb_engine.proofs.DatabasesOfImages.{IsHeld}
 use Rattle.zeb_engine.proofs.Showing.{KeepsEach}
 

@@ -1,5 +1,5 @@
 -- A column stores the numbers of the hits of a content.
-use Rattle.zeb_engine.proofs.Cited.{◌≡◌, ◌⊎◌, ◌<◌, ◌^◌, ℕ, ℤ, List, Ok, sym, subst, inl, inr, arith, Trees, Has, AllWordsOf, AlwaysOf, AnyWordOf, CompleteOf, HasSmallNumber, HasSmallNumbers, NearOf, NoWordsOf, NumberOf, OrderedOf, PairOf, PhraseOf, PlanValue, RecordNumberOf, TermOf, TermPlanValue, Occurrence, Content, IsStorable, posted, TermHolds, TreeHolds, AreNumbers, is_kept_in, HoldsIn, holder_known, asked_of}
+use Rattle.zeb_engine.proofs.Cited.{◌≡◌, ◌⊎◌, ◌<◌, ◌^◌, ℕ, ℤ, List, Ok, sym, subst, inl, inr, arith, Trees, Has, HasSmallNumber, HasSmallNumbers, NearOf, NoWordsOf, PairOf, PlanValue, RecordNumberOf, TermOf, TermPlanValue, Occurrence, Content, IsStorable, posted, TermHolds, TreeHolds, AreNumbers, is_kept_in, HoldsIn, holder_known, asked_of}
 use Rattle.zeb_query.specs.declared.plans.Operator.TheVariants as operator
 use Rattle.zeb_engine.proofs.FindAnswers.{asked_has}
 
@@ -15,13 +15,7 @@ module _ (O : ℕ → Occurrence → Type 0) (K : ℕ → Type 0) where
   term_near : (plan : TermPlanValue) → HasSmallNumber plan → (n : ℕ) → TermHolds O K plan n → IsNear n
   term_near (RecordNumberOf number) small n h = inr (subst (λ m. m < 10 ^ 9) (sym h.0) small)
   term_near (NoWordsOf index register) small n h = absurd h
-  term_near (AlwaysOf index register) small n h = entry_near (AlwaysOf index register) n h
-  term_near (NumberOf index relation number) small n h = entry_near (NumberOf index relation number) n h
-  term_near (OrderedOf index register relation start) small n h = entry_near (OrderedOf index register relation start) n h
-  term_near (CompleteOf index pattern) small n h = entry_near (CompleteOf index pattern) n h
-  term_near (PhraseOf index patterns first) small n h = entry_near (PhraseOf index patterns first) n h
-  term_near (AllWordsOf index patterns) small n h = entry_near (AllWordsOf index patterns) n h
-  term_near (AnyWordOf index patterns) small n h = entry_near (AnyWordOf index patterns) n h
+  term_near plan small n h = entry_near plan n h
 
   tree_near : (plan : PlanValue) → HasSmallNumbers plan → (n : ℕ) → TreeHolds O K plan n → IsNear n
   tree_near (TermOf plan) small n h = term_near plan small n h

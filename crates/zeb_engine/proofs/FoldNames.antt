@@ -1,5 +1,5 @@
 -- Records that are folded into a database leave it its name.
-use Rattle.zeb_engine.proofs.Cited.{◌≡◌, ◌∙◌, ◌+◌, ℕ, List, [], ◌∷◌, Bool, true, false, nat_le, Option, Some, None, Result, Ok, Err, IfOk, refl, ap, subst, if◌then◌else◌, MarcFault, first_fault, Split, IdentFault, Kind, Update, Delete, Adelete, Fate, Inserted, Updated, Deleted, PassedOver, Why, database_full, too_many_records, unknown, Conditions, Changed, Progress, updated, deleted, changed_by, with_ident, ident_in, with_record, counted, ◌then◌, at_end, slices_folded, files_folded, Base, Kept, kept_as, with_new}
+use Rattle.zeb_engine.proofs.Cited.{◌≡◌, ◌∙◌, ◌+◌, ℕ, List, [], ◌∷◌, Bool, true, false, nat_le, Option, Some, None, Result, Ok, Err, IfOk, refl, ap, subst, if◌then◌else◌, MarcFault, first_fault, Split, IdentFault, Kind, Update, Delete, Adelete, Fate, Inserted, PassedOver, Why, database_full, too_many_records, unknown, Conditions, Changed, Progress, updated, deleted, changed_by, with_ident, ident_in, with_record, counted, ◌then◌, at_end, slices_folded, files_folded, Base, Kept, kept_as, with_new}
 use Rattle.zeb_change.specs.Folding.{changed_record, record_folded, file_folded}
 
 abbrev pub KeepsName : Base → Result Changed Why → Type 0
@@ -45,9 +45,7 @@ module _ (c : Conditions) (bytes : List ℕ) (base : Base) where
 
 pub counted_in : (base : Base) (p : Progress) (fate : Fate) → (counted base p fate).base ≡ base
 counted_in base p Inserted = refl
-counted_in base p Updated = refl
-counted_in base p Deleted = refl
-counted_in base p PassedOver = refl
+counted_in base p _ = refl
 
 module _ (c : Conditions) (kind : Kind) where
   folded_leaves : (file nth : ℕ) (bytes : List ℕ) (p : Progress) → LeavesName p.base (record_folded c kind file nth bytes p)

@@ -1,7 +1,6 @@
 -- A look whether a register is ready: what the texts of the store tell is told of what is held, and of the command behind the look.
-use Rattle.zeb_engine.proofs.Cited.{◌≡◌, ◌≢◌, ◌⊎◌, ℕ, List, codes, Result, Ok, Err, MatchResult, IsTrue, IsUtf8, refl, sym, ap, subst, Some, inl, inr, Trees, State, Directive, canonical_text, plain_rows, IsStore, Refusal, why_of, IsFailing, Meets, Limits, Conditions, conditions, Holdings, nothing_yet, under, Base, IsImage, Keeps, IsLook, RefusesTexts, GoesByTexts, IsReadyFor, IsRefusedOver, KeepsText}
+use Rattle.zeb_engine.proofs.Cited.{◌≡◌, ◌≢◌, ◌⊎◌, ℕ, List, codes, Result, Ok, Err, MatchResult, IsTrue, IsUtf8, refl, sym, ap, subst, Some, inl, inr, Trees, State, Directive, canonical_text, plain_rows, IsStore, Refusal, why_of, IsFailing, Meets, Limits, Conditions, conditions, Holdings, nothing_yet, under, Base, IsImage, Keeps, IsLook, RefusesTexts, GoesByTexts, IsReadyFor, IsRefusedOver, KeepsText, ready}
 use Rattle.zeb_change.specs.declared.refusals.Refusal.TheVariants as refusal
-use Rattle.zeb_engine.specs.Steps.{ready}
 use Rattle.zeb_engine.proofs.Ready.{none_there, profile_in, profile_readable, ready_changed, ready_good, ready_none, ready_old, same_inside, version_in, version_is, version_readable}
 use Rattle.zeb_engine.proofs.RenewalTexts.{profile_kept, ready_held, version_kept}
 use Rattle.zeb_engine.proofs.TextLooks.{kept_readable}
@@ -14,14 +13,7 @@ module _ (version : List ℕ) (profile : List Directive) (s : State) where
   refused_over refusal.Damaged is = inl is
   refused_over refusal.Store is = tt
   refused_over refusal.Memory is = tt
-  refused_over refusal.IdentifierRuleChanged is = absurd is
-  refused_over (refusal.Diagnostic number place addinfo) is = absurd is
-  refused_over refusal.Exists is = absurd is
-  refused_over (refusal.Record file nth fault) is = absurd is
-  refused_over (refusal.Unknown file nth) is = absurd is
-  refused_over refusal.DatabaseFull is = absurd is
-  refused_over refusal.TooManyRecords is = absurd is
-  refused_over (refusal.ReadFault file) is = absurd is
+  refused_over _ is = absurd is
 
   abbrev pub TellsTexts : Result (Unit {0}) Refusal → Type 0
   TellsTexts result = IsStore s → MatchResult result (λ _. IsReadyFor version profile s.now.trees) (RefusesTexts version profile s.now.trees)
@@ -49,20 +41,12 @@ module _ (c : Conditions) (trees : Trees) where
       inr (ready_old c (under version text bases) version refl (λ same. is.1 (subst (KeepsText trees (codes "version")) same (version_kept trees version text image.1.pattern image.1.texts))))
   ready_refused nothing_yet image refusal.ProfileChanged is = absurd (none_there trees (codes "version") c.version image.0.0 is.0)
   ready_refused (under version text bases) image refusal.ProfileChanged is =
-      let it = image.1 in
-      inr (ready_changed c (under version text bases) (ap Some (sym (version_is trees version text it.pattern it.texts c.version is.0)))
-      (λ same. is.1 (subst (KeepsText trees (codes "profile")) (same_inside text (canonical_text c.profile) same) (profile_kept trees version text it.pattern it.texts))))
+      inr (ready_changed c (under version text bases) (ap Some (sym (version_is trees version text image.1.pattern image.1.texts c.version is.0)))
+      (λ same. is.1 (subst (KeepsText trees (codes "profile")) (same_inside text (canonical_text c.profile) same) (profile_kept trees version text image.1.pattern image.1.texts))))
   ready_refused before image refusal.Damaged is = absurd (elim is [ inl hard ↦ hard (version_readable plain_rows c trees before image) | inr hard ↦ hard.1 (profile_readable plain_rows c trees before image) ])
   ready_refused before image refusal.Store is = inl (inl refl)
   ready_refused before image refusal.Memory is = inl (inr refl)
-  ready_refused before image refusal.IdentifierRuleChanged is = absurd is
-  ready_refused before image (refusal.Diagnostic number place addinfo) is = absurd is
-  ready_refused before image refusal.Exists is = absurd is
-  ready_refused before image (refusal.Record file nth fault) is = absurd is
-  ready_refused before image (refusal.Unknown file nth) is = absurd is
-  ready_refused before image refusal.DatabaseFull is = absurd is
-  ready_refused before image refusal.TooManyRecords is = absurd is
-  ready_refused before image (refusal.ReadFault file) is = absurd is
+  ready_refused before image _ is = absurd is
 
 -- what is held tells the same
 pub look_held : (version : List ℕ) (profile : List Directive) (limits : Limits) (old new : State) (before : Holdings) → Keeps old before → (result : Result (Unit {0}) Refusal)

@@ -1,8 +1,7 @@
 -- What a create makes and a drop takes, by the rows that each writes: what is said of them on any tables.
-use Rattle.zeb_engine.proofs.Cited.{ℕ, ℤ, pos, List, Some, None, Result, Ok, Err, refl, ap, inl, inr, Bor, Database, State, TakesWhole, IsStore, IsDatabaseOf, Format, Content, IsWithout, holds_in, one_name, Refusal, Reply, DbName, name_bytes, refused, reply_answer, done, why_of, CountedAnswers, CreateOver, DropOver, HidesDatabase, TellsUnlessHidden, DropsDatabase, OnAccepted, MakesDatabase, CreatesDatabase, DropsNamed, TakesRows, WriteDoes}
+use Rattle.zeb_engine.proofs.Cited.{ℕ, ℤ, pos, List, Some, None, Result, Ok, Err, refl, ap, inl, inr, Bor, Database, State, TakesWhole, IsStore, IsDatabaseOf, Format, Content, IsWithout, holds_in, one_name, Refusal, Reply, DbName, name_bytes, refused, reply_answer, done, why_of, CountedAnswers, CreateOver, DropOver, HidesDatabase, TellsUnlessHidden, DropsDatabase, OnAccepted, MakesDatabase, CreatesDatabase, DropsNamed, TakesRows, WriteDoes, AreStores}
 use Rattle.zeb_register.specs.declared.catalog.Database as catalog
 use Rattle.zeb_engine.specs.declared.writes.Write.TheVariants as write
-use Rattle.zeb_change.specs.RecordChanges.{AreStores}
 use Rattle.zeb_engine.proofs.HiddenRows.{misses_hidden}
 
 are_store : (s : State) → AreStores s.now → IsStore s
@@ -70,12 +69,11 @@ module _ (name : List ℕ) (old new : State) where
     pub drops_takes : (result : Result Reply Refusal) → (IsStore old → DropsNamed format name old.now new.now result) → OnAccepted (DropsDatabase name) old new result
     drops_takes (Ok told) does store =
         let did = does store in
-        let found = did.0 in
         record {
-          id = found.id.0;
-          last = pos found.last;
+          id = did.0.id.0;
+          last = pos did.0.last;
           there = did.1;
-          none = λ i l there. let was = (did.3.databases i name l).0 there in was.1 (one_name old i found.id.0 name l (pos found.last) store was.0 did.1);
-          taken = taken_whole format found.id.0 old new did.3;
+          none = λ i l there. let was = (did.3.databases i name l).0 there in was.1 (one_name old i did.0.id.0 name l (pos did.0.last) store was.0 did.1);
+          taken = taken_whole format did.0.id.0 old new did.3;
         }
     drops_takes (Err refusal) does store = tt

@@ -1,6 +1,5 @@
 -- Damage is no answer of a command that is served, from tables that hold something.
-use Rattle.zeb_engine.proofs.Cited.{◌≡◌, ◌≢◌, ◌⊎◌, ◌∙◌, ℕ, List, [], Result, Err, inl, inr, ap, subst, State, Command, Kind, Refusal, Damaged, Reply, answer_of, refused, IsFailure, damaged, why_of, Conditions, Holdings, Keeps, Outcome, splits_of, ServesCommand}
-use Rattle.zeb_engine.specs.Steps.{changed_by_files, turned}
+use Rattle.zeb_engine.proofs.Cited.{◌≡◌, ◌≢◌, ◌⊎◌, ◌∙◌, ℕ, List, [], Result, Err, inl, inr, ap, subst, State, Command, Kind, Refusal, Damaged, Reply, answer_of, refused, IsFailure, damaged, why_of, Conditions, Holdings, Keeps, Outcome, splits_of, ServesCommand, changed_by_files, turned}
 use Rattle.zeb_engine.proofs.OwnAnswers.{IsOwnAnswer, answers_own, change_own, turned_own}
 use Rattle.zeb_engine.proofs.StepLemmas.{step_told}
 

@@ -1,7 +1,6 @@
 -- What the definition says that a command answers is one answer.
-use Rattle.zeb_engine.proofs.Cited.{◌≡◌, ◌∙◌, ℕ, List, [], ◌∷◌, map, length, Option, Some, None, Result, Ok, Err, refl, sym, ap, ap₂, subst, inl, inr, string_bytes, nat_cmp_total, Has, Directive, QueryValue, PlanValue, ScanValue, plan_of, scan_of, apart, one_fault, one_query, Occurrence, analyses_once, TermCount, one_terms, same_list, Command, Init, Check, Reindex, Upgrade, Create, Drop, Stat, Dump, Change, Find, Scan, Analyse, IsAnalysed, analysis_answer, Answer, found, refused, scanned, Why, diagnostic, Conditions, TreeHolds, AreNumbers, IsAnswered, IsFound, IsNamed, IsPlanned, IsShown, asked_of, has_name, occurs, Base, Kept, Holdings, base_named, name_bytes, IsScanned, IsScanPlanned, around, AskedAmong, AskedFrom, AskedIn, FindAnswers, Outcome, ScanAnswers, Step}
+use Rattle.zeb_engine.proofs.Cited.{◌≡◌, ◌∙◌, ℕ, List, [], ◌∷◌, map, length, Option, Some, None, Result, Ok, Err, refl, sym, ap, ap₂, subst, inl, inr, string_bytes, nat_cmp_total, Has, Directive, QueryValue, PlanValue, ScanValue, plan_of, scan_of, apart, one_fault, one_query, Occurrence, analyses_once, TermCount, one_terms, same_list, Command, Stat, Find, Scan, Analyse, IsAnalysed, analysis_answer, Answer, found, refused, scanned, Why, diagnostic, Conditions, TreeHolds, AreNumbers, IsAnswered, IsFound, IsNamed, IsPlanned, IsShown, asked_of, has_name, occurs, Base, Kept, Holdings, base_named, name_bytes, IsScanned, IsScanPlanned, around, AskedAmong, AskedFrom, AskedIn, FindAnswers, Outcome, ScanAnswers, Step, ready}
 use Rattle.zeb_query.specs.Checks.{Refusal}
-use Rattle.zeb_engine.specs.Steps.{ready}
 use Rattle.zeb_engine.proofs.StepLemmas.{MayAnswer, IsTold, step_told}
 use Rattle.zeb_engine.proofs.OneCount.{counted_once}
 
@@ -31,8 +30,7 @@ module _ (O : ℕ → Occurrence → Type 0) (N : ℕ → List ℕ → Type 0) (
 
   pub found_once : (plan : PlanValue) → IsFound O N plan first count one → IsFound O N plan first count other → one ≡ other
   found_once plan x y =
-      let same = numbers_once (TreeHolds O (IsNamed O N) plan) x.0 y.0 x.1 y.1 in
-      shown_once y.0 (asked_of y.0 first count) (subst (λ (hits : List ℕ). IsShown N hits (asked_of hits first count) one) same x.2) y.2
+      shown_once y.0 (asked_of y.0 first count) (subst (λ (hits : List ℕ). IsShown N hits (asked_of hits first count) one) (numbers_once (TreeHolds O (IsNamed O N) plan) x.0 y.0 x.1 y.1) x.2) y.2
 
   planned_once : (plan : Result PlanValue Refusal) → IsPlanned O N plan first count one → IsPlanned O N plan first count other → one ≡ other
   planned_once (Ok plan) x y = found_once plan x y
@@ -91,22 +89,15 @@ module _ (one other : Answer) where
   told_once (Some told) x y = x ∙ sym y
 
 pub answers_once : (c : Conditions) (command : Command) (before : Holdings) (one other : Answer) → MayAnswer c command before one → MayAnswer c command before other → one ≡ other
-answers_once c Init before one other x y = x ∙ sym y
-answers_once c (Create name) before one other x y = x ∙ sym y
-answers_once c (Drop name) before one other x y = x ∙ sym y
-answers_once c (Change kind name files) before one other x y = x ∙ sym y
 answers_once c (Find name query first count) before one other x y =
     asked_once one other (FindAnswers c.profile (string_bytes query) first count)
     (λ base. answered_once (occurs c.profile base.records) (has_name base.records) (name_once base.records) first count one other c.profile (string_bytes query)) (name_bytes name) (string_bytes query) (ready c before) x y
-answers_once c Check before one other x y = x ∙ sym y
-answers_once c Reindex before one other x y = x ∙ sym y
-answers_once c Upgrade before one other x y = x ∙ sym y
 answers_once c (Stat name) before one other x y = counted_once c (name_bytes name) one other (ready c before) x y
-answers_once c (Dump name) before one other x y = x ∙ sym y
 answers_once c (Scan name query number position) before one other x y =
     asked_once one other (ScanAnswers c.profile (string_bytes query) number position)
     (λ base. scanned_once (occurs c.profile base.records) number position one other c.profile (string_bytes query)) (name_bytes name) (string_bytes query) (ready c before) x y
 answers_once c (Analyse files) before one other x y = analysed_once c.profile c.limits.records (map (λ file. file.items) files.items) one other x y
+answers_once c _ before one other x y = x ∙ sym y
 
 pub steps_once : (c : Conditions) (command : Command) (before : Holdings) (one other : Answer) (left right : Holdings) → Step c command before one left → Step c command before other right
     → (one ≡ other) × (left ≡ right)

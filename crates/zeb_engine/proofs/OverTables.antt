@@ -70,8 +70,7 @@ module _ (profile : List Directive) (text : List ℕ) (value : QueryValue) (spel
     pub plan_scanned : (e : QueryFault) → Fails e (scan_of profile value) → IsOrFails Scans (query_refusal e)
     plan_scanned Memory said = inr (inr refl)
     plan_scanned (Diagnostic number_of place addinfo) said =
-        let answer = refused (diagnostic number_of place (string_bytes addinfo)) in
-        inl (value, spells, subst (λ r. IsScanPlannedBy Terms r number position answer) (sym said) refl)
+        inl (value, spells, subst (λ r. IsScanPlannedBy Terms r number position (refused (diagnostic number_of place (string_bytes addinfo)))) (sym said) refl)
 
     pub terms_scanned : (plan : ScanValue) → scan_of profile value ≡ Ok plan → (terms : List TermCount) → Terms plan number position terms → Scans (scanned plan.register (map (λ t. (t.term, t.records)) terms))
     terms_scanned plan planned terms are =

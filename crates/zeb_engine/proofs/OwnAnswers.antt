@@ -1,8 +1,7 @@
 -- What the definition answers is never damage, nor a failure of the store, of the memory or of a reader.
-use Rattle.zeb_engine.proofs.Cited.{refl, ◌+◌, ◌-◌, ℕ, Bool, true, false, cond, inl, inr, List, [], ◌∷◌, Option, Some, None, Result, Ok, Err, map, length, take, drop, nat_le, nat_lt, sym, subst, string_bytes, ◌||◌, ⊤, bytes_eq, decimal, MarcFault, first_fault, fields_of, units_of, canonical_text, plain_rows, version_of, PlanValue, ScanValue, plan_of, scan_of, Occurrence, IdentFault, AnalysisFault, Analysed, AnalysesTo, IsRefusal, Command, Init, Check, Reindex, Upgrade, Create, Drop, Stat, Dump, Change, Find, Scan, Analyse, Kind, Update, Delete, Adelete, Inserted, PassedOver, name_bytes, Answer, refused, Why, old_format, profile_changed, rule_changed, diagnostic, unknown, database_full, too_many_records, damaged, read_fault, store_failed, out_of_memory, why_of, Conditions, IsPlanned, IsShown, asked_of, has_name, occurs, IsScanPlanned, Changed, Progress, at_end, at_first, changed_by, counted, deleted, files_folded, ident_in, slices_folded, updated, with_ident, with_record, ◌then◌, splits_of, Base, Kept, kept_as, with_new, Holdings, nothing_yet, under, base_named, IsAnalysed, analysis_answer, same_rule, analysis_refusal, marc_refusal, AskedAmong, AskedFrom, AskedIn, CountedFrom, CountedIn, FindAnswers, ScanAnswers, Turn, change_ends, change_from, created_in, dropped_in, dumped_from, dumped_in, ends, start_of, turned_from, checked_from, all_stay}
+use Rattle.zeb_engine.proofs.Cited.{refl, ◌+◌, ◌-◌, ℕ, Bool, true, false, cond, inl, inr, List, [], ◌∷◌, Option, Some, None, Result, Ok, Err, map, length, take, drop, nat_le, nat_lt, sym, subst, string_bytes, ◌||◌, ⊤, bytes_eq, decimal, MarcFault, first_fault, fields_of, units_of, canonical_text, plain_rows, version_of, PlanValue, ScanValue, plan_of, scan_of, Occurrence, IdentFault, AnalysisFault, Analysed, AnalysesTo, IsRefusal, Command, Init, Check, Reindex, Upgrade, Create, Drop, Stat, Dump, Change, Find, Scan, Analyse, Kind, Update, Delete, Adelete, Inserted, PassedOver, name_bytes, Answer, refused, Why, old_format, profile_changed, rule_changed, diagnostic, unknown, database_full, too_many_records, damaged, read_fault, store_failed, out_of_memory, why_of, Conditions, IsPlanned, IsShown, asked_of, has_name, occurs, IsScanPlanned, Changed, Progress, at_end, at_first, changed_by, counted, deleted, files_folded, ident_in, slices_folded, updated, with_ident, with_record, ◌then◌, splits_of, Base, Kept, kept_as, with_new, Holdings, nothing_yet, under, base_named, IsAnalysed, analysis_answer, same_rule, analysis_refusal, marc_refusal, AskedAmong, AskedFrom, AskedIn, CountedFrom, CountedIn, FindAnswers, ScanAnswers, Turn, change_ends, change_from, created_in, dropped_in, dumped_from, dumped_in, ends, start_of, turned_from, checked_from, all_stay, split_of}
 use Rattle.std.specs.Prelude.{◌&&◌}
 use Rattle.zeb_marc.specs.declared.faults.MarcFault.TheVariants as marc
-use Rattle.zeb_marc.specs.Splits.{split_of}
 use Rattle.zeb_query.specs.Checks.{Refusal}
 use Rattle.zeb_extract.specs.declared.naming.IdentFault.TheVariants as ident
 use Rattle.zeb_analysis.specs.declared.faults.AnalysisFault.TheVariants as analysis
@@ -29,19 +28,8 @@ AreOwn (Ok a) = ⊤
 AreOwn (Err why) = IsOwn why
 
 marc_own : (file nth : ℕ) (fault : MarcFault) → IsOfText (Some fault) → IsOwn (why_of (marc_refusal file nth fault))
-marc_own file nth marc.LengthDigits is = tt
-marc_own file nth marc.LengthRange is = tt
-marc_own file nth marc.Truncated is = tt
-marc_own file nth marc.NoTerminator is = tt
-marc_own file nth marc.LeaderCounts is = tt
-marc_own file nth marc.BaseAddress is = tt
-marc_own file nth marc.DirectoryLength is = tt
-marc_own file nth marc.EntryDigits is = tt
-marc_own file nth marc.EntryTag is = tt
-marc_own file nth marc.EntryRange is = tt
-marc_own file nth marc.FieldEnd is = tt
-marc_own file nth marc.TooManySeparators is = tt
 marc_own file nth marc.ReadFault is = absurd is
+marc_own file nth _ is = tt
 
 -- ---- one record
 
@@ -183,8 +171,7 @@ dropped_own name bases = go (base_named name bases)
 start_own : (kind : Kind) (name : List ℕ) (base : Option Base) → AreOwn (start_of kind name base)
 start_own kind name (Some base) = tt
 start_own Update name None = tt
-start_own Delete name None = tt
-start_own Adelete name None = tt
+start_own _ name None = tt
 
 pub change_own : (c : Conditions) (kind : Kind) (name : List ℕ) (texts : List (List ℕ)) (bases : List Base) → IsOwnTurn (changed_by_files c kind name (splits_of texts) bases)
 unfolding changed_by_files

@@ -1,10 +1,6 @@
 -- Calls that read, one after the other: what a command that makes them did to the connection, what they tell, and which refusals it gives.
-use Rattle.zeb_engine.proofs.Cited.{◌≡◌, false, Result, Ok, Err, IfErr, ap, sym, subst, Contents, Held, state, State, HasCleanDisk, IsUnchanged, Survives, Ghosts, Trees, QueryFault, Diagnostic, Memory, RegFault, IsReasoned, ChangesNothing, IsStore, store_same, nothing_still, nothing_then, quiet_then, clean_before, Refusal, query_refusal, register_refusal, NeverUnready, NoReadFault, ReadsAlone, IsAskRefusal}
-use Rattle.zeb_register.specs.Answers.{Answers, IfDamaged, TellsOr}
-use Rattle.zeb_register.specs.Calls.{Reading}
-use Rattle.zeb_register.specs.Clauses.{OnStore}
+use Rattle.zeb_engine.proofs.Cited.{◌≡◌, false, Result, Ok, Err, IfErr, ap, sym, subst, Contents, Held, state, State, HasCleanDisk, IsUnchanged, Survives, Ghosts, Trees, QueryFault, Diagnostic, Memory, RegFault, IsReasoned, ChangesNothing, IsStore, store_same, nothing_still, nothing_then, quiet_then, clean_before, Refusal, query_refusal, register_refusal, NeverUnready, NoReadFault, ReadsAlone, IsAskRefusal, Answers, IfDamaged, TellsOr, Reading, OnStore, quiet_still}
 use Rattle.zeb_register.specs.declared.RegFault.TheVariants as register
-use Rattle.zeb_register.proofs.CallsInTurn.{quiet_still}
 use Rattle.zeb_search.proofs.ReadLemmas.{IsRead}
 use Rattle.zeb_engine.proofs.StoreCauses.{HasCauseFor, fault_after, fault_caused}
 
@@ -12,8 +8,7 @@ use Rattle.zeb_engine.proofs.StoreCauses.{HasCauseFor, fault_after, fault_caused
 
 pub fault_asked : (fault : RegFault) → IsAskRefusal (register_refusal fault)
 fault_asked register.Damaged = tt
-fault_asked register.Store = tt
-fault_asked register.Memory = tt
+fault_asked _ = tt
 
 pub query_asked : (fault : QueryFault) → IsAskRefusal (query_refusal fault)
 query_asked (Diagnostic number place addinfo) = tt

@@ -1,6 +1,5 @@
 -- What a session's commands come to after a look at whether the register is ready.
-use Rattle.zeb_engine.proofs.Cited.{◌≡◌, ◌⊎◌, ℕ, List, Result, Ok, Err, IsTrue, Vec, map, inl, inr, refl, sym, ap, subst, Global, State, ChangesNothing, Analyse, Reply, Refusal, Answer, answer_of, IsFailure, Why, Meets, Conditions, Holdings, Base, Keeps, Outcome, Ends, OnlyAnswers, ServesBy, ServesCommand, Always, Serves, IsAnalysis}
-use Rattle.zeb_engine.specs.Steps.{ready}
+use Rattle.zeb_engine.proofs.Cited.{◌≡◌, ◌⊎◌, ℕ, List, Result, Ok, Err, IsTrue, Vec, map, inl, inr, refl, sym, ap, subst, Global, State, ChangesNothing, Analyse, Reply, Refusal, Answer, answer_of, IsFailure, Why, Meets, Conditions, Holdings, Base, Keeps, Outcome, Ends, OnlyAnswers, ServesBy, ServesCommand, Always, Serves, IsAnalysis, ready}
 use Rattle.zeb_engine.proofs.ServesLemmas.{keeps_still}
 
 pub ready_met : {X : Type 0} (Good : List Base → X → Type 0) (said : Result (List Base) Why) (x : X) → Meets Good said (Ok x) → (bases : List Base) × (said ≡ Ok bases) × Good bases x

@@ -1,9 +1,7 @@
 -- What a command has done that begins with a look whether the register is ready: where it is refused there, and where it goes on.
-use Rattle.zeb_engine.proofs.Cited.{◌≡◌, ℕ, Bool, List, [], Option, Result, Ok, Err, IsTrue, string_bytes, inl, inr, refl, sym, ap, subst, Database, Trees, Held, state, HasCleanDisk, Survives, Ghosts, Directive, Posting, Work, Format, version_of, IsStore, store_same, nothing_then, quiet_then, clean_before, Refusal, NeverUnready, NoReadFault, why_of, Reply, StaysOpen, Answer, refused, TellsUnlessHidden, UnlessHidden, CreateOver, DropOver, HidesDatabase, FindOver, HidesFind, ScanOver, HidesTerms, StatOver, HidesRegisters, DumpOver, HidesRecords, Command, Init, Create, Drop, Change, Find, Scan, Check, Reindex, Upgrade, Stat, Dump, Analyse, Limits, Conditions, conditions, name_bytes, Holdings, Base, Keeps, Turn, Outcome, Step, Ends, CountedFrom, checked_from, dumped_from, FoundFrom, ScannedFrom, ServesBy, Does, AnswersAnyway, CommandDone, ReadersDone, NoneFailed, Kind, TakesFiles, splits_of, Commanded, CommandedBy, CommitsBy, MayCommit, Commits, Always, Serves, IsReady, Transacts, LooksReady, ReadsAlone, TellsReady, IsUnready, no_work}
+use Rattle.zeb_engine.proofs.Cited.{◌≡◌, ℕ, Bool, List, [], Option, Result, Ok, Err, IsTrue, string_bytes, inl, inr, refl, sym, ap, subst, Database, Trees, Held, state, HasCleanDisk, Survives, Ghosts, Directive, Posting, Work, Format, version_of, IsStore, store_same, nothing_then, quiet_then, clean_before, Refusal, NeverUnready, NoReadFault, why_of, Reply, StaysOpen, Answer, refused, TellsUnlessHidden, UnlessHidden, CreateOver, DropOver, HidesDatabase, FindOver, HidesFind, ScanOver, HidesTerms, StatOver, HidesRegisters, DumpOver, HidesRecords, Command, Init, Create, Drop, Find, Scan, Check, Stat, Dump, Limits, Conditions, conditions, name_bytes, Holdings, Base, Keeps, Turn, Outcome, Step, Ends, CountedFrom, checked_from, dumped_from, FoundFrom, ScannedFrom, ServesBy, Does, AnswersAnyway, CommandDone, ReadersDone, NoneFailed, Kind, TakesFiles, splits_of, Commanded, CommandedBy, CommitsBy, MayCommit, Commits, Always, Serves, IsReady, Transacts, LooksReady, ReadsAlone, TellsReady, IsUnready, no_work, OnlyLooks, changed_by_files, created, dropped, ready, turned}
 use Rattle.zeb_change.specs.declared.refusals.Refusal.TheVariants as refusal
-use Rattle.zeb_engine.specs.Causes.{OnlyLooks}
 use Rattle.zeb_engine.specs.Counts.{Counted}
-use Rattle.zeb_engine.specs.Steps.{changed_by_files, created, dropped, ready, turned}
 use Rattle.zeb_engine.proofs.ChangeElders.{few_elder}
 use Rattle.zeb_engine.proofs.ChangeReasons.{few_reasons}
 use Rattle.zeb_engine.proofs.CheckAnswers.{unready_tells}
@@ -62,11 +60,7 @@ module _ (format : Format) (row_work : ℕ) (block_rows : List Posting → ℕ) 
   unready_step (Dump name) needs before is = (sym (ap (dumped_from (name_bytes name)) is), refl)
   unready_step (Scan name query number position) needs before is =
       (subst (λ (r : Result (List Base) _). ScannedFrom here (name_bytes name) (string_bytes query) number position r (refused (why_of why))) (sym is) refl, refl)
-  unready_step Init needs before is = absurd needs
-  unready_step (Change kind name files) needs before is = absurd needs
-  unready_step Reindex needs before is = absurd needs
-  unready_step Upgrade needs before is = absurd needs
-  unready_step (Analyse files) needs before is = absurd needs
+  unready_step _ needs before is = absurd needs
 
   pub unread : NoReadFault {T = Reply} (Err why)
   unread file is = let same : why ≡ refusal.ReadFault file = cc in absurd (subst IsUnready same looked.few)
@@ -125,10 +119,7 @@ module _ (format : Format) (row_work : ℕ) (block_rows : List Posting → ℕ) 
     told = hidden clean (ScanOver format profile (name_bytes name) (string_bytes query) number position) (HidesTerms format profile (name_bytes name) (string_bytes query) number position);
   }
   unready_does clean Init needs = absurd needs
-  unready_does clean (Change kind name files) needs = absurd needs
-  unready_does clean Reindex needs = absurd needs
-  unready_does clean Upgrade needs = absurd needs
-  unready_does clean (Analyse files) needs = absurd needs
+  unready_does clean _ needs = absurd needs
 
   module _ (work : Work) (fresh : work ≡ no_work) where
     -- what it did to the connection, what it answers anyhow, and what it has counted
@@ -143,11 +134,7 @@ module _ (format : Format) (row_work : ℕ) (block_rows : List Posting → ℕ) 
     besides (Stat name) needs = (call, unread, tt)
     besides (Dump name) needs = (call, unread, fresh)
     besides (Scan name query number position) needs = (call, unread, λ clean. tt)
-    besides Init needs = absurd needs
-    besides (Change kind name files) needs = absurd needs
-    besides Reindex needs = absurd needs
-    besides Upgrade needs = absurd needs
-    besides (Analyse files) needs = absurd needs
+    besides _ needs = absurd needs
 
     pub unready_done : (command : Command) → NeedsReady command → CommandDone g format row_work block_rows here command old mid (Err why) work
     unready_done command needs =
@@ -198,8 +185,7 @@ module _ {S : Type 0} {g : Ghosts S} {version : List ℕ} {profile : List Direct
         idle = reads.idle;
         same = λ clean. nothing_then (state g old) (state g mid) (state g new) (looked.reads.same (first clean)) (reads.same clean);
         opened = λ clean.
-            let was = looked.reads.opened (first clean) in
-            on_ok result (StaysOpen (state g mid) (state g new)) (StaysOpen (state g old) (state g new)) (λ stays. (was.0, stays.1)) (reads.opened clean);
+            on_ok result (StaysOpen (state g mid) (state g new)) (StaysOpen (state g old) (state g new)) (λ stays. ((looked.reads.opened (first clean)).0, stays.1)) (reads.opened clean);
         crash = quiet_then (state g old) (state g mid) (state g new) looked.reads.crash reads.crash;
         caused = λ clean.
             let leaves = accepted_leaves (state g old) (state g mid) looked.reads.crash (looked.reads.opened (first clean)) (looked.reads.same (first clean)) in

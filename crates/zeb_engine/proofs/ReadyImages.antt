@@ -1,6 +1,5 @@
 -- What the tables of a register that is ready hold: the image of its databases, also under the session's own profile.
-use Rattle.zeb_engine.proofs.Cited.{◌≡◌, ◌∙◌, ℕ, List, Ok, Some, refl, sym, subst, option_map, Trees, Directive, canonical_text, pattern_text, identifier_pattern, Format, one_format, Conditions, AreSessions, Holdings, Base, AreBases, HasTexts, IsImage, IsImageOf, IsImageUnder, holding, under_other}
-use Rattle.zeb_engine.specs.Steps.{ready}
+use Rattle.zeb_engine.proofs.Cited.{◌≡◌, ◌∙◌, ℕ, List, Ok, Some, refl, sym, subst, option_map, Trees, Directive, canonical_text, pattern_text, identifier_pattern, Format, one_format, Conditions, AreSessions, Holdings, Base, AreBases, HasTexts, IsImage, IsImageOf, IsImageUnder, holding, under_other, ready}
 use Rattle.zeb_engine.proofs.Ready.{ready_is}
 
 -- under some profile that has the session's text

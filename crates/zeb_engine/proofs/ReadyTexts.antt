@@ -22,17 +22,10 @@ module _ (version : List ℕ) (profile : List Directive) where
   unready_fails trees texts refusal.NotInitialised few is whole = absurd (is version texts.has_version)
   unready_fails trees texts refusal.OldFormat few is whole = absurd (is.1 texts.has_version)
   unready_fails trees texts refusal.ProfileChanged few is whole = absurd (is.1 texts.has_profile)
-  unready_fails trees texts (refusal.Diagnostic number place addinfo) few is whole = absurd few
-  unready_fails trees texts refusal.Exists few is whole = absurd few
-  unready_fails trees texts (refusal.Record file nth fault) few is whole = absurd few
-  unready_fails trees texts (refusal.Unknown file nth) few is whole = absurd few
-  unready_fails trees texts refusal.DatabaseFull few is whole = absurd few
-  unready_fails trees texts refusal.TooManyRecords few is whole = absurd few
   unready_fails trees texts refusal.Damaged few is whole = absurd (whole refl)
-  unready_fails trees texts refusal.IdentifierRuleChanged few is whole = absurd few
-  unready_fails trees texts (refusal.ReadFault file) few is whole = absurd few
   unready_fails trees texts refusal.Store few is whole = inl refl
   unready_fails trees texts refusal.Memory few is whole = inr refl
+  unready_fails trees texts _ few is whole = absurd few
 
   -- ---- after a look at the register
 
@@ -40,17 +33,11 @@ module _ (version : List ℕ) (profile : List Directive) where
   other_texts trees refusal.NotInitialised is never = absurd (never.0 refl)
   other_texts trees refusal.OldFormat is never = absurd (never.1 refl)
   other_texts trees refusal.ProfileChanged is never = absurd (never.2 refl)
-  other_texts trees (refusal.Diagnostic number place addinfo) is never = is
-  other_texts trees refusal.Exists is never = is
-  other_texts trees (refusal.Record file nth fault) is never = is
-  other_texts trees (refusal.Unknown file nth) is never = is
-  other_texts trees refusal.DatabaseFull is never = is
-  other_texts trees refusal.TooManyRecords is never = is
   other_texts trees refusal.Damaged is never = inr is
-  other_texts trees refusal.IdentifierRuleChanged is never = is
   other_texts trees (refusal.ReadFault file) is never = tt
   other_texts trees refusal.Store is never = tt
   other_texts trees refusal.Memory is never = tt
+  other_texts trees _ is never = is
 
   -- the work of a command on a register that is ready
   pub ready_then : {T X : Type 0} (s : State) (x : X) → GoesByTexts version profile s (Ok x) → (result : Result T Refusal) → NeverUnready result → GoesByTexts version profile s result
@@ -60,11 +47,9 @@ module _ (version : List ℕ) (profile : List Directive) where
 -- a fault of the tables is no such refusal
 pub fault_never : {T : Type 0} (fault : RegFault) → NeverUnready {T = T} (Err (register_refusal fault))
 fault_never register.Damaged = (λ is. cc, λ is. cc, λ is. cc)
-fault_never register.Store = (λ is. cc, λ is. cc, λ is. cc)
-fault_never register.Memory = (λ is. cc, λ is. cc, λ is. cc)
+fault_never _ = (λ is. cc, λ is. cc, λ is. cc)
 
 -- nor that of a reader
 pub fault_reads : {T : Type 0} (fault : RegFault) → NoReadFault {T = T} (Err (register_refusal fault))
 fault_reads register.Damaged file is = cc
-fault_reads register.Store file is = cc
-fault_reads register.Memory file is = cc
+fault_reads _ file is = cc

@@ -1,5 +1,5 @@
 -- A command whose answer is a refusal leaves what was held.
-use Rattle.zeb_engine.proofs.Cited.{◌≡◌, ◌∙◌, ℕ, List, map, Option, Some, None, Result, Ok, Err, refl, sym, Split, Command, Init, Check, Reindex, Upgrade, Create, Drop, Stat, Dump, Change, Find, Scan, Analyse, Kind, Answer, refused, Why, Conditions, Accepts, IsRefused, Progress, at_first, files_folded, splits_of, Base, Holdings, base_named, name_bytes, Turn, all_stay, change_ends, change_from, created_in, dropped_in, ends, start_of, turned_from}
+use Rattle.zeb_engine.proofs.Cited.{◌≡◌, ◌∙◌, ℕ, List, map, Option, Some, None, Result, Ok, Err, refl, sym, Split, Command, Init, Reindex, Upgrade, Create, Drop, Change, Kind, Answer, refused, Why, Conditions, Accepts, IsRefused, Progress, at_first, files_folded, splits_of, Base, Holdings, base_named, name_bytes, Turn, all_stay, change_ends, change_from, created_in, dropped_in, ends, start_of, turned_from}
 use Rattle.zeb_engine.specs.Steps.{changed_by_files, created, dropped, initialised, ready, reindexed, ruled, turned, upgradable, upgraded}
 use Rattle.zeb_engine.proofs.StepLemmas.{MayAnswer, after}
 
@@ -65,16 +65,11 @@ init_accepts c before why is = absurd cc
 
 pub refused_still : (c : Conditions) (command : Command) (before : Holdings) (answer : Answer) → MayAnswer c command before answer → IsRefused answer → after c command before ≡ before
 refused_still c Init before answer told refuses = absurd (init_accepts c before refuses.0 (sym told ∙ refuses.1))
-refused_still c Check before answer told refuses = refl
 refused_still c Reindex before answer told refuses = reindexed_still c before refuses.0 (sym told ∙ refuses.1)
 refused_still c Upgrade before answer told refuses = upgraded_still c before refuses.0 (sym told ∙ refuses.1)
 refused_still c (Create name) before answer told refuses = turned_still c (created (name_bytes name)) (created_fine (name_bytes name)) before refuses.0 (sym told ∙ refuses.1)
 refused_still c (Drop name) before answer told refuses = turned_still c (dropped (name_bytes name)) (dropped_fine (name_bytes name)) before refuses.0 (sym told ∙ refuses.1)
-refused_still c (Stat name) before answer told refuses = refl
-refused_still c (Dump name) before answer told refuses = refl
 refused_still c (Change kind name files) before answer told refuses =
     let texts = splits_of (map (λ file. file.items) files.items) in
     turned_still c (changed_by_files c kind (name_bytes name) texts) (changed_fine c kind (name_bytes name) texts) before refuses.0 (sym told ∙ refuses.1)
-refused_still c (Find name query first count) before answer told refuses = refl
-refused_still c (Scan name query number position) before answer told refuses = refl
-refused_still c (Analyse files) before answer told refuses = refl
+refused_still c _ before answer told refuses = refl

@@ -1,9 +1,8 @@
 -- What a reindex and an upgrade come to, after a look at the texts of the store.
-use Rattle.zeb_engine.proofs.Cited.{◌≡◌, ◌∙◌, ℕ, List, codes, Some, Result, Ok, Err, IsTrue, IsUtf8, refl, sym, ap, subst, inl, inr, option_map, State, Directive, canonical_text, pattern_text, identifier_pattern, IsProfile, plain_rows, version_of, IsStore, one_text, Refusal, Base, Conditions, IsFailing, why_of, Holdings, under, IsImage, Keeps, Standing, Reply, answer_of, done, TellsImage, FindsStanding, IsLook, IsReadyFor, IsReadyToReindex, RefusesReindex, RefusesUpgrade, Outcome, Always, Serves}
+use Rattle.zeb_engine.proofs.Cited.{◌≡◌, ◌∙◌, ℕ, List, codes, Some, Result, Ok, Err, IsTrue, IsUtf8, refl, sym, ap, subst, inl, inr, option_map, State, Directive, canonical_text, pattern_text, identifier_pattern, IsProfile, plain_rows, version_of, IsStore, one_text, Refusal, Base, Conditions, IsFailing, why_of, Holdings, under, IsImage, Keeps, Standing, Reply, answer_of, done, TellsImage, FindsStanding, IsLook, IsReadyFor, IsReadyToReindex, RefusesReindex, RefusesUpgrade, Outcome, Always, Serves, reindexed, ruled, upgradable, upgraded}
 use Rattle.zeb_change.specs.declared.refusals.Refusal.TheVariants as refusal
 use Rattle.zeb_engine.specs.declared.looks.Standing.TheVariants as standing
 use Rattle.zeb_engine.specs.declared.replies.Reply.TheVariants as reply
-use Rattle.zeb_engine.specs.Steps.{reindexed, ruled, upgradable, upgraded}
 use Rattle.zeb_engine.proofs.CheckAnswers.{IsImageFor}
 use Rattle.zeb_engine.proofs.TextLooks.{kept_readable}
 use Rattle.zeb_engine.proofs.RenewalSteps.{reindex_refused, upgradable_good, upgrade_done, upgrade_refused}
@@ -84,8 +83,7 @@ module _ (c : Conditions) (old : State) (store : IsStore old) where
   -- what is held has its image in the tables of a store then, and so it has where the store or the memory failed
   pub first_leaves : (IsTrue old.is_open → old.committed ≡ old.now) → IsImageFor c (version_of plain_rows) old.now.trees → (new : State) (result : Result Reply Refusal) → IsTrue new.is_open → Serves Always (upgraded c) old new result → IsStore new
   first_leaves settled image new result is_open serves =
-      let before = under (version_of plain_rows) (canonical_text c.profile) image.0 in
-      elim (serves before (λ _. tt) (λ was_open. ((store, image.1), settled was_open))) [
+      elim (serves (under (version_of plain_rows) (canonical_text c.profile) image.0) (λ _. tt) (λ was_open. ((store, image.1), settled was_open))) [
         | inl step ↦ (step.1 is_open).0.0
         | inr failed ↦ (failed.1 is_open).0.0
       ]
@@ -104,14 +102,7 @@ module _ (version : List ℕ) (profile : List Directive) (old : State) (store : 
   ])
   own_unrefused version_utf8 profile_utf8 refusal.Store is = inl refl
   own_unrefused version_utf8 profile_utf8 refusal.Memory is = inr refl
-  own_unrefused version_utf8 profile_utf8 refusal.IdentifierRuleChanged is = absurd is
-  own_unrefused version_utf8 profile_utf8 (refusal.Diagnostic number place addinfo) is = absurd is
-  own_unrefused version_utf8 profile_utf8 refusal.Exists is = absurd is
-  own_unrefused version_utf8 profile_utf8 (refusal.Record file nth fault) is = absurd is
-  own_unrefused version_utf8 profile_utf8 (refusal.Unknown file nth) is = absurd is
-  own_unrefused version_utf8 profile_utf8 refusal.DatabaseFull is = absurd is
-  own_unrefused version_utf8 profile_utf8 refusal.TooManyRecords is = absurd is
-  own_unrefused version_utf8 profile_utf8 (refusal.ReadFault file) is = absurd is
+  own_unrefused version_utf8 profile_utf8 _ is = absurd is
 
   -- they aren't those of the first version
   pub own_not_first : FindsStanding version profile old.now.trees standing.First → ⊥

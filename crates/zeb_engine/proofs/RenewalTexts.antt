@@ -1,7 +1,6 @@
 -- What the texts of a store tell of a reindex and of an upgrade, where its tables are an image.
-use Rattle.zeb_engine.proofs.Cited.{Bool-set, ◌≡◌, ◌≢◌, ◌⊎◌, ◌∙◌, ℕ, Bool, true, false, List, [], codes, get_or, Option, Some, None, Ok, Err, refl, sym, ap, subst, inl, inr, arith, IsUtf8, ∥∥₁_elim, option_map, Trees, Directive, UnitPattern, canonical_text, pattern_text, identifier_pattern, IsProfile, plain_rows, version_of, HasRow, AreReadableTexts, entry, meta_tree, Refusal, Base, Conditions, IsFailing, why_of, Holdings, nothing_yet, under, HasTexts, IsImage, IsReadyFor, IsReadyToReindex, KeepsRule, KeepsText, KeepsUpgradable, RefusesReindex, RefusesUpgrade, same_rule}
+use Rattle.zeb_engine.proofs.Cited.{Bool-set, ◌≡◌, ◌≢◌, ◌⊎◌, ◌∙◌, ℕ, Bool, true, false, List, [], codes, get_or, Option, Some, None, Ok, Err, refl, sym, ap, subst, inl, inr, arith, IsUtf8, ∥∥₁_elim, option_map, Trees, Directive, UnitPattern, canonical_text, pattern_text, identifier_pattern, IsProfile, plain_rows, version_of, HasRow, AreReadableTexts, entry, meta_tree, Refusal, Base, Conditions, IsFailing, why_of, Holdings, nothing_yet, under, HasTexts, IsImage, IsReadyFor, IsReadyToReindex, KeepsRule, KeepsText, KeepsUpgradable, RefusesReindex, RefusesUpgrade, same_rule, ruled, upgradable}
 use Rattle.zeb_change.specs.declared.refusals.Refusal.TheVariants as refusal
-use Rattle.zeb_engine.specs.Steps.{ruled, upgradable}
 use Rattle.zeb_engine.proofs.Ready.{none_there, profile_is, profile_readable, version_is, version_readable}
 use Rattle.zeb_engine.proofs.RenewalSteps.{IsTaken, ruled_changed, ruled_good, ruled_none, ruled_old, upgradable_changed, upgradable_good, upgradable_none, upgradable_old}
 use Rattle.zeb_engine.proofs.RuleLines.{texts_tell}
@@ -96,14 +95,7 @@ module _ (c : Conditions) (sound : ∥ IsProfile c.profile ∥₁) (pattern : Li
   rule_refused before image refusal.Damaged is = absurd (elim is [ inl hard ↦ hard (version_readable plain_rows c trees before image) | inr hard ↦ hard.1 (identifier_readable trees before image) ])
   rule_refused before image refusal.Store is = inl (inl refl)
   rule_refused before image refusal.Memory is = inl (inr refl)
-  rule_refused before image refusal.ProfileChanged is = absurd is
-  rule_refused before image (refusal.Diagnostic number place addinfo) is = absurd is
-  rule_refused before image refusal.Exists is = absurd is
-  rule_refused before image (refusal.Record file nth fault) is = absurd is
-  rule_refused before image (refusal.Unknown file nth) is = absurd is
-  rule_refused before image refusal.DatabaseFull is = absurd is
-  rule_refused before image refusal.TooManyRecords is = absurd is
-  rule_refused before image (refusal.ReadFault file) is = absurd is
+  rule_refused before image _ is = absurd is
 
 module _ (c : Conditions) (trees : Trees) where
   -- ---- a register of this version and under this profile
@@ -111,9 +103,8 @@ module _ (c : Conditions) (trees : Trees) where
   pub ready_held : (version : List ℕ) (before : Holdings) → IsImage trees before → IsReadyFor version c.profile trees → (bases : List Base) × (before ≡ under version (canonical_text c.profile) bases)
   ready_held version nothing_yet image ready = absurd (none_there trees (codes "version") version image.0.0 ready.has_version)
   ready_held version (under kept text bases) image ready =
-      let it = image.1 in
-      let versions : version ≡ kept = version_is trees kept text it.pattern it.texts version ready.has_version in
-      let profiles : canonical_text c.profile ≡ text = profile_is trees kept text it.pattern it.texts (canonical_text c.profile) ready.has_profile in
+      let versions : version ≡ kept = version_is trees kept text image.1.pattern image.1.texts version ready.has_version in
+      let profiles : canonical_text c.profile ≡ text = profile_is trees kept text image.1.pattern image.1.texts (canonical_text c.profile) ready.has_profile in
       (bases, λ i. under (sym versions i) (sym profiles i) bases)
 
   -- ---- an upgrade
@@ -149,11 +140,4 @@ module _ (c : Conditions) (trees : Trees) where
   layout_refused before image refusal.Damaged is = absurd (elim is [ inl hard ↦ hard (version_readable plain_rows c trees before image) | inr hard ↦ hard.1 (profile_readable plain_rows c trees before image) ])
   layout_refused before image refusal.Store is = inl (inl refl)
   layout_refused before image refusal.Memory is = inl (inr refl)
-  layout_refused before image refusal.IdentifierRuleChanged is = absurd is
-  layout_refused before image (refusal.Diagnostic number place addinfo) is = absurd is
-  layout_refused before image refusal.Exists is = absurd is
-  layout_refused before image (refusal.Record file nth fault) is = absurd is
-  layout_refused before image (refusal.Unknown file nth) is = absurd is
-  layout_refused before image refusal.DatabaseFull is = absurd is
-  layout_refused before image refusal.TooManyRecords is = absurd is
-  layout_refused before image (refusal.ReadFault file) is = absurd is
+  layout_refused before image _ is = absurd is

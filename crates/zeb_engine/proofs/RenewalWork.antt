@@ -1,7 +1,6 @@
 -- What a reindex and an upgrade make of the rows of a store, and what that comes to from an image.
-use Rattle.zeb_engine.proofs.Cited.{◌≡◌, ◌∙◌, ℕ, List, ◌∷◌, codes, Result, Ok, Err, OnOk, IsTrue, IsUtf8, Global, refl, sym, ap, subst, inl, inr, arith, option_map, Int, Row, Bor, Trees, Database, HasCleanDisk, State, Has, Directive, canonical_text, pattern_text, RegFault, Format, version_of, Replaces, Alters, GoesOn, Inside, IsEntryOf, IsStore, KeepsLists, KeepsRegisters, entry, meta_tree, Base, Conditions, AreSessions, Refusal, Reply, Holdings, AreBases, AreListsOf, HasTexts, IsImage, IsImageOf, Done, IsRemade, IsUnsound, RemakesRows, TellsSound, WriteDoes, IsStoreDisk, CommitsRows}
+use Rattle.zeb_engine.proofs.Cited.{◌≡◌, ◌∙◌, ℕ, List, ◌∷◌, codes, Result, Ok, Err, OnOk, IsTrue, IsUtf8, Global, refl, sym, ap, subst, inl, inr, arith, option_map, Int, Row, Bor, Trees, Database, HasCleanDisk, State, Has, Directive, canonical_text, pattern_text, RegFault, Format, version_of, Replaces, Alters, GoesOn, Inside, IsEntryOf, IsStore, KeepsLists, KeepsRegisters, entry, meta_tree, Base, Conditions, AreSessions, Refusal, Reply, Holdings, AreBases, AreListsOf, HasTexts, IsImage, IsImageOf, Done, IsRemade, IsUnsound, RemakesRows, TellsSound, WriteDoes, IsStoreDisk, CommitsRows, reindexed, ruled, upgradable, upgraded}
 use Rattle.zeb_engine.specs.declared.writes.Write.TheVariants as write
-use Rattle.zeb_engine.specs.Steps.{reindexed, ruled, upgradable, upgraded}
 use Rattle.zeb_image.proofs.RebuiltImages.{lists_readable, lists_sound}
 use Rattle.zeb_engine.proofs.ChangeNumbers.{shown_store, showing}
 use Rattle.zeb_engine.proofs.CommitCrashes.{store_disk}
@@ -67,9 +66,8 @@ pub reindex_commits : (format : Format) (alloc : Global) (profile : Bor (List Di
     → IsStore s → IsStoreDisk db × IsRemade format profile.now s.now.trees db
 reindex_commits format alloc profile s db made store =
     let left = made store in
-    let rows = left.3.1.1 in
     subst (λ (t : Trees). IsStoreDisk t × IsRemade format profile.now s.now.trees t) (sym left.2)
-    (store_disk (showing s left.1) (shown_store s left.1 rows.store), as_remade format profile.now s.now left.1 rows)
+    (store_disk (showing s left.1) (shown_store s left.1 left.3.1.1.store), as_remade format profile.now s.now left.1 left.3.1.1)
 
 -- ---- from an image
 
@@ -77,9 +75,8 @@ module _ (format : Format) (c : Conditions) (session : AreSessions format c) (s 
   -- what is held is sound and can be read
   sound_was : WasImage c s.now.trees bases → IsUnsound c.profile s.now.trees → ⊥
   sound_was was unsound =
-      let lists = was.it.image.lists in
       let are = was_bases c s.now.trees bases was in
-      unsound (lists_readable c.profile s.now.trees bases lists are, lists_sound c.profile s.now.trees bases lists are)
+      unsound (lists_readable c.profile s.now.trees bases was.it.image.lists are, lists_sound c.profile s.now.trees bases was.it.image.lists are)
 
   module _ (is : ruled c before ≡ Ok bases) where
     pub reindex_sound : IsUnsound c.profile s.now.trees → ⊥
@@ -91,8 +88,7 @@ module _ (format : Format) (c : Conditions) (session : AreSessions format c) (s 
         let at = ruled_image format c session s.now.trees before bases image is in
         let was = at.0 in
         let are = was_bases c s.now.trees bases was in
-        let texts = profile_put s.now.trees new.trees was.version was.text was.it.pattern was.it.texts put readable remade.texts in
-        let own = subst (λ v. HasTexts new.trees v put was.it.pattern) at.1 texts in
+        let own = subst (λ v. HasTexts new.trees v put was.it.pattern) at.1 (profile_put s.now.trees new.trees was.version was.text was.it.pattern was.it.texts put readable remade.texts) in
         let left = renewed_image format c session new.trees bases was.it.pattern (ap (option_map pattern_text) (sym was.rule) ∙ was.it.pattern_is) own are (remade.image bases was.it.image.lists are) in
         subst (Leads (showing s new) Done) (sym (reindex_done c before bases is)) (refl, shown_store s new remade.store, left)
 

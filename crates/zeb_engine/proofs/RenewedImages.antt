@@ -1,7 +1,6 @@
 -- The tables once the registers are made anew: the image of the same databases, under the session's profile and its version.
-use Rattle.zeb_engine.proofs.Cited.{props, Coded-set, Bool-set, ◌≡◌, ◌≢◌, ◌↔◌, ◌∙◌, ℕ, true, List, [], ◌∷◌, codes, get_or, Some, Ok, refl, sym, ap, ap₂, subst, inl, inr, arith, IsUtf8, ∥∥₁_elim, option_map, Int, Null, Text, Trees, Has, Directive, UnitPattern, canonical_text, pattern_text, identifier_pattern, IsProfile, Format, Replaces, KeepsRegisters, IsEntryOf, entry, meta_tree, record_row, registers_stay, Base, Conditions, AreSessions, Holdings, AreBases, AreListsOf, HasTexts, IsImage, IsImageOf, IsImageUnder, bases_so, under_other, same_rule, holding}
+use Rattle.zeb_engine.proofs.Cited.{props, Coded-set, Bool-set, ◌≡◌, ◌≢◌, ◌↔◌, ◌∙◌, ℕ, true, List, [], ◌∷◌, codes, get_or, Some, Ok, refl, sym, ap, ap₂, subst, inl, inr, arith, IsUtf8, ∥∥₁_elim, option_map, Int, Null, Text, Trees, Has, Directive, UnitPattern, canonical_text, pattern_text, identifier_pattern, IsProfile, Format, Replaces, KeepsRegisters, IsEntryOf, entry, meta_tree, record_row, registers_stay, Base, Conditions, AreSessions, Holdings, AreBases, AreListsOf, HasTexts, IsImage, IsImageOf, IsImageUnder, bases_so, under_other, same_rule, holding, ruled, upgradable}
 use Rattle.zeb_profile.specs.contracts.patterns.UnitPattern as pattern_row
-use Rattle.zeb_engine.specs.Steps.{ruled, upgradable}
 use Rattle.zeb_engine.proofs.ReadyImages.{ready_image}
 use Rattle.zeb_engine.proofs.RenewalSteps.{ruled_is, upgradable_is}
 use Rattle.zeb_engine.proofs.RuleLines.{same_rule_says}

@@ -49,20 +49,8 @@ left_failed c [] (one ∷ answers) before mid later command answer told run is s
 left_failed c (first ∷ commands) [] before mid later command answer told run is step = absurd run
 
 pub is_store : (why : Refusal) → (why ≡ refusal.Store) ⊎ (why ≢ refusal.Store)
-is_store refusal.NotInitialised = inr (λ is. cc)
-is_store refusal.OldFormat = inr (λ is. cc)
-is_store refusal.ProfileChanged = inr (λ is. cc)
-is_store (refusal.Diagnostic number place addinfo) = inr (λ is. cc)
-is_store refusal.Exists = inr (λ is. cc)
-is_store (refusal.Record file nth fault) = inr (λ is. cc)
-is_store (refusal.Unknown file nth) = inr (λ is. cc)
-is_store refusal.DatabaseFull = inr (λ is. cc)
-is_store refusal.TooManyRecords = inr (λ is. cc)
-is_store refusal.Damaged = inr (λ is. cc)
-is_store refusal.IdentifierRuleChanged = inr (λ is. cc)
-is_store (refusal.ReadFault file) = inr (λ is. cc)
 is_store refusal.Store = inl refl
-is_store refusal.Memory = inr (λ is. cc)
+is_store _ = inr (λ is. cc)
 
 -- after one command
 pub did_endures : (c : Conditions) (command : Command) (old new : State) (result : Result Reply Refusal) → HasCleanDisk new → IsDurable new → AsksOrStays command old new result → Survives old new (CommitsCommand c command old)

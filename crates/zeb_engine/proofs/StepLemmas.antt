@@ -1,6 +1,5 @@
 -- A command's step, in two parts: its answer, and what is held then, which is computed.
-use Rattle.zeb_engine.proofs.Cited.{◌≡◌, ◌↔◌, ◌∙◌, map, Option, Some, None, string_bytes, ap, sym, Command, Init, Check, Reindex, Upgrade, Create, Drop, Stat, Dump, Change, Find, Scan, Analyse, name_bytes, IsAnalysed, Answer, Conditions, Holdings, Outcome, Ends, Step, CountedFrom, FoundFrom, ScannedFrom, dumped_by, checked, splits_of}
-use Rattle.zeb_engine.specs.Steps.{changed_by_files, created, dropped, initialised, ready, turned, reindexed, upgraded}
+use Rattle.zeb_engine.proofs.Cited.{◌≡◌, ◌↔◌, ◌∙◌, map, Option, Some, None, string_bytes, ap, sym, Command, Init, Check, Reindex, Upgrade, Create, Drop, Stat, Dump, Change, Find, Scan, Analyse, name_bytes, IsAnalysed, Answer, Conditions, Holdings, Outcome, Ends, Step, CountedFrom, FoundFrom, ScannedFrom, dumped_by, checked, splits_of, changed_by_files, created, dropped, initialised, ready, turned, reindexed, upgraded}
 
 -- What a command answers and leaves. A find, a scan and a stat have none: what they answer is said by the records that are kept; nor has an
 -- analysis, which is said by its files.
@@ -41,17 +40,7 @@ MayAnswer c command before answer = IsTold (outcome c command before) answer
 pub step_told : (c : Conditions) (command : Command) (before : Holdings) (answer : Answer) (later : Holdings) → Step c command before answer later
     → MayAnswer c command before answer × (later ≡ after c command before)
 step_told c Init before answer later step = step
-step_told c (Create name) before answer later step = step
-step_told c (Drop name) before answer later step = step
-step_told c (Change kind name files) before answer later step = step
-step_told c (Find name query first count) before answer later step = step
-step_told c Check before answer later step = step
-step_told c Reindex before answer later step = step
-step_told c Upgrade before answer later step = step
-step_told c (Stat name) before answer later step = step
-step_told c (Dump name) before answer later step = step
-step_told c (Scan name query number position) before answer later step = step
-step_told c (Analyse files) before answer later step = step
+step_told c _ before answer later step = step
 
 module _ (answer : Answer) (later : Holdings) where
   ends_so : (told o : Outcome) → ◌≡◌ {A = Option Outcome} (Some told) (Some o) → Ends told answer later ↔ ((answer ≡ o.0) × (later ≡ o.1))
@@ -67,11 +56,8 @@ module _ (answer : Answer) (later : Holdings) where
   step_is c (Create name) before o is = ends_so (turned c (created (name_bytes name)) before) o is
   step_is c (Drop name) before o is = ends_so (turned c (dropped (name_bytes name)) before) o is
   step_is c (Change kind name files) before o is = ends_so (turned c (changed_by_files c kind (name_bytes name) (splits_of (map (λ file. file.items) files.items))) before) o is
-  step_is c (Find name query first count) before o is = absurd cc
   step_is c Check before o is = ends_so (checked c before) o is
   step_is c Reindex before o is = ends_so (reindexed c before) o is
   step_is c Upgrade before o is = ends_so (upgraded c before) o is
-  step_is c (Stat name) before o is = absurd cc
   step_is c (Dump name) before o is = ends_so (dumped_by c (name_bytes name) before) o is
-  step_is c (Scan name query number position) before o is = absurd cc
-  step_is c (Analyse files) before o is = absurd cc
+  step_is c _ before o is = absurd cc

@@ -7,9 +7,8 @@ use Rattle.zeb_engine.proofs.OwnAnswers.{IsOwn, analysed_own}
 
 -- a fault of the tables that is answered as a failed store is one
 pub fault_caused : {X : Type 0} (fault : RegFault) → (fault ≡ register.Store → X) → why_of (register_refusal fault) ≡ store_failed → X
-fault_caused register.Damaged caused is = absurd cc
 fault_caused register.Store caused is = caused refl
-fault_caused register.Memory caused is = absurd cc
+fault_caused _ caused is = absurd cc
 
 -- this refusal, where it is a failed store, has a cause
 abbrev pub HasCauseFor : State → State → Refusal → Type 0

@@ -108,17 +108,7 @@ module _ (trees : Trees) (P : Refusal → Type 0) (store : P refusal.Store) (mem
   text_refused name damaged refusal.Damaged is = damaged is
   text_refused name damaged refusal.Store is = store
   text_refused name damaged refusal.Memory is = memory
-  text_refused name damaged refusal.NotInitialised is = absurd is
-  text_refused name damaged refusal.OldFormat is = absurd is
-  text_refused name damaged refusal.ProfileChanged is = absurd is
-  text_refused name damaged refusal.IdentifierRuleChanged is = absurd is
-  text_refused name damaged (refusal.Diagnostic number place addinfo) is = absurd is
-  text_refused name damaged refusal.Exists is = absurd is
-  text_refused name damaged (refusal.Record file nth fault) is = absurd is
-  text_refused name damaged (refusal.Unknown file nth) is = absurd is
-  text_refused name damaged refusal.DatabaseFull is = absurd is
-  text_refused name damaged refusal.TooManyRecords is = absurd is
-  text_refused name damaged (refusal.ReadFault file) is = absurd is
+  text_refused name damaged _ is = absurd is
 
 module _ (version : List ℕ) (profile : List Directive) (trees : Trees) where
   pub pattern_as_rule : KeepsText trees (codes "version") version → (why : Refusal) → RefusesText (codes "identifier") trees why → RefusesReindex version profile trees why

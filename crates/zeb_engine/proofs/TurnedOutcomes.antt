@@ -1,7 +1,6 @@
 -- What commands that change the databases come to, by what there is of the name.
-use Rattle.zeb_engine.proofs.Cited.{◌≡◌, ◌∙◌, ℕ, List, [], Some, None, Ok, Err, refl, ap, Split, Kind, Why, exists, done, changed, refused, Conditions, Progress, at_first, files_folded, Holdings, new_base, base_named, without_base, Base, Turn, holding, ends, turned_from, created_in, dropped_in, change_from, change_ends, start_of, no_database, State, IsStore, IsImage, Reply, reply_answer, Outcome}
-use Rattle.zeb_image.specs.Holdings.{with_base}
-use Rattle.zeb_engine.specs.Steps.{ready, turned, created, dropped, changed_by_files, initialised}
+use Rattle.zeb_engine.proofs.Cited.{◌≡◌, ◌∙◌, ℕ, List, [], Some, None, Ok, Err, refl, ap, Split, Kind, Why, exists, done, changed, refused, Conditions, Progress, at_first, files_folded, Holdings, new_base, base_named, without_base, Base, Turn, holding, ends, turned_from, created_in, dropped_in, change_from, change_ends, start_of, no_database, State, IsStore, IsImage, Reply, reply_answer, Outcome, with_base, ready}
+use Rattle.zeb_engine.specs.Steps.{turned, created, dropped, changed_by_files, initialised}
 
 -- what is left after an outcome
 abbrev pub Leads : State → Reply → Outcome → Type 0

@@ -1,8 +1,6 @@
 -- What each command that writes leaves in the tables is the image of its outcome, and what refuses it is a failure, or the outcome's refusal.
-use Rattle.zeb_engine.proofs.Cited.{◌≡◌, ◌⊎◌, ◌∙◌, ℕ, pos, ap, List, Some, None, Ok, Err, refl, sym, subst, subst₂, inl, inr, arith, State, Database, canonical_text, one_format, registers_stay, Content, IsWithout, HasDatabase, AreCountedDatabases, IsDatabaseOf, KeepsRegisters, Refusal, Done, refused, IsFailure, IsFailing, Why, why_of, Conditions, Holdings, Base, base_named, new_base, without_base, IsDatabaseName, IsImage, Format, holds_in, version_of, AreOf, LeavesNoDatabase, CreatesDatabase, MakesRow, MissesDatabase, TakesRows}
+use Rattle.zeb_engine.proofs.Cited.{◌≡◌, ◌⊎◌, ◌∙◌, ℕ, pos, ap, List, Some, None, Ok, Err, refl, sym, subst, subst₂, inl, inr, arith, State, Database, canonical_text, one_format, registers_stay, Content, IsWithout, HasDatabase, AreCountedDatabases, IsDatabaseOf, KeepsRegisters, Refusal, Done, refused, IsFailure, IsFailing, Why, why_of, Conditions, Holdings, Base, base_named, new_base, without_base, IsDatabaseName, IsImage, Format, holds_in, version_of, AreOf, LeavesNoDatabase, CreatesDatabase, MakesRow, MissesDatabase, TakesRows, with_base, ready, initialised, turned, created, dropped}
 use Rattle.zeb_register.specs.declared.catalog.Database as catalog
-use Rattle.zeb_image.specs.Holdings.{with_base}
-use Rattle.zeb_engine.specs.Steps.{ready, initialised, turned, created, dropped}
 use Rattle.zeb_engine.proofs.Beginning.{texts_still}
 use Rattle.zeb_engine.proofs.ChangeNumbers.{shown_store, showing}
 use Rattle.zeb_engine.proofs.Creating.{with_new_base, created_image}

@@ -21,7 +21,8 @@ use Rattle.zeb_engine.specs.declared.replies.Reply.{Reply}
 use Rattle.zeb_marc.specs.Splits.{Split}
 use Rattle.zeb_profile.specs.declared.directives.Directive.{Directive}
 use Rattle.zeb_register.specs.Catalog.{IsDatabaseOf, PutsDatabase}
-use Rattle.zeb_register.specs.Sound.{KeepsMalformed, KeepsRowsBeside}
+use Rattle.zeb_register.specs.Formats.{Format, version_of}
+use Rattle.zeb_register.specs.Sound.{KeepsRowsBeside, keeps_malformed}
 use Rattle.zeb_register.specs.Store.{HasDatabase, HasRecord, IsStore, databases_tree, meta_tree}
 
 -- Of the database that has the name: what it keeps under the identifier of the first record of all these files is whole, or the change is
@@ -82,9 +83,9 @@ LosesWhole profile id old new = (sysno : ℤ) (ident bytes : List ℕ) → HasRe
 
 -- What an accepted change leaves. The tables are a store's still. The change is one of the database that has the name, or of one that an
 -- update has made for it, whose records had numbers that it can have given; no other row of the databases is changed, and its last number
--- doesn't fall. No record of it is lost but whole ones, and nothing is changed under another id. Each text is as it was, and no malformed
--- row of the packed registers is taken out or altered.
-pub record LeavesRows (profile : List Directive) (kind : Kind) (name : List ℕ) (old : Trees) (new : State) : Type 0 where
+-- doesn't fall. No record of it is lost but whole ones, and nothing is changed under another id. Each text is as it was, and under the
+-- layout that has this version, what is malformed in the packed registers is so still, each such row as it was.
+pub record LeavesRows (version : List ℕ) (profile : List Directive) (kind : Kind) (name : List ℕ) (old : Trees) (new : State) : Type 0 where
   pub store : IsStore new
   pub id : ℤ
   pub last : ℕ
@@ -97,11 +98,11 @@ pub record LeavesRows (profile : List Directive) (kind : Kind) (name : List ℕ)
   pub aside : KeepsAside id old new.now.trees
   pub beside : KeepsRowsBeside (Int id ∷ []) old new.now.trees
   pub texts : new.now.trees meta_tree ≡ old meta_tree
-  pub malformed : KeepsMalformed old new.now.trees
+  pub malformed : (format : Format) → version ≡ version_of format → keeps_malformed format old new.now.trees
 
 -- all this, of an accepted change on the tables of a store
-abbrev pub LeavesWhole : {T : Type 0} → List Directive → Kind → (name : List ℕ) → (old new : State) → Result T Refusal → Type 0
-LeavesWhole profile kind name old new result = IsStore old → OnOk result (LeavesRows profile kind name old.now.trees new)
+abbrev pub LeavesWhole : {T : Type 0} → (version : List ℕ) → List Directive → Kind → (name : List ℕ) → (old new : State) → Result T Refusal → Type 0
+LeavesWhole version profile kind name old new result = IsStore old → OnOk result (LeavesRows version profile kind name old.now.trees new)
 
 -- Of the database that has the name: each record that it kept, under whatever number, is kept after just as it was, or a record of these
 -- files has its identifier.
@@ -120,7 +121,7 @@ pub record ChangeDoes (c : Conditions) (kind : Kind) (name : List ℕ) (texts : 
   -- kept under each record's, of no more records than it may have. Any other refusal has a reason that its files and the limits give.
   pub told : ChangesReady c.version c.profile kind c.limits name texts old answer
   -- Accepted, it loses none of its database's records but whole ones, and the last number doesn't fall. The records that were kept had numbers
-  -- that the database can have given. Each text is as it was, and so are all rows under other ids, and each malformed row of the registers.
-  pub leaves : LeavesWhole c.profile kind name old new answer
+  -- that the database can have given. Each text is as it was, and so are all rows under other ids, and what is malformed in the registers.
+  pub leaves : LeavesWhole c.version c.profile kind name old new answer
   -- and it loses records only under identifiers that records of its files have
   pub loses : LosesNamed c.profile name texts old new answer

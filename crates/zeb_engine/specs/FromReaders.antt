@@ -39,7 +39,7 @@ module _ {R : Type 0} (remaining : R → Option (List ℕ)) (has_failed : R → 
     -- as of a change by texts: which records it finds whole, and why it is refused
     pub told : Give remaining has_failed before after (λ texts. ChangesReady c.version c.profile kind c.limits name texts old answer)
     -- what an accepted change leaves: of its database whole records alone are lost, and of other databases nothing
-    pub leaves : LeavesWhole c.profile kind name old new answer
+    pub leaves : LeavesWhole c.version c.profile kind name old new answer
     -- and records are lost only under identifiers that records of the files have
     pub loses : (texts : List (List ℕ)) → Tell remaining before texts → LosesNamed c.profile name texts old new answer
     -- damage is told only of tables that are the image of no holding

@@ -91,7 +91,8 @@ fn check_numbers<S: Alter>(
     last: u64,
 ) -> Result<(), RegFault>
     ensures same { tx.new.conn.ghost_name ≡ tx.old.conn.ghost_name }
-    ensures call { Inside (state S.Store tx.old.conn.now) (state S.Store tx.new.conn.now) result (λ _. OnlyReads) }
+    ensures call { Inside (state S.Store tx.old.conn.now) (state S.Store tx.new.conn.now) result
+        (λ _. OnlyReads) }
     ensures numbers { InStore (state S.Store tx.old.conn.now) (state S.Store tx.new.conn.now) (λ trees.
         OnOk result (HasNumbersTo last trees database.0)) }
     ensures honest { InStore (state S.Store tx.old.conn.now) (state S.Store tx.new.conn.now) (λ trees.
@@ -111,8 +112,10 @@ fn begin_change<S: Alter>(
     last: u64,
 ) -> Result<DatabaseId, RegFault>
     ensures same { tx.new.conn.ghost_name ≡ tx.old.conn.ghost_name }
-    ensures call { Inside (state S.Store tx.old.conn.now) (state S.Store tx.new.conn.now) result (λ _. GoesOn) }
-    ensures put { ChangesTable databases_tree (state S.Store tx.old.conn.now) (state S.Store tx.new.conn.now) result
+    ensures call { Inside (state S.Store tx.old.conn.now) (state S.Store tx.new.conn.now) result
+        (λ _. GoesOn) }
+    ensures put { ChangesTable databases_tree (state S.Store tx.old.conn.now)
+        (state S.Store tx.new.conn.now) result
         (λ id. PutsDatabase id.0 name.now (pos last)) }
     ensures numbers { InStore (state S.Store tx.old.conn.now) (state S.Store tx.new.conn.now) (λ trees.
         IfOk result (λ id. HasNumbersTo last trees id.0)) }

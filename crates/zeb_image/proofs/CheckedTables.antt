@@ -1,6 +1,5 @@
 -- Whole tables beside what is expected of them: they are the image of what they hold just where they hold what is expected.
-use Rattle.zeb_image.proofs.Cited.{◌≡◌, ◌≢◌, ◌∙◌, ◌≤◌, ℕ, ℤ, pos, List, [], ◌∷◌, map, Ordering, Less, refl, sym, ap, ap₂, subst, string_bytes, arith, slice_cmp, nat_cmp, ordering_then, Int, Text, Blob, Row, column, row_cmp, State, Has, has_contained, has_mapped, mapped_has, Directive, ListedDatabase, ExpectedDatabase, Record, listed_order, name_order, number_order, record_shown, HasDatabase, HasRecord, IsStore, less_is, never_itself, row_cmp_total, one_ident, one_number, strictly_mapped, int_at, up_to, Base, Kept, IsBase, IsKept, AreMade, IsMadeOf, kept_of}
-use Rattle.std.specs.List.Sorted.{IsStrictlySortedBy}
+use Rattle.zeb_image.proofs.Cited.{◌≡◌, ◌≢◌, ◌∙◌, ◌≤◌, ℕ, ℤ, pos, List, [], ◌∷◌, map, Ordering, Less, refl, sym, ap, ap₂, subst, string_bytes, arith, slice_cmp, nat_cmp, ordering_then, Int, Text, Blob, Row, column, row_cmp, State, Has, has_contained, has_mapped, mapped_has, Directive, ListedDatabase, ExpectedDatabase, Record, listed_order, name_order, number_order, record_shown, HasDatabase, HasRecord, IsStore, less_is, never_itself, row_cmp_total, one_ident, one_number, strictly_mapped, int_at, up_to, Base, Kept, IsBase, IsKept, AreMade, IsMadeOf, kept_of, IsStrictlySortedBy}
 use Rattle.zeb_image.proofs.CheckedLists.{rises_before, zip_left, zip_right, zip_rises}
 use Rattle.zeb_image.proofs.CheckedRecords.{number_inside}
 

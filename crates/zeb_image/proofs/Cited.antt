@@ -27,7 +27,7 @@ pub use Rattle.std.specs.Cmp.Lexicographic.{slice_cmp, nat_list_cmp_total}
 pub use Rattle.std.specs.Int.{is_in_range}
 pub use Rattle.std.specs.List.{AllZip, Contains}
 pub use Rattle.std.specs.List.Retain.{IsFiltered, DiffersFromLast}
-pub use Rattle.std.specs.List.Sorted.{IsPermutation, IsSorted}
+pub use Rattle.std.specs.List.Sorted.{IsPermutation, IsSorted, IsStrictlySortedBy}
 pub use Rattle.std.specs.Option.{option_map, option_and_then, is_some}
 pub use Rattle.std.specs.Ordering.{nat_cmp, ordering_reverse, ordering_then, int_eq, is_eq, eq_by_cmp, is_lt}
 pub use Rattle.std.specs.Str.{bytes_eq}
@@ -66,7 +66,7 @@ pub use Rattle.zeb_keys.specs.contracts.registers.Register.{the_type}
 pub use Rattle.zeb_keys.specs.declared.keys.Key.{Key}
 pub use Rattle.zeb_keys.specs.declared.keys.Occurrence.{Occurrence}
 pub use Rattle.zeb_keys.specs.declared.registers.Register.{Register}
-pub use Rattle.zeb_keys.specs.declared.registers.Register.TheVariants.{Word, Phrase, Number}
+pub use Rattle.zeb_keys.specs.declared.registers.Register.TheVariants.{Word}
 pub use Rattle.zeb_marc.specs.Contents.{units_of}
 pub use Rattle.zeb_marc.specs.Directory.{FieldText}
 pub use Rattle.zeb_marc.specs.Records.{fields_of, first_fault}

@@ -59,8 +59,7 @@ module _ (format : Format) (profile : List Directive) (s : State) (store : IsSto
         subst (IsBase profile) (sym z.2) (made_base profile s store l.0 z.0 l.1);
     named = λ b there.
         let z = has_mapped base_of expected.databases.items b (has_contained bases_of b there) in
-        let l = listed_there profile s expected.databases.items is.databases z.0 z.1 in
-        subst (λ (x : Base). IsDatabaseName x.name) (sym z.2) l.1.named;
+        subst (λ (x : Base). IsDatabaseName x.name) (sym z.2) (listed_there profile s expected.databases.items is.databases z.0 z.1).1.named;
   }
 
   module _ (agrees : AreExpected format s.now.trees expected) where

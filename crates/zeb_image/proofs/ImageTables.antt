@@ -98,7 +98,6 @@ module _ (format : Format) (profile : List Directive) (s : State) (bases : List 
             listed = λ id name last. (
               λ row.
                   let it = made_there profile s ds is.databases id name last row in
-                  let l = there it.0 it.2 in
                   let own : HasDatabase s.now.trees it.1.id.0 (string_bytes it.0.name) (pos it.0.last) =
                   subst (λ (i : ℤ). HasDatabase s.now.trees i (string_bytes it.0.name) (pos it.0.last)) it.4
                   (subst₂ (λ (n : List ℕ) (m : ℤ). HasDatabase s.now.trees id n m) it.5 it.6 row) in

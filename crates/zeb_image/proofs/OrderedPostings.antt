@@ -1,6 +1,5 @@
 -- Postings under their keys, put in order: by key, system number, unit and place.
-use Rattle.zeb_image.proofs.Cited.{◌≡◌, ◌↔◌, ◌∙◌, ◌&&◌, Bool, true, false, List, [], refl, sym, ap, subst, nat_eq, Decides, IsTotalOrder, Equal-is, on_total, then_total, IsFiltered, DiffersFromLast, IsPermutation, IsSorted, eq_by_cmp, is_eq, bytes_eq, and_from, and_parts, eq-eqb, eqb-true, bytes_eq-Decides, sameb, Has, has_contained, contains_had, Register, Word, Phrase, Number, the_type, Key, TellsApart, key_order, members_from_dedup, rising_from_dedup, key_total, keys_apart, both_equal, KeyPosting, Posting, posting_cmp, key_posting_order, posting_total, postings_apart, same_key}
-use Rattle.std.specs.List.Sorted.{IsStrictlySortedBy}
+use Rattle.zeb_image.proofs.Cited.{◌≡◌, ◌↔◌, ◌∙◌, ◌&&◌, Bool, true, false, List, [], refl, sym, ap, subst, nat_eq, Decides, IsTotalOrder, Equal-is, on_total, then_total, IsFiltered, DiffersFromLast, IsPermutation, IsSorted, eq_by_cmp, is_eq, bytes_eq, and_from, and_parts, eq-eqb, eqb-true, bytes_eq-Decides, sameb, Has, has_contained, contains_had, Register, Word, the_type, Key, TellsApart, key_order, members_from_dedup, rising_from_dedup, key_total, keys_apart, both_equal, KeyPosting, Posting, posting_cmp, key_posting_order, posting_total, postings_apart, same_key, IsStrictlySortedBy}
 use Rattle.std.proofs.lemmas.Cmp.{tied_itself}
 
 pub order_total : IsTotalOrder key_posting_order
@@ -27,8 +26,7 @@ pair_eq a b = key_eq a.key b.key && posting_eq a.posting b.posting
 
 register_itself : (r : Register) → sameb the_type r r ≡ true
 register_itself Word = refl
-register_itself Phrase = refl
-register_itself Number = refl
+register_itself _ = refl
 
 key_itself : (k : Key) → key_eq k k ≡ true
 key_itself k =

@@ -54,9 +54,8 @@ module _ (s : State) (store : IsStore s) (list : List ListedDatabase) (are : Are
       let it = has_mapped id_in done d.id.0 there in
       let in_list : (x : ListedDatabase) → Has (done ++ d ∷ rest) x → Has list x = λ x h. subst (λ l. Has l x) (sym split) h in
       let left : Has (done ++ d ∷ rest) it.0 = has_left done (d ∷ rest) it.0 it.1 in
-      let here = listed_there d (in_list d (has_right done (d ∷ rest) d (inl refl))) in
       let other = subst (λ x. HasDatabase s.now.trees x (name_in it.0) (pos it.0.last)) (sym it.2) (listed_there it.0 (in_list it.0 left)) in
-      name_before done rest d it.0 (subst AreRisingNames split are.rising) it.1 (one_last s store d.id.0 _ _ _ _ other here).0
+      name_before done rest d it.0 (subst AreRisingNames split are.rising) it.1 (one_last s store d.id.0 _ _ _ _ other (listed_there d (in_list d (has_right done (d ∷ rest) d (inl refl))))).0
 
   -- each database has its id there
   pub listed_id : (id : ℤ) (name : List ℕ) (last : ℤ) → HasDatabase s.now.trees id name last → Has (map id_in list) id

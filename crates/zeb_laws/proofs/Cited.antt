@@ -3,7 +3,7 @@ pub use Rattle.sqlite.specs.Tree.{Trees}
 pub use Rattle.sqlite_rules.proofs.ListLemmas.{has_contained, contains_had, has_filtered, has_kept, has_found, has_right, all_from, all_has, has_left, has_either}
 pub use Rattle.sqlite_rules.proofs.ProbeLemmas.{has_mapped, mapped_has}
 pub use Rattle.sqlite_rules.specs.Lists.{Has}
-pub use Rattle.std.proofs.Common.{◌≡◌, ℕ, List, Result, Ok, Err, refl, [], map, sym, ap, subst, string_bytes, ◌≢◌, ◌↔◌, ◌∙◌, true, false, not, ◌∷◌, ◌++◌, Option, Some, None, inl, inr, ◌-◌, Bool, cond, ◌&&◌, length, find, take, drop, nat_eq, nat_lt, ◌+◌, nat_le, ◌⊎◌, ◌<◌, ◌^◌, IsUtf8, arith, ◌≤◌, zero, suc, Ordering, Less, Equal, Greater, filter, length-append, append_assoc, pos, codes, ap₂}
+pub use Rattle.std.proofs.Common.{◌≡◌, ℕ, List, Result, Ok, Err, refl, [], map, sym, ap, subst, string_bytes, ◌≢◌, ◌↔◌, ◌∙◌, true, false, not, ◌∷◌, ◌++◌, Option, Some, None, inl, inr, ◌-◌, Bool, cond, ◌&&◌, length, find, take, drop, nat_eq, nat_lt, ◌+◌, nat_le, ◌⊎◌, ◌<◌, ◌^◌, IsUtf8, arith, ◌≤◌, zero, suc, Ordering, Less, Equal, Greater, filter, length-append, append_assoc, pos, codes, ap₂, chars}
 pub use Rattle.std.proofs.lemmas.Bool.{not-true}
 pub use Rattle.std.proofs.lemmas.Bool.Decides.{Decides-eqb, nat_tests}
 pub use Rattle.std.proofs.lemmas.Cmp.{on_total, tied_itself, ranked}
@@ -19,13 +19,13 @@ pub use Rattle.std.specs.List.{Contains, flat_map}
 pub use Rattle.std.specs.Option.{option_map}
 pub use Rattle.std.specs.Ordering.{nat_cmp, ordering_then, MatchOrdering}
 pub use Rattle.std.specs.Prelude.{⊤, if◌then◌else◌}
-pub use Rattle.std.specs.Str.{bytes_eq}
+pub use Rattle.std.specs.Str.{bytes_eq, is_utf8}
 pub use Rattle.zeb_change.proofs.FoldLemmas.{named_record}
 pub use Rattle.zeb_change.proofs.FoldSteps.{folded_ok}
 pub use Rattle.zeb_change.proofs.KeptLemmas.{has_same, is_ident, none_kept, same_has, AreRisingKept, kept_found}
 pub use Rattle.zeb_change.specs.Base.{Base, Kept, has_ident, kept_as, without_ident, with_new, with_bytes}
 pub use Rattle.zeb_change.specs.Conditions.{Conditions}
-pub use Rattle.zeb_change.specs.Folding.{Progress, at_first, files_folded, splits_of, Changed, changed_by, deleted, ident_in, with_ident, with_record, counted, at_end, slices_folded, updated, ◌then◌}
+pub use Rattle.zeb_change.specs.Folding.{Progress, at_first, files_folded, splits_of, Changed, changed_by, deleted, ident_in, with_ident, with_record, counted, at_end, slices_folded, updated, ◌then◌, record_folded}
 pub use Rattle.zeb_change.specs.Occurs.{OccursIn, occurs}
 pub use Rattle.zeb_change.specs.Outcomes.{marc_refusal}
 pub use Rattle.zeb_change.specs.Refused.{Why, unknown, diagnostic, database_full, too_many_records, faulty, why_of}
@@ -49,20 +49,18 @@ pub use Rattle.zeb_engine.specs.Counting.{IsCounted, IsExtent, Paired, Target, n
 pub use Rattle.zeb_engine.specs.Crashes.{Accepts}
 pub use Rattle.zeb_engine.specs.Finding.{AreShown, IsAnswered, IsFound, IsNamed, IsPlanned, IsShown, has_name}
 pub use Rattle.zeb_engine.specs.Scanning.{IsScanned, IsScanPlanned, around}
-pub use Rattle.zeb_engine.specs.Steps.{change_ends, change_from, ends, start_of, turned_from, AskedFrom, CountedFrom, FindAnswers, ScanAnswers, Step, Turn, all_stay, checked_from, created, dropped, dumped_from, holding, ruled, upgradable, AskedIn, StatAnswers, dumped_by, checked, AskedAmong, FoundFrom, Outcome, Run}
+pub use Rattle.zeb_engine.specs.Steps.{change_ends, change_from, ends, start_of, turned_from, AskedFrom, CountedFrom, FindAnswers, ScanAnswers, Step, Turn, all_stay, checked_from, created, dropped, dumped_from, holding, ruled, upgradable, AskedIn, StatAnswers, dumped_by, checked, AskedAmong, FoundFrom, Outcome, Run, changed_by_files, initialised, ready, turned, reindexed, upgraded}
 pub use Rattle.zeb_engine.specs.Transactions.{AsksStore}
 pub use Rattle.zeb_engine.specs.declared.commands.Command.{Command}
 pub use Rattle.zeb_engine.specs.declared.commands.Command.TheVariants.{Init, Check, Reindex, Upgrade, Create, Drop, Stat, Dump, Change, Find, Scan, Analyse}
-pub use Rattle.zeb_lower_laws.proofs.SampleAnalysis.{members}
 pub use Rattle.zeb_extract.proofs.Listed.{occurrences_are_listed}
 pub use Rattle.zeb_extract.proofs.Members.{Contains-flat_map, Contains-map, from_flat_map, from_map}
 pub use Rattle.zeb_extract.specs.Occurrences.{IsOccurrence}
 pub use Rattle.zeb_extract.specs.PrivateListing.{listing}
-pub use Rattle.zeb_lower_laws.specs.Sample.{moby_dick_analysis, title_profile, term_at}
 pub use Rattle.zeb_extract.specs.declared.naming.IdentFault.{IdentFault}
 pub use Rattle.zeb_image.proofs.Bases.{named_there, with_base_has, with_base_in_order}
 pub use Rattle.zeb_image.proofs.OneText.{under_other}
-pub use Rattle.zeb_image.specs.Holdings.{Holdings, base_named, nothing_yet, under, new_base}
+pub use Rattle.zeb_image.specs.Holdings.{Holdings, base_named, nothing_yet, under, new_base, with_base}
 pub use Rattle.zeb_image.specs.Image.{AreBases, IsImage, IsImageOf, IsImageUnder}
 pub use Rattle.zeb_image.specs.NameOf.{name_bytes}
 pub use Rattle.zeb_keys.proofs.Rising.{numbers_apart, occurrence_total, occurrences_apart, key_total, keys_apart, texts_apart, both_equal}
@@ -75,8 +73,11 @@ pub use Rattle.zeb_laws.specs.Counts.{IsAccepted, FoldsTo, records_in, HasNamesa
 pub use Rattle.zeb_laws.specs.Lasting.{NoneHas, slices_in, IsLastOf, KeepsIdent, SomeHas}
 pub use Rattle.zeb_laws.specs.Targets.{target_cmp}
 pub use Rattle.zeb_laws.specs.Worked.{whale, ahab, BookHolds, book, book_base, book_conditions, faulty_file, no_books, one_book, title_plan, title_word, IsUpdateBy, IsFindBy}
-pub use Rattle.zeb_marc.specs.Splits.{Split}
+pub use Rattle.zeb_lower_laws.proofs.SampleAnalysis.{members}
+pub use Rattle.zeb_lower_laws.specs.Sample.{moby_dick_analysis, title_profile, term_at}
 pub use Rattle.zeb_lower_laws.specs.WorkedRecord.{worked_record}
+pub use Rattle.zeb_marc.specs.Records.{first_fault, fields_of}
+pub use Rattle.zeb_marc.specs.Splits.{Split, split_of}
 pub use Rattle.zeb_marc.specs.declared.faults.MarcFault.{MarcFault}
 pub use Rattle.zeb_marc.specs.declared.faults.MarcFault.TheVariants.{LengthDigits}
 pub use Rattle.zeb_profile.specs.Canonical.{canonical_text}

@@ -1,6 +1,5 @@
 -- Which records a delete leaves.
-use Rattle.zeb_laws.proofs.Cited.{◌≡◌, ◌≢◌, ◌↔◌, ◌∙◌, ℕ, true, false, not, List, [], ◌∷◌, ◌++◌, Option, Some, None, Result, Ok, Err, refl, sym, ap, subst, inl, inr, Contains, not-true, has_contained, contains_had, has_filtered, has_kept, MarcFault, Split, Directive, IdentFault, Kind, Update, Delete, Adelete, PassedOver, Why, unknown, Conditions, FoldsTo, Changed, Progress, changed_by, deleted, ident_in, with_ident, with_record, Base, Kept, has_ident, kept_as, without_ident, NoneHas, slices_in, has_same, is_ident, none_kept, same_has}
-use Rattle.zeb_marc.specs.Records.{first_fault}
+use Rattle.zeb_laws.proofs.Cited.{◌≡◌, ◌≢◌, ◌↔◌, ◌∙◌, ℕ, true, false, not, List, [], ◌∷◌, ◌++◌, Option, Some, None, Result, Ok, Err, refl, sym, ap, subst, inl, inr, Contains, not-true, has_contained, contains_had, has_filtered, has_kept, MarcFault, Split, Directive, IdentFault, Kind, Update, Delete, Adelete, PassedOver, Why, unknown, Conditions, FoldsTo, Changed, Progress, changed_by, deleted, ident_in, with_ident, with_record, Base, Kept, has_ident, kept_as, without_ident, NoneHas, slices_in, has_same, is_ident, none_kept, same_has, first_fault}
 use Rattle.zeb_change.specs.Folding.{changed_record}
 use Rattle.zeb_laws.proofs.FoldInduction.{all_folded}
 use Rattle.zeb_laws.proofs.Lasting.{in_left, in_right, the_one, none_in_both, none_in_none, none_in_other}

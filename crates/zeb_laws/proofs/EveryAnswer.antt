@@ -1,9 +1,7 @@
 -- Each command has an answer, whatever is held.
-use Rattle.zeb_laws.proofs.Cited.{◌≡◌, ◌↔◌, ◌∙◌, ◌-◌, ℕ, Bool, true, false, cond, ◌&&◌, List, [], ◌∷◌, map, length, find, take, drop, Option, Some, None, Result, Ok, Err, refl, sym, ap, subst, inl, inr, nat_eq, nat_lt, string_bytes, nat_cmp_total, decimal, Contains, flat_map, option_map, Decides-eqb, take-append-drop, Has, contains_had, has_contained, has_found, has_right, has_mapped, mapped_has, has_taken, Directive, unit_targets, Refusal, PlanValue, ScanValue, plan_of, scan_of, IsReadable, read_or_faulty, Occurrence, numbers_apart, listing, occurrences_are_listed, Contains-flat_map, Contains-map, from_flat_map, from_map, TreeHolds, AreNumbers, holder_known, Command, Init, Check, Reindex, Upgrade, Create, Drop, Stat, Dump, Change, Find, Scan, Analyse, IsAnalysed, analysis_answer, Answer, Extent, found, refused, scanned, Why, diagnostic, Conditions, IsCounted, IsExtent, Paired, Target, name_of_index, target_list, AreShown, IsAnswered, IsFound, IsNamed, IsPlanned, IsShown, has_name, OccursIn, occurs, Base, Kept, Holdings, base_named, name_bytes, IsScanned, IsScanPlanned, around, AskedFrom, AskedIn, CountedFrom, FindAnswers, ScanAnswers, StatAnswers, Step, created, dropped, dumped_by, no_database, checked, splits_of}
+use Rattle.zeb_laws.proofs.Cited.{◌≡◌, ◌↔◌, ◌∙◌, ◌-◌, ℕ, Bool, true, false, cond, ◌&&◌, List, [], ◌∷◌, map, length, find, take, drop, Option, Some, None, Result, Ok, Err, refl, sym, ap, subst, inl, inr, nat_eq, nat_lt, string_bytes, nat_cmp_total, decimal, Contains, flat_map, option_map, Decides-eqb, take-append-drop, Has, contains_had, has_contained, has_found, has_right, has_mapped, mapped_has, has_taken, Directive, unit_targets, Refusal, PlanValue, ScanValue, plan_of, scan_of, IsReadable, read_or_faulty, Occurrence, numbers_apart, listing, occurrences_are_listed, Contains-flat_map, Contains-map, from_flat_map, from_map, TreeHolds, AreNumbers, holder_known, Command, Init, Check, Reindex, Upgrade, Create, Drop, Stat, Dump, Change, Find, Scan, Analyse, IsAnalysed, analysis_answer, Answer, Extent, found, refused, scanned, Why, diagnostic, Conditions, IsCounted, IsExtent, Paired, Target, name_of_index, target_list, AreShown, IsAnswered, IsFound, IsNamed, IsPlanned, IsShown, has_name, OccursIn, occurs, Base, Kept, Holdings, base_named, name_bytes, IsScanned, IsScanPlanned, around, AskedFrom, AskedIn, CountedFrom, FindAnswers, ScanAnswers, StatAnswers, Step, created, dropped, dumped_by, no_database, checked, splits_of, fields_of, changed_by_files, initialised, ready, turned, reindexed, upgraded}
 use Rattle.zeb_marc.specs.Contents.{units_of}
-use Rattle.zeb_marc.specs.Records.{fields_of}
 use Rattle.zeb_engine.specs.Answers.{counted}
-use Rattle.zeb_engine.specs.Steps.{changed_by_files, initialised, ready, turned, reindexed, upgraded}
 use Rattle.zeb_lower_laws.proofs.EveryAnalysis.{analyses_there}
 use Rattle.zeb_laws.proofs.EveryAnswerHolds.{IsSetOf}
 use Rattle.zeb_laws.proofs.EveryAnswerHolds.{tree_decided}
@@ -125,8 +123,7 @@ module _ (profile : List Directive) (records : List Kept) (first count : ℕ) wh
     hit_is : (n : ℕ) → Has hits n ↔ (Has (numbers O records) n × TreeHolds O (IsCalled O records) plan n)
     unfolding hits
     hit_is n =
-        let held = those (TreeHolds O (IsCalled O records) plan) holds_or_not (numbers O records) in
-        let rising = rising_has nat_cmp_total numbers_apart held n in
+        let rising = rising_has nat_cmp_total numbers_apart (those (TreeHolds O (IsCalled O records) plan) holds_or_not (numbers O records)) n in
         let are = those_are (TreeHolds O (IsCalled O records) plan) holds_or_not (numbers O records) n in
         (λ h. are.0 (rising.0 h), λ h. rising.1 (are.1 h))
 

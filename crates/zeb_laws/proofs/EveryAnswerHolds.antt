@@ -1,7 +1,5 @@
 -- A query holds or not on each number, where the set of occurrences is that of a list.
-use Rattle.zeb_laws.proofs.Cited.{◌≡◌, ◌≢◌, ◌↔◌, ◌⊎◌, ◌∙◌, ◌<◌, ◌+◌, ◌^◌, ℕ, Bool, true, false, List, [], ◌∷◌, ◌++◌, IsUtf8, refl, sym, ap, subst, inl, inr, arith, slice_cmp, nat_cmp, IsUtf8-from_is_utf8, is_utf8-from_IsUtf8, Has, Symbol, Char, Star, Matches, number_key, Register, DistanceRelation, Operator, Relation, Separation, PlanValue, TermOf, PairOf, NearOf, TermPlanValue, RecordNumberOf, NoWordsOf, AlwaysOf, NumberOf, OrderedOf, CompleteOf, PhraseOf, AllWordsOf, AnyWordOf, Key, Occurrence, key_total, keys_apart, occurrence_total, occurrences_apart, key_in, told_by, AreApart, AreSeparated, IsDistant, Precedes, Stands, StandsInOrder, AreJoined, Fits, HasEntry, HasMatch, HasNear, HasPhrase, HasWord, HasWords, IsNumberAt, TermHolds, TreeHolds}
-use Rattle.std.proofs.Common.{chars}
-use Rattle.std.specs.Str.{is_utf8}
+use Rattle.zeb_laws.proofs.Cited.{◌≡◌, ◌≢◌, ◌↔◌, ◌⊎◌, ◌∙◌, ◌<◌, ◌+◌, ◌^◌, ℕ, Bool, true, false, List, [], ◌∷◌, ◌++◌, IsUtf8, refl, sym, ap, subst, inl, inr, arith, slice_cmp, nat_cmp, IsUtf8-from_is_utf8, is_utf8-from_IsUtf8, Has, Symbol, Char, Star, Matches, number_key, Register, DistanceRelation, Operator, Relation, Separation, PlanValue, TermOf, PairOf, NearOf, TermPlanValue, RecordNumberOf, NoWordsOf, AlwaysOf, NumberOf, OrderedOf, CompleteOf, PhraseOf, AllWordsOf, AnyWordOf, Key, Occurrence, key_total, keys_apart, occurrence_total, occurrences_apart, key_in, told_by, AreApart, AreSeparated, IsDistant, Precedes, Stands, StandsInOrder, AreJoined, Fits, HasEntry, HasMatch, HasNear, HasPhrase, HasWord, HasWords, IsNumberAt, TermHolds, TreeHolds, chars, is_utf8}
 use Rattle.zeb_keys.specs.declared.Register.TheVariants as register
 use Rattle.zeb_query.specs.declared.plans.DistanceRelation.TheVariants as at
 use Rattle.zeb_query.specs.declared.plans.Operator.TheVariants as operator

@@ -1,5 +1,5 @@
 -- What holds or not, over lists; and for each list a rising one with the same members.
-use Rattle.zeb_laws.proofs.Cited.{◌≡◌, ◌↔◌, ◌⊎◌, ◌∙◌, ◌<◌, ◌≤◌, ℕ, zero, suc, Bool, true, false, List, [], ◌∷◌, map, refl, sym, subst, inl, inr, Ordering, Less, Equal, Greater, arith, IsTotalOrder, nat_cmp_total, nat_list_cmp_total, Has, all_from, all_has, has_mapped, numbers_apart, texts_apart, all_rise, all_there, told_by, with_all}
+use Rattle.zeb_laws.proofs.Cited.{◌≡◌, ◌↔◌, ◌⊎◌, ◌∙◌, ◌<◌, ◌≤◌, ℕ, zero, suc, Bool, true, false, List, [], ◌∷◌, map, refl, sym, subst, inl, inr, Ordering, Less, Equal, arith, IsTotalOrder, nat_cmp_total, nat_list_cmp_total, Has, all_from, all_has, has_mapped, numbers_apart, texts_apart, all_rise, all_there, told_by, with_all}
 use Rattle.std.specs.List.Sorted.{IsStrictlySortedBy}
 
 -- ---- what holds or not
@@ -36,8 +36,7 @@ test_decided false = inr (λ h. cc)
 
 pub less_decided : (r : Ordering) → Decided (r ≡ Less)
 less_decided Less = inl refl
-less_decided Equal = inr (λ h. cc)
-less_decided Greater = inr (λ h. cc)
+less_decided _ = inr (λ h. cc)
 
 pub number_decided : (m n : ℕ) → Decided (m ≡ n)
 number_decided = told_by nat_cmp_total numbers_apart

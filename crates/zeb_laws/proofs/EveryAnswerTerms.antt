@@ -113,8 +113,7 @@ module _ (O : ℕ → Occurrence → Type 0) (all : List (ℕ × Occurrence)) (a
         let there = (entries_are x.0).0 x.1 in
         subst (HasSpot O index register) (sym x.2) (subst (O x.0.0) (with_key x.0.1 (key_in index register x.0.1.key.term) there.1) ((are x.0.0 x.0.1).1 there.0)),
     λ h. let o : Occurrence = record { key = key_in index register spot.0; seq = spot.1.seq; pos = spot.1.pos } in
-        let there = (entries_are (spot.1.sysno, o)).1 ((are spot.1.sysno o).0 h, refl) in
-        (rising_has spot_total spots_apart (map spot_of entries) spot).1 (mapped_has spot_of entries (spot.1.sysno, o) there),
+        (rising_has spot_total spots_apart (map spot_of entries) spot).1 (mapped_has spot_of entries (spot.1.sysno, o) ((entries_are (spot.1.sysno, o)).1 ((are spot.1.sysno o).0 h, refl))),
   )
 
   spots_are : AreSpotsOf O index register spots

@@ -1,6 +1,5 @@
 -- What a change does to a database, record by record, and so what its counts say.
-use Rattle.zeb_laws.proofs.Cited.{◌≡◌, ◌≢◌, ℕ, ◌+◌, ◌≤◌, Bool, true, false, cond, List, [], ◌∷◌, length, Option, Some, None, Result, Ok, Err, nat_le, refl, sym, ap, subst, arith, sum_by-cons, MarcFault, Split, IdentFault, Kind, Update, Delete, Adelete, Fate, Inserted, Updated, Deleted, PassedOver, Why, database_full, too_many_records, unknown, Conditions, FoldsTo, records_in, Changed, Progress, at_end, at_first, changed_by, counted, deleted, files_folded, ident_in, slices_folded, updated, with_ident, with_record, ◌then◌, Base, Kept, kept_as, with_new, with_bytes, without_ident}
-use Rattle.zeb_marc.specs.Records.{first_fault}
+use Rattle.zeb_laws.proofs.Cited.{◌≡◌, ◌≢◌, ℕ, ◌+◌, ◌≤◌, Bool, true, false, cond, List, [], ◌∷◌, length, Option, Some, None, Result, Ok, Err, nat_le, refl, sym, ap, subst, arith, sum_by-cons, MarcFault, Split, IdentFault, Kind, Update, Delete, Adelete, Fate, Inserted, Updated, Deleted, PassedOver, Why, database_full, too_many_records, unknown, Conditions, FoldsTo, records_in, Changed, Progress, at_end, at_first, changed_by, counted, deleted, files_folded, ident_in, slices_folded, updated, with_ident, with_record, ◌then◌, Base, Kept, kept_as, with_new, with_bytes, without_ident, first_fault}
 use Rattle.zeb_change.specs.Folding.{changed_record, file_folded, record_folded}
 
 -- ---- one record
@@ -87,9 +86,7 @@ module _ (c : Conditions) (kind : Kind) (P : Progress → Type 0) (step : (p : P
 
 one_more : (base : Base) (p : Progress) (fate : Fate) → (counted base p fate).taken ≡ p.taken + 1
 one_more base p Inserted = refl
-one_more base p Updated = refl
-one_more base p Deleted = refl
-one_more base p PassedOver = refl
+one_more base p _ = refl
 
 module _ (c : Conditions) (kind : Kind) where
   slices_taken : (file nth : ℕ) (slices : List (List ℕ)) (last : Option MarcFault) (p q : Progress) → slices_folded c kind file nth slices last p ≡ Ok q → q.taken ≡ p.taken + length slices

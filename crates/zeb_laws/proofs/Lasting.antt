@@ -1,6 +1,5 @@
 -- What becomes of the records of an identifier in a change.
-use Rattle.zeb_laws.proofs.Cited.{◌≡◌, ◌≢◌, ◌↔◌, ◌⊎◌, ◌∙◌, ◌+◌, ℕ, Bool, true, false, cond, List, [], ◌∷◌, ◌++◌, Option, Some, None, Result, Ok, Err, nat_le, append_assoc, refl, sym, ap, subst, inl, inr, Contains, Has, has_contained, contains_had, has_left, has_right, has_either, has_mapped, mapped_has, MarcFault, Split, Directive, IdentFault, Update, Inserted, Why, database_full, Conditions, FoldsTo, Changed, Progress, ident_in, updated, with_ident, with_record, Base, Kept, kept_as, with_new, with_bytes, IsLastOf, KeepsIdent, NoneHas, SomeHas, slices_in, has_same, is_ident, kept_found, none_kept, same_has}
-use Rattle.zeb_marc.specs.Records.{first_fault}
+use Rattle.zeb_laws.proofs.Cited.{◌≡◌, ◌≢◌, ◌↔◌, ◌⊎◌, ◌∙◌, ◌+◌, ℕ, Bool, true, false, cond, List, [], ◌∷◌, ◌++◌, Option, Some, None, Result, Ok, Err, nat_le, append_assoc, refl, sym, ap, subst, inl, inr, Contains, Has, has_contained, contains_had, has_left, has_right, has_either, has_mapped, mapped_has, MarcFault, Split, Directive, IdentFault, Update, Inserted, Why, database_full, Conditions, FoldsTo, Changed, Progress, ident_in, updated, with_ident, with_record, Base, Kept, kept_as, with_new, with_bytes, IsLastOf, KeepsIdent, NoneHas, SomeHas, slices_in, has_same, is_ident, kept_found, none_kept, same_has, first_fault}
 use Rattle.zeb_change.specs.Folding.{changed_record}
 use Rattle.zeb_laws.proofs.FoldRecords.{with_other, other_ident}
 use Rattle.zeb_laws.proofs.FoldInduction.{all_folded}

@@ -56,9 +56,8 @@ one_holding trees nothing_yet (under version text bases) left right = absurd (no
 one_holding trees (under version text bases) nothing_yet left right = absurd (no_text trees left.0 version text bases right.0.0 left.1)
 one_holding trees (under version text bases) (under other said others) left right =
     let at = left.1 in
-    let to = right.1 in
-    let same_version : other ≡ version = version_is trees version text at.pattern at.texts other ((to.texts.each (codes "version") other).1 (inl (refl, refl))) in
-    let same_text : said ≡ text = profile_is trees version text at.pattern at.texts said ((to.texts.each (codes "profile") said).1 (inr (inl (refl, refl)))) in
-    let so = under_other right.0 left.0 at.sound trees other said others (same_text ∙ at.text_is) to in
+    let same_version : other ≡ version = version_is trees version text at.pattern at.texts other ((right.1.texts.each (codes "version") other).1 (inl (refl, refl))) in
+    let same_text : said ≡ text = profile_is trees version text at.pattern at.texts said ((right.1.texts.each (codes "profile") said).1 (inr (inl (refl, refl)))) in
+    let so = under_other right.0 left.0 at.sound trees other said others (same_text ∙ at.text_is) right.1 in
     let same : bases ≡ others = same_bases left.0 trees at.format so.format bases others at.are so.are at.image so.image in
     λ i. under (sym same_version i) (sym same_text i) (same i)

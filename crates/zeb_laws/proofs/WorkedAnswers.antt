@@ -1,13 +1,12 @@
 -- "Moby Dick" is kept, and again, refused with what stands behind it, and found.
-use Rattle.zeb_laws.proofs.Cited.{◌≡◌, ◌↔◌, ◌∙◌, ℕ, ◌≤◌, Bool, true, false, not, List, [], ◌∷◌, None, Some, Ok, nat_le, refl, sym, ap, ap₂, subst, inl, inr, codes, IsUtf8, arith, Contains, bytes_eq, has_contained, nat_tests, All-contains, AllPass-from_list_all, unit_targets, LengthDigits, worked_record, Word, Occurrence, PlanValue, PairOf, HasKey, IsOccurrence, moby_dick_analysis, title_profile, term_at, members, Command, Init, Check, Reindex, Upgrade, Create, Drop, Stat, Dump, Change, Find, Scan, Analyse, Update, Delete, Adelete, Limits, Inserted, Updated, Answer, done, changed, refused, found, faulty, Conditions, TreeHolds, AreNumbers, plain_word, AreShown, IsFound, IsNamed, has_name, OccursIn, occurs, Progress, at_first, counted, splits_of, Holdings, new_base, Base, Kept, with_new, with_bytes, outcome, found_once, name_once, book, book_base, book_conditions, faulty_file, no_books, one_book, title_plan, title_word, whale, ahab, BookHolds, IsUpdateBy}
+use Rattle.zeb_laws.proofs.Cited.{◌≡◌, ◌↔◌, ◌∙◌, ℕ, ◌≤◌, Bool, true, false, not, List, [], ◌∷◌, None, Some, Ok, nat_le, refl, sym, ap, ap₂, subst, inl, inr, codes, IsUtf8, arith, Contains, bytes_eq, has_contained, nat_tests, All-contains, AllPass-from_list_all, unit_targets, LengthDigits, worked_record, Word, Occurrence, PlanValue, PairOf, HasKey, IsOccurrence, moby_dick_analysis, title_profile, term_at, members, Command, Init, Change, Update, Delete, Adelete, Limits, Inserted, Updated, Answer, done, changed, refused, found, faulty, Conditions, TreeHolds, AreNumbers, plain_word, AreShown, IsFound, IsNamed, has_name, OccursIn, occurs, Progress, at_first, counted, splits_of, Holdings, new_base, Base, Kept, with_new, with_bytes, outcome, found_once, name_once, book, book_base, book_conditions, faulty_file, no_books, one_book, title_plan, title_word, whale, ahab, BookHolds, IsUpdateBy, record_folded, turned, changed_by_files}
 use lib.Utf8.{encode}
 use Rattle.std.specs.List.Sorted.{IsStrictlySortedBy}
 use Rattle.zeb_marc.specs.Leader.{are_digits, number_of}
 use Rattle.zeb_marc.specs.Splits.{split_of, next_of}
 use Rattle.zeb_change.specs.declared.faults.RecordFault.TheVariants as fault
-use Rattle.zeb_change.specs.Folding.{record_folded}
 use Rattle.zeb_image.specs.Holdings.{with_base}
-use Rattle.zeb_engine.specs.Steps.{initialised, turned, changed_by_files}
+use Rattle.zeb_engine.specs.Steps.{initialised}
 use Rattle.zeb_query.specs.declared.plans.Operator.TheVariants as operator
 use Rattle.zeb_lower_laws.proofs.SampleAnswers.{named, sound, units_are}
 use Rattle.zeb_laws.proofs.WorkedLemmas.{new_folded, old_folded, whole_file, faulty_file as fault_behind, update_done, update_refused}
@@ -129,16 +128,7 @@ turn_of c before texts (Change Update name files) is = ap₂ (λ name texts. Som
 turn_of c before texts (Change Delete name files) is = absurd is
 turn_of c before texts (Change Adelete name files) is = absurd is
 turn_of c before texts Init is = absurd is
-turn_of c before texts Check is = absurd is
-turn_of c before texts Reindex is = absurd is
-turn_of c before texts Upgrade is = absurd is
-turn_of c before texts (Create name) is = absurd is
-turn_of c before texts (Drop name) is = absurd is
-turn_of c before texts (Stat name) is = absurd is
-turn_of c before texts (Dump name) is = absurd is
-turn_of c before texts (Find name query first count) is = absurd is
-turn_of c before texts (Scan name query number position) is = absurd is
-turn_of c before texts (Analyse files) is = absurd is
+turn_of c before texts _ is = absurd is
 
 module _ (version : List ℕ) (limits : Limits) where
   abbrev c : Conditions

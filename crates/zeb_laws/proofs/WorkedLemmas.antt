@@ -1,10 +1,7 @@
 -- An update by one file whose one record has no fault and an identifier.
-use Rattle.zeb_laws.proofs.Cited.{◌≡◌, ◌∙◌, ℕ, false, List, [], ◌∷◌, None, Some, Ok, Err, nat_le, refl, ap, bytes_eq-Decides, canonical_text, MarcFault, Update, Inserted, Updated, Why, why_of, changed, refused, Conditions, Changed, Progress, at_first, counted, updated, files_folded, ident_in, splits_of, Base, Kept, kept_as, with_new, with_bytes, base_named, marc_refusal, holding, start_of, named_record, folded_ok, step_changed, step_unchanged}
-use Rattle.zeb_marc.specs.Records.{first_fault}
-use Rattle.zeb_marc.specs.Splits.{split_of}
-use Rattle.zeb_change.specs.Folding.{record_folded, file_folded}
-use Rattle.zeb_image.specs.Holdings.{with_base}
-use Rattle.zeb_engine.specs.Steps.{ready, turned, changed_by_files}
+use Rattle.zeb_laws.proofs.Cited.{◌≡◌, ◌∙◌, ℕ, false, List, [], ◌∷◌, None, Some, Ok, Err, nat_le, refl, ap, bytes_eq-Decides, canonical_text, MarcFault, Update, Inserted, Updated, Why, why_of, changed, refused, Conditions, Changed, Progress, at_first, counted, updated, files_folded, ident_in, splits_of, Base, Kept, kept_as, with_new, with_bytes, base_named, marc_refusal, holding, start_of, named_record, folded_ok, step_changed, step_unchanged, first_fault, split_of, record_folded, with_base, turned, changed_by_files}
+use Rattle.zeb_change.specs.Folding.{file_folded}
+use Rattle.zeb_engine.specs.Steps.{ready}
 
 -- what is held under these conditions is ready under them
 pub ready_held : (c : Conditions) (bases : List Base) → ready c (holding c bases) ≡ Ok bases

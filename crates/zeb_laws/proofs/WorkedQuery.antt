@@ -1,5 +1,5 @@
 -- The word of a title, asked for by a query's text.
-use Rattle.zeb_laws.proofs.Cited.{◌≡◌, ◌↔◌, ℕ, List, [], ◌∷◌, None, Ok, inl, inr, refl, sym, subst, codes, string_bytes, words_at, unquoted, IsReadable, QueryValue, TermValue, IsQuery, is_term, is_attribute, is_structure, no_head, with_attribute, SpellsQuery, words_are_read, apart, readable, plan_of, title_profile, Command, Init, Check, Reindex, Upgrade, Create, Drop, Stat, Dump, Change, Find, Scan, Analyse, Limits, name_bytes, Answer, Conditions, IsPlanned, Holdings, AskedAmong, FindAnswers, FoundFrom, Step, book_base, book_conditions, one_book, title_plan, IsFindBy, answered_once, name_once}
+use Rattle.zeb_laws.proofs.Cited.{◌≡◌, ◌↔◌, ℕ, List, [], ◌∷◌, None, Ok, inl, inr, refl, sym, subst, codes, string_bytes, words_at, unquoted, IsReadable, QueryValue, TermValue, IsQuery, is_term, is_attribute, is_structure, no_head, with_attribute, SpellsQuery, words_are_read, apart, readable, plan_of, title_profile, Command, Find, Limits, name_bytes, Answer, Conditions, IsPlanned, Holdings, AskedAmong, FindAnswers, FoundFrom, Step, book_base, book_conditions, one_book, title_plan, IsFindBy, answered_once, name_once, ready}
 use Rattle.std.specs.Str.{chars, is_utf8}
 use lib.Utf8.{encode}
 use Rattle.ucd_category.proofs.Computing.{ucd_category}
@@ -11,7 +11,6 @@ use Rattle.zeb_query.specs.Words.{Word}
 use Rattle.zeb_query.specs.Grammar.{kind_and_value, under}
 use Rattle.zeb_query.specs.Attributes.{holding_of}
 use Rattle.zeb_query.specs.Plans.{plan_asked}
-use Rattle.zeb_engine.specs.Steps.{ready}
 use Rattle.zeb_laws.proofs.WorkedAnswers.{book_named, book_occurs, one_found, word_found}
 use Rattle.zeb_laws.proofs.WorkedLemmas.{ready_held}
 
@@ -87,14 +86,4 @@ module _ (version : List ℕ) (limits : Limits) (answer : Answer) where
   asked later (Find name asked_for first count) is =
       let it = asked_as (name_bytes name) (string_bytes asked_for) first count is.0 is.1 is.2 is.3 in
       (λ step. (it.0 step.0, step.1), λ both. (it.1 both.0, both.1))
-  asked later (Change kind name files) is = absurd is
-  asked later Init is = absurd is
-  asked later Check is = absurd is
-  asked later Reindex is = absurd is
-  asked later Upgrade is = absurd is
-  asked later (Create name) is = absurd is
-  asked later (Drop name) is = absurd is
-  asked later (Stat name) is = absurd is
-  asked later (Dump name) is = absurd is
-  asked later (Scan name asked_for number position) is = absurd is
-  asked later (Analyse files) is = absurd is
+  asked later _ is = absurd is

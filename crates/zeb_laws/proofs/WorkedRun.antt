@@ -1,5 +1,5 @@
 -- A register is begun, a record is kept in it, and is found.
-use Rattle.zeb_laws.proofs.Cited.{◌≡◌, ℕ, List, [], ◌∷◌, Some, refl, inl, codes, worked_record, Command, Init, Check, Reindex, Upgrade, Create, Drop, Stat, Dump, Change, Find, Scan, Analyse, Update, Delete, Adelete, Limits, Answer, done, changed, Conditions, Holdings, nothing_yet, Outcome, Run, Step, outcome, step_is, book_conditions, no_books, one_book, IsFindBy, IsUpdateBy}
+use Rattle.zeb_laws.proofs.Cited.{◌≡◌, ℕ, List, [], ◌∷◌, Some, refl, inl, codes, worked_record, Command, Init, Change, Find, Update, Delete, Adelete, Limits, Answer, done, changed, Conditions, Holdings, nothing_yet, Outcome, Run, Step, outcome, step_is, book_conditions, no_books, one_book, IsFindBy, IsUpdateBy}
 use Rattle.zeb_laws.proofs.WorkedAnswers.{begun, kept, one_found}
 use Rattle.zeb_laws.proofs.WorkedQuery.{asked}
 
@@ -12,30 +12,11 @@ module _ (c : Conditions) (before : Holdings) (commands : List Command) (answers
   updates texts o (Change Delete name files) by is rest = absurd by
   updates texts o (Change Adelete name files) by is rest = absurd by
   updates texts o Init by is rest = absurd by
-  updates texts o Check by is rest = absurd by
-  updates texts o Reindex by is rest = absurd by
-  updates texts o Upgrade by is rest = absurd by
-  updates texts o (Create name) by is rest = absurd by
-  updates texts o (Drop name) by is rest = absurd by
-  updates texts o (Stat name) by is rest = absurd by
-  updates texts o (Dump name) by is rest = absurd by
-  updates texts o (Find name query first count) by is rest = absurd by
-  updates texts o (Scan name query number position) by is rest = absurd by
-  updates texts o (Analyse files) by is rest = absurd by
+  updates texts o _ by is rest = absurd by
 
   finds : (text : List ℕ) (answer : Answer) (command : Command) → IsFindBy text command → Step c command before answer before → Run c before commands answers last → Run c before (command ∷ commands) (answer ∷ answers) last
   finds text answer (Find name query first count) by is rest = (before, inl is, rest)
-  finds text answer (Change kind name files) by is rest = absurd by
-  finds text answer Init by is rest = absurd by
-  finds text answer Check by is rest = absurd by
-  finds text answer Reindex by is rest = absurd by
-  finds text answer Upgrade by is rest = absurd by
-  finds text answer (Create name) by is rest = absurd by
-  finds text answer (Drop name) by is rest = absurd by
-  finds text answer (Stat name) by is rest = absurd by
-  finds text answer (Dump name) by is rest = absurd by
-  finds text answer (Scan name query number position) by is rest = absurd by
-  finds text answer (Analyse files) by is rest = absurd by
+  finds text answer _ by is rest = absurd by
 
 pub run : (version : List ℕ) (limits : Limits) (update ask : Command) → IsUpdateBy (worked_record ∷ []) update → IsFindBy (codes "@attr 1=4 whale") ask
     → Run (book_conditions version limits) nothing_yet (Init ∷ update ∷ ask ∷ []) (done ∷ changed 1 0 0 ∷ one_found ∷ []) (one_book version)

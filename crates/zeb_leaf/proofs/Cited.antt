@@ -11,7 +11,6 @@ pub use Rattle.zeb_leaf.specs.Order.{IsEntry, entry_cmp}
 pub use Rattle.zeb_leaf.specs.Leaves.{shared_of, leaf_bytes, IsLeaf}
 pub use Rattle.zeb_leaf.specs.Walks.{Place, first_place, behind_entry, last_place, Follows, Walk, Steps, IsStuck, Draft, draft_of}
 pub use Rattle.zeb_leaf.specs.Answers.{Answers, entry_of, IsFound}
-pub use Rattle.zeb_leaf.specs.Cuts.{IsCut}
 pub use Rattle.zeb_leaf.specs.PrivateTold.{Parts, parts_told, AreSmall, Rises, Fit, entry_told}
 pub use Rattle.zeb_leaf.specs.declared.entries.Entry.{Entry}
 pub use Rattle.zeb_leaf.specs.declared.entries.Held.{Held}

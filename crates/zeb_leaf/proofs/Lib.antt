@@ -12,3 +12,6 @@ pub mod Cutting
 pub mod WorkedLeaves
 pub mod Fronts
 pub mod Faults
+pub mod Members
+pub mod MergedLists
+pub mod CutLists

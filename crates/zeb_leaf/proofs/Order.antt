@@ -14,7 +14,7 @@ EachFollows place (e ∷ entries) = Follows place e × EachFollows (behind_entry
 
 -- ---- entries behind another
 
-cmp_level : (xs ys : List ℕ) → slice_cmp nat_cmp xs ys ≡ Equal → xs ≡ ys
+pub cmp_level : (xs ys : List ℕ) → slice_cmp nat_cmp xs ys ≡ Equal → xs ≡ ys
 cmp_level [] [] level = refl
 cmp_level [] (y ∷ ys) level = absurd (cc)
 cmp_level (x ∷ xs) [] level = absurd (cc)
@@ -25,7 +25,7 @@ cmp_level (x ∷ xs) (y ∷ ys) level =
     apart : (rest : Ordering) (x y : ℕ) → ordering_then (nat_cmp x y) rest ≡ Equal → (x ≡ y) × (rest ≡ Equal)
     apart rest x y level = grind (arith, common_steps, level)
 
-cmp_same : (xs : List ℕ) → slice_cmp nat_cmp xs xs ≡ Equal
+pub cmp_same : (xs : List ℕ) → slice_cmp nat_cmp xs xs ≡ Equal
 cmp_same [] = refl
 cmp_same (x ∷ xs) = ap (λ o. ordering_then o (slice_cmp nat_cmp xs xs)) (cmp_itself x) ∙ cmp_same xs
 
@@ -45,7 +45,7 @@ cmp_from_above p q (inr level) =
     let blocks : nat_cmp p.block q.block ≡ Less = grind (arith, common_steps, level.1) in
     ap (λ o. ordering_then o (nat_cmp p.block q.block)) terms ∙ blocks
 
-entries_total : IsTotalOrder entry_cmp
+pub entries_total : IsTotalOrder entry_cmp
 entries_total = then_total (on_total (λ (e : Entry). e.term) nat_list_cmp_total) (on_total (λ (e : Entry). e.block) nat_cmp_total)
 
 -- ---- rising lists

@@ -1,12 +1,36 @@
--- Where a list of entries is parted.
-use Rattle.std.specs.Prelude.{ℕ, ◌+◌, ◌<◌, ◌≤◌, List, length, take}
-use Rattle.zeb_leaf.specs.Leaves.{leaf_bytes}
+-- Into which leaves a list of entries is cut.
+use Rattle.std.specs.Prelude.{◌≡◌, ◌+◌, ◌/◌, ◌<◌, ◌≤◌, ℕ, List, [], ◌∷◌, ◌++◌, length}
+use Rattle.zeb_leaf.specs.Leaves.{IsLeaf, leaf_bytes}
+use Rattle.zeb_leaf.specs.declared.parting.Filling.{Filling}
+use Rattle.zeb_leaf.specs.declared.parting.Filling.TheVariants.{Even, Full}
+use Rattle.zeb_leaf.specs.declared.parting.NewLeaf.{NewLeaf}
 use Rattle.zeb_leaf.specs.declared.entries.Entry.{Entry}
+use Rattle.zeb_leaf.specs.declared.entries.TheConstants.{LEAF_BYTES}
 
--- the entries are cut before this one. On both sides is one at least. Those before it take at most so many bytes as a leaf, or are a
--- single one; and they are as many as can be
-pub record IsCut (most : ℕ) (entries : List Entry) (index : ℕ) : Type 0 where
-  pub some : 1 ≤ index
-  pub inside : index < length entries
-  pub fits : 2 ≤ index → length (leaf_bytes (take index entries)) ≤ most
-  pub full : index + 1 < length entries → most < length (leaf_bytes (take (index + 1) entries))
+-- a leaf takes more bytes with the first entry of the next one
+abbrev pub bytes_above : Filling → ℕ
+bytes_above Even = LEAF_BYTES / 2
+bytes_above Full = LEAF_BYTES
+
+-- the key is that of the first entry
+abbrev pub BeginsAt : NewLeaf → List Entry → Type 0
+BeginsAt leaf [] = ⊥
+BeginsAt leaf (e ∷ entries) = (leaf.term ≡ e.term) × (leaf.block ≡ e.block)
+
+-- the leaf with the next entry takes more bytes than these
+abbrev pub TakesMore : ℕ → (own rest : List Entry) → Type 0
+TakesMore above own [] = Unit {0}
+TakesMore above own (e ∷ rest) = above < length (leaf_bytes (own ++ e ∷ []))
+
+-- the leaf has its own entries, of which several take at most LEAF_BYTES bytes, and is full before the rest
+pub record IsCutOff (above : ℕ) (leaf : NewLeaf) (own rest : List Entry) : Type 0 where
+  pub first : BeginsAt leaf own
+  pub spelled : IsLeaf leaf.bytes own
+  pub small : 2 ≤ length own → length leaf.bytes ≤ LEAF_BYTES
+  pub full : TakesMore above own rest
+
+-- the leaves have the entries, one behind the other
+abbrev pub AreCut : ℕ → List NewLeaf → List Entry → Type 0
+AreCut above [] entries = entries ≡ []
+AreCut above (leaf ∷ leaves) entries =
+    (own : List Entry) × (rest : List Entry) × (entries ≡ own ++ rest) × IsCutOff above leaf own rest × AreCut above leaves rest

@@ -4,5 +4,7 @@ pub mod Walks
 pub mod Answers
 pub mod Spans
 pub mod Cuts
+pub mod Merging
 pub mod Worked
 pub mod PrivateTold
+pub mod PrivateMerging

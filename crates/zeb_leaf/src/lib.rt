@@ -5,6 +5,7 @@
 
 mod entries;
 mod laws;
+mod merging;
 mod parting;
 mod reading;
 mod spans;
@@ -17,7 +18,8 @@ pub use laws::{
     bytes_and_entries_are_one_to_one, leaf_is_cut_at_an_entry, rising_entries_follow,
     sizes_of_entries, worked_leaves,
 };
-pub use parting::part;
+pub use merging::{BlockChange, NewBlock, merge};
+pub use parting::{Filling, NewLeaf, cut};
 pub use reading::{find, read_leaf};
 pub use spans::{BlockKey, push_span};
 pub use walking::LeafReader;

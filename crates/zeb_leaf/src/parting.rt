@@ -1,15 +1,40 @@
-//! Where a list of entries is parted into two leaves.
-ghost use Rattle.std.specs.Prelude.{◌≡◌, ◌^◌, ◌<◌, ◌≤◌, length};
+//! Into which leaves a list of entries is cut.
+ghost use Rattle.std.specs.Prelude.{◌≡◌, ◌≢◌, ◌+◌, ◌-◌, ◌/◌, ◌^◌, ◌<◌, ◌≤◌, [], length, min, take, IfOk};
+ghost use Rattle.std.specs.List.{AllByRecursion};
+ghost use Rattle.std.specs.List.Sorted.{IsStrictlySortedBy};
 ghost use Rattle.zeb_blocks.specs.Numbers.{uleb};
-ghost use Rattle.zeb_leaf.specs.Leaves.{entry_bytes, leaf_bytes};
-ghost use Rattle.zeb_leaf.specs.Cuts.{IsCut};
+ghost use Rattle.zeb_leaf.specs.Cuts.{AreCut, BeginsAt, bytes_above};
+ghost use Rattle.zeb_leaf.specs.Leaves.{IsLeaf, entry_bytes, leaf_bytes};
+ghost use Rattle.zeb_leaf.specs.Order.{IsEntry, entry_cmp};
 
-use crate::entries::Entry;
-use crate::writing::shared_len;
+use crate::entries::{Bytes, Entry, LEAF_BYTES};
+use crate::writing::{shared_len, spell_leaf};
+use std::alloc::{AllocError, Global};
+
+/// A leaf that is to be written: the key of its first entry, and its bytes.
+#[derive(Debug, Drop)]
+pub struct NewLeaf {
+    /// The term's bytes.
+    pub term: Bytes,
+    /// The block's number, 0 to 2^56 - 1.
+    pub block: u64,
+    /// The bytes of the leaf.
+    pub bytes: Bytes,
+}
+
+/// How far leaves are filled where entries take more than one.
+#[derive(Clone, Copy, Debug, PartialEq, Eq)]
+pub enum Filling {
+    /// What would make less than two full leaves is cut in two halves of about equal size.
+    Even,
+    /// Each leaf but the last is full: more entries are to come behind the last.
+    Full,
+}
 
 /// How many bytes a number takes.
 fn number_len(number: u64) -> usize
-    ensures { result ≡ length (uleb number) }
+    ensures value { result ≡ length (uleb number) }
+    ensures few { result ≤ 10 }
 {
     let mut left = number;
     let mut len = 1;
@@ -20,11 +45,10 @@ fn number_len(number: u64) -> usize
     len
 }
 
-/// How many bytes an entry takes behind one with this term.
+/// How many bytes an entry takes behind one with this term; 2^64 - 1 where they are more.
 #[tactic(auto, using(crate::proofs::Numbers::entry_length))]
 fn entry_len(before: &[u8], entry: &Entry) -> usize
-    requires { length (entry_bytes before.now entry.now) < 2 ^ 64 }
-    ensures { result ≡ length (entry_bytes before.now entry.now) }
+    ensures { result ≡ min (length (entry_bytes before.now entry.now)) (2 ^ 64 - 1) }
 {
     let term = entry.term.as_slice();
     let shared = shared_len(before, term);
@@ -35,27 +59,98 @@ fn entry_len(before: &[u8], entry: &Entry) -> usize
         + number_len(entry.block)
         + number_len(entry.records)
         + number_len(bytes as u64);
-    numbers + rest + bytes
+    numbers.saturating_add(rest).saturating_add(bytes)
 }
 
-/// Before which entry a list that takes too many bytes for a leaf is parted: the entries before it take at most `most` bytes, as many
-/// of them as can be, though one at least; one at least is left. So both leaves have fewer entries than the list.
-///
-/// Half of the bytes of the whole as `most` gives halves of about equal size. Where entries come in rising order, the last one just now,
-/// [`crate::LEAF_BYTES`] leaves a full leaf behind.
-pub fn part(entries: &[Entry], most: usize) -> usize
-    requires some { 2 ≤ length entries.now }
-    requires countable { length (leaf_bytes entries.now) < 2 ^ 64 }
-    ensures { IsCut most entries.now result }
+/// How many bytes a leaf with these entries takes; 2^64 - 1 where they are more.
+fn leaf_len(entries: &[Entry]) -> usize
+    ensures { result ≡ min (length (leaf_bytes entries.now)) (2 ^ 64 - 1) }
 {
-    let mut index = 1;
-    let mut len = entry_len(&[], &entries[0]);
-    while index + 1 < entries.len() {
-        len += entry_len(entries[index - 1].term.as_slice(), &entries[index]);
-        if len > most {
-            return index;
-        }
-        index += 1;
+    let mut len: usize = 0;
+    let mut before: &[u8] = &[];
+    for entry in entries {
+        len = len.saturating_add(entry_len(before, entry));
+        before = entry.term.as_slice();
     }
-    index
+    len
+}
+
+/// How many entries a leaf takes: as many as can be in so many bytes, and one at least.
+fn fitting(entries: &[Entry], most: usize) -> usize
+    requires small { most < 2 ^ 64 - 1 }
+    requires some { entries.now ≢ [] }
+    ensures some { (1 ≤ result) × (result ≤ length entries.now) }
+    ensures fits { 2 ≤ result → length (leaf_bytes (take result entries.now)) ≤ most }
+    ensures full { result < length entries.now
+        → most < length (leaf_bytes (take (result + 1) entries.now)) }
+{
+    let mut len: usize = 0;
+    let mut before: &[u8] = &[];
+    for (count, entry) in entries.iter().enumerate() {
+        len = len.saturating_add(entry_len(before, entry));
+        if count > 0 && len > most {
+            return count;
+        }
+        before = entry.term.as_slice();
+    }
+    entries.len()
+}
+
+/// How many bytes the next leaf takes at most, where what is left takes so many together: half of them where that is less than two full
+/// leaves.
+fn even_share(left: usize) -> usize
+    ensures { (LEAF_BYTES / 2 ≤ result) × (result ≤ LEAF_BYTES) }
+{
+    if left > LEAF_BYTES && left < 2 * LEAF_BYTES {
+        left / 2
+    } else {
+        LEAF_BYTES
+    }
+}
+
+/// How many bytes the next leaf takes at most, by the filling.
+fn share(left: usize, filling: Filling) -> usize
+    ensures { (bytes_above filling ≤ result) × (result ≤ LEAF_BYTES) }
+{
+    match filling {
+        Filling::Even => even_share(left),
+        Filling::Full => LEAF_BYTES,
+    }
+}
+
+/// The leaf with these entries.
+fn new_leaf(alloc: Global, entries: &[Entry]) -> Result<NewLeaf, AllocError>
+    requires some { entries.now ≢ [] }
+    requires rising { IsStrictlySortedBy entry_cmp entries.now }
+    requires each { AllByRecursion IsEntry entries.now }
+    ensures { IfOk result (λ leaf. BeginsAt leaf entries.now × IsLeaf leaf.bytes entries.now) }
+{
+    let first = &entries[0];
+    Ok(NewLeaf {
+        term: Bytes::new(Vec::from_slice(alloc, first.term.as_slice())?),
+        block: first.block,
+        bytes: Bytes::new(spell_leaf(alloc, entries)?),
+    })
+}
+
+/// The leaves with these entries, one behind the other: each has one entry at least, and several take at most [`LEAF_BYTES`] bytes. By the
+/// filling, each but the last is so full that with the next entry it would take more than `LEAF_BYTES` bytes, or more than half as many. The
+/// only refusal is want of memory.
+pub fn cut(alloc: Global, entries: &[Entry], filling: Filling) -> Result<Vec<NewLeaf>, AllocError>
+    requires rising { IsStrictlySortedBy entry_cmp entries.now }
+    requires each { AllByRecursion IsEntry entries.now }
+    ensures { IfOk result (λ leaves. AreCut (bytes_above filling) leaves.items entries.now) }
+{
+    let mut leaves = Vec::new(alloc);
+    let mut rest = entries;
+    let mut left = leaf_len(entries);
+    while !rest.is_empty() {
+        let most = share(left, filling);
+        let (own, behind) = rest.split_at(fitting(rest, most));
+        let leaf = new_leaf(alloc, own)?;
+        left = left.saturating_sub(leaf.bytes.as_slice().len());
+        leaves.push(leaf)?;
+        rest = behind;
+    }
+    Ok(leaves)
 }

@@ -21,7 +21,7 @@ pub struct BlockKey<'a> {
 }
 
 /// How a key lies to another one.
-fn order(one: BlockKey, other: BlockKey) -> Ordering
+pub(crate) fn order(one: BlockKey, other: BlockKey) -> Ordering
     ensures { result ≡ key_cmp one.entry.term.now one.entry.block other.entry.term.now
         other.entry.block }
 {

@@ -28,11 +28,11 @@ pub use Rattle.zeb_leaf.specs.Leaves.{IsLeaf, leaf_bytes}
 pub use Rattle.zeb_leaf.specs.Order.{IsEntry, entry_cmp}
 pub use Rattle.zeb_leaf.specs.Walks.{first_place}
 pub use Rattle.zeb_leaf.specs.declared.entries.Entry.{Entry}
-pub use Rattle.zeb_leaves.specs.Covering.{Covers, HasEntriesAt, IsUpTo, LacksEntriesAt, ShowsEntries, leaf_key, own_key}
-pub use Rattle.zeb_leaves.specs.HeldLeaves.{AreLeavesAlone, HoldsLeaves, IsLeafAlone}
-pub use Rattle.zeb_leaves.specs.LeafUnits.{AreLeavesMiscounted, AreLeavesWhole, HasMalformedLeaf, IsLeafMalformed, IsLeafOf, LeavesCount, LeavesRead, LeavesReadBlock}
+pub use Rattle.zeb_register.specs.Covering.{Covers, HasEntriesAt, IsUpTo, LacksEntriesAt, ShowsEntries, leaf_key, own_key}
+pub use Rattle.zeb_register.specs.HeldLeaves.{AreLeavesAlone, HoldsLeaves, IsLeafAlone}
+pub use Rattle.zeb_register.specs.LeafUnits.{AreLeavesMiscounted, AreLeavesWhole, HasMalformedLeaf, IsLeafMalformed, IsLeafOf, LeavesCount, LeavesRead, LeavesReadBlock}
 pub use Rattle.zeb_leaves.specs.PrivateLeafReads.{HasBlockFrom, IsCovering, IsGreatest, IsLeafAt, IsLeafIn, IsUncovered, ShowsGreatest, ShowsSome}
-pub use Rattle.zeb_leaves.specs.Readings.{HasRecordOf, IsAt, IsEntryOf, IsPartMalformed, LacksSum, PartReads, SayPart, SaysPart, SumsRecords}
+pub use Rattle.zeb_register.specs.Readings.{HasRecordOf, IsAt, IsEntryOf, IsPartMalformed, LacksSum, PartReads, SayPart, SaysPart, SumsRecords}
 pub use Rattle.zeb_register.proofs.BlockUnits.{none_rises}
 pub use Rattle.zeb_register.proofs.ContentChanges.{integers_apart, posting_total}
 pub use Rattle.zeb_register.proofs.ContentLemmas.{ints_order, some_posting}

@@ -6,7 +6,7 @@ use Rattle.std.specs.Ordering.{is_lt}
 use Rattle.std.specs.Prelude.{MatchOption}
 use Rattle.sqlite.specs.Order.{value_cmp}
 use Rattle.zeb_keys.proofs.Rising.{texts_apart}
-use Rattle.zeb_leaves.proofs.KeyOrder.{greater_is, key_order, up_to_block}
+use Rattle.zeb_register.proofs.KeyOrder.{greater_is, key_order, up_to_block}
 use Rattle.zeb_leaves.proofs.LeafShapes.{leaf_row, shown_row}
 use Rattle.zeb_register.proofs.RisingLists.{same_last}
 

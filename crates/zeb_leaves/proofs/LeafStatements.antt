@@ -12,7 +12,7 @@ use Rattle.sqlite.proofs.Callers.{reads_as}
 use Rattle.sqlite_tied.specs.Compute.{everything}
 use Rattle.sqlite_value.specs.declared.keys.Key.{Key as Order}
 use Rattle.zeb_leaves.specs.declared.statements.TheConstants.{ANY, BETWEEN, OF_TERM, OF_TERMS_BELOW}
-use Rattle.zeb_leaves.proofs.KeyOrder.{not_lower}
+use Rattle.zeb_register.proofs.KeyOrder.{not_lower}
 use Rattle.zeb_register.proofs.FirstRows.{first_shown}
 use Rattle.zeb_register.proofs.PostingStatements.{blocks, blocks_keys, blocks_static, register_of}
 use Rattle.zeb_register.proofs.PrefixSelects.{IsAfter, after_key, lists_after}
@@ -24,10 +24,10 @@ use Rattle.zeb_register.proofs.ValueKinds.{are_fit, code}
 use Rattle.zeb_register.specs.Sql.{IsListOf}
 use Rattle.zeb_register.proofs.Writes.{codes_there, keyed_there, meets_there}
 
-abbrev leaf_places : List ℕ
+abbrev pub leaf_places : List ℕ
 leaf_places = 4 ∷ 5 ∷ 6 ∷ []
 
-abbrev leaf_names : List (List ℕ)
+abbrev pub leaf_names : List (List ℕ)
 leaf_names = codes "term" ∷ codes "block" ∷ codes "data" ∷ []
 
 abbrev falling_keys : List (Term × Order)
@@ -182,14 +182,14 @@ any_shown old store db idx reg new rows shown =
 -- ---- those of the terms from one text on and below another
 
 -- what is lower by two columns is lower by these and more
-two_lower : (a b c : Ordering) → ordering_then a (ordering_then b Equal) ≡ Less → ordering_then a (ordering_then b c) ≡ Less
+pub two_lower : (a b c : Ordering) → ordering_then a (ordering_then b Equal) ≡ Less → ordering_then a (ordering_then b c) ≡ Less
 two_lower Less b c lower = refl
 two_lower Greater b c lower = absurd (cc)
 two_lower Equal Less c lower = refl
 two_lower Equal Equal c lower = absurd (cc)
 two_lower Equal Greater c lower = absurd (cc)
 
-abbrev term_order : List ℕ
+abbrev pub term_order : List ℕ
 term_order = 4 ∷ 5 ∷ []
 
 abbrev pub between_text : List ℕ

@@ -1,8 +1,8 @@
 -- What the entries of a term say, as its units.
 use Rattle.zeb_leaves.proofs.Cited.{Row, Trees, Has, all_has, has_either, has_left, has_right, ◌≡◌, ◌≢◌, ◌∙◌, ◌/◌, ◌<◌, ◌≤◌, ◌++◌, ◌∷◌, ℕ, ℤ, List, [], map, refl, sym, ap, subst, inl, inr, arith, Less, Equal, nat_cmp, nat_list_cmp_total, slice_cmp, ordering_then, tied_itself, Key, Posting, Entry, entry_cmp, some_posting, is_less, in_part, part_in_block, part_in_list, part_in, joined_rises, kept_rises, same_list, nat_eq, posting_total, posting_cmp, own_part, place_of, Covers, HasEntriesAt, leaf_key, IsAt, IsEntryOf, IsLeafOf, LeavesReadBlock, PartReads, SaysPart}
 use Rattle.std.specs.List.Sorted.{IsStrictlySortedBy}
-use Rattle.zeb_leaves.proofs.LeafReadings.{one_said, one_shown}
-use Rattle.zeb_leaves.proofs.LeafSums.{leaf_there, one_entry}
+use Rattle.zeb_register.proofs.LeafReadings.{one_said, one_shown}
+use Rattle.zeb_register.proofs.LeafSums.{leaf_there, one_entry}
 use Rattle.zeb_leaves.proofs.TermEntries.{HasOwn}
 use Rattle.zeb_leaves.specs.KeyReads.{ListsLeaves}
 use Rattle.zeb_register.proofs.PackedLists.{posting_lower}
@@ -13,11 +13,11 @@ SayParts [] list = list ≡ []
 SayParts (e ∷ entries) list = (part : List Posting) × (rest : List Posting) × SaysPart e part × SayParts entries rest × (list ≡ part ++ rest)
 
 -- a posting that an entry says lies in its block
-near : (e : Entry) (part : List Posting) → SaysPart e part → (p : Posting) → Has part p → p.sysno / 256 ≡ e.block
+pub near : (e : Entry) (part : List Posting) → SaysPart e part → (p : Posting) → Has part p → p.sysno / 256 ≡ e.block
 near e part says p here = all_has (λ (q : Posting). q.sysno / 256 ≡ e.block) part p says.spelled.lies.inside here
 
 -- of two entries of one term the lower has the lower block
-lower_block : (d e : Entry) → d.term ≡ e.term → entry_cmp d e ≡ Less → d.block < e.block
+pub lower_block : (d e : Entry) → d.term ≡ e.term → entry_cmp d e ≡ Less → d.block < e.block
 lower_block d e same less =
     let tie : slice_cmp nat_cmp d.term e.term ≡ Equal = ap (λ t. slice_cmp nat_cmp t e.term) same ∙ tied_itself nat_list_cmp_total e.term in
     is_less d.block e.block (sym (ap (λ o. ordering_then o (nat_cmp d.block e.block)) tie) ∙ less)

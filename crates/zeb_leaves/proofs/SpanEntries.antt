@@ -5,10 +5,10 @@ use Rattle.std.specs.List.Sorted.{IsStrictlySortedBy}
 use Rattle.zeb_leaf.specs.Spans.{AreInSpan, IsInSpan}
 use Rattle.zeb_leaf.specs.Answers.{entry_of}
 use Rattle.zeb_leaf.specs.declared.entries.Held.{Held}
-use Rattle.zeb_leaves.proofs.KeyOrder.{key_order}
-use Rattle.zeb_leaves.proofs.LeafReadings.{entries_total, one_shown}
+use Rattle.zeb_register.proofs.KeyOrder.{key_order}
+use Rattle.zeb_register.proofs.LeafReadings.{entries_total, one_shown}
 use Rattle.zeb_leaves.proofs.LeafShapes.{leaf_row}
-use Rattle.zeb_leaves.proofs.LeafSums.{shown_rises}
+use Rattle.zeb_register.proofs.LeafSums.{shown_rises}
 use Rattle.zeb_leaves.proofs.SpanRuns.{behind_listed, below_end, below_or, covers_key, end_above, first_is, first_least, flipped_back, from_term, last_up, less_up, not_less_up, term_from, term_up, up_itself, up_less, up_not_less}
 use Rattle.zeb_leaves.proofs.OneCover.{covers_itself, entries_at, one_cover, up_to_then}
 use Rattle.zeb_leaves.specs.PrivateSpans.{AreSpanLeaves, IsSpanLeaf, ShowAllSpans, ShowSpans, ShowsSpan}
@@ -83,26 +83,30 @@ pub record HeldIn (Leaves : Row → Type 0) (In : List ℕ → ℕ → Type 0) (
 
 module _ (Leaves : Row → Type 0) where
   -- keys, and then greater ones
+  pub own_joined : (In These Those : List ℕ → ℕ → Type 0) (own more : List Entry) → HasOwnIn Leaves These own → HasOwnIn Leaves Those more → ((s : List ℕ) (b : ℕ) (t : List ℕ) (c : ℕ) → These s b → Those t c → row_cmp (leaf_key s b) (leaf_key t c) ≡ Less)
+      → ((t : List ℕ) (b : ℕ) → In t b → These t b ⊎ Those t b) → ((t : List ℕ) (b : ℕ) → These t b ⊎ Those t b → In t b) → HasOwnIn Leaves In (own ++ more)
+  own_joined In These Those own more left right apart so back = record {
+    whole = λ t b is. elim (so t b is) [ inl here ↦ left.whole t b here | inr there ↦ right.whole t b there ];
+    rising = joined_rises entries_total own more left.rising right.rising (λ d e here there.
+        sym (key_order d.term e.term d.block e.block) ∙ apart d.term d.block e.term e.block ((left.each d).0 here).0 ((right.each e).0 there).0);
+    each = λ e. (
+      λ h. elim (has_either own more e h) [
+        | inl here ↦ let it = (left.each e).0 here in (back e.term e.block (inl it.0), it.1)
+        | inr there ↦ let it = (right.each e).0 there in (back e.term e.block (inr it.0), it.1)
+      ],
+      λ it. elim (so e.term e.block it.0) [
+        | inl here ↦ has_left own more e ((left.each e).1 (here, it.1))
+        | inr there ↦ has_right own more e ((right.each e).1 (there, it.1))
+      ],
+    );
+  }
+
   in_joined : (In These Those : List ℕ → ℕ → Type 0) (held rest : List Held) → HeldIn Leaves These held → HeldIn Leaves Those rest → ((s : List ℕ) (b : ℕ) (t : List ℕ) (c : ℕ) → These s b → Those t c → row_cmp (leaf_key s b) (leaf_key t c) ≡ Less)
       → ((t : List ℕ) (b : ℕ) → In t b → These t b ⊎ Those t b) → ((t : List ℕ) (b : ℕ) → These t b ⊎ Those t b → In t b) → HeldIn Leaves In (held ++ rest)
   in_joined In These Those held rest left right apart so back = record {
     own = left.own ++ right.own;
     are = held_joined left.own right.own held rest left.are right.are;
-    has = record {
-      whole = λ t b is. elim (so t b is) [ inl here ↦ left.has.whole t b here | inr there ↦ right.has.whole t b there ];
-      rising = joined_rises entries_total left.own right.own left.has.rising right.has.rising (λ d e here there.
-          sym (key_order d.term e.term d.block e.block) ∙ apart d.term d.block e.term e.block ((left.has.each d).0 here).0 ((right.has.each e).0 there).0);
-      each = λ e. (
-        λ h. elim (has_either left.own right.own e h) [
-          | inl here ↦ let it = (left.has.each e).0 here in (back e.term e.block (inl it.0), it.1)
-          | inr there ↦ let it = (right.has.each e).0 there in (back e.term e.block (inr it.0), it.1)
-        ],
-        λ it. elim (so e.term e.block it.0) [
-          | inl here ↦ has_left left.own right.own e ((left.has.each e).1 (here, it.1))
-          | inr there ↦ has_right left.own right.own e ((right.has.each e).1 (there, it.1))
-        ],
-      );
-    };
+    has = own_joined In These Those left.own right.own left.has right.has apart so back;
   }
 
   module _ (shaped : (leaf : Row) → Leaves leaf → (t : List ℕ) × (b : ℕ) × (d : List ℕ) × (leaf ≡ leaf_row t b d)) (one : (x y : Row) → Leaves x → Leaves y → own_key x ≡ own_key y → x ≡ y) where

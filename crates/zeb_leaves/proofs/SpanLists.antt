@@ -5,9 +5,9 @@ use Rattle.std.proofs.Common.{Bool}
 use Rattle.std.specs.Ordering.{is_eq}
 use Rattle.zeb_leaf.specs.Answers.{entry_of}
 use Rattle.zeb_leaf.specs.declared.entries.Held.{Held}
-use Rattle.zeb_leaves.proofs.LeafReadings.{entries_total}
+use Rattle.zeb_register.proofs.LeafReadings.{entries_total}
 use Rattle.zeb_leaves.proofs.SaidLists.{SayParts, list_of_parts, part_of, posting_in, posting_of}
-use Rattle.zeb_leaves.proofs.SpanEntries.{AreHeld, HeldIn}
+use Rattle.zeb_leaves.proofs.SpanEntries.{AreHeld, HasOwnIn, HeldIn}
 use Rattle.zeb_leaves.proofs.TermEntries.{HasOwn}
 use Rattle.zeb_leaves.specs.KeyReads.{HasMalformedLeafBetween, ListsLeavesBetween}
 use Rattle.zeb_leaves.specs.PrivateSaid.{SayAll, SomeSaysNone}
@@ -25,21 +25,33 @@ says : (e : Entry) (one : Held) → e ≡ entry_of e.term one → (part : List P
 says e one is part spelled counted = subst (λ (d : Entry). SaysPart d part) (sym is) (record { spelled = spelled; counted = counted })
 
 -- the entries of one term
-is_of : List ℕ → Entry → Bool
+unfoldable pub is_of : List ℕ → Entry → Bool
 is_of term e = is_eq (slice_cmp nat_cmp e.term term)
 
-its : List ℕ → List Entry → List Entry
+unfoldable pub its : List ℕ → List Entry → List Entry
 its term own = filter (is_of term) own
 
-its_has : (term : List ℕ) (own : List Entry) (e : Entry) → Has (its term own) e ↔ (Has own e × (e.term ≡ term))
+pub its_has : (term : List ℕ) (own : List Entry) (e : Entry) → Has (its term own) e ↔ (Has own e × (e.term ≡ term))
 unfolding its is_of
 its_has term own e = (
   λ h. let it = has_filtered (is_of term) own e h in (it.0, same_bytes e.term term (equal_is (slice_cmp nat_cmp e.term term) it.1)),
   λ h. has_kept (is_of term) own e h.0 (ap is_eq (ap (λ t. slice_cmp nat_cmp t term) h.1 ∙ tied_itself nat_list_cmp_total term)),
 )
 
+-- of a term of which each block is In, these are the entries
+pub own_term : (Leaves : Row → Type 0) (In : List ℕ → ℕ → Type 0) (own : List Entry) → HasOwnIn Leaves In own → (term : List ℕ) → ((block : ℕ) → In term block) → HasOwn Leaves term (λ b. 0 ≤ b) (its term own)
+unfolding its
+own_term Leaves In own has term all = record {
+  whole = λ block any. has.whole term block (all block);
+  rising = kept_rises entries_total (is_of term) own has.rising;
+  each = λ e. (
+    λ h. let here = (its_has term own e).0 h in (omega arith, subst (λ t. IsEntryOf Leaves t e) here.1 ((has.each e).0 here.0).1),
+    λ h. (its_has term own e).1 ((has.each e).1 (subst (λ t. In t e.block) (sym h.1.0) (all e.block), subst (λ t. IsEntryOf Leaves t e) (sym h.1.0) h.1), h.1.0),
+  );
+}
+
 -- every list of entries of which each says something says a list
-all_parts : (own : List Entry) → ((e : Entry) → Has own e → (part : List Posting) × SaysPart e part) → (list : List Posting) × SayParts own list
+pub all_parts : (own : List Entry) → ((e : Entry) → Has own e → (part : List Posting) × SaysPart e part) → (list : List Posting) × SayParts own list
 all_parts [] each = ([], refl)
 all_parts (e ∷ own) each =
     let first = each e (inl refl) in
@@ -68,15 +80,7 @@ module _ (trees : Trees) (at : RegisterOf) (first last : List ℕ) (held : List 
   key term = key_in at.index at.register term
 
   own_of_term : (term : List ℕ) → IsBetween first last term → HasOwn Leaves term (λ b. 0 ≤ b) (its term it.own)
-  unfolding its
-  own_of_term term between = record {
-    whole = λ block any. it.has.whole term block between;
-    rising = kept_rises entries_total (is_of term) it.own it.has.rising;
-    each = λ e. (
-      λ h. let here = (its_has term it.own e).0 h in (omega arith, subst (λ t. IsEntryOf Leaves t e) here.1 ((it.has.each e).0 here.0).1),
-      λ h. (its_has term it.own e).1 ((it.has.each e).1 (subst (IsBetween first last) (sym h.1.0) between, subst (λ t. IsEntryOf Leaves t e) (sym h.1.0) h.1), h.1.0),
-    );
-  }
+  own_of_term term between = own_term Leaves (λ t b. IsBetween first last t) it.own it.has term (λ b. between)
 
   module _ (list : List Posting) (say : SayAll held list) where
     parts : SayParts it.own list

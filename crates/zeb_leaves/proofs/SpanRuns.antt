@@ -4,7 +4,7 @@ use Rattle.std.proofs.Common.{zero, suc}
 use Rattle.std.specs.Ordering.{is_lt}
 use Rattle.std.specs.List.Sorted.{IsStrictlySortedBy}
 use Rattle.sqlite.specs.Order.{value_cmp}
-use Rattle.zeb_leaves.proofs.KeyOrder.{greater_is, key_order}
+use Rattle.zeb_register.proofs.KeyOrder.{greater_is, key_order}
 use Rattle.zeb_leaves.proofs.LeafShapes.{leaf_row}
 use Rattle.zeb_leaves.proofs.OneCover.{same_key, up_to_then}
 use Rattle.zeb_leaves.specs.PrivateSpans.{IsSpanLeaf}
@@ -62,7 +62,7 @@ front_up Equal Equal q less above = let e : Equal ≡ Greater = above in cc
 front_up Equal Greater q less above = let e : Greater ≡ Less = less in cc
 
 -- the own keys of rising rows don't fall
-rows_up : (t s : List ℕ) (b c : ℕ) (d e : List ℕ) → row_cmp (leaf_row t b d) (leaf_row s c e) ≡ Less → row_cmp (leaf_key t b) (leaf_key s c) ≢ Greater
+pub rows_up : (t s : List ℕ) (b c : ℕ) (d e : List ℕ) → row_cmp (leaf_row t b d) (leaf_row s c e) ≡ Less → row_cmp (leaf_key t b) (leaf_key s c) ≢ Greater
 rows_up t s b c d e less = front_up (value_cmp (Text t) (Text s)) (value_cmp (Int (pos b)) (Int (pos c))) (ordering_then (value_cmp (Blob d) (Blob e)) Equal) less
 
 -- ---- keys and their terms

@@ -8,8 +8,8 @@ use Rattle.sqlite.specs.Tree.{Trees}
 use Rattle.sqlite_rules.specs.Lists.{Has}
 use Rattle.zeb_blocks.specs.declared.postings.Posting.{Posting}
 use Rattle.zeb_keys.specs.declared.keys.Key.{Key}
-use Rattle.zeb_leaves.specs.LeafUnits.{AreLeavesMiscounted, AreLeavesWhole, HasMalformedLeaf, IsLeafOf, LeavesCount, LeavesRead, LeavesReadBlock}
-use Rattle.zeb_leaves.specs.Readings.{IsPartMalformed}
+use Rattle.zeb_register.specs.LeafUnits.{AreLeavesMiscounted, AreLeavesWhole, HasMalformedLeaf, IsLeafOf, LeavesCount, LeavesRead, LeavesReadBlock}
+use Rattle.zeb_register.specs.Readings.{IsPartMalformed}
 use Rattle.zeb_register.specs.Answers.{TellsOr}
 use Rattle.zeb_register.specs.Between.{IsBetween}
 use Rattle.zeb_register.specs.Content.{places_in, posting_cmp}

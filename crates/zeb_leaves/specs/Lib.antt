@@ -1,9 +1,8 @@
-pub mod Covering
-pub mod Readings
-pub mod LeafUnits
-pub mod HeldLeaves
 pub mod KeyReads
-pub mod Worked
+pub mod LeafChanges
+pub mod TermReads
 pub mod PrivateLeafReads
 pub mod PrivateSpans
 pub mod PrivateSaid
+pub mod PrivateTermReads
+pub mod PrivateLeafWrites

@@ -5,8 +5,8 @@ use Rattle.std.specs.Ordering.{is_lt}
 use Rattle.sqlite.specs.declared.types.Value.TheVariants.{Int, Text}
 use Rattle.sqlite.specs.Order.{Row, column, value_cmp}
 use Rattle.sqlite.specs.Tree.{Trees}
-use Rattle.zeb_leaves.specs.Covering.{Covers, IsUpTo, own_key}
-use Rattle.zeb_leaves.specs.LeafUnits.{IsLeafOf}
+use Rattle.zeb_register.specs.Covering.{Covers, IsUpTo, own_key}
+use Rattle.zeb_register.specs.LeafUnits.{IsLeafOf}
 use Rattle.zeb_register.specs.declared.registers.RegisterOf.{RegisterOf}
 use Rattle.zeb_register.specs.Occurring.{key_in}
 use Rattle.zeb_register.specs.PrivateKeyColumns.{register_columns}

@@ -6,7 +6,7 @@ use Rattle.zeb_blocks.specs.Blocks.{BlockSpells}
 use Rattle.zeb_blocks.specs.declared.postings.Posting.{Posting}
 use Rattle.zeb_leaf.specs.declared.entries.Held.{Held}
 use Rattle.zeb_leaves.specs.PrivateSpans.{ShowsNone, ShowsSpan}
-use Rattle.zeb_leaves.specs.Readings.{HasRecordOf}
+use Rattle.zeb_register.specs.Readings.{HasRecordOf}
 use Rattle.zeb_register.specs.Occurring.{IsCount}
 
 -- the entry's block spells these postings, and it counts their records

@@ -7,7 +7,7 @@ use Rattle.sqlite_rules.specs.Lists.{Has}
 use Rattle.zeb_leaf.specs.Spans.{AreInSpan}
 use Rattle.zeb_leaf.specs.declared.entries.Entry.{Entry}
 use Rattle.zeb_leaf.specs.declared.entries.Held.{Held}
-use Rattle.zeb_leaves.specs.Covering.{Covers, ShowsEntries, leaf_key, own_key}
+use Rattle.zeb_register.specs.Covering.{Covers, ShowsEntries, leaf_key, own_key}
 use Rattle.zeb_leaves.specs.PrivateLeafReads.{HasBlockFrom}
 use Rattle.zeb_register.specs.Between.{IsBetween}
 use Rattle.zeb_register.specs.PrivateBetweenRows.{IsRestBetween}

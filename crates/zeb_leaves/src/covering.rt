@@ -3,7 +3,7 @@
 ghost use Rattle.std.specs.Prelude.{◌≡◌, ◌≢◌, ◌<◌, ◌^◌, ◌++◌, ◌∷◌, [], List, None, Err, MatchOption};
 ghost use Rattle.sqlite.specs.Held.{state};
 ghost use Rattle.sqlite.specs.State.{IsUnchanged};
-ghost use Rattle.zeb_leaves.specs.Covering.{leaf_key};
+ghost use Rattle.zeb_register.specs.Covering.{leaf_key};
 ghost use Rattle.zeb_leaves.specs.PrivateLeafReads.{IsCovering, IsGreatest, IsLeafAt, IsLeafIn, IsUncovered};
 ghost use Rattle.zeb_leaves.specs.PrivateLeafReads.{IsOfTermBelow, IsOfTermsBelow};
 ghost use Rattle.zeb_register.specs.Answers.{Answers, IfDamaged};

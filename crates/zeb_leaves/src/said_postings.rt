@@ -1,11 +1,11 @@
 //! What entries of leaves say: their postings, and how many records these are of.
 
-ghost use Rattle.std.specs.Prelude.{◌≡◌, ◌≢◌, ◌≤◌, ◌↔◌, ◌++◌, List, Err, IsTrue, OnOk, length, sum_by};
+ghost use Rattle.std.specs.Prelude.{◌≡◌, ◌≢◌, ◌≤◌, ◌+◌, ◌↔◌, ◌++◌, List, Err, IsTrue, OnOk, length, sum_by};
 ghost use Rattle.std.specs.List.Sorted.{IsStrictlySortedBy};
 ghost use Rattle.zeb_blocks.specs.Blocks.{BlockSpells};
 ghost use Rattle.zeb_leaf.specs.declared.entries.Held.{Held};
 ghost use Rattle.zeb_leaves.specs.PrivateSaid.{SayAll, Says, SomeSaysNone};
-ghost use Rattle.zeb_leaves.specs.Readings.{HasRecordOf};
+ghost use Rattle.zeb_register.specs.Readings.{HasRecordOf};
 ghost use Rattle.zeb_register.specs.Answers.{Answers, IfDamaged};
 ghost use Rattle.zeb_register.specs.Content.{posting_cmp};
 ghost use Rattle.zeb_register.specs.Occurring.{IsCount};
@@ -56,7 +56,7 @@ fn push_spelled(postings: &mut Vec<Posting>, block: u64, bytes: &[u8]) -> Result
 }
 
 /// Puts the postings that an entry says behind the others.
-fn push_said(postings: &mut Vec<Posting>, held: &Held) -> Result<(), RegFault>
+pub(crate) fn push_said(postings: &mut Vec<Posting>, held: &Held) -> Result<(), RegFault>
     ensures { Answers (λ fault. (fault ≢ RegFault.Store)
         × IfDamaged ((part : List _) → ¬ Says held.now part) fault)
         (λ _. (part : List _) × Says held.now part
@@ -82,6 +82,13 @@ pub(crate) fn postings_said(alloc: Global, held: &[Held]) -> Result<Vec<Posting>
     Ok(postings)
 }
 
+/// So many records together. `Memory` above 2^64 - 1: no memory holds so many entries.
+pub(crate) fn records_with(records: u64, more: u64) -> Result<u64, RegFault>
+    ensures { Answers (λ fault. fault ≡ RegFault.Memory) (λ sum. sum ≡ records + more) result }
+{
+    records.checked_add(more).ok_or(RegFault::Memory)
+}
+
 /// How many records entries count together. `Memory` above 2^64 - 1: no memory holds so many entries.
 pub(crate) fn records_said(held: &[Held]) -> Result<u64, RegFault>
     ensures { Answers (λ fault. fault ≡ RegFault.Memory)
@@ -89,7 +96,7 @@ pub(crate) fn records_said(held: &[Held]) -> Result<u64, RegFault>
 {
     let mut records: u64 = 0;
     for one in held {
-        records = records.checked_add(one.records).ok_or(RegFault::Memory)?;
+        records = records_with(records, one.records)?;
     }
     Ok(records)
 }

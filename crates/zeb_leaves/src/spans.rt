@@ -5,7 +5,7 @@ ghost use Rattle.sqlite.specs.Held.{state};
 ghost use Rattle.sqlite.specs.Order.{column};
 ghost use Rattle.sqlite.specs.State.{IsUnchanged};
 ghost use Rattle.sqlite.specs.declared.types.Value.TheVariants.{Text};
-ghost use Rattle.zeb_leaves.specs.Covering.{leaf_key};
+ghost use Rattle.zeb_register.specs.Covering.{leaf_key};
 ghost use Rattle.zeb_leaves.specs.PrivateLeafReads.{IsLeafIn, IsUncovered};
 ghost use Rattle.zeb_leaves.specs.PrivateSpans.{AreSpanLeaves, IsRowBetween, ShowAllSpans, ShowSpans};
 ghost use Rattle.zeb_leaves.specs.PrivateSpans.{ShowsKey, ShowsNone, ShowsSpan, SomeShowsNoKey};
@@ -82,7 +82,7 @@ fn read_text(row: &Row, at: usize) -> Result<&[u8], RegFault>
 
 /// The own key of a leaf. It takes no memory: it is refused as `Damaged` alone, where the row shows none.
 #[tactic(auto, using(crate::proofs::SpanCalls::key_shown, crate::proofs::SpanCalls::no_text, crate::proofs::SpanCalls::no_number))]
-fn own_key(row: &Row) -> Result<BlockKey<'_>, RegFault>
+pub(crate) fn own_key(row: &Row) -> Result<BlockKey<'_>, RegFault>
     ensures ok { IfOk result (λ key. ShowsKey row.now key.term.now key.block) }
     ensures refused { IfErr result (λ fault. (fault ≡ RegFault.Damaged)
         × ((term : List ℕ) (block : ℕ) → ¬ ShowsKey row.now term block)) }
@@ -93,7 +93,7 @@ fn own_key(row: &Row) -> Result<BlockKey<'_>, RegFault>
 }
 
 /// As what the fault of a leaf is told.
-fn told_of_leaf(fault: LeafFault) -> RegFault
+pub(crate) fn told_of_leaf(fault: LeafFault) -> RegFault
     ensures damaged { result ≡ RegFault.Damaged → fault ≡ LeafFault.Malformed }
     ensures unstored { result ≢ RegFault.Store }
 {

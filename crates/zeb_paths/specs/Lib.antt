@@ -5,4 +5,5 @@ pub mod Told
 pub mod Walks
 pub mod PrivateCauses
 pub mod PrivateNames
+pub mod PrivateOpenings
 pub mod PrivateWalks

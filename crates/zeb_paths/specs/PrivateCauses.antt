@@ -1,6 +1,11 @@
 -- What only the contracts of private functions speak of; no public clause reaches it.
--- Why a file isn't opened of which SQLite's kit says no more than that it can't be (this program's own).
-use Rattle.std.specs.Prelude.{Bool, false, true}
+-- Why a file isn't opened of which SQLite's kit says no more than that it can't be, and whether a store may stand at a path (this program's own).
+use Rattle.std.specs.Prelude.{◌≡◌, Bool, false, true, Result}
+use Rattle.std.specs.Fs.{IsDir, file_type}
+use Rattle.std.specs.IoError.{error_kind}
+use Rattle.std.specs.Result.{IsErrAnd, IsOkAnd}
+use Rattle.std.specs.declared.fs.attrs.Metadata.{Metadata}
+use Rattle.std.specs.declared.io.Error.{Error}
 use Rattle.std.specs.declared.io.ErrorKind.{ErrorKind}
 use Rattle.std.specs.declared.io.ErrorKind.TheVariants as system
 use Rattle.zeb_paths.specs.Causes.{store_cause_of}
@@ -23,3 +28,8 @@ folder_cause_of other = store_cause_of other
 abbrev pub log_cause_of : ErrorKind → StoreCause
 log_cause_of system.NotFound = store.Forbidden
 log_cause_of other = store_cause_of other
+
+-- No store stands at a path where this is found, but one could be made: the system says that nothing stands there, and a folder is found where its
+-- folder is looked at.
+abbrev pub IsFree : Result Metadata Error → Result Metadata Error → Type 0
+IsFree found folder = IsErrAnd found (λ error. error_kind error ≡ system.NotFound) × IsOkAnd folder (λ metadata. IsDir (file_type metadata))

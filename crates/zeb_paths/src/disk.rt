@@ -1,6 +1,6 @@
 //! The paths of the file system.
 
-ghost use Rattle.std.specs.Prelude.{◌≡◌, ◌≢◌, ◌↔◌, ⊤, Err, None, Ok, Some, IfErr, IfOk, true};
+ghost use Rattle.std.specs.Prelude.{◌≡◌, ◌≢◌, ◌↔◌, ⊤, Err, None, Ok, Some, IfErr, IfOk, IsSome, true};
 ghost use Rattle.std.specs.Fs.{IsDir, IsFile, file_type};
 ghost use Rattle.std.specs.IoError.{error_kind};
 ghost use Rattle.std.specs.Io.{ReadsAtMost};
@@ -14,6 +14,7 @@ ghost use Rattle.zeb_paths.specs.Opened.{IsWellOpened};
 
 use crate::causes::{Closed, PathCause, StoreCause};
 use crate::looks::{may_have_store, why_unopened, why_unread};
+use crate::opening::open_store;
 use crate::paths::{OpenFailed, PathKind, Paths};
 use crate::tally::Tally;
 use sqlite::{Connection, File, FileStore, Unknown};
@@ -103,11 +104,15 @@ impl<'a> Paths for Disk<'a> {
 
     ghost lists = { λ _ _. None };
 
+    ghost explains = { λ _ _ cause. IsSome cause };
+
     ghost opens = { λ _ _ _ store. HasCleanDisk (file_state store) → IsWellOpened (file_state store) };
 
-    ghost refuses = { λ _ _ _. ⊤ };
+    ghost refuses = { λ _ _ _ cause. IsSome cause };
 
     ghost lacks = { λ _ _. ⊤ };
+
+    ghost has = { λ _ _. ⊤ };
 
     ghost lets_go = { λ _ _. ⊤ };
 
@@ -144,9 +149,9 @@ impl<'a> Paths for Disk<'a> {
     }
 
     fn store(&mut self, path: &str) -> Result<Connection<FileStore<File>>, OpenFailed> {
-        match Connection::open_from(self.rt, path, false, Unknown) {
+        match open_store(self.rt, path, Unknown) {
             Ok(connection) => Ok(connection),
-            Err((error, _)) => {
+            Err(error) => {
                 let cause = Some(why_unopened(self.rt, path, error));
                 Err(OpenFailed { cause })
             }

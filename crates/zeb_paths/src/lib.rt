@@ -5,6 +5,7 @@ mod causes;
 mod disk;
 mod laws;
 mod looks;
+mod opening;
 mod paths;
 mod shelf;
 mod tally;

@@ -1,13 +1,14 @@
 //! Looks at what stands at a path once more, to tell why it wasn't read or opened. Between the two others may have changed it.
 
-ghost use Rattle.std.specs.Prelude.{◌≡◌, ◌≢◌, ◌↔◌, IfErr, IfOk, IsOk, IsTrue, Err, true};
+ghost use Rattle.std.specs.Prelude.{◌≡◌, ◌≢◌, ◌↔◌, IfErr, IfOk, IsOk, IsTrue, Err, false, true};
+ghost use Rattle.std.specs.Result.{IsOkAnd};
 ghost use Rattle.sqlite.specs.declared.error.Error.TheVariants.{SqliteFailure};
 ghost use Rattle.sqlite.specs.declared.error.ErrorCode.TheVariants.{CannotOpen};
 ghost use Rattle.std.specs.Fs.{IsDir, IsFile, file_type};
 ghost use Rattle.std.specs.IoError.{error_kind};
 ghost use Rattle.std.specs.declared.io.ErrorKind.TheVariants as system;
 ghost use Rattle.zeb_paths.specs.Causes.{sqlite_cause_of};
-ghost use Rattle.zeb_paths.specs.PrivateCauses.{folder_cause_of, is_looked_up, log_cause_of};
+ghost use Rattle.zeb_paths.specs.PrivateCauses.{IsFree, folder_cause_of, is_looked_up, log_cause_of};
 
 use crate::causes::{PathCause, StoreCause};
 use sqlite::{Error, ErrorCode};
@@ -56,20 +57,32 @@ fn is_missing(error: io::Error) -> bool
     error.kind() == io::ErrorKind::NotFound
 }
 
-/// Whether it is known that a folder stands there.
-fn is_folder(rt: &HostRuntime, path: &str) -> bool {
-    match fs::metadata(rt, path) {
+/// Whether a folder is found.
+fn is_folder(found: io::Result<Metadata>) -> bool
+    ensures { IsTrue result ↔ IsOkAnd found (λ metadata. IsDir (file_type metadata)) }
+{
+    match found {
         Ok(found) => found.is_dir(),
         Err(_) => false,
     }
 }
 
-/// Whether a store may stand at a path: not where nothing does, in a folder that is there.
-pub fn may_have_store(rt: &HostRuntime, path: &str) -> bool {
-    match fs::metadata(rt, path) {
+/// Whether a store may stand at a path where this is found, and that where its folder is looked at.
+fn may_stand(found: io::Result<Metadata>, folder: io::Result<Metadata>) -> bool
+    ensures { (result ≡ false) ↔ IsFree found folder }
+{
+    match found {
         Ok(_) => true,
-        Err(error) => !is_missing(error) || !is_folder(rt, folder_of(path)),
+        Err(error) => !is_missing(error) || !is_folder(folder),
     }
+}
+
+/// Whether a store may stand at a path: not where nothing does, in a folder that is there.
+pub fn may_have_store(rt: &HostRuntime, path: &str) -> bool
+    ensures { (found : _) × (folder : _) × ((result ≡ false) ↔ IsFree found folder) }
+{
+    let found = fs::metadata(rt, path);
+    may_stand(found, fs::metadata(rt, folder_of(path)))
 }
 
 /// Why the store at a path isn't opened, where this is what SQLite's kit says of it.

@@ -1,13 +1,14 @@
 //! What a program asks of paths.
 
-ghost use Rattle.std.specs.Prelude.{◌≡◌, ◌⊎◌, [], ℕ, Contains, List, Option, Some, Ok, Result, false, map, string_bytes};
-ghost use Rattle.std.specs.Prelude.{IfErr, IfOk, IfSome, OnErr};
+ghost use Rattle.std.specs.Prelude.{◌≡◌, ◌⊎◌, [], ℕ, Contains, List, Option, Some, Ok, Result, false, true, map, string_bytes};
+ghost use Rattle.std.specs.Prelude.{IfErr, IfOk, IfSome};
 ghost use Rattle.sqlite.specs.Held.{Held};
 ghost use Rattle.sqlite_trees.specs.View.{IsQuiet};
 ghost use Rattle.zeb_paths.specs.Told.{AreNames};
 ghost use Rattle.zeb_paths.specs.declared.causes.Closed.{Closed};
 ghost use Rattle.zeb_paths.specs.declared.causes.PathCause.{PathCause};
 ghost use Rattle.zeb_paths.specs.declared.causes.PathCause.TheVariants.{Memory as Starved};
+ghost use Rattle.zeb_paths.specs.declared.causes.StoreCause.{StoreCause};
 ghost use Rattle.zeb_paths.specs.declared.paths.PathKind.{PathKind};
 
 use crate::causes::{Closed, PathCause, StoreCause};
@@ -46,14 +47,21 @@ pub trait Paths {
     /// The names in the folder at a path, where the paths tell them: in any order, a name perhaps twice. One that is empty can't be given.
     ghost lists: { Self → List ℕ → Option (List (List ℕ)) };
 
+    /// What may be told of why the path isn't read.
+    ghost explains: { Self → List ℕ → Option PathCause → Type 0 };
+
     /// Which connections the store at a path may be opened by, and what the paths are then: the first are those before it.
     ghost opens: { Self → Self → List ℕ → Held Self.Store → Type 0 };
 
-    /// At which paths no store may be opened, and what the paths are then, as far as is told: the first are those before it.
-    ghost refuses: { Self → Self → List ℕ → Type 0 };
+    /// At which paths no store may be opened, for which cause, and what the paths are then, as far as is told: the first are those
+    /// before it.
+    ghost refuses: { Self → Self → List ℕ → Option StoreCause → Type 0 };
 
     /// At which paths no store may stand, as far as is told.
     ghost lacks: { Self → List ℕ → Type 0 };
+
+    /// At which paths a store may stand, as far as is told.
+    ghost has: { Self → List ℕ → Type 0 };
 
     /// Which stores were let go, as far as is told.
     ghost lets_go: { Self → Self.Store → Type 0 };
@@ -81,17 +89,19 @@ pub trait Paths {
             → Self.Reader.may_fail result ≡ false };
 
     /// Why the path isn't read, where the paths tell that: what is met where it is looked at anew.
-    fn why_unread(&self, path: &str) -> Option<PathCause>;
+    fn why_unread(&self, path: &str) -> Option<PathCause>
+        ensures { explains self.now path.now result };
 
     /// Whether a store may stand at a path: not where nothing stands there and one could be made in its folder.
     fn has_store(&self, path: &str) -> bool
-        ensures { result ≡ false → lacks self.now path.now };
+        ensures lacking { result ≡ false → lacks self.now path.now }
+        ensures having { result ≡ true → has self.now path.now };
 
     /// Opens the store at a path, which is made where nothing stands there.
     fn store(&mut self, path: &str) -> Result<Connection<Self::Store>, OpenFailed>
         ensures idle { IfOk result (λ connection. connection.in_transaction ≡ false) }
         ensures given { IfOk result (opens self.old self.new path.now) }
-        ensures refused { OnErr result (refuses self.old self.new path.now) }
+        ensures refused { IfErr result (λ failed. refuses self.old self.new path.now failed.cause) }
         ensures told { (text : List ℕ) → tells self.new text ≡ tells self.old text };
 
     /// Ends a store: what was committed in it, and stands in its log, is put into its one file. Where that fails, the log keeps it.

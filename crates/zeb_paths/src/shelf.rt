@@ -1,6 +1,6 @@
 //! Paths in memory, for tests.
 
-ghost use Rattle.std.specs.Prelude.{◌≡◌, ◌⊎◌, ◌||◌, ⊤, [], Some, IfErr, IfOk, IfSome, map, string_bytes, true};
+ghost use Rattle.std.specs.Prelude.{◌≡◌, ◌⊎◌, ◌||◌, ⊤, [], None, Some, IfErr, IfOk, IfSome, map, string_bytes, true};
 ghost use Rattle.std.specs.List.{before_first, list_any};
 ghost use Rattle.std.specs.Option.{is_none, is_some, option_map};
 ghost use Rattle.std.specs.Str.{bytes_eq};
@@ -134,11 +134,16 @@ impl<'a, S: Alter + Drop> Paths for Shelf<'a, S> {
 
     ghost lists = { λ shelf path. Some (names_in shelf.files.now path) };
 
+    ghost explains = { λ _ _ cause. cause ≡ None };
+
     ghost opens = { λ shelf _ _ connection. shelf.store ≡ Some connection };
 
-    ghost refuses = { λ shelf _ _. IfSome shelf.store (λ connection. connection.in_transaction ≡ true) };
+    ghost refuses = { λ shelf _ _ cause. (cause ≡ None)
+        × IfSome shelf.store (λ connection. connection.in_transaction ≡ true) };
 
     ghost lacks = { λ _ _. ⊥ };
+
+    ghost has = { λ _ _. ⊤ };
 
     ghost lets_go = { λ _ _. ⊤ };
 

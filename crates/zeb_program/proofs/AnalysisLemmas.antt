@@ -1,20 +1,9 @@
 -- How far the files of an analysis have come, and what an analysis is answered.
-use Rattle.std.proofs.Common.{◌≡◌, ◌∙◌, ◌+◌, ℕ, suc, List, [], ◌∷◌, ◌++◌, Vec, ap, append_assoc, arith, length, length-append, map, refl, subst, sym}
-use Rattle.std.specs.Prelude.{Option, Some, None, Result, Ok, String, string_bytes}
-use Rattle.std.specs.declared.alloc.Global.{Global}
-use Rattle.std.proofs.lemmas.List.{append-nil, length-map, map-append}
-use Rattle.zeb_profile.specs.declared.directives.Directive.{Directive}
-use Rattle.zeb_marc.specs.Splits.{split_of}
-use Rattle.zeb_analysis.specs.declared.lines.AnalysedLines.{AnalysedLines}
-use Rattle.zeb_change.specs.declared.refusals.Refusal.{Refusal}
-use Rattle.zeb_engine.specs.Analysed.{HasLines}
+use Rattle.zeb_program.proofs.Cited.{◌≡◌, ◌∙◌, ◌+◌, ℕ, suc, List, [], ◌∷◌, ◌++◌, Vec, ap, append_assoc, arith, length, map, refl, subst, sym, Option, Some, None, Result, Ok, String, string_bytes, Global, append-nil, length-map, map-append, Directive, split_of, AnalysedLines, Refusal, HasLines, Place, AreShort, unmarked_from, unmarked_of, AreTold}
+use Rattle.std.proofs.Common.{length-append}
 use Rattle.zeb_program.specs.declared.analyses.AnalysedFiles.{AnalysedFiles}
-use Rattle.zeb_program.specs.declared.warnings.Place.{Place}
-use Rattle.zeb_program.specs.Inputs.{AreShort}
 use Rattle.zeb_program.specs.PrivateAnalyses.{ReadsFiles}
 use Rattle.zeb_program.specs.PrivateFiles.{ReadsContent}
-use Rattle.zeb_program.specs.PrivateWarnings.{unmarked_from, unmarked_of}
-use Rattle.zeb_program.specs.TaskAnswers.{AreTold}
 use Rattle.zeb_program.proofs.FileLemmas.{content_told}
 use Rattle.zeb_program.proofs.ReaderLemmas.{Ends, GivesNext, IsMet, met_end, met_next, met_start, more_short, same_contents}
 

@@ -1,13 +1,5 @@
 -- How far the answers of a batch have come.
-use Rattle.std.proofs.Common.{◌≡◌, ◌<◌, ◌+◌, ℕ, List, [], ◌++◌, length, sym, ap, subst, ◌∙◌, append_assoc}
-use Rattle.std.specs.Prelude.{Option, Some, None}
-use Rattle.std.specs.Io.KnownBytes.{Appends}
-use Rattle.std.proofs.lemmas.List.{append-nil}
-use Rattle.zeb_program.specs.Lines.{first_line, after_first_line}
-use Rattle.zeb_program.specs.Answers.{EachLine, none, more, Writes}
-use Rattle.zeb_program.specs.declared.statuses.Status.{Status}
-use Rattle.zeb_program.specs.Statuses.{greater}
-use Rattle.zeb_program.specs.declared.statuses.Status.TheVariants.{Answered}
+use Rattle.zeb_program.proofs.Cited.{◌≡◌, ◌<◌, ◌+◌, ℕ, List, [], ◌++◌, length, sym, ap, subst, ◌∙◌, append_assoc, Option, Some, None, Appends, append-nil, first_line, after_first_line, EachLine, none, more, Writes, Status, greater, Answered}
 use Rattle.zeb_program.proofs.StatusLemmas.{greater_least, greater_regroup}
 
 pub Appends-nil : (old : Option (List ℕ)) → Appends old old []

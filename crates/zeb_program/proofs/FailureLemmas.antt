@@ -9,13 +9,13 @@ use Rattle.zeb_program.specs.declared.failures.Cause.{Cause}
 use Rattle.zeb_program.specs.declared.failures.Cause.TheVariants.{Store}
 use Rattle.zeb_program.specs.declared.faults.Fault.{Fault}
 use Rattle.zeb_program.specs.Answers.{Writes}
-use Rattle.zeb_program.specs.FaultLines.{IsCauseOf, TellsFailure, TellsFault, cause_lines, unclosed_line, unclosed_lines}
+use Rattle.zeb_program.specs.FaultLines.{IsCauseOf, TellsCaused, TellsFault, cause_lines, unclosed_line, unclosed_lines}
 use Rattle.zeb_program.specs.declared.statuses.Status.{Status}
 
 pub failure_lines : (old mid new : Option (List ℕ)) (why : Fault) (status : Status) (cause : Option Cause) → Writes old mid (λ line. TellsFault why line status) → IsCauseOf why cause
-    → Appends mid new (cause_lines cause) → Writes old new (λ bytes. TellsFailure why bytes status)
+    → Appends mid new (cause_lines cause) → Writes old new (λ bytes. TellsCaused why cause bytes status)
 failure_lines old mid new why status cause wrote fits more =
-    (wrote.0 ++ cause_lines cause, (wrote.0, cause, wrote.1, fits, refl), Appends-trans old mid new wrote.0 (cause_lines cause) wrote.2 more)
+    (wrote.0 ++ cause_lines cause, (wrote.0, wrote.1, fits, refl), Appends-trans old mid new wrote.0 (cause_lines cause) wrote.2 more)
 
 pub no_cause : (cause : Option Cause) (old : Option (List ℕ)) → cause ≡ None → Appends old old (cause_lines cause)
 no_cause cause old is = subst (λ it. Appends old old (cause_lines it)) (sym is) (Appends-nil old)

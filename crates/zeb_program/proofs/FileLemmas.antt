@@ -1,12 +1,7 @@
 -- What is answered where the profile in a file is read.
-use Rattle.std.proofs.Common.{◌≡◌, ◌≤◌, ℕ, Bool, true, false, List, Vec, arith, refl, subst, sym}
-use Rattle.std.specs.Prelude.{Option, Some, None, Result, Ok, Err, IfOk, IfSome, String, string_bytes, string_len}
-use Rattle.std.specs.declared.alloc.Global.{Global}
-use Rattle.std.proofs.lemmas.Str.{IsUtf8-string_bytes}
-use Rattle.zeb_program.specs.Inputs.{IsShort, IsTextWithin}
+use Rattle.zeb_program.proofs.Cited.{◌≡◌, ◌≤◌, ℕ, Bool, true, false, List, Vec, arith, refl, subst, sym, Option, Some, None, Result, Ok, Err, IfOk, IfSome, String, string_bytes, string_len, Global, IsUtf8-string_bytes, IsShort, IsTextWithin, Fault}
 use Rattle.zeb_program.specs.PrivateFiles.{ReadsContent}
 use Rattle.zeb_program.specs.ProfileFiles.{IsProfileText, ReadsProfile}
-use Rattle.zeb_program.specs.declared.faults.Fault.{Fault}
 use Rattle.zeb_program.specs.declared.faults.Fault.TheVariants as fault
 use Rattle.zeb_program.specs.declared.input.InputFault.{InputFault}
 use Rattle.zeb_program.specs.declared.input.InputFault.TheVariants.{Unreadable, Memory}

@@ -1,6 +1,8 @@
+pub mod Cited
 pub mod AnalysisLemmas
 pub mod AnswerLemmas
 pub mod BatchLemmas
+pub mod ExplanationLemmas
 pub mod FailureLemmas
 pub mod FileLemmas
 pub mod LineInputLemmas

@@ -1,19 +1,6 @@
 -- How far a line has been read from a source.
-use Rattle.std.proofs.Common.{◌≡◌, ◌≢◌, ◌≤◌, ◌+◌, ◌++◌, ◌∙◌, ℕ, List, [], ◌∷◌, length, length-take, take, get_or, refl, ap, sym, subst, arith, cond, eq-eqb, ne_eqb, append_assoc, not}
-use Rattle.std.specs.Prelude.{Option, Some, None, Result, Ok, Err, IfErr, IfSome}
-use Rattle.std.specs.Io.KnownBytes.{Consumes, IsAtEnd, Keeps}
-use Rattle.std.specs.List.{position_or_len}
-use Rattle.std.proofs.KnownBytes.{Consumes-kept, Consumes-nil, Consumes-trans}
-use Rattle.std.proofs.lemmas.List.{length-append, append-nil, take_all}
+use Rattle.zeb_program.proofs.Cited.{◌≡◌, ◌≤◌, ◌+◌, ◌++◌, ◌∙◌, ℕ, List, [], ◌∷◌, length, length-take, take, get_or, refl, ap, sym, subst, arith, cond, eq-eqb, append_assoc, not, Option, Some, None, Result, Ok, Err, IfErr, IfSome, Consumes, IsAtEnd, Keeps, position_or_len, Consumes-kept, Consumes-nil, Consumes-trans, length-append, take_all, take-append_seam, is_lf, EndsInLine, TakesAtMost, whole_first_line, LongLine, FailedRead, LineFault, Unreadable, Memory}
 use Rattle.std.proofs.lemmas.List.Folds.{prefix_len-append}
-use Rattle.std.proofs.Math.Seq.{take-append_seam}
-use Rattle.zeb_program.specs.Lines.{is_lf}
-use Rattle.zeb_program.specs.InputCauses.{EndsInLine}
-use Rattle.zeb_program.specs.Inputs.{TakesAtMost}
-use Rattle.zeb_program.specs.PrivateLines.{whole_first_line}
-use Rattle.zeb_program.specs.declared.line_input.InputCause.TheVariants.{LongLine, FailedRead}
-use Rattle.zeb_program.specs.declared.line_input.LineFault.{LineFault}
-use Rattle.zeb_program.specs.declared.line_input.LineFault.TheVariants.{Unreadable, Memory}
 
 -- bytes without an LF
 abbrev pub HasNoLf : List ℕ → Type 0
@@ -24,20 +11,6 @@ pub position_past : (bs ys : List ℕ) → HasNoLf bs → position_or_len is_lf 
 position_past bs ys none =
     prefix_len-append (λ x. not (is_lf x)) bs ys
     ∙ ap (λ b. cond b (length bs + position_or_len is_lf ys) (position_or_len is_lf bs)) (eq-eqb (position_or_len is_lf bs) (length bs) none)
-
-pub no_lf_more : (bs : List ℕ) (b : ℕ) → HasNoLf bs → b ≢ 10 → HasNoLf (bs ++ b ∷ [])
-no_lf_more bs b none other =
-    let one : position_or_len is_lf (b ∷ []) ≡ 1 = rw (ne_eqb b 10 other) refl in
-    omega (arith, position_past bs (b ∷ []) none, one, length-append bs (b ∷ []))
-
--- what a line without an LF is, at the end
-pub line_at_end : (old new : Option (List ℕ)) (bs : List ℕ) → HasNoLf bs → Consumes old new bs → IsAtEnd new → IfSome old (λ left. bs ≡ whole_first_line left)
-line_at_end None new bs none taken end = tt
-line_at_end (Some xs) None bs none taken end = absurd taken
-line_at_end (Some xs) (Some ys) bs none taken end =
-    let whole : xs ≡ bs = taken ∙ ap (λ y. bs ++ y) end ∙ append-nil bs in
-    let at : position_or_len is_lf xs ≡ length bs = ap (position_or_len is_lf) whole ∙ none in
-    sym (rw (at, whole) (take_all (length bs + 1) bs (omega arith)))
 
 -- a line with its LF
 pub line_at_lf : (old new : Option (List ℕ)) (bs : List ℕ) → HasNoLf bs → Consumes old new (bs ++ 10 ∷ []) → IfSome old (λ left. bs ++ 10 ∷ [] ≡ whole_first_line left)

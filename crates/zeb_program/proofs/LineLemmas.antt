@@ -1,10 +1,6 @@
 -- What the first line of a text is, by what `str` says of its methods.
-use Rattle.std.proofs.Common.{suc, ne_eqb, ◌≡◌, ◌≢◌, ℕ, ◌-◌, ◌<◌, List, [], ◌∷◌, ◌++◌, length, get_or, take, refl, arith, sym, ◌∙◌, ap}
-use Rattle.std.proofs.lemmas.List.{length-append}
-use Rattle.std.proofs.Math.Seq.{take-length, take-suc, take-append_seam, get_or-append_seam}
-use Rattle.std.specs.Prelude.{Option, Some, None, MatchOption, unwrap_or}
+use Rattle.zeb_program.proofs.Cited.{suc, ne_eqb, ◌≡◌, ◌≢◌, ℕ, ◌-◌, ◌<◌, List, [], ◌∷◌, ◌++◌, length, get_or, take, refl, arith, sym, ◌∙◌, ap, length-append, take-length, take-suc, take-append_seam, get_or-append_seam, Option, Some, None, MatchOption, unwrap_or, strip_carriage_return}
 use Rattle.std.specs.Borrow.{Bor}
-use Rattle.std.specs.Str.Lines.{strip_carriage_return}
 
 -- a text that ends in CR loses it
 pub strip_carriage_return-append : (xs : List ℕ) → strip_carriage_return (xs ++ 13 ∷ []) ≡ xs

@@ -1,7 +1,5 @@
 -- Stores over files whose disk answers nothing that isn't so, and which hold nothing yet.
-use Rattle.std.proofs.Common.{◌≡◌, ◌∙◌, [], ap, arith, inl, inr, length}
-use Rattle.std.specs.Prelude.{IsTrue}
-use Rattle.std.proofs.lemmas.Bool.{and_from}
+use Rattle.zeb_program.proofs.Cited.{◌≡◌, ◌∙◌, [], ap, arith, inl, inr, length, IsTrue, and_from, Trees, AreFound, Finds, IsNoTree, IsOpened, file_state, Held, HasCleanDisk, IsEmpty}
 use Rattle.sqlite_catalog.proofs.ReadLemmas.{lists_once}
 use Rattle.sqlite_disk.specs.declared.Disk.{Ghosts}
 use Rattle.sqlite_disk.specs.declared.Files.{Files}
@@ -9,12 +7,7 @@ use Rattle.sqlite_pool.specs.Pool.{state as pool_state}
 use Rattle.sqlite_store.specs.declared.store.FileStore.{FileStore}
 use Rattle.sqlite_trees.proofs.Doubt.{no_doubt}
 use Rattle.sqlite_trees.specs.Objects.{catalog_tree}
-use Rattle.sqlite.specs.Tree.{Trees}
 use Rattle.sqlite.proofs.ListingLemmas.{empty_is_sound}
-use Rattle.sqlite.specs.Files.{AreFound, Finds, IsEmpty as IsNoTree, IsOpened, file_state}
-use Rattle.sqlite.specs.Held.{Held}
-use Rattle.sqlite.specs.State.{HasCleanDisk}
-use Rattle.sqlite.specs.Steps.{IsEmpty}
 
 -- a disk that is always clean leaves no doubt
 pub always_clean : {D : Type 0} {g : Ghosts D} → ((disk : D) → IsTrue (g.is_clean disk)) → (c : Held (FileStore D g)) → HasCleanDisk (file_state c)
@@ -29,7 +22,5 @@ no_tree_found g files db none (inr found) = found.1
 -- so what is opened over it shows no table
 pub opened_is_empty : {D : Type 0} {g : Ghosts D} (files : Files D) (c : Held (FileStore D g)) → g.seen files.db ≡ [] → Finds files c → IsOpened c → IsEmpty (file_state c)
 opened_is_empty {D} {g} files c none finds opened =
-    let settled = opened.0.clean in
-    let listed : (file_state c).now.trees catalog_tree ≡ [] = ap (λ d. d.trees catalog_tree) settled ∙ (no_tree_found g files _ none finds.reads).1 in
-    let found = (opened.1 opened.0.is_open).0 in
-    (opened.0, opened.1, lists_once _ _ _ found.lists (empty_is_sound (file_state c).now.trees listed).lists)
+    let listed : (file_state c).now.trees catalog_tree ≡ [] = ap (λ d. d.trees catalog_tree) opened.0.clean ∙ (no_tree_found g files _ none finds.reads).1 in
+    (opened.0, opened.1, lists_once _ _ _ ((opened.1 opened.0.is_open).0).lists (empty_is_sound (file_state c).now.trees listed).lists)

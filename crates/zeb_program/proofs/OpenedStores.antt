@@ -1,13 +1,9 @@
 -- A register that was opened well is this program's store, once it is taken over.
-use Rattle.std.proofs.Common.{◌≡◌, ◌∙◌, ap, subst, sym}
-use Rattle.std.specs.Prelude.{IsTrue}
-use Rattle.std.specs.List.{AllByRecursion}
+use Rattle.zeb_program.proofs.Cited.{◌≡◌, ◌∙◌, ap, subst, sym, IsTrue, AllByRecursion, State, ChangesNothing}
 use Rattle.sqlite.specs.Effect.{Database, IsDatabase}
 use Rattle.sqlite.specs.Schema.{Schema}
-use Rattle.sqlite.specs.State.{State}
 use Rattle.sqlite.specs.Table.{Table}
 use Rattle.zeb_paths.specs.Opened.{IsWellOpened}
-use Rattle.zeb_register.specs.Calls.{ChangesNothing}
 use Rattle.zeb_register.specs.Sql.{IsKeyed}
 use Rattle.zeb_register.specs.Store.{IsStore}
 use Rattle.zeb_register.specs.Tables.{store_schema}

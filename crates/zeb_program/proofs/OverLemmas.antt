@@ -1,57 +1,19 @@
 -- What is written for a command, a change by a path and a line is their answer on any tables.
-use Rattle.std.proofs.Common.{◌≡◌, arith, inl, inr, ℕ, Bool, false, List, [], ◌∷◌, ◌++◌, Vec, ap, map, refl, subst, sym}
-use Rattle.std.specs.Prelude.{◌≢◌, Option, Some, Result, Ok, Err, IfErr, IfOk, OnErr, OnOk, String, string_bytes}
-use Rattle.std.specs.declared.alloc.AllocError.{AllocError}
-use Rattle.std.specs.declared.alloc.Global.{Global}
-use Rattle.std.specs.Io.KnownBytes.{Appends}
-use Rattle.sqlite.specs.Held.{Held, state}
-use Rattle.sqlite.specs.State.{State, Survives}
-use Rattle.sqlite.specs.Store.{Ghosts}
-use Rattle.sqlite.specs.Tree.{Trees}
+use Rattle.zeb_program.proofs.Cited.{◌≡◌, arith, inl, inr, ℕ, Bool, false, List, [], ◌∷◌, ◌++◌, Vec, ap, map, refl, subst, sym, ◌≢◌, Option, Some, Result, Ok, Err, IfErr, IfOk, OnErr, OnOk, String, string_bytes, AllocError, Global, Appends, Held, state, State, Survives, Ghosts, Trees, Directive, ChangesNothing, Format, version_of, Conditions, Refusal, Damaged, Store, Kind, Limits, Holdings, name_bytes, HasLines, IsAnalysed, answer_of, CommandLasts, CommitsBy, Endures, refusal_text, reply_text, TakesFiles, ServesBy, ServesCommand, Command, Reply, Fault, Line, PathChange, ChangesBy, Writes, AreShort, AnalysesOver, CommandOver, LeavesAlone, LineOver, PathOver, PathsLast, PathsLeave, PathsOver, SaysOver, ServesOver, TaskOver, AreTold, Says, Status, Answered, refusal_status}
 use Rattle.sqlite.proofs.StateLemmas.{survives_weaker}
-use Rattle.zeb_profile.specs.declared.directives.Directive.{Directive}
-use Rattle.zeb_register.specs.Calls.{ChangesNothing}
-use Rattle.zeb_register.specs.Formats.{Format, version_of}
-use Rattle.zeb_change.specs.Conditions.{Conditions}
 use Rattle.zeb_change.specs.Reading.{NoneFailed}
-use Rattle.zeb_change.specs.declared.refusals.Refusal.{Refusal}
-use Rattle.zeb_change.specs.declared.refusals.Refusal.TheVariants.{Damaged, Store}
-use Rattle.zeb_change.specs.declared.settings.Kind.{Kind}
-use Rattle.zeb_change.specs.declared.settings.Limits.{Limits}
-use Rattle.zeb_image.specs.Holdings.{Holdings}
 use Rattle.zeb_image.specs.Image.{Keeps}
-use Rattle.zeb_image.specs.NameOf.{name_bytes}
 use Rattle.zeb_image.specs.declared.names.DbName.{DbName}
-use Rattle.zeb_engine.specs.Analysed.{HasLines, IsAnalysed}
 use Rattle.zeb_engine.specs.Changing.{ChangesReady, LeavesWhole, LosesNamed}
-use Rattle.zeb_engine.specs.Answers.{answer_of}
-use Rattle.zeb_engine.specs.Crashes.{CommandLasts, CommitsBy, Endures}
 use Rattle.zeb_engine.specs.Does.{CommandOverTables}
 use Rattle.zeb_engine.specs.Readiness.{GoesByTexts}
-use Rattle.zeb_engine.specs.Refusals.{refusal_text}
-use Rattle.zeb_engine.specs.Replies.{reply_text}
-use Rattle.zeb_engine.specs.Steps.{TakesFiles}
 use Rattle.zeb_engine.specs.Transactions.{EnduresRefusal, IsDurable, LeavesNoMore}
-use Rattle.zeb_engine.specs.Works.{ServesBy, ServesCommand}
-use Rattle.zeb_engine.specs.declared.commands.Command.{Command}
-use Rattle.zeb_engine.specs.declared.replies.Reply.{Reply}
-use Rattle.zeb_program.specs.declared.faults.Fault.{Fault}
 use Rattle.zeb_program.specs.declared.faults.Fault.TheVariants as fault
-use Rattle.zeb_program.specs.declared.lines.Line.{Line}
-use Rattle.zeb_program.specs.declared.path_changes.PathChange.{PathChange}
 use Rattle.zeb_program.specs.declared.tasks.Task.{Task}
 use Rattle.zeb_program.specs.declared.tasks.Task.TheVariants.{Ask, Change, Analyse}
-use Rattle.zeb_program.specs.Answers.{ChangesBy, Writes}
 use Rattle.zeb_program.specs.FaultLines.{TellsFault}
 use Rattle.zeb_program.specs.PrivateFaults.{IsUnread, IsUnreadAt}
 use Rattle.zeb_program.specs.FaultAnswers.{GivesAnswer, NamesUnder, NamesUntold}
-use Rattle.zeb_program.specs.Inputs.{AreShort}
-use Rattle.zeb_program.specs.OverTables.{AnalysesOver, CommandOver, LeavesAlone, LineOver, PathOver, PathsLast, PathsLeave, PathsOver, SaysOver, ServesOver, TaskOver}
-use Rattle.zeb_program.specs.TaskAnswers.{AreTold}
-use Rattle.zeb_program.specs.Says.{Says}
-use Rattle.zeb_program.specs.declared.statuses.Status.{Status}
-use Rattle.zeb_program.specs.declared.statuses.Status.TheVariants.{Answered}
-use Rattle.zeb_program.specs.Statuses.{refusal_status}
 
 -- where nothing is done nothing changes
 pub still : (s : State) → ChangesNothing s s
@@ -130,8 +92,7 @@ module _ (told : List ℕ → Option (List ℕ)) (format : Format) (profile : Li
   pub unread_over : (why : Fault) → IsUnread why → NamesUntold told why → ((files : List (List ℕ)) → AreTold told paths files → why ≡ fault.Memory) → PathsOver told format profile kind limits name paths s (Err why)
   unread_over (fault.Unreadable path) unread untold memory = record { ready = inl tt; untold = untold; changes = λ files known. absurd (cc (memory files known)); honest = λ is. absurd (cc is) }
   unread_over fault.Memory unread untold memory = record { ready = inr tt; untold = tt; changes = λ files known. tt; honest = λ is. absurd (cc is) }
-  unread_over (fault.Profile file why) unread untold memory = absurd unread
-  unread_over (fault.Refused refusal) unread untold memory = absurd unread
+  unread_over _ unread untold memory = absurd unread
 
 -- what is left of the tables
 module _ (told : List ℕ → Option (List ℕ)) (c : Conditions) (kind : Kind) (name : List ℕ) (paths : List (List ℕ)) (old new : State) where
@@ -153,12 +114,12 @@ module _ (told : List ℕ → Option (List ℕ)) (c : Conditions) (kind : Kind) 
       → ((files : List (List ℕ)) → AreTold told paths files → (map remaining before ≡ map Some files) × NoneFailed has_failed after)
       → OnErr r (ChangesNothing old new)
       → ((texts : List (List ℕ)) → map remaining before ≡ map Some texts → NoneFailed has_failed after → ServesBy (TakesFiles c kind name texts) old new r)
-      → LeavesWhole c.profile kind name old new r
+      → LeavesWhole c.version c.profile kind name old new r
       → ((texts : List (List ℕ)) → map remaining before ≡ map Some texts → LosesNamed c.profile name texts old new r)
       → PathsLast told c kind name paths old new (given r) → PathsLeave told c kind name paths old new (given r)
   changed_leaves remaining has_failed before after r all nothing serves loses named lasts = record {
     refused = given_refused (ChangesNothing old new) r nothing;
-    loses = inr (gives (LeavesWhole c.profile kind name old new) r loses);
+    loses = inr (gives (LeavesWhole c.version c.profile kind name old new) r loses);
     serves = λ files known held keeps.
         let tell = all files known in
         gives (λ answer. (later : Holdings) × ChangesBy c kind name files held answer later × Keeps new later) r (serves files tell.0 tell.1 held keeps);
@@ -212,8 +173,7 @@ module _ (told : List ℕ → Option (List ℕ)) (profile : List Directive) (lim
   pub unanalysed_over : (why : Fault) → IsUnreadAt told why → AnalysesOver told profile limit paths (Err why)
   unanalysed_over (fault.Unreadable path) unread = inl unread
   unanalysed_over fault.Memory unread = inr tt
-  unanalysed_over (fault.Profile file why) unread = absurd unread
-  unanalysed_over (fault.Refused refusal) unread = absurd unread
+  unanalysed_over _ unread = absurd unread
 
 -- ---- a task
 

@@ -1,29 +1,8 @@
 -- Changes by a path of which the file's bytes are told.
-use Rattle.std.proofs.Common.{◌≡◌, ◌∙◌, inl, inr, ℕ, zero, suc, Bool, false, List, [], ◌∷◌, ap, refl, subst, sym}
-use Rattle.std.specs.Prelude.{Option, Some, None, Result, Ok, Err, IfOk, codes, string_bytes}
-use Rattle.std.specs.declared.alloc.AllocError.{AllocError}
-use Rattle.std.specs.Io.KnownBytes.{Appends}
-use Rattle.std.specs.Str.{IsUtf8}
-use Rattle.sqlite.specs.State.{State}
-use Rattle.zeb_change.specs.Conditions.{Conditions}
-use Rattle.zeb_image.specs.NameOf.{name_bytes}
-use Rattle.zeb_engine.specs.Replies.{reply_text}
-use Rattle.zeb_engine.specs.declared.replies.Reply.{Reply}
-use Rattle.zeb_program.specs.declared.faults.Fault.{Fault}
+use Rattle.zeb_program.proofs.Cited.{◌≡◌, ◌∙◌, inl, inr, ℕ, zero, suc, Bool, false, List, [], ◌∷◌, ap, refl, subst, sym, Option, Some, None, Result, Ok, Err, IfOk, codes, string_bytes, AllocError, Appends, IsUtf8, State, Conditions, name_bytes, reply_text, Reply, Fault, Path, PathChange, AnswersAsTold, ChangesBy, IsFileAnswer, IsLineUntold, Writes, first_line, after_first_line, AreFilesTold, IsLineTold, HasPath, NamesPath, SaysText, BeginsRegister, after_lines, AnswersFrom, LeadsOn, without_blanks, Status, Answered}
 use Rattle.zeb_program.specs.declared.faults.Fault.TheVariants as fault
-use Rattle.zeb_program.specs.declared.lines.Line.TheVariants.{Path}
-use Rattle.zeb_program.specs.declared.path_changes.PathChange.{PathChange}
-use Rattle.zeb_program.specs.Answers.{AnswersAsTold, ChangesBy, IsFileAnswer, IsLineUntold, Writes}
 use Rattle.zeb_program.specs.FaultLines.{TellsFault}
-use Rattle.zeb_program.specs.Lines.{first_line, after_first_line}
-use Rattle.zeb_program.specs.PathChanges.{AreFilesTold, IsLineTold, HasPath, NamesPath}
-use Rattle.zeb_program.specs.Says.{SaysText}
-use Rattle.zeb_program.specs.Scripts.{BeginsRegister, after_lines}
 use Rattle.zeb_program.specs.PrivateServing.{Leads}
-use Rattle.zeb_program.specs.Serving.{AnswersFrom, LeadsOn}
-use Rattle.zeb_program.specs.Words.{without_blanks}
-use Rattle.zeb_program.specs.declared.statuses.Status.{Status}
-use Rattle.zeb_program.specs.declared.statuses.Status.TheVariants.{Answered}
 
 -- ---- the lines of a text
 
@@ -85,8 +64,7 @@ refused_file told c change old new wrote writes (fault.Refused refusal) failed C
     let served = serves clean file known before keeps in
     (served.0, served.2, (w.0, (Err refusal, w.1.0, w.1.1, served.1), w.2))
 refused_file told c change old new wrote writes fault.Memory failed Clean (Ok status) serves tells = λ sound. absurd (tells sound).1
-refused_file told c change old new wrote writes (fault.Profile named it) failed Clean (Ok status) serves tells = λ sound clean file known before keeps. absurd (serves clean file known before keeps)
-refused_file told c change old new wrote writes (fault.Unreadable path) failed Clean (Ok status) serves tells = λ sound clean file known before keeps. absurd (serves clean file known before keeps)
+refused_file told c change old new wrote writes _ failed Clean (Ok status) serves tells = λ sound clean file known before keeps. absurd (serves clean file known before keeps)
 
 -- ---- the line
 

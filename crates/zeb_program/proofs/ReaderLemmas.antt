@@ -1,11 +1,13 @@
 -- How far the files at some paths have come, of which readers or contents are made.
 use Rattle.std.proofs.Common.{◌≡◌, ◌≢◌, ◌≤◌, ◌∙◌, ◌-◌, ◌+◌, inl, inr, Bool, true, false, ℕ, List, [], ◌∷◌, ◌++◌, Vec, ap, append_assoc, arith, length, map, refl, subst, sym}
-use Rattle.std.specs.Prelude.{◌⊎◌, ◌||◌, Contains, IfErr, IfSome, Option, Some, None, Result, Ok, Err, String, if◌then◌else◌, string_bytes}
+use Rattle.std.specs.Prelude.{◌⊎◌, ◌||◌, Contains, IfErr, IfOk, IfSome, Option, Some, None, Result, Ok, Err, String, if◌then◌else◌, string_bytes}
+use Rattle.std.specs.declared.alloc.AllocError.{AllocError}
 use Rattle.std.specs.declared.alloc.Global.{Global}
 use Rattle.std.proofs.lemmas.List.{append-nil, map-append}
 use Rattle.std.proofs.lemmas.List.Elements.{Contains-append_right}
 use Rattle.zeb_change.specs.Reading.{NoneFailed, StayAble}
-use Rattle.zeb_program.specs.PrivateFiles.{ReadsBelow, ReadsContent, WalksFrom, WalksOver, sure_bytes}
+use Rattle.zeb_program.specs.PrivateFiles.{IsGiven, ReadsBelow, ReadsContent, sure_bytes}
+use Rattle.zeb_program.specs.WalkedFiles.{FindsNthFile, WalksFrom, WalksOver}
 use Rattle.zeb_program.specs.Inputs.{AreShort, IsShort}
 use Rattle.zeb_paths.specs.Walks.{AreUnder, Due, GivesFile, GivesUnder, IsFaultUnder, IsFaultUntold, IsUnder, Tells, WalksOn, due}
 use Rattle.zeb_paths.specs.declared.walk.WalkFault.{WalkFault}
@@ -13,7 +15,7 @@ use Rattle.zeb_paths.specs.declared.walk.WalkFault.TheVariants as walk
 use Rattle.zeb_program.specs.declared.faults.Fault.{Fault}
 use Rattle.zeb_program.specs.declared.faults.Fault.TheVariants as reason
 use Rattle.zeb_program.specs.FaultAnswers.{NamesUnder, NamesUntold}
-use Rattle.zeb_program.specs.PrivateFaults.{IsNth, IsUnfound, IsUnread, IsUnreadAt, fault_of}
+use Rattle.zeb_program.specs.PrivateFaults.{IsUnfound, IsUnread, IsUnreadAt, fault_of}
 
 -- what has been made has the bytes of the first of these files, and the paths that are left lead to the others
 abbrev pub IsMet : {R : Type 0} → (R → Option (List ℕ)) → (List ℕ → Option (List ℕ)) → List (List ℕ) → List R → List (List ℕ) → Type 0
@@ -113,12 +115,12 @@ pub count_before : (n nth number : ℕ) → n + 1 ≡ nth → number ≤ nth →
 count_before n nth number is far (inl first) = omega (arith, is, far, first)
 count_before n nth number is far (inr within) = omega (arith, is, far, within)
 
--- the file that a walk gives behind so many
-pub given_nth : (at : Tells) (named files : List (List ℕ)) (number : ℕ) (found : Result (Option (String Global)) WalkFault) (r : Option (String Global)) (left later : List Due) → IfSome r (λ path. found ≡ Ok (Some path)) → GivesUnder named found
-    → length files ≡ number - 1 → WalksFrom at named files left → WalksOn at left found later → IfSome r (IsNth at named number)
-given_nth at named files number found None left later is under count from on = tt
-given_nth at named files number found (Some path) left later is under count from on =
-    (subst (GivesUnder named) is under, (files, left, later, count, from, subst (λ f. WalksOn at left f later) is on))
+-- the file that a walk gives behind so many, or that it gives none
+pub found_nth : (at : Tells) (named files : List (List ℕ)) (number : ℕ) (found : Result (Option (String Global)) WalkFault) (r : Result (Option (String Global)) AllocError) (left later : List Due) → IfOk r (IsGiven found)
+    → length files ≡ number - 1 → WalksFrom at named files left → WalksOn at left found later → IfOk r (FindsNthFile at named number)
+found_nth at named files number found (Err e) left later is count from on = tt
+found_nth at named files number found (Ok None) left later is count from on = (files, left, later, found, omega (arith, count), from, on, is)
+found_nth at named files number found (Ok (Some path)) left later is count from on = (files, left, later, count, from, subst (λ f. WalksOn at left f later) is on)
 
 -- ---- readers that can't fail
 

@@ -1,7 +1,5 @@
 -- A result of which the value is taken, or another one in its place; and what is made of a value.
-use Rattle.std.proofs.Common.{◌≡◌, ◌∙◌, ap, refl, subst, sym}
-use Rattle.std.specs.Prelude.{Option, Some, Result, Ok, Err, IfErr, IfOk, IsErrAnd, MatchResult, OnErr}
-use Rattle.std.specs.Result.{result_unwrap_or}
+use Rattle.zeb_program.proofs.Cited.{◌≡◌, ◌∙◌, ap, refl, subst, sym, Option, Some, Result, Ok, Err, IfErr, IfOk, IsErrAnd, MatchResult, OnErr, result_unwrap_or}
 
 pub unwrapped : {T E : Type 0} (r : Result T E) (P : T → Type 0) (other : T) → IfOk r P → OnErr r (P other) → P (result_unwrap_or r other)
 unwrapped (Ok value) P other ok err = ok

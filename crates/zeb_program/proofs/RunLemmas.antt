@@ -1,26 +1,6 @@
 -- A batch is one run, and known to be where its files are told.
-use Rattle.std.proofs.Common.{◌≡◌, ◌<◌, ◌+◌, ◌^◌, inl, inr, ℕ, List, [], ◌∷◌, ◌++◌, length, map, ap, arith, refl, subst, sym, Vec}
-use Rattle.std.specs.Prelude.{IsSome, Option, Some, None, Result, string_bytes}
-use Rattle.zeb_change.specs.Conditions.{Conditions}
-use Rattle.zeb_change.specs.declared.refusals.Refusal.{Refusal}
-use Rattle.zeb_engine.specs.Answers.{Answer, answer_of}
-use Rattle.zeb_engine.specs.Steps.{TellsOrFails, Run, Step, TakesFiles}
-use Rattle.zeb_engine.specs.declared.commands.Command.{Command}
-use Rattle.zeb_engine.specs.declared.commands.Command.TheVariants.{Change}
-use Rattle.zeb_engine.specs.declared.replies.Reply.{Reply}
-use Rattle.zeb_image.specs.Holdings.{Holdings}
-use Rattle.zeb_image.specs.NameOf.{name_bytes}
-use Rattle.zeb_program.specs.Answers.{AnswersAsTold, AnswersLine, AnswersLines, ChangesBy, IsAnswerTo, answer_status, answer_text, none as no_lines, more}
+use Rattle.zeb_program.proofs.Cited.{◌≡◌, ◌<◌, ◌+◌, ◌^◌, inl, inr, ℕ, List, [], ◌∷◌, ◌++◌, length, map, ap, arith, refl, subst, sym, Vec, IsSome, Option, Some, None, Result, string_bytes, Conditions, Refusal, Answer, answer_of, TellsOrFails, Run, Step, TakesFiles, Command, Change, Reply, Holdings, name_bytes, AnswersAsTold, AnswersLine, AnswersLines, ChangesBy, IsAnswerTo, answer_status, answer_text, no_lines, more, first_line, after_first_line, AreFilesTold, Says, Line, Remark, Order, Path, Mark, Bad, PathChange, Status, Answered, greater}
 use Rattle.zeb_program.specs.BatchRuns.{AreFilesShort, BatchIsOneRun, IsOneRun, TellsLines, ToldIsKnown, MakesChange, NamesCommand, NamesFile, none, remark, mark, bad, command}
-use Rattle.zeb_program.specs.Lines.{first_line, after_first_line}
-use Rattle.zeb_program.specs.PathChanges.{AreFilesTold}
-use Rattle.zeb_program.specs.Says.{Says}
-use Rattle.zeb_program.specs.declared.lines.Line.{Line}
-use Rattle.zeb_program.specs.declared.lines.Line.TheVariants.{Remark, Command as Order, Path, Mark, Bad}
-use Rattle.zeb_program.specs.declared.path_changes.PathChange.{PathChange}
-use Rattle.zeb_program.specs.declared.statuses.Status.{Status}
-use Rattle.zeb_program.specs.declared.statuses.Status.TheVariants.{Answered}
-use Rattle.zeb_program.specs.Statuses.{greater}
 use Rattle.zeb_program.proofs.PathLemmas.{told_first, told_or_untold, told_rest}
 
 -- ---- a change by the bytes of a file, as a command

@@ -1,39 +1,17 @@
 -- The answers of a script, at each of its ends.
-use Rattle.std.proofs.Common.{◌≡◌, ◌≤◌, ℕ, Bool, false, List, [], ◌∷◌, ◌++◌, inl, inr, refl, sym, ap, subst, ◌∙◌, arith}
-use Rattle.std.specs.Prelude.{Option, Some, None, Result, Ok, Err, IfOk, IfNone, IfSome, IsOk, OnErr, codes, string_bytes, string_len}
+use Rattle.zeb_program.proofs.Cited.{◌≡◌, ◌≤◌, ℕ, Bool, false, List, [], ◌∷◌, ◌++◌, inl, inr, refl, sym, ap, subst, ◌∙◌, arith, Option, Some, None, Result, Ok, Err, IfOk, IfNone, IfSome, IsOk, OnErr, string_bytes, string_len, IsUtf8-string_bytes, AllocError, Appends, Keeps, Held, Ghosts, State, Conditions, nothing_yet, Refusal, refusal_text, Directive, IsInput, DividesAt, HasNoDivider, Writes, AnswersBatch, AnswersPart, Format, LinesOver, LeadsOn, Stops, Status, EndsWith, fault_status, refusal_status, status_code, Answered, Failed}
 use Rattle.std.specs.declared.string.String.{String}
-use Rattle.std.proofs.lemmas.Str.{IsUtf8-string_bytes}
 use Rattle.zeb_program.specs.declared.input.TheConstants.{GREATEST_INPUT}
-use Rattle.std.specs.declared.alloc.AllocError.{AllocError}
-use Rattle.std.specs.Io.KnownBytes.{Appends, Keeps}
-use Rattle.sqlite.specs.Held.{Held}
-use Rattle.sqlite.specs.Store.{Ghosts}
-use Rattle.sqlite.specs.State.{State}
-use Rattle.zeb_change.specs.Conditions.{Conditions, conditions}
-use Rattle.zeb_change.specs.declared.settings.Limits.{Limits}
-use Rattle.zeb_image.specs.Holdings.{nothing_yet}
 use Rattle.zeb_image.specs.Image.{Keeps as Holding}
-use Rattle.zeb_change.specs.declared.refusals.Refusal.{Refusal}
-use Rattle.zeb_engine.specs.Refusals.{refusal_text}
-use Rattle.zeb_profile.specs.declared.directives.Directive.{Directive}
 use Rattle.zeb_profile.specs.declared.faults.ProfileFault.{ProfileFault}
 use Rattle.zeb_profile.specs.Outcomes.{FailsPlaced}
 use Rattle.zeb_profile.specs.Profiles.{profile_of}
 use Rattle.zeb_program.specs.declared.script.Batch.{Batch}
 use Rattle.zeb_program.specs.FaultAnswers.{IsOpeningFailure}
-use Rattle.zeb_program.specs.Inputs.{IsInput}
-use Rattle.zeb_program.specs.Scripts.{DividesAt, HasNoDivider}
-use Rattle.zeb_program.specs.Answers.{Writes, AnswersBatch, AnswersPart}
-use Rattle.zeb_register.specs.Formats.{Format}
 use Rattle.zeb_program.specs.Doing.{RunsText}
-use Rattle.zeb_program.specs.OverTables.{LinesOver}
-use Rattle.zeb_program.specs.Serving.{LeadsOn, Stops}
 use Rattle.zeb_program.specs.ScriptAnswers.{AnswersScript, EndsEarly, EndsScript, unreadable, faulty, alone, ran, stopped, silent, AreScriptConditions, AnswersOpened, AnswersStopped, RunsFromNothing, IsUnopened, IsProfileOf, fault_line}
 use Rattle.zeb_program.specs.FixedLines.{unreadable_line, refusal_line}
 use Rattle.zeb_program.proofs.AnswerLemmas.{Appends-nil}
-use Rattle.zeb_program.specs.declared.statuses.Status.{Status}
-use Rattle.zeb_program.specs.Statuses.{EndsWith, fault_status, refusal_status, status_code}
-use Rattle.zeb_program.specs.declared.statuses.Status.TheVariants.{Answered, Failed}
 
 unopened : (refusal : Refusal) (bytes : List ℕ) (status : Status) → IsOpeningFailure refusal → (bytes ≡ refusal_line refusal) × (status ≡ refusal_status refusal) → IsUnopened bytes status
 unopened refusal bytes status (inl is) said = (inl (said.0 ∙ ap refusal_line is), said.1 ∙ ap refusal_status is)
@@ -44,9 +22,6 @@ pub refused_opening : (tells : List ℕ → Option (List ℕ)) (failed : Bool) (
     → IfOk r (λ status. failed ≡ false → AnswersOpened tells directives n batch old new status)
 refused_opening tells failed old new directives n batch refusal (Err e) is h = h
 refused_opening tells failed old new directives n batch refusal (Ok status) is h = λ sound. let w = h sound in inr (w.0, unopened refusal w.0 status is w.1, w.2)
-
-pub script_conditions : (directives profile : List Directive) (limits : Limits) → profile ≡ directives → limits.records ≡ 1000000 → limits.numbers ≡ 999999999 → AreScriptConditions directives (conditions (codes "2") profile limits)
-script_conditions directives profile limits same records numbers = record { version = refl; profile = same; records = records; numbers = numbers }
 
 -- a register that holds nothing yet answers the lines
 pub run_from_nothing : (tells : List ℕ → Option (List ℕ)) (c : Conditions) (directives : List Directive) (old new : State) (wrote writes : Option (List ℕ)) (n : ℕ) (batch : List ℕ) (failed : Bool) (Clean : Type 0) (r : Result Status AllocError)

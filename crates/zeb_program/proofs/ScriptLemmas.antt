@@ -1,15 +1,6 @@
 -- How far the search for a script's divider has come.
-use Rattle.std.proofs.Common.{◌≡◌, ◌≤◌, ◌<◌, ◌+◌, ◌-◌, ◌++◌, inl, inr, [], ◌∷◌, zero, suc, length, take, drop, get_or, ℕ, List, arith, refl, ap, sym, subst, ◌∙◌, append_assoc, add-one, add-suc, add-zero, below_more, eqb, eqb-true, true, false}
-use Rattle.std.specs.Str.{IsUtf8, IsCharBoundary}
-use Rattle.std.specs.List.{position_or_len}
-use Rattle.std.proofs.lemmas.Str.{IsCharBoundary-start, IsCharBoundary-after_ascii, IsUtf8-drop, IsUtf8-nil}
-use Rattle.std.proofs.lemmas.List.{take-append-drop, length-drop, length-append, get_or-append-add}
-use Rattle.std.proofs.Math.Seq.{take-append_seam}
-use Rattle.std.proofs.Math.ListN.{drop_of_length-le}
-use Rattle.std.proofs.lemmas.Bool.{cases_lt}
+use Rattle.zeb_program.proofs.Cited.{◌≡◌, ◌≤◌, ◌<◌, ◌+◌, ◌-◌, ◌++◌, inl, inr, [], ◌∷◌, zero, suc, length, take, drop, get_or, ℕ, List, arith, refl, ap, sym, subst, ◌∙◌, append_assoc, add-one, add-suc, add-zero, below_more, eqb, eqb-true, true, false, IsUtf8, IsCharBoundary, position_or_len, IsCharBoundary-start, IsCharBoundary-after_ascii, IsUtf8-drop, IsUtf8-nil, take-append-drop, length-drop, length-append, get_or-append-add, take-append_seam, drop_of_length-le, cases_lt, is_lf, first_line, after_first_line, after_lines, line_at, IsDivider, HasNoDivider, DividesAt}
 use Rattle.std.proofs.lemmas.List.Sums.{passes_at_first}
-use Rattle.zeb_program.specs.Lines.{is_lf, first_line, after_first_line}
-use Rattle.zeb_program.specs.Scripts.{after_lines, line_at, IsDivider, HasNoDivider, DividesAt}
 
 -- the rest of a text stands after n of its lines, of which none is a divider
 pub record IsReached (n : ℕ) (text rest : List ℕ) : Type 0 where

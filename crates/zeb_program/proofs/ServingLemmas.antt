@@ -1,29 +1,8 @@
 -- How far the lines of a batch have come over a connection.
-use Rattle.std.proofs.Common.{◌≡◌, ◌<◌, ◌+◌, ℕ, Bool, false, List, [], ◌∷◌, ◌++◌, length, refl}
-use Rattle.std.specs.Prelude.{Option, Some, None, Result, Ok, Err, IfOk, IfSome, OnErr, String, string_bytes}
-use Rattle.std.specs.declared.alloc.Global.{Global}
-use Rattle.std.specs.declared.alloc.AllocError.{AllocError}
-use Rattle.std.specs.Io.KnownBytes.{Appends}
-use Rattle.sqlite.specs.State.{State}
-use Rattle.zeb_engine.specs.declared.commands.Command.{Command}
-use Rattle.zeb_change.specs.declared.refusals.Refusal.{Refusal}
-use Rattle.zeb_engine.specs.declared.replies.Reply.{Reply}
-use Rattle.zeb_change.specs.Conditions.{Conditions}
-use Rattle.zeb_image.specs.Holdings.{Holdings}
+use Rattle.zeb_program.proofs.Cited.{◌≡◌, ◌<◌, ◌+◌, ℕ, Bool, false, List, [], ◌∷◌, ◌++◌, length, refl, Option, Some, None, Result, Ok, Err, IfOk, IfSome, OnErr, String, string_bytes, Global, AllocError, Appends, State, Command, Refusal, Reply, Conditions, Holdings, refusal_text, reply_text, ServesCommand, Remark, Order, Mark, Bad, Says, first_line, after_first_line, Writes, bad_line, mark_line, IsAnswer, AnswersAsTold, AnswersBatch, AnswersPart, LeadsOn, Stops, Status, greater, refusal_status, Answered, Misused}
 use Rattle.zeb_image.specs.Image.{Keeps}
-use Rattle.zeb_engine.specs.Refusals.{refusal_text}
-use Rattle.zeb_engine.specs.Replies.{reply_text}
-use Rattle.zeb_engine.specs.Works.{ServesCommand}
-use Rattle.zeb_program.specs.declared.lines.Line.TheVariants.{Remark, Command as Order, Mark, Bad}
-use Rattle.zeb_program.specs.Says.{Says}
-use Rattle.zeb_program.specs.Lines.{first_line, after_first_line}
-use Rattle.zeb_program.specs.Answers.{Writes, bad_line, mark_line, IsAnswer, AnswersAsTold, AnswersBatch, AnswersPart}
 use Rattle.zeb_program.specs.PrivateServing.{Leads}
-use Rattle.zeb_program.specs.Serving.{LeadsOn, Stops}
 use Rattle.zeb_program.proofs.AnswerLemmas.{Appends-nil, IsAnswered, answered_all, answered_start, answered_line, answered_lines}
-use Rattle.zeb_program.specs.declared.statuses.Status.{Status}
-use Rattle.zeb_program.specs.Statuses.{greater, refusal_status}
-use Rattle.zeb_program.specs.declared.statuses.Status.TheVariants.{Answered, Misused}
 
 -- a refusal that is written is the command's answer
 pub refused_command : (c : Conditions) (command : Command) (old new : State) (wrote writes : Option (List ℕ)) (refusal : Refusal) (failed : Bool) (Clean : Type 0) (r : Result Status AllocError)

@@ -3,32 +3,33 @@ use Rattle.std.proofs.Common.{◌≡◌, ap, subst, sym}
 use Rattle.std.specs.Prelude.{◌≢◌, Result, Ok, Err, IfOk, OnErr}
 use Rattle.std.specs.declared.alloc.AllocError.{AllocError}
 use Rattle.zeb_program.specs.PrivateWordRuns.{EndsSession}
-use Rattle.zeb_program.specs.Statuses.{greater}
+use Rattle.zeb_paths.specs.declared.causes.Closed.{Closed}
+use Rattle.zeb_program.specs.Statuses.{closing_status, greater}
 use Rattle.zeb_program.specs.declared.statuses.Status.{Status}
 use Rattle.zeb_program.specs.declared.statuses.Status.TheVariants.{Failed}
 
 -- what is said of the status of the lines, and of how it was closed, is said of both
-pub ended_ok : (answered result : Result Status AllocError) (Closing P Q : Status → Type 0) → EndsSession answered result Closing → IfOk answered P
-    → ((top closed : Status) → P top → Closing closed → Q (greater top closed)) → IfOk result Q
+pub ended_ok : (answered result : Result Status AllocError) (Closing : Closed → Type 0) (P Q : Status → Type 0) → EndsSession answered result Closing → IfOk answered P
+    → ((top : Status) (closed : Closed) → P top → Closing closed → Q (greater top (closing_status closed))) → IfOk result Q
 ended_ok (Ok top) result Closing P Q ends said so = subst (λ r. IfOk r Q) (sym ends.1) (so top ends.0 said ends.2)
 ended_ok (Err e) result Closing P Q ends said so = subst (λ r. IfOk r Q) (sym ends.1) tt
 
 -- a failure stays one
-pub ended_failed : (answered result : Result Status AllocError) (Closing : Status → Type 0) → EndsSession answered result Closing
+pub ended_failed : (answered result : Result Status AllocError) (Closing : Closed → Type 0) → EndsSession answered result Closing
     → IfOk answered (λ status. status ≡ Failed) → IfOk result (λ status. status ≡ Failed)
 ended_failed answered result Closing ends said =
-    ended_ok answered result Closing (λ status. status ≡ Failed) (λ status. status ≡ Failed) ends said (λ top closed is _. ap (λ (s : Status). greater s closed) is)
+    ended_ok answered result Closing (λ status. status ≡ Failed) (λ status. status ≡ Failed) ends said (λ top closed is _. ap (λ (s : Status). greater s (closing_status closed)) is)
 
 -- where both haven't failed, the lines haven't
-pub ended_whole : (answered result : Result Status AllocError) (Closing : Status → Type 0) (End : Type 0) → EndsSession answered result Closing
+pub ended_whole : (answered result : Result Status AllocError) (Closing : Closed → Type 0) (End : Type 0) → EndsSession answered result Closing
     → IfOk answered (λ status. status ≢ Failed → End) → IfOk result (λ status. status ≢ Failed → End)
 ended_whole answered result Closing End ends said =
     ended_ok answered result Closing (λ status. status ≢ Failed → End) (λ status. status ≢ Failed → End) ends said
-    (λ top closed whole _ other. whole (λ is. other (ap (λ (s : Status). greater s closed) is)))
+    (λ top closed whole _ other. whole (λ is. other (ap (λ (s : Status). greater s (closing_status closed)) is)))
 
 -- where memory ran out in the lines
-pub ended_err : (answered result : Result Status AllocError) (Closing : Status → Type 0) (P Q : Type 0) → EndsSession answered result Closing → OnErr answered P
-    → ((closed : Status) → P → Closing closed → Q) → OnErr result Q
+pub ended_err : (answered result : Result Status AllocError) (Closing : Closed → Type 0) (P Q : Type 0) → EndsSession answered result Closing → OnErr answered P
+    → ((closed : Closed) → P → Closing closed → Q) → OnErr result Q
 ended_err (Ok top) result Closing P Q ends said so = subst (λ r. OnErr r Q) (sym ends.1) tt
 ended_err (Err e) result Closing P Q ends said so = subst (λ r. OnErr r Q) (sym ends.1) (so ends.0 said ends.2)
 

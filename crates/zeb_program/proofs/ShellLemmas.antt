@@ -1,22 +1,8 @@
 -- How far the answers of a shell have come, of an input that tells its bytes.
-use Rattle.std.proofs.Common.{◌≡◌, ◌<◌, ◌+◌, ◌∙◌, inr, ℕ, Bool, true, false, List, [], ◌∷◌, length, ap, arith, eqb, ne_eqb, refl, subst, sym}
-use Rattle.std.specs.Prelude.{⊤, Option, Some, None, Result, Ok, Err, IfOk, IfSome}
-use Rattle.std.specs.declared.alloc.AllocError.{AllocError}
-use Rattle.std.specs.Io.KnownBytes.{Appends, Consumes, IsAtEnd, Keeps}
-use Rattle.std.specs.Str.{IsUtf8}
-use Rattle.std.proofs.KnownBytes.{Appends-kept}
-use Rattle.sqlite.specs.State.{State}
-use Rattle.zeb_change.specs.Conditions.{Conditions}
-use Rattle.zeb_program.specs.Answers.{AnswersAsTold, AnswersBatch, bad_line}
-use Rattle.zeb_program.specs.Lines.{first_line, after_first_line}
-use Rattle.zeb_program.specs.PrivateLines.{whole_first_line}
-use Rattle.zeb_program.specs.Serving.{LeadsOn}
+use Rattle.zeb_program.proofs.Cited.{◌≡◌, ◌<◌, ◌+◌, ◌∙◌, inr, ℕ, Bool, true, false, List, [], ◌∷◌, length, ap, arith, eqb, ne_eqb, refl, subst, sym, ⊤, Option, Some, None, Result, Ok, Err, IfOk, IfSome, AllocError, Appends, Consumes, IsAtEnd, Keeps, IsUtf8, Appends-kept, State, Conditions, AnswersAsTold, AnswersBatch, bad_line, first_line, after_first_line, whole_first_line, LeadsOn, Status, greater, Answered, Misused}
 use Rattle.zeb_program.proofs.ScriptLemmas.{not_empty}
 use Rattle.zeb_program.proofs.ServingLemmas.{Reaches, bad_line_answer, reaches_start, reaches_line, reaches_end}
 use Rattle.zeb_program.proofs.WholeLineLemmas.{after_whole, first_of_whole, left_after_line, line_is_text, no_line_no_text}
-use Rattle.zeb_program.specs.declared.statuses.Status.{Status}
-use Rattle.zeb_program.specs.Statuses.{greater}
-use Rattle.zeb_program.specs.declared.statuses.Status.TheVariants.{Answered, Misused}
 
 -- ---- one line
 

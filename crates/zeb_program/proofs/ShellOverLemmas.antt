@@ -1,25 +1,8 @@
 -- How far the answers of a shell have come on any tables, of an input that tells its bytes.
-use Rattle.std.proofs.Common.{◌≡◌, ◌<◌, ◌+◌, ◌∙◌, inr, ℕ, Bool, false, List, [], length, ap, refl, subst}
-use Rattle.std.specs.Prelude.{⊤, Option, Some, None, Result, Ok, Err, IfOk, IfSome}
-use Rattle.std.specs.declared.alloc.AllocError.{AllocError}
-use Rattle.std.specs.Io.KnownBytes.{Appends, Consumes, IsAtEnd, Keeps}
-use Rattle.std.specs.Str.{IsUtf8}
-use Rattle.std.proofs.KnownBytes.{Appends-kept}
-use Rattle.sqlite.specs.Held.{Held, state}
-use Rattle.sqlite.specs.Store.{Ghosts}
-use Rattle.zeb_change.specs.Conditions.{Conditions}
-use Rattle.zeb_register.specs.Formats.{Format}
-use Rattle.zeb_program.specs.Answers.{EachLine, Writes, bad_line}
-use Rattle.zeb_program.specs.OverTables.{LineOver}
-use Rattle.zeb_program.specs.Lines.{first_line, after_first_line}
-use Rattle.zeb_program.specs.PrivateLines.{whole_first_line}
-use Rattle.zeb_program.specs.declared.lines.Line.TheVariants.{Bad}
+use Rattle.zeb_program.proofs.Cited.{◌≡◌, ◌<◌, ◌+◌, ◌∙◌, inr, ℕ, Bool, false, List, [], length, ap, refl, subst, ⊤, Option, Some, None, Result, Ok, Err, IfOk, IfSome, AllocError, Appends, Consumes, IsAtEnd, Keeps, IsUtf8, Appends-kept, Held, state, Ghosts, Conditions, Format, EachLine, Writes, bad_line, LineOver, first_line, after_first_line, whole_first_line, Bad, Status, greater, Answered, Misused}
 use Rattle.zeb_program.proofs.AnswerLemmas.{IsAnswered, answered_all, answered_line, answered_start}
 use Rattle.zeb_program.proofs.OverLemmas.{alone as untouched}
 use Rattle.zeb_program.proofs.WholeLineLemmas.{after_whole, first_of_whole, left_after_line, line_is_text}
-use Rattle.zeb_program.specs.declared.statuses.Status.{Status}
-use Rattle.zeb_program.specs.Statuses.{greater}
-use Rattle.zeb_program.specs.declared.statuses.Status.TheVariants.{Answered, Misused}
 
 -- bytes that aren't text are no command
 pub no_text_over : {S : Type 0} (g : Ghosts S) (told : List ℕ → Option (List ℕ)) (format : Format) (c : Conditions) (number : ℕ) (bytes : List ℕ) (old : Held S) (wrote writes : Option (List ℕ)) (status : Status)

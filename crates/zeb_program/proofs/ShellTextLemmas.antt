@@ -1,25 +1,9 @@
 -- What is said of the lines of a shell at its end.
-use Rattle.std.proofs.Common.{◌≡◌, ◌⊎◌, ◌↔◌, inl, inr, ℕ, Bool, true, false, List, refl, subst, sym}
-use Rattle.std.specs.Prelude.{⊤, Option, Some, None, Result, Ok, Err, IfErr, IfSome}
-use Rattle.std.specs.Io.KnownBytes.{Appends, IsAtEnd, Keeps}
-use Rattle.std.proofs.KnownBytes.{Keeps-refl}
-use Rattle.sqlite.specs.Held.{Held, state}
-use Rattle.sqlite.specs.Store.{Ghosts}
-use Rattle.zeb_change.specs.Conditions.{Conditions}
-use Rattle.zeb_image.specs.Holdings.{Holdings}
-use Rattle.zeb_register.specs.Formats.{Format}
-use Rattle.zeb_program.specs.Answers.{AnswersAsTold, AnswersLines, EachLine}
+use Rattle.zeb_program.proofs.Cited.{◌≡◌, ◌⊎◌, ◌↔◌, inl, inr, ℕ, Bool, true, false, List, refl, subst, sym, ⊤, Option, Some, None, Result, Ok, Err, IfErr, IfSome, Appends, IsAtEnd, Keeps, Keeps-refl, Held, state, Ghosts, Conditions, Holdings, Format, AnswersAsTold, AnswersLines, EachLine, EndsInLine, is_failed_read, LineOver, LongLine, FailedRead, LineFault, Unreadable, Memory, Status, Failed}
 use Rattle.zeb_program.specs.Doing.{KeepsUnread, RunsText, ServesText, StopsText, all_served, first_served}
 use Rattle.zeb_program.specs.FaultLines.{unread_lines}
-use Rattle.zeb_program.specs.InputCauses.{EndsInLine, is_failed_read}
-use Rattle.zeb_program.specs.OverTables.{LineOver}
 use Rattle.zeb_program.specs.PrivateShell.{ComesTo}
 use Rattle.zeb_program.specs.declared.line_input.InputCause.{InputCause}
-use Rattle.zeb_program.specs.declared.line_input.InputCause.TheVariants.{LongLine, FailedRead}
-use Rattle.zeb_program.specs.declared.line_input.LineFault.{LineFault}
-use Rattle.zeb_program.specs.declared.line_input.LineFault.TheVariants.{Unreadable, Memory}
-use Rattle.zeb_program.specs.declared.statuses.Status.{Status}
-use Rattle.zeb_program.specs.declared.statuses.Status.TheVariants.{Failed}
 use Rattle.zeb_program.proofs.AnswerLemmas.{answered_lines}
 use Rattle.zeb_program.proofs.ScriptAnswerLemmas.{RunsText-kept, Writes-kept}
 use Rattle.zeb_program.proofs.ShellLemmas.{Serves, serves_end}

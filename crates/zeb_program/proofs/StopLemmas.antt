@@ -1,5 +1,5 @@
 -- What is written where memory runs out for the program itself, while a batch or a shell is run.
-use Rattle.std.proofs.Common.{◌≡◌, ℕ, Bool, false, List, subst, sym}
+use Rattle.std.proofs.Common.{◌≡◌, ◌⊎◌, ℕ, Bool, false, List, subst, sym}
 use Rattle.std.specs.Prelude.{IfSome, Option, Result, Ok, Err, OnErr, String}
 use Rattle.std.specs.declared.alloc.AllocError.{AllocError}
 use Rattle.std.specs.declared.alloc.Global.{Global}
@@ -15,7 +15,7 @@ use Rattle.zeb_program.specs.Answers.{AnswersPart}
 use Rattle.zeb_program.specs.Doing.{StopsText}
 use Rattle.zeb_program.specs.Serving.{Stops}
 use Rattle.zeb_program.specs.PrivateWordRuns.{OpensUnder, StopsIn, StopsServing, TakesStore}
-use Rattle.zeb_program.specs.Registers.{LacksStore, Places}
+use Rattle.zeb_program.specs.Registers.{HasStore, LacksStore, Places}
 use Rattle.zeb_program.specs.Scripts.{BeginsRegister}
 use Rattle.zeb_program.specs.ScriptAnswers.{AnswersStopped, AreScriptConditions}
 use Rattle.zeb_program.specs.WordRuns.{IsText, ReadsAt, StopsBatch, batch_silent, batch_part, StopsLines, part_on_store, part_in_memory, no_line, StopsShell, shell_silent, shell_part}
@@ -31,20 +31,20 @@ kept_by shows old new same = subst (λ t. Keeps (shows old) (shows t)) (sym same
 
 -- its lines, on the register in the store
 part_kept : {S : Type 0} (at : Places S) (profile : List Directive) (text : List ℕ) (tells : List ℕ → Option (List ℕ)) (c : Conditions) (held : Held S) (n : ℕ) (old new fault_old fault_new : Option (List ℕ))
-    → n ≡ 0 → tells ≡ at.tells → AreScriptConditions profile c → TakesStore at profile held
+    → n ≡ 0 → tells ≡ at.tells → HasStore at profile ⊎ BeginsRegister text → AreScriptConditions profile c → TakesStore at profile held
     → StopsIn at.store at.leaves tells c n text held old new fault_old fault_new → StopsLines at profile text old new fault_old fault_new
-part_kept at profile text tells c held n old new fault_old fault_new first same under takes stops =
+part_kept at profile text tells c held n old new fault_old fault_new first same may under takes stops =
     let r = subst (λ t. StopsIn at.store at.leaves t c 0 text held old new fault_old fault_new) same (subst (λ k. StopsIn at.store at.leaves tells c k text held old new fault_old fault_new) first stops) in
     let whole = r.1 in
-    part_on_store c r.0 under (from_taken at profile r.0 held whole.last (λ first _. Stops (state at.store first) old new (AnswersPart at.tells c 0 text)) takes whole.clean whole.lines whole.ends) whole.closes
+    part_on_store c r.0 under may (from_taken at profile r.0 held whole.last (λ first _. Stops (state at.store first) old new (AnswersPart at.tells c 0 text)) takes whole.clean whole.lines whole.ends) whole.closes
 
 pub stop_kept : {S : Type 0} (at : Places S) (profile : List Directive) (text : List ℕ) (tells : List ℕ → Option (List ℕ)) (c : Conditions) (held : Held S) (n : ℕ) (old new fault_old fault_new : Option (List ℕ)) (failed fault_failed : Bool) (r : Result Status AllocError)
-    → n ≡ 0 → tells ≡ at.tells → AreScriptConditions profile c → TakesStore at profile held
+    → n ≡ 0 → tells ≡ at.tells → HasStore at profile ⊎ BeginsRegister text → AreScriptConditions profile c → TakesStore at profile held
     → OnErr r (failed ≡ false → fault_failed ≡ false → StopsIn at.store at.leaves tells c n text held old new fault_old fault_new)
     → OnErr r (failed ≡ false → fault_failed ≡ false → StopsLines at profile text old new fault_old fault_new)
-stop_kept at profile text tells c held n old new fault_old fault_new failed fault_failed (Ok status) first same under takes stops = tt
-stop_kept at profile text tells c held n old new fault_old fault_new failed fault_failed (Err e) first same under takes stops = λ sound quiet.
-    part_kept at profile text tells c held n old new fault_old fault_new first same under takes (stops sound quiet)
+stop_kept at profile text tells c held n old new fault_old fault_new failed fault_failed (Ok status) first same may under takes stops = tt
+stop_kept at profile text tells c held n old new fault_old fault_new failed fault_failed (Err e) first same may under takes stops = λ sound quiet.
+    part_kept at profile text tells c held n old new fault_old fault_new first same may under takes (stops sound quiet)
 
 -- on one in memory
 pub stop_none : {S T : Type 0} (at : Places S) (profile : List Directive) (text : List ℕ) (n : ℕ) (old new : Option (List ℕ)) (shows : T → Option (List ℕ)) (fault_old fault_new : T) (failed fault_failed : Bool) (r : Result Status AllocError)
@@ -99,8 +99,8 @@ stop_unserved at config given left old shows fault_old fault_new failed fault_fa
 
 StopsLines-kept : {S : Type 0} (at : Places S) (profile : List Directive) (text : List ℕ) (old mid new fault_old fault_mid fault_new : Option (List ℕ)) → Keeps mid new → Keeps fault_mid fault_new
     → StopsLines at profile text old mid fault_old fault_mid → StopsLines at profile text old new fault_old fault_new
-StopsLines-kept at profile text old mid new fault_old fault_mid fault_new stays fault_stays (part_on_store c closed under from closes) =
-    part_on_store c closed under
+StopsLines-kept at profile text old mid new fault_old fault_mid fault_new stays fault_stays (part_on_store c closed under may from closes) =
+    part_on_store c closed under may
     (from_kept at profile closed (λ first _. Stops (state at.store first) old mid (AnswersPart at.tells c 0 text)) (λ first _. Stops (state at.store first) old new (AnswersPart at.tells c 0 text))
     (λ first last stops before keeps. Writes-kept old mid new (AnswersPart at.tells c 0 text before) stays (stops before keeps)) from)
     (TellsClosed-kept fault_old fault_mid fault_new closed fault_stays closes)

@@ -1,5 +1,5 @@
 -- What a task is answered.
-use Rattle.std.proofs.Common.{◌≡◌, ◌⊎◌, inl, inr, ℕ, List, map, refl, subst, sym, Vec}
+use Rattle.std.proofs.Common.{◌≡◌, ◌⊎◌, [], inl, inr, ℕ, List, map, refl, subst, sym, Vec}
 use Rattle.std.specs.Prelude.{IfErr, Option, Result, Ok, Err, String, string_bytes}
 use Rattle.std.specs.declared.alloc.Global.{Global}
 use Rattle.sqlite.specs.State.{State}
@@ -13,11 +13,13 @@ use Rattle.zeb_engine.specs.Works.{ServesCommand}
 use Rattle.zeb_engine.specs.declared.commands.Command.{Command}
 use Rattle.zeb_engine.specs.declared.replies.Reply.{Reply}
 use Rattle.zeb_image.specs.Holdings.{Holdings}
+use Rattle.zeb_paths.specs.Walks.{Tells, at_end}
+use Rattle.zeb_program.specs.WalkedFiles.{FindsAll}
 use Rattle.zeb_image.specs.NameOf.{name_bytes}
 use Rattle.zeb_image.specs.declared.names.DbName.{DbName}
 use Rattle.zeb_program.specs.Answers.{ChangesBy}
 use Rattle.zeb_program.specs.PrivateFaults.{IsUnread}
-use Rattle.zeb_program.specs.FaultAnswers.{IsUnreadWhole, NamesUnder}
+use Rattle.zeb_program.specs.FaultAnswers.{IsUnreadWhole, NamesUnder, Reaches}
 use Rattle.zeb_program.specs.OverTables.{AnalysesOver, IsAnalysisOver}
 use Rattle.zeb_program.specs.PrivateServing.{StandsFor}
 use Rattle.zeb_program.specs.Serving.{AnswersFrom, ServesTask}
@@ -86,20 +88,16 @@ under_read named (fault.Profile file why) not = tt
 under_read named (fault.Refused why) not = tt
 under_read named fault.Memory not = tt
 
-pub read_under : (named : List (List ℕ)) (r : Result Reply Fault) → IfErr r (λ why. ¬ IsUnread why) → IfErr r (NamesUnder named)
-read_under named (Ok reply) h = tt
-read_under named (Err why) h = under_read named why h
-
--- so it is of what stands for that answer
-pub served_under : (named : List (List ℕ)) (r : Result Served Fault) (own : Result Reply Fault) → StandsFor r own → IfErr own (NamesUnder named) → IfErr r (NamesUnder named)
-served_under named (Ok served) own stands h = tt
-served_under named (Err why) own stands h = subst (λ it. IfErr it (NamesUnder named)) stands h
+-- a task that names no path
+pub asked_reaches : (at : Tells) (task : Task) (command : Command) (r : Result Reply Fault) → task ≡ Ask command → IfErr r (λ why. ¬ IsUnread why) → Reaches at (paths_of task) r
+asked_reaches at task command (Ok reply) is h = subst (λ t. FindsAll at (paths_of t)) (sym is) ([], [], [], refl, at_end)
+asked_reaches at task command (Err why) is h = under_read (paths_of task) why h
 
 -- the paths that a task names
-pub change_under : (task : Task) (kind : Kind) (database : DbName) (paths : Vec (String Global) Global) (named : List (String Global)) (r : Result Reply Fault) → task ≡ Change kind database paths → named ≡ paths.items
-    → IfErr r (NamesUnder (map string_bytes named)) → IfErr r (NamesUnder (paths_of task))
-change_under task kind database paths named r is same h = subst (λ t. IfErr r (NamesUnder (paths_of t))) (sym is) (subst (λ items. IfErr r (NamesUnder (map string_bytes items))) same h)
+pub change_reaches : (at : Tells) (task : Task) (kind : Kind) (database : DbName) (paths : Vec (String Global) Global) (named : List (String Global)) (r : Result Reply Fault) → task ≡ Change kind database paths → named ≡ paths.items
+    → Reaches at (map string_bytes named) r → Reaches at (paths_of task) r
+change_reaches at task kind database paths named r is same h = subst (λ t. Reaches at (paths_of t) r) (sym is) (subst (λ items. Reaches at (map string_bytes items) r) same h)
 
-pub analysis_under : (task : Task) (paths : Vec (String Global) Global) (named : List (String Global)) (r : Result Served Fault) → task ≡ Analyse paths → named ≡ paths.items
-    → IfErr r (NamesUnder (map string_bytes named)) → IfErr r (NamesUnder (paths_of task))
-analysis_under task paths named r is same h = subst (λ t. IfErr r (NamesUnder (paths_of t))) (sym is) (subst (λ items. IfErr r (NamesUnder (map string_bytes items))) same h)
+pub analysis_reaches : (at : Tells) (task : Task) (paths : Vec (String Global) Global) (named : List (String Global)) (r : Result Served Fault) → task ≡ Analyse paths → named ≡ paths.items
+    → Reaches at (map string_bytes named) r → Reaches at (paths_of task) r
+analysis_reaches at task paths named r is same h = subst (λ t. Reaches at (paths_of t) r) (sym is) (subst (λ items. Reaches at (map string_bytes items) r) same h)

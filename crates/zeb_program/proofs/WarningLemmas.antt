@@ -1,26 +1,16 @@
 -- Records that don't say that they are in Unicode: what is left of a file.
-use Rattle.std.proofs.Common.{◌≡◌, ◌∙◌, ℕ, ◌<◌, true, false, List, [], ◌∷◌, ◌++◌, Vec, length, refl, ap, subst, sym, arith}
-use Rattle.std.specs.Prelude.{Option, Some, Result, Ok, Err, IfOk, is_some}
-use Rattle.std.specs.declared.alloc.Global.{Global}
-use Rattle.std.proofs.lemmas.List.{length-append}
-use Rattle.zeb_analysis.specs.declared.lines.AnalysedLines.{AnalysedLines}
+use Rattle.zeb_program.proofs.Cited.{◌≡◌, ◌∙◌, ℕ, ◌<◌, true, false, List, [], ◌∷◌, ◌++◌, Vec, length, refl, ap, subst, sym, arith, Option, Some, Result, Ok, Err, IfOk, is_some, Global, length-append, AnalysedLines, Gives, Next, at_end, a_slice, a_fault, next_of, split_of, ReadsWhole, IsServedFor, MayWarn, warned_in, warning_of, Fault, Place}
 use Rattle.zeb_marc.specs.declared.faults.MarcFault.{MarcFault}
-use Rattle.zeb_marc.specs.Splits.{Gives, Next, at_end, a_slice, a_fault, next_of, split_of}
 use Rattle.zeb_marc.proofs.SplitLaws.{NextIs, SoundSlice-from_checks, next_view, split_of-next}
-use Rattle.zeb_program.specs.TaskAnswers.{ReadsWhole}
-use Rattle.zeb_program.specs.PrivateWarnings.{IsServedFor, MayWarn, warned_in, warning_of}
-use Rattle.zeb_program.specs.declared.faults.Fault.{Fault}
 use Rattle.zeb_program.specs.declared.tasks.Served.{Served}
 use Rattle.zeb_program.specs.declared.tasks.Served.TheVariants.{Replied, Shown}
 use Rattle.zeb_program.specs.declared.tasks.Task.{Task}
-use Rattle.zeb_program.specs.declared.warnings.Place.{Place}
 
 -- ---- what was read tells what stood next
 
 pub told_record : (next : Next) (found : Option ℕ) (kept left : List ℕ) → is_some found ≡ true → Gives next (Ok found) kept (Some left) → next ≡ a_slice kept left
-told_record at_end found kept left some h = let no = h.0 in absurd (cc)
 told_record (a_slice slice rest) found kept left some h = let one = h.1 in let two = h.2 in cc
-told_record (a_fault fault) found kept left some h = let no = h.0 in absurd (cc)
+told_record _ found kept left some h = let no = h.0 in absurd (cc)
 
 pub record_there : (text slice rest : List ℕ) → next_of text ≡ a_slice slice rest → (split_of text).slices ≡ slice ∷ (split_of rest).slices
 record_there text slice rest is = rw (split_of-next text, is) refl
@@ -34,13 +24,11 @@ record_is_long text slice rest is =
 pub none_at_end : (text : List ℕ) (next : Next) (found : Option ℕ) (kept : List ℕ) (left : Option (List ℕ)) → next_of text ≡ next → is_some found ≡ false → Gives next (Ok found) kept left
     → (split_of text).slices ≡ []
 none_at_end text at_end found kept left is none h = rw (split_of-next text, is) refl
-none_at_end text (a_slice slice rest) found kept left is none h = let no = h.0 in absurd (cc)
-none_at_end text (a_fault fault) found kept left is none h = let no = h.0 in absurd (cc)
+none_at_end text _ found kept left is none h = let no = h.0 in absurd (cc)
 
 pub none_at_fault : (text : List ℕ) (next : Next) (why : MarcFault) (kept : List ℕ) (left : Option (List ℕ)) → next_of text ≡ next → Gives next (Err why) kept left → (split_of text).slices ≡ []
-none_at_fault text at_end why kept left is h = let no = h.0 in absurd (cc)
-none_at_fault text (a_slice slice rest) why kept left is h = let no = h.0 in absurd (cc)
 none_at_fault text (a_fault fault) why kept left is h = rw (split_of-next text, is) refl
+none_at_fault text _ why kept left is h = let no = h.0 in absurd (cc)
 
 -- ---- what a task warns of
 

@@ -1,15 +1,6 @@
 -- A line with its LF, and what stands behind it.
-use Rattle.std.proofs.Common.{◌≡◌, ◌<◌, ◌+◌, ◌++◌, ◌∙◌, ◌⊎◌, inl, inr, ℕ, List, [], ◌∷◌, length, take, get_or, ◌-◌, refl, ap, sym, subst, arith, eqb, eqb-true, ltb, true, false, Bool, length-take, take-append-drop}
-use Rattle.std.proofs.lemmas.Bool.{le-ltb, lt-ltb}
-use Rattle.std.specs.List.{position_or_len}
-use Rattle.std.specs.Char.{IsScalar}
-use Rattle.std.specs.Str.{IsUtf8}
-use Rattle.std.specs.Str.Lines.{strip_carriage_return}
-use Rattle.std.proofs.lemmas.List.{length-append, take_all, drop_all, append_cancel_left}
-use Rattle.std.proofs.lemmas.Str.{IsUtf8-append, IsUtf8-encode, encode_ascii}
-use Rattle.std.proofs.Math.Seq.{take-append_seam, take-append-add, drop-append-add}
-use Rattle.zeb_program.specs.Lines.{is_lf, first_line, after_first_line}
-use Rattle.zeb_program.specs.PrivateLines.{whole_first_line}
+use Rattle.zeb_program.proofs.Cited.{◌≡◌, ◌<◌, ◌+◌, ◌++◌, ◌∙◌, ◌⊎◌, inl, inr, ℕ, List, [], ◌∷◌, length, take, get_or, ◌-◌, refl, ap, sym, subst, arith, eqb, eqb-true, ltb, true, false, Bool, length-take, le-ltb, lt-ltb, position_or_len, IsScalar, IsUtf8, strip_carriage_return, length-append, take_all, drop_all, append_cancel_left, IsUtf8-append, IsUtf8-encode, encode_ascii, take-append_seam, take-append-add, drop-append-add, is_lf, first_line, after_first_line, whole_first_line}
+use Rattle.std.proofs.Common.{take-append-drop}
 use Rattle.zeb_program.proofs.LineLemmas.{ends_in}
 use Rattle.zeb_program.proofs.LineInputLemmas.{HasNoLf, position_past}
 

@@ -1,15 +1,9 @@
 -- What is written for words, at each end.
-use Rattle.std.proofs.Common.{◌≡◌, ◌⊎◌, ℕ, Bool, false, List, inl, inr, refl, subst, sym}
-use Rattle.std.specs.Prelude.{◌≢◌, Option, Some, Result, Ok, Err, IfOk, OnErr, String, string_bytes}
+use Rattle.zeb_program.proofs.Cited.{◌≡◌, ◌⊎◌, ℕ, Bool, false, List, inl, inr, refl, subst, sym, ◌≢◌, Option, Some, Result, Ok, Err, IfOk, OnErr, String, string_bytes, AllocError, Global, Appends, IsAtEnd, Keeps, Appends-kept, Keeps-refl, Keeps-trans, MayWarn, Status, Failed}
 use Rattle.std.specs.Option.{option_map}
-use Rattle.std.specs.declared.alloc.AllocError.{AllocError}
-use Rattle.std.specs.declared.alloc.Global.{Global}
-use Rattle.std.specs.Io.KnownBytes.{Appends, IsAtEnd, Keeps}
-use Rattle.std.proofs.KnownBytes.{Appends-kept, Keeps-refl, Keeps-trans}
 use Rattle.zeb_words.specs.declared.words.Usage.{Usage}
 use Rattle.zeb_words.specs.declared.words.Usage.TheVariants as usage
 use Rattle.zeb_program.specs.declared.tasks.Task.{Task}
-use Rattle.zeb_program.specs.PrivateWarnings.{MayWarn}
 use Rattle.zeb_words.specs.Names.{NamesWords}
 use Rattle.zeb_words.specs.declared.words.Act.TheVariants.{Batch, Shell}
 use Rattle.zeb_words.specs.declared.words.Words.{Words}
@@ -19,8 +13,6 @@ use Rattle.zeb_program.specs.WordAnswers.{AnswersWords, misused, batched, served
 use Rattle.zeb_program.specs.WordRuns.{RunsBatch, RunsShell, StopsBatch, StopsShell}
 use Rattle.zeb_program.proofs.StopLemmas.{StopsBatch-kept, StopsShell-kept}
 use Rattle.zeb_program.proofs.WordRunLemmas.{RunsBatch-kept, RunsShell-kept, TellsApart-kept}
-use Rattle.zeb_program.specs.declared.statuses.Status.{Status}
-use Rattle.zeb_program.specs.declared.statuses.Status.TheVariants.{Failed}
 
 -- what is passed on stays what it was
 TellsUsage-kept : (why : Usage) (old mid new fault_old fault_mid fault_new : Option (List ℕ)) (status : Status) → Keeps mid new → Keeps fault_mid fault_new

@@ -1,17 +1,6 @@
 -- What trimming and cutting at blanks gives, from what `str` says of its methods at a set of characters.
-use Rattle.std.proofs.Common.{suc, ◌≡◌, ℕ, ◌+◌, ◌-◌, ◌<◌, ◌⊎◌, inl, inr, Bool, true, false, List, [], ◌∷◌, ◌++◌, length, get_or, take, drop, refl, arith, eqb, sym, ◌∙◌, ap, subst, append_assoc, eqb-true, suc-add}
-use Rattle.std.specs.Prelude.{Option, Some, None, reverse}
-use Rattle.std.specs.List.{prefix_len, suffix_len, position_or_len, AllByRecursion}
-use Rattle.std.specs.Char.{IsScalar, char_set_contains}
+use Rattle.zeb_program.proofs.Cited.{suc, ◌≡◌, ℕ, ◌+◌, ◌-◌, ◌<◌, ◌⊎◌, inl, inr, Bool, true, false, List, [], ◌∷◌, ◌++◌, length, get_or, take, drop, refl, arith, eqb, sym, ◌∙◌, ap, subst, append_assoc, eqb-true, suc-add, Option, Some, None, reverse, prefix_len, suffix_len, position_or_len, AllByRecursion, IsScalar, char_set_contains, NonePass, NoCharPasses, NoCharPasses-char, drop_of_length-le, encode_ascii, len_utf8_bounds, eqb_tells, length-append, reverse-append, append-nil, length-reverse, reverse-reverse, take-append-drop, take-length, take-append_seam, drop-append_seam, drop-length, is_blank, without_leading, without_trailing, first_word, after_first_word}
 use Rattle.std.specs.Str.Pattern.{CutsPrefixes, CutsSuffixes, IsFullyTrimmed, IsTrimStartMatches, IsTrimEndMatches, FindsPrefixBy, FindsSuffixBy, FindsBy, HasCharAt, SplitsAroundMatch}
-use Rattle.std.specs.Str.{NonePass, NoCharPasses}
-use Rattle.std.proofs.lemmas.Str.Pattern.{NoCharPasses-char}
-use Rattle.std.proofs.Math.ListN.{drop_of_length-le}
-use Rattle.std.proofs.lemmas.Str.{encode_ascii, len_utf8_bounds}
-use Rattle.std.proofs.lemmas.Bool.Decides.{eqb_tells}
-use Rattle.std.proofs.lemmas.List.{length-append, reverse-append, append-nil, length-reverse, reverse-reverse, take-append-drop}
-use Rattle.std.proofs.Math.Seq.{take-length, take-append_seam, drop-append_seam, drop-length}
-use Rattle.zeb_program.specs.Words.{is_blank, without_leading, without_trailing, first_word, after_first_word}
 
 -- the characters at which the program cuts
 abbrev pub blanks : List ℕ

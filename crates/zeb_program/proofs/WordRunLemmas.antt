@@ -1,6 +1,6 @@
 -- What comes of words, from the profile that they name and the register in the store at its path.
-use Rattle.std.proofs.Common.{◌≡◌, ◌⊎◌, ℕ, Bool, false, List, inl, inr, refl, subst, sym}
-use Rattle.std.specs.Prelude.{Option, Some, None, Result, Ok, Err, IfOk, IfErr, IfSome, OnErr, String, codes, string_bytes}
+use Rattle.std.proofs.Common.{◌≡◌, ◌⊎◌, ℕ, Bool, true, false, List, inl, inr, refl, subst, sym}
+use Rattle.std.specs.Prelude.{◌≢◌, [], Option, Some, None, Result, Ok, Err, IfOk, IfErr, IfSome, OnErr, String, codes, string_bytes}
 use Rattle.std.specs.declared.alloc.AllocError.{AllocError}
 use Rattle.std.specs.declared.alloc.Global.{Global}
 use Rattle.std.specs.Io.KnownBytes.{Appends, Keeps}
@@ -18,11 +18,15 @@ use Rattle.zeb_image.specs.Holdings.{Holdings, nothing_yet}
 use Rattle.zeb_image.specs.Image.{Keeps as Holding}
 use Rattle.zeb_profile.specs.declared.directives.Directive.{Directive}
 use Rattle.zeb_profile.specs.Indexes.{store_path}
+use Rattle.zeb_paths.specs.Walks.{Tells}
 use Rattle.zeb_paths.specs.declared.causes.Closed.{Closed}
 use Rattle.zeb_paths.specs.declared.paths.OpenFailed.{OpenFailed}
 use Rattle.zeb_program.specs.declared.input.InputFault.{InputFault}
 use Rattle.zeb_program.specs.declared.input.InputFault.TheVariants.{Unreadable, Memory as Starved}
 use Rattle.zeb_program.specs.ProfileFiles.{ReadsProfile}
+use Rattle.zeb_paths.specs.declared.causes.StoreCause.{StoreCause}
+use Rattle.zeb_paths.specs.declared.causes.StoreCause.TheVariants as store_cause
+use Rattle.zeb_program.specs.declared.failures.Cause.{Cause}
 use Rattle.zeb_program.specs.declared.failures.Failure.{Failure}
 use Rattle.zeb_program.specs.declared.faults.Fault.{Fault}
 use Rattle.zeb_program.specs.declared.faults.Fault.TheVariants as fault
@@ -34,55 +38,48 @@ use Rattle.zeb_program.specs.declared.tasks.Task.TheVariants.{Ask}
 use Rattle.zeb_program.specs.Answers.{Writes}
 use Rattle.zeb_register.specs.Formats.{packed_blocks}
 use Rattle.zeb_program.specs.Doing.{DoesTask, RunsText, ServesText}
-use Rattle.zeb_program.specs.FaultAnswers.{GivesAnswer, IsOpeningFailure, IsUnreadWhole, NamesUnder}
+use Rattle.zeb_program.specs.FaultAnswers.{GivesAnswer, IsOpeningFailure, IsUnreadWhole, Reaches}
 use Rattle.zeb_program.specs.OverTables.{TaskOver}
-use Rattle.zeb_program.specs.FaultLines.{IsUnclosed, TellsFailure}
+use Rattle.zeb_program.specs.FaultLines.{TellsCaused, unclosed_lines}
 use Rattle.zeb_program.specs.Inputs.{IsInput}
+use Rattle.zeb_program.specs.Explanations.{Explains, ExplainsUnread, refusal_cause}
 use Rattle.zeb_program.specs.PrivateFaults.{IsOpeningFault}
 use Rattle.zeb_program.specs.PrivateServing.{StandsFor}
 use Rattle.zeb_program.specs.Serving.{AnswersFrom, ServesTask}
-use Rattle.zeb_program.specs.PrivateWordRuns.{GivesClosed, GivesFor, IsOwnOr, OpensUnder, RunsIn, RunsOnNothing, ServesIn, ServesOnNothing, TakesStore, TellsDone}
-use Rattle.zeb_program.specs.Registers.{ClosesStore, FailsOpening, shut, given_back, FromStore, IsGivenBack, IsLetGo, IsTakenOver, LacksStore, kept, none, Places}
+use Rattle.zeb_program.specs.PrivateWordRuns.{ExplainsFailure, GivesClosed, GivesFor, IsOwnOr, OpensUnder, RunsIn, RunsOnNothing, ServesIn, ServesOnNothing, TakesStore}
+use Rattle.zeb_program.specs.Registers.{ClosesStore, FailsOpening, shut, given_back, FromStore, IsGivenBack, IsLetGo, IsTakenOver, HasStore, LacksStore, kept, none, Places, nothing_met}
 use Rattle.zeb_program.specs.ScriptAnswers.{AnswersStopped, AreScriptConditions, RunsFromNothing}
 use Rattle.zeb_program.specs.TaskAnswers.{AnswersOn, AnswersTask, ReadsWhole, paths_of}
-use Rattle.zeb_program.specs.WordAnswers.{TellsApart, WarnsAtMost}
-use Rattle.zeb_program.specs.WordRuns.{IsInputFault, IsText, Performs, ReadsAt, RunsBatch, batch_stopped, batch_ran, RunsLines, on_store, in_memory, no_memory, no_register, RunsShell, shell_stopped, shell_ran}
-use Rattle.zeb_program.specs.WordRuns.{ServesUnder, answered, starved, unopened, none_made, StopsOpening, StopsReading, not_opened, TellsClosed, TellsWhy, WritesReply}
+use Rattle.zeb_program.specs.WordAnswers.{TellsApart, WarnsClosed}
+use Rattle.zeb_program.specs.WordRuns.{IsText, Performs, ReadsAt, RunsBatch, batch_stopped, batch_ran, RunsLines, on_store, in_memory, no_memory, no_register, RunsShell, shell_stopped, shell_ran}
+use Rattle.zeb_program.specs.WordRuns.{ServesUnder, answered, starved, unopened, none_made, StopsOpening, StopsReading, not_opened, TellsWhy, WritesReply}
+use Rattle.zeb_program.specs.Closings.{TellsClosed}
 use Rattle.zeb_program.specs.declared.statuses.Status.{Status}
 use Rattle.zeb_program.specs.Statuses.{IsFaultStatus, closing_status}
-use Rattle.zeb_program.specs.declared.statuses.Status.TheVariants.{Answered, Failed}
 use Rattle.zeb_program.proofs.ScriptAnswerLemmas.{RunsFromNothing-kept, RunsText-kept, Writes-kept, silent_batch}
 use Rattle.zeb_program.proofs.ShellTextLemmas.{ServesText-kept}
 use Rattle.zeb_program.specs.Scripts.{BeginsRegister}
+use Rattle.zeb_program.proofs.ExplanationLemmas.{fails_so, opening_explained}
 use Rattle.zeb_program.proofs.ResultValues.{failing, second_same}
 
 -- ---- what is passed on stays what it was
 
-WritesReply-kept : {S : Type 0} (at : Places S) (config : String Global) (task : Task) (closed : Status) (old mid new : Option (List ℕ)) → Keeps mid new → WritesReply at config task closed old mid → WritesReply at config task closed old new
-WritesReply-kept at config task closed old mid new stays w = (w.0, w.1, Appends-kept old mid new (reply_text w.0) w.2 stays)
+pub TellsClosed-kept : (old mid new : Option (List ℕ)) (closed : Closed) → Keeps mid new → TellsClosed old mid closed → TellsClosed old new closed
+TellsClosed-kept old mid new closed stays t =
+    (λ whole. Keeps-trans old mid new (t.0 whole) stays, λ part. Appends-kept old mid new (unclosed_lines closed.cause) (t.1 part) stays)
 
-WarnsAtMost-kept : (task : Task) (fault_old fault_mid fault_new : Option (List ℕ)) → Keeps fault_mid fault_new → WarnsAtMost task fault_old fault_mid → WarnsAtMost task fault_old fault_new
-WarnsAtMost-kept task fault_old fault_mid fault_new stays (inl same) = inl (Keeps-trans fault_old fault_mid fault_new same stays)
-WarnsAtMost-kept task fault_old fault_mid fault_new stays (inr warns) =
-    let wrote = warns.1 in
-    inr (warns.0, (wrote.0, wrote.1, Appends-kept fault_old fault_mid fault_new wrote.0 wrote.2 stays))
+WritesReply-kept : {S : Type 0} (at : Places S) (config : String Global) (task : Task) (closed : Closed) (old mid new : Option (List ℕ)) → Keeps mid new → WritesReply at config task closed old mid → WritesReply at config task closed old new
+WritesReply-kept at config task closed old mid new stays w = (w.0, w.1, Appends-kept old mid new (reply_text w.0) w.2 stays)
 
 pub TellsApart-kept : {S : Type 0} (at : Places S) (config : String Global) (task : Task) (old mid new fault_old fault_mid fault_new : Option (List ℕ)) (status : Status) → Keeps mid new → Keeps fault_mid fault_new
     → TellsApart at config task old mid fault_old fault_mid status → TellsApart at config task old new fault_old fault_new status
-TellsApart-kept at config task old mid new fault_old fault_mid fault_new status stays fault_kept (inl t) =
-    inl (t.0, WritesReply-kept at config task status old mid new stays t.1, WarnsAtMost-kept task fault_old fault_mid fault_new fault_kept t.2)
-TellsApart-kept at config task old mid new fault_old fault_mid fault_new status stays fault_kept (inr (inl t)) =
-    let warns = t.2 in
-    inr (inl (t.0, WritesReply-kept at config task status old mid new stays t.1, (warns.0, warns.1, Writes-kept warns.0 fault_mid fault_new IsUnclosed fault_kept warns.2)))
-TellsApart-kept at config task old mid new fault_old fault_mid fault_new status stays fault_kept (inr (inr t)) =
-    inr (inr (t.0, Keeps-trans old mid new t.1 stays, Writes-kept fault_old fault_mid fault_new (TellsWhy at config task status) fault_kept t.2))
-
-pub TellsClosed-kept : (old mid new : Option (List ℕ)) (status : Status) → Keeps mid new → TellsClosed old mid status → TellsClosed old new status
-TellsClosed-kept old mid new status stays (inl t) = inl (t.0, Keeps-trans old mid new t.1 stays)
-TellsClosed-kept old mid new status stays (inr t) = inr (t.0, Writes-kept old mid new IsUnclosed stays t.1)
+TellsApart-kept at config task old mid new fault_old fault_mid fault_new status stays fault_kept (inl (closed, is, writes, warned)) =
+    inl (closed, is, WritesReply-kept at config task closed old mid new stays writes, (warned.0, warned.1, TellsClosed-kept warned.0 fault_mid fault_new closed fault_kept warned.2))
+TellsApart-kept at config task old mid new fault_old fault_mid fault_new status stays fault_kept (inr t) =
+    inr (t.0, Keeps-trans old mid new t.1 stays, Writes-kept fault_old fault_mid fault_new (TellsWhy at config task status) fault_kept t.2)
 
 -- what is said of a store's tables
-pub from_kept : {S : Type 0} (at : Places S) (profile : List Directive) (closed : Status) (P Q : Held S → Held S → Type 0) → ((first last : Held S) → P first last → Q first last) → FromStore at profile closed P
+pub from_kept : {S : Type 0} (at : Places S) (profile : List Directive) (closed : Closed) (P Q : Held S → Held S → Type 0) → ((first last : Held S) → P first last → Q first last) → FromStore at profile closed P
     → FromStore at profile closed Q
 from_kept at profile closed P Q so from = record {
   opened = from.opened;
@@ -95,7 +92,7 @@ from_kept at profile closed P Q so from = record {
 }
 
 -- of the store that was taken over, and then closed
-pub from_taken : {S : Type 0} (at : Places S) (profile : List Directive) (closed : Status) (held last : Held S) (P : Held S → Held S → Type 0) → TakesStore at profile held
+pub from_taken : {S : Type 0} (at : Places S) (profile : List Directive) (closed : Closed) (held last : Held S) (P : Held S → Held S → Type 0) → TakesStore at profile held
     → (HasCleanDisk (state at.store last) → HasCleanDisk (state at.store held)) → (HasCleanDisk (state at.store last) → P held last) → ClosesStore at.store at.leaves last closed → FromStore at profile closed P
 from_taken at profile closed held last P takes clean does ends = record {
   opened = takes.0;
@@ -109,21 +106,21 @@ from_taken at profile closed held last P takes clean does ends = record {
 
 RunsLines-kept : {S : Type 0} (at : Places S) (profile : List Directive) (text : List ℕ) (old mid new fault_old fault_mid fault_new : Option (List ℕ)) (status : Status) → Keeps mid new → Keeps fault_mid fault_new
     → RunsLines at profile text old mid fault_old fault_mid status → RunsLines at profile text old new fault_old fault_new status
-RunsLines-kept at profile text old mid new fault_old fault_mid fault_new _ same fault_same (on_store c here closed under from closes) =
-    on_store c here closed under
+RunsLines-kept at profile text old mid new fault_old fault_mid fault_new _ same fault_same (on_store c here closed under may from closes) =
+    on_store c here closed under may
     (from_kept at profile closed (RunsText at.store at.tells packed_blocks c 0 text old mid here) (RunsText at.store at.tells packed_blocks c 0 text old new here) (λ first last. RunsText-kept at.store at.tells packed_blocks c 0 text old mid new here first last same) from)
     (TellsClosed-kept fault_old fault_mid fault_new closed fault_same closes)
 RunsLines-kept at profile text old mid new fault_old fault_mid fault_new status same fault_same (in_memory lacks unmade quiet opened) =
     in_memory lacks unmade (Keeps-trans fault_old fault_mid fault_new quiet fault_same) (RunsFromNothing-kept at.tells profile 0 text old mid new status same opened)
 RunsLines-kept at profile text old mid new fault_old fault_mid fault_new status same fault_same (no_memory {why = why} lacks unmade failure quiet tells) =
-    no_memory lacks unmade failure (Keeps-trans old mid new quiet same) (Writes-kept fault_old fault_mid fault_new (λ bytes. TellsFailure (fault.Refused why) bytes status) fault_same tells)
-RunsLines-kept at profile text old mid new fault_old fault_mid fault_new status same fault_same (no_register {why = why} failure quiet tells) =
-    no_register failure (Keeps-trans old mid new quiet same) (Writes-kept fault_old fault_mid fault_new (λ bytes. TellsFailure (fault.Refused why) bytes status) fault_same tells)
+    no_memory lacks unmade failure (Keeps-trans old mid new quiet same) (Writes-kept fault_old fault_mid fault_new (λ bytes. TellsCaused (fault.Refused why) None bytes status) fault_same tells)
+RunsLines-kept at profile text old mid new fault_old fault_mid fault_new status same fault_same (no_register {why = why} {met = met} may failure quiet tells) =
+    no_register may failure (Keeps-trans old mid new quiet same) (Writes-kept fault_old fault_mid fault_new (λ bytes. TellsCaused (fault.Refused why) (refusal_cause why met) bytes status) fault_same tells)
 
 pub RunsBatch-kept : {S : Type 0} (at : Places S) (config : String Global) (given : Option (List ℕ)) (failed : Bool) (old mid new fault_old fault_mid fault_new : Option (List ℕ)) (status : Status) → Keeps mid new → Keeps fault_mid fault_new
     → RunsBatch at config given failed old mid fault_old fault_mid status → RunsBatch at config given failed old new fault_old fault_new status
-RunsBatch-kept at config given failed old mid new fault_old fault_mid fault_new status same fault_same (batch_stopped why is quiet tells) =
-    batch_stopped why is (Keeps-trans old mid new quiet same) (Writes-kept fault_old fault_mid fault_new (λ bytes. TellsFailure why bytes status) fault_same tells)
+RunsBatch-kept at config given failed old mid new fault_old fault_mid fault_new status same fault_same (batch_stopped why cause is quiet tells) =
+    batch_stopped why cause is (Keeps-trans old mid new quiet same) (Writes-kept fault_old fault_mid fault_new (λ bytes. TellsCaused why cause bytes status) fault_same tells)
 RunsBatch-kept at config given failed old mid new fault_old fault_mid fault_new status same fault_same (batch_ran profile text read is runs) =
     batch_ran profile text read is (RunsLines-kept at profile text old mid new fault_old fault_mid fault_new status same fault_same runs)
 
@@ -134,8 +131,8 @@ some_kept (Some text) P Q so h = so text h
 
 pub RunsShell-kept : {S : Type 0} (at : Places S) (config : String Global) (given left : Option (List ℕ)) (failed : Bool) (old mid new fault_old fault_mid fault_new : Option (List ℕ)) (status : Status) → Keeps mid new → Keeps fault_mid fault_new
     → RunsShell at config given left failed old mid fault_old fault_mid status → RunsShell at config given left failed old new fault_old fault_new status
-RunsShell-kept at config given left failed old mid new fault_old fault_mid fault_new status same fault_same (shell_stopped why is unread quiet tells) =
-    shell_stopped why is unread (Keeps-trans old mid new quiet same) (Writes-kept fault_old fault_mid fault_new (λ bytes. TellsFailure why bytes status) fault_same tells)
+RunsShell-kept at config given left failed old mid new fault_old fault_mid fault_new status same fault_same (shell_stopped why cause is unread quiet tells) =
+    shell_stopped why cause is unread (Keeps-trans old mid new quiet same) (Writes-kept fault_old fault_mid fault_new (λ bytes. TellsCaused why cause bytes status) fault_same tells)
 RunsShell-kept at config given left failed old mid new fault_old fault_mid fault_new _ same fault_same (shell_ran profile c between here closed read under from closes) =
     shell_ran profile c between here closed read under
     (from_kept at profile closed (λ first last. IfSome given (λ text. ServesText at.store at.tells packed_blocks c text left failed old mid fault_old between here first last))
@@ -147,54 +144,61 @@ RunsShell-kept at config given left failed old mid new fault_old fault_mid fault
 -- ---- a task
 
 -- a task that has its own answer, or memory ran out in the program itself
-own_served : {S : Type 0} (at : Places S) (profile : List Directive) (task : Task) (closed : Status) (own answer : Result Reply Fault) → IsOwnOr answer own → ServesUnder at profile task closed own → ServesUnder at profile task closed answer
+own_served : {S : Type 0} (at : Places S) (profile : List Directive) (task : Task) (closed : Closed) (own answer : Result Reply Fault) → IsOwnOr answer own → ServesUnder at profile task closed own → ServesUnder at profile task closed answer
 own_served at profile task closed own answer (inl is) serves = subst (ServesUnder at profile task closed) (sym is) serves
 own_served at profile task closed own answer (inr is) serves = subst (ServesUnder at profile task closed) (sym is) starved
 
 -- a task on the register in the store
-pub answered_kept : {S : Type 0} (at : Places S) (profile : List Directive) (task : Task) (closed : Status) (tells : List ℕ → Option (List ℕ)) (c : Conditions) (held last : Held S) (own answer : Result Reply Fault)
-    → tells ≡ at.tells → AreScriptConditions profile c → TakesStore at profile held
+pub answered_kept : {S : Type 0} (at : Places S) (profile : List Directive) (task : Task) (closed : Closed) (tells : List ℕ → Option (List ℕ)) (c : Conditions) (held last : Held S) (own answer : Result Reply Fault)
+    → tells ≡ at.tells → HasStore at profile ⊎ (task ≡ Ask Init) → AreScriptConditions profile c → TakesStore at profile held
     → (HasCleanDisk (state at.store last) → HasCleanDisk (state at.store held)) → (HasCleanDisk (state at.store last) → TaskOver tells packed_blocks c task (state at.store held) (state at.store last) own)
     → (HasCleanDisk (state at.store last) → ServesTask tells c task (state at.store held) (state at.store last) own)
-    → IfErr own (NamesUnder (paths_of task)) → ClosesStore at.store at.leaves last closed → IsOwnOr answer own → ServesUnder at profile task closed answer
-answered_kept at profile task closed tells c held last own answer same under takes clean over serves named ends is =
-    let does : HasCleanDisk (state at.store last) → DoesTask at.store at.tells c task own held last =
-    subst (λ t. HasCleanDisk (state at.store last) → DoesTask at.store t c task own held last) same (λ whole. record { over = over whole; names = named; serves = serves whole }) in
-    own_served at profile task closed own answer is (answered c under (kept (from_taken at profile closed held last (DoesTask at.store at.tells c task own) takes clean does ends)))
+    → Reaches at.sees (paths_of task) own → ClosesStore at.store at.leaves last closed → IsOwnOr answer own → ServesUnder at profile task closed answer
+answered_kept at profile task closed tells c held last own answer same may under takes clean over serves named ends is =
+    let does : HasCleanDisk (state at.store last) → DoesTask at.store at.tells at.sees c task own held last =
+    subst (λ t. HasCleanDisk (state at.store last) → DoesTask at.store t at.sees c task own held last) same (λ whole. record { over = over whole; reaches = named; serves = serves whole }) in
+    own_served at profile task closed own answer is (answered c under (kept may (from_taken at profile closed held last (DoesTask at.store at.tells at.sees c task own) takes clean does ends)))
 
 -- what comes of it, by its parts
 pub gives_for : (r : Result Told Failure) (P Q : Result Reply Fault → Type 0) → ((answer : Result Reply Fault) → P answer → Q answer) → GivesFor r P → GivesFor r Q
 gives_for (Ok told) P Q so h = (h.0, h.1, so (Ok h.0) h.2)
 gives_for (Err failure) P Q so h = so (Err failure.fault) h
 
--- by the status of the close
-pub gives_closed : (r : Result Told Failure) (P Q : Status → Result Reply Fault → Type 0) → ((closed : Status) (answer : Result Reply Fault) → P closed answer → Q closed answer) → GivesClosed r P → GivesClosed r Q
-gives_closed (Ok told) P Q so h = (h.0, h.1, so (closing_status told.closed) (Ok h.0) h.2)
-gives_closed (Err failure) P Q so h = (h.0, so h.0 (Err failure.fault) h.1)
+-- by how the register is closed
+pub gives_closed : (r : Result Told Failure) (P Q : Closed → Result Reply Fault → Type 0) (Why : Option StoreCause → Failure → Type 0) → ((closed : Closed) (answer : Result Reply Fault) → P closed answer → Q closed answer)
+    → GivesClosed r P Why → GivesClosed r Q Why
+gives_closed (Ok told) P Q Why so h = (h.0, h.1, so told.closed (Ok h.0) h.2)
+gives_closed (Err failure) P Q Why so h = (h.0, so h.0 (Err failure.fault) h.1, h.2)
 
--- where the register is closed so
-pub closes_for : (r : Result Told Failure) (closed : Closed) (P : Result Reply Fault → Type 0) (Q : Status → Result Reply Fault → Type 0) → IfOk r (λ told. told.closed ≡ closed)
-    → ((answer : Result Reply Fault) → P answer → Q (closing_status closed) answer) → GivesFor r P → GivesClosed r Q
-closes_for (Ok told) closed P Q is so h = (h.0, h.1, subst (λ it. Q (closing_status it) (Ok h.0)) (sym is) (so (Ok h.0) h.2))
-closes_for (Err failure) closed P Q is so h = (closing_status closed, so (Err failure.fault) h)
+-- where it is closed so
+pub closes_for : (r : Result Told Failure) (closed : Closed) (P : Result Reply Fault → Type 0) (Q : Closed → Result Reply Fault → Type 0) (Why : Option StoreCause → Failure → Type 0) → IfOk r (λ told. told.closed ≡ closed)
+    → IfErr r (Why closed.cause) → ((answer : Result Reply Fault) → P answer → Q closed answer) → GivesFor r P → GivesClosed r Q Why
+closes_for (Ok told) closed P Q Why is why so h = (h.0, h.1, subst (λ it. Q it (Ok h.0)) (sym is) (so (Ok h.0) h.2))
+closes_for (Err failure) closed P Q Why is why so h = (closed, so (Err failure.fault) h, why)
 
--- where none is
-pub closes_none : (r : Result Told Failure) (P : Result Reply Fault → Type 0) (Q : Status → Result Reply Fault → Type 0) → ((closed : Status) (answer : Result Reply Fault) → P answer → Q closed answer) → GivesFor r P → GivesClosed r Q
-closes_none (Ok told) P Q so h = (h.0, h.1, so (closing_status told.closed) (Ok h.0) h.2)
-closes_none (Err failure) P Q so h = (Answered, so Answered (Err failure.fault) h)
+-- what is so where a command begins a register
+pub begun_or : (A B : Type 0) (begins : Bool) → A ⊎ (begins ≡ true) → (begins ≡ true → B) → A ⊎ B
+begun_or A B begins (inl a) so = inl a
+begun_or A B begins (inr is) so = inr (so is)
 
 -- a register wasn't opened
-pub unopened_register : {S : Type 0} (at : Places S) (profile : List Directive) (task : Task) (closed : Status) (why : Fault) → IsOpeningFault at profile why → ServesUnder at profile task closed (Err why)
-unopened_register at profile task closed (fault.Refused why) is = unopened is
-unopened_register at profile task closed (fault.Profile file why) is = absurd is
-unopened_register at profile task closed (fault.Unreadable path) is = absurd is
-unopened_register at profile task closed fault.Memory is = absurd is
+pub unopened_register : {S : Type 0} (at : Places S) (profile : List Directive) (task : Task) (r : Result Told Failure) (failure : Failure) → HasStore at profile ⊎ (task ≡ Ask Init) → r ≡ Err failure → IsOpeningFault at profile failure.fault failure.cause
+    → GivesClosed r (ServesUnder at profile task) (ExplainsFailure at.sees at.explains (paths_of task))
+unopened_register at profile task r failure may is fails =
+    subst (λ it. GivesClosed it (ServesUnder at profile task) (ExplainsFailure at.sees at.explains (paths_of task))) (sym is) (go failure.fault failure.cause fails)
+  where
+    go : (why : Fault) (cause : Option Cause) → IsOpeningFault at profile why cause
+        → (closed : Closed) × ServesUnder at profile task closed (Err why) × Explains at.sees at.explains (paths_of task) closed.cause why cause
+    go (fault.Refused why) cause (met, failing, told) = (record { is_whole = true; cause = met }, unopened may failing, opening_explained at.sees (paths_of task) met why cause told (fails_so at profile why met failing))
+    go (fault.Profile file why) cause is = absurd is
+    go (fault.Unreadable path) cause is = absurd is
+    go fault.Memory cause is = absurd is
 
 -- a task on nothing, where no store stands
-pub on_nothing : {S : Type 0} (at : Places S) (profile : List Directive) (task : Task) (closed : Status) (tells : List ℕ → Option (List ℕ)) (answer : Result Reply Fault) → tells ≡ at.tells → LacksStore at profile → ¬ (task ≡ Ask Init)
-    → ServesOnNothing tells profile task answer → ServesUnder at profile task closed answer
-on_nothing at profile task closed tells answer same lacks other (inl h) = answered h.0 h.1 (none lacks other (h.2, subst (λ t. AnswersOn t h.0 task answer nothing_yet) same h.3))
-on_nothing at profile task closed tells answer same lacks other (inr h) = subst (ServesUnder at profile task closed) (sym h.2) (none_made lacks other h.1)
+pub on_nothing : {S : Type 0} (at : Places S) (profile : List Directive) (task : Task) (tells : List ℕ → Option (List ℕ)) (answer : Result Reply Fault) → tells ≡ at.tells → LacksStore at profile → ¬ (task ≡ Ask Init)
+    → ServesOnNothing tells at.sees profile task answer → ServesUnder at profile task nothing_met answer
+on_nothing at profile task tells answer same lacks other (inl h) = answered h.0 h.1 (none lacks other refl (h.2, subst (λ t. AnswersOn t h.0 task answer nothing_yet) same h.3))
+on_nothing at profile task tells answer same lacks other (inr h) = subst (ServesUnder at profile task nothing_met) (sym h.2) (none_made lacks other h.1 refl)
 
 -- what is answered on what a connection keeps is the answer on it
 given_answer : (r : Result Reply Fault) (P Q : Result Reply Refusal → Type 0) → ((answer : Result Reply Refusal) → P answer → Q answer) → GivesAnswer P r → GivesAnswer Q r
@@ -214,64 +218,52 @@ served_on told c task held last r before serves keeps files known = go (serves f
     go (inr unread) = inr unread
 
 -- a task on a register in memory
-pub served_nothing : (tells : List ℕ → Option (List ℕ)) (profile : List Directive) (task : Task) (c : Conditions) (held last : State) (own answer : Result Reply Fault)
-    → AreScriptConditions profile c → Holding held nothing_yet → ServesTask tells c task held last own → IfErr own (NamesUnder (paths_of task))
-    → IsOwnOr answer own → ServesOnNothing tells profile task answer
-served_nothing tells profile task c held last own answer under keeps serves named (inl is) =
-    subst (ServesOnNothing tells profile task) (sym is) (inl (c, under, named, served_on tells c task held last own nothing_yet serves keeps))
-served_nothing tells profile task c held last own answer under keeps serves named (inr is) =
-    subst (ServesOnNothing tells profile task) (sym is) (inl (c, under, tt, λ files known. inl tt))
+pub served_nothing : (tells : List ℕ → Option (List ℕ)) (at : Tells) (profile : List Directive) (task : Task) (c : Conditions) (held last : State) (own answer : Result Reply Fault)
+    → AreScriptConditions profile c → Holding held nothing_yet → ServesTask tells c task held last own → Reaches at (paths_of task) own
+    → IsOwnOr answer own → ServesOnNothing tells at profile task answer
+served_nothing tells at profile task c held last own answer under keeps serves named (inl is) =
+    subst (ServesOnNothing tells at profile task) (sym is) (inl (c, under, named, served_on tells c task held last own nothing_yet serves keeps))
+served_nothing tells at profile task c held last own answer under keeps serves named (inr is) =
+    subst (ServesOnNothing tells at profile task) (sym is) (inl (c, under, tt, λ files known. inl tt))
 
 -- ---- what is told of a task
 
 -- of one that is answered
-pub told_done : {S : Type 0} (at : Places S) (config : String Global) (task : Task) (old new fault_old fault_new : Option (List ℕ)) (status : Status) (told : Told)
-    → GivesClosed (Ok told) (Performs at config task) → status ≡ closing_status told.closed → Appends old new told.text.items → TellsDone task fault_old fault_new status
+pub told_done : {S : Type 0} (at : Places S) (config : String Global) (task : Task) (old new fault_old fault_new : Option (List ℕ)) (status : Status) (told : Told) (Why : Option StoreCause → Failure → Type 0)
+    → GivesClosed (Ok told) (Performs at config task) Why → status ≡ closing_status told.closed → Appends old new told.text.items → WarnsClosed task told.closed fault_old fault_new
     → TellsApart at config task old new fault_old fault_new status
-told_done at config task old new fault_old fault_new status told gives closing wrote done = by done
-  where
-    writes : WritesReply at config task status old new
-    writes = (gives.0, subst (λ closed. Performs at config task closed (Ok gives.0)) (sym closing) gives.2, subst (Appends old new) gives.1 wrote)
-
-    by : TellsDone task fault_old fault_new status → TellsApart at config task old new fault_old fault_new status
-    by (inl answered_so) = inl (answered_so.0, writes, answered_so.1)
-    by (inr unclosed) = inr (inl (unclosed.0, writes, unclosed.1))
+told_done at config task old new fault_old fault_new status told Why gives closing wrote warns =
+    inl (told.closed, closing, (gives.0, gives.2, subst (Appends old new) gives.1 wrote), warns)
 
 -- of one that has no answer
-pub told_why : {S : Type 0} (at : Places S) (config : String Global) (task : Task) (old fault_old fault_new : Option (List ℕ)) (why : Fault) (failed fault_failed : Bool) (r : Result Status AllocError)
-    → (closed : Status) → Performs at config task closed (Err why) → IfOk r IsFaultStatus → IfOk r (λ status. fault_failed ≡ false → Writes fault_old fault_new (λ bytes. TellsFailure why bytes status))
+pub told_why : {S : Type 0} (at : Places S) (config : String Global) (task : Task) (old fault_old fault_new : Option (List ℕ)) (failure : Failure) (failed fault_failed : Bool) (r : Result Status AllocError)
+    → GivesClosed (Err failure) (Performs at config task) (ExplainsFailure at.sees at.explains (paths_of task)) → IfOk r IsFaultStatus
+    → IfOk r (λ status. fault_failed ≡ false → Writes fault_old fault_new (λ bytes. TellsCaused failure.fault failure.cause bytes status))
     → IfOk r (λ status. failed ≡ false → fault_failed ≡ false → TellsApart at config task old old fault_old fault_new status)
-told_why at config task old fault_old fault_new why failed fault_failed (Err e) closed comes is tells = tt
-told_why at config task old fault_old fault_new why failed fault_failed (Ok status) closed comes is tells = λ _ sound.
+told_why at config task old fault_old fault_new failure failed fault_failed (Err e) comes is tells = tt
+told_why at config task old fault_old fault_new failure failed fault_failed (Ok status) comes is tells = λ _ sound.
     let wrote = tells sound in
-    inr (inr (is, Keeps-refl old, (wrote.0, (why, closed, comes, wrote.1), wrote.2)))
+    inr (is, Keeps-refl old, (wrote.0, (failure.fault, failure.cause, comes.0, comes.1, comes.2, wrote.1), wrote.2))
 
 -- ---- the lines of the input
 
--- how a register was closed
-pub told_closed : {T : Type 0} (shows : T → Option (List ℕ)) (old new : T) (failed : Bool) (status : Status) → (status ≡ Answered → new ≡ old) → (status ≡ Failed → failed ≡ false → Writes (shows old) (shows new) IsUnclosed)
-    → (status ≡ Answered) ⊎ (status ≡ Failed) → failed ≡ false → TellsClosed (shows old) (shows new) status
-told_closed shows old new failed status whole part (inl is) sound = inl (is, subst (λ t. Keeps (shows old) (shows t)) (sym (whole is)) (Keeps-refl (shows old)))
-told_closed shows old new failed status whole part (inr is) sound =
-    inr (is, part is sound)
-
 -- the lines of a batch on the register in the store
 pub lines_kept : {S : Type 0} (at : Places S) (profile : List Directive) (text : List ℕ) (tells : List ℕ → Option (List ℕ)) (c : Conditions) (held : Held S) (n : ℕ) (old new fault_old fault_new : Option (List ℕ)) (status : Status)
-    → n ≡ 0 → tells ≡ at.tells → AreScriptConditions profile c → TakesStore at profile held
+    → n ≡ 0 → tells ≡ at.tells → HasStore at profile ⊎ BeginsRegister text → AreScriptConditions profile c → TakesStore at profile held
     → RunsIn at.store at.leaves tells c n text held old new fault_old fault_new status → RunsLines at profile text old new fault_old fault_new status
-lines_kept at profile text tells c held n old new fault_old fault_new status first same under takes runs =
+lines_kept at profile text tells c held n old new fault_old fault_new status first same may under takes runs =
     let r = subst (λ t. RunsIn at.store at.leaves t c 0 text held old new fault_old fault_new status) same (subst (λ k. RunsIn at.store at.leaves tells c k text held old new fault_old fault_new status) first runs) in
     let whole = r.3 in
     subst (RunsLines at profile text old new fault_old fault_new) (sym r.2)
-    (on_store c r.0 r.1 under (from_taken at profile r.1 held whole.last (RunsText at.store at.tells packed_blocks c 0 text old new r.0) takes whole.clean whole.lines whole.ends) whole.closes)
+    (on_store c r.0 r.1 under may (from_taken at profile r.1 held whole.last (RunsText at.store at.tells packed_blocks c 0 text old new r.0) takes whole.clean whole.lines whole.ends) whole.closes)
 
 pub run_kept : {S : Type 0} (at : Places S) (profile : List Directive) (text : List ℕ) (tells : List ℕ → Option (List ℕ)) (c : Conditions) (held : Held S) (n : ℕ) (old new fault_old fault_new : Option (List ℕ)) (failed fault_failed : Bool) (r : Result Status AllocError)
-    → n ≡ 0 → tells ≡ at.tells → AreScriptConditions profile c → TakesStore at profile held
+    → n ≡ 0 → tells ≡ at.tells → HasStore at profile ⊎ BeginsRegister text → AreScriptConditions profile c → TakesStore at profile held
     → IfOk r (λ status. failed ≡ false → fault_failed ≡ false → RunsIn at.store at.leaves tells c n text held old new fault_old fault_new status)
     → IfOk r (λ status. failed ≡ false → fault_failed ≡ false → RunsLines at profile text old new fault_old fault_new status)
-run_kept at profile text tells c held n old new fault_old fault_new failed fault_failed (Err e) first same under takes runs = tt
-run_kept at profile text tells c held n old new fault_old fault_new failed fault_failed (Ok status) first same under takes runs = λ sound quiet.
-    lines_kept at profile text tells c held n old new fault_old fault_new status first same under takes (runs sound quiet)
+run_kept at profile text tells c held n old new fault_old fault_new failed fault_failed (Err e) first same may under takes runs = tt
+run_kept at profile text tells c held n old new fault_old fault_new failed fault_failed (Ok status) first same may under takes runs = λ sound quiet.
+    lines_kept at profile text tells c held n old new fault_old fault_new status first same may under takes (runs sound quiet)
 
 -- on one in memory
 pub ran_on_nothing : (tells : List ℕ → Option (List ℕ)) (profile : List Directive) (n : ℕ) (text : List ℕ) (old new fault_old : Option (List ℕ)) (failed fault_failed : Bool) (r : Result Status AllocError)
@@ -282,11 +274,13 @@ ran_on_nothing tells profile n text old new fault_old failed fault_failed (Ok st
 
 -- or none was opened, for this refusal
 pub refused_on_nothing : (tells : List ℕ → Option (List ℕ)) (profile : List Directive) (n : ℕ) (text : List ℕ) (old fault_old fault_new : Option (List ℕ)) (why : Refusal) (failure : Failure) (failed fault_failed : Bool) (r : Result Status AllocError)
-    → IsOpeningFailure why → failure.fault ≡ fault.Refused why → IfOk r (λ status. fault_failed ≡ false → Writes fault_old fault_new (λ bytes. TellsFailure failure.fault bytes status))
+    → IsOpeningFailure why → (failure.fault ≡ fault.Refused why) × (failure.cause ≡ None)
+    → IfOk r (λ status. fault_failed ≡ false → Writes fault_old fault_new (λ bytes. TellsCaused failure.fault failure.cause bytes status))
     → IfOk r (λ status. failed ≡ false → fault_failed ≡ false → RunsOnNothing tells profile n text old old fault_old fault_new status)
 refused_on_nothing tells profile n text old fault_old fault_new why failure failed fault_failed (Err e) is same told = tt
 refused_on_nothing tells profile n text old fault_old fault_new why failure failed fault_failed (Ok status) is same told = λ _ sound.
-    inr (why, is, Keeps-refl old, subst (λ it. Writes fault_old fault_new (λ bytes. TellsFailure it bytes status)) same (told sound))
+    let named = subst (λ it. Writes fault_old fault_new (λ bytes. TellsCaused it failure.cause bytes status)) same.0 (told sound) in
+    inr (why, is, Keeps-refl old, subst (λ it. Writes fault_old fault_new (λ bytes. TellsCaused (fault.Refused why) it bytes status)) same.1 named)
 
 pub stopped_on_nothing : (tells : List ℕ → Option (List ℕ)) (profile : List Directive) (n : ℕ) (text : List ℕ) (old : Option (List ℕ)) (failed : Bool) (r : Result Status AllocError)
     → OnErr r (failed ≡ false → AnswersStopped tells profile n text old old)
@@ -306,21 +300,22 @@ run_none at profile text n old new fault_old fault_new failed fault_failed (Ok s
     nothing_run at profile text old new fault_old fault_new status lacks unmade (subst (λ k. RunsOnNothing at.tells profile k text old new fault_old fault_new status) first (runs sound quiet))
 
 -- or none is opened
-pub run_unopened : {S : Type 0} (at : Places S) (profile : List Directive) (text : List ℕ) (old fault_old fault_new : Option (List ℕ)) (why : Fault) (failed fault_failed : Bool) (r : Result Status AllocError) → IsOpeningFault at profile why
-    → IfOk r (λ status. fault_failed ≡ false → Writes fault_old fault_new (λ bytes. TellsFailure why bytes status))
+pub run_unopened : {S : Type 0} (at : Places S) (profile : List Directive) (text : List ℕ) (old fault_old fault_new : Option (List ℕ)) (why : Fault) (cause : Option Cause) (failed fault_failed : Bool) (r : Result Status AllocError)
+    → HasStore at profile ⊎ BeginsRegister text → IsOpeningFault at profile why cause → IfOk r (λ status. fault_failed ≡ false → Writes fault_old fault_new (λ bytes. TellsCaused why cause bytes status))
     → IfOk r (λ status. failed ≡ false → fault_failed ≡ false → RunsLines at profile text old old fault_old fault_new status)
-run_unopened at profile text old fault_old fault_new why failed fault_failed (Err e) is tells = tt
-run_unopened at profile text old fault_old fault_new (fault.Refused why) failed fault_failed (Ok status) is tells = λ _ sound. no_register is (Keeps-refl old) (tells sound)
-run_unopened at profile text old fault_old fault_new (fault.Profile file why) failed fault_failed (Ok status) is tells = absurd is
-run_unopened at profile text old fault_old fault_new (fault.Unreadable path) failed fault_failed (Ok status) is tells = absurd is
-run_unopened at profile text old fault_old fault_new fault.Memory failed fault_failed (Ok status) is tells = absurd is
+run_unopened at profile text old fault_old fault_new why cause failed fault_failed (Err e) may is tells = tt
+run_unopened at profile text old fault_old fault_new (fault.Refused why) cause failed fault_failed (Ok status) may (met, fails, is) tells = λ _ sound.
+    no_register may fails (Keeps-refl old) (subst (λ it. Writes fault_old fault_new (λ bytes. TellsCaused (fault.Refused why) it bytes status)) is (tells sound))
+run_unopened at profile text old fault_old fault_new (fault.Profile file why) cause failed fault_failed (Ok status) may is tells = absurd is
+run_unopened at profile text old fault_old fault_new (fault.Unreadable path) cause failed fault_failed (Ok status) may is tells = absurd is
+run_unopened at profile text old fault_old fault_new fault.Memory cause failed fault_failed (Ok status) may is tells = absurd is
 
 -- a batch that isn't run
-pub batch_refused : {S : Type 0} (at : Places S) (config : String Global) (given : Option (List ℕ)) (read_failed : Bool) (old fault_old fault_new : Option (List ℕ)) (why : Fault) (failed fault_failed : Bool) (r : Result Status AllocError)
-    → StopsReading at config given read_failed why → IfOk r (λ status. fault_failed ≡ false → Writes fault_old fault_new (λ bytes. TellsFailure why bytes status))
+pub batch_refused : {S : Type 0} (at : Places S) (config : String Global) (given : Option (List ℕ)) (read_failed : Bool) (old fault_old fault_new : Option (List ℕ)) (why : Fault) (cause : Option Cause) (failed fault_failed : Bool) (r : Result Status AllocError)
+    → StopsReading at config given read_failed why cause → IfOk r (λ status. fault_failed ≡ false → Writes fault_old fault_new (λ bytes. TellsCaused why cause bytes status))
     → IfOk r (λ status. failed ≡ false → fault_failed ≡ false → RunsBatch at config given read_failed old old fault_old fault_new status)
-batch_refused at config given read_failed old fault_old fault_new why failed fault_failed (Err e) is tells = tt
-batch_refused at config given read_failed old fault_old fault_new why failed fault_failed (Ok status) is tells = λ _ sound. batch_stopped why is (Keeps-refl old) (tells sound)
+batch_refused at config given read_failed old fault_old fault_new why cause failed fault_failed (Err e) is tells = tt
+batch_refused at config given read_failed old fault_old fault_new why cause failed fault_failed (Ok status) is tells = λ _ sound. batch_stopped why cause is (Keeps-refl old) (tells sound)
 
 -- and one that is
 pub batch_run : {S : Type 0} (at : Places S) (config : String Global) (given : Option (List ℕ)) (read_failed : Bool) (profile : List Directive) (text : List ℕ) (old new fault_old fault_new : Option (List ℕ)) (failed fault_failed : Bool) (r : Result Status AllocError)
@@ -332,17 +327,17 @@ batch_run at config given read_failed profile text old new fault_old fault_new f
 -- ---- a shell
 
 -- no register is opened for it
-pub stops_opening : {S : Type 0} (at : Places S) (config : String Global) (profile : List Directive) (why : Fault) → ReadsAt at config (Ok profile) → IsOpeningFault at profile why → StopsOpening at config why
-stops_opening at config profile (fault.Refused why) read is = not_opened profile read is
-stops_opening at config profile (fault.Profile file why) read is = absurd is
-stops_opening at config profile (fault.Unreadable path) read is = absurd is
-stops_opening at config profile fault.Memory read is = absurd is
+pub stops_opening : {S : Type 0} (at : Places S) (config : String Global) (profile : List Directive) (why : Fault) (cause : Option Cause) → ReadsAt at config (Ok profile) → IsOpeningFault at profile why cause → StopsOpening at config why cause
+stops_opening at config profile (fault.Refused why) cause read (met, fails, is) = not_opened met profile read fails is
+stops_opening at config profile (fault.Profile file why) cause read is = absurd is
+stops_opening at config profile (fault.Unreadable path) cause read is = absurd is
+stops_opening at config profile fault.Memory cause read is = absurd is
 
-pub shell_unopened : {S : Type 0} (at : Places S) (config : String Global) (given : Option (List ℕ)) (read_failed : Bool) (old fault_old fault_new : Option (List ℕ)) (why : Fault) (failed fault_failed : Bool) (r : Result Status AllocError) → StopsOpening at config why
-    → IfOk r (λ status. fault_failed ≡ false → Writes fault_old fault_new (λ bytes. TellsFailure why bytes status))
+pub shell_unopened : {S : Type 0} (at : Places S) (config : String Global) (given : Option (List ℕ)) (read_failed : Bool) (old fault_old fault_new : Option (List ℕ)) (why : Fault) (cause : Option Cause) (failed fault_failed : Bool) (r : Result Status AllocError)
+    → StopsOpening at config why cause → IfOk r (λ status. fault_failed ≡ false → Writes fault_old fault_new (λ bytes. TellsCaused why cause bytes status))
     → IfOk r (λ status. failed ≡ false → fault_failed ≡ false → RunsShell at config given given read_failed old old fault_old fault_new status)
-shell_unopened at config given read_failed old fault_old fault_new why failed fault_failed (Err e) is tells = tt
-shell_unopened at config given read_failed old fault_old fault_new why failed fault_failed (Ok status) is tells = λ _ sound. shell_stopped why is refl (Keeps-refl old) (tells sound)
+shell_unopened at config given read_failed old fault_old fault_new why cause failed fault_failed (Err e) is tells = tt
+shell_unopened at config given read_failed old fault_old fault_new why cause failed fault_failed (Ok status) is tells = λ _ sound. shell_stopped why cause is refl (Keeps-refl old) (tells sound)
 
 -- its lines, on the register in the store
 shell_kept : {S : Type 0} (at : Places S) (config : String Global) (tells : List ℕ → Option (List ℕ)) (c : Conditions) (held : Held S) (given left : Option (List ℕ)) (read_failed : Bool) (old new fault_old fault_new : Option (List ℕ)) (status : Status)
@@ -373,13 +368,15 @@ taken_store at profile path (Ok connection) taken Never named opens keeps failed
 taken_store at profile path (Err why) taken Never named opens keeps failed never = absurd (never failed)
 
 -- or there is none, and what was opened, if it was, is let go
-pub fails_opening : {S : Type 0} (T : Type 0) (at : Places S) (profile : List Directive) (path : List ℕ) (opened : Result (Held S) OpenFailed) (back : Option (Held S)) (why : Refusal) → store_path profile ≡ Some path → IfOk opened (at.opens path)
-    → OnErr opened (at.refuses path) → OnErr opened (failing T (Option (Held S)) Refusal back why ≡ failing T (Option (Held S)) Refusal None refusal.Store)
-    → IfOk opened (λ connection. (left : Held S) × (back ≡ Some left) × IsGivenBack at.store connection left why) → IfSome back (IsLetGo at.store at.lets_go) → FailsOpening at profile why
-fails_opening T at profile path (Ok connection) back why named opens refuses lost given gone =
-    given_back connection given.0 (path, named, opens) given.2 (subst (λ b. IfSome b (IsLetGo at.store at.lets_go)) given.1 gone)
-fails_opening {S} T at profile path (Err failed) back why named opens refuses lost given gone =
-    subst (FailsOpening at profile) (sym (second_same T (Option (Held S)) Refusal back None why refusal.Store lost)) (shut path named refuses)
+pub fails_opening : {S : Type 0} (T : Type 0) (at : Places S) (profile : List Directive) (path : List ℕ) (opened : Result (Held S) OpenFailed) (back : Option (Held S)) (why : Refusal) (met : Option StoreCause) → store_path profile ≡ Some path → IfOk opened (at.opens path)
+    → IfErr opened (λ failed. at.refuses path failed.cause) → OnErr opened (failing T (Option (Held S)) Refusal back why ≡ failing T (Option (Held S)) Refusal None refusal.Store)
+    → IfOk opened (λ connection. (state at.store connection).now.schema.tables ≡ [] → met ≡ None) → IfOk opened (λ connection. (state at.store connection).now.schema.tables ≢ [] → met ≡ Some store_cause.Foreign)
+    → IfErr opened (λ failed. met ≡ failed.cause)
+    → IfOk opened (λ connection. (left : Held S) × (back ≡ Some left) × IsGivenBack at.store connection left why) → IfSome back (IsLetGo at.store at.lets_go) → FailsOpening at profile why met
+fails_opening T at profile path (Ok connection) back why met named opens refuses lost bare other is given gone =
+    given_back connection given.0 (path, named, opens) (bare, other) given.2 (subst (λ b. IfSome b (IsLetGo at.store at.lets_go)) given.1 gone)
+fails_opening {S} T at profile path (Err failed) back why met named opens refuses lost bare other is given gone =
+    subst (λ it. FailsOpening at profile it met) (sym (second_same T (Option (Held S)) Refusal back None why refusal.Store lost)) (shut path named (subst (at.refuses path) (sym is) refuses))
 
 -- of the store or of the memory
 pub fails_anyway : {S : Type 0} (T : Type 0) (opened : Result (Held S) OpenFailed) (g : Ghosts S) (back : Option (Held S)) (why : Refusal) → OnErr opened (failing T (Option (Held S)) Refusal back why ≡ failing T (Option (Held S)) Refusal None refusal.Store)
@@ -393,34 +390,33 @@ pub opens_under : {S B E : Type 0} (at : Places S) (config : String Global) (pro
 opens_under at config profile (Ok session) held c read under takes = (profile, read, under, takes)
 opens_under at config profile (Err failure) held c read under takes = tt
 
-pub stops_so : {S B : Type 0} (at : Places S) (config : String Global) (profile : List Directive) (r : Result B Failure) → ReadsAt at config (Ok profile) → IfErr r (λ failure. IsOpeningFault at profile failure.fault) → IfErr r (λ failure. StopsOpening at config failure.fault)
+pub stops_so : {S B : Type 0} (at : Places S) (config : String Global) (profile : List Directive) (r : Result B Failure) → ReadsAt at config (Ok profile) → IfErr r (λ failure. IsOpeningFault at profile failure.fault failure.cause)
+    → IfErr r (λ failure. StopsOpening at config failure.fault failure.cause)
 stops_so at config profile (Ok session) read failed = tt
-stops_so at config profile (Err failure) read failed = stops_opening at config profile failure.fault read failed
-
--- what is told beside the answer to a task
-pub done_told : {T : Type 0} (shows : T → Option (List ℕ)) (task : Task) (old : Option (List ℕ)) (mid new : T) (failed : Bool) (status : Status) → (status ≡ Answered → new ≡ mid) → (status ≡ Failed → failed ≡ false → Writes (shows mid) (shows new) IsUnclosed)
-    → (status ≡ Answered) ⊎ (status ≡ Failed) → failed ≡ false → WarnsAtMost task old (shows mid) → TellsDone task old (shows new) status
-done_told shows task old mid new failed status whole part (inl is) sound warns = inl (is, subst (λ t. WarnsAtMost task old (shows t)) (sym (whole is)) warns)
-done_told shows task old mid new failed status whole part (inr is) sound warns =
-    inr (is, (shows mid, warns, part is sound))
+stops_so at config profile (Err failure) read failed = stops_opening at config profile failure.fault failure.cause read failed
 
 -- an input that can't be read
-pub input_fault : (told : Option (List ℕ)) (config : String Global) (profile : List Directive) (given : Option (List ℕ)) (failed : Bool) (why : InputFault) (gives : Fault) (path : String Global)
-    → ReadsProfile told config (Ok profile) → (why ≡ Unreadable → gives ≡ fault.Unreadable path) → (why ≡ Starved → gives ≡ fault.Memory)
-    → string_bytes path ≡ codes "input" → (why ≡ Unreadable → failed ≡ false → IfSome given (λ bytes. ¬ IsInput bytes))
-    → ReadsProfile told config (Err gives) ⊎ ((profile : List Directive) × ReadsProfile told config (Ok profile) × IsInputFault given failed gives)
-input_fault told config profile given failed Unreadable gives path read at empty is bytes = inr (profile, read, (path, at refl, is, bytes refl))
-input_fault told config profile given failed Starved gives path read at empty is bytes = inl (subst (λ it. ReadsProfile told config (Err it)) (sym (empty refl)) tt)
+pub input_fault : {S : Type 0} (at : Places S) (config : String Global) (profile : List Directive) (given : Option (List ℕ)) (failed : Bool) (why : InputFault) (gives : Fault) (path : String Global)
+    → ReadsAt at config (Ok profile) → (why ≡ Unreadable → gives ≡ fault.Unreadable path) → (why ≡ Starved → gives ≡ fault.Memory)
+    → string_bytes path ≡ codes "input" → (why ≡ Unreadable → failed ≡ false → IfSome given (λ bytes. ¬ IsInput bytes)) → StopsReading at config given failed gives None
+input_fault at config profile given failed Unreadable gives path read named empty is bytes = inr (profile, read, (path, named refl, is, bytes refl), refl)
+input_fault at config profile given failed Starved gives path read named empty is bytes =
+    inl (subst (λ it. ReadsAt at config (Err it) × ExplainsUnread at.explains it None) (sym (empty refl)) (tt, refl))
+
+-- a profile that isn't read
+pub profile_fault : {S : Type 0} (at : Places S) (config : String Global) (given : Option (List ℕ)) (failed : Bool) (failure : Failure) → ReadsAt at config (Err failure.fault) → ExplainsUnread at.explains failure.fault failure.cause
+    → StopsReading at config given failed failure.fault failure.cause
+profile_fault at config given failed failure read told = inl (read, told)
 
 -- what a task is answered names paths as what it stands for does
-pub replied_under : (named : List (List ℕ)) (r : Result Served Fault) (own : Result Reply Fault) → StandsFor r own → IfErr r (NamesUnder named) → IfErr own (NamesUnder named)
-replied_under named (Ok (Replied reply)) own stands h = subst (λ it. IfErr it (NamesUnder named)) (sym stands) tt
-replied_under named (Ok (Shown lines unmarked)) own stands h = subst (λ it. IfErr it (NamesUnder named)) (sym stands.1) tt
-replied_under named (Err why) own stands h = subst (λ it. IfErr it (NamesUnder named)) (sym stands) h
+pub replied_reaches : (at : Tells) (named : List (List ℕ)) (r : Result Served Fault) (own : Result Reply Fault) → StandsFor r own → Reaches at named r → Reaches at named own
+replied_reaches at named (Ok (Replied reply)) own stands h = subst (Reaches at named) (sym stands) h
+replied_reaches at named (Ok (Shown lines unmarked)) own stands h = subst (Reaches at named) (sym stands.1) h
+replied_reaches at named (Err why) own stands h = subst (Reaches at named) (sym stands) h
 
 -- what is passed on by `?`
-pub passed_fault : {A : Type 0} (P : Fault → Type 0) (r : Result A Failure) (why : Failure) → r ≡ Err why → P why.fault → IfErr r (λ failure. P failure.fault)
-passed_fault {A} P r why is h = subst (λ it. IfErr it (λ failure. P failure.fault)) (sym is) h
+pub passed_failure : {A : Type 0} (P : Failure → Type 0) (r : Result A Failure) (why : Failure) → r ≡ Err why → P why → IfErr r P
+passed_failure P r why is h = subst (λ it. IfErr it P) (sym is) h
 
-pub passed_for : (P : Status → Result Reply Fault → Type 0) (r : Result Told Failure) (why : Failure) → r ≡ Err why → P Answered (Err why.fault) → GivesClosed r P
-passed_for P r why is h = subst (λ it. GivesClosed it P) (sym is) (Answered, h)
+pub passed_for : (P : Closed → Result Reply Fault → Type 0) (Why : Option StoreCause → Failure → Type 0) (r : Result Told Failure) (why : Failure) → r ≡ Err why → P nothing_met (Err why.fault) → Why None why → GivesClosed r P Why
+passed_for P Why r why is h told = subst (λ it. GivesClosed it P Why) (sym is) (nothing_met, h, told)

@@ -1,6 +1,6 @@
 -- What a task, the lines of a batch and those of a shell do over a store, and what is written (this program's own): on any tables, whatever
 -- files there are, and on tables that keep what a register holds, where the bytes of a task's files are told, and of lines as far as they are.
-use Rattle.std.specs.Prelude.{◌≡◌, ⊤, ℕ, Bool, false, IfErr, List, Option, Result}
+use Rattle.std.specs.Prelude.{◌≡◌, ⊤, ℕ, Bool, false, List, Option, Result}
 use Rattle.std.specs.Io.KnownBytes.{Appends, IsAtEnd, Keeps as Stays}
 use Rattle.sqlite.specs.Held.{Held, state}
 use Rattle.sqlite.specs.Store.{Ghosts}
@@ -8,13 +8,14 @@ use Rattle.zeb_register.specs.Formats.{Format, packed_blocks}
 use Rattle.zeb_change.specs.Conditions.{Conditions}
 use Rattle.zeb_image.specs.Holdings.{Holdings}
 use Rattle.zeb_engine.specs.declared.replies.Reply.{Reply}
+use Rattle.zeb_paths.specs.Walks.{Tells}
 use Rattle.zeb_program.specs.declared.faults.Fault.{Fault}
 use Rattle.zeb_program.specs.declared.line_input.InputCause.{InputCause}
 use Rattle.zeb_program.specs.declared.line_input.LineFault.{LineFault}
 use Rattle.zeb_program.specs.declared.line_input.LineFault.TheVariants.{Unreadable, Memory}
 use Rattle.zeb_program.specs.declared.tasks.Task.{Task}
 use Rattle.zeb_program.specs.Answers.{AnswersBatch, AnswersLines, EachLine, Writes}
-use Rattle.zeb_program.specs.FaultAnswers.{NamesUnder}
+use Rattle.zeb_program.specs.FaultAnswers.{Reaches}
 use Rattle.zeb_program.specs.FaultLines.{unread_lines}
 use Rattle.zeb_program.specs.InputCauses.{EndsInLine, is_failed_read}
 use Rattle.zeb_program.specs.OverTables.{LineOver, LinesOver, TaskOver}
@@ -24,11 +25,11 @@ use Rattle.zeb_program.specs.declared.statuses.Status.{Status}
 use Rattle.zeb_program.specs.declared.statuses.Status.TheVariants.{Failed}
 
 -- a task is answered so
-pub record DoesTask {S : Type 0} (g : Ghosts S) (told : List ℕ → Option (List ℕ)) (c : Conditions) (task : Task) (result : Result Reply Fault) (old new : Held S) : Type 0 where
+pub record DoesTask {S : Type 0} (g : Ghosts S) (told : List ℕ → Option (List ℕ)) (at : Tells) (c : Conditions) (task : Task) (result : Result Reply Fault) (old new : Held S) : Type 0 where
   -- as the engine says of it on any tables
   pub over : TaskOver told packed_blocks c task (state g old) (state g new) result
-  -- a path that can't be read is one that it names, or stands below one
-  pub names : IfErr result (NamesUnder (paths_of task))
+  -- it is accepted only where all files at and below its paths are found, and a path that can't be read is one of these, or stands below one
+  pub reaches : Reaches at (paths_of task) result
   -- from tables that keep what a register holds to such that keep what it holds then
   pub serves : ServesTask told c task (state g old) (state g new) result
 

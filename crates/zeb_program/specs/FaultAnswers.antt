@@ -3,8 +3,9 @@ use Rattle.std.specs.Prelude.{◌≡◌, ◌⊎◌, ⊤, ℕ, List, Option, IfSo
 use Rattle.zeb_change.specs.declared.refusals.Refusal.{Refusal}
 use Rattle.zeb_change.specs.declared.refusals.Refusal.TheVariants as refusal
 use Rattle.zeb_engine.specs.declared.replies.Reply.{Reply}
-use Rattle.zeb_paths.specs.Walks.{IsUnder, IsUntold}
+use Rattle.zeb_paths.specs.Walks.{IsUnder, IsUntold, Tells}
 use Rattle.zeb_program.specs.Inputs.{IsShort}
+use Rattle.zeb_program.specs.WalkedFiles.{FindsAll}
 use Rattle.zeb_program.specs.declared.faults.Fault.{Fault}
 use Rattle.zeb_program.specs.declared.faults.Fault.TheVariants.{Profile, Unreadable, Refused, Memory}
 
@@ -42,6 +43,11 @@ NamesUnder named (Unreadable path) = IsUnder named (string_bytes path)
 NamesUnder named (Profile file fault) = ⊤
 NamesUnder named (Refused refusal) = ⊤
 NamesUnder named Memory = ⊤
+
+-- what reads the files at and below these paths is given only where all are found, and a path that can't be read is one of these, or stands below one
+abbrev pub Reaches : {T : Type 0} → Tells → List (List ℕ) → Result T Fault → Type 0
+Reaches at named (Ok given) = FindsAll at named
+Reaches at named (Err fault) = NamesUnder named fault
 
 -- a path that can't be read is none at which a file's bytes are told
 abbrev pub NamesUntold : (List ℕ → Option (List ℕ)) → Fault → Type 0

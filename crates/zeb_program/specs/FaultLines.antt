@@ -68,10 +68,9 @@ is_cause_of _ _ = false
 abbrev pub IsCauseOf : Fault → Option Cause → Type 0
 IsCauseOf fault cause = IsTrue (option_map_or (is_cause_of fault) cause true)
 
--- the line of a fault, with this status, and below it that of a cause of it, where one is known
-abbrev pub TellsFailure : Fault → List ℕ → Status → Type 0
-TellsFailure fault bytes status =
-    (line : List ℕ) × (cause : Option Cause) × TellsFault fault line status × IsCauseOf fault cause × (bytes ≡ line ++ cause_lines cause)
+-- the line of a fault, with this status, and below it that of this cause, which the fault may have, where one is known
+abbrev pub TellsCaused : Fault → Option Cause → List ℕ → Status → Type 0
+TellsCaused fault cause bytes status = (line : List ℕ) × TellsFault fault line status × IsCauseOf fault cause × (bytes ≡ line ++ cause_lines cause)
 
 -- what is written where an input can't be read on
 abbrev pub unread_lines : InputCause → List ℕ
@@ -83,7 +82,3 @@ unclosed_line = codes "zebraidx: done, but the register's file needs its log" ++
 -- what is written where a part of what was done stands beside the register's file: with why the store failed, where that is known
 abbrev pub unclosed_lines : Option StoreCause → List ℕ
 unclosed_lines cause = unclosed_line ++ cause_lines (option_map Store cause)
-
--- so it is of some cause, or of none
-abbrev pub IsUnclosed : List ℕ → Type 0
-IsUnclosed bytes = (cause : Option StoreCause) × (bytes ≡ unclosed_lines cause)

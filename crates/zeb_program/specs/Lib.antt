@@ -5,11 +5,14 @@ pub mod Doing
 pub mod FixedLines
 pub mod Serving
 pub mod Batches
+pub mod Closings
 pub mod PrivateBatches
 pub mod BatchRuns
 pub mod Errands
 pub mod FaultAnswers
 pub mod FaultLines
+pub mod Explanations
+pub mod WalkedFiles
 pub mod PrivateAnalyses
 pub mod PrivateEnding
 pub mod PrivateErrands

@@ -84,7 +84,7 @@ pub record PathsLeave (told : List ℕ → Option (List ℕ)) (c : Conditions) (
   -- nothing changes where it isn't accepted
   pub refused : OnErr result (ChangesNothing old new)
   -- a path can't be read, or of an accepted one the engine says what the tables have lost and kept
-  pub loses : IsUnreadable result ⊎ GivesAnswer (LeavesWhole c.profile kind name old new) result
+  pub loses : IsUnreadable result ⊎ GivesAnswer (LeavesWhole c.version c.profile kind name old new) result
   -- Where the bytes of a file at each path are told, it is answered from tables that keep what a register holds as a change by these, and they
   -- keep what is held then.
   pub serves : (files : List (List ℕ)) → AreTold told paths files → AnswersFrom old new result (ChangesBy c kind name files)

@@ -1,9 +1,11 @@
 -- What only the contracts of private functions speak of; no public clause reaches it.
 -- What is read of files that are read whole, those of an analysis, and what their readers are sure to give (this program's own).
-use Rattle.std.specs.Prelude.{◌≡◌, ◌||◌, ◌∷◌, [], ◌-◌, ⊤, Bool, ℕ, List, Option, None, Some, IfSome, Result, Ok, Err, String, Vec, if◌then◌else◌, length, map, string_bytes}
+use Rattle.std.specs.Prelude.{◌≡◌, ◌||◌, ⊤, Bool, ℕ, List, Option, None, Some, IfSome, Result, Ok, Err, String, Vec, if◌then◌else◌, map, string_bytes}
 use Rattle.std.specs.declared.alloc.Global.{Global}
-use Rattle.zeb_paths.specs.Walks.{Due, Tells, WalksOn, due}
+use Rattle.zeb_paths.specs.Walks.{Due, Tells, WalksOn}
+use Rattle.zeb_paths.specs.declared.walk.WalkFault.{WalkFault}
 use Rattle.zeb_program.specs.Inputs.{IsShort}
+use Rattle.zeb_program.specs.WalkedFiles.{GivesNone, WalksFrom}
 use Rattle.zeb_program.specs.declared.faults.Fault.{Fault}
 use Rattle.zeb_program.specs.declared.faults.Fault.TheVariants.{Profile, Unreadable, Refused, Memory}
 
@@ -15,21 +17,6 @@ ReadsContent told path (Err (Profile file fault)) = ⊥
 ReadsContent told path (Err (Unreadable given)) = (given ≡ path) × IfSome told (λ bytes. ¬ IsShort bytes)
 ReadsContent told path (Err (Refused refusal)) = ⊥
 ReadsContent told path (Err Memory) = ⊤
-
--- a walk from these paths gives the files of these, one after the other, and leaves those
-abbrev pub WalksOver : Tells → List Due → List (List ℕ) → List Due → Type 0
-WalksOver at left [] later = later ≡ left
-WalksOver at left (file ∷ files) later =
-    (given : String Global) × (mid : List Due) × WalksOn at left (Ok (Some given)) mid × (string_bytes given ≡ file) × WalksOver at mid files later
-
--- a walk that begins at the named paths
-abbrev pub WalksFrom : Tells → List (List ℕ) → List (List ℕ) → List Due → Type 0
-WalksFrom at named = WalksOver at (map (λ path. due path 1) named)
-
--- This is the file of that number, from 1, at and below the named paths: so many but one stand before it.
-abbrev pub IsNthFile : Tells → List (List ℕ) → ℕ → String Global → Type 0
-IsNthFile at named number path =
-    (before : List (List ℕ)) × (left later : List Due) × (length before ≡ number - 1) × WalksFrom at named before left × WalksOn at left (Ok (Some path)) later
 
 -- These are the readers of the files at and below the named paths, all of them, in their order.
 pub record ReadsBelow {R : Type 0} (remaining : R → Option (List ℕ)) (at : Tells) (named : List (List ℕ)) (readers : List R) : Type 0 where
@@ -43,3 +30,8 @@ pub record ReadsBelow {R : Type 0} (remaining : R → Option (List ℕ)) (at : T
 -- the bytes that a reader is sure to give: those that it tells, where no read can fail and none has
 abbrev pub sure_bytes : {R : Type 0} (remaining : R → Option (List ℕ)) (may_fail has_failed : R → Bool) → R → Option (List ℕ)
 sure_bytes remaining may_fail has_failed reader = if may_fail reader || has_failed reader then None else remaining reader
+
+-- this is the file that a walk gives, or it gives none
+abbrev pub IsGiven : Result (Option (String Global)) WalkFault → Option (String Global) → Type 0
+IsGiven found (Some path) = found ≡ Ok (Some path)
+IsGiven found None = GivesNone found

@@ -1,5 +1,5 @@
 -- What only the contracts of private functions speak of; no public clause reaches it.
-use Rattle.std.specs.Prelude.{◌≡◌, ℕ, List, length, Option, Result, Ok, Err, IfErr, string_bytes}
+use Rattle.std.specs.Prelude.{◌≡◌, ℕ, List, length, Option, Result, Ok, Err, string_bytes}
 use Rattle.sqlite.specs.State.{HasCleanDisk, State}
 use Rattle.zeb_change.specs.Conditions.{Conditions}
 use Rattle.zeb_engine.specs.Replies.{reply_text}
@@ -12,10 +12,11 @@ use Rattle.zeb_program.specs.declared.faults.Fault.{Fault}
 use Rattle.zeb_program.specs.declared.tasks.Served.{Served}
 use Rattle.zeb_program.specs.declared.tasks.Served.TheVariants.{Replied, Shown}
 use Rattle.zeb_program.specs.declared.tasks.Task.{Task}
-use Rattle.zeb_program.specs.FaultAnswers.{NamesUnder}
+use Rattle.zeb_program.specs.FaultAnswers.{Reaches}
 use Rattle.zeb_program.specs.OverTables.{TaskOver}
 use Rattle.zeb_program.specs.Serving.{ServesTask}
 use Rattle.zeb_program.specs.TaskAnswers.{paths_of}
+use Rattle.zeb_paths.specs.Walks.{Tells}
 use Rattle.zeb_register.specs.Formats.{Format}
 
 -- From tables that keep what a register holds, they lead to tables that keep what it holds then; P says what is written.
@@ -36,9 +37,9 @@ StandsFor (Ok (Shown lines unmarked)) answer =
 StandsFor (Err fault) answer = answer ≡ Err fault
 
 -- what is answered so is what is said of a task, from these tables to those
-pub record CarriesOut (told : List ℕ → Option (List ℕ)) (format : Format) (c : Conditions) (task : Task) (old new : State) (answer : Result Reply Fault) : Type 0 where
+pub record CarriesOut (told : List ℕ → Option (List ℕ)) (at : Tells) (format : Format) (c : Conditions) (task : Task) (old new : State) (answer : Result Reply Fault) : Type 0 where
   pub serves : HasCleanDisk new → ServesTask told c task old new answer
   -- as the engine says of it on any tables, and refused it changes nothing
   pub over : HasCleanDisk new → TaskOver told format c task old new answer
-  -- a path that can't be read is one that it names, or stands below one
-  pub names : IfErr answer (NamesUnder (paths_of task))
+  -- it is accepted only where all files at and below its paths are found, and a path that can't be read is one of these, or stands below one
+  pub reaches : Reaches at (paths_of task) answer

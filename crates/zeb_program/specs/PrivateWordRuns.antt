@@ -1,6 +1,6 @@
 -- What only the contracts of private functions speak of; no public clause reaches it.
 -- The parts of what comes of words (this program's own).
-use Rattle.std.specs.Prelude.{◌≡◌, ◌⊎◌, ℕ, Bool, false, Option, IfSome, IfErr, Result, Ok, Err, List, String}
+use Rattle.std.specs.Prelude.{◌≡◌, ◌⊎◌, ℕ, Bool, false, Option, None, IfSome, Result, Ok, Err, List, String}
 use Rattle.std.specs.declared.alloc.AllocError.{AllocError}
 use Rattle.std.specs.declared.alloc.Global.{Global}
 use Rattle.sqlite.specs.Held.{Held, state}
@@ -11,7 +11,10 @@ use Rattle.zeb_change.specs.declared.refusals.Refusal.{Refusal}
 use Rattle.zeb_engine.specs.declared.replies.Reply.{Reply}
 use Rattle.zeb_engine.specs.Replies.{reply_text}
 use Rattle.zeb_image.specs.Holdings.{nothing_yet}
+use Rattle.zeb_paths.specs.Walks.{Tells}
 use Rattle.zeb_paths.specs.declared.causes.Closed.{Closed}
+use Rattle.zeb_paths.specs.declared.causes.PathCause.{PathCause}
+use Rattle.zeb_paths.specs.declared.causes.StoreCause.{StoreCause}
 use Rattle.zeb_profile.specs.declared.directives.Directive.{Directive}
 use Rattle.zeb_register.specs.Formats.{packed_blocks}
 use Rattle.zeb_program.specs.declared.failures.Failure.{Failure}
@@ -22,18 +25,18 @@ use Rattle.zeb_program.specs.declared.performing.Told.{Told}
 use Rattle.zeb_program.specs.declared.tasks.Task.{Task}
 use Rattle.zeb_program.specs.Answers.{AnswersPart, Writes}
 use Rattle.zeb_program.specs.Doing.{RunsText, ServesText, StopsText}
-use Rattle.zeb_program.specs.FaultAnswers.{IsOpeningFailure, NamesUnder}
+use Rattle.zeb_program.specs.FaultAnswers.{IsOpeningFailure, Reaches}
 use Rattle.zeb_program.specs.Serving.{Stops}
 use Rattle.zeb_program.specs.TaskAnswers.{AnswersOn, paths_of}
 use Rattle.zeb_program.specs.Registers.{ClosesStore, IsTakenOver, OpensStore, Places}
 use Rattle.zeb_program.specs.ScriptAnswers.{AreScriptConditions, RunsFromNothing}
 use Rattle.std.specs.Io.KnownBytes.{Keeps as Stays}
-use Rattle.zeb_program.specs.FaultLines.{TellsFailure}
+use Rattle.zeb_program.specs.Explanations.{Explains}
+use Rattle.zeb_program.specs.FaultLines.{TellsCaused}
 use Rattle.zeb_program.specs.Statuses.{closing_status, greater}
 use Rattle.zeb_program.specs.declared.statuses.Status.{Status}
-use Rattle.zeb_program.specs.declared.statuses.Status.TheVariants.{Answered, Failed}
-use Rattle.zeb_program.specs.WordAnswers.{WarnsAtMost, WarnsUnclosed}
-use Rattle.zeb_program.specs.WordRuns.{ReadsAt, TellsClosed}
+use Rattle.zeb_program.specs.Closings.{TellsClosed}
+use Rattle.zeb_program.specs.WordRuns.{ReadsAt}
 
 -- ---- a register that is opened
 
@@ -53,35 +56,34 @@ abbrev pub fault_given : {T : Type 0} → Result T Failure → Result T Fault
 fault_given (Ok x) = Ok x
 fault_given (Err failure) = Err failure.fault
 
+-- this is told of why there is a failure
+abbrev pub ExplainsFailure : Tells → (List ℕ → Option PathCause → Type 0) → List (List ℕ) → Option StoreCause → Failure → Type 0
+ExplainsFailure at explains named met failure = Explains at explains named met failure.fault failure.cause
+
 -- P is so of what comes of a task: of a reply, whose text is given, or of the fault
 abbrev pub GivesFor : Result Told Failure → (Result Reply Fault → Type 0) → Type 0
 GivesFor (Ok told) P = (reply : Reply) × (told.text.items ≡ reply_text reply) × P (Ok reply)
 GivesFor (Err failure) P = P (Err failure.fault)
 
--- the same of both, by the status with which the register is closed
-abbrev pub GivesClosed : Result Told Failure → (Status → Result Reply Fault → Type 0) → Type 0
-GivesClosed (Ok told) P = (reply : Reply) × (told.text.items ≡ reply_text reply) × P (closing_status told.closed) (Ok reply)
-GivesClosed (Err failure) P = (closed : Status) × P closed (Err failure.fault)
+-- the same of both, by how the register is closed; and Why is so of what is told of a failure, by what the store has met
+abbrev pub GivesClosed : Result Told Failure → (Closed → Result Reply Fault → Type 0) → (Option StoreCause → Failure → Type 0) → Type 0
+GivesClosed (Ok told) P Why = (reply : Reply) × (told.text.items ≡ reply_text reply) × P told.closed (Ok reply)
+GivesClosed (Err failure) P Why = (closed : Closed) × P closed (Err failure.fault) × Why closed.cause failure
 
 -- this one, or memory ran out in the program itself
 abbrev pub IsOwnOr : Result Reply Fault → Result Reply Fault → Type 0
 IsOwnOr answer own = (answer ≡ own) ⊎ (answer ≡ Err Memory)
 
 -- what comes of a task on a register in memory that holds nothing yet
-abbrev pub ServesOnNothing : (List ℕ → Option (List ℕ)) → List Directive → Task → Result Reply Fault → Type 0
-ServesOnNothing told profile task result =
-    ((c : Conditions) × AreScriptConditions profile c × IfErr result (NamesUnder (paths_of task)) × AnswersOn told c task result nothing_yet)
+abbrev pub ServesOnNothing : (List ℕ → Option (List ℕ)) → Tells → List Directive → Task → Result Reply Fault → Type 0
+ServesOnNothing told at profile task result =
+    ((c : Conditions) × AreScriptConditions profile c × Reaches at (paths_of task) result × AnswersOn told c task result nothing_yet)
     ⊎ ((why : Refusal) × IsOpeningFailure why × (result ≡ Err (Refused why)))
-
--- what goes to the fault output beside the answer to a task, and the status
-abbrev pub TellsDone : Task → Option (List ℕ) → Option (List ℕ) → Status → Type 0
-TellsDone task fault_old fault_new status =
-    ((status ≡ Answered) × WarnsAtMost task fault_old fault_new) ⊎ ((status ≡ Failed) × WarnsUnclosed task fault_old fault_new)
 
 -- ---- the lines of the input
 
 -- Lines are run over a connection, which is then closed. What is said of them is said of the connection as it was before.
-pub record Closes {S : Type 0} (g : Ghosts S) (leaves : Closed → S → Type 0) (held : Held S) (Said : Held S → Type 0) (fault_old fault_new : Option (List ℕ)) (closed : Status) : Type 0 where
+pub record Closes {S : Type 0} (g : Ghosts S) (leaves : Closed → S → Type 0) (held : Held S) (Said : Held S → Type 0) (fault_old fault_new : Option (List ℕ)) (closed : Closed) : Type 0 where
   pub last : Held S
   pub clean : HasCleanDisk (state g last) → HasCleanDisk (state g held)
   pub lines : HasCleanDisk (state g last) → Said last
@@ -89,17 +91,17 @@ pub record Closes {S : Type 0} (g : Ghosts S) (leaves : Closed → S → Type 0)
   pub closes : TellsClosed fault_old fault_new closed
 
 -- Just this store is closed, and that is told so, where no write has failed.
-abbrev pub ClosesAloud : {S : Type 0} → Ghosts S → (Closed → S → Type 0) → Held S → Bool → Option (List ℕ) → Option (List ℕ) → Status → Type 0
+abbrev pub ClosesAloud : {S : Type 0} → Ghosts S → (Closed → S → Type 0) → Held S → Bool → Option (List ℕ) → Option (List ℕ) → Closed → Type 0
 ClosesAloud g leaves last failed old new closed = ClosesStore g leaves last closed × (failed ≡ false → TellsClosed old new closed)
 
--- The lines of a session are answered so, and its close behind them gives the other status.
-abbrev pub EndsSession : Result Status AllocError → Result Status AllocError → (Status → Type 0) → Type 0
-EndsSession (Ok answered) result Closing = (closed : Status) × (result ≡ Ok (greater answered closed)) × Closing closed
-EndsSession (Err error) result Closing = (closed : Status) × (result ≡ Err error) × Closing closed
+-- The lines of a session are answered so, and this is the status behind its close.
+abbrev pub EndsSession : Result Status AllocError → Result Status AllocError → (Closed → Type 0) → Type 0
+EndsSession (Ok answered) result Closing = (closed : Closed) × (result ≡ Ok (greater answered (closing_status closed))) × Closing closed
+EndsSession (Err error) result Closing = (closed : Closed) × (result ≡ Err error) × Closing closed
 
 -- the lines of a batch are run so
 abbrev pub RunsIn : {S : Type 0} → Ghosts S → (Closed → S → Type 0) → (List ℕ → Option (List ℕ)) → Conditions → ℕ → List ℕ → Held S → Option (List ℕ) → Option (List ℕ) → Option (List ℕ) → Option (List ℕ) → Status → Type 0
-RunsIn g leaves told c n text held old new fault_old fault_new status = (answered : Status) × (closed : Status) × (status ≡ greater answered closed)
+RunsIn g leaves told c n text held old new fault_old fault_new status = (answered : Status) × (closed : Closed) × (status ≡ greater answered (closing_status closed))
     × Closes g leaves held (RunsText g told packed_blocks c n text old new answered held) fault_old fault_new closed
 
 -- The lines of a batch are run on a register in memory that holds nothing yet, and the fault output is left alone; or why none was opened is told
@@ -107,20 +109,20 @@ RunsIn g leaves told c n text held old new fault_old fault_new status = (answere
 abbrev pub RunsOnNothing : (List ℕ → Option (List ℕ)) → List Directive → ℕ → List ℕ → Option (List ℕ) → Option (List ℕ) → Option (List ℕ) → Option (List ℕ) → Status → Type 0
 RunsOnNothing told profile n text old new fault_old fault_new status =
     (RunsFromNothing told profile n text old new status × Stays fault_old fault_new)
-    ⊎ ((why : Refusal) × IsOpeningFailure why × Stays old new × Writes fault_old fault_new (λ bytes. TellsFailure (Refused why) bytes status))
+    ⊎ ((why : Refusal) × IsOpeningFailure why × Stays old new × Writes fault_old fault_new (λ bytes. TellsCaused (Refused why) None bytes status))
 
 -- and those of a shell
 abbrev pub ServesIn : {S : Type 0} → Ghosts S → (Closed → S → Type 0) → (List ℕ → Option (List ℕ)) → Conditions → Option (List ℕ) → Option (List ℕ) → Bool → Held S → Option (List ℕ) → Option (List ℕ) → Option (List ℕ) → Option (List ℕ) → Status → Type 0
 ServesIn g leaves told c given left failed held old new fault_old fault_new status =
-    (between : Option (List ℕ)) × (answered : Status) × (closed : Status) × (status ≡ greater answered closed)
+    (between : Option (List ℕ)) × (answered : Status) × (closed : Closed) × (status ≡ greater answered (closing_status closed))
     × Closes g leaves held (λ last. IfSome given (λ text. ServesText g told packed_blocks c text left failed old new fault_old between answered held last)) between fault_new closed
 
 -- Where memory runs out for the program itself, the first lines of a batch are answered so, or none, and the rest are not.
 abbrev pub StopsIn : {S : Type 0} → Ghosts S → (Closed → S → Type 0) → (List ℕ → Option (List ℕ)) → Conditions → ℕ → List ℕ → Held S → Option (List ℕ) → Option (List ℕ) → Option (List ℕ) → Option (List ℕ) → Type 0
 StopsIn g leaves told c n text held old new fault_old fault_new =
-    (closed : Status) × Closes g leaves held (λ last. Stops (state g held) old new (AnswersPart told c n text)) fault_old fault_new closed
+    (closed : Closed) × Closes g leaves held (λ last. Stops (state g held) old new (AnswersPart told c n text)) fault_old fault_new closed
 
 -- and those of a shell
 abbrev pub StopsServing : {S : Type 0} → Ghosts S → (Closed → S → Type 0) → (List ℕ → Option (List ℕ)) → Conditions → Option (List ℕ) → Option (List ℕ) → Held S → Option (List ℕ) → Option (List ℕ) → Option (List ℕ) → Option (List ℕ) → Type 0
 StopsServing g leaves told c given left held old new fault_old fault_new =
-    (closed : Status) × Closes g leaves held (λ last. IfSome given (λ text. StopsText g told packed_blocks c Starved text left old new held last)) fault_old fault_new closed
+    (closed : Closed) × Closes g leaves held (λ last. IfSome given (λ text. StopsText g told packed_blocks c Starved text left old new held last)) fault_old fault_new closed

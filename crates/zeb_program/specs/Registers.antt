@@ -1,5 +1,5 @@
 -- On which register words have a command carried out: that in the store at the profile's path, or one in memory (this program's own).
-use Rattle.std.specs.Prelude.{◌≡◌, ℕ, IsTrue, List, Option, Some}
+use Rattle.std.specs.Prelude.{◌≡◌, ◌≢◌, ◌⊎◌, [], ℕ, IsTrue, true, List, Option, None, Some, Result}
 use Rattle.sqlite.specs.Held.{Held, state}
 use Rattle.sqlite.specs.State.{HasCleanDisk, State}
 use Rattle.sqlite.specs.Store.{Ghosts}
@@ -11,36 +11,47 @@ use Rattle.zeb_engine.specs.Taking.{GivesBack}
 use Rattle.zeb_engine.specs.Transactions.{IsDurable}
 use Rattle.zeb_image.specs.Holdings.{Holdings, nothing_yet}
 use Rattle.zeb_image.specs.Image.{Keeps}
+use Rattle.zeb_paths.specs.Walks.{Tells, telling}
 use Rattle.zeb_paths.specs.declared.causes.Closed.{Closed}
+use Rattle.zeb_paths.specs.declared.causes.PathCause.{PathCause}
+use Rattle.zeb_paths.specs.declared.causes.StoreCause.{StoreCause}
+use Rattle.zeb_paths.specs.declared.causes.StoreCause.TheVariants as store_cause
+use Rattle.zeb_paths.specs.declared.paths.PathKind.{PathKind}
 use Rattle.zeb_paths.specs.Opened.{IsWellOpened}
 use Rattle.zeb_profile.specs.declared.directives.Directive.{Directive}
 use Rattle.zeb_profile.specs.Indexes.{store_path}
 use Rattle.zeb_register.specs.Store.{IsStore}
 use Rattle.zeb_register.specs.Tables.{store_schema}
 use Rattle.zeb_program.specs.FaultAnswers.{IsOpeningFailure}
-use Rattle.zeb_program.specs.Statuses.{closing_status}
-use Rattle.zeb_program.specs.declared.statuses.Status.{Status}
 
--- What is known of the paths that a program is given: the bytes of files, by which connections the store at a path may be opened, where it may not
--- be, where none may stand, which stores were let go, and how one may be left at its path that was closed.
+-- What is known of the paths that a program is given: the bytes of files, what a walk over them sees behind a command, what may be told of why one isn't
+-- read, by which connections the store at a path may be opened, where it may not be, where none may stand and where one may, which stores were let go, and
+-- how one may be left at its path that was closed.
 pub record Places (S : Type 0) : Type 1 where
   pub store : Ghosts S
   pub tells : List ℕ → Option (List ℕ)
+  pub sees : Tells
+  pub explains : List ℕ → Option PathCause → Type 0
   pub opens : List ℕ → Held S → Type 0
-  pub refuses : List ℕ → Type 0
+  pub refuses : List ℕ → Option StoreCause → Type 0
   pub lacks : List ℕ → Type 0
+  pub has : List ℕ → Type 0
   pub lets_go : S → Type 0
   pub leaves : Closed → S → Type 0
 
 -- the same of paths that were these and are those, by what paths tell
-abbrev pub places : {S P : Type 0} → Ghosts S → (P → List ℕ → Option (List ℕ)) → (P → P → List ℕ → Held S → Type 0) → (P → P → List ℕ → Type 0) → (P → List ℕ → Type 0) → (P → S → Type 0) → (P → Closed → S → Type 0)
+abbrev pub places : {S P : Type 0} → Ghosts S → (P → List ℕ → Option (List ℕ)) → (P → List ℕ → Option (Result PathKind PathCause)) → (P → List ℕ → Option (List (List ℕ)))
+    → (P → List ℕ → Option PathCause → Type 0) → (P → P → List ℕ → Held S → Type 0) → (P → P → List ℕ → Option StoreCause → Type 0) → (P → List ℕ → Type 0) → (P → List ℕ → Type 0) → (P → S → Type 0) → (P → Closed → S → Type 0)
     → P → P → Places S
-places store tells opens refuses lacks lets_go leaves old new = record {
+places store tells stands lists explains opens refuses lacks has lets_go leaves old new = record {
   store = store;
   tells = tells old;
+  sees = telling (tells new) (stands new) (lists new);
+  explains = explains new;
   opens = opens old new;
   refuses = refuses old new;
   lacks = lacks old;
+  has = has old;
   lets_go = lets_go new;
   leaves = leaves new;
 }
@@ -49,9 +60,17 @@ places store tells opens refuses lacks lets_go leaves old new = record {
 abbrev pub OpensStore : {S : Type 0} → Places S → List Directive → Held S → Type 0
 OpensStore at profile opened = (path : List ℕ) × (store_path profile ≡ Some path) × at.opens path opened
 
+-- P is so of that path
+abbrev pub AtStore : List Directive → (List ℕ → Type 0) → Type 0
+AtStore profile P = (path : List ℕ) × (store_path profile ≡ Some path) × P path
+
 -- no store may stand there
 abbrev pub LacksStore : {S : Type 0} → Places S → List Directive → Type 0
-LacksStore at profile = (path : List ℕ) × (store_path profile ≡ Some path) × at.lacks path
+LacksStore at profile = AtStore profile at.lacks
+
+-- one may stand there
+abbrev pub HasStore : {S : Type 0} → Places S → List Directive → Type 0
+HasStore at profile = AtStore profile at.has
 
 -- it was opened well, and has the tables of a register
 abbrev pub IsOpenedRegister : State → Type 0
@@ -65,11 +84,16 @@ IsLetGo {S} g lets_go back = (left : S) × lets_go left × IsQuiet g.view g.faul
 abbrev pub IsGivenBack : {S : Type 0} → Ghosts S → Held S → Held S → Refusal → Type 0
 IsGivenBack g opened back why = IsOpeningFailure why × (HasCleanDisk (state g back) → GivesBack (state g opened) (state g back) why)
 
--- Why there is no register in the store at the profile's path: it can't be opened; or it is opened, isn't taken over, and is let go.
-pub data FailsOpening {S : Type 0} (at : Places S) (profile : List Directive) : Refusal → Type 0 where
-  shut : (path : List ℕ) → store_path profile ≡ Some path → at.refuses path → FailsOpening at profile Store
-  given_back : {why : Refusal} → (opened : Held S) → (back : Held S) → OpensStore at profile opened → IsGivenBack at.store opened back why → IsLetGo at.store at.lets_go back
-      → FailsOpening at profile why
+-- what is known of why a store isn't taken over that was opened: whether it has tables
+abbrev pub IsForeignCause : State → Option StoreCause → Type 0
+IsForeignCause s met = (s.now.schema.tables ≡ [] → met ≡ None) × (s.now.schema.tables ≢ [] → met ≡ Some store_cause.Foreign)
+
+-- Why there is no register in the store at the profile's path, and what is known of the cause: it can't be opened; or it is opened, isn't taken over,
+-- and is let go.
+pub data FailsOpening {S : Type 0} (at : Places S) (profile : List Directive) : Refusal → Option StoreCause → Type 0 where
+  shut : {met : Option StoreCause} → (path : List ℕ) → store_path profile ≡ Some path → at.refuses path met → FailsOpening at profile Store met
+  given_back : {why : Refusal} → {met : Option StoreCause} → (opened : Held S) → (back : Held S) → OpensStore at profile opened → IsForeignCause (state at.store opened) met
+      → IsGivenBack at.store opened back why → IsLetGo at.store at.lets_go back → FailsOpening at profile why met
 
 -- A store is taken over.
 pub record IsTakenOver {S : Type 0} (g : Ghosts S) (opened taken : Held S) : Type 0 where
@@ -80,10 +104,8 @@ pub record IsTakenOver {S : Type 0} (g : Ghosts S) (opened taken : Held S) : Typ
   -- a crash leaves what it left before, or the store of the register that was there
   pub lasts : AdoptLasts (state g opened) (state g taken)
 
--- The store of this connection is closed, and this is the status of that.
-pub record ClosesStore {S : Type 0} (g : Ghosts S) (leaves : Closed → S → Type 0) (last : Held S) (status : Status) : Type 0 where
-  pub closed : Closed
-  pub told : status ≡ closing_status closed
+-- The store of this connection is closed so.
+pub record ClosesStore {S : Type 0} (g : Ghosts S) (leaves : Closed → S → Type 0) (last : Held S) (closed : Closed) : Type 0 where
   -- it is left as the paths say
   pub left : S
   pub stands : leaves closed left
@@ -94,7 +116,7 @@ pub record ClosesStore {S : Type 0} (g : Ghosts S) (leaves : Closed → S → Ty
 
 -- The store at the profile's path is opened by this connection and taken over, at the end it is as the last one, and just that one is closed. P is so
 -- from the one that was taken over to the last, if the disk has given back what was written.
-pub record FromStore {S : Type 0} (at : Places S) (profile : List Directive) (closed : Status) (P : Held S → Held S → Type 0) : Type 0 where
+pub record FromStore {S : Type 0} (at : Places S) (profile : List Directive) (closed : Closed) (P : Held S → Held S → Type 0) : Type 0 where
   pub opened : Held S
   pub taken : Held S
   pub last : Held S
@@ -103,8 +125,12 @@ pub record FromStore {S : Type 0} (at : Places S) (profile : List Directive) (cl
   pub does : HasCleanDisk (state at.store last) → P taken last
   pub ends : ClosesStore at.store at.leaves last closed
 
--- P is so of the store of the register that is begun with, or, where none stands there and none is to be made, Q is of one in memory that holds
--- nothing yet
-pub data OnRegister {S : Type 0} (at : Places S) (profile : List Directive) (closed : Status) (Makes : Type 0) (P : Held S → Held S → Type 0) (Q : Holdings → Type 0) : Type 0 where
-  kept : FromStore at profile closed P → OnRegister at profile closed Makes P Q
-  none : LacksStore at profile → ¬ Makes → Q nothing_yet → OnRegister at profile closed Makes P Q
+-- where no store is opened none fails
+abbrev pub nothing_met : Closed
+nothing_met = record { is_whole = true; cause = None }
+
+-- P is so of the store of the register that is begun with, where one may stand there or one is to be made; or, where none stands there and none is to
+-- be made, Q is of one in memory that holds nothing yet
+pub data OnRegister {S : Type 0} (at : Places S) (profile : List Directive) (closed : Closed) (Makes : Type 0) (P : Held S → Held S → Type 0) (Q : Holdings → Type 0) : Type 0 where
+  kept : HasStore at profile ⊎ Makes → FromStore at profile closed P → OnRegister at profile closed Makes P Q
+  none : LacksStore at profile → ¬ Makes → closed ≡ nothing_met → Q nothing_yet → OnRegister at profile closed Makes P Q

@@ -11,10 +11,11 @@ use Rattle.zeb_words.specs.declared.words.Usage.TheVariants.{BadUsage, Refused, 
 use Rattle.zeb_program.specs.declared.tasks.Task.{Task}
 use Rattle.zeb_program.specs.Answers.{Writes}
 use Rattle.zeb_program.specs.Errands.{IsTaskOf}
-use Rattle.zeb_program.specs.FaultLines.{IsUnclosed}
+use Rattle.zeb_paths.specs.declared.causes.Closed.{Closed}
+use Rattle.zeb_program.specs.Closings.{TellsClosed}
 use Rattle.zeb_program.specs.Registers.{Places}
 use Rattle.zeb_program.specs.FixedLines.{usage_line}
-use Rattle.zeb_program.specs.Statuses.{IsFaultStatus}
+use Rattle.zeb_program.specs.Statuses.{IsFaultStatus, closing_status}
 use Rattle.zeb_program.specs.TaskAnswers.{ReadsWhole}
 use Rattle.zeb_program.specs.declared.statuses.Status.{Status}
 use Rattle.zeb_program.specs.declared.statuses.Status.TheVariants.{Answered, Misused, Failed}
@@ -56,17 +57,16 @@ TellsUsage Memory old new fault_old fault_new status = (status ≡ Failed) × Ke
 abbrev pub WarnsAtMost : Task → Option (List ℕ) → Option (List ℕ) → Type 0
 WarnsAtMost task fault_old fault_new = Keeps fault_old fault_new ⊎ (ReadsWhole task × Writes fault_old fault_new IsWarning)
 
--- the same, and below it that a part of what was done stands beside the register's file
-abbrev pub WarnsUnclosed : Task → Option (List ℕ) → Option (List ℕ) → Type 0
-WarnsUnclosed task fault_old fault_new = (between : Option (List ℕ)) × WarnsAtMost task fault_old between × Writes between fault_new IsUnclosed
+-- the same, and below it how the register was closed
+abbrev pub WarnsClosed : Task → Closed → Option (List ℕ) → Option (List ℕ) → Type 0
+WarnsClosed task closed fault_old fault_new = (between : Option (List ℕ)) × WarnsAtMost task fault_old between × TellsClosed between fault_new closed
 
 -- the answer to a task, under the profile in this file, goes to the output, and only a warning to the fault output, and, with status 3, that the
 -- register's file needs its log; why there is no answer goes to the fault output alone, as the line of a fault, with the status of that fault, and below
 -- it its cause
 abbrev pub TellsApart : {S : Type 0} → Places S → String Global → Task → Option (List ℕ) → Option (List ℕ) → Option (List ℕ) → Option (List ℕ) → Status → Type 0
 TellsApart at config task old new fault_old fault_new status =
-    ((status ≡ Answered) × WritesReply at config task status old new × WarnsAtMost task fault_old fault_new)
-    ⊎ ((status ≡ Failed) × WritesReply at config task status old new × WarnsUnclosed task fault_old fault_new)
+    ((closed : Closed) × (status ≡ closing_status closed) × WritesReply at config task closed old new × WarnsClosed task closed fault_old fault_new)
     ⊎ (IsFaultStatus status × Keeps old new × Writes fault_old fault_new (TellsWhy at config task status))
 
 -- What is written for words, and the status: of an input that has this before, where it tells that, and this behind, and of which a read failed or didn't.

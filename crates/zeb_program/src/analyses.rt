@@ -2,11 +2,13 @@
 
 ghost use Rattle.std.specs.Prelude.{◌≡◌, ◌⊎◌, ◌+◌, ◌∷◌, ◌++◌, [], ℕ, List, length, map, string_bytes, IfErr, IfOk};
 ghost use Rattle.zeb_engine.specs.Analysed.{HasLines};
+ghost use Rattle.zeb_paths.specs.Walks.{telling};
 ghost use Rattle.zeb_program.specs.FaultAnswers.{NamesUnder};
 ghost use Rattle.zeb_program.specs.Inputs.{AreShort};
 ghost use Rattle.zeb_program.specs.PrivateAnalyses.{ReadsFiles};
 ghost use Rattle.zeb_program.specs.PrivateFaults.{IsUnreadAt};
 ghost use Rattle.zeb_program.specs.TaskAnswers.{AreTold};
+ghost use Rattle.zeb_program.specs.WalkedFiles.{FindsAll};
 ghost use Rattle.zeb_program.specs.declared.faults.Fault.TheVariants.{Memory};
 
 use crate::faults::Fault;
@@ -44,6 +46,8 @@ pub fn analyse_files<S: Alter, L: Layout, P: Paths>(
         → IfErr result (λ fault. (fault ≡ Memory) ⊎ (¬ AreShort files)) }
     ensures unread { IfErr result (IsUnreadAt (P.tells paths.now)) }
     ensures under { IfErr result (NamesUnder (map string_bytes named.now)) }
+    ensures found { IfOk result (λ _. FindsAll (telling (P.tells paths.now) (P.stands paths.now)
+        (P.lists paths.now)) (map string_bytes named.now)) }
 {
     let mut buffer = RecordBuf::new(alloc)?;
     let mut unmarked = Vec::new(alloc);

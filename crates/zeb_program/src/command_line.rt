@@ -4,7 +4,7 @@ ghost use Rattle.std.specs.Prelude.{◌≡◌, ◌≢◌, ◌⊎◌, ◌+◌, �
 ghost use Rattle.std.specs.Prelude.{OnErr, IsErrAnd};
 ghost use Rattle.zeb_change.specs.Conditions.{conditions};
 ghost use Rattle.zeb_register.specs.Formats.{packed_blocks, version_of};
-ghost use Rattle.zeb_program.specs.PrivateWordRuns.{ClosesAloud, EndsSession, OpensUnder, RunsIn, ServesIn, StopsIn, StopsServing, TellsDone};
+ghost use Rattle.zeb_program.specs.PrivateWordRuns.{ClosesAloud, EndsSession, OpensUnder, RunsIn, ServesIn, StopsIn, StopsServing};
 ghost use Rattle.zeb_program.specs.ProfileFiles.{ReadsProfile};
 ghost use Rattle.zeb_program.specs.Registers.{places};
 ghost use Rattle.zeb_program.specs.Statuses.{closing_status};
@@ -14,7 +14,7 @@ ghost use Rattle.std.specs.Io.KnownBytes.{Appends, IsAtEnd};
 ghost use Rattle.zeb_program.specs.PrivateFaults.{IsUnread};
 ghost use Rattle.zeb_program.specs.Inputs.{TakesAtMost};
 ghost use Rattle.zeb_program.specs.FixedLines.{usage_line};
-ghost use Rattle.zeb_program.specs.WordAnswers.{AnswersWords, NamesLines, NamesNothing, NamesShell, StopsWords, TellsApart, TellsUsage, WarnsAtMost};
+ghost use Rattle.zeb_program.specs.WordAnswers.{AnswersWords, NamesLines, NamesNothing, NamesShell, StopsWords, TellsApart, TellsUsage, WarnsAtMost, WarnsClosed};
 ghost use Rattle.zeb_program.specs.PrivateWarnings.{MayWarn};
 ghost use Rattle.zeb_program.specs.declared.tasks.Task.{Task as Asked};
 ghost use Rattle.std.specs.Option.{option_map};
@@ -24,7 +24,7 @@ use crate::failures::{Failure, tell_closed, tell_failure};
 use crate::files::unread;
 use crate::input::{GREATEST_INPUT, read_text};
 use crate::outputs::Output;
-use crate::performing::{Told, close_register, open_register, perform, profile_at};
+use crate::performing::{Told, close_register, open_register, perform, profile_at, uses_store};
 use crate::script::Batch;
 use crate::shell::serve_lines;
 use crate::sinks::Sink;
@@ -56,18 +56,17 @@ pub fn run_words<R: Source, W: Output, V: Write, P: Paths>(
     ensures failed_read { R.has_failed input.new ≡ true
         → IfOk result (λ status. status ≡ Status.Failed) }
     ensures answer { IfOk result (λ status. output.new.failed ≡ false
-        → fault_output.new.failed ≡ false → AnswersWords (places P.Store.Store P.tells P.opens
-        P.refuses P.lacks P.lets_go P.leaves paths.old paths.new)
-        (map string_bytes words.now)
-        (R.remaining input.old) (R.remaining input.new) (R.has_failed input.new)
-        (W.contents output.old.writer) (W.contents output.new.writer)
+        → fault_output.new.failed ≡ false → AnswersWords (places P.Store.Store P.tells P.stands
+        P.lists P.explains P.opens P.refuses P.lacks P.has P.lets_go P.leaves paths.old paths.new)
+        (map string_bytes words.now) (R.remaining input.old) (R.remaining input.new)
+        (R.has_failed input.new) (W.contents output.old.writer) (W.contents output.new.writer)
         (V.contents fault_output.old.writer) (V.contents fault_output.new.writer) status) }
     ensures stopped { OnErr result (output.new.failed ≡ false → fault_output.new.failed ≡ false
-        → StopsWords (places P.Store.Store P.tells P.opens P.refuses P.lacks P.lets_go P.leaves
-        paths.old paths.new) (map string_bytes words.now)
-        (R.remaining input.old)
-        (R.remaining input.new) (W.contents output.old.writer) (W.contents output.new.writer)
-        (V.contents fault_output.old.writer) (V.contents fault_output.new.writer)) }
+        → StopsWords (places P.Store.Store P.tells P.stands P.lists P.explains P.opens P.refuses
+        P.lacks P.has P.lets_go P.leaves paths.old paths.new) (map string_bytes words.now)
+        (R.remaining input.old) (R.remaining input.new) (W.contents output.old.writer)
+        (W.contents output.new.writer) (V.contents fault_output.old.writer)
+        (V.contents fault_output.new.writer)) }
 {
     let Words {
         config,
@@ -126,11 +125,10 @@ fn run_task<W: Write, V: Write, P: Paths>(
     fault_output: &mut Sink<V>,
 ) -> Result<Status, AllocError>
     ensures apart { IfOk result (λ status. output.new.failed ≡ false
-        → fault_output.new.failed ≡ false → TellsApart (places P.Store.Store P.tells P.opens
-        P.refuses P.lacks P.lets_go P.leaves paths.old paths.new) config task.now
-        (W.contents output.old.writer)
-        (W.contents output.new.writer) (V.contents fault_output.old.writer)
-        (V.contents fault_output.new.writer) status) }
+        → fault_output.new.failed ≡ false → TellsApart (places P.Store.Store P.tells P.stands
+        P.lists P.explains P.opens P.refuses P.lacks P.has P.lets_go P.leaves paths.old paths.new)
+        config task.now (W.contents output.old.writer) (W.contents output.new.writer)
+        (V.contents fault_output.old.writer) (V.contents fault_output.new.writer) status) }
     // Memory that runs out in the program itself is found before anything is written.
     ensures stopped { OnErr result ((output.new ≡ output.old)
         × (fault_output.new ≡ fault_output.old)) }
@@ -151,8 +149,8 @@ fn tell_answer<W: Write, V: Write>(
         Appends (W.contents output.old.writer) (W.contents output.new.writer) told.now.text.items }
     ensures told { fault_output.new.failed ≡ false → (task : Asked)
         → MayWarn task (option_map string_bytes told.now.warning)
-        → TellsDone task (V.contents fault_output.old.writer) (V.contents fault_output.new.writer)
-        result }
+        → WarnsClosed task told.now.closed (V.contents fault_output.old.writer)
+        (V.contents fault_output.new.writer) }
     ensures closing { result ≡ closing_status told.now.closed }
 {
     output.write(told.text.as_slice());
@@ -188,18 +186,16 @@ fn run_batch<R: Source, W: Write, V: Write, P: Paths>(
     ensures failed_read { R.has_failed input.new ≡ true
         → IfOk result (λ status. status ≡ Status.Failed) }
     ensures answer { IfOk result (λ status. output.new.failed ≡ false
-        → fault_output.new.failed ≡ false
-        → RunsBatch (places P.Store.Store P.tells P.opens P.refuses P.lacks P.lets_go P.leaves
-        paths.old paths.new) config (R.remaining input.old)
-        (R.has_failed input.new)
-        (W.contents output.old.writer) (W.contents output.new.writer)
-        (V.contents fault_output.old.writer) (V.contents fault_output.new.writer) status) }
-    ensures stopped { OnErr result (output.new.failed ≡ false → fault_output.new.failed ≡ false
-        → StopsBatch (places P.Store.Store P.tells P.opens P.refuses P.lacks P.lets_go P.leaves
-        paths.old paths.new) config (R.remaining input.old)
-        (W.contents output.old.writer)
+        → fault_output.new.failed ≡ false → RunsBatch (places P.Store.Store P.tells P.stands P.lists
+        P.explains P.opens P.refuses P.lacks P.has P.lets_go P.leaves paths.old paths.new) config
+        (R.remaining input.old) (R.has_failed input.new) (W.contents output.old.writer)
         (W.contents output.new.writer) (V.contents fault_output.old.writer)
-        (V.contents fault_output.new.writer)) }
+        (V.contents fault_output.new.writer) status) }
+    ensures stopped { OnErr result (output.new.failed ≡ false → fault_output.new.failed ≡ false
+        → StopsBatch (places P.Store.Store P.tells P.stands P.lists P.explains P.opens P.refuses
+        P.lacks P.has P.lets_go P.leaves paths.old paths.new) config (R.remaining input.old)
+        (W.contents output.old.writer) (W.contents output.new.writer)
+        (V.contents fault_output.old.writer) (V.contents fault_output.new.writer)) }
 {
     match begin_batch(alloc, config, paths, input) {
         Ok((profile, text)) => {
@@ -227,11 +223,9 @@ fn begin_batch<R: Source, P: Paths>(
         (λ failure. IsUnread failure.fault) }
     ensures begun { IfOk result (λ begun. ReadsProfile (P.tells paths.now (string_bytes config))
         config (Ok begun.0) × IsText (R.remaining input.old) (string_bytes begun.1)) }
-    ensures refused { IfErr result
-        (λ failure. StopsReading (places P.Store.Store P.tells P.opens P.refuses P.lacks
-        P.lets_go P.leaves paths.now paths.now) config (R.remaining input.old)
-        (R.has_failed input.new)
-        failure.fault) }
+    ensures refused { IfErr result (λ failure. StopsReading (places P.Store.Store P.tells P.stands
+        P.lists P.explains P.opens P.refuses P.lacks P.has P.lets_go P.leaves paths.now paths.now)
+        config (R.remaining input.old) (R.has_failed input.new) failure.fault failure.cause) }
 {
     let profile = profile_at(alloc, paths, config)?;
     match read_text(alloc, input, GREATEST_INPUT) {
@@ -257,20 +251,17 @@ fn serve_batch<W: Write, V: Write, P: Paths>(
     fault_output: &mut Sink<V>,
 ) -> Result<Status, AllocError>
     ensures answer { batch.entry.lines_before ≡ 0 → IfOk result (λ status. output.new.failed ≡ false
-        → fault_output.new.failed ≡ false
-        → RunsLines (places P.Store.Store P.tells P.opens P.refuses P.lacks P.lets_go P.leaves
-        paths.old paths.new) profile batch.entry.text.now
-        (W.contents output.old.writer)
-        (W.contents output.new.writer) (V.contents fault_output.old.writer)
-        (V.contents fault_output.new.writer) status) }
+        → fault_output.new.failed ≡ false → RunsLines (places P.Store.Store P.tells P.stands P.lists
+        P.explains P.opens P.refuses P.lacks P.has P.lets_go P.leaves paths.old paths.new) profile
+        batch.entry.text.now (W.contents output.old.writer) (W.contents output.new.writer)
+        (V.contents fault_output.old.writer) (V.contents fault_output.new.writer) status) }
     ensures stopped { batch.entry.lines_before ≡ 0 → OnErr result (output.new.failed ≡ false
-        → fault_output.new.failed ≡ false → StopsLines (places P.Store.Store P.tells P.opens
-        P.refuses P.lacks P.lets_go P.leaves paths.old paths.new) profile
-        batch.entry.text.now
-        (W.contents output.old.writer) (W.contents output.new.writer)
+        → fault_output.new.failed ≡ false → StopsLines (places P.Store.Store P.tells P.stands
+        P.lists P.explains P.opens P.refuses P.lacks P.has P.lets_go P.leaves paths.old paths.new)
+        profile batch.entry.text.now (W.contents output.old.writer) (W.contents output.new.writer)
         (V.contents fault_output.old.writer) (V.contents fault_output.new.writer)) }
 {
-    if !batch.begins() && !paths.has_store(profile.store_path()) {
+    if !uses_store(paths, &profile, batch.begins()) {
         return run_on_nothing(alloc, profile, paths, batch, output, fault_output);
     }
     match open_register(alloc, paths, profile) {
@@ -322,17 +313,15 @@ fn run_shell<R: Source, W: Output, V: Write, P: Paths>(
     ensures whole { IfOk result (λ status. status ≢ Status.Failed → IsAtEnd (R.remaining input.new)
         ⊎ (output.new ≡ output.old)) }
     ensures answer { IfOk result (λ status. output.new.failed ≡ false
-        → fault_output.new.failed ≡ false
-        → RunsShell (places P.Store.Store P.tells P.opens P.refuses P.lacks P.lets_go P.leaves
-        paths.old paths.new) config (R.remaining input.old)
-        (R.remaining input.new)
-        (R.has_failed input.new) (W.contents output.old.writer) (W.contents output.new.writer)
+        → fault_output.new.failed ≡ false → RunsShell (places P.Store.Store P.tells P.stands P.lists
+        P.explains P.opens P.refuses P.lacks P.has P.lets_go P.leaves paths.old paths.new) config
+        (R.remaining input.old) (R.remaining input.new) (R.has_failed input.new)
+        (W.contents output.old.writer) (W.contents output.new.writer)
         (V.contents fault_output.old.writer) (V.contents fault_output.new.writer) status) }
     ensures stopped { OnErr result (output.new.failed ≡ false → fault_output.new.failed ≡ false
-        → StopsShell (places P.Store.Store P.tells P.opens P.refuses P.lacks P.lets_go P.leaves
-        paths.old paths.new) config (R.remaining input.old)
-        (R.remaining input.new)
-        (W.contents output.old.writer) (W.contents output.new.writer)
+        → StopsShell (places P.Store.Store P.tells P.stands P.lists P.explains P.opens P.refuses
+        P.lacks P.has P.lets_go P.leaves paths.old paths.new) config (R.remaining input.old)
+        (R.remaining input.new) (W.contents output.old.writer) (W.contents output.new.writer)
         (V.contents fault_output.old.writer) (V.contents fault_output.new.writer)) }
 {
     match open(alloc, config, paths) {
@@ -397,14 +386,13 @@ fn open<P: Paths>(
     config: String,
     paths: &mut P,
 ) -> Result<Session<P::Store, Blocks>, Failure>
-    ensures opened { IfOk result
-        (λ session. OpensUnder (places P.Store.Store P.tells P.opens P.refuses P.lacks P.lets_go
-        P.leaves paths.old paths.new) config
-        (conditions (version_of packed_blocks) session.profile
-        session.limits) session.connection) }
-    ensures failed { IfErr result
-        (λ failure. StopsOpening (places P.Store.Store P.tells P.opens P.refuses P.lacks
-        P.lets_go P.leaves paths.old paths.new) config failure.fault) }
+    ensures opened { IfOk result (λ session. OpensUnder (places P.Store.Store P.tells P.stands
+        P.lists P.explains P.opens P.refuses P.lacks P.has P.lets_go P.leaves paths.old paths.new)
+        config (conditions (version_of packed_blocks) session.profile session.limits)
+        session.connection) }
+    ensures failed { IfErr result (λ failure. StopsOpening (places P.Store.Store P.tells P.stands
+        P.lists P.explains P.opens P.refuses P.lacks P.has P.lets_go P.leaves paths.old paths.new)
+        config failure.fault failure.cause) }
     ensures told { P.tells paths.new ≡ P.tells paths.old }
 {
     let profile = profile_at(alloc, paths, config)?;

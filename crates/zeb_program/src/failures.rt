@@ -1,11 +1,13 @@
 //! Why a command that words name isn't answered, with its cause, and what is written of both.
 
-ghost use Rattle.std.specs.Prelude.{◌≡◌, ◌⊎◌, ◌↔◌, false, true, IfOk, OnErr};
+ghost use Rattle.std.specs.Prelude.{◌≡◌, false, true, None, IfOk, OnErr};
 ghost use Rattle.std.specs.Option.{option_map};
 ghost use Rattle.zeb_program.specs.Answers.{Writes};
-ghost use Rattle.zeb_program.specs.FaultLines.{IsCauseOf, IsUnclosed, TellsFailure, cause_line, cause_lines, unclosed_lines, unread_lines};
+ghost use Rattle.zeb_program.specs.Closings.{TellsClosed};
+ghost use Rattle.zeb_program.specs.FaultLines.{IsCauseOf, TellsCaused, cause_line, cause_lines, unclosed_lines, unread_lines};
 ghost use Rattle.zeb_program.specs.declared.failures.Cause.TheVariants.{Path as PathOf, Store as StoreOf};
-ghost use Rattle.zeb_program.specs.PrivateFaults.{IsUnread, refusal_cause};
+ghost use Rattle.zeb_program.specs.Explanations.{ExplainsUnread, refusal_cause};
+ghost use Rattle.zeb_program.specs.PrivateFaults.{IsUnread};
 ghost use Rattle.zeb_program.specs.Statuses.{IsFaultStatus, closing_status};
 ghost use Rattle.zeb_program.specs.declared.faults.Fault.TheVariants.{Memory, Refused};
 ghost use Rattle.std.specs.Io.KnownBytes.{Appends};
@@ -42,7 +44,7 @@ pub struct Failure {
 }
 
 impl From<AllocError> for Failure {
-    ghost from_gives = { λ _ failure. failure.fault ≡ Memory };
+    ghost from_gives = { λ _ failure. (failure.fault ≡ Memory) × (failure.cause ≡ None) };
 
     fn from(_error: AllocError) -> Failure {
         Failure {
@@ -53,7 +55,8 @@ impl From<AllocError> for Failure {
 }
 
 impl From<Refusal> for Failure {
-    ghost from_gives = { λ refusal failure. failure.fault ≡ Refused refusal };
+    ghost from_gives = { λ refusal failure. (failure.fault ≡ Refused refusal)
+        × (failure.cause ≡ None) };
 
     fn from(refusal: Refusal) -> Failure {
         Failure {
@@ -66,7 +69,7 @@ impl From<Refusal> for Failure {
 /// A fault, with what its path is met with where it is looked at anew.
 pub fn of_path<P: Paths>(paths: &P, fault: Fault) -> Failure
     ensures fault { result.fault ≡ fault }
-    ensures cause { (met : _) × (result.cause ≡ option_map PathOf met) }
+    ensures cause { ExplainsUnread (P.explains paths.now) fault result.cause }
 {
     let cause = match &fault {
         Fault::Unreadable(path) => path_cause(paths.why_unread(path.as_str())),
@@ -112,7 +115,7 @@ pub fn tell_failure<W: Write>(
 ) -> Result<Status, AllocError>
     ensures told { IfOk result (λ status. output.new.failed ≡ false →
         Writes (W.contents output.old.writer) (W.contents output.new.writer)
-        (λ bytes. TellsFailure failure.now.fault bytes status)) }
+        (λ bytes. TellsCaused failure.now.fault failure.now.cause bytes status)) }
     ensures sound { output.new.failed ≡ false → output.old.failed ≡ false }
     ensures status { IfOk result IsFaultStatus }
     ensures unread { IsUnread failure.now.fault → IfOk result (λ status. status ≡ Status.Failed) }
@@ -162,13 +165,11 @@ pub fn tell_unread<W: Write>(cause: InputCause, output: &mut Sink<W>)
 
 /// Writes that a part of what was done stands beside the register's file, where it does, and answers the status.
 pub fn tell_closed<W: Write>(closed: Closed, output: &mut Sink<W>) -> Status
-    ensures said { closed.is_whole ≡ true ↔ (result ≡ Status.Answered) }
-    ensures whole { result ≡ Status.Answered → output.new ≡ output.old }
-    ensures unclosed { result ≡ Status.Failed → output.new.failed ≡ false →
-        Writes (W.contents output.old.writer) (W.contents output.new.writer) IsUnclosed }
+    ensures status { result ≡ closing_status closed }
+    ensures told { output.new.failed ≡ false → TellsClosed (W.contents output.old.writer)
+        (W.contents output.new.writer) closed }
+    ensures whole { closed.is_whole ≡ true → output.new ≡ output.old }
     ensures sound { output.new.failed ≡ false → output.old.failed ≡ false }
-    ensures status { (result ≡ Status.Answered) ⊎ (result ≡ Status.Failed) }
-    ensures closing { result ≡ closing_status closed }
 {
     if closed.is_whole {
         return Status::Answered;

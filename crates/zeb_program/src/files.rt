@@ -1,17 +1,18 @@
 //! The files at the paths that words or a line name.
 
-ghost use Rattle.std.specs.Prelude.{◌≡◌, ◌+◌, ℕ, List, Some, Ok, map, string_bytes, Err, IfErr, IfOk, IfSome, false, true};
+ghost use Rattle.std.specs.Prelude.{◌≡◌, ◌+◌, ℕ, List, Some, map, string_bytes, Err, IfErr, IfOk, false, true};
 ghost use Rattle.zeb_paths.specs.Walks.{telling};
 ghost use Rattle.zeb_program.specs.Inputs.{TakesAtMost};
-ghost use Rattle.zeb_program.specs.PrivateFaults.{IsNth, IsUnfound, IsUnread};
-ghost use Rattle.zeb_program.specs.PrivateFiles.{ReadsBelow, ReadsContent, sure_bytes};
+ghost use Rattle.zeb_program.specs.PrivateFaults.{IsUnfound, IsUnread};
+ghost use Rattle.zeb_program.specs.PrivateFiles.{IsGiven, ReadsBelow, ReadsContent, sure_bytes};
 ghost use Rattle.zeb_program.specs.ProfileFiles.{ReadsProfile};
 ghost use Rattle.zeb_program.specs.TaskAnswers.{AreTold};
+ghost use Rattle.zeb_program.specs.WalkedFiles.{FindsNthFile};
 ghost use Rattle.zeb_program.specs.declared.faults.Fault.TheVariants.{Memory, Unreadable};
 
 use crate::faults::Fault;
 use crate::input::{GREATEST_INPUT, InputFault, read_text, read_whole};
-use std::alloc::Global;
+use std::alloc::{AllocError, Global};
 use zeb_marc::Source;
 use zeb_paths::{Paths, Walk, WalkFault};
 use zeb_profile::Profile;
@@ -85,35 +86,35 @@ pub fn readers_of<P: Paths>(
     Ok(readers)
 }
 
-/// The path of the file that has this number, from 1, among those at and below the paths. `None` where it isn't found, or memory runs out.
+/// The path of the file that has this number, from 1, among those at and below the paths. `None` where there is no such file, or the walk
+/// can't go on to it.
 pub fn path_of_file<P: Paths>(
     alloc: Global,
     paths: &P,
     named: &[String],
     number: u64,
-) -> Option<String>
-    ensures { IfSome result (IsNth
+) -> Result<Option<String>, AllocError>
+    ensures { IfOk result (FindsNthFile
         (telling (P.tells paths.now) (P.stands paths.now) (P.lists paths.now))
         (map string_bytes named.now) number) }
 {
-    let Ok(mut walk) = Walk::new(alloc, paths, named) else {
-        return None;
-    };
+    let mut walk = Walk::new(alloc, paths, named)?;
     for _nth in 1..number {
-        let Some(_passed) = given(walk.next_file()) else {
-            return None;
+        let Some(_passed) = given(walk.next_file())? else {
+            return Ok(None);
         };
     }
     given(walk.next_file())
 }
 
 /// The file that a walk gives. `None` where there is none, or it can't go on.
-fn given(found: Result<Option<String>, WalkFault>) -> Option<String>
-    ensures { IfSome result (λ path. found ≡ Ok (Some path)) }
+fn given(found: Result<Option<String>, WalkFault>) -> Result<Option<String>, AllocError>
+    ensures { IfOk result (IsGiven found) }
 {
     match found {
-        Ok(found) => found,
-        Err(_) => None,
+        Ok(found) => Ok(found),
+        Err(WalkFault::Unreadable(_)) => Ok(None),
+        Err(WalkFault::Memory) => Err(AllocError),
     }
 }
 

@@ -47,7 +47,8 @@ pub fn read_text<R: Source>(
 ) -> Result<String, InputFault>
     requires sound { R.has_failed source.old ≡ false }
     requires bounded { most ≤ GREATEST_INPUT }
-    ensures text { IfOk result (λ text. IfSome (R.remaining source.old) (λ bytes. string_bytes text ≡ bytes)) }
+    ensures text { IfOk result (λ text. IfSome (R.remaining source.old)
+        (λ bytes. string_bytes text ≡ bytes)) }
     ensures short { IfOk result (λ text. string_len text ≤ most) }
     // A source that tells its bytes and doesn't fail is refused only for what they are, or for memory.
     ensures unreadable { result ≡ Err Unreadable → R.has_failed source.new ≡ false →
@@ -70,7 +71,8 @@ pub fn read_whole<R: Source>(
 ) -> Result<Vec<u8>, InputFault>
     requires sound { R.has_failed source.old ≡ false }
     requires bounded { most ≤ GREATEST_INPUT }
-    ensures whole { IfOk result (λ bytes. (vec_len bytes ≤ most) × IfSome (R.remaining source.old) (λ left. bytes.items ≡ left)) }
+    ensures whole { IfOk result (λ bytes. (vec_len bytes ≤ most)
+        × IfSome (R.remaining source.old) (λ left. bytes.items ≡ left)) }
     ensures unreadable { result ≡ Err Unreadable → R.has_failed source.new ≡ false →
         IfSome (R.remaining source.old) (λ left. ¬ (length left ≤ most)) }
     ensures failed { R.has_failed source.new ≡ true → result ≡ Err Unreadable }
@@ -88,7 +90,8 @@ pub fn read_whole<R: Source>(
 fn read_bytes<R: Source>(alloc: Global, source: &mut R, most: usize) -> Result<Vec<u8>, InputFault>
     requires sound { R.has_failed source.old ≡ false }
     requires bounded { most ≤ GREATEST_INPUT }
-    ensures taken { IfOk result (λ bytes. Consumes (R.remaining source.old) (R.remaining source.new) bytes.items) }
+    ensures taken { IfOk result (λ bytes.
+        Consumes (R.remaining source.old) (R.remaining source.new) bytes.items) }
     ensures end { IfOk result (λ bytes. vec_len bytes ≤ most → IsAtEnd (R.remaining source.new)) }
     ensures failed { result ≡ Err Unreadable ↔ R.has_failed source.new ≡ true }
     ensures able { R.may_fail source.old ≡ false → R.has_failed source.new ≡ false }

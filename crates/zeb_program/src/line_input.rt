@@ -70,7 +70,8 @@ pub fn read_line<R: Source>(
 ) -> Result<Vec<u8>, LineFault>
     requires sound { R.has_failed source.old ≡ false }
     requires bounded { most ≤ GREATEST_INPUT }
-    ensures read { IfOk result (λ line. ReadsLine (R.remaining source.old) (R.remaining source.new) line.items) }
+    ensures read { IfOk result (λ line.
+        ReadsLine (R.remaining source.old) (R.remaining source.new) line.items) }
     ensures sound { IfOk result (λ _. R.has_failed source.new ≡ false) }
     // A source that tells its bytes is refused only for a line that is too long, for a read that failed, or for memory.
     ensures stops { IfErr result (λ fault. IfSome (R.remaining source.old)

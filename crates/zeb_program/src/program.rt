@@ -76,12 +76,11 @@ pub fn run<R: Source, W: Output, V: Output, P: Paths>(
 
     // With words: what is told of the register that they have a command carried out on is told where the paths tell what opens it.
     ensures words { words.now ≢ [] → output.new.failed ≡ false → fault_output.new.failed ≡ false
-        → EndsWith result (EndsWords (places P.Store.Store P.tells P.opens P.refuses P.lacks
-        P.lets_go P.leaves files.old files.new) (map string_bytes words.now)
-        (R.remaining input.old)
-        (R.remaining input.new) (R.has_failed input.new) (W.contents output.old.writer)
-        (W.contents output.new.writer) (V.contents fault_output.old.writer)
-        (V.contents fault_output.new.writer)) }
+        → EndsWith result (EndsWords (places P.Store.Store P.tells P.stands P.lists P.explains
+        P.opens P.refuses P.lacks P.has P.lets_go P.leaves files.old files.new)
+        (map string_bytes words.now) (R.remaining input.old) (R.remaining input.new)
+        (R.has_failed input.new) (W.contents output.old.writer) (W.contents output.new.writer)
+        (V.contents fault_output.old.writer) (V.contents fault_output.new.writer)) }
 {
     if words.is_empty() {
         let ended = run_script(alloc, files, input, output);

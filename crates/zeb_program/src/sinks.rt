@@ -1,6 +1,6 @@
 //! Where the program writes.
 
-ghost use Rattle.std.specs.Prelude.{◌≡◌, [], false, true, IfSome};
+ghost use Rattle.std.specs.Prelude.{◌≡◌, ◌⊎◌, [], false, true, IfSome};
 ghost use Rattle.std.specs.Io.KnownBytes.{Appends, Keeps};
 ghost use Rattle.std.specs.Fmt.{with_newline};
 
@@ -27,14 +27,14 @@ impl<W: Write> Sink<W> {
         }
     }
 
-    /// Writes these bytes, unless a write has failed before.
+    /// Writes these bytes, unless a write has failed before. To write nothing can't fail.
     pub fn write(&mut self, bytes: &[u8])
         ensures sound { self.new.failed ≡ false → self.old.failed ≡ false }
-        ensures silent { self.old.failed ≡ true → self.new ≡ self.old }
+        ensures silent { (self.old.failed ≡ true) ⊎ (bytes.now ≡ []) → self.new ≡ self.old }
         ensures bytes { self.new.failed ≡ false →
             Appends (W.contents self.old.writer) (W.contents self.new.writer) bytes.now }
     {
-        if !self.failed {
+        if !self.failed && !bytes.is_empty() {
             self.failed = self.writer.write_all(bytes).is_err();
         }
     }

@@ -8,8 +8,9 @@ ghost use Rattle.zeb_image.specs.NameOf.{name_bytes};
 ghost use Rattle.zeb_register.specs.Calls.{ChangesNothing};
 ghost use Rattle.zeb_register.specs.Formats.{version_of};
 ghost use Rattle.zeb_engine.specs.declared.replies.Reply.{Reply};
+ghost use Rattle.zeb_paths.specs.Walks.{telling};
 ghost use Rattle.zeb_program.specs.PrivateFaults.{IsUnread};
-ghost use Rattle.zeb_program.specs.FaultAnswers.{GivesAnswer, NamesUnder};
+ghost use Rattle.zeb_program.specs.FaultAnswers.{GivesAnswer, Reaches};
 ghost use Rattle.zeb_program.specs.OverTables.{AnalysesOver, PathsLeave, PathsOver, ServesOver};
 ghost use Rattle.zeb_program.specs.PrivateServing.{CarriesOut, StandsFor};
 ghost use Rattle.zeb_program.specs.Serving.{AnswersFrom};
@@ -161,9 +162,10 @@ pub fn carry_out<S: Alter, L: Layout, P: Paths>(
     task: &Task,
 ) -> Result<Served, Fault>
     ensures done { (answer : Result Reply Fault) × StandsFor result answer
-        × CarriesOut (P.tells paths.now) L.format (conditions (version_of L.format)
-        session.old.profile session.old.limits) task.now (state S.Store session.old.connection)
-        (state S.Store session.new.connection) answer }
+        × CarriesOut (P.tells paths.now)
+        (telling (P.tells paths.now) (P.stands paths.now) (P.lists paths.now)) L.format
+        (conditions (version_of L.format) session.old.profile session.old.limits) task.now
+        (state S.Store session.old.connection) (state S.Store session.new.connection) answer }
     ensures clean { HasCleanDisk (state S.Store session.new.connection)
         → HasCleanDisk (state S.Store session.old.connection) }
     // An analysis leaves the connection as it is, whatever it is answered. Where something couldn't be read, the register was asked for nothing.
@@ -245,7 +247,8 @@ pub fn change_by_paths<S: Alter, L: Layout, P: Paths>(
         session.old.limits) kind (name_bytes database.now) (map string_bytes named.now)
         (state S.Store session.old.connection) (state S.Store session.new.connection) result }
     ensures unread { IfErr result (λ fault. IsUnread fault → session.new ≡ session.old) }
-    ensures names { IfErr result (NamesUnder (map string_bytes named.now)) }
+    ensures reaches { Reaches (telling (P.tells paths.now) (P.stands paths.now)
+        (P.lists paths.now)) (map string_bytes named.now) result }
 {
     let mut readers = readers_of(alloc, paths, named)?;
     match session.update_from(database, kind, &mut readers) {
@@ -265,7 +268,8 @@ fn analyse_paths<S: Alter, L: Layout, P: Paths>(
     ensures over { (answer : Result Reply Fault) × StandsFor result answer
         × AnalysesOver (P.tells paths.now) session.now.profile session.now.limits.records
         (map string_bytes named.now) answer }
-    ensures names { IfErr result (NamesUnder (map string_bytes named.now)) }
+    ensures reaches { Reaches (telling (P.tells paths.now) (P.stands paths.now)
+        (P.lists paths.now)) (map string_bytes named.now) result }
     // Where the bytes of a file at each path are told.
     ensures unmarked { (files : List (List ℕ)) → AreTold (P.tells paths.now)
         (map string_bytes named.now) files

@@ -120,7 +120,7 @@ pub use Rattle.zeb_register.specs.Clauses.{IsReasoned}
 pub use Rattle.zeb_register.specs.Content.{posted, Content, HasRisingLists, posting_cmp, posting_at, ArePlacesOf, IsChangedAt, IsWithout, place_cmp, AreChangedAt, AreListChanges, IsListChanged, TakesWhole, IsStorable}
 pub use Rattle.zeb_register.specs.Expected.{AreExpected, IsOrdered, IsExpectedAs, IsPostingExpected, key_posting_order, name_order, IsTextOf, number_order}
 pub use Rattle.zeb_register.specs.Faults.{fault_of}
-pub use Rattle.zeb_register.specs.Formats.{packed_blocks, plain_rows, Format, holds_in, version_of}
+pub use Rattle.zeb_register.specs.Formats.{packed_blocks, packed_leaves, plain_rows, Format, holds_in, version_of}
 pub use Rattle.zeb_register.specs.Kept.{record_shown, AreNumbered, AreReadableIdents, AreReadable, IsFirstFrom, IsNumberOf}
 pub use Rattle.zeb_register.specs.Occurring.{HasKey, key_in, IsCount, AreCounts, term_cmp, AreTermsOf, Spot, spot_cmp, capped, TermIn, AreSpotsOf, AreTotals, is_before, is_from, last, HasSpot}
 pub use Rattle.zeb_register.specs.PackedBlocks.{HoldsBlocks, part_in, SpellsPart, blocks_of, block_row, IsBlockRow, IsDictRow, dict_row}
@@ -138,7 +138,7 @@ pub use Rattle.zeb_register.specs.PrivateRowStatements.{Lists, ListsInside, IsMa
 pub use Rattle.zeb_register.specs.PrivateRowTerms.{IsInRecord, ReadsRows, ReadsInside, IsCountedIn, term_with, IsShown, HasTerm, ShowsOccurrence, IsOccurrenceRow, ShowsTerm, IsTermRow, ShowsNearest, FindsNearest, HidesText, SomeIsNoOccurrence}
 pub use Rattle.zeb_register.specs.PrivateStoreTables.{HasEmpty, create_text, schema_after, schema_before, clear_text, tree_at, wipe_text}
 pub use Rattle.zeb_register.specs.Queries.{LooksUp, IsSilent}
-pub use Rattle.zeb_register.specs.Sound.{KeepsBeside, KeepsMalformed, KeepsRowsBeside}
+pub use Rattle.zeb_register.specs.Sound.{KeepsBeside, KeepsMalformed, KeepsRowsBeside, keeps_malformed}
 pub use Rattle.zeb_register.specs.Sql.{HasRow, IsListOf, IsKeyed, KeepsOthers, KeepsTables, HasLayout, Loses, Replaces, ChangesOneTable}
 pub use Rattle.zeb_register.specs.Store.{IsStore, blocks_tree, dict_tree, postings_tree, HasDatabase, records_tree, IsRest, key_of, Changes, IsEmptyStore, databases_tree, TakesDatabase, entry, meta_tree, IsRecordIn, KeepsRegisters, LacksRegisters, AreReadableTexts, HasRecord, IsPostingIn, record_row, HasNumber, SharesRecord, IsEntryOf, KeepsLists}
 pub use Rattle.zeb_register.specs.Tables.{store_schema, databases_table, meta_table, postings_table, blocks_table, dict_table, records_table}

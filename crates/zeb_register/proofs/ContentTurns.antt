@@ -1,5 +1,5 @@
--- A key's list as changes make it of a content, and its units as they are turned, in either format.
-use Rattle.zeb_register.proofs.Cited.{true, length, drop, ◌≡◌, ◌≢◌, ◌∙◌, ◌+◌, ◌/◌, ◌==◌, ◌≤◌, ℕ, zero, suc, List, [], ◌∷◌, filter, nat_eq, refl, sym, ap, subst, inl, inr, arith, eqb-true, eqb_tells, AllByRecursion, Has, has_filtered, has_mapped, Posting, Place, RecordChange, AreListChanges, ArePlacesOf, IsListChanged, place_cmp, posting_at, posting_cmp, IsCount, IsInRecord, false, ◌⊎◌, ◌↔◌, Format, packed_blocks, plain_rows}
+-- A key's list as changes make it of a content, and its units as they are turned, in each format.
+use Rattle.zeb_register.proofs.Cited.{true, length, drop, ◌≡◌, ◌≢◌, ◌∙◌, ◌+◌, ◌/◌, ◌==◌, ◌≤◌, ℕ, zero, suc, List, [], ◌∷◌, filter, nat_eq, refl, sym, ap, subst, inl, inr, arith, eqb-true, eqb_tells, AllByRecursion, Has, has_filtered, has_mapped, Posting, Place, RecordChange, AreListChanges, ArePlacesOf, IsListChanged, place_cmp, posting_at, posting_cmp, IsCount, IsInRecord, false, ◌⊎◌, ◌↔◌, Format, packed_blocks, packed_leaves, plain_rows}
 use Rattle.zeb_register.specs.Content.{OldsRise, places_in}
 use Rattle.zeb_register.proofs.ContentChanges.{at_sysno}
 use Rattle.zeb_register.proofs.CountLemmas.{count_upto, counted_none, one_count}
@@ -141,6 +141,7 @@ module _ (change : RecordChange) (one two : List Posting) (found : ArePlacesOf c
 
   turned_count : (format : Format) → (1 ≤ change.sysno) × (change.sysno ≤ 999999999) → InRange one → turns_count format change (units_of one was) (units_of two (records_of two))
   turned_count plain_rows own all = tt
+  turned_count packed_leaves own all = tt
   turned_count packed_blocks own all = record {
     counted = counts_on change.old.now change.new.now found is.part;
     few = count_upto (IsInRecord two) (records_of two) 999999999 (records_count two) (in_range own all);

@@ -37,6 +37,15 @@ pub mod TermsAmong
 pub mod TermRows
 pub mod PackedLemmas
 pub mod PackedLists
+pub mod LeafReadings
+pub mod LeafSums
+pub mod LeafContents
+pub mod SameLeaves
+pub mod TakenLeaves
+pub mod LeafTerms
+pub mod KeyOrder
+pub mod HeldRegisters
+pub mod WorkedRegisters
 pub mod ListChanges
 pub mod BetweenLemmas
 pub mod PlaceLemmas
@@ -75,6 +84,9 @@ pub mod UnitRows
 pub mod PlainTurns
 pub mod PlainKeyLaws
 pub mod PackedKeyLaws
+pub mod KeptLeaves
+pub mod LeafChanges
+pub mod LeafRuns
 pub mod UnitChangeLaws
 pub mod AlikeRows
 pub mod RunRows

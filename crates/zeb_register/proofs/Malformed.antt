@@ -1,27 +1,38 @@
--- Rows of the registers that are there still: malformed ones, and those beside the rows of one key.
-use Rattle.zeb_register.proofs.Cited.{Database, Row, column, Trees, Int, Null, Text, Has, ◌≡◌, ◌≢◌, ◌∷◌, ◌++◌, [], ℕ, ℤ, pos, List, ap, sym, subst, Key, register_code, key_row, KeepsBeside, KeepsMalformed, KeepsRowsBeside, HasRow, KeepsRegisters, blocks_tree, dict_tree, postings_tree}
+-- What is malformed in the registers and is so still, and rows beside those of one key that are there still.
+use Rattle.zeb_register.proofs.Cited.{Database, Row, column, Trees, Int, Null, Text, Has, ◌≡◌, ◌≢◌, ◌∷◌, ◌++◌, [], ℕ, ℤ, pos, List, ap, sym, subst, Key, register_code, key_row, KeepsBeside, KeepsMalformed, KeepsRowsBeside, HasRow, KeepsRegisters, blocks_tree, dict_tree, postings_tree, Format, keeps_malformed, packed_blocks, packed_leaves, plain_rows}
+use Rattle.zeb_register.specs.LeafUnits.{IsLeafMalformed}
 
 pub row_same : (tree : ℕ) (old new : Trees) → new tree ≡ old tree → (row : Row) → HasRow old tree row → HasRow new tree row
 row_same tree old new same row there = (there.0, subst (λ (rows : List Row). Has rows (Int there.0 ∷ row)) (sym same) there.1)
 
--- ---- malformed rows
+-- ---- what is malformed
 
--- the tables of the packed registers are as they were
-pub malformed_same : (old new : Trees) → new blocks_tree ≡ old blocks_tree → new dict_tree ≡ old dict_tree → KeepsMalformed old new
-malformed_same old new blocks dict = record {
+rows_same : (old new : Trees) → new blocks_tree ≡ old blocks_tree → new dict_tree ≡ old dict_tree → KeepsMalformed old new
+rows_same old new blocks dict = record {
   blocks = λ row bad there. row_same blocks_tree old new blocks row there;
   dict = λ row bad there. row_same dict_tree old new dict row there;
 }
 
-pub malformed_then : (a b c : Trees) → KeepsMalformed a b → KeepsMalformed b c → KeepsMalformed a c
-malformed_then a b c one two = record {
+-- the tables of the packed registers are as they were
+pub malformed_same : (format : Format) (old new : Trees) → new blocks_tree ≡ old blocks_tree → new dict_tree ≡ old dict_tree → keeps_malformed format old new
+malformed_same plain_rows = rows_same
+malformed_same packed_blocks = rows_same
+malformed_same packed_leaves = λ old new blocks dict db key n bad. subst (λ (table : List Row). IsLeafMalformed (λ (tree : ℕ). table) db key n) (sym blocks) bad
+
+rows_then : (a b c : Trees) → KeepsMalformed a b → KeepsMalformed b c → KeepsMalformed a c
+rows_then a b c one two = record {
   blocks = λ row bad there. two.blocks row bad (one.blocks row bad there);
   dict = λ row bad there. two.dict row bad (one.dict row bad there);
 }
 
+pub malformed_then : (format : Format) (a b c : Trees) → keeps_malformed format a b → keeps_malformed format b c → keeps_malformed format a c
+malformed_then plain_rows = rows_then
+malformed_then packed_blocks = rows_then
+malformed_then packed_leaves = λ a b c one two db key n bad. two db key n (one db key n bad)
+
 -- of a store that a call only read
-pub malformed_seen : (old new : Database) → new ≡ old → KeepsMalformed old.trees new.trees
-malformed_seen old new same = malformed_same old.trees new.trees (ap (λ (d : Database). d.trees blocks_tree) same) (ap (λ (d : Database). d.trees dict_tree) same)
+pub malformed_seen : (format : Format) (old new : Database) → new ≡ old → keeps_malformed format old.trees new.trees
+malformed_seen format old new same = malformed_same format old.trees new.trees (ap (λ (d : Database). d.trees blocks_tree) same) (ap (λ (d : Database). d.trees dict_tree) same)
 
 -- ---- rows beside those that begin with some columns
 

@@ -29,7 +29,7 @@ module _ (db : ℤ) (key : Key) (changes : List RecordChange) (old new : Trees) 
   }
 
   pub malformed_kept : KeepsMalformed old new
-  malformed_kept = malformed_same old new puts.rows.blocks puts.rows.dict
+  malformed_kept = malformed_same plain_rows old new puts.rows.blocks puts.rows.dict
 
 -- ---- tables that hold a content
 

@@ -1,12 +1,14 @@
 -- Rows of the keys of a run: those of a call on one key, and those of two calls in turn.
-use Rattle.zeb_register.proofs.Cited.{◌≡◌, ◌≢◌, ◌∙◌, ◌++◌, ◌≤◌, ℕ, ℤ, zero, suc, pos, List, [], ◌∷◌, refl, sym, ap, subst, inl, inr, arith, Has, Row, column, Trees, Int, HasRow, Key, RecordChange, Format, plain_rows, packed_blocks, key_row, dict_row, postings_tree, blocks_tree, dict_tree}
-use Rattle.zeb_register.proofs.AlikeRows.{AreAlike}
+use Rattle.zeb_register.proofs.Cited.{◌≡◌, ◌≢◌, ◌∙◌, ◌++◌, ◌≤◌, ℕ, ℤ, zero, suc, pos, List, [], ◌∷◌, refl, sym, ap, subst, inl, inr, arith, Has, Row, column, Trees, Int, HasRow, Key, RecordChange, Format, packed_blocks, packed_leaves, plain_rows, key_row, dict_row, postings_tree, blocks_tree, dict_tree}
+use Rattle.zeb_register.proofs.AlikeRows.{AreAlike, are_alike}
 use Rattle.zeb_register.proofs.ContentLemmas.{told_apart}
+use Rattle.zeb_register.proofs.KeptLeaves.{kept_same, kept_then, kept_wider}
 use Rattle.zeb_register.proofs.Malformed.{key_begins, row_same}
+use Rattle.zeb_register.specs.KeptUnits.{KeepsUnits}
 use Rattle.zeb_register.specs.PackedUnits.{CountsAs}
 use Rattle.zeb_register.specs.PrivateKeyColumns.{IsDictIn}
-use Rattle.zeb_register.specs.RunChanges.{IsAmong, IsCountAmong, IsOfRun, IsOwnCount, KeepsBesideRun, TurnsAny, puts_run_rows}
-use Rattle.zeb_register.specs.UnitChanges.{IsBlockAmong, IsOwnBlock, IsOwnPlace, IsPlaceAmong, KeepsBut, KeyUnits, PutsAny, PutsCount, PutsPlaces, TurnsUnits}
+use Rattle.zeb_register.specs.RunChanges.{IsAmong, IsCountAmong, IsOfRun, IsOwnCount, IsUnitAmong, KeepsBesideRun, TurnsAny, keeps_run_others, puts_run_rows}
+use Rattle.zeb_register.specs.UnitChanges.{IsBlockAmong, IsOwnBlock, IsOwnPlace, IsPlaceAmong, IsUnitTouched, KeepsBut, KeyUnits, PutsAny, PutsCount, PutsPlaces, TurnsUnits}
 use Rattle.zeb_register.specs.declared.registers.KeyChanges.{KeyChanges}
 
 -- ---- a row is of one key
@@ -48,6 +50,7 @@ pub record PutsKeyBlocks (db : ℤ) (key : Key) (changes : List RecordChange) (o
 abbrev pub puts_key_rows : Format → ℤ → Key → List RecordChange → (old new : Trees) → Type 0
 puts_key_rows plain_rows = PutsPlaces
 puts_key_rows packed_blocks = PutsKeyBlocks
+puts_key_rows packed_leaves = λ db key changes. KeepsUnits db (IsUnitTouched key changes)
 
 -- a table that is as it was, where none of its rows is such a one
 pub table_kept : (These Such : Row → Type 0) (tree : ℕ) (old new : Trees) → new tree ≡ old tree → ((row : Row) → ¬ These row) → KeepsBut These Such tree old new
@@ -76,6 +79,8 @@ rows_put packed_blocks db key (change ∷ changes) old new puts = record {
   };
   postings = puts.rows.postings;
 }
+rows_put packed_leaves db key [] old new same = kept_same db (IsUnitTouched key []) old new same
+rows_put packed_leaves db key (change ∷ changes) old new puts = puts.rows
 
 -- ---- the count of one key
 
@@ -133,6 +138,8 @@ pub turns_put : (format : Format) (db : ℤ) (key : Key) (changes : List RecordC
 turns_put format db key [] old new puts = tt
 turns_put plain_rows db key (change ∷ changes) old new puts =
     record { text = puts.text; stored = puts.stored; were = puts.were; are = puts.are; allowed = puts.allowed; put = puts.put; counted = tt }
+turns_put packed_leaves db key (change ∷ changes) old new puts =
+    record { text = puts.text; stored = puts.stored; were = puts.were; are = puts.are; allowed = puts.allowed; put = puts.put; counted = tt }
 turns_put packed_blocks db key (change ∷ changes) old new puts = record {
   text = puts.text;
   stored = puts.stored;
@@ -168,6 +175,10 @@ module _ (These Such : Key → List RecordChange → Row → Type 0) (x : KeyCha
     ];
   }
 
+-- a unit of the first key is of the run
+first_among : (x : KeyChanges) (xs : List KeyChanges) (key : Key) (n : ℕ) → IsUnitTouched x.key.now x.changes.now key n → IsUnitAmong (x ∷ xs) key n
+first_among x xs key n it = (x, inl refl, it)
+
 pub rows_more : (format : Format) (db : ℤ) (x : KeyChanges) (xs : List KeyChanges) (old mid new : Trees) → puts_key_rows format db x.key.now x.changes.now old mid → puts_run_rows format db xs mid new → puts_run_rows format db (x ∷ xs) old new
 rows_more plain_rows db x xs old mid new one two = record {
   postings = keeps_more (IsPlaceAmong db) (IsOwnPlace db) x postings_tree old xs mid new one.postings two.postings;
@@ -179,6 +190,8 @@ rows_more packed_blocks db x xs old mid new one two = record {
   dict = keeps_more (IsCountAmong db) (IsOwnCount db) x dict_tree old xs mid new one.dict two.dict;
   postings = two.postings ∙ one.postings;
 }
+rows_more packed_leaves db x xs old mid new one two =
+    kept_then db (IsUnitTouched x.key.now x.changes.now) (IsUnitAmong xs) (IsUnitAmong (x ∷ xs)) (first_among x xs) (λ key n it. (it.0, inr it.1, it.2)) old mid new one two
 
 -- the rows of one key are those of a run of it alone
 pub rows_alone : (format : Format) (db : ℤ) (x : KeyChanges) (old new : Trees) → puts_key_rows format db x.key.now x.changes.now old new → puts_run_rows format db (x ∷ []) old new
@@ -188,6 +201,7 @@ rows_alone packed_blocks db x old new one = record {
   dict = keeps_none (IsCountAmong db) (IsOwnCount db) x dict_tree old new one.dict;
   postings = one.postings;
 }
+rows_alone packed_leaves db x old new one = kept_wider db (IsUnitTouched x.key.now x.changes.now) (IsUnitAmong (x ∷ [])) (first_among x []) old new one
 
 -- ---- rows beside the keys of a run
 
@@ -198,7 +212,8 @@ begins_so db run row one here of apart = let it = key_begins db one.key.now row 
 same_beside : (db : ℤ) (run : List KeyChanges) (tree : ℕ) (old new : Trees) → new tree ≡ old tree → (row : Row) → (HasRow new tree row → HasRow old tree row) × (HasRow old tree row → HasRow new tree row)
 same_beside db run tree old new same row = (row_same tree new old (sym same) row, row_same tree old new same row)
 
-pub rows_beside : (format : Format) (db : ℤ) (run : List KeyChanges) (old new : Trees) → puts_run_rows format db run old new → KeepsBesideRun db run old new
+pub rows_beside : (format : Format) (db : ℤ) (run : List KeyChanges) (old new : Trees) → puts_run_rows format db run old new → keeps_run_others format db run old new
+rows_beside packed_leaves db run old new rows = rows
 rows_beside plain_rows db run old new rows = record {
   postings = λ row apart. (
     λ h. elim (rows.postings.comes row h) [ inl was ↦ was.0 | inr own ↦ absurd (begins_so db run row own.0 own.1 (own_place_of_key db own.0.key.now own.0.changes.now row own.2) apart) ],
@@ -219,9 +234,8 @@ rows_beside packed_blocks db run old new rows = record {
   );
 }
 
--- the rows of a key that the run doesn't have stand alike before and after
-pub beside_alike : (db : ℤ) (run : List KeyChanges) (key : Key) (old new : Trees) → ¬ IsOfRun run key → KeepsBesideRun db run old new → AreAlike db key old new
-beside_alike db run key old new none kept = record {
+rows_alike : (db : ℤ) (run : List KeyChanges) (key : Key) (old new : Trees) → ¬ IsOfRun run key → KeepsBesideRun db run old new → AreAlike db key old new
+rows_alike db run key old new none kept = record {
   postings = λ rest. let same = kept.postings (key_row db key ++ rest) (apart rest) in (same.1, same.0);
   blocks = λ rest. let same = kept.blocks (key_row db key ++ rest) (apart rest) in (same.1, same.0);
   dict = λ rest. let same = kept.dict (key_row db key ++ rest) (apart rest) in (same.1, same.0);
@@ -229,3 +243,9 @@ beside_alike db run key old new none kept = record {
   where
     apart : (rest : Row) (one : KeyChanges) (r : Row) → Has run one → key_row db key ++ rest ≢ key_row db one.key.now ++ r
     apart rest one r here is = none (one, here, (told_apart db db one.key.now key rest r is).1)
+
+-- the rows of a key that the run doesn't have stand alike before and after, or its units do
+pub beside_alike : (format : Format) (db : ℤ) (run : List KeyChanges) (key : Key) (old new : Trees) → ¬ IsOfRun run key → keeps_run_others format db run old new → are_alike format db key old new
+beside_alike plain_rows = rows_alike
+beside_alike packed_blocks = rows_alike
+beside_alike packed_leaves = λ db run key old new none kept n places. kept.reads db key n (λ it. none (it.1.0, it.1.1, sym it.1.2.0)) places

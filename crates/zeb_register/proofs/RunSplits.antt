@@ -1,5 +1,6 @@
 -- A run of keys that are changed together, as the first key changed before the others: tables can be told that stand between.
-use Rattle.zeb_register.proofs.Cited.{◌≡◌, ◌≢◌, ◌⊎◌, ◌↔◌, ◌∙◌, ◌++◌, ◌==◌, ℕ, ℤ, pos, Bool, true, false, not, if◌then◌else◌, List, [], ◌∷◌, drop, filter, refl, sym, ap, ap₂, subst, inl, inr, eqb_tells, int_cmp_total, Has, all_from, all_has, has_either, has_filtered, has_kept, has_left, has_right, Value, Int, Blob, Text, Null, Real, Row, column, Trees, HasRow, Key, register_code, RecordChange, Format, plain_rows, packed_blocks, postings_tree, blocks_tree, dict_tree, KeepsLists}
+use Rattle.zeb_register.proofs.Cited.{◌≡◌, ◌≢◌, ◌⊎◌, ◌↔◌, ◌∙◌, ◌++◌, ◌==◌, ℕ, ℤ, pos, Bool, true, false, not, if◌then◌else◌, List, [], ◌∷◌, drop, filter, refl, sym, ap, ap₂, subst, inl, inr, eqb_tells, int_cmp_total, Has, all_from, all_has, has_either, has_filtered, has_kept, has_left, has_right, Value, Int, Blob, Text, Null, Real, Row, column, Trees, HasRow, Key, register_code, RecordChange, Format, packed_blocks, packed_leaves, plain_rows, postings_tree, blocks_tree, dict_tree, KeepsLists}
+use Rattle.zeb_register.specs.Formats.{KeepsRows}
 use Rattle.zeb_register.proofs.AlikeRows.{alike_back, turns_from, turns_to}
 use Rattle.zeb_register.proofs.ContentChanges.{integers_apart}
 use Rattle.zeb_register.proofs.RisingLists.{told_by}
@@ -113,6 +114,7 @@ between packed_blocks db key old new tree =
     if tree == blocks_tree then mixed db key (old tree) (new tree)
     else if tree == dict_tree then mixed db key (old tree) (new tree)
     else old tree
+between packed_leaves db key old new tree = old tree
 
 -- ---- rows before them, and behind
 
@@ -193,15 +195,16 @@ module _ (db : ℤ) (x : KeyChanges) (xs : List KeyChanges) (rise : KeysRise (x 
   mid format = between format db key old new
 
   -- the rows of the first key, and then of the others
-  rows_parted : (format : Format) → puts_run_rows format db (x ∷ xs) old new → puts_key_rows format db key x.changes.now old (mid format) × puts_run_rows format db xs (mid format) new
-  rows_parted plain_rows rows =
+  rows_parted : (format : Format) → KeepsRows format → puts_run_rows format db (x ∷ xs) old new → puts_key_rows format db key x.changes.now old (mid format) × puts_run_rows format db xs (mid format) new
+  rows_parted plain_rows keeps rows =
       let mix = mixed_rows db key postings_tree old (mid plain_rows) new refl in
       let once = stands_once x xs rise in
       let places = rows.postings in (
         record { postings = front db (IsPlaceAmong db) (IsOwnPlace db) (place_of_key db) (own_place_of_key db) x xs once postings_tree old new places (mid plain_rows) mix; blocks = refl; dict = refl },
         record { postings = behind db (IsPlaceAmong db) (IsOwnPlace db) (place_of_key db) (own_place_of_key db) x xs once postings_tree old new places (mid plain_rows) mix; blocks = rows.blocks; dict = rows.dict },
       )
-  rows_parted packed_blocks rows =
+  rows_parted packed_leaves keeps rows = absurd keeps
+  rows_parted packed_blocks keeps rows =
       let mix = mixed_rows db key blocks_tree old (mid packed_blocks) new refl in
       let counts = mixed_rows db key dict_tree old (mid packed_blocks) new refl in
       let once = stands_once x xs rise in (
@@ -220,16 +223,20 @@ module _ (db : ℤ) (x : KeyChanges) (xs : List KeyChanges) (rise : KeysRise (x 
   lists_between : (format : Format) → KeepsLists old (mid format)
   lists_between plain_rows = (refl, refl, refl)
   lists_between packed_blocks = (refl, refl, refl)
+  lists_between packed_leaves = (refl, refl, refl)
 
   lists_behind : (format : Format) → KeepsLists old new → KeepsLists (mid format) new
   lists_behind plain_rows lists = lists
   lists_behind packed_blocks lists = lists
+  lists_behind packed_leaves lists = lists
 
   -- the key's turned units, with its rows, are changes that are put
   units_put : (format : Format) (change : RecordChange) (changes : List RecordChange) → TurnsKey format db key (change ∷ changes) old (mid format) → puts_key_rows format db key (change ∷ changes) old (mid format)
       → PutsUnits format db key (change ∷ changes) old (mid format)
   units_put plain_rows change changes turns rows =
       record { text = turns.text; stored = turns.stored; were = turns.were; are = turns.are; allowed = turns.allowed; put = turns.put; rows = rows; lists = lists_between plain_rows }
+  units_put packed_leaves change changes turns rows =
+      record { text = turns.text; stored = turns.stored; were = turns.were; are = turns.are; allowed = turns.allowed; put = turns.put; rows = rows; lists = lists_between packed_leaves }
   units_put packed_blocks change changes turns rows = record {
     text = turns.text;
     stored = turns.stored;
@@ -246,14 +253,15 @@ module _ (db : ℤ) (x : KeyChanges) (xs : List KeyChanges) (rise : KeysRise (x 
   }
 
   -- a key without a change
-  rows_without : (format : Format) → x.changes.now ≡ [] → puts_run_rows format db (x ∷ xs) old new → puts_run_rows format db xs old new
-  rows_without plain_rows none rows = record {
+  rows_without : (format : Format) → KeepsRows format → x.changes.now ≡ [] → puts_run_rows format db (x ∷ xs) old new → puts_run_rows format db xs old new
+  rows_without plain_rows keeps none rows = record {
     postings = without db (IsPlaceAmong db) (IsOwnPlace db) (place_of_key db) (own_place_of_key db) x xs (stands_once x xs rise) postings_tree old new rows.postings
         (λ row it. subst (λ l. Has l it.1.0) none it.1.1) (λ row it. subst (λ l. Has l it.2.0) none it.2.1);
     blocks = rows.blocks;
     dict = rows.dict;
   }
-  rows_without packed_blocks none rows = record {
+  rows_without packed_leaves keeps none rows = absurd keeps
+  rows_without packed_blocks keeps none rows = record {
     blocks = without db (IsBlockAmong db) (IsOwnBlock db) (block_of_key db) (own_block_of_key db) x xs (stands_once x xs rise) blocks_tree old new rows.blocks
         (λ row it. subst (λ l. Has l it.1.0) none it.1.1) (λ row it. subst (λ l. Has l it.2.0) none it.2.1);
     dict = without db (IsCountAmong db) (IsOwnCount db) (count_of_key db) (own_count_of_key db) x xs (stands_once x xs rise) dict_tree old new rows.dict (λ row it. it.0 none) (λ row it. it.1 none);
@@ -261,26 +269,26 @@ module _ (db : ℤ) (x : KeyChanges) (xs : List KeyChanges) (rise : KeysRise (x 
   }
 
   -- the run parted behind its first key
-  pub parted : (format : Format) → PutsKeys format db (x ∷ xs) old new → (m : Trees) × PutsAny format db key x.changes.now old m × PutsKeys format db xs m new
-  parted format puts = from x.changes.now refl
+  pub parted : (format : Format) → KeepsRows format → PutsKeys format db (x ∷ xs) old new → (m : Trees) × PutsAny format db key x.changes.now old m × PutsKeys format db xs m new
+  parted format keeps puts = from x.changes.now refl
     where
       from : (changes : List RecordChange) → x.changes.now ≡ changes → (m : Trees) × PutsAny format db key x.changes.now old m × PutsKeys format db xs m new
       from [] none = (
         old,
         subst (λ l. PutsAny format db key l old old) (sym none) (λ tree. refl),
-        record { each = puts.each.1; rows = rows_without format none puts.rows; lists = puts.lists },
+        record { each = puts.each.1; rows = rows_without format keeps none puts.rows; lists = puts.lists },
       )
       from (change ∷ changes) some =
-          let rows = rows_parted format puts.rows in
-          let here = beside_alike db xs key (mid format) new (stands_once x xs rise) (rows_beside format db xs (mid format) new rows.1) in
-          let turned = turns_to db key new (mid format) (alike_back db key (mid format) new here) format x.changes.now old puts.each.0 in
+          let rows = rows_parted format keeps puts.rows in
+          let here = beside_alike format db xs key (mid format) new (stands_once x xs rise) (rows_beside format db xs (mid format) new rows.1) in
+          let turned = turns_to format db key new (mid format) (alike_back format db key (mid format) new here) x.changes.now old puts.each.0 in
           let put = units_put format change changes (subst (λ l. TurnsAny format db key l old (mid format)) some turned) (subst (λ l. puts_key_rows format db key l old (mid format)) some rows.0) in (
             mid format,
             subst (λ l. PutsAny format db key l old (mid format)) (sym some) put,
             record {
               each = all_from (λ (y : KeyChanges). TurnsAny format db y.key.now y.changes.now (mid format) new) xs (λ y there.
-                  turns_from db y.key.now old (mid format) (beside_alike db (x ∷ []) y.key.now old (mid format) (not_first x y xs rise there) (rows_beside format db (x ∷ []) old (mid format) (rows_alone format db x old (mid format) rows.0)))
-                  format y.changes.now new (all_has (λ (z : KeyChanges). TurnsAny format db z.key.now z.changes.now old new) xs y puts.each.1 there));
+                  turns_from format db y.key.now old (mid format) (beside_alike format db (x ∷ []) y.key.now old (mid format) (not_first x y xs rise there) (rows_beside format db (x ∷ []) old (mid format) (rows_alone format db x old (mid format) rows.0)))
+                  y.changes.now new (all_has (λ (z : KeyChanges). TurnsAny format db z.key.now z.changes.now old new) xs y puts.each.1 there));
               rows = rows.1;
               lists = lists_behind format puts.lists;
             },

@@ -1,11 +1,12 @@
 -- Keys of a run that are changed one after the other, told of the tables before all and after all.
-use Rattle.zeb_register.proofs.Cited.{◌≡◌, ◌∙◌, ℕ, zero, suc, ℤ, List, [], ◌∷◌, drop, refl, sym, ap, subst, inl, inr, Result, Ok, Err, Has, all_from, all_has, mapped_has, tied_itself, map, Less, Equal, Row, Trees, postings_tree, blocks_tree, dict_tree, plain_rows, packed_blocks, Key, key_order, key_total, RegFault, RecordChange, Format, KeepsLists}
+use Rattle.zeb_register.proofs.Cited.{◌≡◌, ◌∙◌, ℕ, zero, suc, ℤ, List, [], ◌∷◌, drop, refl, sym, ap, subst, inl, inr, Result, Ok, Err, Has, all_from, all_has, mapped_has, tied_itself, map, Less, Equal, Row, Trees, postings_tree, blocks_tree, dict_tree, packed_blocks, packed_leaves, plain_rows, Key, key_order, key_total, RegFault, RecordChange, Format, KeepsLists}
 use Rattle.std.specs.List.Sorted.{IsStrictlySortedBy}
-use Rattle.zeb_register.proofs.AlikeRows.{AreAlike, allows_alike, alike_back, turns_from, turns_to}
+use Rattle.zeb_register.proofs.AlikeRows.{are_alike, allows_alike, alike_back, turns_from, turns_to}
+use Rattle.zeb_register.proofs.KeptLeaves.{kept_itself}
 use Rattle.zeb_register.proofs.RunRows.{beside_alike, rows_alone, rows_beside, rows_more, rows_put, turns_put}
 use Rattle.zeb_register.proofs.UnitChangeLaws.{any_lists}
 use Rattle.zeb_register.specs.Answers.{Answers}
-use Rattle.zeb_register.specs.RunChanges.{IsAmong, IsCountAmong, IsOfRun, IsOwnCount, IsRunRefusedAs, KeysRise, PutsKeys, TurnsAny, run_key, puts_run_rows}
+use Rattle.zeb_register.specs.RunChanges.{IsAmong, IsCountAmong, IsOfRun, IsOwnCount, IsRunRefusedAs, IsUnitAmong, KeysRise, PutsKeys, TurnsAny, run_key, puts_run_rows}
 use Rattle.zeb_register.specs.UnitChanges.{IsBlockAmong, IsOwnBlock, IsOwnPlace, IsPlaceAmong, IsRefusedAs, KeepsBut, PutsAny}
 use Rattle.zeb_register.specs.declared.registers.KeyChanges.{KeyChanges}
 
@@ -45,9 +46,9 @@ module _ (format : Format) (db : ℤ) (x : KeyChanges) (xs : List KeyChanges) (r
   pub put_more : (new : Trees) → PutsKeys format db xs mid new → PutsKeys format db (x ∷ xs) old new
   put_more new rest = record {
     each = (
-      turns_to db x.key.now mid new (beside_alike db xs x.key.now mid new (stands_once x xs rise) (rows_beside format db xs mid new rest.rows)) format x.changes.now old (turns_put format db x.key.now x.changes.now old mid first),
+      turns_to format db x.key.now mid new (beside_alike format db xs x.key.now mid new (stands_once x xs rise) (rows_beside format db xs mid new rest.rows)) x.changes.now old (turns_put format db x.key.now x.changes.now old mid first),
       all_from (λ (y : KeyChanges). TurnsAny format db y.key.now y.changes.now old new) xs (λ y here.
-          turns_from db y.key.now mid old (alike_back db y.key.now old mid (before y here)) format y.changes.now new (all_has (λ (z : KeyChanges). TurnsAny format db z.key.now z.changes.now mid new) xs y rest.each here)),
+          turns_from format db y.key.now mid old (alike_back format db y.key.now old mid (before y here)) y.changes.now new (all_has (λ (z : KeyChanges). TurnsAny format db z.key.now z.changes.now mid new) xs y rest.each here)),
     );
     rows = rows_more format db x xs old mid new (rows_put format db x.key.now x.changes.now old mid first) rest.rows;
     lists = (rest.lists.0 ∙ lists.0, rest.lists.1 ∙ lists.1, rest.lists.2 ∙ lists.2);
@@ -56,16 +57,16 @@ module _ (format : Format) (db : ℤ) (x : KeyChanges) (xs : List KeyChanges) (r
       lists : KeepsLists old mid
       lists = any_lists format db x.key.now x.changes.now old mid first
 
-      before : (y : KeyChanges) → Has xs y → AreAlike db y.key.now old mid
-      before y here = beside_alike db (x ∷ []) y.key.now old mid (not_first x y xs rise here)
+      before : (y : KeyChanges) → Has xs y → are_alike format db y.key.now old mid
+      before y here = beside_alike format db (x ∷ []) y.key.now old mid (not_first x y xs rise here)
           (rows_beside format db (x ∷ []) old mid (rows_alone format db x old mid (rows_put format db x.key.now x.changes.now old mid first)))
 
   pub refused_later : (fault : RegFault) → IsRunRefusedAs format db xs mid fault → IsRunRefusedAs format db (x ∷ xs) old fault
   refused_later fault refused told =
       let it = refused told in
-      let alike = beside_alike db (x ∷ []) it.0.key.now old mid (not_first x it.0 xs rise it.1)
+      let alike = beside_alike format db (x ∷ []) it.0.key.now old mid (not_first x it.0 xs rise it.1)
       (rows_beside format db (x ∷ []) old mid (rows_alone format db x old mid (rows_put format db x.key.now x.changes.now old mid first))) in
-      (it.0, inr it.1, it.2, λ were are allows. it.3 were are (allows_alike db it.0.key.now old mid alike format it.0.changes.now were are allows))
+      (it.0, inr it.1, it.2, λ were are allows. it.3 were are (allows_alike format db it.0.key.now old mid alike it.0.changes.now were are allows))
 
 pub refused_first : (format : Format) (db : ℤ) (x : KeyChanges) (xs : List KeyChanges) (trees : Trees) (fault : RegFault) → IsRefusedAs format db x.key.now x.changes.now trees fault → IsRunRefusedAs format db (x ∷ xs) trees fault
 refused_first format db x xs trees fault refused told = let it = refused.1 told in (x, inl refl, it.0, it.1)
@@ -79,6 +80,7 @@ none_put format db trees = record { each = tt; rows = rows format; lists = (refl
     rows : (f : Format) → puts_run_rows f db [] trees trees
     rows plain_rows = record { postings = none_kept (IsPlaceAmong db) (IsOwnPlace db) postings_tree trees; blocks = refl; dict = refl }
     rows packed_blocks = record { blocks = none_kept (IsBlockAmong db) (IsOwnBlock db) blocks_tree trees; dict = none_kept (IsCountAmong db) (IsOwnCount db) dict_tree trees; postings = refl }
+    rows packed_leaves = kept_itself db (IsUnitAmong []) trees
 
 -- what a call answers for these keys
 abbrev pub Answered : Format → ℤ → List KeyChanges → (old new : Trees) → Result (Unit {0}) RegFault → Type 0

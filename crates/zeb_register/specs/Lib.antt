@@ -20,6 +20,11 @@ pub mod PrivateRowPlaces
 pub mod PrivatePackedRows
 pub mod PlainUnits
 pub mod PackedUnits
+pub mod Covering
+pub mod Readings
+pub mod LeafUnits
+pub mod HeldLeaves
+pub mod Worked
 pub mod Formats
 pub mod Between
 pub mod Units
@@ -34,6 +39,7 @@ pub mod PrivateTableForms
 pub mod PrivateBetweenRows
 pub mod PrivateRowTerms
 pub mod PrivateStoreTables
+pub mod KeptUnits
 pub mod UnitChanges
 pub mod RunChanges
 pub mod PrivateUnits

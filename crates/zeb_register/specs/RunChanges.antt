@@ -1,4 +1,4 @@
--- What changes of the places of a run of keys do to the units of these keys, on any rows of a store and in either format. All is said of the
+-- What changes of the places of a run of keys do to the units of these keys, on any rows of a store and in each format. All is said of the
 -- tables before the call and after it: which rows stood between, and how often one was read or written, is left open.
 use Rattle.std.specs.Prelude.{IsUtf8, ◌+◌, ◌≡◌, ◌≢◌, ◌↔◌, ◌++◌, ℕ, ℤ, List, [], ◌∷◌, Result, length, map}
 use Rattle.std.specs.List.{AllByRecursion}
@@ -16,14 +16,15 @@ use Rattle.zeb_register.specs.declared.registers.RecordChange.{RecordChange}
 use Rattle.zeb_register.specs.Answers.{Answers}
 use Rattle.zeb_register.specs.Clauses.{InStore}
 use Rattle.zeb_register.specs.Content.{AreListChanges, Content}
-use Rattle.zeb_register.specs.Formats.{Format, plain_rows, packed_blocks}
+use Rattle.zeb_register.specs.Formats.{Format, packed_blocks, packed_leaves, plain_rows}
+use Rattle.zeb_register.specs.KeptUnits.{KeepsUnits}
 use Rattle.zeb_register.specs.PackedBlocks.{dict_row}
 use Rattle.zeb_register.specs.PackedUnits.{CountsAs}
 use Rattle.zeb_register.specs.PlainRows.{key_row}
 use Rattle.zeb_register.specs.PrivateKeyColumns.{IsDictIn}
 use Rattle.zeb_register.specs.Sql.{HasRow}
 use Rattle.zeb_register.specs.Store.{IsStore, KeepsLists, blocks_tree, dict_tree, postings_tree}
-use Rattle.zeb_register.specs.UnitChanges.{AllowsChanges, IsBlockAmong, IsOwnBlock, IsOwnPlace, IsPlaceAmong, IsStorableChange, KeepsBut, KeyUnits, NumbersRise, are_read}
+use Rattle.zeb_register.specs.UnitChanges.{AllowsChanges, IsBlockAmong, IsOwnBlock, IsOwnPlace, IsPlaceAmong, IsStorableChange, IsUnitTouched, KeepsBut, KeyUnits, NumbersRise, are_read}
 use Rattle.zeb_register.specs.Units.{reads_as}
 
 -- ---- runs of keys
@@ -54,6 +55,7 @@ changes_in (one ∷ run) = length one.changes.now + changes_in run
 abbrev pub counts_on : Format → Trees → ℤ → Key → ℕ → Type 0
 counts_on plain_rows trees db key records = Unit {0}
 counts_on packed_blocks trees db key records = CountsAs trees db key records
+counts_on packed_leaves trees db key records = Unit {0}
 
 -- The changes can be stored, and the rows before allow them. The units that are read read as the new places after, and the key counts as so
 -- many records.
@@ -95,9 +97,14 @@ pub record PutsRunBlocks (db : ℤ) (run : List KeyChanges) (old new : Trees) : 
   pub dict : KeepsBut (IsAmong (IsCountAmong db) run) (IsAmong (IsOwnCount db) run) dict_tree old new
   pub postings : new postings_tree ≡ old postings_tree
 
+-- the unit is one that changes of a key of the run touch
+abbrev pub IsUnitAmong : List KeyChanges → Key → ℕ → Type 0
+IsUnitAmong run key sysno = (one : KeyChanges) × Has run one × IsUnitTouched one.key.now one.changes.now key sysno
+
 abbrev pub puts_run_rows : Format → ℤ → List KeyChanges → (old new : Trees) → Type 0
 puts_run_rows plain_rows = PutsRunPlaces
 puts_run_rows packed_blocks = PutsRunBlocks
+puts_run_rows packed_leaves = λ db run. KeepsUnits db (IsUnitAmong run)
 
 -- ---- a call
 
@@ -139,3 +146,9 @@ pub record KeepsBesideRun (db : ℤ) (run : List KeyChanges) (old new : Trees) :
   pub postings : KeepsBesideKeys db run postings_tree old new
   pub blocks : KeepsBesideKeys db run blocks_tree old new
   pub dict : KeepsBesideKeys db run dict_tree old new
+
+-- what is of none of the keys is as it was: rows, or where one row is of many keys, units
+abbrev pub keeps_run_others : Format → ℤ → List KeyChanges → (old new : Trees) → Type 0
+keeps_run_others plain_rows = KeepsBesideRun
+keeps_run_others packed_blocks = KeepsBesideRun
+keeps_run_others packed_leaves = λ db run. KeepsUnits db (IsUnitAmong run)

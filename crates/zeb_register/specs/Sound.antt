@@ -5,26 +5,32 @@ use Rattle.sqlite.specs.Order.{Row, column}
 use Rattle.sqlite.specs.Tree.{Trees}
 use Rattle.zeb_blocks.specs.declared.postings.Posting.{Posting}
 use Rattle.zeb_keys.specs.declared.keys.Key.{Key}
-use Rattle.zeb_register.specs.Formats.{Format, plain_rows, packed_blocks}
+use Rattle.zeb_leaf.specs.declared.entries.Entry.{Entry}
+use Rattle.zeb_register.specs.Formats.{Format, packed_blocks, packed_leaves, plain_rows}
+use Rattle.zeb_register.specs.LeafUnits.{AreLeavesWhole, IsLeafMalformed, IsLeafOf, LeavesCount}
 use Rattle.zeb_register.specs.PackedBlocks.{AreAllSpelled, CountsTerm, IsRecordNumber, SpellsPart}
 use Rattle.zeb_register.specs.PlainRows.{key_row, register_front}
+use Rattle.zeb_register.specs.Readings.{IsEntryOf}
 use Rattle.zeb_register.specs.Sql.{HasRow}
 use Rattle.zeb_register.specs.Store.{IsRest, blocks_tree, dict_tree, postings_tree}
 
 -- ---- lists
 
--- each row of the key's list spells some postings
+-- each row of the key's list spells some postings; in leaves, each of its blocks reads as some
 abbrev pub IsListSound : Format → Trees → ℤ → Key → Type 0
 IsListSound plain_rows trees db key = Unit {0}
 IsListSound packed_blocks trees db key = AreAllSpelled trees (key_row db key)
+IsListSound packed_leaves trees db key = AreLeavesWhole trees db key
 
 -- ---- terms
 
--- a row of `dict` that shows the key's term counts it, and then the key's list is sound
+-- a row of `dict` that shows the key's term counts it, and then the key's list is sound; in leaves the same of an entry of the term
 abbrev pub IsTermSound : Format → Trees → ℤ → Key → Type 0
 IsTermSound plain_rows trees db key = Unit {0}
 IsTermSound packed_blocks trees db key = (row : Row) → IsRest dict_tree (register_front db key.index key.register) trees row → column row 0 ≡ Text key.term
     → CountsTerm row × AreAllSpelled trees (key_row db key)
+IsTermSound packed_leaves trees db key =
+    (e : Entry) → IsEntryOf (IsLeafOf trees db key) key.term e → IsUtf8 key.term × ((records : ℕ) × LeavesCount trees db key records) × AreLeavesWhole trees db key
 
 -- ---- rows that a change of a key leaves
 
@@ -40,6 +46,16 @@ CountsSome row = (db : ℤ) × (key : Key) × (rest : Row) × (row ≡ key_row d
 pub record KeepsMalformed (old new : Trees) : Type 0 where
   pub blocks : (row : Row) → ¬ SpellsSome row → HasRow old blocks_tree row → HasRow new blocks_tree row
   pub dict : (row : Row) → ¬ CountsSome row → HasRow old dict_tree row → HasRow new dict_tree row
+
+-- each unit of leaves that is malformed is malformed still, and so it reads in no way
+abbrev pub KeepsMalformedUnits : (old new : Trees) → Type 0
+KeepsMalformedUnits old new = (db : ℤ) (key : Key) (sysno : ℕ) → IsLeafMalformed old db key sysno → IsLeafMalformed new db key sysno
+
+-- what is malformed is so still: rows, or where one row is of many keys, units
+abbrev pub keeps_malformed : Format → (old new : Trees) → Type 0
+keeps_malformed plain_rows = KeepsMalformed
+keeps_malformed packed_blocks = KeepsMalformed
+keeps_malformed packed_leaves = KeepsMalformedUnits
 
 -- the table has just the rows that it had, but those that begin with these columns
 abbrev pub KeepsBeside : (front : Row) → ℕ → (old new : Trees) → Type 0

@@ -1,4 +1,4 @@
--- What changes of a key's places do to its units, on any rows of a store and in either format.
+-- What changes of a key's places do to its units, on any rows of a store and in each format.
 use Rattle.std.specs.Prelude.{Bool, true, false, pos, IsUtf8, ◌+◌, ◌↔◌, ◌≡◌, ◌≢◌, ◌⊎◌, ◌/◌, ◌≤◌, ℕ, ℤ, List, [], ◌∷◌, Result}
 use Rattle.std.specs.List.{AllByRecursion}
 use Rattle.std.specs.List.Sorted.{IsNonDecreasingBy}
@@ -15,18 +15,21 @@ use Rattle.zeb_register.specs.declared.registers.RecordChange.{RecordChange}
 use Rattle.zeb_register.specs.Answers.{Answers}
 use Rattle.zeb_register.specs.Clauses.{InStore}
 use Rattle.zeb_register.specs.Content.{AreStorablePlaces}
-use Rattle.zeb_register.specs.Formats.{Format, plain_rows, packed_blocks}
+use Rattle.zeb_register.specs.Formats.{Format, packed_blocks, packed_leaves, plain_rows}
+use Rattle.zeb_register.specs.KeptUnits.{KeepsUnits}
 use Rattle.zeb_register.specs.PackedBlocks.{block_row, dict_row}
 use Rattle.zeb_register.specs.PackedUnits.{CountsAs}
+use Rattle.zeb_register.specs.PlainRows.{key_row}
 use Rattle.zeb_register.specs.PrivateKeyColumns.{IsBlockOf, IsDictIn}
 use Rattle.zeb_register.specs.PrivateRowPlaces.{IsPlaceIn, posting_columns}
+use Rattle.zeb_register.specs.Sound.{KeepsRowsBeside}
 use Rattle.zeb_register.specs.Sql.{HasRow}
 use Rattle.zeb_register.specs.Store.{IsStore, KeepsLists, blocks_tree, dict_tree, postings_tree}
 use Rattle.zeb_register.specs.Units.{reads_as}
 
 -- ---- changes of a key's units, one after the other
 
--- a change of a record to places, all of which are stored in either format
+-- a change of a record to places, all of which are stored in each format
 pub record IsStorableChange (change : RecordChange) : Type 0 where
   pub sysno : (1 ≤ change.sysno) × (change.sysno ≤ 999999999)
   pub places : AreStorablePlaces change.new.now
@@ -58,10 +61,11 @@ pub record TurnsCount (change : RecordChange) (old new : KeyUnits) : Type 0 wher
   pub had : IsBlockCounted (change.sysno / 256) old
   pub has : IsBlockCounted (change.sysno / 256) new
 
--- plain rows keep no count
+-- plain rows keep no count, and leaves none beside their entries
 abbrev pub turns_count : Format → RecordChange → (old new : KeyUnits) → Type 0
 turns_count plain_rows change old new = Unit {0}
 turns_count packed_blocks change old new = TurnsCount change old new
+turns_count packed_leaves change old new = Unit {0}
 
 -- The record has the places that the change says, and then the new ones. A count that is kept goes along.
 pub record TurnsUnit (format : Format) (change : RecordChange) (old new : KeyUnits) : Type 0 where
@@ -86,10 +90,11 @@ IsChanged changes sysno = (change : RecordChange) × Has changes change × (chan
 abbrev pub IsTouched : List RecordChange → ℕ → Type 0
 IsTouched changes block = (change : RecordChange) × Has changes change × (change.sysno / 256 ≡ block)
 
--- the record's unit is read: in plain rows that of a changed record, in packed blocks each of its block
+-- the record's unit is read: in plain rows that of a changed record, in packed blocks and in leaves each of its block
 abbrev pub are_read : Format → List RecordChange → ℕ → Type 0
 are_read plain_rows changes sysno = IsChanged changes sysno
 are_read packed_blocks changes sysno = IsTouched changes (sysno / 256)
+are_read packed_leaves changes sysno = IsTouched changes (sysno / 256)
 
 -- ---- rows that the changes read and write
 
@@ -151,15 +156,23 @@ pub record IsCounted (db : ℤ) (key : Key) (changes : List RecordChange) (trees
   pub is : CountsAs trees db key records
   pub lacks : records ≡ 0 → LacksBlocks db key changes trees
 
--- ---- in either format
+-- ---- leaves
+
+-- the unit is of the key, and of a block in which a change lies
+abbrev pub IsUnitTouched : Key → List RecordChange → Key → ℕ → Type 0
+IsUnitTouched key changes k sysno = (k ≡ key) × IsTouched changes (sysno / 256)
+
+-- ---- in each format
 
 abbrev pub is_counted : Format → ℤ → Key → List RecordChange → Trees → ℕ → Type 0
 is_counted plain_rows db key changes trees records = Unit {0}
 is_counted packed_blocks db key changes trees records = IsCounted db key changes trees records
+is_counted packed_leaves db key changes trees records = Unit {0}
 
 abbrev pub puts_rows : Format → ℤ → Key → List RecordChange → ℕ → (old new : Trees) → Type 0
 puts_rows plain_rows db key changes records old new = PutsPlaces db key changes old new
 puts_rows packed_blocks db key changes records old new = PutsBlocks db key changes records old new
+puts_rows packed_leaves db key changes records old new = KeepsUnits db (IsUnitTouched key changes) old new
 
 -- ---- a call
 
@@ -196,3 +209,9 @@ IsRefusedAs format db key changes trees fault =
 abbrev pub ChangesKey : {A : Type 0} → Format → ℤ → Key → List RecordChange → (old new : State) → Result A RegFault → Type 0
 ChangesKey format db key changes old new result = InStore old new (λ trees.
     Answers (IsRefusedAs format db key changes trees) (λ done. IsStore new × PutsAny format db key changes trees new.now.trees) result)
+
+-- what isn't the key's is as it was: rows, or where one row is of many keys, units
+abbrev pub keeps_others : Format → ℤ → Key → List RecordChange → (old new : Trees) → Type 0
+keeps_others plain_rows db key changes = KeepsRowsBeside (key_row db key)
+keeps_others packed_blocks db key changes = KeepsRowsBeside (key_row db key)
+keeps_others packed_leaves db key changes = KeepsUnits db (IsUnitTouched key changes)

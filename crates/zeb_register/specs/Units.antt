@@ -1,4 +1,4 @@
--- What the registers say, unit by unit, on any rows and in either format. A unit is a database, a key and the number of a record: it reads
+-- What the registers say, unit by unit, on any rows and in each format. A unit is a database, a key and the number of a record: it reads
 -- as its places, or is malformed. A key of a database counts as so many records, or is miscounted.
 use Rattle.std.specs.Prelude.{◌↔◌, ℕ, ℤ, List, Result, Vec}
 use Rattle.std.specs.declared.alloc.Global.{Global}
@@ -14,7 +14,9 @@ use Rattle.zeb_register.specs.declared.registers.RegisterOf.{RegisterOf}
 use Rattle.zeb_register.specs.Answers.{TellsOr}
 use Rattle.zeb_register.specs.Between.{IsBetween}
 use Rattle.zeb_register.specs.Content.{Content, HasRisingLists, IsStorable, places_in, posted, posting_cmp}
-use Rattle.zeb_register.specs.Formats.{Format, holds_in, plain_rows, packed_blocks}
+use Rattle.zeb_register.specs.Formats.{Format, holds_in, packed_blocks, packed_leaves, plain_rows}
+use Rattle.zeb_register.specs.HeldLeaves.{AreLeavesAlone}
+use Rattle.zeb_register.specs.LeafUnits.{AreLeavesMiscounted, AreLeavesWhole, HasMalformedLeaf, IsLeafMalformed, LeavesCount, LeavesRead}
 use Rattle.zeb_register.specs.Occurring.{HasKey, IsCount, key_in}
 use Rattle.zeb_register.specs.PackedBlocks.{AreAllSpelled}
 use Rattle.zeb_register.specs.PackedUnits.{AreBlocksAlone, CountsAs, HasMalformed, IsMalformedAt, IsMiscounted, ReadsAs}
@@ -26,30 +28,36 @@ use Rattle.zeb_register.specs.PlainUnits.{AreAllShown, AreRowsAlone, HasShownNon
 abbrev pub reads_as : Format → Trees → ℤ → Key → ℕ → List Place → Type 0
 reads_as plain_rows = RowsRead
 reads_as packed_blocks = ReadsAs
+reads_as packed_leaves = LeavesRead
 
 abbrev pub is_malformed : Format → Trees → ℤ → Key → ℕ → Type 0
 is_malformed plain_rows = IsRowMalformed
 is_malformed packed_blocks = IsMalformedAt
+is_malformed packed_leaves = IsLeafMalformed
 
 abbrev pub counts_as : Format → Trees → ℤ → Key → ℕ → Type 0
 counts_as plain_rows = RowsCount
 counts_as packed_blocks = CountsAs
+counts_as packed_leaves = LeavesCount
 
 abbrev pub is_miscounted : Format → Trees → ℤ → Key → Type 0
 is_miscounted plain_rows = HasShownNone
 is_miscounted packed_blocks = IsMiscounted
+is_miscounted packed_leaves = AreLeavesMiscounted
 
 -- ---- all units of a key
 
--- each row of the key is of a unit that reads as some places
+-- each row of the key is of a unit that reads as some places; in leaves, each unit of the key reads
 abbrev pub is_whole : Format → Trees → ℤ → Key → Type 0
 is_whole plain_rows trees db key = AreAllShown trees db key
 is_whole packed_blocks trees db key = AreAllSpelled trees (key_row db key)
+is_whole packed_leaves trees db key = AreLeavesWhole trees db key
 
--- one of its rows is malformed, or of no unit
+-- one of its rows is malformed, or of no unit; in leaves, one of its units is malformed
 abbrev pub has_malformed : Format → Trees → ℤ → Key → Type 0
 has_malformed plain_rows = HasShownNone
 has_malformed packed_blocks = HasMalformed
+has_malformed packed_leaves = HasMalformedLeaf
 
 -- the postings are those that the units of the key say, in order, and no row of the key stands beside
 pub record ListsUnits (format : Format) (trees : Trees) (db : ℤ) (key : Key) (list : List Posting) : Type 0 where
@@ -82,10 +90,11 @@ ListsTerms format at first last =
 
 -- ---- what the tables hold as a whole
 
--- each row of the registers is that of a unit or a count
+-- each row of the registers is that of a unit or a count; in leaves, each entry of each row is
 abbrev pub are_alone : Format → Trees → Type 0
 are_alone plain_rows = AreRowsAlone
 are_alone packed_blocks = AreBlocksAlone
+are_alone packed_leaves = AreLeavesAlone
 
 -- each unit and each count reads as the content says, and no row stands beside
 pub record HoldsUnits (format : Format) (trees : Trees) (content : Content) : Type 0 where

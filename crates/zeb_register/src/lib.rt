@@ -17,6 +17,7 @@ pub mod for_layouts;
 mod kept;
 mod key_runs;
 mod laws;
+mod leaf_laws;
 mod lists;
 mod meta;
 mod occurring;
@@ -45,6 +46,9 @@ pub use kept::{
     record_put, record_take, records,
 };
 pub use laws::calls_tell_of_the_content;
+pub use leaf_laws::{
+    held_registers_begin_at_the_least_key, units_tell_held_leaves, worked_registers,
+};
 pub use lists::rows_are_lists;
 pub use meta::{meta_of, meta_put};
 pub use occurring::{OccurrenceSet, occurrences_have_one_list_of_terms};

@@ -12,10 +12,10 @@ ghost use Rattle.zeb_register.specs.Clauses.{Tells, TellsHeld, TellsWhether};
 ghost use Rattle.sqlite.specs.Tree.{Trees};
 ghost use Rattle.zeb_register.specs.Content.{AreChangedAt, Content, HasRisingLists, IsChangedAt, IsStorable, IsWithout, OldsRise};
 ghost use Rattle.zeb_register.specs.Formats.{Format, holds_in, version_of};
-ghost use Rattle.zeb_register.specs.PlainRows.{key_row};
-ghost use Rattle.zeb_register.specs.Sound.{KeepsMalformed, KeepsRowsBeside};
+ghost use Rattle.zeb_register.specs.Sound.{keeps_malformed};
 ghost use Rattle.zeb_register.specs.Store.{KeepsRegisters, LacksRegisters};
 ghost use Rattle.zeb_register.specs.UnitChanges.{AllowsChanges, IsStorableChange, KeyUnits, PutsAny};
+ghost use Rattle.zeb_register.specs.UnitChanges.{keeps_others};
 ghost use Rattle.zeb_register.specs.Units.{HoldsUnits, counts_as, is_malformed, is_miscounted, reads_as};
 
 use crate::statements::inside::nothing_inside;
@@ -335,8 +335,8 @@ pub fn contents_change()
         × ((one two : Content) → IsWithout db old one → IsWithout db old two → one ≡ two) }
 {}
 
-/// Units that are changed are those of the changed content. Each row that is malformed is there still, and each that isn't of the key. Where
-/// the changes are those of a content, the rows that hold it allow them.
+/// Units that are changed are those of the changed content. Each row that is malformed is there still, and each that isn't of the key; in
+/// leaves, where one row is of many keys, so is each such unit. Where the changes are those of a content, the rows that hold it allow them.
 pub fn changed_units_are_of_a_content()
     ensures held { (format : Format) (db : ℤ) (key : _) (changes : List _) (old new : Trees)
         → PutsAny format db key changes old new
@@ -347,9 +347,9 @@ pub fn changed_units_are_of_a_content()
         → (content : Content) → holds_in format old content → (after : Content)
         × AreChangedAt db key changes content after }
     ensures malformed { (format : Format) (db : ℤ) (key : _) (changes : List _) (old new : Trees)
-        → PutsAny format db key changes old new → KeepsMalformed old new }
+        → PutsAny format db key changes old new → keeps_malformed format old new }
     ensures others { (format : Format) (db : ℤ) (key : _) (changes : List _) (old new : Trees)
-        → PutsAny format db key changes old new → KeepsRowsBeside (key_row db key) old new }
+        → PutsAny format db key changes old new → keeps_others format db key changes old new }
     ensures allowed { (format : Format) (db : ℤ) (key : _) (changes : List _) (trees : Trees)
         (content : Content)
         → holds_in format trees content → IsStorable content

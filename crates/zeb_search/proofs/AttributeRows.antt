@@ -1,26 +1,16 @@
 -- What a term asks for holds on the records that the rows of its attributes say.
-use Rattle.zeb_search.proofs.Cited.{◌≡◌, ◌≢◌, ◌↔◌, ◌∙◌, ℕ, false, cond, List, [], ◌∷◌, Option, Some, None, refl, sym, ap, subst, inl, inr, Ok, Symbol, Register, Relation, Occurrence, TermPlanValue, PlanValue, TermOf, NumberOf, OrderedOf, CompleteOf, PhraseOf, AllWordsOf, AnyWordOf, Has, TermHolds, TreeHolds, chars}
+use Rattle.zeb_search.proofs.Cited.{◌≡◌, ◌≢◌, ◌↔◌, ◌∙◌, ℕ, false, cond, List, [], ◌∷◌, Option, refl, sym, ap, subst, inl, inr, Ok, Symbol, Register, Relation, Occurrence, TermPlanValue, PlanValue, TermOf, NumberOf, OrderedOf, CompleteOf, PhraseOf, AllWordsOf, AnyWordOf, Has, TermHolds, TreeHolds, chars, Profile, Always, Compared, Complete, Incomplete, FreeForm, Numeric, Phrase, WordList, Entries, Record, HeadValue, TermValue, heads, no_head, HoldingValue, asks_number, holding_of, is_equality, is_first, joined_words, patterns_asked, register_of, values_held, find_checks, first_that_applies, asked_with, entries_asked, plan_of, subject_asked, texts_asked, words_asked, answered_ok, HasRow, HoldsByAttributes}
 use Rattle.std.specs.Str.Parse.{digits_value}
 use Rattle.zeb_keys.specs.declared.Register.TheVariants as register
-use Rattle.zeb_profile.specs.declared.Profile.{Profile}
 use Rattle.zeb_text.specs.Truncation.{joined_patterns}
 use Rattle.zeb_text.specs.Words.{words_of}
 use Rattle.zeb_query.specs.declared.attributes.Asked.{Asked}
-use Rattle.zeb_query.specs.declared.attributes.Asked.TheVariants.{Always, Compared}
 use Rattle.zeb_query.specs.declared.attributes.Completeness.{Completeness}
-use Rattle.zeb_query.specs.declared.attributes.Completeness.TheVariants.{Complete, Incomplete}
 use Rattle.zeb_query.specs.declared.attributes.Structure.{Structure}
-use Rattle.zeb_query.specs.declared.attributes.Structure.TheVariants.{FreeForm, Numeric, Phrase, WordList}
-use Rattle.zeb_query.specs.declared.plans.Relation.TheVariants.{Equal, Greater, GreaterOrEqual, Less, LessOrEqual}
+use Rattle.zeb_query.specs.declared.plans.Relation.TheVariants.{Equal}
 use Rattle.zeb_query.specs.declared.values.Subject.{Subject}
-use Rattle.zeb_query.specs.declared.values.Subject.TheVariants.{Entries, Record}
 use Rattle.zeb_query.specs.declared.values.Values.{Values}
-use Rattle.zeb_query.specs.Grammar.{HeadValue, TermValue, heads, no_head}
-use Rattle.zeb_query.specs.Attributes.{HoldingValue, asks_number, holding_of, is_equality, is_first, joined_words, patterns_asked, register_of, values_held}
-use Rattle.zeb_query.specs.Checks.{find_checks, first_that_applies}
-use Rattle.zeb_query.specs.Plans.{asked_with, entries_asked, plan_asked, plan_of, subject_asked, texts_asked, words_asked}
-use Rattle.zeb_query.proofs.CheckLemmas.{answered_ok}
-use Rattle.zeb_search.specs.ByAttributes.{HasRow, HoldsByAttributes}
+use Rattle.zeb_query.specs.Plans.{plan_asked}
 
 module _ (v : Values) (text : List ℕ) (patterns : List (List Symbol)) where
   -- what a term asks for, by its values
@@ -114,12 +104,9 @@ with v subject asked complete = record v { subject = subject; relation = asked; 
 -- of a structure that is no number, where it has a row for relation 3 and completeness 1
 texts_row : (v : Values) (index : ℕ) (structure : Structure) (relation : Relation) (complete : Completeness) → asks_number structure ≡ false
     → HasRow (with v (Entries index structure) (Compared Equal) Incomplete) → HasRow (with v (Entries index structure) (Compared relation) complete)
-texts_row v index structure Less complete n words = inr (index, inr (inr (inl (Less, (refl, (refl, (structure, n, refl)))))))
-texts_row v index structure LessOrEqual complete n words = inr (index, inr (inr (inl (LessOrEqual, (refl, (refl, (structure, n, refl)))))))
-texts_row v index structure GreaterOrEqual complete n words = inr (index, inr (inr (inl (GreaterOrEqual, (refl, (refl, (structure, n, refl)))))))
-texts_row v index structure Greater complete n words = inr (index, inr (inr (inl (Greater, (refl, (refl, (structure, n, refl)))))))
 texts_row v index structure Equal Complete n words = inr (index, inr (inr (inr (inl (refl, (refl, (structure, n, refl)))))))
 texts_row v index structure Equal Incomplete n words = words
+texts_row v index structure relation complete n words = inr (index, inr (inr (inl (relation, (refl, (refl, (structure, n, refl)))))))
 
 rows : (v : Values) (subject : Subject) (asked : Asked) (complete : Completeness) → HasRow (with v subject asked complete)
 rows v Record asked complete = inl refl

@@ -28,7 +28,7 @@ pub use Rattle.std.specs.Cmp.{IsTotalOrder, nat_cmp_total}
 pub use Rattle.std.specs.Cmp.Lexicographic.{slice_cmp, nat_list_cmp_total}
 pub use Rattle.std.specs.List.{Contains}
 pub use Rattle.std.specs.List.Retain.{IsFiltered, DiffersFromLast}
-pub use Rattle.std.specs.List.Sorted.{IsPermutation, IsSorted}
+pub use Rattle.std.specs.List.Sorted.{IsPermutation, IsSorted, IsStrictlySortedBy}
 pub use Rattle.std.specs.Ordering.{nat_cmp, is_lt, is_le, is_eq, is_ge, is_gt, ordering_reverse, ordering_then, eq_by_cmp}
 pub use Rattle.std.specs.Str.Pattern.{FindsTextPrefix, HasPrefixMatch}
 pub use Rattle.std.specs.declared.alloc.Global.{Global}
@@ -38,43 +38,59 @@ pub use Rattle.zeb_keys.specs.Order.{TellsApart}
 pub use Rattle.zeb_keys.specs.declared.Register.{Register}
 pub use Rattle.zeb_keys.specs.declared.keys.Key.{Key}
 pub use Rattle.zeb_keys.specs.declared.keys.Occurrence.{Occurrence}
+pub use Rattle.zeb_profile.specs.declared.Profile.{Profile}
+pub use Rattle.zeb_query.proofs.CheckLemmas.{answered_ok, none-cons}
 pub use Rattle.zeb_query.proofs.HoldingLemmas.{take_whole}
-pub use Rattle.zeb_query.specs.Plans.{PlanValue, TermOf, PairOf, NearOf, TermPlanValue, RecordNumberOf, NoWordsOf, AlwaysOf, NumberOf, OrderedOf, CompleteOf, PhraseOf, AllWordsOf, AnyWordOf, plan_value}
+pub use Rattle.zeb_query.specs.Attributes.{HoldingValue, asks_number, holding_of, is_equality, is_first, joined_words, patterns_asked, register_of, values_held, completeness_of, index_used, is_local_number, position_of, relation_of, structure_of, truncation_of}
+pub use Rattle.zeb_query.specs.Checks.{find_checks, first_that_applies, Check}
+pub use Rattle.zeb_query.specs.Grammar.{HeadValue, TermValue, heads, no_head}
+pub use Rattle.zeb_query.specs.Plans.{PlanValue, TermOf, PairOf, NearOf, TermPlanValue, RecordNumberOf, NoWordsOf, AlwaysOf, NumberOf, OrderedOf, CompleteOf, PhraseOf, AllWordsOf, AnyWordOf, plan_value, asked_with, entries_asked, plan_of, subject_asked, texts_asked, words_asked, plan_asked}
+pub use Rattle.zeb_query.specs.declared.attributes.Asked.TheVariants.{Always, Compared}
+pub use Rattle.zeb_query.specs.declared.attributes.Completeness.TheVariants.{Complete, Incomplete}
+pub use Rattle.zeb_query.specs.declared.attributes.Structure.TheVariants.{FreeForm, Numeric, Phrase, WordList}
 pub use Rattle.zeb_query.specs.declared.plans.Operator.{Operator}
 pub use Rattle.zeb_query.specs.declared.plans.Operator.TheVariants.{And, Or, Not}
 pub use Rattle.zeb_query.specs.declared.plans.PairPlan.{PairPlan}
 pub use Rattle.zeb_query.specs.declared.plans.Relation.{Relation}
 pub use Rattle.zeb_query.specs.declared.plans.Separation.{Separation}
+pub use Rattle.zeb_query.specs.declared.values.Subject.TheVariants.{Entries, Record}
+pub use Rattle.zeb_register.proofs.Answered.{or_reasoned, told_held}
 pub use Rattle.zeb_register.proofs.Calls.{nothing_still, nothing_then, store_same}
 pub use Rattle.zeb_register.proofs.CallsInTurn.{quiet_still, quiet_then}
 pub use Rattle.zeb_register.proofs.Causes.{may_after}
 pub use Rattle.zeb_register.proofs.ContentChanges.{posting_total, postings_apart}
-pub use Rattle.zeb_register.proofs.CountLemmas.{is_less, less_is}
+pub use Rattle.zeb_register.proofs.CountLemmas.{is_less, less_is, counted_none, some_count}
+pub use Rattle.zeb_register.proofs.CountLists.{held_shows, asked_shown, all_told}
+pub use Rattle.zeb_register.proofs.KeyLists.{count_held, held_listing, held_whole, whole_list, whole_sound, one_places, list_told}
 pub use Rattle.zeb_register.proofs.RisingLists.{never_back, never_itself, pushed_rises, before_last, front_rises, joined_rises}
 pub use Rattle.zeb_register.proofs.RowLemmas.{same_bytes}
 pub use Rattle.zeb_register.proofs.TermLists.{above_least, least_above}
 pub use Rattle.zeb_register.proofs.TermRows.{taken_below, taken_more, last_view}
-pub use Rattle.zeb_register.specs.Between.{AreKeysBetween}
+pub use Rattle.zeb_register.specs.Answers.{TellsOr}
+pub use Rattle.zeb_register.specs.Between.{AreKeysBetween, IsBetween}
 pub use Rattle.zeb_register.specs.Calls.{ChangesNothing, Reading}
 pub use Rattle.zeb_register.specs.Clauses.{OnStore, TellsHeld, IsReasoned}
-pub use Rattle.zeb_register.specs.Content.{Content, posted, posting_cmp, Posting, IsStorable}
-pub use Rattle.zeb_register.specs.Formats.{Format, holds_in, plain_rows, packed_blocks}
+pub use Rattle.zeb_register.specs.Content.{Content, posted, posting_cmp, Posting, IsStorable, places_in}
+pub use Rattle.zeb_register.specs.Formats.{Format, holds_in, plain_rows, packed_blocks, packed_leaves}
 pub use Rattle.zeb_register.specs.Kept.{IsIdentOf, AreReadableIdents}
-pub use Rattle.zeb_register.specs.Occurring.{AreTermsOf, TermIn, key_in, term_cmp}
+pub use Rattle.zeb_register.specs.Occurring.{AreTermsOf, TermIn, key_in, term_cmp, HasKey}
 pub use Rattle.zeb_register.specs.PlainRows.{register_front}
-pub use Rattle.zeb_register.specs.Store.{IsStore, HasRecord}
+pub use Rattle.zeb_register.specs.Store.{IsStore, HasRecord, IsRest, dict_tree}
 pub use Rattle.zeb_register.specs.Tallies.{Works, Rises}
+pub use Rattle.zeb_register.specs.Terms.{shows_count, Comes, IsNearest, ListsAll, ListsFrom, HidesSome, HidesFrom}
+pub use Rattle.zeb_register.specs.Units.{HasMalformedBetween, ListsBetween, ListsUnits, has_malformed, counts_as}
 pub use Rattle.zeb_register.specs.declared.RegFault.{RegFault}
 pub use Rattle.zeb_register.specs.declared.registers.RegisterOf.{RegisterOf}
 pub use Rattle.zeb_register.specs.declared.registers.TermCount.{TermCount}
 pub use Rattle.zeb_register.specs.declared.registers.Work.{Work}
+pub use Rattle.zeb_search.specs.ByAttributes.{HasRow, HoldsByAttributes, AreKept, IsNamed, occurs_in}
 pub use Rattle.zeb_search.specs.Comparing.{Precedes, StandsInOrder, Stands, AreApart, IsDistant}
 pub use Rattle.zeb_search.specs.DictRows.{EntryDict, PlanDict, RegisterDict, TermDict, WordDict}
 pub use Rattle.zeb_search.specs.Finds.{FindsEntries, FindsPlan, FindsWords, Follow, HasAll, HasEach, HasPosting, HasRun, HasSome, HidesEntries, HidesWord, HidesWords, IsCounted, IsNear, IsReached, IsShown, IsStray, Occurs, PlanFinds, PlanHides, ReadsEntries, ReadsWord, ReadsWords, TermFinds, TermHides}
-pub use Rattle.zeb_search.specs.PrivateFinds.{FindsTerm, HidesKeys, IsReachedBy, ListsKeys, PlacesFound}
 pub use Rattle.zeb_search.specs.Holds.{AreJoined, HasEntry, HasWord, HasWords, HasNear, TermHolds, TreeHolds, Fits, HasMatch, HasPhrase, IsNumberAt}
 pub use Rattle.zeb_search.specs.ListRows.{AreKeysOf, EntryRows, rows_under, WordRows, PlanRows}
 pub use Rattle.zeb_search.specs.Lists.{AreNumbers, AreJust, Rise}
+pub use Rattle.zeb_search.specs.PrivateFinds.{FindsTerm, HidesKeys, IsReachedBy, ListsKeys, PlacesFound}
 pub use Rattle.zeb_search.specs.PrivateLists.{ArePostings}
 pub use Rattle.zeb_search.specs.PrivateMet.{IsShownAmong, IsShownWith, AreKeysIn, AreMet, HasMet, MeetsCounts}
 pub use Rattle.zeb_search.specs.PrivateSearchCounts.{NoRows}
@@ -83,7 +99,7 @@ pub use Rattle.zeb_search.specs.PrivateWalks.{HasWithin, IsBefore, IsBehind, IsU
 pub use Rattle.zeb_search.specs.PrivateWordCounts.{CountedMatches, CountedWords}
 pub use Rattle.zeb_search.specs.Registers.{HoldsIn, is_kept_in, NamesReadable, TermNamesReadable}
 pub use Rattle.zeb_search.specs.SearchCounts.{CountsByContent, HasNoStar, AreWithoutStars, IsOneKey, NamesEntries, TermNamesEntries, CountsAtMost}
-pub use Rattle.zeb_search.specs.SearchRows.{AreEntriesSound, AreWordsSound, ArePlanRowsSound}
+pub use Rattle.zeb_search.specs.SearchRows.{AreEntriesSound, AreWordsSound, ArePlanRowsSound, AreTermRowsSound}
 pub use Rattle.zeb_search.specs.Untouched.{IsUntouched}
 pub use Rattle.zeb_search.specs.declared.keys.FoundKeys.{FoundKeys}
 pub use Rattle.zeb_search.specs.declared.lists.Words.{Words}

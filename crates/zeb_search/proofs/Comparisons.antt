@@ -19,9 +19,8 @@ le_stands a b Equal e = (λ _. inr (same_bytes a b (sym e)), λ _. refl)
 le_stands a b Greater e = (λ h. absurd (cc), λ h. elim h [ inl less ↦ absurd (cc) | inr same ↦ absurd (let t = tied_back a b same in cc) ])
 
 pub eq_stands : (a b : List ℕ) (o : Ordering) → o ≡ slice_cmp nat_cmp a b → IsTrue (is_eq o) ↔ StandsInOrder relation.Equal a b
-eq_stands a b Less e = (λ h. absurd (cc), λ h. absurd (let t = tied_back a b h in cc))
 eq_stands a b Equal e = (λ _. same_bytes a b (sym e), λ _. refl)
-eq_stands a b Greater e = (λ h. absurd (cc), λ h. absurd (let t = tied_back a b h in cc))
+eq_stands a b _ e = (λ h. absurd (cc), λ h. absurd (let t = tied_back a b h in cc))
 
 pub ge_stands : (a b : List ℕ) (o : Ordering) → o ≡ slice_cmp nat_cmp a b → IsTrue (is_ge o) ↔ StandsInOrder relation.GreaterOrEqual a b
 ge_stands a b Less e = (λ h. absurd (cc), λ h. elim h [ inl more ↦ absurd (let t = turned_back a b more in cc) | inr same ↦ absurd (let t = tied_back a b same in cc) ])
@@ -29,9 +28,8 @@ ge_stands a b Equal e = (λ _. inr (same_bytes a b (sym e)), λ _. refl)
 ge_stands a b Greater e = (λ _. inl (turned a b (sym e)), λ _. refl)
 
 pub gt_stands : (a b : List ℕ) (o : Ordering) → o ≡ slice_cmp nat_cmp a b → IsTrue (is_gt o) ↔ StandsInOrder relation.Greater a b
-gt_stands a b Less e = (λ h. absurd (cc), λ h. absurd (let t = turned_back a b h in cc))
-gt_stands a b Equal e = (λ h. absurd (cc), λ h. absurd (let t = turned_back a b h in cc))
 gt_stands a b Greater e = (λ _. turned a b (sym e), λ _. refl)
+gt_stands a b _ e = (λ h. absurd (cc), λ h. absurd (let t = turned_back a b h in cc))
 
 -- ---- the first numbers and bytes that differ decide
 
@@ -69,8 +67,7 @@ below_next a = by (slice_cmp nat_cmp a (a ++ 0 ∷ [])) refl
   where
     by : (o : Ordering) → slice_cmp nat_cmp a (a ++ 0 ∷ []) ≡ o → Precedes a (a ++ 0 ∷ [])
     by Less is = is
-    by Equal is = absurd (never_before_itself a (least_above a a (ap is_lt is)))
-    by Greater is = absurd (never_before_itself a (least_above a a (ap is_lt is)))
+    by _ is = absurd (never_before_itself a (least_above a a (ap is_lt is)))
 
 -- the empty text comes first
 pub none_before : (a : List ℕ) → ¬ Precedes a []

@@ -1,6 +1,7 @@
 -- What a step of a search reads, where the tables hold a content: the postings of the entries that it asks for. And what it has met on any tables.
-use Rattle.zeb_search.proofs.Cited.{◌≡◌, ◌↔◌, ◌∙◌, ◌∷◌, ◌≤◌, ℕ, ℤ, List, ap, drop, inl, inr, refl, subst, Text, Row, column, Trees, Has, Symbol, Register, Key, Occurrence, Content, IsStorable, posted, Posting, Format, plain_rows, packed_blocks, holds_in, key_in, register_front, Fits, HasEntry, HasNoStar, HasWord, AreNumbers, AreEntriesSound, FindsEntries, HasAll, HasPosting, HidesEntries, IsReached, Occurs, ReadsEntries, ReadsWord}
+use Rattle.zeb_search.proofs.Cited.{◌≡◌, ◌↔◌, ◌∙◌, ◌∷◌, ◌≤◌, ℕ, ℤ, List, ap, drop, inl, inr, refl, subst, Text, Row, column, Trees, Has, Symbol, Register, Key, Occurrence, Content, IsStorable, posted, Posting, Format, packed_blocks, packed_leaves, plain_rows, holds_in, key_in, register_front, Fits, HasEntry, HasNoStar, HasWord, AreNumbers, AreEntriesSound, FindsEntries, HasAll, HasPosting, HidesEntries, IsReached, Occurs, ReadsEntries, ReadsWord}
 use Rattle.zeb_keys.specs.declared.Register.TheVariants as register
+use Rattle.zeb_register.specs.LeafUnits.{IsLeafOf}
 use Rattle.zeb_register.specs.Occurring.{HasKey}
 use Rattle.zeb_register.specs.Sound.{IsTermSound}
 use Rattle.zeb_register.specs.Store.{IsRest, dict_tree}
@@ -9,12 +10,13 @@ use Rattle.zeb_register.proofs.BetweenRows.{begins}
 use Rattle.zeb_register.proofs.CountLemmas.{counted_none, some_count}
 use Rattle.zeb_register.proofs.CountLists.{held_shows}
 use Rattle.zeb_register.proofs.KeyLists.{count_held, held_listing, held_whole, whole_list, whole_sound}
+use Rattle.zeb_register.proofs.LeafSums.{entry_counted}
 use Rattle.zeb_search.proofs.JustLemmas.{just_same}
 use Rattle.zeb_search.proofs.UnitLemmas.{of_list, on_list}
 
 -- ---- rows, whatever they hold
 
--- a count that can be shown is that of a row, and then the list is sound
+-- a count that can be shown is that of a row, or of entries, and then the list is sound
 shown_sound : (format : Format) (trees : Trees) (db : ℤ) (index : ℕ) (register : Register) (term : List ℕ) (list : List Posting) (records : ℕ) → shows_count format trees db (key_in index register term) records
     → (1 ≤ records → HasAll format trees db (key_in index register term) list) → IsTermSound format trees db (key_in index register term)
 shown_sound plain_rows trees db index register term list records shows all = tt
@@ -22,6 +24,9 @@ shown_sound packed_blocks trees db index register term list records shows all = 
     let is : row ≡ Text term ∷ drop 1 row = begins row (Text term) shown (λ none. cc) in
     let said = shows.0.said (drop 1 row) (subst (IsRest dict_tree (register_front db index register) trees) is there) in
     ((term, shown, shows.1 said.0, (records, ap (λ (r : Row). column r 1) is ∙ said.2, said.0, said.1)), (all said.0).whole)
+shown_sound packed_leaves trees db index register term list records shows all = λ e is.
+    let some = entry_counted (IsLeafOf trees db (key_in index register term)) term e records is shows.0 in
+    (shows.1 some, (records, shows.0), (all some).whole)
 
 module _ (format : Format) (trees : Trees) (db : ℤ) (IsNamed : Type 0) (index : ℕ) (register : Register) (P : List ℕ → Type 0) where
   abbrev named : List ℕ → Key
@@ -70,20 +75,17 @@ module _ (format : Format) (trees : Trees) (db : ℤ) (IsNamed : Type 0) (index 
         | inl name ↦ (name.1 term asked).has p (held_of (named term) p has)
         | inr counts ↦ (
             let it = counts.1 term asked in
-            let some = some_count (HasKey O (named term)) it.0 p.sysno (count_held format trees content holds db (named term) it.0 it.1.0) (has_key (named term) p has) in
-            (it.2 some).has p (held_of (named term) p has)
+            (it.2 (some_count (HasKey O (named term)) it.0 p.sysno (count_held format trees content holds db (named term) it.0 it.1.0) (has_key (named term) p has))).has p (held_of (named term) p has)
             )
       ]
 
       pub entry_numbers : (n : ℕ) → HasPosting list n ↔ HasEntry O index register P n
       entry_numbers n = (
         λ posting.
-            let p = posting.0 in
-            let it = read_of p posting.1 in
-            (it.0, subst (HasKey O (named it.0)) posting.2 (has_key (named it.0) p it.1), it.2),
+            let it = read_of posting.0 posting.1 in
+            (it.0, subst (HasKey O (named it.0)) posting.2 (has_key (named it.0) posting.0 it.1), it.2),
         λ entry.
-            let o = entry.1.0 in
-            let p : Posting = record { sysno = n; seq = o.seq; pos = o.pos } in
+            let p : Posting = record { sysno = n; seq = entry.1.0.seq; pos = entry.1.0.pos } in
             (p, read_on p entry.0 (subst (λ (k : Key). Has (content db k) p) entry.1.2 entry.1.1) entry.2, refl),
       )
 

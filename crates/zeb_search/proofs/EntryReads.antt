@@ -1,7 +1,5 @@
 -- What the lists of keys that were found tell of the entries that a step of a search asks for.
-use Rattle.zeb_search.proofs.Cited.{◌↔◌, ◌⊎◌, ◌≤◌, ℕ, ℤ, zero, suc, List, IsTrue, Register, arith, inl, inr, subst, Trees, Has, Key, RegisterOf, Posting, Format, key_in, Wanted, AreMet, FoundKeys, HidesEntries, HidesKeys, IsCounted, IsReached, IsReachedBy, IsShown, IsStray, IsWanted, ListsKeys, MeetsCounts, NamesEntry, ReadsEntries}
-use Rattle.zeb_register.specs.Between.{IsBetween}
-use Rattle.zeb_register.specs.Terms.{shows_count}
+use Rattle.zeb_search.proofs.Cited.{◌↔◌, ◌⊎◌, ◌≤◌, ℕ, ℤ, zero, suc, List, IsTrue, Register, arith, inl, inr, subst, Trees, Has, Key, RegisterOf, Posting, Format, key_in, Wanted, AreMet, FoundKeys, HidesEntries, HidesKeys, IsCounted, IsReached, IsReachedBy, IsShown, IsStray, IsWanted, ListsKeys, MeetsCounts, NamesEntry, ReadsEntries, IsBetween, shows_count}
 use Rattle.zeb_search.proofs.NeighbourLemmas.{never_lower}
 use Rattle.zeb_search.proofs.UnitLemmas.{all_more}
 
@@ -36,9 +34,8 @@ module _ (format : Format) (trees : Trees) (of : RegisterOf) (wanted : Wanted) (
   reached term (inr within) = elim met.met [
     | inl name ↦ absurd (name.1.alone within.0)
     | inr counts ↦ (
-        let between = within.5 in
-        let it = counts.1.neighbours within.0 within.1 within.2 within.3 within.4 term (never_lower term within.1.term between.0, never_lower within.2.term term between.1) in
-        inr (counts.0, shown_or counts.1 within.1 within.2 within.3 within.4 term between it.0 it.1 it.2)
+        let it = counts.1.neighbours within.0 within.1 within.2 within.3 within.4 term (never_lower term within.1.term within.5.0, never_lower within.2.term term within.5.1) in
+        inr (counts.0, shown_or counts.1 within.1 within.2 within.3 within.4 term within.5 it.0 it.1 it.2)
         )
   ]
 

@@ -1,6 +1,5 @@
 -- What a find tells where the tables hold a content, and why it is refused.
-use Rattle.zeb_search.proofs.Cited.{ℕ, ℤ, Result, Vec, Global, State, Trees, RegFault, IsReasoned, Format, PlanValue, FindsPlan, PlanFinds, PlanHides}
-use Rattle.zeb_register.proofs.Answered.{or_reasoned}
+use Rattle.zeb_search.proofs.Cited.{ℕ, ℤ, Result, Vec, Global, State, Trees, RegFault, IsReasoned, Format, PlanValue, FindsPlan, PlanFinds, PlanHides, or_reasoned}
 
 module _ (format : Format) (db : ℤ) (plan : PlanValue) (old new : State) where
   abbrev Hides : Trees → Type 0

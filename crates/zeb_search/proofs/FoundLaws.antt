@@ -1,7 +1,5 @@
 -- The keys that a step of a search has found, where the tables hold a content.
-use Rattle.zeb_search.proofs.Cited.{ℕ, List, inl, inr, refl, Trees, Has, RegisterOf, Content, posted, Format, holds_in, TermIn, key_in, Wanted, AreFound, AreKeysOf, AreMet, FoundKeys, IsShownAmong, IsWanted}
-use Rattle.zeb_register.proofs.CountLemmas.{some_count}
-use Rattle.zeb_register.proofs.KeyLists.{count_held}
+use Rattle.zeb_search.proofs.Cited.{ℕ, List, inl, inr, refl, Trees, Has, RegisterOf, Content, posted, Format, holds_in, TermIn, key_in, Wanted, AreFound, AreKeysOf, AreMet, FoundKeys, IsShownAmong, IsWanted, some_count, count_held}
 
 module _ (format : Format) (trees : Trees) (of : RegisterOf) (wanted : Wanted) (found : FoundKeys) (met : AreMet format trees of wanted found) (content : Content) (holds : holds_in format trees content) where
   -- the key of an entry that some record has is there, where its count is shown with it

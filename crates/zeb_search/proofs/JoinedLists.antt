@@ -46,9 +46,8 @@ module _ (P Q P' Q' : ℕ → Type 0) (in_left in_right : Bool) (m : ℕ) (left 
   )
 
   joined_below : (operator : Operator) (n : ℕ) → AreJoined operator (P n) (Q n) → n < m
-  joined_below And n h = left_below n h.0
   joined_below Or n h = elim h [ inl p ↦ left_below n p | inr q ↦ right_below n q ]
-  joined_below Not n h = left_below n h.0
+  joined_below _ n h = left_below n h.0
 
   joined_more : (operator : Operator) (kept : Bool) (old new : List ℕ) → IsTrue kept ↔ AreJoined operator (IsTrue in_left) (IsTrue in_right)
       → new ≡ cond kept (old ++ m ∷ []) old → AreNumbers (λ n. AreJoined operator (P n) (Q n)) old → AreNumbers (λ n. AreJoined operator (P' n) (Q' n)) new
@@ -191,9 +190,8 @@ walk_begins operator left right = record {
 }
   where
     none : (operator : Operator) (n : ℕ) → AreJoined operator (Has [] n) (Has [] n) → ⊥
-    none And n h = h.0
     none Or n h = elim h [ inl left ↦ left | inr right ↦ right ]
-    none Not n h = h.0
+    none _ n h = h.0
 
 pub byte_is : (flag : Bool) (i byte : ℕ) → byte ≡ bool_byte flag → i + byte ≡ i + cond flag 1 0
 byte_is true i byte is = ap (λ k. i + k) is

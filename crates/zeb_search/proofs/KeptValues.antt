@@ -1,20 +1,9 @@
 -- Where none of a term's checks applies, each of its values is its table's.
 use Rattle.std.specs.Option.{is_none, is_some, unwrap_or}
-use Rattle.zeb_search.proofs.Cited.{◌≡◌, ℕ, Bool, true, false, cond, not, ◌&&◌, List, [], ◌∷◌, Option, Some, None, refl, Ok, PlanValue, TermOf}
-use Rattle.zeb_profile.specs.declared.Profile.{Profile}
+use Rattle.zeb_search.proofs.Cited.{◌≡◌, ℕ, Bool, true, false, cond, not, ◌&&◌, List, [], ◌∷◌, Option, Some, None, refl, Ok, PlanValue, TermOf, Profile, Compared, Incomplete, Phrase, Entries, Record, HeadValue, TermValue, heads, no_head, HoldingValue, completeness_of, holding_of, index_used, is_local_number, position_of, relation_of, structure_of, truncation_of, values_held, Check, find_checks, first_that_applies, plan_asked, plan_of, answered_ok, none-cons, AreKept, IsNamed}
 use Rattle.zeb_text.specs.declared.Cut.TheVariants as cut
-use Rattle.zeb_query.specs.declared.attributes.Asked.TheVariants.{Compared}
-use Rattle.zeb_query.specs.declared.attributes.Completeness.TheVariants.{Incomplete}
 use Rattle.zeb_query.specs.declared.attributes.Position.TheVariants.{Any}
-use Rattle.zeb_query.specs.declared.attributes.Structure.TheVariants.{Phrase}
 use Rattle.zeb_query.specs.declared.plans.Relation.TheVariants.{Equal}
-use Rattle.zeb_query.specs.declared.values.Subject.TheVariants.{Entries, Record}
-use Rattle.zeb_query.specs.Grammar.{HeadValue, TermValue, heads, no_head}
-use Rattle.zeb_query.specs.Attributes.{HoldingValue, completeness_of, holding_of, index_used, is_local_number, position_of, relation_of, structure_of, truncation_of, values_held}
-use Rattle.zeb_query.specs.Checks.{Check, find_checks, first_that_applies}
-use Rattle.zeb_query.specs.Plans.{plan_asked, plan_of}
-use Rattle.zeb_query.proofs.CheckLemmas.{answered_ok, none-cons}
-use Rattle.zeb_search.specs.ByAttributes.{AreKept, IsNamed}
 
 some_value : {A : Type 0} (o : Option A) (d : A) → is_none o ≡ false → o ≡ Some (unwrap_or o d)
 some_value None d e = absurd cc

@@ -1,7 +1,5 @@
 -- The postings of keys, as they are read run by run.
-use Rattle.zeb_search.proofs.Cited.{◌≡◌, ◌≤◌, ◌++◌, ◌∷◌, [], ℕ, List, refl, sym, subst, subst₂, inl, inr, length, get_or, Trees, Has, has_either, has_left, has_right, Key, RegisterOf, Posting, Format, key_in, AreKeysIn, HasAll, HidesKeys, IsReachedBy, ListsKeys, Occurs}
-use Rattle.zeb_register.specs.Between.{IsBetween}
-use Rattle.zeb_register.specs.Units.{HasMalformedBetween, ListsBetween, ListsUnits, has_malformed}
+use Rattle.zeb_search.proofs.Cited.{◌≡◌, ◌≤◌, ◌++◌, ◌∷◌, [], ℕ, List, refl, sym, subst, subst₂, inl, inr, length, get_or, Trees, Has, has_either, has_left, has_right, Key, RegisterOf, Posting, Format, key_in, AreKeysIn, HasAll, HidesKeys, IsReachedBy, ListsKeys, Occurs, IsBetween, HasMalformedBetween, ListsBetween, ListsUnits, has_malformed}
 use Rattle.zeb_search.proofs.NeighbourLemmas.{HaveEnds, from_first, not_lower, up_to_last}
 use Rattle.zeb_search.proofs.OneKey.{one_alone}
 use Rattle.zeb_search.proofs.UnitLemmas.{all_listed, all_more, of_list}

@@ -1,10 +1,6 @@
 -- The counts of a register's terms that a search has met, page by page.
-use Rattle.zeb_search.proofs.Cited.{◌≡◌, ◌≢◌, ◌⊎◌, ◌∙◌, ◌<◌, ◌≤◌, ℕ, ℤ, List, [], ◌∷◌, ◌++◌, length, refl, sym, ap, subst, inl, inr, Less, Equal, Greater, Ordering, None, Some, String, string_bytes, Global, nat_cmp, slice_cmp, append_assoc, Trees, Has, has_either, has_left, has_right, Register, TermCount, Content, posted, Format, holds_in, TermIn, key_in, Precedes, Wanted, HasMet, IsShownWith, BeginsAt, IsAmong, IsWanted, LeadsTo, TermsRise}
-use Rattle.zeb_register.specs.Terms.{Comes, IsNearest, ListsAll, ListsFrom}
-use Rattle.zeb_register.specs.Units.{counts_as}
+use Rattle.zeb_search.proofs.Cited.{◌≡◌, ◌≢◌, ◌⊎◌, ◌∙◌, ◌<◌, ◌≤◌, ℕ, ℤ, List, [], ◌∷◌, ◌++◌, length, refl, sym, ap, subst, inl, inr, Less, Ordering, None, Some, String, string_bytes, Global, nat_cmp, slice_cmp, append_assoc, Trees, Has, has_either, has_left, has_right, Register, TermCount, Content, posted, Format, holds_in, TermIn, key_in, Precedes, Wanted, HasMet, IsShownWith, BeginsAt, IsAmong, IsWanted, LeadsTo, TermsRise, Comes, IsNearest, ListsAll, ListsFrom, counts_as, asked_shown, count_held}
 use Rattle.zeb_register.proofs.BlockContents.{some_counted}
-use Rattle.zeb_register.proofs.CountLists.{asked_shown}
-use Rattle.zeb_register.proofs.KeyLists.{count_held}
 use Rattle.zeb_search.proofs.Comparisons.{below_next, below_others, none_between, precedes_then}
 use Rattle.zeb_search.proofs.RisingTexts.{before_last_text, joined_rise, none_rises, terms_rise}
 
@@ -24,8 +20,7 @@ behind_or (t ∷ page) term = by (slice_cmp nat_cmp t.term term) refl (behind_or
         → ((u : TermCount) → Has (t ∷ page) u → Precedes u.term term) ⊎ ((u : TermCount) × Has (t ∷ page) u × ¬ Precedes u.term term)
     by Less is (inl all) = inl (λ u h. elim h [ inl same ↦ subst (λ (v : TermCount). Precedes v.term term) (sym same) is | inr later ↦ all u later ])
     by Less is (inr it) = inr (it.0, inr it.1, it.2)
-    by Equal is rest = inr (t, inl refl, λ low. (let e : Less ≡ Equal = sym low ∙ is in cc))
-    by Greater is rest = inr (t, inl refl, λ low. (let e : Less ≡ Greater = sym low ∙ is in cc))
+    by o is rest = inr (t, inl refl, λ low. (let e : Less ≡ o = sym low ∙ is in cc))
 
 module _ (format : Format) (trees : Trees) (db : ℤ) (index : ℕ) (register : Register) (wanted : Wanted) where
   abbrev IsTold : List TermCount → List ℕ → Type 0

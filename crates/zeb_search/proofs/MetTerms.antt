@@ -1,7 +1,5 @@
 -- What a step of a search has met: the counts of a register's terms, and the keys of those that are asked for.
-use Rattle.zeb_search.proofs.Cited.{◌≡◌, ◌↔◌, ◌∙◌, ◌++◌, ◌∷◌, [], ℕ, ℤ, List, ap, inl, inr, subst, subst₂, sym, IsTrue, State, Survives, Trees, Has, has_left, has_right, Register, Key, RegisterOf, TermCount, OnStore, Format, key_in, Rise, Wanted, AreKeysIn, AreMet, HasMet, AreTaken, FoundKeys, IsAmong, IsWanted, NamesEntry, StandTogether, StandsWithin}
-use Rattle.zeb_register.specs.Terms.{ListsFrom}
-use Rattle.zeb_register.specs.Units.{counts_as}
+use Rattle.zeb_search.proofs.Cited.{◌≡◌, ◌↔◌, ◌∙◌, ◌++◌, ◌∷◌, [], ℕ, ℤ, List, ap, inl, inr, subst, subst₂, sym, IsTrue, State, Survives, Trees, Has, has_left, has_right, Register, Key, RegisterOf, TermCount, OnStore, Format, key_in, Rise, Wanted, AreKeysIn, AreMet, HasMet, AreTaken, FoundKeys, IsAmong, IsWanted, NamesEntry, StandTogether, StandsWithin, ListsFrom, counts_as}
 use Rattle.zeb_search.proofs.MetPages.{MetUpTo}
 use Rattle.zeb_search.proofs.MetRows.{met_later}
 use Rattle.zeb_search.proofs.ReadLemmas.{IsRead, clean_before}

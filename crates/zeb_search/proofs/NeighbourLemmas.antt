@@ -1,5 +1,5 @@
 -- Terms that stand next to each other in a register, and the postings of such a run.
-use Rattle.zeb_search.proofs.Cited.{◌≡◌, ◌⊎◌, ◌∙◌, ◌+◌, ◌-◌, ◌≤◌, ℕ, ℤ, suc, Bool, true, false, List, [], ◌∷◌, ◌++◌, Result, Ok, Err, Vec, OnOk, drop, get_or, length, map, take, refl, sym, ap, subst, subst₂, inl, inr, Ordering, Less, Equal, Greater, arith, nat_cmp, is_lt, slice_cmp, take-append-drop, Global, State, HasCleanDisk, Survives, Has, all_has, has_either, has_right, mapped_has, Key, RegisterOf, TermCount, Work, AreKeysBetween, OnStore, TellsHeld, Content, Posting, posted, Format, holds_in, IsStore, Works, RegFault, Precedes, CountsByContent, CountsAtMost, NoRows, FoundKeys, Wanted, AreKeysOf, EntryRows, rows_under, Rise, AreFound, AreRun, IsWanted, StandTogether, TermsRise, last_view}
+use Rattle.zeb_search.proofs.Cited.{◌≡◌, ◌⊎◌, ◌∙◌, ◌+◌, ◌-◌, ◌≤◌, ℕ, ℤ, suc, Bool, true, false, List, [], ◌∷◌, ◌++◌, Result, Ok, Err, Vec, OnOk, drop, get_or, length, map, take, refl, sym, ap, subst, subst₂, inl, inr, Ordering, Less, arith, nat_cmp, is_lt, slice_cmp, take-append-drop, Global, State, HasCleanDisk, Survives, Has, all_has, has_either, has_right, mapped_has, Key, RegisterOf, TermCount, Work, AreKeysBetween, OnStore, TellsHeld, Content, Posting, posted, Format, holds_in, IsStore, Works, RegFault, Precedes, CountsByContent, CountsAtMost, NoRows, FoundKeys, Wanted, AreKeysOf, EntryRows, rows_under, Rise, AreFound, AreRun, IsWanted, StandTogether, TermsRise, last_view}
 use Rattle.std.specs.List.Sorted.{IsStrictlySortedBy}
 use Rattle.zeb_search.proofs.Comparisons.{never_after, never_before_itself}
 use Rattle.zeb_search.proofs.SearchCountLemmas.{counts_then, list_counts}
@@ -102,8 +102,7 @@ not_lower a b never = by (slice_cmp nat_cmp a b) refl
   where
     by : (o : Ordering) → slice_cmp nat_cmp a b ≡ o → is_lt o ≡ false
     by Less is = absurd (never is)
-    by Equal is = refl
-    by Greater is = refl
+    by _ is = refl
 
 pub never_lower : (a b : List ℕ) → is_lt (slice_cmp nat_cmp a b) ≡ false → ¬ Precedes a b
 never_lower a b low is = let e : true ≡ false = sym (ap is_lt is) ∙ low in cc

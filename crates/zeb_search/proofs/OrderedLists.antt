@@ -1,5 +1,5 @@
 -- Lists that a sort and a `dedup` put in order.
-use Rattle.zeb_search.proofs.Cited.{◌≡◌, ◌∙◌, ℕ, zero, suc, ◌+◌, ◌&&◌, Bool, false, get_or, List, [], ◌∷◌, map, Ordering, Less, Equal, Greater, refl, sym, ap, subst, arith, nat_eq, IsTotalOrder, nat_cmp_total, IsFiltered, DiffersFromLast, IsPermutation, IsSorted, nat_cmp, ordering_then, eq_by_cmp, is_lt, nat_tests, IsPermutation-refl, Has, has_contained, contains_had, has_mapped, mapped_has, TellsApart, rising_from_dedup, members_from_dedup, numbers_apart, posting_cmp, Posting, posting_total, postings_apart, AreJust, AreNumbers, ArePostings, HasPosting}
+use Rattle.zeb_search.proofs.Cited.{◌≡◌, ◌∙◌, ℕ, zero, suc, ◌+◌, ◌&&◌, Bool, false, get_or, List, [], ◌∷◌, map, Ordering, Less, Greater, refl, sym, ap, subst, arith, nat_eq, IsTotalOrder, nat_cmp_total, IsFiltered, DiffersFromLast, IsPermutation, IsSorted, nat_cmp, ordering_then, eq_by_cmp, is_lt, nat_tests, IsPermutation-refl, Has, has_contained, contains_had, has_mapped, mapped_has, TellsApart, rising_from_dedup, members_from_dedup, numbers_apart, posting_cmp, Posting, posting_total, postings_apart, AreJust, AreNumbers, ArePostings, HasPosting}
 use Rattle.std.specs.List.Sorted.{IsStrictlySortedBy}
 
 -- ---- after a sort
@@ -33,8 +33,7 @@ postings_sorted = just_members posting_total posting_ties postings_apart
 
 then_groups : (a b c : Ordering) → ordering_then (ordering_then a b) c ≡ ordering_then a (ordering_then b c)
 then_groups Less b c = refl
-then_groups Equal b c = refl
-then_groups Greater b c = refl
+then_groups _ b c = refl
 
 abbrev pub tuple_cmp : Posting → Posting → Ordering
 tuple_cmp p q = ordering_then (ordering_then (nat_cmp p.sysno q.sysno) (nat_cmp p.seq q.seq)) (nat_cmp p.pos q.pos)
@@ -64,8 +63,7 @@ numbers_from_any postings all fewer numbers mapped filtered are =
 
 first_less : (x y : Ordering) → ordering_then x y ≡ Less → (x ≡ Greater → ⊥)
 first_less Less y h is = cc
-first_less Equal y h is = cc
-first_less Greater y h is = cc
+first_less _ y h is = cc
 
 turned_less : (a b : ℕ) → (nat_cmp a b ≡ Greater → ⊥) → is_lt (nat_cmp b a) ≡ false
 turned_less a b = grind (arith, nat_tests)

@@ -1,17 +1,10 @@
 -- Where each identifier can be read, each that a plan names can.
-use Rattle.zeb_search.proofs.Cited.{ℕ, ℤ, pos, Trees, PlanValue, TermOf, PairOf, NearOf, TermPlanValue, RecordNumberOf, NoWordsOf, AlwaysOf, NumberOf, OrderedOf, CompleteOf, PhraseOf, AllWordsOf, AnyWordOf, AreReadableIdents, NamesReadable, TermNamesReadable}
+use Rattle.zeb_search.proofs.Cited.{ℕ, ℤ, pos, Trees, PlanValue, TermOf, PairOf, NearOf, TermPlanValue, RecordNumberOf, AreReadableIdents, NamesReadable, TermNamesReadable}
 
 module _ (trees : Trees) (db : ℤ) (readable : (n : ℕ) → AreReadableIdents trees db (pos n)) where
   term_readable : (plan : TermPlanValue) → TermNamesReadable trees db plan
   term_readable (RecordNumberOf number) = readable number
-  term_readable (NoWordsOf index register) = tt
-  term_readable (AlwaysOf index register) = tt
-  term_readable (NumberOf index relation number) = tt
-  term_readable (OrderedOf index register relation start) = tt
-  term_readable (CompleteOf index pattern) = tt
-  term_readable (PhraseOf index patterns first) = tt
-  term_readable (AllWordsOf index patterns) = tt
-  term_readable (AnyWordOf index patterns) = tt
+  term_readable _ = tt
 
   pub names_readable : (plan : PlanValue) → NamesReadable trees db plan
   names_readable (TermOf plan) = term_readable plan

@@ -19,8 +19,7 @@ module _ (content : Content) (of : RegisterOf) (found : FoundKeys) (done run beh
     each = λ key here. are.each key (in_whole key here);
     neighbours = λ many first last one two term p within here.
         let key = key_in of.index of.register term in
-        let there = are.neighbours (joined many) first last (in_whole first one) (in_whole last two) term p within here in
-        elim (has_either done (run ++ behind) key (subst (λ (l : List Key). Has l key) whole there)) [
+        elim (has_either done (run ++ behind) key (subst (λ (l : List Key). Has l key) whole (are.neighbours (joined many) first last (in_whole first one) (in_whole last two) term p within here))) [
           | inl before ↦ absurd (within.0 (before_behind text done (run ++ behind) rising key first before (has_left run behind first one)))
           | inr rest ↦ elim (has_either run behind key rest) [
             | inl inside ↦ inside

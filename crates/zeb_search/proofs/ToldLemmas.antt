@@ -1,7 +1,6 @@
 -- What reading calls tell that are made one after the other, of the tables as they were before the first, or why they are refused.
-use Rattle.zeb_search.proofs.Cited.{◌≡◌, Result, Ok, Err, ap, sym, subst, Trees, State, Survives, RegFault, OnStore, IsReasoned, may_after}
+use Rattle.zeb_search.proofs.Cited.{◌≡◌, Result, Ok, Err, ap, sym, subst, Trees, State, Survives, RegFault, OnStore, IsReasoned, may_after, TellsOr}
 use Rattle.zeb_register.specs.declared.RegFault.TheVariants.{Damaged}
-use Rattle.zeb_register.specs.Answers.{TellsOr}
 use Rattle.zeb_search.proofs.ReadLemmas.{IsRead, clean_before, still_store, still_trees}
 
 -- the same answer tells something else

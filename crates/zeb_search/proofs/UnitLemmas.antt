@@ -1,8 +1,5 @@
 -- The postings of a key by its units: all that its list has, and each of them.
-use Rattle.zeb_search.proofs.Cited.{ℤ, List, subst, Trees, Has, Key, Posting, Format, HasAll, Occurs}
-use Rattle.zeb_register.specs.Content.{places_in}
-use Rattle.zeb_register.specs.Units.{ListsUnits}
-use Rattle.zeb_register.proofs.KeyLists.{one_places}
+use Rattle.zeb_search.proofs.Cited.{ℤ, List, subst, Trees, Has, Key, Posting, Format, HasAll, Occurs, places_in, ListsUnits, one_places}
 use Rattle.zeb_register.proofs.KeyPlaces.{in_place, place_in, place_of}
 
 module _ (format : Format) (trees : Trees) (db : ℤ) (key : Key) (list : List Posting) (lists : ListsUnits format trees db key list) where

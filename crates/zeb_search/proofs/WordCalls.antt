@@ -1,8 +1,6 @@
 -- What calls tell of the words that a pattern matches, where others were accepted before them, and how they are refused.
-use Rattle.zeb_search.proofs.Cited.{◌≡◌, ℕ, ℤ, List, Result, Err, Vec, Global, Trees, State, Survives, Has, Symbol, RegFault, Posting, posting_cmp, Format, Fits, HasNoStar, FindsEntries, HidesWord, HidesWords, ReadsWord}
-use Rattle.std.specs.List.Sorted.{IsStrictlySortedBy}
+use Rattle.zeb_search.proofs.Cited.{◌≡◌, ℕ, ℤ, List, Result, Err, Vec, Global, Trees, State, Survives, Has, Symbol, RegFault, Posting, posting_cmp, Format, Fits, HasNoStar, FindsEntries, HidesWord, HidesWords, ReadsWord, IsStrictlySortedBy, TellsOr}
 use Rattle.zeb_keys.specs.declared.Register.TheVariants as register
-use Rattle.zeb_register.specs.Answers.{TellsOr}
 use Rattle.zeb_search.proofs.ReadLemmas.{IsRead}
 use Rattle.zeb_search.proofs.ToldLemmas.{tells_later, tells_refused}
 

@@ -1,6 +1,5 @@
 -- Lists of postings of several patterns, as they are read pattern by pattern, and the records that have postings of some or of each.
-use Rattle.zeb_search.proofs.Cited.{◌≡◌, ◌≢◌, ◌↔◌, ◌⊎◌, ◌++◌, ◌∷◌, ◌+◌, ◌==◌, [], ℕ, ℤ, true, false, List, arith, inl, inr, refl, subst, sym, filter, eqb-true, eq-eqb, Trees, Has, has_either, has_filtered, has_kept, has_left, has_right, Symbol, Posting, posting_cmp, Format, Fits, HasNoStar, AreNumbers, ArePostings, FindsEntries, FindsWords, Follow, HasBehind, HasEach, HasPosting, HasRun, HasSome, PlacesFound, ReadsWord, ReadsWords}
-use Rattle.std.specs.List.Sorted.{IsStrictlySortedBy}
+use Rattle.zeb_search.proofs.Cited.{◌≡◌, ◌≢◌, ◌↔◌, ◌⊎◌, ◌++◌, ◌∷◌, ◌+◌, ◌==◌, [], ℕ, ℤ, true, false, List, arith, inl, inr, refl, subst, sym, filter, eqb-true, eq-eqb, Trees, Has, has_either, has_filtered, has_kept, has_left, has_right, Symbol, Posting, posting_cmp, Format, Fits, HasNoStar, AreNumbers, ArePostings, FindsEntries, FindsWords, Follow, HasBehind, HasEach, HasPosting, HasRun, HasSome, PlacesFound, ReadsWord, ReadsWords, IsStrictlySortedBy}
 use Rattle.zeb_keys.specs.declared.Register.TheVariants as register
 use Rattle.zeb_search.proofs.JustLemmas.{just_none, just_same}
 
@@ -114,9 +113,8 @@ module _ (format : Format) (trees : Trees) (db : ℤ) (index : ℕ) where
       λ has.
           let q = has.1.0 in
           let at : q.pos ≡ 1 + p.pos = omega (arith, has.1.4, has.1.5) in
-          let run = ((rest.2.each q).0 has.1.1).1 in
           let moved : Follow rest.0 p.sysno p.seq (1 + p.pos) = subst (λ (k : ℕ). Follow rest.0 p.sysno p.seq k) at
-          (subst (λ (s : ℕ). Follow rest.0 p.sysno s q.pos) has.1.3 (subst (λ (m : ℕ). Follow rest.0 m q.seq q.pos) has.1.2 run)) in
+          (subst (λ (s : ℕ). Follow rest.0 p.sysno s q.pos) has.1.3 (subst (λ (m : ℕ). Follow rest.0 m q.seq q.pos) has.1.2 (((rest.2.each q).0 has.1.1).1))) in
           (some_list starts rest.0, (has.0, moved)),
       λ run.
           let q : Posting = record { sysno = p.sysno; seq = p.seq; pos = 1 + p.pos } in

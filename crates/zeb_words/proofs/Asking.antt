@@ -34,14 +34,10 @@ good l (Named name value) rows well fresh sound = by l name well fresh sound
     by : (l : Leaf) (name : Text) → IsOption l name → has_row name rows ≡ false → Sound l (Named name value)
         → use_fault false (part_rule l (Named name value)) (value ∷ []) rows ≡ []
     by l name first fresh sound = rw fresh sound
-    by l name count fresh sound = rw fresh sound
-    by l name number fresh sound = rw fresh sound
-    by l name place fresh sound = rw fresh sound
-good Bare (Argument word) rows well fresh sound = absurd well
-good Naming (Argument word) rows well fresh sound = absurd well
-good Changing (Argument word) rows well fresh sound = absurd well
+    by l name _ fresh sound = rw fresh sound
 good Finding (Argument word) rows well fresh sound = rw fresh refl
 good Scanning (Argument word) rows well fresh sound = rw fresh refl
+good _ (Argument word) rows well fresh sound = absurd well
 
 only : (l : Leaf) (part : Part) (rows : List Row) → Well l part → use_fault false (part_rule l part) (part_values part) rows ≡ []
     → (has_row (item_of part).id rows ≡ false) × Sound l part
@@ -51,23 +47,17 @@ only l (Named name value) rows well fault = by l name (has_row name rows) well r
         → use_fault false (part_rule l (Named name value)) (value ∷ []) rows ≡ [] → (has_row name rows ≡ false) × Sound l (Named name value)
     by l name true first e fault = let bad : kind.ArgumentConflict ∷ [] ≡ [] = rw e at fault in cc
     by l name false first e fault = (e, rw e at fault)
-    by l name true count e fault = let bad : kind.ArgumentConflict ∷ [] ≡ [] = rw e at fault in cc
-    by l name false count e fault = (e, rw e at fault)
-    by l name true number e fault = let bad : kind.ArgumentConflict ∷ [] ≡ [] = rw e at fault in cc
-    by l name false number e fault = (e, rw e at fault)
-    by l name true place e fault = let bad : kind.ArgumentConflict ∷ [] ≡ [] = rw e at fault in cc
-    by l name false place e fault = (e, rw e at fault)
+    by l name true _ e fault = let bad : kind.ArgumentConflict ∷ [] ≡ [] = rw e at fault in cc
+    by l name false _ e fault = (e, rw e at fault)
 only l (Argument word) rows well fault = by l (has_row (codes "query") rows) well refl fault
   where
     by : (l : Leaf) (is : Bool) → IsAsking l → has_row (codes "query") rows ≡ is
         → use_fault false (part_rule l (Argument word)) (word ∷ []) rows ≡ [] → (has_row (codes "query") rows ≡ false) × Sound l (Argument word)
-    by Bare is asking e fault = absurd asking
-    by Naming is asking e fault = absurd asking
-    by Changing is asking e fault = absurd asking
     by Finding true asking e fault = let bad : kind.ArgumentConflict ∷ [] ≡ [] = rw e at fault in cc
     by Finding false asking e fault = (e, refl)
     by Scanning true asking e fault = let bad : kind.ArgumentConflict ∷ [] ≡ [] = rw e at fault in cc
     by Scanning false asking e fault = (e, refl)
+    by _ is asking e fault = absurd asking
 
 using : (l : Leaf) (part : Part) (rows : List Row) → Well l part → used (part_rule l part) (part_values part) rows
     ≡ with_values (item_of part).id (item_of part).how CommandLine ((item_of part).value ∷ []) (without (item_of part).id rows)
@@ -76,14 +66,10 @@ using l (Named name value) rows well = by l name well
     by : (l : Leaf) (name : Text) → IsOption l name → used (part_rule l (Named name value)) (value ∷ []) rows
         ≡ with_values name WithoutMinus CommandLine (value ∷ []) (without name rows)
     by l name first = refl
-    by l name count = refl
-    by l name number = refl
-    by l name place = refl
-using Bare (Argument word) rows well = absurd well
-using Naming (Argument word) rows well = absurd well
-using Changing (Argument word) rows well = absurd well
+    by l name _ = refl
 using Finding (Argument word) rows well = refl
 using Scanning (Argument word) rows well = refl
+using _ (Argument word) rows well = absurd well
 
 pub each_well : (l : Leaf) → IsAsking l → (parts : List Part) (full : Bool) → Fits l full parts → Each (Well l) parts
 each_well l asking [] full fits = tt
@@ -99,9 +85,7 @@ option_values name other (Argument word ∷ parts) = rw other (option_values nam
 
 no_query : (l : Leaf) (name : Text) → IsOption l name → bytes_eq name (codes "query") ≡ false
 no_query l name first = refl
-no_query l name count = refl
-no_query l name number = refl
-no_query l name place = refl
+no_query l name _ = refl
 
 query_values : (l : Leaf) (parts : List Part) → Each (Well l) parts → values (codes "query") (map item_of parts) ≡ arguments parts
 query_values l [] well = refl
@@ -136,9 +120,7 @@ passes_if false k e = let bad : kind.ValueValidation ∷ [] ≡ [] = e in cc
 
 sound_value : (l : Leaf) (o : NumberOption) (value : Text) → Ranged l o → Sound l (Named o.name value) → accepts false (range_of o) value ≡ true
 sound_value l o value by_first sound = passes_if _ [] sound
-sound_value l o value by_count sound = passes_if _ [] sound
-sound_value l o value by_number sound = passes_if _ [] sound
-sound_value l o value by_position sound = passes_if _ [] sound
+sound_value l o value _ sound = passes_if _ [] sound
 
 sound_values : (l : Leaf) (o : NumberOption) → Ranged l o → (parts : List Part) → Each (Sound l) parts
     → AllTexts (λ t. accepts false (range_of o) t ≡ true) (values_of o.name parts)
@@ -271,8 +253,7 @@ number_only : (o : NumberOption) (vs : List Text) (n x : ℕ) → o.most < 2 ^ 3
     → IsNumberRead (option_map (read_as WithoutMinus) (slice_get vs 0)) o.default x → x ≡ n
 number_only o [] n x fits is read = read.absent refl ∙ sym is
 number_only o (v ∷ []) n x fits is read =
-    let says = passed_says o.least o.most o.default x v fits (says_passes o.least o.most n v fits is) read in
-    same_number x n (sym says.value ∙ is.value)
+    same_number x n (sym (passed_says o.least o.most o.default x v fits (says_passes o.least o.most n v fits is) read).value ∙ is.value)
   where
     same_number : (a b : ℕ) → pos a ≡ pos b → a ≡ b
     same_number a b e = cc
@@ -280,16 +261,12 @@ number_only o (v ∷ w ∷ more) n x fits is read = absurd is
 
 passed_value : (l : Leaf) (o : NumberOption) (value : Text) → Ranged l o → accepts false (range_of o) value ≡ true → Sound l (Named o.name value)
 passed_value l o value by_first passed = rw passed refl
-passed_value l o value by_count passed = rw passed refl
-passed_value l o value by_number passed = rw passed refl
-passed_value l o value by_position passed = rw passed refl
+passed_value l o value _ passed = rw passed refl
 
 argument_sound : (l : Leaf) (word : Text) → IsAsking l → Sound l (Argument word)
-argument_sound Bare word asking = absurd asking
-argument_sound Naming word asking = absurd asking
-argument_sound Changing word asking = absurd asking
 argument_sound Finding word asking = refl
 argument_sound Scanning word asking = refl
+argument_sound _ word asking = absurd asking
 
 ranged_option : (l : Leaf) (o : NumberOption) → Ranged l o → IsOption l o.name
 ranged_option l o by_first = first
@@ -330,11 +307,9 @@ Room false vs = AtMostOne vs
 Room true vs = vs ≡ []
 
 asking_slot : (l : Leaf) → IsAsking l → (HasSlot l false) × (filled_by l ≡ true)
-asking_slot Bare asking = absurd asking
-asking_slot Naming asking = absurd asking
-asking_slot Changing asking = absurd asking
 asking_slot Finding asking = (refl, refl)
 asking_slot Scanning asking = (refl, refl)
+asking_slot _ asking = absurd asking
 
 none_more : (word : Text) (words : List Text) → AtMostOne (word ∷ words) → words ≡ []
 none_more word [] one = refl
@@ -385,8 +360,7 @@ asks_taken l a b o words query m n asks =
     let a_vs = option_values a.name o.a_other parts in
     let b_vs = option_values b.name o.b_other parts in
     let once : Once items [] = most_once (Known a b) items [] (all_known a b parts asks.only) (λ id known. (λ has. let bad : false ≡ true = has in cc, most id known)) in
-    let sound = each_sound l a b o parts asks.only a_is.1 b_is.1 in
-    let clear = no_clash (part_rule l) part_values item_of (Well l) (Sound l) (good l) (only l) (using l) parts [] well once sound in
+    let clear = no_clash (part_rule l) part_values item_of (Well l) (Sound l) (good l) (only l) (using l) parts [] well once (each_sound l a b o parts asks.only a_is.1 b_is.1) in
     let rows : uses l parts [] ≡ map row items = rows_are (part_rule l) part_values item_of (Well l) (Sound l) (good l) (only l) (using l) parts [] well once in
     let given : is_given (codes "query") (uses l parts []) ≡ true =
     ap (is_given (codes "query")) rows ∙ given_is (codes "query") items ∙ ap (λ vs. is_some (slice_get vs 0)) (queries ∙ asks.one) in

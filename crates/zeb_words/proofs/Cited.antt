@@ -4,7 +4,7 @@ pub use Rattle.clap.proofs.FaultLemmas.{stopped_fault}
 pub use Rattle.clap.proofs.LexerLemmas.{name_and_value-at, name_and_value-without}
 pub use Rattle.clap.proofs.ValueTestLemmas.{Accepts-accepts, accepts-Accepts}
 pub use Rattle.clap.proofs.WalkLemmas.{one_text-rows, raw_values-rows, first_value-rows}
-pub use Rattle.clap.specs.Faults.{check_fault, use_fault, values_fault, fault_of, settle_fault, short_fault, long_fault, turn_fault, default_fault, level_fault, entered_fault, step_fault, is_simple_and_free}
+pub use Rattle.clap.specs.Faults.{check_fault, use_fault, values_fault, fault_of, settle_fault, short_fault, long_fault, turn_fault, default_fault, level_fault, entered_fault, step_fault, is_simple_and_free, flags_fault, walk_fault}
 pub use Rattle.clap.specs.Kinds.{Kinds, or_else, HasKind, IsAmong}
 pub use Rattle.clap.specs.Lexer.{name_and_value, without_minus, long_of, short_of}
 pub use Rattle.clap.specs.Matches.{ReadsOne, found_of}
@@ -12,7 +12,7 @@ pub use Rattle.clap.specs.Simple.{Shape, App, built_leaf, inherited, new_app, bu
 pub use Rattle.clap.specs.Takes.{is_given}
 pub use Rattle.clap.specs.ValueTests.{accepts}
 pub use Rattle.clap.specs.Values.{read_as, IsSignedIn, kind_of, signed_between}
-pub use Rattle.clap.specs.Walk.{Row, Text, rows_after, has_row, one_of, used, with_values, without, first_of, more_values, with_default, Rule, Held, arg_by_short, takes_values, attached_value, at_row, Names, Walk, Waiting, idle, positional, settled_rows, arg_by_index, arg_by_long, is_pending, takes_several, option as wait_option, all_of, nothing_held, arg_by_id, Outcome, done, waits, plain, refused, after_step, after_flag, subcommand_met, answers_to, rule_of, rows_of}
+pub use Rattle.clap.specs.Walk.{Row, Text, rows_after, has_row, one_of, used, with_values, without, first_of, more_values, with_default, Rule, Held, arg_by_short, takes_values, attached_value, at_row, Names, Walk, Waiting, idle, positional, settled_rows, arg_by_index, arg_by_long, is_pending, takes_several, option as wait_option, all_of, nothing_held, arg_by_id, Outcome, done, waits, plain, refused, after_step, after_flag, subcommand_met, answers_to, rule_of, rows_of, walked}
 pub use Rattle.clap.specs.declared.builder.value_parser.Reading.{Reading}
 pub use Rattle.clap.specs.declared.builder.value_parser.Reading.TheVariants.{AsWritten, WithoutMinus}
 pub use Rattle.clap.specs.declared.builder.value_parser.ValueParser.{ValueParser}
@@ -33,10 +33,10 @@ pub use Rattle.std.specs.Box.{box_value}
 pub use Rattle.std.specs.Int.{int_max, int_min}
 pub use Rattle.std.specs.Prelude.{⊤, if◌then◌else◌, unwrap_or, slice_get, option_map, is_some, pos, fold, suc, zero, find}
 pub use Rattle.std.specs.Range.{range_inclusive_end, range_inclusive_start}
-pub use Rattle.std.specs.Str.{bytes_eq, IsUtf8, encode_utf8_all}
+pub use Rattle.std.specs.Str.{bytes_eq, IsUtf8, encode_utf8_all, chars}
 pub use Rattle.std.specs.Str.Parse.{IsNumeral, digits_value, starts_with_minus, without_leading_plus, ParsesUnsigned, ExplainsUnsignedError, HasUnsignedDigitsIfOk}
 pub use Rattle.zeb_image.specs.NameOf.{name_bytes}
-pub use Rattle.zeb_words.specs.Grammar.{Argument, HasOnly, IsNumberOr, Part, arguments, values_of, Option as Named, Setting, Config, Database, Given, IsOneOr, Shows, databases, files, shown, IsPlain, Says, Spells, apart, argument, by_equals, joined, none, nothing, option_by_equals, shows_and, option as named, SaysNumber, Key, letter, shows}
+pub use Rattle.zeb_words.specs.Grammar.{Argument, HasOnly, IsNumberOr, Part, arguments, values_of, Option as Named, Setting, Config, Database, Given, IsOneOr, Shows, databases, files, shown, IsPlain, Says, Spells, apart, argument, by_equals, joined, none, nothing, option_by_equals, shows_and, option as named, SaysNumber, Key, letter, shows, ended}
 pub use Rattle.zeb_words.specs.Names.{Asks, NumberOption, NamesAct, NamesWords, Meaning, ToAdelete, ToBatch, ToCheck, ToCreate, ToDelete, ToDrop, ToDump, ToFind, ToInit, ToReindex, ToScan, ToShell, ToStat, ToUpdate, ToUpgrade, WordsNameOneCommand, meaning, NamesNone}
 pub use Rattle.zeb_words.specs.Parses.{IsNumberRead, text_or, IsFlagRead, program_app, changing_app, find_app, naming_app, scan_app, IsActRead, IsParsedAs, path_texts, AreBad, IsFlagText, IsRefusedAs, IsPast, IsReadFrom, path_rule, number_rule, name_rule, and_sub}
 pub use Rattle.zeb_words.specs.PrivateParses.{IsBadAct, IsOwn, IsUsageOf}

@@ -17,13 +17,10 @@ behind_settings rows = with_default (with_default (with_default rows (rule_by (c
 -- only `-s` has a default
 defaults_are : (rows : List Row) (is : Bool) → has_row (codes "shows") rows ≡ is → with_defaults rows ≡ cond is rows (rows ++ default_row ∷ [])
 defaults_are rows is e =
-    let one = kept rows (rule_by (codes "config")) refl in
-    let two = kept rows (rule_by (codes "database")) refl in
     let three = by is e in
     let shown = with_default rows (rule_by (codes "shows")) in
-    let four = kept shown (rule_by (codes "version")) refl in
-    ap (λ r. behind_settings (with_default r (rule_by (codes "database")))) one ∙ ap behind_settings two
-    ∙ ap (λ r. with_default r (rule_by (codes "help"))) four ∙ kept shown (rule_by (codes "help")) refl ∙ three
+    ap (λ r. behind_settings (with_default r (rule_by (codes "database")))) (kept rows (rule_by (codes "config")) refl) ∙ ap behind_settings (kept rows (rule_by (codes "database")) refl)
+    ∙ ap (λ r. with_default r (rule_by (codes "help"))) (kept shown (rule_by (codes "version")) refl) ∙ kept shown (rule_by (codes "help")) refl ∙ three
   where
     by : (is : Bool) → has_row (codes "shows") rows ≡ is → with_default rows (rule_by (codes "shows")) ≡ cond is rows (rows ++ default_row ∷ [])
     by true e = rw e refl

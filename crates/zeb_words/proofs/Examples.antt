@@ -1,6 +1,5 @@
 -- Words that spell settings, and words that say options and arguments, by the grammar; and words that ask for help or the version.
-use Rattle.zeb_words.proofs.Cited.{◌≡◌, refl, [], ◌∷◌, codes, true, eqb-false, Argument, Config, Database, Given, IsPlain, Says, Shows, Spells, apart, argument, by_equals, files, joined, none, nothing, option_by_equals, shown, shows_and, values_of, Named, named, program_app, fault_of, DisplayHelp, DisplayVersion, UnknownArgument}
-use Rattle.zeb_words.specs.Grammar.{ended}
+use Rattle.zeb_words.proofs.Cited.{◌≡◌, refl, [], ◌∷◌, codes, true, eqb-false, Argument, Config, Database, Given, IsPlain, Says, Shows, Spells, apart, argument, by_equals, files, joined, none, nothing, option_by_equals, shown, shows_and, values_of, Named, named, program_app, fault_of, DisplayHelp, DisplayVersion, UnknownArgument, ended}
 use Rattle.clap.proofs.OnLiterals.{clap_on_literals}
 
 -- `-c x.cfg`, `-c=x.cfg`, `-cx.cfg`, and an empty value

@@ -1,7 +1,6 @@
 -- Flag words: which there are, and which faults come of them.
-use Rattle.zeb_words.proofs.Cited.{eqb-true, drop, ◌≡◌, ◌==◌, ℕ, Bool, refl, sym, ap, subst, List, [], ◌∷◌, ◌++◌, Option, Some, None, true, false, length, slice_get, IsUtf8, encode_utf8_all, IsUtf8-past_char, chars_past_char, eqb-false, Rule, Held, arg_by_short, takes_values, attached_value, settle_fault, short_fault, long_fault, Kinds, IsPlain}
+use Rattle.zeb_words.proofs.Cited.{eqb-true, drop, ◌≡◌, ◌==◌, ℕ, Bool, refl, sym, ap, subst, List, [], ◌∷◌, ◌++◌, Option, Some, None, true, false, length, slice_get, IsUtf8, encode_utf8_all, IsUtf8-past_char, chars_past_char, eqb-false, Rule, Held, arg_by_short, takes_values, attached_value, settle_fault, short_fault, long_fault, Kinds, IsPlain, chars}
 use Rattle.std.specs.Char.{encode_utf8}
-use Rattle.std.specs.Str.{chars}
 use Rattle.clap.specs.Faults.{flags_fault}
 use Rattle.clap.specs.declared.error.kind.ErrorKind.TheVariants as kind
 use Rattle.zeb_words.specs.Grammar.{Text}

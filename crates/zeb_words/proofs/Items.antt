@@ -100,8 +100,7 @@ most_once K [] rows known most = tt
 most_once K (i ∷ items) rows known most =
     let self : bytes_eq i.id i.id ≡ true = (bytes_eq-Decides i.id i.id).1 refl in
     let head : values i.id (i ∷ items) ≡ i.value ∷ values i.id items = rw self refl in
-    let one = most i.id known.0 in
-    (fresh (has_row i.id rows) refl (λ h. sym head ∙ one.0 h), most_once K items (rows ++ row i ∷ []) known.1 (λ id k. rest id (bytes_eq i.id id) refl (most id k)))
+    (fresh (has_row i.id rows) refl (λ h. sym head ∙ (most i.id known.0).0 h), most_once K items (rows ++ row i ∷ []) known.1 (λ id k. rest id (bytes_eq i.id id) refl (most id k)))
   where
     fresh : (is : Bool) → has_row i.id rows ≡ is → (has_row i.id rows ≡ true → i.value ∷ values i.id items ≡ []) → has_row i.id rows ≡ false
     fresh false e h = e

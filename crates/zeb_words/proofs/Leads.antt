@@ -1,6 +1,5 @@
 -- A walk goes on over the first words of a list, and some kinds of fault may come of them.
-use Rattle.zeb_words.proofs.Cited.{◌≡◌, ◌∙◌, refl, sym, ap, ap₂, List, [], ◌∷◌, fold, Names, Walk, Shape, Kinds, or_else, turn_fault}
-use Rattle.clap.specs.Walk.{walked}
+use Rattle.zeb_words.proofs.Cited.{◌≡◌, ◌∙◌, refl, sym, ap, ap₂, List, [], ◌∷◌, fold, Names, Walk, Shape, Kinds, or_else, turn_fault, walked}
 use Rattle.clap.specs.Faults.{walk_fault}
 use Rattle.zeb_words.specs.Grammar.{Text}
 

@@ -1,8 +1,7 @@
 -- The walk over the words behind a command.
-use Rattle.zeb_words.proofs.Cited.{◌≡◌, ◌&&◌, ℕ, Bool, refl, List, [], ◌∷◌, ◌++◌, Option, Some, None, codes, true, false, ⊤, unwrap_or, and_right, Row, Rule, Walk, Waiting, Held, Text, idle, positional, settled_rows, used, arg_by_index, arg_by_long, is_pending, takes_several, wait_option, App, Shape, built_leaf, inherited, new_app, built, new_rule, turn_fault, settle_fault, use_fault, Kinds, or_else, Part, Argument, Named, changing_app, find_app, naming_app, program_app, scan_app}
-use Rattle.clap.specs.Walk.{walked}
+use Rattle.zeb_words.proofs.Cited.{◌≡◌, ◌&&◌, ℕ, Bool, refl, List, [], ◌∷◌, ◌++◌, Option, Some, None, codes, true, false, ⊤, unwrap_or, and_right, Row, Rule, Walk, Waiting, Held, Text, idle, positional, settled_rows, used, arg_by_index, arg_by_long, is_pending, takes_several, wait_option, App, Shape, built_leaf, inherited, new_app, built, new_rule, turn_fault, settle_fault, use_fault, Kinds, or_else, Part, Argument, Named, changing_app, find_app, naming_app, program_app, scan_app, walked}
 use Rattle.clap.proofs.OnLiterals.{clap_on_literals}
-use Rattle.zeb_words.proofs.Leads.{else_none}
+use Rattle.zeb_words.proofs.Leads.{Leads, else_none, goes}
 use Rattle.zeb_words.proofs.Uses.{clash_of, uses_of}
 use Rattle.zeb_words.proofs.Plain.{IsNoFlag}
 
@@ -107,104 +106,52 @@ rows_with l rows p = settled_rows (rules l) p rows
 
 -- ---- single words
 
-pub option_turn : (l : Leaf) (name : Text) → IsOption l name → (w full : Bool) (rows : List Row) (p : Pending)
-    → turn_fault (plain_leaf l) [] (standing rows p (calm w) full false) (codes "--" ++ name) ≡ pending_fault l rows p
+pub option_leads : (l : Leaf) (name : Text) → IsOption l name → (w full : Bool) (rows : List Row) (p : Pending) (rest : List Text)
+    → Leads (plain_leaf l) [] (standing rows p (calm w) full false) ((codes "--" ++ name) ∷ rest) (standing (rows_with l rows p) (Some (name, [])) (wait_option name) full false) rest (pending_fault l rows p)
 unfolding clap_on_literals
-option_turn l name first false full rows p = else_none _
-option_turn l name first true full rows p = else_none _
-option_turn l name count false full rows p = else_none _
-option_turn l name count true full rows p = else_none _
-option_turn l name number false full rows p = else_none _
-option_turn l name number true full rows p = else_none _
-option_turn l name place false full rows p = else_none _
-option_turn l name place true full rows p = else_none _
+option_leads l name first false full rows p rest = goes (plain_leaf l) [] _ _ rest _ _ (else_none _) refl
+option_leads l name first true full rows p rest = goes (plain_leaf l) [] _ _ rest _ _ (else_none _) refl
+option_leads l name _ false full rows p rest = goes (plain_leaf l) [] _ _ rest _ _ (else_none _) refl
+option_leads l name _ true full rows p rest = goes (plain_leaf l) [] _ _ rest _ _ (else_none _) refl
 
-pub option_walk : (l : Leaf) (name : Text) → IsOption l name → (w full : Bool) (rows : List Row) (p : Pending)
-    → walked (rules l) [] (standing rows p (calm w) full false) (codes "--" ++ name)
-    ≡ standing (rows_with l rows p) (Some (name, [])) (wait_option name) full false
+pub equals_leads : (l : Leaf) (name : Text) → IsOption l name → (w full : Bool) (value : Text) (rows : List Row) (p : Pending) (rest : List Text)
+    → Leads (plain_leaf l) [] (standing rows p (calm w) full false) ((codes "--" ++ (name ++ 61 ∷ value)) ∷ rest) (standing (used (option_rule l name) (value ∷ []) (rows_with l rows p)) None idle full false) rest
+    (or_else (pending_fault l rows p) (use_fault false (option_rule l name) (value ∷ []) (rows_with l rows p)))
 unfolding clap_on_literals
-option_walk l name first false full rows p = refl
-option_walk l name first true full rows p = refl
-option_walk l name count false full rows p = refl
-option_walk l name count true full rows p = refl
-option_walk l name number false full rows p = refl
-option_walk l name number true full rows p = refl
-option_walk l name place false full rows p = refl
-option_walk l name place true full rows p = refl
+equals_leads l name first false full value rows p rest = goes (plain_leaf l) [] _ _ rest _ _ (else_none _) refl
+equals_leads l name first true full value rows p rest = goes (plain_leaf l) [] _ _ rest _ _ (else_none _) refl
+equals_leads l name _ false full value rows p rest = goes (plain_leaf l) [] _ _ rest _ _ (else_none _) refl
+equals_leads l name _ true full value rows p rest = goes (plain_leaf l) [] _ _ rest _ _ (else_none _) refl
 
-pub equals_turn : (l : Leaf) (name : Text) → IsOption l name → (w full : Bool) (value : Text) (rows : List Row) (p : Pending)
-    → turn_fault (plain_leaf l) [] (standing rows p (calm w) full false) (codes "--" ++ (name ++ 61 ∷ value))
-    ≡ or_else (pending_fault l rows p) (use_fault false (option_rule l name) (value ∷ []) (rows_with l rows p))
+pub value_leads : (l : Leaf) (name : Text) → IsOption l name → (full : Bool) (value : Text) (rows : List Row) → IsNoFlag value → (rest : List Text)
+    → Leads (plain_leaf l) [] (standing rows (Some (name, [])) (wait_option name) full false) (value ∷ rest) (standing rows (Some (name, value ∷ [])) idle full false) rest []
 unfolding clap_on_literals
-equals_turn l name first false full value rows p = else_none _
-equals_turn l name first true full value rows p = else_none _
-equals_turn l name count false full value rows p = else_none _
-equals_turn l name count true full value rows p = else_none _
-equals_turn l name number false full value rows p = else_none _
-equals_turn l name number true full value rows p = else_none _
-equals_turn l name place false full value rows p = else_none _
-equals_turn l name place true full value rows p = else_none _
-
-pub equals_walk : (l : Leaf) (name : Text) → IsOption l name → (w full : Bool) (value : Text) (rows : List Row) (p : Pending)
-    → walked (rules l) [] (standing rows p (calm w) full false) (codes "--" ++ (name ++ 61 ∷ value))
-    ≡ standing (used (option_rule l name) (value ∷ []) (rows_with l rows p)) None idle full false
-unfolding clap_on_literals
-equals_walk l name first false full value rows p = refl
-equals_walk l name first true full value rows p = refl
-equals_walk l name count false full value rows p = refl
-equals_walk l name count true full value rows p = refl
-equals_walk l name number false full value rows p = refl
-equals_walk l name number true full value rows p = refl
-equals_walk l name place false full value rows p = refl
-equals_walk l name place true full value rows p = refl
-
-pub value_turn : (l : Leaf) (name : Text) → IsOption l name → (full : Bool) (value : Text) (rows : List Row) → IsNoFlag value
-    → turn_fault (plain_leaf l) [] (standing rows (Some (name, [])) (wait_option name) full false) value ≡ []
-unfolding clap_on_literals
-value_turn l name first full value rows flagless = rw (flagless.ends, flagless.long, flagless.short) refl
-value_turn l name count full value rows flagless = rw (flagless.ends, flagless.long, flagless.short) refl
-value_turn l name number full value rows flagless = rw (flagless.ends, flagless.long, flagless.short) refl
-value_turn l name place full value rows flagless = rw (flagless.ends, flagless.long, flagless.short) refl
-
-pub value_walk : (l : Leaf) (name : Text) → IsOption l name → (full : Bool) (value : Text) (rows : List Row) → IsNoFlag value
-    → walked (rules l) [] (standing rows (Some (name, [])) (wait_option name) full false) value ≡ standing rows (Some (name, value ∷ [])) idle full false
-unfolding clap_on_literals
-value_walk l name first full value rows flagless = rw (flagless.ends, flagless.long, flagless.short) refl
-value_walk l name count full value rows flagless = rw (flagless.ends, flagless.long, flagless.short) refl
-value_walk l name number full value rows flagless = rw (flagless.ends, flagless.long, flagless.short) refl
-value_walk l name place full value rows flagless = rw (flagless.ends, flagless.long, flagless.short) refl
+value_leads l name first full value rows flagless rest =
+    goes (plain_leaf l) [] _ value rest _ _ (rw (flagless.ends, flagless.long, flagless.short) refl) (rw (flagless.ends, flagless.long, flagless.short) refl)
+value_leads l name _ full value rows flagless rest =
+    goes (plain_leaf l) [] _ value rest _ _ (rw (flagless.ends, flagless.long, flagless.short) refl) (rw (flagless.ends, flagless.long, flagless.short) refl)
 
 pub option_rows : (l : Leaf) (name : Text) → IsOption l name → (value : Text) (rows : List Row)
     → rows_with l rows (Some (name, value ∷ [])) ≡ used (option_rule l name) (value ∷ []) rows
 option_rows l name first value rows = refl
-option_rows l name count value rows = refl
-option_rows l name number value rows = refl
-option_rows l name place value rows = refl
+option_rows l name _ value rows = refl
 
 pub option_pends : (l : Leaf) (name : Text) → IsOption l name → (value : Text) (rows : List Row)
     → pending_fault l rows (Some (name, value ∷ [])) ≡ use_fault false (option_rule l name) (value ∷ []) rows
 option_pends l name first value rows = refl
-option_pends l name count value rows = refl
-option_pends l name number value rows = refl
-option_pends l name place value rows = refl
+option_pends l name _ value rows = refl
 
 -- ---- arguments
 
 pub slot_rows : (l : Leaf) (full : Bool) → HasSlot l full → (value : Text) (rows : List Row)
     → rows_with l rows (Some ((slot_rule l).id, value ∷ [])) ≡ used (slot_rule l) (value ∷ []) rows
 slot_rows Bare full slot value rows = absurd slot
-slot_rows Naming full slot value rows = refl
-slot_rows Changing full slot value rows = refl
-slot_rows Finding full slot value rows = refl
-slot_rows Scanning full slot value rows = refl
+slot_rows _ full slot value rows = refl
 
 pub slot_pends : (l : Leaf) (full : Bool) → HasSlot l full → (value : Text) (rows : List Row)
     → pending_fault l rows (Some ((slot_rule l).id, value ∷ [])) ≡ use_fault false (slot_rule l) (value ∷ []) rows
 slot_pends Bare full slot value rows = absurd slot
-slot_pends Naming full slot value rows = refl
-slot_pends Changing full slot value rows = refl
-slot_pends Finding full slot value rows = refl
-slot_pends Scanning full slot value rows = refl
+slot_pends _ full slot value rows = refl
 
 -- one more argument
 pub record TakesArgument (l : Leaf) (rows : List Row) (p : Pending) (w full trailing : Bool) (word : Text) : Type 0 where
@@ -216,32 +163,19 @@ pub record TakesArgument (l : Leaf) (rows : List Row) (p : Pending) (w full trai
 -- an argument is used once, whatever stood before it
 never_several : (l : Leaf) (full : Bool) → HasSlot l full → (p : Pending) → (is_pending (slot_rule l) p && takes_several (slot_rule l)) ≡ false
 never_several Bare full slot p = absurd slot
-never_several Naming full slot p = and_right _ _ refl
-never_several Changing full slot p = and_right _ _ refl
-never_several Finding full slot p = and_right _ _ refl
-never_several Scanning full slot p = and_right _ _ refl
+never_several _ full slot p = and_right _ _ refl
 
 pub behind : (l : Leaf) (full : Bool) → HasSlot l full → (w : Bool) (rows : List Row) (p : Pending) (word : Text) → TakesArgument l rows p w full true word
 unfolding clap_on_literals
 behind Bare full slot w rows p word = absurd slot
-behind Naming false slot w rows p word = let once = never_several Naming false slot p in record { next = false; fault = rw once refl; walk = rw once refl }
 behind Changing false slot w rows p word = let once = never_several Changing false slot p in record { next = true; fault = rw once refl; walk = rw once refl }
-behind Finding false slot w rows p word = let once = never_several Finding false slot p in record { next = false; fault = rw once refl; walk = rw once refl }
-behind Scanning false slot w rows p word = let once = never_several Scanning false slot p in record { next = false; fault = rw once refl; walk = rw once refl }
 behind Naming true slot w rows p word = cc
-behind Changing true slot w rows p word = cc
-behind Finding true slot w rows p word = cc
-behind Scanning true slot w rows p word = cc
+behind _ true slot w rows p word = cc
+behind l false slot w rows p word = let once = never_several l false slot p in record { next = false; fault = rw once refl; walk = rw once refl }
 
 pub among : (l : Leaf) (full : Bool) → HasSlot l full → (w : Bool) (rows : List Row) (p : Pending) (word : Text) → IsNoFlag word → TakesArgument l rows p w full false word
 unfolding clap_on_literals
 among Bare full slot w rows p word flagless = absurd slot
-among Naming false slot false rows p word flagless =
-    let once = never_several Naming false slot p in
-    record { next = false; fault = rw (flagless.ends, flagless.long, flagless.short, once) refl; walk = rw (flagless.ends, flagless.long, flagless.short, once) refl }
-among Naming false slot true rows p word flagless =
-    let once = never_several Naming false slot p in
-    record { next = false; fault = rw (flagless.ends, flagless.long, flagless.short, once) refl; walk = rw (flagless.ends, flagless.long, flagless.short, once) refl }
 among Naming true slot w rows p word flagless = cc
 among Changing false slot false rows p word flagless =
     let once = never_several Changing false slot p in
@@ -249,18 +183,10 @@ among Changing false slot false rows p word flagless =
 among Changing false slot true rows p word flagless =
     let once = never_several Changing false slot p in
     record { next = true; fault = rw (flagless.ends, flagless.long, flagless.short, once) refl; walk = rw (flagless.ends, flagless.long, flagless.short, once) refl }
-among Changing true slot w rows p word flagless = cc
-among Finding false slot false rows p word flagless =
-    let once = never_several Finding false slot p in
+among _ true slot w rows p word flagless = cc
+among l false slot false rows p word flagless =
+    let once = never_several l false slot p in
     record { next = false; fault = rw (flagless.ends, flagless.long, flagless.short, once) refl; walk = rw (flagless.ends, flagless.long, flagless.short, once) refl }
-among Finding false slot true rows p word flagless =
-    let once = never_several Finding false slot p in
+among l false slot true rows p word flagless =
+    let once = never_several l false slot p in
     record { next = false; fault = rw (flagless.ends, flagless.long, flagless.short, once) refl; walk = rw (flagless.ends, flagless.long, flagless.short, once) refl }
-among Finding true slot w rows p word flagless = cc
-among Scanning false slot false rows p word flagless =
-    let once = never_several Scanning false slot p in
-    record { next = false; fault = rw (flagless.ends, flagless.long, flagless.short, once) refl; walk = rw (flagless.ends, flagless.long, flagless.short, once) refl }
-among Scanning false slot true rows p word flagless =
-    let once = never_several Scanning false slot p in
-    record { next = false; fault = rw (flagless.ends, flagless.long, flagless.short, once) refl; walk = rw (flagless.ends, flagless.long, flagless.short, once) refl }
-among Scanning true slot w rows p word flagless = cc

@@ -1,16 +1,15 @@
 -- Words behind a command that the walk takes say options and arguments.
-use Rattle.zeb_words.proofs.Cited.{◌≡◌, ◌∙◌, ◌==◌, ◌⊎◌, inl, inr, ◌≤◌, ◌≢◌, ℕ, Bool, refl, sym, ap, subst, List, [], ◌∷◌, ◌++◌, Option, Some, None, codes, true, false, arith, length, map, drop, eqb-true, suc, zero, IsUtf8, bytes_eq, bytes_eq-Decides, name_and_value, Row, Held, Walk, Text, arg_by_index, arg_by_long, arg_by_short, wait_option, turn_fault, settle_fault, short_fault, long_fault, Kinds, Lacks, name_and_value-at, name_and_value-without, eqb-false, IsPlain, Part, Argument, Says, nothing, argument, option_by_equals, Named, named}
+use Rattle.zeb_words.proofs.Cited.{◌≡◌, ◌∙◌, ◌==◌, ◌⊎◌, inl, inr, ◌≤◌, ◌≢◌, ℕ, Bool, refl, sym, ap, subst, List, [], ◌∷◌, ◌++◌, Option, Some, None, codes, true, false, arith, length, map, drop, eqb-true, suc, zero, IsUtf8, bytes_eq, bytes_eq-Decides, name_and_value, Row, Held, Walk, Text, arg_by_index, arg_by_long, arg_by_short, wait_option, turn_fault, settle_fault, short_fault, long_fault, Kinds, Lacks, name_and_value-at, name_and_value-without, eqb-false, IsPlain, Part, Argument, Says, nothing, argument, option_by_equals, Named, named, flags_fault, ended}
 use Rattle.std.specs.Char.{encode_utf8}
 use Rattle.clap.specs.Walk.{walked}
-use Rattle.clap.specs.Faults.{walk_fault, flags_fault}
+use Rattle.clap.specs.Faults.{walk_fault}
 use Rattle.clap.specs.declared.error.kind.ErrorKind.TheVariants as kind
-use Rattle.zeb_words.specs.Grammar.{ended}
 use Rattle.zeb_words.proofs.Leads.{Leads, at_end, goes, none_of_both}
 use Rattle.zeb_words.proofs.Plain.{IsNoFlag, no_flag, are_letters}
 use Rattle.zeb_words.proofs.Flags.{Kind, dashes, first_of_letters, flat, kind_of_word, lettered, letters_fault, letters_text, long, unsettled, unsettled_long}
 use Rattle.zeb_words.proofs.TopFound.{AreTexts}
-use Rattle.zeb_words.proofs.Leaf.{Fits, HasSlot, IsOption, Leaf, Bare, Naming, Changing, Finding, Scanning, Pending, among, behind, calm, count, equals_turn, equals_walk, filled_by, first, held, number, option_turn, option_walk, place, plain_leaf, position_of, rows_with, rules, standing, value_turn, value_walk}
-use Rattle.zeb_words.proofs.LeafSaid.{dashes_turn, dashes_walk}
+use Rattle.zeb_words.proofs.Leaf.{Fits, HasSlot, IsOption, Leaf, Bare, Finding, Scanning, Pending, among, behind, calm, count, equals_leads, filled_by, first, held, number, option_leads, place, plain_leaf, position_of, rows_with, rules, standing, value_leads}
+use Rattle.zeb_words.proofs.LeafSaid.{dashes_leads}
 
 -- the walk takes the words
 pub record Passes (l : Leaf) (w : Walk) (words : List Text) : Type 0 where
@@ -50,14 +49,8 @@ stray l full vacant w false rows p word (inl not) fault = cc
 slot_or_none : (l : Leaf) (full : Bool) → HasSlot l full ⊎ IsRefused l full
 slot_or_none Bare false = inr (stray Bare false refl)
 slot_or_none Bare true = inr (stray Bare true refl)
-slot_or_none Naming false = inl refl
-slot_or_none Naming true = inr (stray Naming true refl)
-slot_or_none Changing false = inl refl
-slot_or_none Changing true = inr (stray Changing true refl)
-slot_or_none Finding false = inl refl
-slot_or_none Finding true = inr (stray Finding true refl)
-slot_or_none Scanning false = inl refl
-slot_or_none Scanning true = inr (stray Scanning true refl)
+slot_or_none _ false = inl refl
+slot_or_none l true = inr (stray l true refl)
 
 found_behind : (l : Leaf) (words : List Text) (w full : Bool) (rows : List Row) (p : Pending) → Passes l (standing rows p (calm w) full true) words
     → Fits l full (map Argument words)
@@ -91,80 +84,45 @@ no_long l name e value h fault =
 
 help_long : (l : Leaf) → IsNoName l (codes "help")
 help_long Bare None h fault =
-    let bad : kind.DisplayHelp ∷ [] ≡ [] = (none_of_both (settle_fault (rules Bare) false h) (kind.DisplayHelp ∷ []) fault).1 in
+    let bad : kind.DisplayHelp ∷ [] ≡ [] = (none_of_both _ (kind.DisplayHelp ∷ []) fault).1 in
     cc
 help_long Bare (Some value) h fault =
     let bad : kind.TooManyValues ∷ [] ≡ [] = fault in
     cc
-help_long Naming None h fault =
-    let bad : kind.DisplayHelp ∷ [] ≡ [] = (none_of_both (settle_fault (rules Naming) false h) (kind.DisplayHelp ∷ []) fault).1 in
-    cc
-help_long Naming (Some value) h fault =
+help_long _ (Some value) h fault =
     let bad : kind.TooManyValues ∷ [] ≡ [] = fault in
     cc
-help_long Changing None h fault =
-    let bad : kind.DisplayHelp ∷ [] ≡ [] = (none_of_both (settle_fault (rules Changing) false h) (kind.DisplayHelp ∷ []) fault).1 in
+help_long _ None h fault =
+    let bad : kind.DisplayHelp ∷ [] ≡ [] = (none_of_both _ (kind.DisplayHelp ∷ []) fault).1 in
     cc
-help_long Changing (Some value) h fault =
-    let bad : kind.TooManyValues ∷ [] ≡ [] = fault in
-    cc
-help_long Finding None h fault =
-    let bad : kind.DisplayHelp ∷ [] ≡ [] = (none_of_both (settle_fault (rules Finding) false h) (kind.DisplayHelp ∷ []) fault).1 in
-    cc
-help_long Finding (Some value) h fault =
-    let bad : kind.TooManyValues ∷ [] ≡ [] = fault in
-    cc
-help_long Scanning None h fault =
-    let bad : kind.DisplayHelp ∷ [] ≡ [] = (none_of_both (settle_fault (rules Scanning) false h) (kind.DisplayHelp ∷ []) fault).1 in
-    cc
-help_long Scanning (Some value) h fault =
-    let bad : kind.TooManyValues ∷ [] ≡ [] = fault in
-    cc
+
+helped : (l : Leaf) (name : Text) → (bytes_eq (codes "help") name ≡ false → arg_by_long (rules l) name ≡ None) → IsOption l name ⊎ IsNoName l name
+helped l name unknown = by (bytes_eq (codes "help") name) refl
+  where
+    by : (is : Bool) → bytes_eq (codes "help") name ≡ is → IsOption l name ⊎ IsNoName l name
+    by true e = inr (subst (IsNoName l) (same_text name (codes "help") e) (help_long l))
+    by false e = inr (no_long l name (unknown e))
 
 known : (l : Leaf) (name : Text) → IsOption l name ⊎ IsNoName l name
-known Bare name = by (bytes_eq (codes "help") name) refl
-  where
-    by : (is : Bool) → bytes_eq (codes "help") name ≡ is → IsOption Bare name ⊎ IsNoName Bare name
-    by true e = inr (subst (IsNoName Bare) (same_text name (codes "help") e) (help_long Bare))
-    by false e = inr (no_long Bare name (rw e refl))
-known Naming name = by (bytes_eq (codes "help") name) refl
-  where
-    by : (is : Bool) → bytes_eq (codes "help") name ≡ is → IsOption Naming name ⊎ IsNoName Naming name
-    by true e = inr (subst (IsNoName Naming) (same_text name (codes "help") e) (help_long Naming))
-    by false e = inr (no_long Naming name (rw e refl))
-known Changing name = by (bytes_eq (codes "help") name) refl
-  where
-    by : (is : Bool) → bytes_eq (codes "help") name ≡ is → IsOption Changing name ⊎ IsNoName Changing name
-    by true e = inr (subst (IsNoName Changing) (same_text name (codes "help") e) (help_long Changing))
-    by false e = inr (no_long Changing name (rw e refl))
 known Finding name = by (bytes_eq (codes "first") name) refl
   where
-    help : (is : Bool) → bytes_eq (codes "first") name ≡ false → bytes_eq (codes "count") name ≡ false → bytes_eq (codes "help") name ≡ is
-        → IsOption Finding name ⊎ IsNoName Finding name
-    help true d e f = inr (subst (IsNoName Finding) (same_text name (codes "help") f) (help_long Finding))
-    help false d e f = inr (no_long Finding name (rw (d, e, f) refl))
-
     second : (is : Bool) → bytes_eq (codes "first") name ≡ false → bytes_eq (codes "count") name ≡ is → IsOption Finding name ⊎ IsNoName Finding name
     second true d e = inl (subst (IsOption Finding) (same_text name (codes "count") e) count)
-    second false d e = help (bytes_eq (codes "help") name) d e refl
+    second false d e = helped Finding name (λ f. rw (d, e, f) refl)
 
     by : (is : Bool) → bytes_eq (codes "first") name ≡ is → IsOption Finding name ⊎ IsNoName Finding name
     by true e = inl (subst (IsOption Finding) (same_text name (codes "first") e) first)
     by false e = second (bytes_eq (codes "count") name) e refl
 known Scanning name = by (bytes_eq (codes "number") name) refl
   where
-    help : (is : Bool) → bytes_eq (codes "number") name ≡ false → bytes_eq (codes "position") name ≡ false → bytes_eq (codes "help") name ≡ is
-        → IsOption Scanning name ⊎ IsNoName Scanning name
-    help true d e f = inr (subst (IsNoName Scanning) (same_text name (codes "help") f) (help_long Scanning))
-    help false d e f = inr (no_long Scanning name (rw (d, e, f) refl))
-
     second : (is : Bool) → bytes_eq (codes "number") name ≡ false → bytes_eq (codes "position") name ≡ is → IsOption Scanning name ⊎ IsNoName Scanning name
     second true d e = inl (subst (IsOption Scanning) (same_text name (codes "position") e) place)
-    second false d e = help (bytes_eq (codes "help") name) d e refl
+    second false d e = helped Scanning name (λ f. rw (d, e, f) refl)
 
     by : (is : Bool) → bytes_eq (codes "number") name ≡ is → IsOption Scanning name ⊎ IsNoName Scanning name
     by true e = inl (subst (IsOption Scanning) (same_text name (codes "number") e) number)
     by false e = second (bytes_eq (codes "position") name) e refl
+known l name = helped l name (λ e. rw e refl)
 
 -- letters are refused behind a command
 no_short : (l : Leaf) (x : ℕ) (rest : Text) (h : Held) (next : Held → Kinds) → short_fault (rules l) false (arg_by_short (rules l) x) rest h next ≡ [] → ⊥
@@ -172,34 +130,16 @@ no_short l x rest h next = by l (104 == x) refl
   where
     by : (l : Leaf) (is : Bool) → 104 == x ≡ is → short_fault (rules l) false (arg_by_short (rules l) x) rest h next ≡ [] → ⊥
     by Bare true e fault =
-        let bad : kind.DisplayHelp ∷ [] ≡ [] = (none_of_both (settle_fault (rules Bare) false h) (kind.DisplayHelp ∷ []) (none_of_both _ _ (rw e at fault)).0).1 in
+        let bad : kind.DisplayHelp ∷ [] ≡ [] = (none_of_both _ (kind.DisplayHelp ∷ []) (none_of_both _ _ (rw e at fault)).0).1 in
         cc
     by Bare false e fault =
         let bad : kind.UnknownArgument ∷ [] ≡ [] = rw e at fault in
         cc
-    by Naming true e fault =
-        let bad : kind.DisplayHelp ∷ [] ≡ [] = (none_of_both (settle_fault (rules Naming) false h) (kind.DisplayHelp ∷ []) (none_of_both _ _ (rw e at fault)).0).1 in
-        cc
-    by Naming false e fault =
+    by _ false e fault =
         let bad : kind.UnknownArgument ∷ [] ≡ [] = rw e at fault in
         cc
-    by Changing true e fault =
-        let bad : kind.DisplayHelp ∷ [] ≡ [] = (none_of_both (settle_fault (rules Changing) false h) (kind.DisplayHelp ∷ []) (none_of_both _ _ (rw e at fault)).0).1 in
-        cc
-    by Changing false e fault =
-        let bad : kind.UnknownArgument ∷ [] ≡ [] = rw e at fault in
-        cc
-    by Finding true e fault =
-        let bad : kind.DisplayHelp ∷ [] ≡ [] = (none_of_both (settle_fault (rules Finding) false h) (kind.DisplayHelp ∷ []) (none_of_both _ _ (rw e at fault)).0).1 in
-        cc
-    by Finding false e fault =
-        let bad : kind.UnknownArgument ∷ [] ≡ [] = rw e at fault in
-        cc
-    by Scanning true e fault =
-        let bad : kind.DisplayHelp ∷ [] ≡ [] = (none_of_both (settle_fault (rules Scanning) false h) (kind.DisplayHelp ∷ []) (none_of_both _ _ (rw e at fault)).0).1 in
-        cc
-    by Scanning false e fault =
-        let bad : kind.UnknownArgument ∷ [] ≡ [] = rw e at fault in
+    by _ true e fault =
+        let bad : kind.DisplayHelp ∷ [] ≡ [] = (none_of_both _ (kind.DisplayHelp ∷ []) (none_of_both _ _ (rw e at fault)).0).1 in
         cc
 
 calm_letters : (l : Leaf) (b : ℕ) (letters : Text) (w full : Bool) (rows : List Row) (p : Pending) → b == 45 ≡ false
@@ -250,13 +190,7 @@ open_fault : (l : Leaf) (name : Text) → IsOption l name → (rows : List Row) 
 open_fault l name first rows e =
     let bad : kind.InvalidValue ∷ [] ≡ [] = e in
     cc
-open_fault l name count rows e =
-    let bad : kind.InvalidValue ∷ [] ≡ [] = e in
-    cc
-open_fault l name number rows e =
-    let bad : kind.InvalidValue ∷ [] ≡ [] = e in
-    cc
-open_fault l name place rows e =
+open_fault l name _ rows e =
     let bad : kind.InvalidValue ∷ [] ≡ [] = e in
     cc
 
@@ -290,22 +224,10 @@ open_behind l name is full rows (word ∷ words) passes =
     refused l name first true fault =
         let bad : kind.UnknownArgument ∷ [] ≡ [] = fault in
         cc
-    refused l name count false fault =
+    refused l name _ false fault =
         let bad : kind.InvalidValue ∷ [] ≡ [] = fault in
         cc
-    refused l name count true fault =
-        let bad : kind.UnknownArgument ∷ [] ≡ [] = fault in
-        cc
-    refused l name number false fault =
-        let bad : kind.InvalidValue ∷ [] ≡ [] = fault in
-        cc
-    refused l name number true fault =
-        let bad : kind.UnknownArgument ∷ [] ≡ [] = fault in
-        cc
-    refused l name place false fault =
-        let bad : kind.InvalidValue ∷ [] ≡ [] = fault in
-        cc
-    refused l name place true fault =
+    refused l name _ true fault =
         let bad : kind.UnknownArgument ∷ [] ≡ [] = fault in
         cc
 
@@ -349,13 +271,13 @@ option_found : (n : ℕ) → Finds n → (l : Leaf) (name : Text) → IsOption l
     → (w full : Bool) (rows : List Row) (p : Pending) → Passes l (standing rows p (calm w) full false) ((codes "--" ++ name) ∷ words)
     → Found l full ((codes "--" ++ name) ∷ words)
 option_found n finds l name is [] le texts w full rows p passes =
-    let after = passes_on l (goes (plain_leaf l) [] (standing rows p (calm w) full false) (codes "--" ++ name) [] _ _ (option_turn l name is w full rows p) (option_walk l name is w full rows p)) passes in
+    let after = passes_on l (option_leads l name is w full rows p []) passes in
     absurd (open_fault l name is (rows_with l rows p) after.settles)
 option_found n finds l name is (value ∷ words) le texts w full rows p passes =
-    let at = passes_on l (goes (plain_leaf l) [] (standing rows p (calm w) full false) (codes "--" ++ name) (value ∷ words) _ _ (option_turn l name is w full rows p) (option_walk l name is w full rows p)) passes in
+    let at = passes_on l (option_leads l name is w full rows p (value ∷ words)) passes in
     let plain = value_plain l name is value words full (rows_with l rows p) texts.0 at in
     let flagless = no_flag value plain in
-    let second = goes (plain_leaf l) [] (waiting (rows_with l rows p) name full) value words _ _ (value_turn l name is full value (rows_with l rows p) flagless) (value_walk l name is full value (rows_with l rows p) flagless) in
+    let second = value_leads l name is full value (rows_with l rows p) flagless words in
     let d = finds l words (omega arith) texts.1 false full (rows_with l rows p) (Some (name, value ∷ [])) (passes_on l second at) in
     record { parts = Named name value ∷ d.parts; says = named name value words d.parts plain d.says; fits = (is, d.fits) }
 
@@ -363,7 +285,7 @@ equals_found : (n : ℕ) → Finds n → (l : Leaf) (name value : Text) → IsOp
     → (w full : Bool) (rows : List Row) (p : Pending) → Passes l (standing rows p (calm w) full false) ((codes "--" ++ (name ++ 61 ∷ value)) ∷ words)
     → Found l full ((codes "--" ++ (name ++ 61 ∷ value)) ∷ words)
 equals_found n finds l name value is words le texts w full rows p passes =
-    let step = goes (plain_leaf l) [] (standing rows p (calm w) full false) (codes "--" ++ (name ++ 61 ∷ value)) words _ _ (equals_turn l name is w full value rows p) (equals_walk l name is w full value rows p) in
+    let step = equals_leads l name is w full value rows p words in
     let d = finds l words le texts false full _ None (passes_on l step passes) in
     record { parts = Named name value ∷ d.parts; says = option_by_equals name value words d.parts d.says; fits = (is, d.fits) }
 
@@ -394,7 +316,7 @@ next_found n finds l word words le u texts w full rows p (flat same is) (inl slo
 next_found n finds l word words le u texts w full rows p (flat same is) (inr refused) passes =
     absurd (refused w false rows p word (inr (no_flag word is)) (turn_passes l (standing rows p (calm w) full false) word words passes))
 next_found n finds l word words le u texts w full rows p dashes slot passes =
-    let after = passes_on l (goes (plain_leaf l) [] (standing rows p (calm w) full false) (45 ∷ 45 ∷ []) words _ _ (dashes_turn l w full rows p) (dashes_walk l w full rows p)) passes in
+    let after = passes_on l (dashes_leads l w full rows p words) passes in
     record { parts = map Argument words; says = ended words; fits = found_behind l words w full rows p after }
 next_found n finds l word words le u texts w full rows p (long x xs) slot passes =
     long_found n finds l (x ∷ xs) (cut_of (x ∷ xs)) words le texts w full rows p

@@ -3,7 +3,7 @@ use Rattle.zeb_words.proofs.Cited.{◌≡◌, ◌∙◌, ◌||◌, Bool, refl, s
 use Rattle.clap.specs.Faults.{defaults_fault, walk_fault}
 use Rattle.zeb_words.proofs.Leads.{at_end, else_none, none_of_both}
 use Rattle.zeb_words.proofs.TopFound.{AreTexts}
-use Rattle.zeb_words.proofs.Leaf.{Bare, Changing, Finding, Fits, Leaf, Naming, Scanning, clash, plain_leaf, rules, standing, uses}
+use Rattle.zeb_words.proofs.Leaf.{Bare, Finding, Fits, Leaf, Scanning, clash, plain_leaf, rules, standing, uses}
 use Rattle.zeb_words.proofs.LeafSaid.{Said, said}
 use Rattle.zeb_words.proofs.LeafFound.{found}
 
@@ -37,10 +37,9 @@ no_defaults (a ∷ c) rows none =
 leaf_defaults : (l : Leaf) → NoDefaults (rules l)
 unfolding NoDefaults
 leaf_defaults Bare = (refl, tt)
-leaf_defaults Naming = (refl, (refl, tt))
-leaf_defaults Changing = (refl, (refl, tt))
 leaf_defaults Finding = (refl, (refl, (refl, (refl, tt))))
 leaf_defaults Scanning = (refl, (refl, (refl, (refl, tt))))
+leaf_defaults _ = (refl, (refl, tt))
 
 abbrev pub own_fault : Leaf → List Text → Kinds
 own_fault l words = level_fault (plain_leaf l) [] nothing_held words false []
@@ -63,9 +62,8 @@ settled_at l w = settled_rows (rules l) w.held.pending w.held.rows
 rows_of_parts : (l : Leaf) (words : List Text) (parts : List Part) → Said l begin words parts
     → (settled_at l (at_end (plain_leaf l) [] begin words) ≡ uses l parts []) × (rows_after (rules l) [] words ≡ uses l parts [])
 rows_of_parts l words parts s =
-    let end = at_end (plain_leaf l) [] begin words in
     let settled = ap (settled_at l) s.leads.end ∙ s.are in
-    (settled, (no_defaults (rules l) (settled_at l end) (leaf_defaults l)).1 ∙ settled)
+    (settled, (no_defaults (rules l) (settled_at l (at_end (plain_leaf l) [] begin words)) (leaf_defaults l)).1 ∙ settled)
 
 pub own : (l : Leaf) (words : List Text) → AreTexts words → own_fault l words ≡ [] → Own l words
 unfolding walk_fault
@@ -96,6 +94,5 @@ taken l words parts says fits clashes checked =
     let none = none_of_both s.faults _ (s.fault ∙ clashes) in
     let walks : walk_fault (plain_leaf l) [] begin words ≡ [] = s.leads.fault ∙ else_none s.faults ∙ none.0 in
     let settles : settle_fault (rules l) false (at_end (plain_leaf l) [] begin words).held ≡ [] = ap (λ (y : Walk). settle_fault (rules l) false y.held) s.leads.end ∙ none.1 in
-    let defaults = (no_defaults (rules l) (settled_at l (at_end (plain_leaf l) [] begin words)) (leaf_defaults l)).0 in
     let check : check_fault (plain_leaf l) (rows_after (rules l) [] words) false ≡ [] = ap (λ r. check_fault (plain_leaf l) r false) rows.1 ∙ checked in
-    (ap₂ or_else walks (ap₂ or_else settles (ap₂ or_else defaults check)), rows.1)
+    (ap₂ or_else walks (ap₂ or_else settles (ap₂ or_else ((no_defaults (rules l) (settled_at l (at_end (plain_leaf l) [] begin words)) (leaf_defaults l)).0) check)), rows.1)

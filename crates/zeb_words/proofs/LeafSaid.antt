@@ -1,10 +1,9 @@
 -- What the walk comes to where words behind a command say options and arguments.
-use Rattle.zeb_words.proofs.Cited.{◌≡◌, ◌∙◌, Bool, refl, sym, ap, ap₂, List, [], ◌∷◌, ◌++◌, Some, None, codes, true, false, map, Row, Walk, Text, settled_rows, used, turn_fault, settle_fault, use_fault, Kinds, or_else, Part, Argument, Says, nothing, argument, option_by_equals, Named, named}
+use Rattle.zeb_words.proofs.Cited.{◌≡◌, ◌∙◌, Bool, refl, sym, ap, ap₂, List, [], ◌∷◌, ◌++◌, Some, None, codes, true, false, map, Row, Walk, Text, settled_rows, used, settle_fault, use_fault, Kinds, or_else, Part, Argument, Says, nothing, argument, option_by_equals, Named, named, ended}
 use Rattle.clap.specs.Walk.{walked}
-use Rattle.zeb_words.specs.Grammar.{ended}
 use Rattle.zeb_words.proofs.Leads.{Leads, else_none, else_joined, goes, goes_on, stays}
 use Rattle.zeb_words.proofs.Plain.{no_flag}
-use Rattle.zeb_words.proofs.Leaf.{Fits, Leaf, Pending, among, behind, calm, clash, equals_turn, equals_walk, filled_by, option_pends, option_rows, option_turn, option_walk, part_rule, part_value, pending_fault, plain_leaf, rows_with, rules, slot_pends, slot_rows, standing, uses, value_turn, value_walk}
+use Rattle.zeb_words.proofs.Leaf.{Fits, Leaf, Pending, among, behind, calm, clash, equals_leads, filled_by, option_pends, option_rows, option_leads, part_rule, part_value, pending_fault, plain_leaf, rows_with, rules, slot_pends, slot_rows, standing, uses, value_leads}
 
 pub record Said (l : Leaf) (start : Walk) (words : List Text) (parts : List Part) : Type 0 where
   pub after : Walk
@@ -53,15 +52,11 @@ said_behind l (word ∷ words) full fits w rows p =
     (ap (or_else (pending_fault l rows p)) (slot_pends l full fits.0 word (rows_with l rows p)))
     (said_behind l words (filled_by l) fits.1 step.next (rows_with l rows p) _)
 
-pub dashes_turn : (l : Leaf) (w full : Bool) (rows : List Row) (p : Pending) → turn_fault (plain_leaf l) [] (standing rows p (calm w) full false) (45 ∷ 45 ∷ []) ≡ []
-dashes_turn l false full rows p = refl
-dashes_turn l true full rows p = refl
-
-pub dashes_walk : (l : Leaf) (w full : Bool) (rows : List Row) (p : Pending)
-    → walked (rules l) [] (standing rows p (calm w) full false) (45 ∷ 45 ∷ []) ≡ standing rows p (calm w) full true
+pub dashes_leads : (l : Leaf) (w full : Bool) (rows : List Row) (p : Pending) (rest : List Text)
+    → Leads (plain_leaf l) [] (standing rows p (calm w) full false) ((45 ∷ 45 ∷ []) ∷ rest) (standing rows p (calm w) full true) rest []
 unfolding walked
-dashes_walk l false full rows p = refl
-dashes_walk l true full rows p = refl
+dashes_leads l false full rows p rest = goes (plain_leaf l) [] _ _ rest _ _ refl refl
+dashes_leads l true full rows p rest = goes (plain_leaf l) [] _ _ rest _ _ refl refl
 
 pub said : (l : Leaf) (words : List Text) (parts : List Part) → Says words parts → (full : Bool) → Fits l full parts → (w : Bool) (rows : List Row) (p : Pending)
     → Said l (standing rows p (calm w) full false) words parts
@@ -71,7 +66,7 @@ said l words parts (ended arguments) full fits w rows p =
     record {
       after = d.after;
       faults = d.faults;
-      leads = goes_on (plain_leaf l) [] (goes (plain_leaf l) [] (standing rows p (calm w) full false) (45 ∷ 45 ∷ []) arguments _ _ (dashes_turn l w full rows p) (dashes_walk l w full rows p)) d.leads;
+      leads = goes_on (plain_leaf l) [] (dashes_leads l w full rows p arguments) d.leads;
       are = d.are;
       fault = d.fault;
     }
@@ -84,8 +79,8 @@ said l words parts (argument word more others flat d) full fits w rows p =
     (said l more others d (filled_by l) fits.1 step.next (rows_with l rows p) _)
 said l words parts (named name value more others flat d) full fits w rows p =
     let flagless = no_flag value flat in
-    let first = goes (plain_leaf l) [] (standing rows p (calm w) full false) (codes "--" ++ name) (value ∷ more) _ _ (option_turn l name fits.0 w full rows p) (option_walk l name fits.0 w full rows p) in
-    let second = goes (plain_leaf l) [] _ value more _ _ (value_turn l name fits.0 full value (rows_with l rows p) flagless) (value_walk l name fits.0 full value (rows_with l rows p) flagless) in
+    let first = option_leads l name fits.0 w full rows p (value ∷ more) in
+    let second = value_leads l name fits.0 full value (rows_with l rows p) flagless more in
     before l (standing rows p (calm w) full false) _ ((codes "--" ++ name) ∷ value ∷ more) more others _ (Named name value)
     (goes_on (plain_leaf l) [] first second)
     (option_rows l name fits.0 value (rows_with l rows p))
@@ -93,6 +88,6 @@ said l words parts (named name value more others flat d) full fits w rows p =
     (said l more others d full fits.1 false (rows_with l rows p) (Some (name, value ∷ [])))
 said l words parts (option_by_equals name value more others d) full fits w rows p =
     before l (standing rows p (calm w) full false) _ ((codes "--" ++ (name ++ 61 ∷ value)) ∷ more) more others _ (Named name value)
-    (goes (plain_leaf l) [] (standing rows p (calm w) full false) (codes "--" ++ (name ++ 61 ∷ value)) more _ _ (equals_turn l name fits.0 w full value rows p) (equals_walk l name fits.0 w full value rows p))
+    (equals_leads l name fits.0 w full value rows p more)
     refl (else_none _)
     (said l more others d full fits.1 false _ None)

@@ -1,6 +1,5 @@
 -- What is parsed is what the words name.
-use Rattle.zeb_words.proofs.Cited.{◌≡◌, ◌≢◌, ◌∙◌, ℕ, Bool, refl, sym, ap, ap₂, subst, List, [], ◌∷◌, ◌++◌, Option, Some, None, codes, true, map, length, String, string_bytes, arith, IsUtf8-string_bytes, unwrap_or, if◌then◌else◌, bytes_eq, Row, Text, all_of, one_of, App, built, entered, matches_of, subcommand_of, check_fault, entered_fault, fault_of, or_else, name_bytes, Argument, Says, Setting, Spells, databases, files, Asks, NamesAct, NamesWords, IsActRead, IsFlagRead, IsNumberRead, IsParsedAs, path_texts, program_app, text_or, Words, Act, Init, Create, Drop, Update, Delete, Adelete, Stat, Dump, Check, Reindex, Upgrade, Find, Scan, Batch, Shell}
-use Rattle.std.proofs.Common.{is_some}
+use Rattle.zeb_words.proofs.Cited.{◌≡◌, ◌≢◌, ◌∙◌, ℕ, Bool, refl, sym, ap, ap₂, subst, List, [], ◌∷◌, ◌++◌, Option, Some, None, codes, true, map, length, String, string_bytes, arith, IsUtf8-string_bytes, unwrap_or, if◌then◌else◌, bytes_eq, Row, Text, all_of, one_of, App, built, entered, matches_of, subcommand_of, check_fault, entered_fault, fault_of, or_else, name_bytes, Argument, Says, Setting, Spells, databases, files, Asks, NamesAct, NamesWords, IsActRead, IsFlagRead, IsNumberRead, IsParsedAs, path_texts, program_app, text_or, Words, Act, Create, Drop, Update, Delete, Adelete, Find, Scan, is_some}
 use Rattle.clap.specs.declared.error.kind.ErrorKind.TheVariants as kind
 use Rattle.zeb_words.specs.Names as names
 use Rattle.zeb_words.proofs.ReadingLemmas.{pair_parts}
@@ -9,7 +8,7 @@ use Rattle.zeb_words.proofs.Leads.{none_of_both}
 use Rattle.zeb_words.proofs.Uses.{Each, clean, rows_are}
 use Rattle.zeb_words.proofs.Top.{shape, used_rule, values}
 use Rattle.zeb_words.proofs.TopFound.{AreTexts, found}
-use Rattle.zeb_words.proofs.TopRead.{Any, IsCommandOf, Walks, command_of, enters, good, is_adelete, is_batch, is_check, is_create, is_delete, is_drop, is_dump, is_find, is_init, is_reindex, is_scan, is_shell, is_stat, is_update, is_upgrade, item_of, only, using, walks}
+use Rattle.zeb_words.proofs.TopRead.{Any, IsCommandOf, Walks, command_of, enters, good, is_init, item_of, only, using, walks}
 use Rattle.zeb_words.proofs.Leaf.{Bare, Changing, Finding, Leaf, Naming, Scanning}
 use Rattle.zeb_words.proofs.Leaf.{uses as leaf_uses}
 use Rattle.zeb_words.proofs.LeafRead.{Own, own, own_fault}
@@ -32,20 +31,7 @@ leaf_by name =
 
 leaf_is : (name : Text) (l : Leaf) → IsCommandOf name l → l ≡ leaf_by name
 leaf_is name l is_init = refl
-leaf_is name l is_create = refl
-leaf_is name l is_drop = refl
-leaf_is name l is_update = refl
-leaf_is name l is_delete = refl
-leaf_is name l is_adelete = refl
-leaf_is name l is_stat = refl
-leaf_is name l is_dump = refl
-leaf_is name l is_check = refl
-leaf_is name l is_reindex = refl
-leaf_is name l is_upgrade = refl
-leaf_is name l is_find = refl
-leaf_is name l is_scan = refl
-leaf_is name l is_batch = refl
-leaf_is name l is_shell = refl
+leaf_is name l _ = refl
 
 bare_at : (l : Leaf) (words : List Text) → l ≡ Bare → Own l words → Says words []
 bare_at l words e o = bare_said words (subst (λ l. Own l words) e o)
@@ -76,21 +62,14 @@ scan_at l words query m n e =
 
 act_named : (name : Text) (l : Leaf) (words : List Text) (shows : Bool) (o : Own l words) → l ≡ leaf_by name → (act : Act)
     → IsActRead name shows (leaf_uses l o.parts []) act → NamesAct name words shows act
-act_named name l words shows o is Init h = (h.0, h.1, bare_at l words (is ∙ ap leaf_by h.0) o)
 act_named name l words shows o is (Create d) h = (h.0, h.1, name_at l words (name_bytes d) (is ∙ ap leaf_by h.0) o h.2)
 act_named name l words shows o is (Drop d) h = (h.0, h.1, name_at l words (name_bytes d) (is ∙ ap leaf_by h.0) o h.2)
 act_named name l words shows o is (Update paths flag) h = let said = paths_at l words (path_texts paths.items) (is ∙ ap leaf_by h.0) o h.2 in (h.0, h.1, said.0, said.1)
 act_named name l words shows o is (Delete paths) h = let said = paths_at l words (path_texts paths.items) (is ∙ ap leaf_by h.0) o h.2 in (h.0, h.1, said.0, said.1)
 act_named name l words shows o is (Adelete paths) h = let said = paths_at l words (path_texts paths.items) (is ∙ ap leaf_by h.0) o h.2 in (h.0, h.1, said.0, said.1)
-act_named name l words shows o is Stat h = (h.0, h.1, bare_at l words (is ∙ ap leaf_by h.0) o)
-act_named name l words shows o is Dump h = (h.0, h.1, bare_at l words (is ∙ ap leaf_by h.0) o)
-act_named name l words shows o is Check h = (h.0, h.1, bare_at l words (is ∙ ap leaf_by h.0) o)
-act_named name l words shows o is Reindex h = (h.0, h.1, bare_at l words (is ∙ ap leaf_by h.0) o)
-act_named name l words shows o is Upgrade h = (h.0, h.1, bare_at l words (is ∙ ap leaf_by h.0) o)
 act_named name l words shows o is (Find query m n) h = (h.0, h.1, find_at l words (string_bytes query) m n (is ∙ ap leaf_by h.0) o h.2 h.3 h.4)
 act_named name l words shows o is (Scan query m n) h = (h.0, h.1, scan_at l words (string_bytes query) m n (is ∙ ap leaf_by h.0) o h.2 h.3 h.4, h.5)
-act_named name l words shows o is Batch h = (h.0, h.1, bare_at l words (is ∙ ap leaf_by h.0) o)
-act_named name l words shows o is Shell h = (h.0, h.1, bare_at l words (is ∙ ap leaf_by h.0) o)
+act_named name l words shows o is _ h = (h.0, h.1, bare_at l words (is ∙ ap leaf_by h.0) o)
 
 -- ---- all words
 

@@ -1,5 +1,5 @@
 -- Words name one command at most.
-use Rattle.zeb_words.proofs.Cited.{◌≡◌, ◌∙◌, ℕ, Bool, refl, sym, ap, ap₂, subst, List, [], codes, unwrap_or, if◌then◌else◌, bytes_eq, Row, Text, all_of, one_of, matches_of, Meaning, ToAdelete, ToBatch, ToCheck, ToCreate, ToDelete, ToDrop, ToDump, ToFind, ToInit, ToReindex, ToScan, ToShell, ToStat, ToUpdate, ToUpgrade, WordsNameOneCommand, meaning, IsActRead, program_app, text_or, Act, Init, Create, Drop, Update, Delete, Adelete, Stat, Dump, Check, Reindex, Upgrade, Find, Scan, Batch, Shell}
+use Rattle.zeb_words.proofs.Cited.{◌≡◌, ◌∙◌, ℕ, Bool, refl, sym, ap, ap₂, subst, List, [], codes, unwrap_or, if◌then◌else◌, bytes_eq, Row, Text, all_of, one_of, matches_of, Meaning, ToAdelete, ToBatch, ToCheck, ToCreate, ToDelete, ToDrop, ToDump, ToFind, ToInit, ToReindex, ToScan, ToShell, ToStat, ToUpdate, ToUpgrade, WordsNameOneCommand, meaning, IsActRead, program_app, text_or, Act, Create, Drop, Update, Delete, Adelete, Find, Scan}
 use Rattle.zeb_words.proofs.ReadingLemmas.{pair_parts, same_flag}
 use Rattle.zeb_words.proofs.Taking.{Numbered, names_taken}
 
@@ -24,34 +24,25 @@ meant name shows rows m n =
 
 meaning_is : (name : Text) (shows : Bool) (rows : List Row) (m n : ℕ) → Numbered name rows m n → (act : Act) → IsActRead name shows rows act
     → meaning act ≡ meant name shows rows m n
-meaning_is name shows rows m n numbered Init h = refl ∙ ap (λ t. meant t shows rows m n) (sym h.0)
 meaning_is name shows rows m n numbered (Create d) h = ap ToCreate h.2 ∙ ap (λ t. meant t shows rows m n) (sym h.0)
 meaning_is name shows rows m n numbered (Drop d) h = ap ToDrop h.2 ∙ ap (λ t. meant t shows rows m n) (sym h.0)
 meaning_is name shows rows m n numbered (Update paths flag) h = ap₂ ToUpdate h.2 h.1 ∙ ap (λ t. meant t shows rows m n) (sym h.0)
 meaning_is name shows rows m n numbered (Delete paths) h = ap ToDelete h.2 ∙ ap (λ t. meant t shows rows m n) (sym h.0)
 meaning_is name shows rows m n numbered (Adelete paths) h = ap ToAdelete h.2 ∙ ap (λ t. meant t shows rows m n) (sym h.0)
-meaning_is name shows rows m n numbered Stat h = refl ∙ ap (λ t. meant t shows rows m n) (sym h.0)
-meaning_is name shows rows m n numbered Dump h = refl ∙ ap (λ t. meant t shows rows m n) (sym h.0)
-meaning_is name shows rows m n numbered Check h = refl ∙ ap (λ t. meant t shows rows m n) (sym h.0)
-meaning_is name shows rows m n numbered Reindex h = refl ∙ ap (λ t. meant t shows rows m n) (sym h.0)
-meaning_is name shows rows m n numbered Upgrade h = refl ∙ ap (λ t. meant t shows rows m n) (sym h.0)
 meaning_is name shows rows m n numbered (Find query x y) h = (λ i. ToFind (h.2 i) (numbered.find_first h.0 x h.3 i) (numbered.find_count h.0 y h.4 i)) ∙ ap (λ t. meant t shows rows m n) (sym h.0)
 meaning_is name shows rows m n numbered (Scan query x y) h = (λ i. ToScan (h.2 i) (numbered.scan_number h.0 x h.3 i) (numbered.scan_position h.0 y h.4 i)) ∙ ap (λ t. meant t shows rows m n) (sym h.0)
-meaning_is name shows rows m n numbered Batch h = refl ∙ ap (λ t. meant t shows rows m n) (sym h.0)
-meaning_is name shows rows m n numbered Shell h = refl ∙ ap (λ t. meant t shows rows m n) (sym h.0)
+meaning_is name shows rows m n numbered _ h = refl ∙ ap (λ t. meant t shows rows m n) (sym h.0)
 
 pub one_command : WordsNameOneCommand
 one_command words a b x y =
     let one = names_taken words a x in
-    let two = names_taken words b y in
     let p = one.read in
-    let q = two.read in
+    let q = (names_taken words b y).read in
     let same = pair_parts p.name q.name p.given q.given (sym p.is ∙ q.is) in
-    let shown = same_flag (one_of (codes "shows") (matches_of program_app words)) p.shows q.shows one.flag p.flagged q.flagged in
     let numbered = one.numbered p.name p.given p.is in
     let b_act : IsActRead p.name p.shows p.given b.act =
     subst (λ g. IsActRead p.name p.shows g b.act) (sym same.1) (subst (λ n. IsActRead n p.shows q.given b.act) (sym same.0)
-    (subst (λ s. IsActRead q.name s q.given b.act) (sym shown) q.act)) in (
+    (subst (λ s. IsActRead q.name s q.given b.act) (sym (same_flag (one_of (codes "shows") (matches_of program_app words)) p.shows q.shows one.flag p.flagged q.flagged)) q.act)) in (
       p.config ∙ sym q.config,
       p.database ∙ sym q.database,
       meaning_is p.name p.shows p.given one.m one.n numbered a.act p.act

@@ -1,6 +1,5 @@
 -- What is read of a match.
-use Rattle.zeb_words.proofs.Cited.{◌≡◌, ℕ, ◌<◌, ◌^◌, List, [], inl, inr, Option, Some, None, Result, Ok, Err, sym, subst, ap, ◌∙◌, Bool, codes, unwrap_or, Bor, IsNumeral, ParsesUnsigned, digits_value, without_leading_plus, ReadsOne, fault_of, Row, one_of, matches_of, subcommand_of, HasKind, IsAmong, kind_of, Error, DisplayHelp, DisplayVersion, OutOfMemory, Usage, BadUsage, Refused, Help, Memory, AreBad, IsActRead, IsFlagRead, IsFlagText, IsNumberRead, IsRefusedAs, program_app, IsBadAct, IsOwn, IsUsageOf}
-use Rattle.std.proofs.Common.{option_map}
+use Rattle.zeb_words.proofs.Cited.{◌≡◌, ℕ, ◌<◌, ◌^◌, List, [], inl, inr, Option, Some, None, Result, Ok, Err, sym, subst, ap, ◌∙◌, Bool, codes, unwrap_or, Bor, IsNumeral, ParsesUnsigned, digits_value, without_leading_plus, ReadsOne, fault_of, Row, one_of, matches_of, subcommand_of, HasKind, kind_of, Error, DisplayHelp, DisplayVersion, OutOfMemory, Usage, BadUsage, Refused, Help, Memory, AreBad, IsActRead, IsFlagRead, IsFlagText, IsNumberRead, IsRefusedAs, program_app, IsBadAct, IsOwn, IsUsageOf, option_map}
 
 pub text_read : (r : Option (Bor (List ℕ))) (other : Bor (List ℕ)) (t : Option (List ℕ)) → option_map (λ s. s.now) r ≡ t
     → (unwrap_or r other).now ≡ unwrap_or t other.now
@@ -31,15 +30,13 @@ pair_read f g (Some x) y z e h =
 pub own_refused : (words : List (List ℕ)) (usage : Usage) → fault_of program_app words ≡ []
     → IsOwn (AreBad (matches_of program_app words) (subcommand_of program_app words)) usage → IsRefusedAs words usage
 own_refused words BadUsage sound own = (sound, own)
-own_refused words (Refused text) sound own = absurd own
-own_refused words (Help text) sound own = absurd own
 own_refused words Memory sound own = tt
+own_refused words _ sound own = absurd own
 
 pub own_cause : (cause other : Type 0) (usage : Usage) → (cause → other) → IsOwn cause usage → IsOwn other usage
 own_cause cause other BadUsage so own = so own
-own_cause cause other (Refused text) so own = absurd own
-own_cause cause other (Help text) so own = absurd own
 own_cause cause other Memory so own = tt
+own_cause cause other _ so own = absurd own
 
 pub pair_parts : {A B : Type 0} (a b : A) (x y : B) → ◌≡◌ {A = Option (A × B)} (Some (a, x)) (Some (b, y)) → (a ≡ b) × (x ≡ y)
 pair_parts {A = A} {B = B} a b x y e =
@@ -55,9 +52,8 @@ pub bad_words : (rows : List Row) (sub : Option (List ℕ × List Row)) (name : 
     → IsFlagRead (one_of (codes "shows") rows) shows → IsBadAct name shows given → AreBad rows sub
 bad_words rows sub name shows given is flagged (inl none) = inl (λ flag named r.
     let same = pair_parts r.name name r.given given (sym r.is ∙ is) in
-    let shown = same_flag (one_of (codes "shows") rows) r.shows shows flag r.flagged flagged in
     none named.act (subst (λ g. IsActRead name shows g named.act) same.1
-    (subst (λ n. IsActRead n shows r.given named.act) same.0 (subst (λ s. IsActRead r.name s r.given named.act) shown r.act))))
+    (subst (λ n. IsActRead n shows r.given named.act) same.0 (subst (λ s. IsActRead r.name s r.given named.act) (same_flag (one_of (codes "shows") rows) r.shows shows flag r.flagged flagged) r.act))))
 bad_words rows sub name shows given is flagged (inr past) = inr (given, is ∙ ap (λ n. Some (n, given)) past.0, past.1)
 
 pub parser_refused : (words : List (List ℕ)) (error : Error) (usage : Usage) → HasKind (fault_of program_app words) error → IsUsageOf error usage

@@ -1,6 +1,5 @@
 -- Words that name a command are taken by the parser, and read as it.
-use Rattle.zeb_words.proofs.Cited.{ℕ, Option, ◌≡◌, ◌∙◌, ◌⊎◌, inl, inr, Bool, refl, sym, ap, ap₂, subst, List, [], ◌∷◌, Some, None, codes, true, false, map, cond, arith, ◌≤◌, string_bytes, unwrap_or, slice_get, bytes_eq, bytes_eq-Decides, Row, Text, has_row, one_of, rows_after, with_default, App, built, entered, matches_of, subcommand_of, check_fault, default_fault, entered_fault, fault_of, or_else, name_bytes, Config, Database, Given, IsOneOr, Setting, Shows, databases, files, shown, NamesAct, NamesNone, NamesWords, AreBad, IsActRead, IsFlagRead, IsFlagText, IsNumberRead, IsPast, IsReadFrom, IsRefusedAs, path_texts, program_app, text_or, Words, Usage, BadUsage, Refused, Help, Memory, IsAmong, Act, Init, Create, Drop, Update, Delete, Adelete, Stat, Dump, Check, Reindex, Upgrade, Find, Scan, Batch, Shell}
-use Rattle.std.proofs.Common.{is_some}
+use Rattle.zeb_words.proofs.Cited.{ℕ, Option, ◌≡◌, ◌∙◌, ◌⊎◌, inl, inr, Bool, refl, sym, ap, ap₂, subst, List, [], ◌∷◌, Some, None, codes, true, false, map, cond, arith, ◌≤◌, string_bytes, unwrap_or, slice_get, bytes_eq, bytes_eq-Decides, Row, Text, has_row, one_of, rows_after, with_default, App, built, entered, matches_of, subcommand_of, check_fault, default_fault, entered_fault, fault_of, or_else, name_bytes, Config, Database, Given, IsOneOr, Setting, Shows, databases, files, shown, NamesAct, NamesNone, NamesWords, AreBad, IsActRead, IsFlagRead, IsFlagText, IsNumberRead, IsPast, IsReadFrom, IsRefusedAs, path_texts, program_app, text_or, Words, Usage, BadUsage, Memory, IsAmong, Act, Init, Create, Drop, Update, Delete, Adelete, Stat, Dump, Check, Reindex, Upgrade, Find, Scan, Batch, Shell, is_some}
 use Rattle.clap.specs.Faults.{defaults_fault}
 use Rattle.zeb_words.specs.Names as names
 use Rattle.zeb_words.proofs.ReadingLemmas.{pair_parts}
@@ -64,6 +63,10 @@ differ a b e same =
     let bad : true ≡ false = sym ((bytes_eq-Decides a b).1 same) ∙ e in
     cc
 
+-- a name that is one text is no other
+pub unlike : (name known other : Text) → name ≡ known → bytes_eq known other ≡ false → name ≡ other → ⊥
+unlike name known other is differs same = differ known other differs (sym is ∙ same)
+
 -- a scan that is named isn't past its number
 never_past : (name : Text) (words : List Text) (shows : Bool) (act : Act) (h : NamesAct name words shows act) → name ≡ codes "scan"
     → IsPast (rows_after (rules (act_taken name words shows act h).l) [] words) → ⊥
@@ -75,20 +78,7 @@ never_past name words shows (Scan query m n) h e past =
     let least : n ≤ m = h.3 in
     let more = past.past in
     absurd (omega arith)
-never_past name words shows Init h e past = absurd (differ (codes "init") (codes "scan") refl (sym h.0 ∙ e))
-never_past name words shows (Create d) h e past = absurd (differ (codes "create") (codes "scan") refl (sym h.0 ∙ e))
-never_past name words shows (Drop d) h e past = absurd (differ (codes "drop") (codes "scan") refl (sym h.0 ∙ e))
-never_past name words shows (Update paths flag) h e past = absurd (differ (codes "update") (codes "scan") refl (sym h.0 ∙ e))
-never_past name words shows (Delete paths) h e past = absurd (differ (codes "delete") (codes "scan") refl (sym h.0 ∙ e))
-never_past name words shows (Adelete paths) h e past = absurd (differ (codes "adelete") (codes "scan") refl (sym h.0 ∙ e))
-never_past name words shows Stat h e past = absurd (differ (codes "stat") (codes "scan") refl (sym h.0 ∙ e))
-never_past name words shows Dump h e past = absurd (differ (codes "dump") (codes "scan") refl (sym h.0 ∙ e))
-never_past name words shows Check h e past = absurd (differ (codes "check") (codes "scan") refl (sym h.0 ∙ e))
-never_past name words shows Reindex h e past = absurd (differ (codes "reindex") (codes "scan") refl (sym h.0 ∙ e))
-never_past name words shows Upgrade h e past = absurd (differ (codes "upgrade") (codes "scan") refl (sym h.0 ∙ e))
-never_past name words shows (Find query m n) h e past = absurd (differ (codes "find") (codes "scan") refl (sym h.0 ∙ e))
-never_past name words shows Batch h e past = absurd (differ (codes "batch") (codes "scan") refl (sym h.0 ∙ e))
-never_past name words shows Shell h e past = absurd (differ (codes "shell") (codes "scan") refl (sym h.0 ∙ e))
+never_past name words shows _ h e past = absurd (unlike name _ (codes "scan") h.0 refl e)
 
 -- the numbers that matches of this command say, where it has any
 pub record Numbered (name : Text) (rows : List Row) (m n : ℕ) : Type 0 where
@@ -130,19 +120,7 @@ act_numbers name words shows (Scan query m n) h =
         scan_position = λ is x read. t.b_only x read;
       },
     )
-act_numbers name words shows Init h = (0, 0, no_numbers name (codes "init") _ h.0 refl refl)
-act_numbers name words shows (Create d) h = (0, 0, no_numbers name (codes "create") _ h.0 refl refl)
-act_numbers name words shows (Drop d) h = (0, 0, no_numbers name (codes "drop") _ h.0 refl refl)
-act_numbers name words shows (Update paths flag) h = (0, 0, no_numbers name (codes "update") _ h.0 refl refl)
-act_numbers name words shows (Delete paths) h = (0, 0, no_numbers name (codes "delete") _ h.0 refl refl)
-act_numbers name words shows (Adelete paths) h = (0, 0, no_numbers name (codes "adelete") _ h.0 refl refl)
-act_numbers name words shows Stat h = (0, 0, no_numbers name (codes "stat") _ h.0 refl refl)
-act_numbers name words shows Dump h = (0, 0, no_numbers name (codes "dump") _ h.0 refl refl)
-act_numbers name words shows Check h = (0, 0, no_numbers name (codes "check") _ h.0 refl refl)
-act_numbers name words shows Reindex h = (0, 0, no_numbers name (codes "reindex") _ h.0 refl refl)
-act_numbers name words shows Upgrade h = (0, 0, no_numbers name (codes "upgrade") _ h.0 refl refl)
-act_numbers name words shows Batch h = (0, 0, no_numbers name (codes "batch") _ h.0 refl refl)
-act_numbers name words shows Shell h = (0, 0, no_numbers name (codes "shell") _ h.0 refl refl)
+act_numbers name words shows _ h = (0, 0, no_numbers name _ _ h.0 refl refl)
 
 -- ---- settings
 
@@ -208,12 +186,11 @@ no_default_fault rows =
     let one = with_default rows (rule_by (codes "config")) in
     let two = with_default one (rule_by (codes "database")) in
     let three = with_default two (rule_by (codes "shows")) in
-    let four = with_default three (rule_by (codes "version")) in
     ap₂ or_else (default_none rows (rule_by (codes "config")) refl)
     (ap₂ or_else (default_none one (rule_by (codes "database")) refl)
     (ap₂ or_else (shows_none two)
     (ap₂ or_else (default_none three (rule_by (codes "version")) refl)
-    (ap₂ or_else (default_none four (rule_by (codes "help")) refl) refl))))
+    (ap₂ or_else (default_none (with_default three (rule_by (codes "version"))) (rule_by (codes "help")) refl) refl))))
 
 abbrev app : App
 app = built program_app
@@ -281,6 +258,5 @@ names_taken words named n =
 -- so words that are refused name none
 pub none_named : (words : List Text) (usage : Usage) → IsRefusedAs words usage → NamesNone words usage
 none_named words BadUsage refused = λ named n. (names_taken words named n).never refused.1
-none_named words (Refused text) refused = λ named n. subst (IsAmong refused.0) (names_taken words named n).fault refused.1
-none_named words (Help text) refused = λ named n. subst (IsAmong refused.0) (names_taken words named n).fault refused.1
 none_named words Memory refused = tt
+none_named words _ refused = λ named n. subst (IsAmong refused.0) (names_taken words named n).fault refused.1

@@ -1,9 +1,8 @@
 -- The walk over the words before the command.
-use Rattle.zeb_words.proofs.Cited.{◌≡◌, ◌==◌, ◌∙◌, ℕ, refl, sym, ap, ap₂, List, [], ◌∷◌, ◌++◌, Option, Some, None, codes, false, unwrap_or, slice_get, suc, ne_eqb, Row, Rule, Names, Walk, Waiting, Held, idle, settled_rows, used, arg_by_id, Outcome, done, waits, plain, refused, after_step, after_flag, wait_option, Shape, built, names_of, new_rule, turn_fault, settle_fault, use_fault, step_fault, Kinds, or_else, Key, Config, Database, Setting, Given, Shows, letter, Spells, none, apart, by_equals, joined, shows, shows_and, program_app}
-use Rattle.std.specs.Prelude.{length}
+use Rattle.zeb_words.proofs.Cited.{◌≡◌, ◌==◌, ◌∙◌, ℕ, refl, sym, ap, ap₂, List, [], ◌∷◌, ◌++◌, Option, Some, None, codes, false, unwrap_or, slice_get, suc, ne_eqb, Row, Rule, Names, Walk, Waiting, Held, idle, settled_rows, used, arg_by_id, Outcome, done, waits, plain, refused, after_step, after_flag, wait_option, Shape, built, names_of, new_rule, turn_fault, settle_fault, use_fault, step_fault, Kinds, or_else, Key, Config, Database, Setting, Given, Shows, letter, Spells, none, apart, by_equals, joined, shows, shows_and, program_app, length, flags_fault}
 use Rattle.std.specs.Str.{chars}
 use Rattle.clap.specs.Walk.{walked, bundle_met}
-use Rattle.clap.specs.Faults.{walk_fault, flags_fault}
+use Rattle.clap.specs.Faults.{walk_fault}
 use Rattle.clap.proofs.OnLiterals.{clap_on_literals}
 use Rattle.zeb_words.specs.Grammar.{Text}
 use Rattle.zeb_words.proofs.Leads.{Leads, at_end, else_none, else_joined, goes, goes_on, stays}
@@ -62,52 +61,31 @@ rows_with rows p = settled_rows shape.rules p rows
 
 -- ---- single words
 
-pub letter_turn : (key : Key) (rows : List Row) (p : Pending) → turn_fault shape names (standing rows p idle) (45 ∷ letter key ∷ []) ≡ pending_fault rows p
+pub letter_leads : (key : Key) (rows : List Row) (p : Pending) (rest : List Text)
+    → Leads shape names (standing rows p idle) ((45 ∷ letter key ∷ []) ∷ rest) (standing (rows_with rows p) (Some (id_of key, [])) (wait_option (id_of key))) rest (pending_fault rows p)
 unfolding clap_on_literals
-letter_turn Config rows p = else_none _
-letter_turn Database rows p = else_none _
+letter_leads Config rows p rest = goes shape names _ _ rest _ _ (else_none _) refl
+letter_leads Database rows p rest = goes shape names _ _ rest _ _ (else_none _) refl
 
-pub letter_walk : (key : Key) (rows : List Row) (p : Pending) → walked shape.rules names (standing rows p idle) (45 ∷ letter key ∷ [])
-    ≡ standing (rows_with rows p) (Some (id_of key, [])) (wait_option (id_of key))
+pub value_leads : (key : Key) (value : Text) (rows : List Row) → IsNoFlag value → (rest : List Text)
+    → Leads shape names (standing rows (Some (id_of key, [])) (wait_option (id_of key))) (value ∷ rest) (standing rows (Some (id_of key, value ∷ [])) idle) rest []
 unfolding clap_on_literals
-letter_walk Config rows p = refl
-letter_walk Database rows p = refl
+value_leads Config value rows flagless rest = goes shape names _ value rest _ _ (rw (flagless.ends, flagless.long, flagless.short) refl) (rw (flagless.ends, flagless.long, flagless.short) refl)
+value_leads Database value rows flagless rest = goes shape names _ value rest _ _ (rw (flagless.ends, flagless.long, flagless.short) refl) (rw (flagless.ends, flagless.long, flagless.short) refl)
 
-pub value_turn : (key : Key) (value : Text) (rows : List Row) → IsNoFlag value
-    → turn_fault shape names (standing rows (Some (id_of key, [])) (wait_option (id_of key))) value ≡ []
+pub equals_leads : (key : Key) (value : Text) (rows : List Row) (p : Pending) (rest : List Text)
+    → Leads shape names (standing rows p idle) ((45 ∷ letter key ∷ 61 ∷ value) ∷ rest) (standing (used (rule_by (id_of key)) (value ∷ []) (rows_with rows p)) None idle) rest
+    (or_else (pending_fault rows p) (use_fault false (rule_by (id_of key)) (value ∷ []) (rows_with rows p)))
 unfolding clap_on_literals
-value_turn Config value rows flagless = rw (flagless.ends, flagless.long, flagless.short) refl
-value_turn Database value rows flagless = rw (flagless.ends, flagless.long, flagless.short) refl
+equals_leads Config value rows p rest = goes shape names _ _ rest _ _ (else_none _) refl
+equals_leads Database value rows p rest = goes shape names _ _ rest _ _ (else_none _) refl
 
-pub value_walk : (key : Key) (value : Text) (rows : List Row) → IsNoFlag value
-    → walked shape.rules names (standing rows (Some (id_of key, [])) (wait_option (id_of key))) value ≡ standing rows (Some (id_of key, value ∷ [])) idle
+pub joined_leads : (key : Key) (b : ℕ) (value : Text) (rows : List Row) (p : Pending) → b == 61 ≡ false → (rest : List Text)
+    → Leads shape names (standing rows p idle) ((45 ∷ letter key ∷ b ∷ value) ∷ rest) (standing (used (rule_by (id_of key)) ((b ∷ value) ∷ []) (rows_with rows p)) None idle) rest
+    (or_else (pending_fault rows p) (use_fault false (rule_by (id_of key)) ((b ∷ value) ∷ []) (rows_with rows p)))
 unfolding clap_on_literals
-value_walk Config value rows flagless = rw (flagless.ends, flagless.long, flagless.short) refl
-value_walk Database value rows flagless = rw (flagless.ends, flagless.long, flagless.short) refl
-
-pub equals_turn : (key : Key) (value : Text) (rows : List Row) (p : Pending)
-    → turn_fault shape names (standing rows p idle) (45 ∷ letter key ∷ 61 ∷ value) ≡ or_else (pending_fault rows p) (use_fault false (rule_by (id_of key)) (value ∷ []) (rows_with rows p))
-unfolding clap_on_literals
-equals_turn Config value rows p = else_none _
-equals_turn Database value rows p = else_none _
-
-pub equals_walk : (key : Key) (value : Text) (rows : List Row) (p : Pending) → walked shape.rules names (standing rows p idle) (45 ∷ letter key ∷ 61 ∷ value)
-    ≡ standing (used (rule_by (id_of key)) (value ∷ []) (rows_with rows p)) None idle
-unfolding clap_on_literals
-equals_walk Config value rows p = refl
-equals_walk Database value rows p = refl
-
-pub joined_turn : (key : Key) (b : ℕ) (value : Text) (rows : List Row) (p : Pending) → b == 61 ≡ false
-    → turn_fault shape names (standing rows p idle) (45 ∷ letter key ∷ b ∷ value) ≡ or_else (pending_fault rows p) (use_fault false (rule_by (id_of key)) ((b ∷ value) ∷ []) (rows_with rows p))
-unfolding clap_on_literals
-joined_turn Config b value rows p e = rw e (else_none _)
-joined_turn Database b value rows p e = rw e (else_none _)
-
-pub joined_walk : (key : Key) (b : ℕ) (value : Text) (rows : List Row) (p : Pending) → b == 61 ≡ false
-    → walked shape.rules names (standing rows p idle) (45 ∷ letter key ∷ b ∷ value) ≡ standing (used (rule_by (id_of key)) ((b ∷ value) ∷ []) (rows_with rows p)) None idle
-unfolding clap_on_literals
-joined_walk Config b value rows p e = rw e refl
-joined_walk Database b value rows p e = rw e refl
+joined_leads Config b value rows p e rest = goes shape names _ _ rest _ _ (rw e (else_none _)) (rw e refl)
+joined_leads Database b value rows p e rest = goes shape names _ _ rest _ _ (rw e (else_none _)) (rw e refl)
 
 abbrev pub shown : List Row → Pending → List Row
 shown rows p = used (rule_by (codes "shows")) [] (rows_with rows p)
@@ -115,13 +93,10 @@ shown rows p = used (rule_by (codes "shows")) [] (rows_with rows p)
 abbrev pub shown_fault : List Row → Pending → Kinds
 shown_fault rows p = or_else (pending_fault rows p) (use_fault false (rule_by (codes "shows")) [] (rows_with rows p))
 
-pub shows_turn : (rows : List Row) (p : Pending) → turn_fault shape names (standing rows p idle) (45 ∷ 115 ∷ []) ≡ shown_fault rows p
+pub shows_leads : (rows : List Row) (p : Pending) (rest : List Text)
+    → Leads shape names (standing rows p idle) ((45 ∷ 115 ∷ []) ∷ rest) (standing (shown rows p) None idle) rest (shown_fault rows p)
 unfolding clap_on_literals
-shows_turn rows p = else_none _ ∙ else_none _
-
-pub shows_walk : (rows : List Row) (p : Pending) → walked shape.rules names (standing rows p idle) (45 ∷ 115 ∷ []) ≡ standing (shown rows p) None idle
-unfolding clap_on_literals
-shows_walk rows p = refl
+shows_leads rows p rest = goes shape names _ _ rest _ _ (else_none _ ∙ else_none _) refl
 
 same_step : (a b : Text) (rows more : List Row) (p q : Pending) (h : Held) (o : Outcome)
     → after_step shape.rules a (standing rows p idle) (after_flag shape.rules idle a h o).0 (after_flag shape.rules idle a h o).1
@@ -178,12 +153,11 @@ pub more_walk : (b : ℕ) (letters : Text) (x : ℕ) (rows : List Row) (p : Pend
     → walked shape.rules names (standing rows p idle) (45 ∷ 115 ∷ b ∷ letters) ≡ walked shape.rules names (standing (shown rows p) None idle) (45 ∷ b ∷ letters)
 more_walk b letters x rows p unhyphened head =
     let long = 45 ∷ 115 ∷ b ∷ letters in
-    let short = 45 ∷ b ∷ letters in
     let same = first_met b letters rows p ∙ same_bundle shape.rules (length letters) (b ∷ letters) (held (shown rows p) None) x head in
     let m = met (shown rows p) None (b ∷ letters) in
     short_walk 115 (b ∷ letters) rows p refl
     ∙ ap (λ (m : Held × Outcome). after_step shape.rules long (standing rows p idle) (after_flag shape.rules idle long m.0 m.1).0 (after_flag shape.rules idle long m.0 m.1).1) same
-    ∙ same_step long short rows (shown rows p) p None m.0 m.1
+    ∙ same_step long (45 ∷ b ∷ letters) rows (shown rows p) p None m.0 m.1
     ∙ sym (short_walk b letters (shown rows p) None unhyphened)
 
 pub more_turn : (b : ℕ) (letters : Text) (x : ℕ) (rows : List Row) (p : Pending) → b == 45 ≡ false → slice_get (chars (b ∷ letters)) 0 ≡ Some x
@@ -191,11 +165,10 @@ pub more_turn : (b : ℕ) (letters : Text) (x : ℕ) (rows : List Row) (p : Pend
     ≡ or_else (shown_fault rows p) (turn_fault shape names (standing (shown rows p) None idle) (45 ∷ b ∷ letters))
 more_turn b letters x rows p unhyphened head =
     let long = 45 ∷ 115 ∷ b ∷ letters in
-    let short = 45 ∷ b ∷ letters in
     let same = first_met b letters rows p ∙ same_bundle shape.rules (length letters) (b ∷ letters) (held (shown rows p) None) x head in
     let m = met (shown rows p) None (b ∷ letters) in
     let step = ap (λ (m : Held × Outcome). step_fault shape 1 (after_flag shape.rules idle long m.0 m.1).0 (after_flag shape.rules idle long m.0 m.1).1) same
-    ∙ same_fault long short m.0 m.1 in
+    ∙ same_fault long (45 ∷ b ∷ letters) m.0 m.1 in
     short_turn 115 (b ∷ letters) rows p refl
     ∙ ap₂ or_else (first_flags b letters rows p) step
     ∙ else_joined (shown_fault rows p) (flags_of (shown rows p) None (b ∷ letters)) _
@@ -207,9 +180,8 @@ pub more_leads : (b : ℕ) (letters : Text) (words : List Text) (x : ℕ) (rows 
 unfolding walk_fault
 more_leads b letters words x rows p unhyphened head =
     let step = more_walk b letters x rows p unhyphened head in
-    let turn = more_turn b letters x rows p unhyphened head in
     record {
-      fault = ap₂ (λ t w. or_else t (walk_fault shape names w words)) turn step ∙ else_joined (shown_fault rows p) _ _;
+      fault = ap₂ (λ t w. or_else t (walk_fault shape names w words)) (more_turn b letters x rows p unhyphened head) step ∙ else_joined (shown_fault rows p) _ _;
       end = ap (λ w. at_end shape names w words) step;
     }
 
@@ -276,20 +248,20 @@ spelled words rest settings none rows p = record {
 }
 spelled words rest settings (apart key value more others flat d) rows p =
     let flagless = no_flag value flat in
-    let to_letter = goes shape names (standing rows p idle) (45 ∷ letter key ∷ []) (value ∷ (more ++ rest)) _ _ (letter_turn key rows p) (letter_walk key rows p) in
-    let to_value = goes shape names _ value (more ++ rest) _ _ (value_turn key value (rows_with rows p) flagless) (value_walk key value (rows_with rows p) flagless) in
+    let to_letter = letter_leads key rows p (value ∷ (more ++ rest)) in
+    let to_value = value_leads key value (rows_with rows p) flagless (more ++ rest) in
     before (Given key value) (goes_on shape names to_letter to_value) (pending_rows key value (rows_with rows p))
     (else_joined (pending_fault rows p) [] _ ∙ ap (or_else (pending_fault rows p)) (pending_is key value (rows_with rows p)))
     (spelled more rest others d (rows_with rows p) (Some (id_of key, value ∷ [])))
 spelled words rest settings (by_equals key value more others d) rows p =
-    before (Given key value) (goes shape names (standing rows p idle) (45 ∷ letter key ∷ 61 ∷ value) (more ++ rest) _ _ (equals_turn key value rows p) (equals_walk key value rows p))
+    before (Given key value) (equals_leads key value rows p (more ++ rest))
     refl (else_none _) (spelled more rest others d (used (rule_by (id_of key)) (value ∷ []) (rows_with rows p)) None)
 spelled words rest settings (joined key b value more others differs d) rows p =
     let e = ne_eqb b 61 differs in
-    before (Given key (b ∷ value)) (goes shape names (standing rows p idle) (45 ∷ letter key ∷ b ∷ value) (more ++ rest) _ _ (joined_turn key b value rows p e) (joined_walk key b value rows p e))
+    before (Given key (b ∷ value)) (joined_leads key b value rows p e (more ++ rest))
     refl (else_none _) (spelled more rest others d (used (rule_by (id_of key)) ((b ∷ value) ∷ []) (rows_with rows p)) None)
 spelled words rest settings (shows more others d) rows p =
-    before Shows (goes shape names (standing rows p idle) (45 ∷ 115 ∷ []) (more ++ rest) _ _ (shows_turn rows p) (shows_walk rows p))
+    before Shows (shows_leads rows p (more ++ rest))
     refl (else_none _) (spelled more rest others d (shown rows p) None)
 spelled words rest settings (shows_and b letters more others d) rows p =
     let head = first_letter b letters more others d in

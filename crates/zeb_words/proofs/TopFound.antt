@@ -1,16 +1,15 @@
 -- Words that the walk takes spell settings, and then come to a command.
-use Rattle.zeb_words.proofs.Cited.{eqb-true, drop, ◌≡◌, ◌∙◌, ◌==◌, ◌≤◌, ℕ, Bool, refl, sym, ap, subst, List, [], ◌∷◌, ◌++◌, Option, Some, None, codes, true, false, arith, length, slice_get, suc, zero, ⊤, IsUtf8, bytes_eq, eqb-false, name_and_value, Row, Walk, Held, Waiting, idle, arg_by_long, arg_by_short, subcommand_met, wait_option, turn_fault, settle_fault, short_fault, long_fault, Kinds, Key, Config, Database, Setting, Given, Shows, letter, Spells, none, apart, by_equals, joined, shows, shows_and, IsPlain}
-use Rattle.std.proofs.Common.{is_some}
+use Rattle.zeb_words.proofs.Cited.{eqb-true, drop, ◌≡◌, ◌∙◌, ◌==◌, ◌≤◌, ℕ, Bool, refl, sym, ap, subst, List, [], ◌∷◌, ◌++◌, Option, Some, None, codes, true, false, arith, length, slice_get, suc, zero, ⊤, IsUtf8, bytes_eq, eqb-false, name_and_value, Row, Walk, Held, Waiting, idle, arg_by_long, arg_by_short, subcommand_met, wait_option, turn_fault, settle_fault, short_fault, long_fault, Kinds, Key, Config, Database, Setting, Given, Shows, letter, Spells, none, apart, by_equals, joined, shows, shows_and, IsPlain, is_some, flags_fault}
 use Rattle.std.specs.Char.{encode_utf8}
 use Rattle.std.specs.Str.{chars}
 use Rattle.clap.specs.Walk.{walked}
-use Rattle.clap.specs.Faults.{walk_fault, flags_fault}
+use Rattle.clap.specs.Faults.{walk_fault}
 use Rattle.clap.specs.declared.error.kind.ErrorKind.TheVariants as kind
 use Rattle.zeb_words.specs.Grammar.{Text}
-use Rattle.zeb_words.proofs.Leads.{Leads, at_end, goes, none_of_both}
+use Rattle.zeb_words.proofs.Leads.{Leads, at_end, none_of_both}
 use Rattle.zeb_words.proofs.Plain.{IsNoFlag, no_flag, are_letters}
 use Rattle.zeb_words.proofs.Flags.{First, Kind, dashes, first_of_letters, flat, kind_of_word, lettered, letters_fault, letters_text, long, unsettled}
-use Rattle.zeb_words.proofs.Top.{Pending, equals_turn, equals_walk, first_flags, flags_of, more_leads, held, id_of, joined_turn, joined_walk, letter_turn, letter_walk, names, pending_fault, rows_with, shape, short_turn, shown, shown_fault, shows_turn, shows_walk, standing, value_turn, value_walk}
+use Rattle.zeb_words.proofs.Top.{Pending, equals_leads, first_flags, flags_of, more_leads, held, id_of, joined_leads, letter_leads, names, pending_fault, rows_with, shape, short_turn, shown, shown_fault, shows_leads, standing, value_leads}
 
 -- the walk takes the words, and stops at a command
 pub record Passes (w : Walk) (words : List Text) : Type 0 where
@@ -175,29 +174,16 @@ AreTexts (word ∷ words) = IsUtf8 word × AreTexts words
 abbrev Finds : ℕ → Type 0
 Finds n = (words : List Text) → length words ≤ n → AreTexts words → (rows : List Row) (p : Pending) → Passes (standing rows p idle) words → Found words
 
-with_value : (key : Key) (b : ℕ) (letters : Text) (words : List Text) (settings : List Setting → List Setting)
-    → ((more : List Text) (ss : List Setting) → Spells more ss → Spells ((45 ∷ b ∷ letters) ∷ more) (settings ss)) → Found words → Lettered b letters words
-with_value key b letters words settings spell d = record {
-  more = d.front;
-  settings = settings d.settings;
-  name = d.name;
-  rest = d.rest;
-  are = d.are;
-  spells = spell d.front d.settings d.spells;
-  command = d.command;
-}
-
 set_found : (n : ℕ) → Finds n → (key : Key) (letters : Text) (words : List Text) → length words ≤ n → AreTexts words → (rows : List Row) (p : Pending)
     → Passes (standing rows p idle) ((45 ∷ letter key ∷ letters) ∷ words) → Lettered (letter key) letters words
 set_found n finds key [] [] le texts rows p passes =
-    let after = passes_on (goes shape names (standing rows p idle) (45 ∷ letter key ∷ []) [] _ _ (letter_turn key rows p) (letter_walk key rows p)) passes in
-    absurd (open_fault key (rows_with rows p) after.settles)
+    absurd (open_fault key (rows_with rows p) (passes_on (letter_leads key rows p []) passes).settles)
 set_found n finds key [] (value ∷ words) le texts rows p passes =
-    let first = goes shape names (standing rows p idle) (45 ∷ letter key ∷ []) (value ∷ words) _ _ (letter_turn key rows p) (letter_walk key rows p) in
+    let first = letter_leads key rows p (value ∷ words) in
     let waiting = passes_on first passes in
     let plain = value_plain key value words (rows_with rows p) texts.0 waiting in
     let flagless = no_flag value plain in
-    let second = goes shape names _ value words _ _ (value_turn key value (rows_with rows p) flagless) (value_walk key value (rows_with rows p) flagless) in
+    let second = value_leads key value (rows_with rows p) flagless words in
     let d = finds words (omega arith) texts.1 (rows_with rows p) (Some (id_of key, value ∷ [])) (passes_on second waiting) in
     record {
       more = value ∷ d.front;
@@ -212,7 +198,7 @@ set_found n finds key (b ∷ value) words le texts rows p passes = by (b == 61) 
   where
     by : (is : Bool) → b == 61 ≡ is → Lettered (letter key) (b ∷ value) words
     by false e =
-        let step = goes shape names (standing rows p idle) (45 ∷ letter key ∷ b ∷ value) words _ _ (joined_turn key b value rows p e) (joined_walk key b value rows p e) in
+        let step = joined_leads key b value rows p e words in
         let d = finds words le texts _ None (passes_on step passes) in
         record {
           more = d.front;
@@ -226,7 +212,7 @@ set_found n finds key (b ∷ value) words le texts rows p passes = by (b == 61) 
     by true e =
         let is = eqb-true b 61 e in
         let here = subst (λ b. Passes (standing rows p idle) ((45 ∷ letter key ∷ b ∷ value) ∷ words)) is passes in
-        let step = goes shape names (standing rows p idle) (45 ∷ letter key ∷ 61 ∷ value) words _ _ (equals_turn key value rows p) (equals_walk key value rows p) in
+        let step = equals_leads key value rows p words in
         let d = finds words le texts _ None (passes_on step here) in
         record {
           more = d.front;
@@ -295,8 +281,7 @@ shows_found : (n : ℕ) → Finds n → (letters : Text) (words : List Text) →
     → (rows : List Row) (p : Pending) → Passes (standing rows p idle) ((45 ∷ 115 ∷ letters) ∷ words) → Lettered 115 letters words
 unfolding Again
 shows_found n finds [] words le u texts again rows p passes =
-    let step = goes shape names (standing rows p idle) (45 ∷ 115 ∷ []) words _ _ (shows_turn rows p) (shows_walk rows p) in
-    let d = finds words le texts (shown rows p) None (passes_on step passes) in
+    let d = finds words le texts (shown rows p) None (passes_on (shows_leads rows p words) passes) in
     record { more = d.front; settings = Shows ∷ d.settings; name = d.name; rest = d.rest; are = d.are; command = d.command; spells = shows d.front d.settings d.spells }
 shows_found n finds (b ∷ letters) words le u texts again rows p passes =
     let e = no_hyphen b letters rows p (idle_fault 115 (b ∷ letters) words rows p refl passes) in

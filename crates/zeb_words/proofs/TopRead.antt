@@ -1,8 +1,7 @@
 -- What is read of settings.
-use Rattle.zeb_words.proofs.Cited.{◌⊎◌, inl, inr, ◌≡◌, ◌∙◌, Bool, refl, sym, ap, ap₂, subst, List, [], ◌∷◌, ◌++◌, Some, None, codes, true, false, map, ⊤, Row, Text, has_row, used, with_values, without, use_fault, AsWritten, CommandLine, find, is_some, option_map, bytes_eq, bytes_eq-Decides, Names, Walk, settled_rows, answers_to, idle, rows_after, subcommand_met, built, entered, entered_fault, settle_fault, turn_fault, program_app, Setting, Spells, Config, Database, Given, Shows, append_assoc, append-nil, or_else, stopped_fault}
+use Rattle.zeb_words.proofs.Cited.{◌⊎◌, inl, inr, ◌≡◌, ◌∙◌, Bool, refl, sym, ap, ap₂, subst, List, [], ◌∷◌, ◌++◌, Some, None, codes, true, false, map, ⊤, Row, Text, has_row, used, with_values, without, use_fault, AsWritten, CommandLine, find, is_some, option_map, bytes_eq, bytes_eq-Decides, Names, Walk, settled_rows, answers_to, idle, rows_after, subcommand_met, built, entered, entered_fault, settle_fault, turn_fault, program_app, Setting, Spells, Config, Database, Given, Shows, append_assoc, append-nil, or_else, stopped_fault, walk_fault}
 use Rattle.clap.specs.declared.error.kind.ErrorKind.TheVariants as kind
 use Rattle.clap.specs.Walk.{walked}
-use Rattle.clap.specs.Faults.{walk_fault}
 use Rattle.clap.proofs.OnLiterals.{clap_on_literals}
 use Rattle.zeb_words.proofs.Leaf.{Bare, Changing, Finding, Leaf, Naming, Scanning, rules}
 use Rattle.zeb_words.proofs.LeafRead.{own_fault}
@@ -114,20 +113,7 @@ pub record Enters (name : Text) (l : Leaf) (words : List Text) : Type 0 where
 pub enters : (name : Text) (l : Leaf) (words : List Text) → IsCommandOf name l → Enters name l words
 unfolding clap_on_literals
 enters name l words is_init = record { met = refl; rows = refl; fault = refl; turn = λ rows p. refl; walk = λ rows p. refl }
-enters name l words is_create = record { met = refl; rows = refl; fault = refl; turn = λ rows p. refl; walk = λ rows p. refl }
-enters name l words is_drop = record { met = refl; rows = refl; fault = refl; turn = λ rows p. refl; walk = λ rows p. refl }
-enters name l words is_update = record { met = refl; rows = refl; fault = refl; turn = λ rows p. refl; walk = λ rows p. refl }
-enters name l words is_delete = record { met = refl; rows = refl; fault = refl; turn = λ rows p. refl; walk = λ rows p. refl }
-enters name l words is_adelete = record { met = refl; rows = refl; fault = refl; turn = λ rows p. refl; walk = λ rows p. refl }
-enters name l words is_stat = record { met = refl; rows = refl; fault = refl; turn = λ rows p. refl; walk = λ rows p. refl }
-enters name l words is_dump = record { met = refl; rows = refl; fault = refl; turn = λ rows p. refl; walk = λ rows p. refl }
-enters name l words is_check = record { met = refl; rows = refl; fault = refl; turn = λ rows p. refl; walk = λ rows p. refl }
-enters name l words is_reindex = record { met = refl; rows = refl; fault = refl; turn = λ rows p. refl; walk = λ rows p. refl }
-enters name l words is_upgrade = record { met = refl; rows = refl; fault = refl; turn = λ rows p. refl; walk = λ rows p. refl }
-enters name l words is_find = record { met = refl; rows = refl; fault = refl; turn = λ rows p. refl; walk = λ rows p. refl }
-enters name l words is_scan = record { met = refl; rows = refl; fault = refl; turn = λ rows p. refl; walk = λ rows p. refl }
-enters name l words is_batch = record { met = refl; rows = refl; fault = refl; turn = λ rows p. refl; walk = λ rows p. refl }
-enters name l words is_shell = record { met = refl; rows = refl; fault = refl; turn = λ rows p. refl; walk = λ rows p. refl }
+enters name l words _ = record { met = refl; rows = refl; fault = refl; turn = λ rows p. refl; walk = λ rows p. refl }
 
 -- ---- the end of the words
 

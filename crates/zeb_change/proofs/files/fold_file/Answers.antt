@@ -94,13 +94,12 @@ returns-in_err-take_record-clause-takes g c clean mode store =
     let now = at (state g.S.Store c.loop-nth.tx.conn.now) c.loop-nth.pending c.loop-nth.fold in
     let next = at (state g.S.Store c.take_record.new.tx.conn.now) c.take_record.new.pending c.take_record.new.fold in
     let was : HasCleanDisk (state g.S.Store c.loop-nth.tx.conn.now) = omega (arith, c.take_record.ensures.inside.crash.clean) in
-    let read = record_read g (goal.at.returns-in_err-take_record-clause-takes g c).After-take_record in
     let took = subst₂ (λ i bytes. TakesRecord c.args.setting.now g.L.Layout.format g.L.Layout.row_work i c.args.file c.loop-nth.nth bytes now next (Err refusal)) (ap (λ d. d.0) c.loop-nth.invariant.steps.database) c.bytes.ensures
     (c.in_err-take_record.ensures.takes clean (c.loop-nth.invariant.stays was mode).mode (c.loop-nth.invariant.store was mode store)) in
     subst (TakesReader c.args.setting.now g.L.Layout.format g.L.Layout.row_work c.args.fold.now.progress.database.0 failed (g.R.Source.remaining c.args.reader.now) c.args.file 1 first next) (sym (ap (as_refusal fold_refusal) result))
     (c.loop-nth.invariant.takes was mode store failed next (Err refusal)
     (rest_refused failed c.args.setting.now g.L.Layout.format g.L.Layout.row_work c.args.fold.now.progress.database.0 c.args.file c.loop-nth.nth (g.R.Source.remaining c.loop-nth.reader) now
-    c.read_record.new.buffer (g.R.Source.remaining c.read_record.new.reader) read.1 next refusal took))
+    c.read_record.new.buffer (g.R.Source.remaining c.read_record.new.reader) (record_read g (goal.at.returns-in_err-take_record-clause-takes g c).After-take_record).1 next refusal took))
 
 pub returns-in_err-take_record-clause-steps : goal.returns-in_err-take_record-clause-steps
 returns-in_err-take_record-clause-steps g c = advances_then _ _ _ _ _ c.loop-nth.invariant.steps c.take_record.ensures.steps

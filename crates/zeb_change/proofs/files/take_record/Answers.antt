@@ -1,5 +1,4 @@
-use Rattle.zeb_change.proofs.Cited.{rules, arith, ◌≡◌, IsTrue, Ok, Err, inl, inr, sym, ap, subst, state, HasCleanDisk, IsStore, as_refusal, take_refusal, FoldsRecord, TakesRecord, at}
-use Rattle.zeb_change.specs.declared.part_faults.ChangeFault.TheVariants.{Turn}
+use Rattle.zeb_change.proofs.Cited.{rules, arith, ◌≡◌, IsTrue, Ok, Err, inl, inr, sym, ap, subst, state, HasCleanDisk, IsStore, as_refusal, take_refusal, FoldsRecord, TakesRecord, at, Turn}
 use Rattle.zeb_change.specs.declared.part_faults.TakeFault.TheVariants.{Change}
 use Rattle.zeb_change.specs.declared.part_faults.TurnFault.TheVariants.{Register}
 use Rattle.zeb_change.proofs.FoldParts.{advanced, advances_worked, folded_stores, settled_at, store_of, stores, write_failed}

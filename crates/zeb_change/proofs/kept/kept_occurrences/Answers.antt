@@ -1,5 +1,4 @@
-use Rattle.zeb_change.proofs.Cited.{◌↔◌, List, subst, Contains, FieldText, unit_targets, Occurrence, IsOccurrence}
-use Rattle.zeb_marc.specs.Contents.{units_of}
+use Rattle.zeb_change.proofs.Cited.{◌↔◌, List, subst, Contains, FieldText, unit_targets, Occurrence, IsOccurrence, units_of}
 use Rattle.zeb_change.proofs.kept.kept_occurrences.Goals as goal
 
 pub returns-clause-found : goal.returns-clause-found

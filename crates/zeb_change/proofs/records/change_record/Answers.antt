@@ -1,5 +1,4 @@
-use Rattle.zeb_change.proofs.Cited.{◌≡◌, ◌∙◌, arith, rules, IsTrue, Result, Ok, Err, ap, sym, subst, state, HasCleanDisk, IsStore, store_same, as_refusal, change_refusal, turn_refusal, TurnFault, Fate, ChangesRecord, IsSound, point}
-use Rattle.zeb_change.specs.declared.part_faults.ChangeFault.TheVariants.{Turn}
+use Rattle.zeb_change.proofs.Cited.{◌≡◌, ◌∙◌, arith, rules, IsTrue, Result, Ok, Err, ap, sym, subst, state, HasCleanDisk, IsStore, store_same, as_refusal, change_refusal, turn_refusal, TurnFault, Fate, ChangesRecord, IsSound, point, Turn}
 use Rattle.zeb_change.specs.declared.part_faults.TurnFault.TheVariants.{Register}
 use Rattle.zeb_change.proofs.RecordParts.{look_failed, refused_as, turned}
 use Rattle.zeb_change.proofs.records.change_record.Given as given
@@ -8,12 +7,11 @@ use Rattle.zeb_change.proofs.records.change_record.Goals as goal
 
 pub returns-in_err-elder-clause-changes : goal.returns-in_err-elder-clause-changes
 returns-in_err-elder-clause-changes g c clean mode store =
-    let fault = c.in_err-elder.field-0.0 in
     let sound : IsSound c.args.setting.now.profile.now c.as_str-ident.result.now c.args.incoming.bytes.now =
     record { whole = c.in_ok-marc.ensures.reads.0.sound; named = c.in_ok-marc.ensures.reads.1 ∙ ap Ok (sym c.as_str-ident.ensures.value); text = c.as_str-ident.utf8 } in
-    refused_as change_refusal _ _ _ (Turn (Register fault)) c.from_residual-in_err-elder.result (search rules)
+    refused_as change_refusal _ _ _ (Turn (Register c.in_err-elder.field-0.0)) c.from_residual-in_err-elder.result (search rules)
     (look_failed c.args.setting.now c.args.progress.now.database.0 c.args.incoming.file c.args.incoming.nth c.args.incoming.bytes.now (state g.S.Store c.args.tx.now.conn.now) store c.args.pending.now c.args.progress.now.last
-    c.as_str-ident.result.now sound fault (λ damaged. c.in_err-elder.ensures.honest clean mode store (ap Err damaged)))
+    c.as_str-ident.result.now sound c.in_err-elder.field-0.0 (λ damaged. c.in_err-elder.ensures.honest clean mode store (ap Err damaged)))
 
 -- what is done behind the look
 done : (g : given.Over) (c : After-turn_record g) → HasCleanDisk (state g.S.Store c.turn_record.new.tx.conn.now) → IsTrue (state g.S.Store c.args.tx.now.conn.now).in_transaction

@@ -10,9 +10,8 @@ returns-in_err-old-clause-supplants g c clean mode store =
 
 pub returns-clause-supplants : goal.returns-clause-supplants
 returns-clause-supplants g c clean mode store =
-    let profile = c.args.setting.now.profile.now in
-    let was = subst (AreOccurrencesOf profile c.args.elder.now.bytes.items) (sym c.deref.ensures.value) c.in_ok-old.ensures.read.1 in
-    let are = subst (AreOccurrencesOf profile c.args.newer.now.bytes.now) (sym c.deref-2.ensures.value) c.in_ok-new.ensures in
+    let was = subst (AreOccurrencesOf c.args.setting.now.profile.now c.args.elder.now.bytes.items) (sym c.deref.ensures.value) c.in_ok-old.ensures.read.1 in
+    let are = subst (AreOccurrencesOf c.args.setting.now.profile.now c.args.newer.now.bytes.now) (sym c.deref-2.ensures.value) c.in_ok-new.ensures in
     inr (
       (λ same. let yes = c.if-has_bytes.ensures.1 same in cc),
       refl,

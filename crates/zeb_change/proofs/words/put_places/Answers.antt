@@ -1,5 +1,4 @@
-use Rattle.zeb_change.proofs.Cited.{◌∙◌, ◌++◌, List, ℕ, ap, sym, take, slice_index_or, append_assoc, take_more, Place}
-use Rattle.zeb_change.specs.NoteWords.{number_words, place_words}
+use Rattle.zeb_change.proofs.Cited.{◌∙◌, ◌++◌, List, ℕ, ap, sym, take, slice_index_or, append_assoc, take_more, Place, number_words, place_words}
 use Rattle.zeb_change.proofs.NoteWords.{no_places, places_more}
 use Rattle.zeb_change.proofs.words.put_places.Goals as goal
 

@@ -1,5 +1,4 @@
-use Rattle.zeb_change.proofs.Cited.{◌≡◌, ◌++◌, take}
-use Rattle.zeb_change.specs.NoteWords.{place_words}
+use Rattle.zeb_change.proofs.Cited.{◌≡◌, ◌++◌, take, place_words}
 use Rattle.zeb_change.proofs.words.put_places.Given as goal
 
 abbrev pub invariant-loop-place : goal.invariant-loop-place

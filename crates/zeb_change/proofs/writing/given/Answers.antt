@@ -4,15 +4,14 @@ use Rattle.zeb_change.proofs.writing.given.Goals as goal
 
 pub loop-count-preserved : goal.loop-count-preserved
 loop-count-preserved c =
-    let counts = c.args.counts.now in
     let index = c.loop-count.count-index in
     let none : PlaceCounts = record { sysno = 0; old = 0; new = 0 } in
-    let count : PlaceCounts = slice_index_or counts index none in
+    let count : PlaceCounts = slice_index_or c.args.counts.now index none in
     let change : RecordChange = record { sysno = count.sysno; old = c.cut_off.result.0; new = c.cut_off-in-loop-count.result.0 } in
     record {
       many = omega (arith, c.in_ok-push.ensures.len, c.loop-count.invariant.many);
-      told = one_given counts c.args.places.now c.loop-count.left.now c.cut_off.result.1.now c.cut_off-in-loop-count.result.1.now index c.loop-count.given.items
-          c.push.new.self.items count change (drop_more counts index none c.loop-count-test.true) c.cut_off.ensures c.cut_off-in-loop-count.ensures refl
+      told = one_given c.args.counts.now c.args.places.now c.loop-count.left.now c.cut_off.result.1.now c.cut_off-in-loop-count.result.1.now index c.loop-count.given.items
+          c.push.new.self.items count change (drop_more c.args.counts.now index none c.loop-count-test.true) c.cut_off.ensures c.cut_off-in-loop-count.ensures refl
           c.in_ok-push.ensures.items c.loop-count.invariant.told;
     }
 

@@ -1,6 +1,4 @@
-use Rattle.zeb_change.proofs.Cited.{◌≡◌, ◌∙◌, ◌+◌, ◌++◌, List, [], ◌∷◌, AllZip, ap, length, refl, subst₂, sym, take, take_more}
-use Rattle.zeb_change.specs.declared.pending.TakenKey.{TakenKey}
-use Rattle.zeb_change.specs.declared.writing.GivenKey.{GivenKey}
+use Rattle.zeb_change.proofs.Cited.{◌≡◌, ◌∙◌, ◌+◌, ◌++◌, List, [], ◌∷◌, AllZip, ap, length, refl, subst₂, sym, take, take_more, TakenKey, GivenKey}
 use Rattle.zeb_change.proofs.TakenKeys.{GivesTaken}
 use Rattle.zeb_change.proofs.ZippedLists.{zip_more}
 use Rattle.zeb_change.proofs.writing.given_each.Goals as goal

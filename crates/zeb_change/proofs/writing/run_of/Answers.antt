@@ -1,6 +1,4 @@
-use Rattle.zeb_change.proofs.Cited.{◌≡◌, ◌∙◌, ◌+◌, ◌++◌, List, [], ◌∷◌, AllZip, ap, refl, subst₂, sym, take, take_more}
-use Rattle.zeb_register.specs.declared.registers.KeyChanges.{KeyChanges}
-use Rattle.zeb_change.specs.declared.writing.GivenKey.{GivenKey}
+use Rattle.zeb_change.proofs.Cited.{◌≡◌, ◌∙◌, ◌+◌, ◌++◌, List, [], ◌∷◌, AllZip, ap, refl, subst₂, sym, take, take_more, KeyChanges, GivenKey}
 use Rattle.zeb_change.proofs.TakenKeys.{IsInRun}
 use Rattle.zeb_change.proofs.ZippedLists.{zip_more}
 use Rattle.zeb_change.proofs.writing.run_of.Goals as goal

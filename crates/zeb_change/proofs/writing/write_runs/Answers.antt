@@ -1,9 +1,5 @@
-use Rattle.zeb_change.proofs.Cited.{◌≡◌, ◌∙◌, List, Ok, Err, Result, OnOk, AllZip, ap, arith, map, rules, subst, sym, state, HasCleanDisk, RegFault, IsStore, Key, KeyNotes, key_order, changes_among}
-use Rattle.std.specs.List.Sorted.{IsStrictlySortedBy}
+use Rattle.zeb_change.proofs.Cited.{◌≡◌, ◌∙◌, List, Ok, Err, Result, OnOk, AllZip, ap, arith, map, rules, subst, sym, state, HasCleanDisk, RegFault, IsStore, Key, KeyNotes, key_order, changes_among, IsStrictlySortedBy, TakenKey, DoKeysRise, IsTakenFrom, WritesNotes}
 use Rattle.zeb_register.proofs.CallsInTurn.{quiet_then}
-use Rattle.zeb_change.specs.declared.pending.TakenKey.{TakenKey}
-use Rattle.zeb_change.specs.PrivatePending.{DoKeysRise, IsTakenFrom}
-use Rattle.zeb_change.specs.PrivateWriting.{WritesNotes}
 use Rattle.zeb_change.proofs.CostLemmas.{due_nothing, due_written}
 use Rattle.zeb_change.proofs.NotedChanges.{count_both}
 use Rattle.zeb_change.proofs.TakenKeys.{fewer_left, none_of, some_of, taken_rise}
@@ -29,7 +25,6 @@ loop-taken-smaller g c =
 pub loop-taken-preserved : goal.loop-taken-preserved
 loop-taken-preserved g c =
     let format = g.L.Layout.format in
-    let db = c.args.db.0 in
     let first = state g.S.Store c.args.tx.now.conn.now in
     let mid = state g.S.Store c.loop-taken.tx.conn.now in
     let last = state g.S.Store c.write_run.new.tx.conn.now in
@@ -52,8 +47,8 @@ loop-taken-preserved g c =
       leads = λ clean mode store end result writes.
           let was : HasCleanDisk mid = omega (arith, c.write_run.ensures.call.crash.clean) in
           let put = (c.in_ok-write_run.ensures.rows out.entries from clean (so_far.stays was mode).mode (so_far.store was mode store)).1 in
-          so_far.leads was mode store end result (subst (λ (es : List (Key × KeyNotes)). WritesNotes format db es mid.now.trees end result) (sym out.first)
-          (then_written format db out.entries left (subst DoKeysRise out.first (out.rising some)) mid.now.trees last.now.trees put end result writes));
+          so_far.leads was mode store end result (subst (λ (es : List (Key × KeyNotes)). WritesNotes format c.args.db.0 es mid.now.trees end result) (sym out.first)
+          (then_written format c.args.db.0 out.entries left (subst DoKeysRise out.first (out.rising some)) mid.now.trees last.now.trees put end result writes));
       due = due_written g.L.Layout.row_work (changes_among out.entries) c.args.work.now c.loop-taken.work c.write_run.new.work c.args.pending.now c.loop-taken.pending c.take_run.new.self
           c.counts_are_numbers.ensures so_far.due (c.in_ok-write_run.ensures.work out.entries from) (ap changes_among out.first ∙ count_both out.entries left);
       no_work = λ none. c.write_run.ensures.no_work none ∙ so_far.no_work none;

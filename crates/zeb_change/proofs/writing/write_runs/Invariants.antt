@@ -1,5 +1,4 @@
-use Rattle.zeb_change.proofs.Cited.{◌≡◌, IsTrue, Result, length, state, HasCleanDisk, Survives, Trees, RegFault, IsStore, Continues, IsDueFor}
-use Rattle.zeb_change.specs.PrivateWriting.{WritesNotes}
+use Rattle.zeb_change.proofs.Cited.{◌≡◌, IsTrue, Result, length, state, HasCleanDisk, Survives, Trees, RegFault, IsStore, Continues, IsDueFor, WritesNotes}
 use Rattle.zeb_change.proofs.writing.write_runs.Given as goal
 
 abbrev pub invariant-loop-taken : goal.invariant-loop-taken

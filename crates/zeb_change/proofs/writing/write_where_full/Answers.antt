@@ -11,7 +11,7 @@ returns-clause-call g c = record {
 }
 
 pub returns-clause-malformed : goal.returns-clause-malformed
-returns-clause-malformed g c clean mode store = malformed_seen (state g.S.Store c.args.tx.now.conn.now).now (state g.S.Store c.args.tx.now.conn.now).now refl
+returns-clause-malformed g c clean mode store = malformed_seen g.L.Layout.format (state g.S.Store c.args.tx.now.conn.now).now (state g.S.Store c.args.tx.now.conn.now).now refl
 
 pub returns-clause-beside : goal.returns-clause-beside
 returns-clause-beside g c clean mode store = beside_seen (Int c.args.db.0 ∷ []) (state g.S.Store c.args.tx.now.conn.now).now (state g.S.Store c.args.tx.now.conn.now).now refl

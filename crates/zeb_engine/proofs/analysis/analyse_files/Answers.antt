@@ -5,15 +5,13 @@ use Rattle.zeb_engine.proofs.analysis.analyse_files.Goals as goal
 
 pub returns-in_err-records-clause-told : goal.returns-in_err-records-clause-told
 returns-in_err-records-clause-told c =
-    let fault = c.in_err-records.field-0.0 in
-    let told : c.from_residual.result ≡ Err (analysis_refusal fault) = search rules in
-    rw told (fault_told c.args.profile.now c.args.limits.records (map (λ file. file.items) c.args.files.now) fault c.in_err-records.ensures.err)
+    let told : c.from_residual.result ≡ Err (analysis_refusal c.in_err-records.field-0.0) = search rules in
+    rw told (fault_told c.args.profile.now c.args.limits.records (map (λ file. file.items) c.args.files.now) c.in_err-records.field-0.0 c.in_err-records.ensures.err)
 
 pub returns-in_err-records-clause-unread : goal.returns-in_err-records-clause-unread
 returns-in_err-records-clause-unread c =
-    let fault = c.in_err-records.field-0.0 in
-    let told : c.from_residual.result ≡ Err (analysis_refusal fault) = search rules in
-    rw told (fault_unread c.args.profile.now c.args.limits.records (map (λ file. file.items) c.args.files.now) fault c.in_err-records.ensures.err)
+    let told : c.from_residual.result ≡ Err (analysis_refusal c.in_err-records.field-0.0) = search rules in
+    rw told (fault_unread c.args.profile.now c.args.limits.records (map (λ file. file.items) c.args.files.now) c.in_err-records.field-0.0 c.in_err-records.ensures.err)
 
 pub returns-clause-told : goal.returns-clause-told
 returns-clause-told c =

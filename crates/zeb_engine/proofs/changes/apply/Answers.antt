@@ -1,7 +1,6 @@
-use Rattle.zeb_engine.proofs.Cited.{rules, arith, ◌≡◌, ◌∙◌, ℕ, List, map, IsTrue, Result, Ok, Err, inl, inr, refl, sym, ap, subst, subst₂, state, HasCleanDisk, Split, RegFault, IsStore, Refusal, register_refusal, fault_fails, goes_on, continues_then, kept_then, quiet_then, NoneFailed, FoldsFiles, OfReaders, name_bytes, HasNumbersTo, last_of, AppliesChange, Asked, FoldsInto, IsMisnumbered, PutsRow, asked, Work, Database}
+use Rattle.zeb_engine.proofs.Cited.{rules, arith, ◌≡◌, ◌∙◌, ℕ, List, map, IsTrue, Result, Ok, Err, inl, inr, refl, sym, ap, subst, subst₂, state, HasCleanDisk, Split, RegFault, IsStore, Refusal, register_refusal, fault_fails, goes_on, continues_then, kept_then, quiet_then, NoneFailed, FoldsFiles, OfReaders, name_bytes, HasNumbersTo, last_of, AppliesChange, Asked, FoldsInto, IsMisnumbered, PutsRow, asked, Work, Database, no_register_reads}
 use Rattle.zeb_register.specs.declared.RegFault.TheVariants as register
 use Rattle.zeb_change.proofs.ChangeLaws.{passes}
-use Rattle.zeb_change.proofs.ReadFaults.{no_register_reads}
 use Rattle.zeb_engine.proofs.ChangeNumbers.{row_put}
 use Rattle.zeb_engine.proofs.Readers.{passed_on, read_through, untouched}
 use Rattle.zeb_engine.proofs.changes.apply.Given as given
@@ -86,7 +85,6 @@ not_begun Fine a last work worked old new register.Memory wrong = inl (inr refl)
 
 pub returns-in_err-database-clause-applies : goal.returns-in_err-database-clause-applies
 returns-in_err-database-clause-applies g c clean inside store =
-    let change = c.args.change.now in
     let old = (state g.S.Store c.args.tx.now.conn.now).now in
     let fault = c.in_err-database.field-0.0 in
     let told : c.from_residual.result ≡ Err (register_refusal fault) = search rules in
@@ -121,9 +119,8 @@ returns-in_err-fold_files-clause-applies g c clean inside store =
     let refusal = c.in_err-fold_files.field-0.0 in
     let told : c.from_residual-in_err-fold_files.result ≡ Err refusal = search rules in
     let first : HasCleanDisk (state g.S.Store c.begin_change.new.tx.conn.now) = omega (arith, c.fold_files.ensures.inside.crash.clean) in
-    let on = c.in_ok-database.ensures.call.ok first inside in
     rw told (inr (inr (folded g (goal.at.returns-in_err-fold_files-clause-applies g c).After-fold_files first inside store (Err refusal)
-    (c.in_err-fold_files.ensures.changes clean on.mode (c.in_ok-database.ensures.put first inside store).layout))))
+    (c.in_err-fold_files.ensures.changes clean (c.in_ok-database.ensures.call.ok first inside).mode (c.in_ok-database.ensures.put first inside store).layout))))
 
 pub returns-in_err-database_put-clause-applies : goal.returns-in_err-database_put-clause-applies
 returns-in_err-database_put-clause-applies g c clean inside store =
@@ -152,8 +149,7 @@ returns-clause-applies g c clean inside store =
     let on = c.in_ok-database.ensures.call.ok first inside in
     let layout = (c.in_ok-database.ensures.put first inside store).layout in
     let of = c.in_ok-fold_files.ensures.changes second on.mode layout in
-    let kept = passes _ _ _ _ of.0 mid now _ _ layout of.2 in
-    let put = c.in_ok-database_put.ensures.put clean (c.in_ok-fold_files.ensures.inside.stays second on.mode).mode kept.store in
+    let put = c.in_ok-database_put.ensures.put clean (c.in_ok-fold_files.ensures.inside.stays second on.mode).mode (passes _ _ _ _ of.0 mid now _ _ layout of.2).store in
     record {
       folded = folded g (goal.at.returns-clause-applies g c).After-fold_files first inside store (Ok tt) of;
       id = again;

@@ -31,9 +31,8 @@ returns-clause-put g c clean inside store =
     let mid = state g.S.Store c.database_put.new.tx.conn.now in
     let new = state g.S.Store c.check_numbers.new.tx.conn.now in
     let first : HasCleanDisk mid = omega (arith, clean, c.check_numbers.ensures.call.crash.clean) in
-    let on = c.in_ok-database.ensures.call.ok first inside in
     changed_still databases_tree (PutsDatabase c.in_ok-database.database.0 c.args.name.now (pos c.args.last)) old mid new (c.in_ok-database.ensures.put first inside store)
-    (c.in_ok-check_numbers.ensures.call.ok clean on.mode) inside
+    (c.in_ok-check_numbers.ensures.call.ok clean (c.in_ok-database.ensures.call.ok first inside).mode) inside
 
 -- the rows of records are as they were
 pub returns-clause-numbers : goal.returns-clause-numbers

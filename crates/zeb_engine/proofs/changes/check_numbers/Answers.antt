@@ -67,24 +67,21 @@ returns-in_err-first-clause-honest g c clean inside store damaged = λ well.
 
 pub returns-in_err-above-clause-honest : goal.returns-in_err-above-clause-honest
 returns-in_err-above-clause-honest g c clean inside store damaged = λ well.
-    let old = state g.S.Store c.args.tx.now.conn.now in
-    let mid = state g.S.Store c.record_from_inside.new.tx.conn.now in
     let fault : c.record_from_inside-2.result ≡ Err Damaged = search rules in
     let one = c.in_ok-first.ensures.call.ok (omega (arith, clean, c.record_from_inside-2.ensures.call.crash.clean)) inside in
     let able = subst (λ (d : Database). AreReadable d.trees c.args.database.0) (sym one.now_is) well.readable in
-    c.record_from_inside-2.ensures.honest clean one.mode (store_same old mid one.now_is store) fault able
+    c.record_from_inside-2.ensures.honest clean one.mode (store_same (state g.S.Store c.args.tx.now.conn.now) (state g.S.Store c.record_from_inside.new.tx.conn.now) one.now_is store) fault able
 
 pub returns-clause-honest : goal.returns-clause-honest
 returns-clause-honest g c clean inside store damaged = λ well.
     let old = state g.S.Store c.args.tx.now.conn.now in
     let mid = state g.S.Store c.record_from_inside.new.tx.conn.now in
-    let id = c.args.database.0 in
     let next = c.in_ok-next.next in
     let is = c.in_ok-next.ensures.above in
     let first_clean : HasCleanDisk mid = omega (arith, clean, c.record_from_inside-2.ensures.call.crash.clean) in
     let one = c.in_ok-first.ensures.call.ok first_clean inside in
     let least = c.in_ok-first.ensures.value first_clean inside store (omega arith) in
-    let more = subst (λ (d : Database). IsFirstFrom d.trees id next c.in_ok-above.above) one.now_is
+    let more = subst (λ (d : Database). IsFirstFrom d.trees c.args.database.0 next c.in_ok-above.above) one.now_is
     (c.in_ok-above.ensures.value clean one.mode (store_same old mid one.now_is store) is.1) in
     damage_wrong c.check_found.result (¬ AreGiven c.in_ok-first.first c.in_ok-above.above) c.check_found.ensures.damaged damaged
-    (numbers_given old.now.trees id c.args.last next is.0 c.in_ok-first.first c.in_ok-above.above least more well.numbers)
+    (numbers_given old.now.trees c.args.database.0 c.args.last next is.0 c.in_ok-first.first c.in_ok-above.above least more well.numbers)

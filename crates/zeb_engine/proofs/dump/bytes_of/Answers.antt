@@ -1,8 +1,4 @@
-use Rattle.zeb_engine.proofs.Cited.{rules, ◌≡◌, ◌∙◌, ◌+◌, ◌<◌, ◌≤◌, ◌^◌, ◌++◌, ℕ, Result, Ok, Err, Vec, Option, Global, arith, ap, refl, subst, sym, state, HasCleanDisk, Trees, clean_before, RegFault, Record, AreReadable, IsFirstFrom, JoinsRecords}
-use Rattle.zeb_register.specs.Calls.{Reading}
-use Rattle.zeb_search.specs.Untouched.{IsUntouched}
-use Rattle.zeb_search.proofs.ReadLemmas.{accepted, one_read, read_still, read_then, still_store, still_trees}
-use Rattle.zeb_search.proofs.ToldLemmas.{tells_later, tells_refused, told_refused}
+use Rattle.zeb_engine.proofs.Cited.{rules, ◌≡◌, ◌∙◌, ◌+◌, ◌<◌, ◌≤◌, ◌^◌, ◌++◌, ℕ, Result, Ok, Err, Vec, Option, Global, arith, ap, refl, subst, sym, state, HasCleanDisk, Trees, clean_before, RegFault, Record, AreReadable, IsFirstFrom, JoinsRecords, Reading, IsUntouched, accepted, one_read, read_still, read_then, still_store, still_trees, tells_later, tells_refused, told_refused}
 use Rattle.zeb_engine.proofs.ReadingOn.{ReadTo, none_left, read_next, read_none, read_stored, read_whole}
 use Rattle.zeb_engine.proofs.dump.bytes_of.Goals as goal
 use Rattle.zeb_engine.proofs.dump.bytes_of.Goals.{else-loop-turn-test, then-loop-turn-test+in_ok-record+in_default}
@@ -79,10 +75,9 @@ returns-in_err-record-clause-told g c =
     let old = state g.S.Store c.args.connection.now in
     let now = state g.S.Store c.loop-turn.connection in
     let new = state g.S.Store c.record_from.new.conn in
-    let db = c.args.database.0 in
     let cause = c.in_err-record.field-0.0 in
     let told : c.from_residual.result ≡ Err cause = search rules in
-    let Hides = λ (trees : Trees). ¬ AreReadable trees db in
-    let Joins = λ (trees : Trees) (bytes : Vec ℕ Global). JoinsRecords trees db bytes.items in
+    let Hides = λ (trees : Trees). ¬ AreReadable trees c.args.database.0 in
+    let Joins = λ (trees : Trees) (bytes : Vec ℕ Global). JoinsRecords trees c.args.database.0 bytes.items in
     let tells = told_refused {A = Option Record} Hides Joins now new cause (Err cause) refl c.in_err-record.ensures.honest c.in_err-record.ensures.refused in
     tells_refused Hides Hides Joins Joins old new cause c.from_residual.result told (λ _ _ hidden. hidden) (tells_later Hides Joins old now new c.loop-turn.invariant.read c.record_from.ensures.call.crash (Err cause) tells)

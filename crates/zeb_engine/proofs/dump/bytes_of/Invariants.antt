@@ -1,5 +1,4 @@
-use Rattle.zeb_engine.proofs.Cited.{◌≤◌, state}
-use Rattle.zeb_register.specs.Clauses.{OnStore}
+use Rattle.zeb_engine.proofs.Cited.{◌≤◌, state, OnStore}
 use Rattle.zeb_search.proofs.ReadLemmas.{IsRead}
 use Rattle.zeb_engine.proofs.ReadingOn.{ReadTo}
 use Rattle.zeb_engine.proofs.dump.bytes_of.Given as goal

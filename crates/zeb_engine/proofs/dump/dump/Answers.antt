@@ -1,8 +1,5 @@
-use Rattle.zeb_engine.proofs.Cited.{rules, ◌≡◌, ℕ, pos, Vec, Global, Err, Ok, arith, inl, inr, refl, state, HasCleanDisk, Trees, AreReadable, JoinsRecords, DumpOver, DumpTells, Dumped, HidesRecords, register_refusal, name_bytes}
-use Rattle.zeb_register.proofs.Answered.{or_reasoned}
+use Rattle.zeb_engine.proofs.Cited.{rules, ◌≡◌, ℕ, pos, Vec, Global, Err, Ok, arith, inl, inr, refl, state, HasCleanDisk, Trees, AreReadable, JoinsRecords, DumpOver, DumpTells, Dumped, HidesRecords, register_refusal, name_bytes, or_reasoned, IsUntouched, as_read, read_still}
 use Rattle.zeb_register.specs.declared.catalog.Database.{Database}
-use Rattle.zeb_search.specs.Untouched.{IsUntouched}
-use Rattle.zeb_search.proofs.ReadLemmas.{as_read, read_still}
 use Rattle.zeb_engine.proofs.HiddenRows.{hidden_of, misses_hidden}
 use Rattle.zeb_engine.proofs.ListedDatabases.{fault_or_damage}
 use Rattle.zeb_engine.proofs.ReadsInTurn.{fault_asked, reads_fail, reads_on, reads_passed, told_back}
@@ -29,11 +26,10 @@ returns-in_err-database-clause-tables g c clean store =
 pub returns-in_err-bytes-clause-reads : goal.returns-in_err-bytes-clause-reads
 returns-in_err-bytes-clause-reads g c =
     let mid = state g.S.Store c.existing_database.new.connection in
-    let new = state g.S.Store c.bytes_of.new.connection in
     let database = c.in_ok-database.database in
     let fault = c.in_err-bytes.field-0.0 in
     reads_fail g.S.Store c.args.connection.now c.existing_database.new.connection database c.in_ok-database.ensures.reads mid c.bytes_of.new.connection (read_still mid) (λ _. IsUntouched) fault c.in_err-bytes.ensures.call
-    (or_reasoned (Hides database) (Joins database) mid new (Err fault) c.in_err-bytes.ensures.told) c.from_residual-in_err-bytes.result (search rules)
+    (or_reasoned (Hides database) (Joins database) mid (state g.S.Store c.bytes_of.new.connection) (Err fault) c.in_err-bytes.ensures.told) c.from_residual-in_err-bytes.result (search rules)
 
 pub returns-in_err-bytes-clause-tables : goal.returns-in_err-bytes-clause-tables
 returns-in_err-bytes-clause-tables g c clean store =
@@ -55,9 +51,8 @@ returns-in_err-bytes-clause-few g c =
 
 pub returns-clause-reads : goal.returns-clause-reads
 returns-clause-reads g c =
-    let mid = state g.S.Store c.existing_database.new.connection in
     reads_on g.S.Store c.args.connection.now c.existing_database.new.connection c.in_ok-database.database c.in_ok-database.ensures.reads c.bytes_of.new.connection
-    (as_read mid (state g.S.Store c.bytes_of.new.connection) c.in_ok-bytes.bytes c.in_ok-bytes.ensures.call) (Dumped c.in_ok-bytes.bytes)
+    (as_read (state g.S.Store c.existing_database.new.connection) (state g.S.Store c.bytes_of.new.connection) c.in_ok-bytes.bytes c.in_ok-bytes.ensures.call) (Dumped c.in_ok-bytes.bytes)
 
 pub returns-clause-tables : goal.returns-clause-tables
 returns-clause-tables g c clean store =

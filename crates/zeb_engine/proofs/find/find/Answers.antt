@@ -1,9 +1,5 @@
-use Rattle.zeb_engine.proofs.Cited.{rules, ◌≡◌, ◌<◌, ◌^◌, ℕ, pos, List, Bor, Vec, Global, length, map, Err, Ok, subst, sym, inl, inr, string_bytes, state, Trees, Has, Directive, plan_value, query_value, PlanValue, Format, holds_in, has_ident_in, PlanFinds, PlanHides, quiet_then, Hit, Question, Found, OfDatabase, AreShown, FindOver, FindTells, HidesFind, HidesOne, HidesPlan, asked_of, name_bytes, query_refusal, register_refusal, Meets, hits_reasoned}
-use Rattle.zeb_register.proofs.Answered.{or_reasoned}
+use Rattle.zeb_engine.proofs.Cited.{rules, ◌≡◌, ◌<◌, ◌^◌, ℕ, pos, List, Bor, Vec, Global, length, map, Err, Ok, subst, sym, inl, inr, string_bytes, state, Trees, Has, Directive, plan_value, query_value, PlanValue, Format, holds_in, has_ident_in, PlanFinds, PlanHides, quiet_then, Hit, Question, Found, OfDatabase, AreShown, FindOver, FindTells, HidesFind, HidesOne, HidesPlan, asked_of, name_bytes, query_refusal, register_refusal, Meets, hits_reasoned, or_reasoned, IsUntouched, as_read, clean_before, read_still, read_then, tells_later}
 use Rattle.zeb_register.specs.declared.catalog.Database.{Database}
-use Rattle.zeb_search.specs.Untouched.{IsUntouched}
-use Rattle.zeb_search.proofs.ReadLemmas.{as_read, clean_before, read_still, read_then}
-use Rattle.zeb_search.proofs.ToldLemmas.{tells_later}
 use Rattle.zeb_engine.proofs.FindAnswers.{met_view}
 use Rattle.zeb_engine.proofs.HiddenRows.{hidden_read, misses_hidden}
 use Rattle.zeb_engine.proofs.ListedDatabases.{fault_or_damage}
@@ -108,9 +104,8 @@ pub returns-clause-work : goal.returns-clause-work
 returns-clause-work g c = (
   λ none. c.hits.ensures.no_work none,
   λ clean store content held.
-      let mid = state g.S.Store c.existing_database.new.connection in
       let clean2 = clean_before (state g.S.Store c.hits.new.connection) (state g.S.Store c.show.new.connection) c.show.ensures.call.crash clean in
-      let clean1 = clean_before mid (state g.S.Store c.hits.new.connection) c.hits.ensures.call.crash clean2 in
+      let clean1 = clean_before (state g.S.Store c.existing_database.new.connection) (state g.S.Store c.hits.new.connection) c.hits.ensures.call.crash clean2 in
       let at = shown_still g.S.Store c.args.connection.now c.existing_database.new.connection c.in_ok-database.database c.in_ok-database.ensures.reads clean1 store in
       let counted = c.in_ok-hits.ensures.work clean2 at.0 content (subst (λ (t : Trees). holds_in g.L.Layout.format t content) (sym at.1) held) in (
         plan_value c.in_ok-plan.plan,
@@ -150,18 +145,16 @@ returns-in_err-plan-clause-tables g c clean store =
 
 pub returns-in_err-hits-clause-tables : goal.returns-in_err-hits-clause-tables
 returns-in_err-hits-clause-tables g c clean store =
-    let old = state g.S.Store c.args.connection.now in
-    let mid = state g.S.Store c.existing_database.new.connection in
     let format = g.L.Layout.format in
     let new = state g.S.Store c.hits.new.connection in
-    let trees = old.now.trees in
+    let trees = (state g.S.Store c.args.connection.now).now.trees in
     let database = c.in_ok-database.database in
     let plan = plan_value c.in_ok-plan.plan in
     let question = c.args.question in
     let text = question.query.now in
     let profile = c.args.profile.now in
     let name = name_bytes c.args.name.now in
-    let first = clean_before mid new c.hits.ensures.call.crash clean in
+    let first = clean_before (state g.S.Store c.existing_database.new.connection) new c.hits.ensures.call.crash clean in
     let fault = c.in_err-hits.field-0.0 in
     let told : c.from_residual-in_err-hits.result ≡ Err (register_refusal fault) = search rules in
     let hidden = told_back g.S.Store c.args.connection.now c.existing_database.new.connection database c.in_ok-database.ensures.reads (HidesHits format plan database) (FindsHits format plan database) new c.hits.ensures.call.crash (Err fault) c.in_err-hits.ensures.units clean store in
@@ -172,16 +165,14 @@ returns-in_err-hits-clause-tables g c clean store =
 
 pub returns-in_err-asked-clause-tables : goal.returns-in_err-asked-clause-tables
 returns-in_err-asked-clause-tables g c clean store =
-    let old = state g.S.Store c.args.connection.now in
-    let mid = state g.S.Store c.existing_database.new.connection in
     let format = g.L.Layout.format in
     let new = state g.S.Store c.hits.new.connection in
-    let trees = old.now.trees in
+    let trees = (state g.S.Store c.args.connection.now).now.trees in
     let database = c.in_ok-database.database in
     let plan = plan_value c.in_ok-plan.plan in
     let question = c.args.question in
     let name = name_bytes c.args.name.now in
-    let first = clean_before mid new c.hits.ensures.call.crash clean in
+    let first = clean_before (state g.S.Store c.existing_database.new.connection) new c.hits.ensures.call.crash clean in
     let refusal = c.in_err-asked.field-0.0 in
     let told : c.from_residual-in_err-asked.result ≡ Err refusal = search rules in
     let finds = told_back g.S.Store c.args.connection.now c.existing_database.new.connection database c.in_ok-database.ensures.reads (HidesHits format plan database) (FindsHits format plan database) new c.hits.ensures.call.crash (Ok c.in_ok-hits.hits) c.in_ok-hits.ensures.units clean store in
@@ -193,19 +184,17 @@ returns-in_err-asked-clause-tables g c clean store =
 
 pub returns-in_err-shown-clause-tables : goal.returns-in_err-shown-clause-tables
 returns-in_err-shown-clause-tables g c clean store =
-    let old = state g.S.Store c.args.connection.now in
     let mid = state g.S.Store c.existing_database.new.connection in
     let format = g.L.Layout.format in
     let late = state g.S.Store c.hits.new.connection in
     let new = state g.S.Store c.show.new.connection in
-    let trees = old.now.trees in
+    let trees = (state g.S.Store c.args.connection.now).now.trees in
     let database = c.in_ok-database.database in
     let plan = plan_value c.in_ok-plan.plan in
     let question = c.args.question in
     let text = question.query.now in
     let profile = c.args.profile.now in
     let name = name_bytes c.args.name.now in
-    let numbers = c.in_ok-hits.hits.items in
     let asked = c.in_ok-asked.asked in
     let crash = quiet_then mid late new c.hits.ensures.call.crash c.show.ensures.call.crash in
     let fault = c.in_err-shown.field-0.0 in
@@ -215,20 +204,19 @@ returns-in_err-shown-clause-tables g c clean store =
     let hidden = told_back g.S.Store c.args.connection.now c.existing_database.new.connection database c.in_ok-database.ensures.reads (HidesShown asked.now database) (Shows asked.now database) new crash (Err fault) later clean store in
     let Asked = λ (wanted : List ℕ) (asked : Bor (List ℕ)). asked.now ≡ wanted in
     let met = subst (λ (l : List ℕ). Meets Asked (asked_of l question.first question.count) (Ok asked)) c.deref.ensures.value c.in_ok-asked.ensures.asked in
-    let said = met_view (λ (x : Bor (List ℕ)). x.now) (asked_of numbers question.first question.count) asked met in
+    let said = met_view (λ (x : Bor (List ℕ)). x.now) (asked_of c.in_ok-hits.hits.items question.first question.count) asked met in
     rw told (hidden_read text c.in_ok-query.ensures.readable (FindOver format profile name text question.first question.count) (HidesPlan format profile text question.first question.count) name trees
     database.id.0 (pos database.last) (c.in_ok-database.ensures.finds (clean_before mid new crash clean) store) (register_refusal fault)
     (fault_or_damage (HidesPlan format profile text question.first question.count trees database.id.0) fault
-    (λ is. (plan, (query_value c.in_ok-query.query, c.in_ok-query.ensures.spelled, c.in_ok-plan.ensures.planned), inr (numbers, asked.now, finds, said, hidden is)))))
+    (λ is. (plan, (query_value c.in_ok-query.query, c.in_ok-query.ensures.spelled, c.in_ok-plan.ensures.planned), inr (c.in_ok-hits.hits.items, asked.now, finds, said, hidden is)))))
 
 pub returns-clause-tables : goal.returns-clause-tables
 returns-clause-tables g c clean store =
-    let old = state g.S.Store c.args.connection.now in
     let mid = state g.S.Store c.existing_database.new.connection in
     let format = g.L.Layout.format in
     let late = state g.S.Store c.hits.new.connection in
     let new = state g.S.Store c.show.new.connection in
-    let trees = old.now.trees in
+    let trees = (state g.S.Store c.args.connection.now).now.trees in
     let database = c.in_ok-database.database in
     let plan = plan_value c.in_ok-plan.plan in
     let question = c.args.question in

@@ -1,6 +1,4 @@
-use Rattle.zeb_engine.proofs.Cited.{rules, ◌≡◌, ◌<◌, ◌^◌, ◌∙◌, ◌++◌, ◌∷◌, [], ℕ, List, Vec, map, string_bytes, Option, Err, String, arith, ap, get_or, refl, subst, sym, take, pos, ◌+◌, Global, state, Trees, Has, clean_before, IsIdentOf, AreReadableIdents, map-append, has_ident_in, Hit, HidesOne, AreShown, take_whole}
-use Rattle.zeb_search.proofs.ReadLemmas.{accepted, one_read, read_then, still_store, still_trees}
-use Rattle.zeb_search.proofs.ToldLemmas.{tells_later, tells_refused, told_refused}
+use Rattle.zeb_engine.proofs.Cited.{rules, ◌≡◌, ◌<◌, ◌^◌, ◌∙◌, ◌++◌, ◌∷◌, [], ℕ, List, Vec, map, string_bytes, Option, Err, String, arith, ap, get_or, refl, subst, sym, take, pos, ◌+◌, Global, state, Trees, Has, clean_before, IsIdentOf, AreReadableIdents, map-append, has_ident_in, Hit, HidesOne, AreShown, take_whole, accepted, one_read, read_then, still_store, still_trees, tells_later, tells_refused, told_refused}
 use Rattle.zeb_engine.proofs.Showing.{hidden_shown, ident_stored, none_shown, shown_more}
 use Rattle.zeb_engine.proofs.find.show.Goals as goal
 
@@ -47,16 +45,14 @@ pub returns-in_default-clause-told : goal.returns-in_default-clause-told
 returns-in_default-clause-told g c clean store =
     let old = state g.S.Store c.args.connection.now in
     let now = state g.S.Store c.loop-number.connection in
-    let new = state g.S.Store c.ident_of.new.conn in
     let db = c.args.database.0 in
-    let numbers = c.args.numbers.now in
     let index = c.loop-number.number-index in
-    let number = get_or numbers index 0 in
+    let number = get_or c.args.numbers.now index 0 in
     let read = c.loop-number.invariant.read in
-    let first = clean_before now new c.ident_of.ensures.call.crash clean in
+    let first = clean_before now (state g.S.Store c.ident_of.new.conn) c.ident_of.ensures.call.crash clean in
     let value : number < 2 ^ 63 → IsIdentOf old.now.trees db (pos number) c.in_ok-ident.field-0 =
     λ less. subst (λ t. IsIdentOf t db (pos number) c.in_ok-ident.field-0) (still_trees old now read first) (c.in_ok-ident.ensures.value clean (still_store old now read first store) less) in
-    (λ is small. none_shown old.now.trees db numbers index number c.in_ok-ident.field-0 c.loop-number-test.true refl small value c.in_default.is, λ is. absurd cc)
+    (λ is small. none_shown old.now.trees db c.args.numbers.now index number c.in_ok-ident.field-0 c.loop-number-test.true refl small value c.in_default.is, λ is. absurd cc)
 
 pub returns-in_err-ident-clause-told : goal.returns-in_err-ident-clause-told
 returns-in_err-ident-clause-told g c =

@@ -1,5 +1,4 @@
-use Rattle.zeb_engine.proofs.Cited.{◌≡◌, ◌≤◌, length, map, string_bytes, take, vec_capacity, state, has_ident_in, AreShown}
-use Rattle.zeb_register.specs.Clauses.{OnStore}
+use Rattle.zeb_engine.proofs.Cited.{◌≡◌, ◌≤◌, length, map, string_bytes, take, vec_capacity, state, has_ident_in, AreShown, OnStore}
 use Rattle.zeb_search.proofs.ReadLemmas.{IsRead}
 use Rattle.zeb_engine.proofs.find.show.Given as goal
 

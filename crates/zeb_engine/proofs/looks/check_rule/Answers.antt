@@ -18,7 +18,6 @@ returns-then-ne-clause-look g c clean =
 pub returns-in_err-keeps_text-clause-look : goal.returns-in_err-keeps_text-clause-look
 returns-in_err-keeps_text-clause-look g c clean =
     let own = version_of g.L.Layout.format in
-    let profile = c.args.profile.now in
     let found = c.in_ok-version.version in
     let tested : c.ne.result ≡ not (bytes_eq c.as_str.result.now c.version.result.now) = search rules in
     let same = texts_agree c.ne.result c.as_str.result.now c.version.result.now (string_bytes found) own tested c.if-ne.false (search rules) c.version.ensures in
@@ -26,8 +25,8 @@ returns-in_err-keeps_text-clause-look g c clean =
     let why = c.in_err-keeps_text.field-0.0 in
     let told : c.from_residual-in_err-keeps_text.result ≡ Err why = search rules in
     rw told (text_ends (state g.S.Store c.args.connection.now) (state g.S.Store c.kept_version.new.connection) (state g.S.Store c.keeps_text.new.connection) found c.kept_version.ensures.crash (omega (arith, c.keeps_text.ensures.crash.clean)) c.in_ok-version.ensures.look
-    (codes "identifier") c.as_str-2.result.now (λ trees x. IsReadyToReindex own profile trees) (RefusesReindex own profile)
-    why (λ kept is. pattern_as_rule own profile trees (subst (KeepsText trees (codes "version")) same kept) why is) (c.in_err-keeps_text.ensures.look clean))
+    (codes "identifier") c.as_str-2.result.now (λ trees x. IsReadyToReindex own c.args.profile.now trees) (RefusesReindex own c.args.profile.now)
+    why (λ kept is. pattern_as_rule own c.args.profile.now trees (subst (KeepsText trees (codes "version")) same kept) why is) (c.in_err-keeps_text.ensures.look clean))
 
 pub returns-clause-look : goal.returns-clause-look
 returns-clause-look g c clean =

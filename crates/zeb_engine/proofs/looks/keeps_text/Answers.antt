@@ -18,7 +18,6 @@ pub returns-in-None-clause-look : goal.returns-in-None-clause-look
 returns-in-None-clause-look g c clean =
     let old = state g.S.Store c.args.connection.now in
     let name = c.args.name.now in
-    let text = c.args.text.now in
     let was = c.in_ok-found.ensures.call.ok clean in
-    look_told (TellsText name text) (RefusesText name) name old (state g.S.Store c.meta_of.new.conn) (c.meta_of.ensures.call.same clean c.requires.idle) (Ok false) (λ store. tt)
-    (was.0.was_open, was.0.is_open) (λ store. tells_missing old.now.trees name text c.in_ok-found.field-0 c.in-None.is (c.in_ok-found.ensures.value clean store))
+    look_told (TellsText name c.args.text.now) (RefusesText name) name old (state g.S.Store c.meta_of.new.conn) (c.meta_of.ensures.call.same clean c.requires.idle) (Ok false) (λ store. tt)
+    (was.0.was_open, was.0.is_open) (λ store. tells_missing old.now.trees name c.args.text.now c.in_ok-found.field-0 c.in-None.is (c.in_ok-found.ensures.value clean store))

@@ -1,7 +1,6 @@
-use Rattle.zeb_engine.proofs.Cited.{rules, ◌≡◌, Option, Some, None, Err, string_bytes, refl, ap, subst, inl, inr, IsUnchanged, state, AreCountedDatabases, IsDatabaseOf, diagnostic, name_bytes, register_refusal}
+use Rattle.zeb_engine.proofs.Cited.{rules, ◌≡◌, Option, Some, None, Err, string_bytes, refl, ap, subst, inl, inr, IsUnchanged, state, AreCountedDatabases, IsDatabaseOf, diagnostic, name_bytes, register_refusal, read_still}
 use Rattle.zeb_change.specs.declared.refusals.Refusal.TheVariants as refusal
 use Rattle.zeb_register.specs.declared.catalog.Database.{Database}
-use Rattle.zeb_search.proofs.ReadLemmas.{read_still}
 use Rattle.zeb_engine.proofs.ListedDatabases.{fault_misses}
 use Rattle.zeb_engine.proofs.ReadsInTurn.{fault_asked, look_done, look_fails, reads_end}
 use Rattle.zeb_engine.proofs.readiness.existing_database.Goals as goal

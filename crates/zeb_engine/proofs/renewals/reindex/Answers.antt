@@ -1,6 +1,5 @@
-use Rattle.zeb_engine.proofs.Cited.{◌≡◌, List, Ok, Err, IsUtf8, refl, rules, ap, arith, inl, inr, sym, subst, option_map, Database, Trees, state, HasCleanDisk, canonical_text, pattern_text, version_of, IsStore, store_same, conditions, AreSessions, Base, Holdings, Reply, TellsSound, WriteDoes}
+use Rattle.zeb_engine.proofs.Cited.{◌≡◌, List, Ok, Err, IsUtf8, refl, rules, ap, arith, inl, inr, sym, subst, option_map, Database, Trees, state, HasCleanDisk, canonical_text, pattern_text, version_of, IsStore, store_same, conditions, AreSessions, Base, Holdings, Reply, TellsSound, WriteDoes, reindexed, ruled}
 use Rattle.zeb_engine.specs.declared.writes.Write.TheVariants as write
-use Rattle.zeb_engine.specs.Steps.{reindexed, ruled}
 use Rattle.zeb_engine.proofs.ChangeNumbers.{showing}
 use Rattle.zeb_engine.proofs.CommandedConnections.{commanded_then, reads_command}
 use Rattle.zeb_engine.proofs.CommandsDone.{nothing_commits, unread_as}

@@ -1,7 +1,6 @@
-use Rattle.zeb_engine.proofs.Cited.{◌≡◌, ◌∙◌, true, false, Result, Ok, Err, IsTrue, IsUtf8, inl, inr, refl, rules, sym, ap, subst, arith, state, clean_before, IsSettled, IsStore, List, Trees, AreSessions, Base, Holdings, Keeps, WriteDoes, Always, HasCleanDisk, plain_rows, version_of, nothing_then, quiet_then, store_same, conditions, StaysOpen, UpgradeLeaves, Standing, FindsStanding, IsLook, RefusesUpgrade, Refusal, Reply, Done, register_refusal}
+use Rattle.zeb_engine.proofs.Cited.{◌≡◌, ◌∙◌, true, false, Result, Ok, Err, IsTrue, IsUtf8, inl, inr, refl, rules, sym, ap, subst, arith, state, clean_before, IsSettled, IsStore, List, Trees, AreSessions, Base, Holdings, Keeps, WriteDoes, Always, HasCleanDisk, plain_rows, version_of, nothing_then, quiet_then, store_same, conditions, StaysOpen, UpgradeLeaves, Standing, FindsStanding, IsLook, RefusesUpgrade, Refusal, Reply, Done, register_refusal, upgradable, upgraded}
 use Rattle.zeb_change.specs.declared.refusals.Refusal.TheVariants as refusal
 use Rattle.zeb_engine.specs.declared.writes.Write.TheVariants as write
-use Rattle.zeb_engine.specs.Steps.{upgradable, upgraded}
 use Rattle.zeb_engine.proofs.ChangeNumbers.{showing}
 use Rattle.zeb_engine.proofs.CheckAnswers.{tells_none, told_image}
 use Rattle.zeb_engine.proofs.CommandedConnections.{commanded_then, reads_command}

@@ -1,8 +1,5 @@
-use Rattle.zeb_engine.proofs.Cited.{rules, ◌≡◌, ℕ, pos, List, Vec, Global, Ok, Err, sym, subst, inl, inr, state, Trees, Directive, TermCount, ScanValue, scan_value, query_value, Format, holds_in, Scanned, query_refusal, register_refusal, name_bytes, Around, OfDatabase, HidesAround, HidesPlanned, HidesTerms, ScanOver, ScanTells, TellsAround}
-use Rattle.zeb_register.proofs.Answered.{or_reasoned}
+use Rattle.zeb_engine.proofs.Cited.{rules, ◌≡◌, ℕ, pos, List, Vec, Global, Ok, Err, sym, subst, inl, inr, state, Trees, Directive, TermCount, ScanValue, scan_value, query_value, Format, holds_in, Scanned, query_refusal, register_refusal, name_bytes, Around, OfDatabase, HidesAround, HidesPlanned, HidesTerms, ScanOver, ScanTells, TellsAround, or_reasoned, IsUntouched, as_read, clean_before, read_still}
 use Rattle.zeb_register.specs.declared.catalog.Database.{Database}
-use Rattle.zeb_search.specs.Untouched.{IsUntouched}
-use Rattle.zeb_search.proofs.ReadLemmas.{as_read, clean_before, read_still}
 use Rattle.zeb_engine.proofs.HiddenRows.{hidden_read, misses_hidden}
 use Rattle.zeb_engine.proofs.ListedDatabases.{fault_or_damage}
 use Rattle.zeb_engine.proofs.OverTables.{asked_over, or_fails, plan_scanned, query_over, terms_scanned}
@@ -89,12 +86,11 @@ returns-clause-work g c = (
 
 pub returns-in_err-query-clause-tables : goal.returns-in_err-query-clause-tables
 returns-in_err-query-clause-tables g c clean store =
-    let fault = c.in_err-query.field-0.0 in
-    let told : c.from_residual.result ≡ Err (query_refusal fault) = search rules in
+    let told : c.from_residual.result ≡ Err (query_refusal c.in_err-query.field-0.0) = search rules in
     let trees = (state g.S.Store c.args.connection.now).now.trees in
     let name = name_bytes c.args.name.now in
     let Hides = hides g.L.Layout.format c.args.profile.now name c.args.around in
-    rw told (query_over (tells g.L.Layout.format c.args.profile.now c.args.around trees) name Hides trees c.args.around.query.now fault c.in_err-query.ensures.faulty)
+    rw told (query_over (tells g.L.Layout.format c.args.profile.now c.args.around trees) name Hides trees c.args.around.query.now c.in_err-query.field-0.0 c.in_err-query.ensures.faulty)
 
 pub returns-in_err-database-clause-tables : goal.returns-in_err-database-clause-tables
 returns-in_err-database-clause-tables g c clean store =
@@ -120,18 +116,16 @@ returns-in_err-plan-clause-tables g c clean store =
 
 pub returns-in_err-entries-clause-tables : goal.returns-in_err-entries-clause-tables
 returns-in_err-entries-clause-tables g c clean store =
-    let old = state g.S.Store c.args.connection.now in
-    let mid = state g.S.Store c.existing_database.new.connection in
     let format = g.L.Layout.format in
     let profile = c.args.profile.now in
     let new = state g.S.Store c.terms_around.new.connection in
-    let trees = old.now.trees in
+    let trees = (state g.S.Store c.args.connection.now).now.trees in
     let name = name_bytes c.args.name.now in
     let around = c.args.around in
     let text = around.query.now in
     let database = c.in_ok-database.database in
     let plan = scan_value c.in_ok-plan.plan in
-    let first = clean_before mid new c.terms_around.ensures.call.crash clean in
+    let first = clean_before (state g.S.Store c.existing_database.new.connection) new c.terms_around.ensures.call.crash clean in
     let fault = c.in_err-entries.field-0.0 in
     let told : c.from_residual-in_err-entries.result ≡ Err (register_refusal fault) = search rules in
     let hidden = told_back g.S.Store c.args.connection.now c.existing_database.new.connection database c.in_ok-database.ensures.reads (HidesAsked format plan around database) (TellsAsked format plan around database) new c.terms_around.ensures.call.crash (Err fault) c.in_err-entries.ensures.told clean store in
@@ -140,23 +134,20 @@ returns-in_err-entries-clause-tables g c clean store =
 
 pub returns-clause-tables : goal.returns-clause-tables
 returns-clause-tables g c clean store =
-    let old = state g.S.Store c.args.connection.now in
-    let mid = state g.S.Store c.existing_database.new.connection in
     let format = g.L.Layout.format in
     let new = state g.S.Store c.terms_around.new.connection in
-    let trees = old.now.trees in
+    let trees = (state g.S.Store c.args.connection.now).now.trees in
     let around = c.args.around in
     let database = c.in_ok-database.database in
     let plan = scan_value c.in_ok-plan.plan in
     let entries = c.in_ok-entries.entries in
-    let first = clean_before mid new c.terms_around.ensures.call.crash clean in
     let told = told_back g.S.Store c.args.connection.now c.existing_database.new.connection database c.in_ok-database.ensures.reads (HidesAsked format plan around database) (TellsAsked format plan around database) new c.terms_around.ensures.call.crash (Ok entries) c.in_ok-entries.ensures.told clean store in
     inl (inl (
       c.in_ok-query.ensures.readable,
       inr (
         database.id.0,
         pos database.last,
-        c.in_ok-database.ensures.finds first store,
+        c.in_ok-database.ensures.finds (clean_before (state g.S.Store c.existing_database.new.connection) new c.terms_around.ensures.call.crash clean) store,
         terms_scanned c.args.profile.now around.query.now (query_value c.in_ok-query.query) c.in_ok-query.ensures.spelled (TellsAround format trees database.id.0) around.number around.position plan c.in_ok-plan.ensures.planned entries.items told,
       ),
     ))

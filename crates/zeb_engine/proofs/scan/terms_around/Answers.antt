@@ -1,8 +1,5 @@
-use Rattle.zeb_engine.proofs.Cited.{rules, ◌≡◌, ◌∙◌, ℕ, ℤ, List, Ok, Err, sym, subst, Vec, Global, state, Trees, TermCount, ScanValue, Format, scan_value, posted, holds_in, HidesAround, HidesBefore, HidesFrom, ListsBefore, ListsFrom, TellsAround}
-use Rattle.zeb_register.proofs.CountLists.{before_held, from_held}
-use Rattle.zeb_search.proofs.ReadLemmas.{accepted, clean_before, one_read, read_then, refused, still_store, still_trees}
-use Rattle.zeb_search.proofs.ToldLemmas.{tells_later, tells_refused}
-use Rattle.sqlite.specs.State.{IsUnchanged}
+use Rattle.zeb_engine.proofs.Cited.{rules, ◌≡◌, ◌∙◌, ℕ, ℤ, List, Ok, Err, sym, subst, Vec, Global, state, Trees, TermCount, ScanValue, Format, scan_value, posted, holds_in, HidesAround, HidesBefore, HidesFrom, ListsBefore, ListsFrom, TellsAround, before_held, from_held, accepted, clean_before, one_read, read_then, still_store, still_trees, tells_later, tells_refused, IsUnchanged}
+use Rattle.zeb_search.proofs.ReadLemmas.{refused}
 use Rattle.zeb_engine.proofs.AskedReads.{around_reads}
 use Rattle.zeb_engine.proofs.ScanAnswers.{around_told, before_hides, from_hides}
 use Rattle.zeb_engine.proofs.scan.terms_around.Goals as goal

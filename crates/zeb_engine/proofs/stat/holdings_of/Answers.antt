@@ -1,7 +1,5 @@
-use Rattle.zeb_engine.proofs.Cited.{rules, ◌≡◌, ◌∙◌, ◌++◌, ◌∷◌, [], ℤ, List, Vec, Global, Ok, Err, arith, get_or, subst, sym, take, state, Trees, Word, Directive, Format, HidesSums, SumsUp, take_whole, clean_before, Holding, extent_of, HidesRegister, IsSummedUp, Paired, Target, has_at, get_or_default, take_more}
+use Rattle.zeb_engine.proofs.Cited.{rules, ◌≡◌, ◌∙◌, ◌++◌, ◌∷◌, [], ℤ, List, Vec, Global, Ok, Err, arith, get_or, subst, sym, take, state, Trees, Word, Directive, Format, HidesSums, SumsUp, take_whole, clean_before, Holding, extent_of, HidesRegister, IsSummedUp, Paired, Target, has_at, get_or_default, take_more, one_read, read_then, tells_later, tells_refused}
 use Rattle.zeb_register.specs.declared.registers.Totals.{Totals}
-use Rattle.zeb_search.proofs.ReadLemmas.{one_read, read_then}
-use Rattle.zeb_search.proofs.ToldLemmas.{tells_later, tells_refused}
 use Rattle.zeb_engine.proofs.StatAnswers.{paired_more}
 use Rattle.zeb_engine.proofs.stat.holdings_of.Goals as goal
 

@@ -1,5 +1,4 @@
-use Rattle.zeb_engine.proofs.Cited.{◌≡◌, ◌≤◌, length, take, vec_capacity, state, extent_of, IsSummedUp, Paired}
-use Rattle.zeb_register.specs.Clauses.{OnStore}
+use Rattle.zeb_engine.proofs.Cited.{◌≡◌, ◌≤◌, length, take, vec_capacity, state, extent_of, IsSummedUp, Paired, OnStore}
 use Rattle.zeb_search.proofs.ReadLemmas.{IsRead}
 use Rattle.zeb_engine.proofs.stat.holdings_of.Given as goal
 

@@ -1,11 +1,6 @@
-use Rattle.zeb_engine.proofs.Cited.{rules, ◌≡◌, ◌∙◌, ◌⊎◌, pos, List, Vec, Global, map, Err, Ok, arith, ap, refl, subst, inl, inr, state, HasCleanDisk, Trees, Directive, Format, quiet_then, IsRecordCount, Counted, Holding, extent_of, refused, IsFailure, HidesRegister, HidesRegisters, IsSummedUp, StatOver, StatTells, Damaged, why_of, Paired, Target, target_list, name_bytes, register_refusal}
-use Rattle.zeb_register.proofs.Answered.{or_reasoned}
+use Rattle.zeb_engine.proofs.Cited.{rules, ◌≡◌, ◌∙◌, ◌⊎◌, pos, List, Vec, Global, map, Err, Ok, arith, ap, refl, subst, inl, inr, state, HasCleanDisk, Trees, Directive, Format, quiet_then, IsRecordCount, Counted, Holding, extent_of, refused, IsFailure, HidesRegister, HidesRegisters, IsSummedUp, StatOver, StatTells, Damaged, why_of, Paired, Target, target_list, name_bytes, register_refusal, or_reasoned, IsUnchanged, IsUntouched, as_read, clean_before, one_read, read_still, read_then, tells_later}
 use Rattle.zeb_register.specs.declared.catalog.Database.{Database}
 use Rattle.zeb_change.specs.declared.refusals.Refusal.TheVariants as refusal
-use Rattle.sqlite.specs.State.{IsUnchanged}
-use Rattle.zeb_search.specs.Untouched.{IsUntouched}
-use Rattle.zeb_search.proofs.ReadLemmas.{as_read, clean_before, one_read, read_still, read_then}
-use Rattle.zeb_search.proofs.ToldLemmas.{tells_later}
 use Rattle.zeb_engine.proofs.HiddenRows.{hidden_of, misses_hidden}
 use Rattle.zeb_engine.proofs.ListedDatabases.{fault_fails, fault_or_damage}
 use Rattle.zeb_engine.proofs.ReadsInTurn.{fault_asked, reads_end, reads_fail, reads_on, reads_passed, shown_still, told_back}
@@ -42,9 +37,8 @@ pub returns-in_err-kept-clause-tables : goal.returns-in_err-kept-clause-tables
 returns-in_err-kept-clause-tables g c clean store =
     let first : HasCleanDisk (state g.S.Store c.existing_database.new.connection) = omega (arith, c.record_count.ensures.call.crash.clean) in
     let at = shown_still g.S.Store c.args.connection.now c.existing_database.new.connection c.in_ok-database.database c.in_ok-database.ensures.reads first store in
-    let fault = c.in_err-kept.field-0.0 in
-    let told : c.from_residual-in_err-kept.result ≡ Err (register_refusal fault) = search rules in
-    rw told (inr (inr (fault_fails fault (λ is. c.in_err-kept.ensures.honest clean at.0 (ap Err is)))))
+    let told : c.from_residual-in_err-kept.result ≡ Err (register_refusal c.in_err-kept.field-0.0) = search rules in
+    rw told (inr (inr (fault_fails c.in_err-kept.field-0.0 (λ is. c.in_err-kept.ensures.honest clean at.0 (ap Err is)))))
 
 pub returns-in_err-kept-clause-few : goal.returns-in_err-kept-clause-few
 returns-in_err-kept-clause-few g c =
@@ -105,7 +99,6 @@ returns-clause-tables g c clean store =
     let format = g.L.Layout.format in
     let profile = c.args.profile.now in
     let database = c.in_ok-database.database in
-    let trees = (state g.S.Store c.args.connection.now).now.trees in
     let mid = state g.S.Store c.existing_database.new.connection in
     let late = state g.S.Store c.record_count.new.conn in
     let new = state g.S.Store c.holdings_of.new.connection in
@@ -117,9 +110,8 @@ returns-clause-tables g c clean store =
     let kept = subst (λ (t : Trees). IsRecordCount t database.id.0 c.in_ok-kept.kept) at.1 (c.in_ok-kept.ensures.value (clean_before late new c.holdings_of.ensures.call.crash clean) at.0) in
     let later = tells_later (Hides format seen database) (Sums format profile seen database) mid late new (one_read mid late c.in_ok-kept.kept c.in_ok-kept.ensures.call) c.holdings_of.ensures.call.crash (Ok holdings) c.in_ok-holdings.ensures.told in
     let sums = told_back g.S.Store c.args.connection.now c.existing_database.new.connection database c.in_ok-database.ensures.reads (Hides format seen database) (Sums format profile seen database) new crash (Ok holdings) later clean store in
-    let targets = c.deref.ensures.value ∙ c.in_ok-targets.ensures in
-    let Sound = IsSummedUp format profile trees database.id.0 in
-    let paired = subst (λ (l : List Target). Paired (λ target holding. Sound target (extent_of holding)) l holdings.items) targets sums in
+    let Sound = IsSummedUp format profile ((state g.S.Store c.args.connection.now).now.trees) database.id.0 in
+    let paired = subst (λ (l : List Target). Paired (λ target holding. Sound target (extent_of holding)) l holdings.items) (c.deref.ensures.value ∙ c.in_ok-targets.ensures) sums in
     inl (inr (
       database.id.0,
       pos database.last,

@@ -1,5 +1,4 @@
-use Rattle.zeb_engine.proofs.Cited.{◌≢◌, Result, Ok, Err, OnOk, IfErr, ap, state, RegFault, register_refusal, IsFailing, why_of, fault_fails, IsAskRefusal, LeavesNoDatabase}
-use Rattle.zeb_register.specs.Answers.{Answers, IfDamaged}
+use Rattle.zeb_engine.proofs.Cited.{◌≢◌, Result, Ok, Err, OnOk, IfErr, ap, state, RegFault, register_refusal, IsFailing, why_of, fault_fails, IsAskRefusal, LeavesNoDatabase, Answers, IfDamaged}
 use Rattle.zeb_register.specs.declared.RegFault.TheVariants as register
 use Rattle.zeb_engine.proofs.ReadsInTurn.{fault_asked}
 use Rattle.zeb_engine.proofs.writes.apply.Goals as goal

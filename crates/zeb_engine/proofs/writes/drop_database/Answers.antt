@@ -14,7 +14,6 @@ pub returns-clause-transacts : goal.returns-clause-transacts
 returns-clause-transacts g c =
     let format = g.L.Layout.format in
     let old = state g.S.Store c.args.connection.now in
-    let found = c.in_ok-database.database in
     let did = c.in_ok-database.ensures in
     behind (DropsNamed format (name_bytes c.args.name.now)) _ old (state g.S.Store c.existing_database.new.connection) (state g.S.Store c.transact.new.connection) c.transact.result did.reads.crash did.reads.same did.reads.opened
-    (λ clean store next told does. drop_so format c.args.name found old.now next (did.finds clean store) told does) c.transact.ensures.transacts
+    (λ clean store next told does. drop_so format c.args.name c.in_ok-database.database old.now next (did.finds clean store) told does) c.transact.ensures.transacts

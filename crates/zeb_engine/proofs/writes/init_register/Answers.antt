@@ -1,7 +1,6 @@
-use Rattle.zeb_engine.proofs.Cited.{◌≡◌, ◌∙◌, ℕ, List, Some, Result, Ok, Err, OnOk, IfErr, Bor, rules, refl, sym, subst, inl, inr, ap, string_bytes, option_map, Database, State, HasCleanDisk, Directive, pattern_text, identifier_pattern, state, IsStore, Refusal, Reply, IsFailing, why_of, NoReadFault, Conditions, conditions, Holdings, Outcome, Always, Serves, IsSettled, Commanded, Transacts, AreOf, WriteDoes, InitLeaves, Format, version_of}
+use Rattle.zeb_engine.proofs.Cited.{◌≡◌, ◌∙◌, ℕ, List, Some, Result, Ok, Err, OnOk, IfErr, Bor, rules, refl, sym, subst, inl, inr, ap, string_bytes, option_map, Database, State, HasCleanDisk, Directive, pattern_text, identifier_pattern, state, IsStore, Refusal, Reply, IsFailing, why_of, NoReadFault, Conditions, conditions, Holdings, Outcome, Always, Serves, IsSettled, Commanded, Transacts, AreOf, WriteDoes, InitLeaves, Format, version_of, initialised}
 use Rattle.zeb_engine.specs.declared.writes.Write.TheVariants as write
 use Rattle.zeb_change.specs.declared.refusals.Refusal.TheVariants as refusal
-use Rattle.zeb_engine.specs.Steps.{initialised}
 use Rattle.zeb_engine.proofs.CommandsDone.{unbegun_init}
 use Rattle.zeb_engine.proofs.ChangeNumbers.{shown_store, showing}
 use Rattle.zeb_engine.proofs.CommitCrashes.{ends_commit, survives_as, survives_both}

@@ -79,10 +79,7 @@ returns-clause-opened g c =
 
 store_few : (w : Write) → IsWriteRefusal w Store
 store_few (write.Init profile pattern) = inl refl
-store_few (write.Create name) = tt
-store_few (write.Drop name id) = tt
-store_few (write.Reindex alloc profile) = tt
-store_few (write.Upgrade alloc profile) = tt
+store_few _ = tt
 
 pub returns-in_err-apply-clause-few : goal.returns-in_err-apply-clause-few
 returns-in_err-apply-clause-few g c =

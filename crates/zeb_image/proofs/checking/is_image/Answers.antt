@@ -5,9 +5,8 @@ use Rattle.zeb_image.proofs.checking.is_image.Goals as goal
 pub returns-in-None-clause-value : goal.returns-in-None-clause-value
 returns-in-None-clause-value g c clean store =
     let s0 = state g.S.Store c.args.connection.now in
-    let profile = c.args.profile.now in
-    let none = subst (IsExpectationOrNone g.L.Layout.format profile s0.now.trees) c.in-None.is (c.in_ok-expected.ensures.value clean store) in
-    (λ no. absurd (cc), λ some. absurd (no_image g.L.Layout.format profile c.is_of_some_text.ensures s0 none some))
+    let none = subst (IsExpectationOrNone g.L.Layout.format c.args.profile.now s0.now.trees) c.in-None.is (c.in_ok-expected.ensures.value clean store) in
+    (λ no. absurd (cc), λ some. absurd (no_image g.L.Layout.format c.args.profile.now c.is_of_some_text.ensures s0 none some))
 
 pub returns-in-Some-clause-value : goal.returns-in-Some-clause-value
 returns-in-Some-clause-value g c clean store =
@@ -45,7 +44,6 @@ pub returns-in-Some-clause-refused : goal.returns-in-Some-clause-refused
 returns-in-Some-clause-refused g c clean store told =
     let s0 = state g.S.Store c.args.connection.now in
     let s1 = state g.S.Store c.expectation.new.connection in
-    let s2 = state g.S.Store c.agrees.new.conn in
     let first : HasCleanDisk s1 = omega (arith, c.agrees.ensures.call.crash.clean) in
     let same = (c.in_ok-expected.ensures.call.ok first).1 (ap is_some c.in-Some.is) in
-    may_after s0 s1 s2 c.in_ok-expected.ensures.call.crash (λ _. same.0.is_open) (λ _. c.agrees.ensures.refused clean (store_same s0 s1 same.0.now_is store) told)
+    may_after s0 s1 (state g.S.Store c.agrees.new.conn) c.in_ok-expected.ensures.call.crash (λ _. same.0.is_open) (λ _. c.agrees.ensures.refused clean (store_same s0 s1 same.0.now_is store) told)

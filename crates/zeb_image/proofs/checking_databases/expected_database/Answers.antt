@@ -11,11 +11,9 @@ returns-in-Err-Damaged-clause-value g c clean store sound =
 
 pub returns-in_default-clause-value : goal.returns-in_default-clause-value
 returns-in_default-clause-value g c clean store sound =
-    let profile = c.args.profile.now in
     let trees = (state g.S.Store c.args.connection.now).now.trees in
     let last = c.args.listed.last in
-    let records = c.in-Ok.records.items in
-    let none = subst (ArePostingsOrNone profile last c.deref.result.now) c.in_default.is c.in_ok-postings.ensures.value in
-    let kept = sound_kept profile trees c.args.listed.id.0 (string_bytes c.args.listed.name) last sound records (c.in-Ok.ensures.value clean store) in
-    let same : records ≡ c.deref.result.now = search rules in
-    none (subst (CanKeepAll profile last) same kept)
+    let none = subst (ArePostingsOrNone c.args.profile.now last c.deref.result.now) c.in_default.is c.in_ok-postings.ensures.value in
+    let kept = sound_kept c.args.profile.now trees c.args.listed.id.0 (string_bytes c.args.listed.name) last sound c.in-Ok.records.items (c.in-Ok.ensures.value clean store) in
+    let same : c.in-Ok.records.items ≡ c.deref.result.now = search rules in
+    none (subst (CanKeepAll c.args.profile.now last) same kept)

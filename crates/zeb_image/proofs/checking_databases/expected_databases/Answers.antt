@@ -31,19 +31,17 @@ loop-listed-preserved g c =
 pub returns-in_default-clause-value : goal.returns-in_default-clause-value
 returns-in_default-clause-value g c clean store sound =
     let inv = c.loop-listed.invariant in
-    let s0 = state g.S.Store c.args.connection.now in
     let s1 = state g.S.Store c.loop-listed.connection in
     let listed = c.in-Some.listed in
     let list = c.in-Ok.list.items in
-    let profile = c.args.profile.now in
     let first : HasCleanDisk s1 = omega (arith, c.expected_database.ensures.call.crash.clean) in
     let at = (inv.ok first).0.now_is in
-    let none = subst (IsMadeOrNone profile s1.now.trees listed) c.in_default.is (c.in_ok-made.ensures.value clean (store_same s0 s1 at store)) in
+    let none = subst (IsMadeOrNone c.args.profile.now s1.now.trees listed) c.in_default.is (c.in_ok-made.ensures.value clean (store_same (state g.S.Store c.args.connection.now) s1 at store)) in
     let begun : into_iter_items c.into_iter-listed-iterator.result ≡ list = search rules in
     let all = sym begun ∙ inv.items ∙ ap (λ rest. c.loop-listed.yielded ++ rest) c.in-Some.ensures.steps.0 in
     let there = subst (λ l. Has l listed) (sym all) (has_right c.loop-listed.yielded (listed ∷ into_iter_items c.next.new.self) listed (inl refl)) in
     let row = ((c.in-Ok.ensures.value (inv.clean first) store).each listed.id.0 (string_bytes listed.name) (pos listed.last)).1 (listed, there, refl, refl, refl) in
-    subst (λ (d : Database). CanBeHeld profile d.trees listed.id.0 (string_bytes listed.name) listed.last → ⊥) at none (sound.each listed.id.0 (string_bytes listed.name) listed.last row)
+    subst (λ (d : Database). CanBeHeld c.args.profile.now d.trees listed.id.0 (string_bytes listed.name) listed.last → ⊥) at none (sound.each listed.id.0 (string_bytes listed.name) listed.last row)
 
 pub returns-in_err-made-clause-refused : goal.returns-in_err-made-clause-refused
 returns-in_err-made-clause-refused g c clean store told =

@@ -24,13 +24,12 @@ loop-kept-preserved c =
 
 pub returns-clause-value : goal.returns-clause-value
 returns-clause-value c =
-    let profile = c.args.profile.now in
     let records = c.args.records.now in
     let whole : take c.loop-kept.kept-index records ≡ records = take_all c.loop-kept.kept-index records (omega (arith, c.loop-kept-test.false, c.loop-kept.auto.kept-index-end)) in (
-      subst (CanKeepAll profile c.args.last) whole c.loop-kept.invariant.sound,
+      subst (CanKeepAll c.args.profile.now c.args.last) whole c.loop-kept.invariant.sound,
       c.in_ok-in_order.ensures.rising,
       λ it.
-          let are = subst (λ (l : List Record). AreRecordsPostings profile l (map bare c.loop-kept.postings.items)) whole c.loop-kept.invariant.postings it in
+          let are = subst (λ (l : List Record). AreRecordsPostings c.args.profile.now l (map bare c.loop-kept.postings.items)) whole c.loop-kept.invariant.postings it in
           let same = c.in_ok-in_order.ensures.members it in
           (λ h. are.0 (same.0 h), λ h. same.1 (are.1 h)),
     )

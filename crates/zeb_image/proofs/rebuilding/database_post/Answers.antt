@@ -77,19 +77,17 @@ next_read : (g : given.Over) (c : After-write_where_full g) → HasCleanDisk (st
     → IsStore (state g.S.Store c.args.tx.now.conn.now)
     → IsNext c.args.db.0 c.loop-turn.next c.in-Some.record (state g.S.Store c.args.tx.now.conn.now) (state g.S.Store c.loop-turn.tx.conn.now) (state g.S.Store c.record_from_inside.new.tx.conn.now)
 next_read g c clean mode store =
-    let old = state g.S.Store c.args.tx.now.conn.now in
     let now = state g.S.Store c.loop-turn.tx.conn.now in
     let mid = state g.S.Store c.record_from_inside.new.tx.conn.now in
-    let id = c.args.db.0 in
     let clean_mid : HasCleanDisk mid = omega (arith, c.write_where_full.ensures.call.crash.clean) in
     let at = asked_next g c clean mode in
     let kept = c.loop-turn.invariant.kept at.clean mode store in
-    let value = subst (IsFirstFrom now.now.trees id c.loop-turn.next) c.in-Some.is (c.in_ok-record.ensures.value clean_mid at.was.mode kept.0 (omega (arith, c.loop-turn.invariant.small))) in
+    let value = subst (IsFirstFrom now.now.trees c.args.db.0 c.loop-turn.next) c.in-Some.is (c.in_ok-record.ensures.value clean_mid at.was.mode kept.0 (omega (arith, c.loop-turn.invariant.small))) in
     record {
       at = at;
       kept = kept;
       store = store_same now mid at.on.now_is kept.0;
-      first = first_still old.now.trees now.now.trees kept.1 id c.loop-turn.next (Some c.in-Some.record) value;
+      first = first_still (state g.S.Store c.args.tx.now.conn.now).now.trees now.now.trees kept.1 c.args.db.0 c.loop-turn.next (Some c.in-Some.record) value;
     }
 
 -- what was noted before it, and what is noted with it
@@ -102,18 +100,16 @@ then_noted : (g : given.Over) (c : After-write_where_full g) → HasCleanDisk (s
     (IsRecordPosted c.args.db.0 c.in-Some.record.sysno (OccursIn c.args.profile.now (kept_of c.in-Some.record)) such.content)
 then_noted g c clean mode store before had storable lacks =
     let read = next_read g c clean mode store in
-    let format = g.L.Layout.format in
     let id = c.args.db.0 in
     let such = c.loop-turn.invariant.posted read.at.clean mode store before had storable lacks in
-    let held = subst (λ (db : Database). WillHold format db.trees id c.loop-turn.pending such.content) (sym read.at.on.now_is) such.held in
+    let held = subst (λ (db : Database). WillHold g.L.Layout.format db.trees id c.loop-turn.pending such.content) (sym read.at.on.now_is) such.held in
     let none = first_lacks c.args.profile.now (state g.S.Store c.args.tx.now.conn.now).now.trees id c.loop-turn.next before such.content such.is c.in-Some.record read.first in
-    (such, c.in_ok-record_note.ensures.posted format (state g.S.Store c.record_from_inside.new.tx.conn.now).now.trees id such.content held such.storable none)
+    (such, c.in_ok-record_note.ensures.posted g.L.Layout.format (state g.S.Store c.record_from_inside.new.tx.conn.now).now.trees id such.content held such.storable none)
 
 pub loop-turn-preserved : goal.loop-turn-preserved
 loop-turn-preserved g c =
     let full = (goal.at.loop-turn-preserved g c).After-write_where_full in
     let old = state g.S.Store c.args.tx.now.conn.now in
-    let now = state g.S.Store c.loop-turn.tx.conn.now in
     let mid = state g.S.Store c.record_from_inside.new.tx.conn.now in
     let new = state g.S.Store c.write_where_full.new.tx.conn.now in
     let id = c.args.db.0 in
@@ -129,20 +125,18 @@ loop-turn-preserved g c =
       kept = λ clean mode store.
           let read = next_read g full clean mode store in
           let settled = c.in_ok-write_where_full.ensures.call.written clean read.at.on.mode read.store in
-          (settled.0, keeps_then old.now.trees mid.now.trees new.now.trees (same_lists old.now.trees now mid read.at.on.now_is read.kept.1) settled.1);
+          (settled.0, keeps_then old.now.trees mid.now.trees new.now.trees (same_lists old.now.trees (state g.S.Store c.loop-turn.tx.conn.now) mid read.at.on.now_is read.kept.1) settled.1);
       checked = λ clean mode store.
           let read = next_read g full clean mode store in
           next_sound profile old.now.trees id c.loop-turn.next (c.loop-turn.invariant.checked read.at.clean mode store) found read.first (one_number old store id (pos found.sysno)) c.in_ok-record_note.ensures.sound;
       posted = λ clean mode store before had storable lacks.
           let read = next_read g full clean mode store in
           let both = then_noted g full clean mode store before had storable lacks in
-          let noted = both.1 in
-          let settled = c.in_ok-write_where_full.ensures.call.written clean read.at.on.mode read.store in
           record {
-            content = noted.content;
-            held = (settled.2 noted.content noted.storable noted.held).0;
-            storable = noted.storable;
-            is = next_posted profile old.now.trees id c.loop-turn.next before both.0.content both.0.is found read.first (one_number old store id (pos found.sysno)) noted.content noted.is;
+            content = both.1.content;
+            held = ((c.in_ok-write_where_full.ensures.call.written clean read.at.on.mode read.store).2 both.1.content both.1.storable both.1.held).0;
+            storable = both.1.storable;
+            is = next_posted profile old.now.trees id c.loop-turn.next before both.0.content both.0.is found read.first (one_number old store id (pos found.sysno)) both.1.content both.1.is;
           };
     }
 
@@ -168,15 +162,14 @@ returns-in_default-clause-posts g c clean mode store =
     let new = state g.S.Store c.write_pending.new.tx.conn.now in
     let format = g.L.Layout.format in
     let id = c.args.db.0 in
-    let profile = c.args.profile.now in
     let clean_mid : HasCleanDisk mid = omega (arith, c.write_pending.ensures.call.crash.clean) in
     let at = asked old now mid clean_mid c.record_from_inside.ensures.call.crash (λ clean_now. c.loop-turn.invariant.stays clean_now mode) c.in_ok-record.ensures.call.ok in
     let kept = c.loop-turn.invariant.kept at.clean mode store in
     let there = store_same now mid at.on.now_is kept.0 in
     let value = subst (IsFirstFrom now.now.trees id c.loop-turn.next) c.in_default.is (c.in_ok-record.ensures.value clean_mid at.was.mode kept.0 (omega (arith, c.loop-turn.invariant.small))) in
     let none = first_still old.now.trees now.now.trees kept.1 id c.loop-turn.next None value in
-    let sound = all_sound profile old.now.trees id c.loop-turn.next (c.loop-turn.invariant.checked at.clean mode store) none in
-    posts_by format profile id old new c.write_pending.result
+    let sound = all_sound c.args.profile.now old.now.trees id c.loop-turn.next (c.loop-turn.invariant.checked at.clean mode store) none in
+    posts_by format c.args.profile.now id old new c.write_pending.result
     (ok_both c.write_pending.result _ _ _ (λ settled all. (
       settled.0,
       keeps_then old.now.trees mid.now.trees new.now.trees (same_lists old.now.trees now mid at.on.now_is kept.1) settled.1,
@@ -188,7 +181,7 @@ returns-in_default-clause-posts g c clean mode store =
             content = such.content;
             held = held_whole format new.now.trees id c.write_pending.new.pending such.content all (settled.2 such.content such.storable held).0;
             storable = such.storable;
-            is = all_posted profile old.now.trees id c.loop-turn.next before such.content such.is none;
+            is = all_posted c.args.profile.now old.now.trees id c.loop-turn.next before such.content such.is none;
           },
     )) (c.write_pending.ensures.call.written clean at.on.mode there) c.write_pending.ensures.all)
     (λ told before had storable lacks fine.
@@ -212,15 +205,13 @@ returns-in_err-record-clause-posts g c clean mode store =
 -- a record that isn't sound
 pub returns-in_err-record_note-clause-posts : goal.returns-in_err-record_note-clause-posts
 returns-in_err-record_note-clause-posts g c clean mode store =
-    let old = state g.S.Store c.args.tx.now.conn.now in
     let now = state g.S.Store c.loop-turn.tx.conn.now in
-    let id = c.args.db.0 in
     let found = c.in-Some.record in
     let clean_now : HasCleanDisk now = omega (arith, c.record_from_inside.ensures.call.crash.clean) in
     let was = c.loop-turn.invariant.stays clean_now mode in
     let kept = c.loop-turn.invariant.kept clean_now mode store in
-    let value = subst (IsFirstFrom now.now.trees id c.loop-turn.next) c.in-Some.is (c.in_ok-record.ensures.value clean was.mode kept.0 (omega (arith, c.loop-turn.invariant.small))) in
-    let first = first_still old.now.trees now.now.trees kept.1 id c.loop-turn.next (Some found) value in
+    let value = subst (IsFirstFrom now.now.trees c.args.db.0 c.loop-turn.next) c.in-Some.is (c.in_ok-record.ensures.value clean was.mode kept.0 (omega (arith, c.loop-turn.invariant.small))) in
+    let first = first_still (state g.S.Store c.args.tx.now.conn.now).now.trees now.now.trees kept.1 c.args.db.0 c.loop-turn.next (Some found) value in
     let told : c.from_residual-in_err-record_note.result ≡ Err c.in_err-record_note.field-0.0 = search rules in
     rw told (λ is before had storable lacks fine. c.in_err-record_note.ensures.damaged (ap Err is) (fine.1 found.sysno (string_bytes found.ident) found.bytes.items first.0))
 

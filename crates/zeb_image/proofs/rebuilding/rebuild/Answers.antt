@@ -100,9 +100,8 @@ loop-database-preserved g c =
           let on = c.loop-database.invariant.goes_on (clean_now clean) mode in
           goes_further old now new on (c.in_ok-database_post.ensures.inside.stays clean on.mode);
       kept = λ clean mode store.
-          let on = c.loop-database.invariant.goes_on (clean_now clean) mode in
           let kept = c.loop-database.invariant.kept (clean_now clean) mode store in
-          let then_kept = c.in_ok-database_post.ensures.posts clean on.mode kept.0 in
+          let then_kept = c.in_ok-database_post.ensures.posts clean (c.loop-database.invariant.goes_on (clean_now clean) mode).mode kept.0 in
           (then_kept.0, keeps_then old.now.trees now.now.trees new.now.trees kept.1 then_kept.1);
       listed = λ clean mode store. c.loop-database.invariant.listed (clean_now clean) mode store;
       checked = λ clean mode store d there.
@@ -132,29 +131,27 @@ pub returns-clause-built : goal.returns-clause-built
 returns-clause-built g c = λ clean mode store.
     let old = state g.S.Store c.args.tx.now.conn.now in
     let new = state g.S.Store c.loop-database.tx.conn.now in
-    let profile = c.args.profile.now in
     let items = c.deref-database-items.result.now in
     let index = c.loop-database.database-index in
     let all : take index items ≡ items = take_all index items (omega (arith, c.loop-database-test.false, c.loop-database.auto.database-index-end)) in
     let kept = c.loop-database.invariant.kept clean mode store in
     let are = c.loop-database.invariant.listed clean mode store in
     let such = c.loop-database.invariant.posted clean mode store in
-    let posted = subst (λ l. ArePostedIn profile old.now.trees (map id_in l) such.content) all such.is in (
+    let posted = subst (λ l. ArePostedIn c.args.profile.now old.now.trees (map id_in l) such.content) all such.is in (
       kept.0,
       kept.1,
       λ bases these sound.
-          rebuilt profile old.now.trees bases these g.L.Layout.format new.now.trees kept.1 (map id_in items) (listed_id old store items are) such.content such.held posted,
+          rebuilt c.args.profile.now old.now.trees bases these g.L.Layout.format new.now.trees kept.1 (map id_in items) (listed_id old store items are) such.content such.held posted,
     )
 
 pub returns-clause-checked : goal.returns-clause-checked
 returns-clause-checked g c = λ clean mode store id name last there.
-    let old = state g.S.Store c.args.tx.now.conn.now in
     let profile = c.args.profile.now in
     let items = c.deref-database-items.result.now in
     let index = c.loop-database.database-index in
     let all : take index items ≡ items = take_all index items (omega (arith, c.loop-database-test.false, c.loop-database.auto.database-index-end)) in
     let it = ((c.loop-database.invariant.listed clean mode store).each id name last).0 there in
-    subst (AreSoundIn profile old.now.trees) (sym it.2) (c.loop-database.invariant.checked clean mode store it.0 (subst (λ l. Has l it.0) (sym all) it.1))
+    subst (AreSoundIn profile (state g.S.Store c.args.tx.now.conn.now).now.trees) (sym it.2) (c.loop-database.invariant.checked clean mode store it.0 (subst (λ l. Has l it.0) (sym all) it.1))
 
 -- what can be read is read
 pub returns-in_err-databases-clause-damaged : goal.returns-in_err-databases-clause-damaged
@@ -191,13 +188,12 @@ pub returns-in_err-database_post-clause-call : goal.returns-in_err-database_post
 returns-in_err-database_post-clause-call g c =
     let old = state g.S.Store c.args.tx.now.conn.now in
     let now = state g.S.Store c.loop-database.tx.conn.now in
-    let new = state g.S.Store c.database_post.new.tx.conn.now in
     let told : c.from_residual-in_err-database_post.result ≡ Err c.in_err-database_post.field-0.0 = search rules in
     record {
       ok = λ clean mode. rw told tt;
       err = λ clean mode.
           let clean_now : HasCleanDisk now = omega (arith, c.database_post.ensures.inside.crash.clean) in
           let on = c.loop-database.invariant.goes_on clean_now mode in
-          rw told (kept_then old now new (goes_on old now on) (c.in_err-database_post.ensures.inside.stays clean on.mode));
+          rw told (kept_then old now (state g.S.Store c.database_post.new.tx.conn.now) (goes_on old now on) (c.in_err-database_post.ensures.inside.stays clean on.mode));
       crash = search rules;
     }

@@ -1,5 +1,4 @@
-use Rattle.zeb_laws.proofs.Cited.{refl, inl, inr, has_contained, contains_had, named_there, with_base_has, with_base_in_order}
-use Rattle.zeb_image.specs.Holdings.{with_base}
+use Rattle.zeb_laws.proofs.Cited.{refl, inl, inr, has_contained, contains_had, named_there, with_base_has, with_base_in_order, with_base}
 use Rattle.zeb_laws.proofs.holding_laws.a_database_is_in_its_place.Goals as goal
 
 pub returns-clause-members : goal.returns-clause-members

@@ -12,5 +12,8 @@ loop-left-preserved c =
     let fits : c.loop-left.left < 2 ^ 64 = omega arith in
     omega (arith, ap length (uleb-high c.loop-left.left c.loop-left-test.true fits))
 
-pub returns : goal.returns
-returns c = omega (arith, ap length (uleb-low c.loop-left.left c.loop-left-test.false))
+pub returns-clause-value : goal.returns-clause-value
+returns-clause-value c = omega (arith, ap length (uleb-low c.loop-left.left c.loop-left-test.false))
+
+pub returns-clause-few : goal.returns-clause-few
+returns-clause-few c = omega (arith, ap length (uleb-low c.loop-left.left c.loop-left-test.false), length-uleb c.args.number)

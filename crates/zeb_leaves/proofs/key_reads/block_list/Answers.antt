@@ -1,6 +1,6 @@
 use Rattle.zeb_leaves.proofs.Cited.{ℕ, List, Err, ap, inl, inr, subst, rules, state, Covers, IsLeafOf, IsUncovered, leaf_key}
 use Rattle.zeb_leaves.proofs.KeyCalls.{answers_block}
-use Rattle.zeb_leaves.proofs.LeafContents.{none_reads}
+use Rattle.zeb_register.proofs.LeafContents.{none_reads}
 use Rattle.zeb_register.proofs.Answered.{refused_so}
 use Rattle.zeb_leaves.proofs.key_reads.block_list.Goals as goal
 

@@ -1,4 +1,4 @@
-use Rattle.std.proofs.Common.{◌≡◌, ◌⊎◌, ◌∙◌, Err, Ok, Some, ap, map, refl, rules, string_bytes, subst, sym}
+use Rattle.std.proofs.Common.{◌≡◌, ◌⊎◌, ◌∙◌, ◌++◌, ◌∷◌, [], Err, Ok, Some, ap, map, refl, rules, string_bytes, subst, sym}
 use Rattle.std.specs.Prelude.{IfErr}
 use Rattle.zeb_paths.specs.Walks.{GivesUnder, WalksOn, dues_left, paths_left, telling}
 use Rattle.zeb_paths.proofs.WalkLemmas.{walks_ended, walks_told, walks_under, walks_untold}
@@ -6,7 +6,7 @@ use Rattle.zeb_program.specs.Inputs.{AreShort}
 use Rattle.zeb_program.specs.PrivateFaults.{IsUnread, IsUnreadAt, fault_of}
 use Rattle.zeb_program.specs.declared.faults.Fault.TheVariants.{Memory}
 use Rattle.zeb_program.proofs.AnalysisLemmas.{all_read, begins, goes_on}
-use Rattle.zeb_program.proofs.ReaderLemmas.{Ends, GivesNext, content_fault, content_unread, met_fault, met_refused, under_faults, under_files, under_start, unread_faults}
+use Rattle.zeb_program.proofs.ReaderLemmas.{Ends, GivesNext, content_fault, content_unread, met_fault, met_refused, under_faults, under_files, under_start, unread_faults, walk_more, walk_start}
 use Rattle.zeb_program.proofs.analyses.analyse_files.Goals as goal
 
 pub loop-file-init : goal.loop-file-init
@@ -16,6 +16,7 @@ loop-file-init g c =
       under = under_start (map string_bytes c.args.named.now) _ c.in_ok-walk.ensures.left;
       read = begins (g.P.Paths.tells c.args.paths.now) c.args.session.now.profile c.args.session.now.limits.records (map string_bytes c.args.named.now)
           c.begin_analysis-lines.result c.new-unmarked.result.items _ c.begin_analysis-lines.ensures c.new-unmarked.ensures.items c.in_ok-walk.ensures.left;
+      so_far = ([], walk_start (telling (g.P.Paths.tells c.args.paths.now) (g.P.Paths.stands c.args.paths.now) (g.P.Paths.lists c.args.paths.now)) c.args.named.now _ c.in_ok-walk.ensures.levels);
     }
 
 pub loop-file-preserved : goal.loop-file-preserved
@@ -38,6 +39,11 @@ loop-file-preserved g c =
           (subst (λ found. GivesNext tells left later (Ok found)) c.in-Some.is next)
           (subst (λ found. Ends left (Ok found)) c.in-Some.is (walks_ended at steps after (Ok c.in_ok-path.field-0) on))
           c.in_ok-bytes.ensures c.deref-in-loop-file.ensures.value c.deref.ensures.value c.with_file-lines.ensures c.in_ok-note_unmarked.ensures;
+      so_far = (
+        c.loop-file.invariant.so_far.0 ++ string_bytes c.in-Some.path ∷ [],
+        walk_more at (map string_bytes c.args.named.now) c.loop-file.invariant.so_far.0 (dues_left steps) (dues_left after) c.in-Some.path c.loop-file.invariant.so_far.1
+            (subst (λ found. WalksOn at (dues_left steps) (Ok found) (dues_left after)) c.in-Some.is on),
+      );
     }
 
 pub returns-in_err-path-clause-reason : goal.returns-in_err-path-clause-reason
@@ -125,3 +131,13 @@ returns-in_default-clause-reads g c =
     let next : GivesNext tells left later (Ok c.in_ok-path.field-0) = walks_told at steps after (Ok c.in_ok-path.field-0) on in
     all_read tells c.args.session.now.profile c.args.session.now.limits.records (map string_bytes c.args.named.now) c.loop-file.file c.loop-file.lines c.loop-file.unmarked.items left later
     c.loop-file.invariant.read _ refl refl (subst (λ found. GivesNext tells left later (Ok found)) c.in_default.is next)
+
+pub returns-in_default-clause-found : goal.returns-in_default-clause-found
+returns-in_default-clause-found g c =
+    let at = telling (g.P.Paths.tells c.args.paths.now) (g.P.Paths.stands c.args.paths.now) (g.P.Paths.lists c.args.paths.now) in
+    let steps = c.loop-file.walk.steps.items in
+    let after = c.next_file.new.self.steps.items in
+    let on : WalksOn at (dues_left steps) (Ok c.in_ok-path.field-0) (dues_left after) =
+    subst (λ p. WalksOn (telling (g.P.Paths.tells p) (g.P.Paths.stands p) (g.P.Paths.lists p)) (dues_left steps) (Ok c.in_ok-path.field-0) (dues_left after)) c.loop-file.invariant.paths c.in_ok-path.ensures.walks in
+    let far = c.loop-file.invariant.so_far in
+    (far.0, dues_left steps, dues_left after, far.1, subst (λ found. WalksOn at (dues_left steps) (Ok found) (dues_left after)) c.in_default.is on)

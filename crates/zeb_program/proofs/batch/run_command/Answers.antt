@@ -1,8 +1,4 @@
-use Rattle.std.proofs.Common.{◌∙◌}
-use Rattle.sqlite.specs.Held.{state}
-use Rattle.sqlite.specs.State.{HasCleanDisk}
-use Rattle.zeb_change.specs.Conditions.{conditions}
-use Rattle.zeb_register.specs.Formats.{version_of}
+use Rattle.zeb_program.proofs.Cited.{◌∙◌, state, HasCleanDisk, conditions, version_of}
 use Rattle.zeb_program.proofs.OverLemmas.{refused_over, replied_over}
 use Rattle.zeb_program.proofs.ServingLemmas.{refused_command, replied_command}
 use Rattle.zeb_program.proofs.batch.run_command.Goals as goal

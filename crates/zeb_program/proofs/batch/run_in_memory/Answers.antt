@@ -1,24 +1,19 @@
-use Rattle.std.proofs.Common.{refl}
-use Rattle.std.specs.Prelude.{codes}
-use Rattle.sqlite.specs.State.{HasCleanDisk}
-use Rattle.sqlite.specs.Files.{file_state}
-use Rattle.zeb_change.specs.Conditions.{conditions}
+use Rattle.zeb_program.proofs.Cited.{refl, codes, HasCleanDisk, file_state, conditions}
 use Rattle.zeb_program.proofs.MemoryLemmas.{always_clean}
 use Rattle.zeb_program.proofs.ScriptAnswerLemmas.{refused_opening, opened_batch, run_from_nothing, stopped_batch, silent_refusal}
 use Rattle.zeb_program.proofs.batch.run_in_memory.Goals as goal
 
 pub returns-in-Ok-clause-answer : goal.returns-in-Ok-clause-answer
 returns-in-Ok-clause-answer g c =
-    let session = c.in-Ok.session in
     let last = c.run_lines.new.session.connection in
-    let k = conditions (codes "2") session.profile session.limits in
+    let k = conditions (codes "2") c.in-Ok.session.profile c.in-Ok.session.limits in
     let tells = g.P.Paths.tells c.args.paths.now in
     let old = g.W.Write.contents c.args.output.now.writer in
     let new = g.W.Write.contents c.run_lines.new.output.writer in
     let n = c.args.batch.lines_before in
     let text = c.args.batch.text.now in
     opened_batch tells c.args.profile old new n text c.run_lines.new.output.failed c.run_lines.result
-    (run_from_nothing tells k c.args.profile (file_state session.connection) (file_state last) old new n text c.run_lines.new.output.failed (HasCleanDisk (file_state last)) c.run_lines.result
+    (run_from_nothing tells k c.args.profile (file_state c.in-Ok.session.connection) (file_state last) old new n text c.run_lines.new.output.failed (HasCleanDisk (file_state last)) c.run_lines.result
     c.in-Ok.ensures.under c.in-Ok.ensures.empty (always_clean (λ _. refl) last) c.run_lines.ensures.answer)
 
 pub returns-in-Ok-clause-stopped : goal.returns-in-Ok-clause-stopped

@@ -1,18 +1,9 @@
-use Rattle.std.proofs.Common.{[], inl, refl, subst}
-use Rattle.sqlite.specs.Held.{state}
-use Rattle.sqlite.specs.State.{HasCleanDisk}
-use Rattle.zeb_change.specs.Conditions.{conditions}
-use Rattle.std.specs.Prelude.{string_bytes}
-use Rattle.std.specs.Io.KnownBytes.{Appends}
-use Rattle.zeb_program.specs.Answers.{bad_line, mark_line}
-use Rattle.zeb_program.specs.Says.{SaysText}
-use Rattle.zeb_program.specs.declared.lines.Line.TheVariants.{Remark, Command as Order, Path, Mark, Bad}
+use Rattle.zeb_program.proofs.Cited.{[], inl, refl, subst, state, HasCleanDisk, conditions, string_bytes, Appends, bad_line, mark_line, SaysText, Remark, Order, Path, Mark, Bad, version_of}
 use Rattle.zeb_program.proofs.AnswerLemmas.{Appends-nil}
 use Rattle.zeb_program.proofs.OverLemmas.{alone, said_over}
 use Rattle.zeb_program.proofs.PathLemmas.{path_line}
 use Rattle.zeb_program.proofs.ServingLemmas.{bad_line_answer, mark_answer, ordered_line, remark_line}
 use Rattle.zeb_program.proofs.batch.run_line.Goals as goal
-use Rattle.zeb_register.specs.Formats.{version_of}
 
 pub returns-in-Remark-clause-answer : goal.returns-in-Remark-clause-answer
 returns-in-Remark-clause-answer g c =

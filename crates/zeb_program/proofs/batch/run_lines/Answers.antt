@@ -1,16 +1,8 @@
-use Rattle.std.proofs.Common.{◌∙◌, ◌+◌, arith, ap, length, refl, rules, subst, subst₂, sym}
-use Rattle.std.specs.Str.{IsUtf8}
-use Rattle.sqlite.specs.Held.{state}
-use Rattle.sqlite.specs.State.{HasCleanDisk}
-use Rattle.zeb_change.specs.Conditions.{conditions}
-use Rattle.zeb_program.specs.Answers.{AnswersAsTold, Writes}
-use Rattle.zeb_program.specs.OverTables.{LineOver}
-use Rattle.zeb_program.specs.Serving.{LeadsOn}
+use Rattle.zeb_program.proofs.Cited.{◌∙◌, ◌+◌, arith, ap, length, refl, rules, subst, subst₂, sym, IsUtf8, state, HasCleanDisk, conditions, AnswersAsTold, Writes, LineOver, LeadsOn, version_of}
 use Rattle.zeb_program.proofs.AnswerLemmas.{answered_all, answered_line, answered_start}
 use Rattle.zeb_program.proofs.ServingLemmas.{reaches_start, reaches_line, reaches_end, reaches_failure}
 use Rattle.zeb_program.proofs.ScriptLemmas.{after_first_line-IsUtf8, not_empty, is_empty, length-after_first_line}
 use Rattle.zeb_program.proofs.batch.run_lines.Goals as goal
-use Rattle.zeb_register.specs.Formats.{version_of}
 use Rattle.zeb_program.proofs.StatusLemmas.{max_greater}
 
 pub loop-rest-init : goal.loop-rest-init

@@ -1,14 +1,7 @@
-use Rattle.std.proofs.Common.{◌≡◌, ◌+◌, ◌<◌, ◌^◌, false, length}
-use Rattle.sqlite.specs.Held.{state}
-use Rattle.sqlite.specs.State.{HasCleanDisk}
-use Rattle.zeb_change.specs.Conditions.{conditions}
-use Rattle.zeb_program.specs.OverTables.{LineOver}
+use Rattle.zeb_program.proofs.Cited.{◌≡◌, ◌+◌, ◌<◌, ◌^◌, false, length, state, HasCleanDisk, conditions, LineOver, Utf8, shadow, version_of}
 use Rattle.zeb_program.proofs.AnswerLemmas.{IsAnswered}
 use Rattle.zeb_program.proofs.ServingLemmas.{Reaches}
-use denote.Text.{Utf8}
-use denote.Shadow.{shadow}
 use Rattle.zeb_program.proofs.batch.run_lines.Given as goal
-use Rattle.zeb_register.specs.Formats.{version_of}
 
 -- Each line takes a byte at least, so their numbers fit. What was written answers the lines so far.
 abbrev pub invariant-loop-rest : goal.invariant-loop-rest

@@ -16,19 +16,19 @@ returns-in-Err-clause-whole g c = shell_refused c.tell_failure.result _ _ refl
 pub returns-in-Ok-clause-answer : goal.returns-in-Ok-clause-answer
 returns-in-Ok-clause-answer g c =
     let session = c.in-Ok.session in
-    shell_served (places g.P.Store.Store g.P.Paths.tells g.P.Paths.opens g.P.Paths.refuses g.P.Paths.lacks g.P.Paths.lets_go g.P.Paths.leaves c.args.paths.now c.open.new.paths) c.args.config (g.P.Paths.tells c.open.new.paths) (conditions (version_of packed_blocks) session.profile session.limits) session.connection
+    shell_served (places g.P.Store.Store g.P.Paths.tells g.P.Paths.stands g.P.Paths.lists g.P.Paths.explains g.P.Paths.opens g.P.Paths.refuses g.P.Paths.lacks g.P.Paths.has g.P.Paths.lets_go g.P.Paths.leaves c.args.paths.now c.open.new.paths) c.args.config (g.P.Paths.tells c.open.new.paths) (conditions (version_of packed_blocks) session.profile session.limits) session.connection
     _ _ _ _ _ _ _ _ _ c.serve_in.result c.open.ensures.told c.in-Ok.ensures.opened c.serve_in.ensures.answer
 
 pub returns-in-Err-clause-answer : goal.returns-in-Err-clause-answer
 returns-in-Err-clause-answer g c =
-    shell_unopened (places g.P.Store.Store g.P.Paths.tells g.P.Paths.opens g.P.Paths.refuses g.P.Paths.lacks g.P.Paths.lets_go g.P.Paths.leaves c.args.paths.now c.open.new.paths) c.args.config _ _ _ _ _ c.in-Err.failure.fault _ _ c.tell_failure.result c.in-Err.ensures.failed c.tell_failure.ensures.told
+    shell_unopened (places g.P.Store.Store g.P.Paths.tells g.P.Paths.stands g.P.Paths.lists g.P.Paths.explains g.P.Paths.opens g.P.Paths.refuses g.P.Paths.lacks g.P.Paths.has g.P.Paths.lets_go g.P.Paths.leaves c.args.paths.now c.open.new.paths) c.args.config _ _ _ _ _ c.in-Err.failure.fault c.in-Err.failure.cause _ _ c.tell_failure.result c.in-Err.ensures.failed c.tell_failure.ensures.told
 
 pub returns-in-Ok-clause-stopped : goal.returns-in-Ok-clause-stopped
 returns-in-Ok-clause-stopped g c =
     let session = c.in-Ok.session in
-    stop_serving (places g.P.Store.Store g.P.Paths.tells g.P.Paths.opens g.P.Paths.refuses g.P.Paths.lacks g.P.Paths.lets_go g.P.Paths.leaves c.args.paths.now c.open.new.paths) c.args.config (g.P.Paths.tells c.open.new.paths) (conditions (version_of packed_blocks) session.profile session.limits) session.connection
+    stop_serving (places g.P.Store.Store g.P.Paths.tells g.P.Paths.stands g.P.Paths.lists g.P.Paths.explains g.P.Paths.opens g.P.Paths.refuses g.P.Paths.lacks g.P.Paths.has g.P.Paths.lets_go g.P.Paths.leaves c.args.paths.now c.open.new.paths) c.args.config (g.P.Paths.tells c.open.new.paths) (conditions (version_of packed_blocks) session.profile session.limits) session.connection
     _ _ _ _ _ _ _ _ c.serve_in.result c.open.ensures.told c.in-Ok.ensures.opened c.serve_in.ensures.stopped
 
 pub returns-in-Err-clause-stopped : goal.returns-in-Err-clause-stopped
 returns-in-Err-clause-stopped g c =
-    stop_unserved (places g.P.Store.Store g.P.Paths.tells g.P.Paths.opens g.P.Paths.refuses g.P.Paths.lacks g.P.Paths.lets_go g.P.Paths.leaves c.args.paths.now c.open.new.paths) c.args.config _ _ _ (λ sink. g.V.Write.contents sink.writer) c.args.fault_output.now c.tell_failure.new.output _ _ c.tell_failure.result c.tell_failure.ensures.silent
+    stop_unserved (places g.P.Store.Store g.P.Paths.tells g.P.Paths.stands g.P.Paths.lists g.P.Paths.explains g.P.Paths.opens g.P.Paths.refuses g.P.Paths.lacks g.P.Paths.has g.P.Paths.lets_go g.P.Paths.leaves c.args.paths.now c.open.new.paths) c.args.config _ _ _ (λ sink. g.V.Write.contents sink.writer) c.args.fault_output.now c.tell_failure.new.output _ _ c.tell_failure.result c.tell_failure.ensures.silent

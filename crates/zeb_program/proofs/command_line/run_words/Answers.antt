@@ -14,12 +14,12 @@ returns-in-Task-clause-bounded g c = λ other. ([], omega (arith), Consumes-nil 
 
 pub returns-in-Task-clause-answer : goal.returns-in-Task-clause-answer
 returns-in-Task-clause-answer g c =
-    task_words (places g.P.Store.Store g.P.Paths.tells g.P.Paths.opens g.P.Paths.refuses g.P.Paths.lacks g.P.Paths.lets_go g.P.Paths.leaves c.args.paths.now c.run_task.new.paths) (map string_bytes c.args.words.now) _ _ _ _ _ _ _ c.in-Ok.words c.in-Task.task _ _ c.run_task.result
+    task_words (places g.P.Store.Store g.P.Paths.tells g.P.Paths.stands g.P.Paths.lists g.P.Paths.explains g.P.Paths.opens g.P.Paths.refuses g.P.Paths.lacks g.P.Paths.has g.P.Paths.lets_go g.P.Paths.leaves c.args.paths.now c.run_task.new.paths) (map string_bytes c.args.words.now) _ _ _ _ _ _ _ c.in-Ok.words c.in-Task.task _ _ c.run_task.result
     c.in-Ok.ensures.named c.in-Task.ensures c.run_task.ensures.apart
 
 pub returns-in-Task-clause-stopped : goal.returns-in-Task-clause-stopped
 returns-in-Task-clause-stopped g c =
-    stopped_task_words (places g.P.Store.Store g.P.Paths.tells g.P.Paths.opens g.P.Paths.refuses g.P.Paths.lacks g.P.Paths.lets_go g.P.Paths.leaves c.args.paths.now c.run_task.new.paths) (λ sink. g.W.Write.contents sink.writer) (λ sink. g.V.Write.contents sink.writer) (map string_bytes c.args.words.now) _ _ c.args.output.now c.run_task.new.output
+    stopped_task_words (places g.P.Store.Store g.P.Paths.tells g.P.Paths.stands g.P.Paths.lists g.P.Paths.explains g.P.Paths.opens g.P.Paths.refuses g.P.Paths.lacks g.P.Paths.has g.P.Paths.lets_go g.P.Paths.leaves c.args.paths.now c.run_task.new.paths) (λ sink. g.W.Write.contents sink.writer) (λ sink. g.V.Write.contents sink.writer) (map string_bytes c.args.words.now) _ _ c.args.output.now c.run_task.new.output
     c.args.fault_output.now c.run_task.new.fault_output c.in-Task.task _ _ c.run_task.result (c.in-Ok.words, c.in-Ok.ensures.named, c.in-Task.ensures) c.run_task.ensures.stopped
 
 pub returns-in-Batch-clause-unread : goal.returns-in-Batch-clause-unread
@@ -28,12 +28,12 @@ returns-in-Batch-clause-unread g c = λ other.
 
 pub returns-in-Batch-clause-answer : goal.returns-in-Batch-clause-answer
 returns-in-Batch-clause-answer g c =
-    batch_words (places g.P.Store.Store g.P.Paths.tells g.P.Paths.opens g.P.Paths.refuses g.P.Paths.lacks g.P.Paths.lets_go g.P.Paths.leaves c.args.paths.now c.run_batch.new.paths) (map string_bytes c.args.words.now) _ _ _ _ _ _ _ c.in-Ok.words _ _ c.run_batch.result
+    batch_words (places g.P.Store.Store g.P.Paths.tells g.P.Paths.stands g.P.Paths.lists g.P.Paths.explains g.P.Paths.opens g.P.Paths.refuses g.P.Paths.lacks g.P.Paths.has g.P.Paths.lets_go g.P.Paths.leaves c.args.paths.now c.run_batch.new.paths) (map string_bytes c.args.words.now) _ _ _ _ _ _ _ c.in-Ok.words _ _ c.run_batch.result
     c.in-Ok.ensures.named c.in-Batch.ensures c.run_batch.ensures.answer
 
 pub returns-in-Batch-clause-stopped : goal.returns-in-Batch-clause-stopped
 returns-in-Batch-clause-stopped g c =
-    stopped_batch_words (places g.P.Store.Store g.P.Paths.tells g.P.Paths.opens g.P.Paths.refuses g.P.Paths.lacks g.P.Paths.lets_go g.P.Paths.leaves c.args.paths.now c.run_batch.new.paths) (map string_bytes c.args.words.now) _ _ _ _ _ _ c.in-Ok.words _ _ c.run_batch.result c.in-Ok.ensures.named c.in-Batch.ensures c.run_batch.ensures.stopped
+    stopped_batch_words (places g.P.Store.Store g.P.Paths.tells g.P.Paths.stands g.P.Paths.lists g.P.Paths.explains g.P.Paths.opens g.P.Paths.refuses g.P.Paths.lacks g.P.Paths.has g.P.Paths.lets_go g.P.Paths.leaves c.args.paths.now c.run_batch.new.paths) (map string_bytes c.args.words.now) _ _ _ _ _ _ c.in-Ok.words _ _ c.run_batch.result c.in-Ok.ensures.named c.in-Batch.ensures c.run_batch.ensures.stopped
 
 pub returns-in-Shell-clause-bounded : goal.returns-in-Shell-clause-bounded
 returns-in-Shell-clause-bounded g c = λ other.
@@ -45,13 +45,13 @@ returns-in-Shell-clause-unread g c = λ other.
 
 pub returns-in-Shell-clause-answer : goal.returns-in-Shell-clause-answer
 returns-in-Shell-clause-answer g c =
-    shell_words (places g.P.Store.Store g.P.Paths.tells g.P.Paths.opens g.P.Paths.refuses g.P.Paths.lacks g.P.Paths.lets_go g.P.Paths.leaves c.args.paths.now c.run_shell.new.paths) (map string_bytes c.args.words.now) _ _ _ _ _ _ _ c.in-Ok.words _ _ c.run_shell.result
+    shell_words (places g.P.Store.Store g.P.Paths.tells g.P.Paths.stands g.P.Paths.lists g.P.Paths.explains g.P.Paths.opens g.P.Paths.refuses g.P.Paths.lacks g.P.Paths.has g.P.Paths.lets_go g.P.Paths.leaves c.args.paths.now c.run_shell.new.paths) (map string_bytes c.args.words.now) _ _ _ _ _ _ _ c.in-Ok.words _ _ c.run_shell.result
     c.in-Ok.ensures.named c.in-Shell.ensures
     (shell_kept (λ sink. g.W.Write.contents sink.writer) c.args.output.now c.run_shell.new.output c.run_shell.result _ c.run_shell.ensures.whole) c.run_shell.ensures.answer
 
 pub returns-in-Shell-clause-stopped : goal.returns-in-Shell-clause-stopped
 returns-in-Shell-clause-stopped g c =
-    stopped_shell_words (places g.P.Store.Store g.P.Paths.tells g.P.Paths.opens g.P.Paths.refuses g.P.Paths.lacks g.P.Paths.lets_go g.P.Paths.leaves c.args.paths.now c.run_shell.new.paths) (map string_bytes c.args.words.now) _ _ _ _ _ _ c.in-Ok.words _ _ c.run_shell.result c.in-Ok.ensures.named c.in-Shell.ensures c.run_shell.ensures.stopped
+    stopped_shell_words (places g.P.Store.Store g.P.Paths.tells g.P.Paths.stands g.P.Paths.lists g.P.Paths.explains g.P.Paths.opens g.P.Paths.refuses g.P.Paths.lacks g.P.Paths.has g.P.Paths.lets_go g.P.Paths.leaves c.args.paths.now c.run_shell.new.paths) (map string_bytes c.args.words.now) _ _ _ _ _ _ c.in-Ok.words _ _ c.run_shell.result c.in-Ok.ensures.named c.in-Shell.ensures c.run_shell.ensures.stopped
 
 pub returns-in-Task-clause-untouched : goal.returns-in-Task-clause-untouched
 returns-in-Task-clause-untouched g c = λ none. absurd (none c.in-Ok.words c.in-Ok.ensures.named)

@@ -1,41 +1,47 @@
-use Rattle.std.proofs.Common.{◌≡◌, false, rules}
+use Rattle.std.proofs.Common.{◌≡◌, false, true, rules}
 use Rattle.zeb_change.specs.Conditions.{conditions}
 use Rattle.zeb_register.specs.Formats.{packed_blocks, version_of}
 use Rattle.zeb_program.specs.Registers.{places}
 use Rattle.zeb_program.proofs.StopLemmas.{stop_kept, stop_none, stop_unopened}
-use Rattle.zeb_program.proofs.WordRunLemmas.{run_kept, run_none, run_unopened}
+use Rattle.zeb_program.proofs.WordRunLemmas.{begun_or, run_kept, run_none, run_unopened}
 use Rattle.zeb_program.proofs.command_line.serve_batch.Goals as goal
 
-pub returns-then-not-has_store-clause-answer : goal.returns-then-not-has_store-clause-answer
-returns-then-not-has_store-clause-answer g c = λ first.
-    let lacking : c.has_store.result ≡ false = search rules in
-    let unmade : c.begins.result ≡ false = search rules in
-    run_none (places g.P.Store.Store g.P.Paths.tells g.P.Paths.opens g.P.Paths.refuses g.P.Paths.lacks g.P.Paths.lets_go g.P.Paths.leaves c.args.paths.now c.args.paths.now) c.args.profile c.args.batch.text.now c.args.batch.lines_before _ _ _ _ _ _ c.run_on_nothing.result first
-    (c.store_path.result.now, c.store_path.ensures, c.has_store.ensures lacking) (c.begins.ensures.none unmade) c.run_on_nothing.ensures.answer
+pub returns-then-not-uses_store-clause-answer : goal.returns-then-not-uses_store-clause-answer
+returns-then-not-uses_store-clause-answer g c = λ first.
+    let unused : c.uses_store.result ≡ false = search rules in
+    let no = c.uses_store.ensures.unused unused in
+    run_none (places g.P.Store.Store g.P.Paths.tells g.P.Paths.stands g.P.Paths.lists g.P.Paths.explains g.P.Paths.opens g.P.Paths.refuses g.P.Paths.lacks g.P.Paths.has g.P.Paths.lets_go g.P.Paths.leaves c.args.paths.now c.args.paths.now) c.args.profile c.args.batch.text.now c.args.batch.lines_before _ _ _ _ _ _ c.run_on_nothing.result first
+    no.0 (c.begins.ensures.none no.1) c.run_on_nothing.ensures.answer
 
 pub returns-in-Ok-clause-answer : goal.returns-in-Ok-clause-answer
 returns-in-Ok-clause-answer g c = λ first.
+    let uses : c.uses_store.result ≡ true = search rules in
+    let may = begun_or _ _ c.begins.result (c.uses_store.ensures.used uses) c.begins.ensures.some in
     let session = c.in-Ok.session in
-    run_kept (places g.P.Store.Store g.P.Paths.tells g.P.Paths.opens g.P.Paths.refuses g.P.Paths.lacks g.P.Paths.lets_go g.P.Paths.leaves c.args.paths.now c.open_register.new.paths) c.args.profile c.args.batch.text.now (g.P.Paths.tells c.open_register.new.paths) (conditions (version_of packed_blocks) session.profile session.limits) session.connection c.args.batch.lines_before
-    _ _ _ _ _ _ c.run_in.result first c.open_register.ensures.told c.in-Ok.ensures.under c.in-Ok.ensures.opened c.run_in.ensures.answer
+    run_kept (places g.P.Store.Store g.P.Paths.tells g.P.Paths.stands g.P.Paths.lists g.P.Paths.explains g.P.Paths.opens g.P.Paths.refuses g.P.Paths.lacks g.P.Paths.has g.P.Paths.lets_go g.P.Paths.leaves c.args.paths.now c.open_register.new.paths) c.args.profile c.args.batch.text.now (g.P.Paths.tells c.open_register.new.paths) (conditions (version_of packed_blocks) session.profile session.limits) session.connection c.args.batch.lines_before
+    _ _ _ _ _ _ c.run_in.result first c.open_register.ensures.told may c.in-Ok.ensures.under c.in-Ok.ensures.opened c.run_in.ensures.answer
 
 pub returns-in-Err-clause-answer : goal.returns-in-Err-clause-answer
 returns-in-Err-clause-answer g c = λ first.
-    run_unopened (places g.P.Store.Store g.P.Paths.tells g.P.Paths.opens g.P.Paths.refuses g.P.Paths.lacks g.P.Paths.lets_go g.P.Paths.leaves c.args.paths.now c.open_register.new.paths) c.args.profile c.args.batch.text.now _ _ _ c.in-Err.failure.fault _ _ c.tell_failure.result c.in-Err.ensures.failed c.tell_failure.ensures.told
+    let uses : c.uses_store.result ≡ true = search rules in
+    let may = begun_or _ _ c.begins.result (c.uses_store.ensures.used uses) c.begins.ensures.some in
+    run_unopened (places g.P.Store.Store g.P.Paths.tells g.P.Paths.stands g.P.Paths.lists g.P.Paths.explains g.P.Paths.opens g.P.Paths.refuses g.P.Paths.lacks g.P.Paths.has g.P.Paths.lets_go g.P.Paths.leaves c.args.paths.now c.open_register.new.paths) c.args.profile c.args.batch.text.now _ _ _ c.in-Err.failure.fault c.in-Err.failure.cause _ _ c.tell_failure.result may c.in-Err.ensures.failed c.tell_failure.ensures.told
 
-pub returns-then-not-has_store-clause-stopped : goal.returns-then-not-has_store-clause-stopped
-returns-then-not-has_store-clause-stopped g c = λ first.
-    let lacking : c.has_store.result ≡ false = search rules in
-    let unmade : c.begins.result ≡ false = search rules in
-    stop_none (places g.P.Store.Store g.P.Paths.tells g.P.Paths.opens g.P.Paths.refuses g.P.Paths.lacks g.P.Paths.lets_go g.P.Paths.leaves c.args.paths.now c.args.paths.now) c.args.profile c.args.batch.text.now c.args.batch.lines_before _ _ (λ sink. g.V.Write.contents sink.writer) c.args.fault_output.now c.run_on_nothing.new.fault_output _ _ c.run_on_nothing.result first
-    (c.store_path.result.now, c.store_path.ensures, c.has_store.ensures lacking) (c.begins.ensures.none unmade) c.run_on_nothing.ensures.silent c.run_on_nothing.ensures.stopped
+pub returns-then-not-uses_store-clause-stopped : goal.returns-then-not-uses_store-clause-stopped
+returns-then-not-uses_store-clause-stopped g c = λ first.
+    let unused : c.uses_store.result ≡ false = search rules in
+    let no = c.uses_store.ensures.unused unused in
+    stop_none (places g.P.Store.Store g.P.Paths.tells g.P.Paths.stands g.P.Paths.lists g.P.Paths.explains g.P.Paths.opens g.P.Paths.refuses g.P.Paths.lacks g.P.Paths.has g.P.Paths.lets_go g.P.Paths.leaves c.args.paths.now c.args.paths.now) c.args.profile c.args.batch.text.now c.args.batch.lines_before _ _ (λ sink. g.V.Write.contents sink.writer) c.args.fault_output.now c.run_on_nothing.new.fault_output _ _ c.run_on_nothing.result first
+    no.0 (c.begins.ensures.none no.1) c.run_on_nothing.ensures.silent c.run_on_nothing.ensures.stopped
 
 pub returns-in-Ok-clause-stopped : goal.returns-in-Ok-clause-stopped
 returns-in-Ok-clause-stopped g c = λ first.
+    let uses : c.uses_store.result ≡ true = search rules in
+    let may = begun_or _ _ c.begins.result (c.uses_store.ensures.used uses) c.begins.ensures.some in
     let session = c.in-Ok.session in
-    stop_kept (places g.P.Store.Store g.P.Paths.tells g.P.Paths.opens g.P.Paths.refuses g.P.Paths.lacks g.P.Paths.lets_go g.P.Paths.leaves c.args.paths.now c.open_register.new.paths) c.args.profile c.args.batch.text.now (g.P.Paths.tells c.open_register.new.paths) (conditions (version_of packed_blocks) session.profile session.limits) session.connection c.args.batch.lines_before
-    _ _ _ _ _ _ c.run_in.result first c.open_register.ensures.told c.in-Ok.ensures.under c.in-Ok.ensures.opened c.run_in.ensures.stopped
+    stop_kept (places g.P.Store.Store g.P.Paths.tells g.P.Paths.stands g.P.Paths.lists g.P.Paths.explains g.P.Paths.opens g.P.Paths.refuses g.P.Paths.lacks g.P.Paths.has g.P.Paths.lets_go g.P.Paths.leaves c.args.paths.now c.open_register.new.paths) c.args.profile c.args.batch.text.now (g.P.Paths.tells c.open_register.new.paths) (conditions (version_of packed_blocks) session.profile session.limits) session.connection c.args.batch.lines_before
+    _ _ _ _ _ _ c.run_in.result first c.open_register.ensures.told may c.in-Ok.ensures.under c.in-Ok.ensures.opened c.run_in.ensures.stopped
 
 pub returns-in-Err-clause-stopped : goal.returns-in-Err-clause-stopped
 returns-in-Err-clause-stopped g c = λ first.
-    stop_unopened (places g.P.Store.Store g.P.Paths.tells g.P.Paths.opens g.P.Paths.refuses g.P.Paths.lacks g.P.Paths.lets_go g.P.Paths.leaves c.args.paths.now c.open_register.new.paths) c.args.profile c.args.batch.text.now _ (λ sink. g.V.Write.contents sink.writer) c.args.fault_output.now c.tell_failure.new.output _ _ c.tell_failure.result c.tell_failure.ensures.silent
+    stop_unopened (places g.P.Store.Store g.P.Paths.tells g.P.Paths.stands g.P.Paths.lists g.P.Paths.explains g.P.Paths.opens g.P.Paths.refuses g.P.Paths.lacks g.P.Paths.has g.P.Paths.lets_go g.P.Paths.leaves c.args.paths.now c.open_register.new.paths) c.args.profile c.args.batch.text.now _ (λ sink. g.V.Write.contents sink.writer) c.args.fault_output.now c.tell_failure.new.output _ _ c.tell_failure.result c.tell_failure.ensures.silent

@@ -5,7 +5,7 @@ use Rattle.sqlite.specs.Held.{state}
 use Rattle.sqlite.specs.State.{HasCleanDisk}
 use Rattle.zeb_change.specs.Conditions.{conditions}
 use Rattle.zeb_register.specs.Formats.{packed_blocks, version_of}
-use Rattle.zeb_program.specs.WordRuns.{TellsClosed}
+use Rattle.zeb_program.specs.Closings.{TellsClosed}
 use Rattle.zeb_program.specs.Doing.{ServesText, StopsText}
 use Rattle.zeb_program.specs.declared.line_input.LineFault.TheVariants.{Memory}
 use Rattle.zeb_program.specs.PrivateWordRuns.{ClosesAloud, ServesIn, StopsServing}

@@ -1,6 +1,5 @@
 use Rattle.std.proofs.Common.{subst}
 use Rattle.std.specs.Io.KnownBytes.{Appends}
-use Rattle.zeb_program.proofs.WordRunLemmas.{done_told}
 use Rattle.zeb_program.proofs.command_line.tell_answer.Goals as goal
 
 pub returns-clause-text : goal.returns-clause-text
@@ -9,5 +8,4 @@ returns-clause-text g c = λ sound.
 
 pub returns-clause-told : goal.returns-clause-told
 returns-clause-told g c = λ sound task may.
-    done_told (λ sink. g.V.Write.contents sink.writer) task _ c.warn.new.fault_output c.tell_closed.new.output _ c.tell_closed.result
-    c.tell_closed.ensures.whole c.tell_closed.ensures.unclosed c.tell_closed.ensures.status sound (c.warn.ensures.told (c.tell_closed.ensures.sound sound) task may)
+    (g.V.Write.contents c.warn.new.fault_output.writer, c.warn.ensures.told (c.tell_closed.ensures.sound sound) task may, c.tell_closed.ensures.told sound)

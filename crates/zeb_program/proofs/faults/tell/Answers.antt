@@ -1,12 +1,7 @@
-use Rattle.std.proofs.Common.{◌≡◌, ℕ, List, [], ◌∷◌, ◌++◌, append_assoc, refl, string_bytes, subst, sym}
-use Rattle.std.specs.Prelude.{codes}
-use Rattle.std.specs.Io.KnownBytes.{Appends}
+use Rattle.zeb_program.proofs.Cited.{◌≡◌, ℕ, List, [], ◌∷◌, ◌++◌, append_assoc, refl, string_bytes, subst, sym, codes, Appends, Writes, Fault, Failed}
 use Rattle.zeb_profile.specs.Faults.{fault_text}
-use Rattle.zeb_program.specs.Answers.{Writes}
 use Rattle.zeb_program.specs.FaultLines.{TellsFault, profile_line, unreadable_path}
-use Rattle.zeb_program.specs.declared.faults.Fault.{Fault}
 use Rattle.zeb_program.proofs.faults.tell.Goals as goal
-use Rattle.zeb_program.specs.declared.statuses.Status.TheVariants.{Failed}
 
 -- the parts of a line, as they are written and as they are said
 nested : (a b c d : List ℕ) → (a ++ (b ++ (c ++ d))) ++ 10 ∷ [] ≡ a ++ b ++ c ++ d ++ 10 ∷ []
@@ -22,7 +17,6 @@ returns-in-Profile-clause-told g c = λ sound.
 
 pub returns-in-Unreadable-clause-told : goal.returns-in-Unreadable-clause-told
 returns-in-Unreadable-clause-told g c = λ sound.
-    let old = g.W.Write.contents c.args.output.now.writer in
     let new = g.W.Write.contents c.write_line-in-Unreadable.new.self.writer in
-    subst (λ (f : Fault). Writes old new (λ line. TellsFault f line Failed)) (sym c.in-Unreadable.is)
+    subst (λ (f : Fault). Writes (g.W.Write.contents c.args.output.now.writer) new (λ line. TellsFault f line Failed)) (sym c.in-Unreadable.is)
     (unreadable_path (string_bytes c.in-Unreadable.path), (refl, refl), c.write_line-in-Unreadable.ensures.bytes sound)

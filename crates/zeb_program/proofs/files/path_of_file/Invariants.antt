@@ -1,7 +1,7 @@
 use Rattle.std.proofs.Common.{◌≡◌, ◌≤◌, ◌+◌, ℕ, List, length, map, string_bytes}
 use Rattle.std.specs.Prelude.{◌⊎◌}
-use Rattle.zeb_paths.specs.Walks.{AreUnder, dues_left, paths_left, telling}
-use Rattle.zeb_program.specs.PrivateFiles.{WalksFrom}
+use Rattle.zeb_paths.specs.Walks.{dues_left, telling}
+use Rattle.zeb_program.specs.WalkedFiles.{WalksFrom}
 use Rattle.zeb_program.proofs.files.path_of_file.Given as goal
 
 -- So many files were passed, and the paths of the others are left.
@@ -9,7 +9,6 @@ abbrev pub invariant-loop-nth : goal.invariant-loop-nth
 invariant-loop-nth g l =
     record {
       paths : l.walk.paths.now ≡ l.paths;
-      under : AreUnder (map string_bytes l.named) (paths_left l.walk.steps.items);
       walked : (files : List (List ℕ)) × (length files + 1 ≡ l._nth)
           × WalksFrom (telling (g.P.Paths.tells l.paths) (g.P.Paths.stands l.paths) (g.P.Paths.lists l.paths)) (map string_bytes l.named) files (dues_left l.walk.steps.items);
       early : (l._nth ≤ 1) ⊎ (l._nth ≤ l.number);

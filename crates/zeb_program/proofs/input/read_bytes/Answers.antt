@@ -1,6 +1,4 @@
-use Rattle.std.proofs.Common.{◌++◌, take, rules}
-use Rattle.std.proofs.KnownBytes.{Consumes-trans}
-use Rattle.std.proofs.lemmas.List.{length-append}
+use Rattle.zeb_program.proofs.Cited.{◌++◌, take, rules, Consumes-trans, length-append}
 use Rattle.zeb_program.proofs.input.read_bytes.Goals as goal
 
 -- What was read before, and what couldn't be kept.

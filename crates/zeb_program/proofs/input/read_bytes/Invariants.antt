@@ -1,5 +1,4 @@
-use Rattle.std.proofs.Common.{◌≡◌, ◌≤◌, ◌+◌, ◌-◌, false, vec_len}
-use Rattle.std.specs.Io.KnownBytes.{Consumes}
+use Rattle.zeb_program.proofs.Cited.{◌≡◌, ◌≤◌, ◌+◌, ◌-◌, false, vec_len, Consumes}
 use Rattle.zeb_program.proofs.input.read_bytes.Given as goal
 
 -- The bytes so far came off the front of the source's.

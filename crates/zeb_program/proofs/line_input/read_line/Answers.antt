@@ -1,7 +1,5 @@
-use Rattle.std.proofs.Common.{arith, rules, take}
+use Rattle.zeb_program.proofs.Cited.{arith, rules, take, FailedRead, Unreadable, Memory}
 use Rattle.zeb_program.proofs.LineInputLemmas.{line_read, line_some, line_taken, ends_failed, ends_long, ends_starved, given_ends}
-use Rattle.zeb_program.specs.declared.line_input.InputCause.TheVariants.{FailedRead}
-use Rattle.zeb_program.specs.declared.line_input.LineFault.TheVariants.{Unreadable, Memory}
 use Rattle.zeb_program.proofs.line_input.read_line.Goals as goal
 
 pub returns-then-byte-eq10-clause-read : goal.returns-then-byte-eq10-clause-read

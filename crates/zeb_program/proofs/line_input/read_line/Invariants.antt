@@ -1,5 +1,4 @@
-use Rattle.std.proofs.Common.{◌≡◌, ◌≤◌, ◌+◌, ◌-◌, false, vec_len}
-use Rattle.std.specs.Io.KnownBytes.{Consumes}
+use Rattle.zeb_program.proofs.Cited.{◌≡◌, ◌≤◌, ◌+◌, ◌-◌, false, vec_len, Consumes}
 use Rattle.zeb_program.proofs.LineInputLemmas.{HasNoLf}
 use Rattle.zeb_program.proofs.line_input.read_line.Given as goal
 

@@ -1,10 +1,4 @@
-use Rattle.std.proofs.Common.{inr, refl}
-use Rattle.std.specs.Prelude.{None, Ok}
-use Rattle.sqlite.specs.Files.{file_state, over_files}
-use Rattle.sqlite.specs.State.{HasCleanDisk}
-use Rattle.sqlite.specs.Steps.{IsEmpty}
-use Rattle.zeb_change.specs.declared.refusals.Refusal.TheVariants.{Store}
-use Rattle.zeb_image.specs.Holdings.{nothing_yet}
+use Rattle.zeb_program.proofs.Cited.{inr, refl, None, Ok, file_state, over_files, HasCleanDisk, IsEmpty, Store, nothing_yet}
 use Rattle.zeb_image.specs.Image.{Keeps}
 use Rattle.zeb_program.proofs.MemoryLemmas.{always_clean}
 use Rattle.zeb_program.specs.Registers.{IsTakenOver}

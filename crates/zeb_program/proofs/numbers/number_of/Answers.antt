@@ -1,5 +1,4 @@
-use Rattle.std.proofs.Common.{sym, ◌∙◌, ap}
-use Rattle.std.specs.Result.{result_ok}
+use Rattle.zeb_program.proofs.Cited.{sym, ◌∙◌, ap, result_ok}
 use Rattle.zeb_program.proofs.NumberLemmas.{parsed, number_is}
 use Rattle.zeb_program.proofs.numbers.number_of.Goals as goal
 

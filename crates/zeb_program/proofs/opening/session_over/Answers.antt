@@ -1,11 +1,5 @@
 -- What adopting the store says, of what is given on.
-use Rattle.std.proofs.Common.{refl}
-use Rattle.std.specs.Prelude.{Some}
-use Rattle.sqlite.specs.Held.{Held, state}
-use Rattle.sqlite.specs.State.{HasCleanDisk}
-use Rattle.sqlite.specs.Store.{Ghosts}
-use Rattle.zeb_change.specs.declared.refusals.Refusal.TheVariants.{Store}
-use Rattle.zeb_engine.specs.Crashes.{AdoptLasts}
+use Rattle.zeb_program.proofs.Cited.{refl, Some, Held, state, HasCleanDisk, Ghosts, Store, AdoptLasts}
 use Rattle.zeb_engine.specs.Taking.{TakesOver}
 use Rattle.zeb_program.specs.Registers.{IsTakenOver}
 use Rattle.zeb_program.proofs.OpenedStores.{opened_store}

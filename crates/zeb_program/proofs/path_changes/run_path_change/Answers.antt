@@ -41,5 +41,5 @@ returns-in-Err-clause-over g c =
     let new = state g.S.Store c.change_by_paths.new.session.connection in
     refused_path (g.P.Paths.tells c.args.paths.now) g.L.Layout.format (conditions (version_of g.L.Layout.format) c.args.session.now.profile c.args.session.now.limits) c.args.change.now (state g.S.Store c.args.session.now.connection) new
     (g.W.Write.contents c.args.output.now.writer) (g.W.Write.contents c.tell.new.output.writer) c.tell.new.output.failed (HasCleanDisk new) c.from_ref-named.result.now
-    c.in-Err.fault c.tell.result c.from_ref-named.ensures.value c.in-Err.ensures.names c.in-Err.ensures.over c.in-Err.ensures.leaves
+    c.in-Err.fault c.tell.result c.from_ref-named.ensures.value c.in-Err.ensures.reaches c.in-Err.ensures.over c.in-Err.ensures.leaves
     c.tell.ensures.told

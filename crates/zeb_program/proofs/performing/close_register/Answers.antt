@@ -1,4 +1,4 @@
-use Rattle.std.proofs.Common.{◌∙◌, ap, refl, rules, subst, sym}
+use Rattle.std.proofs.Common.{◌∙◌, ap, rules, subst, sym}
 use Rattle.std.specs.Prelude.{IsTrue}
 use Rattle.sqlite.specs.Effect.{Database}
 use Rattle.sqlite.specs.Held.{state}
@@ -16,8 +16,6 @@ returns g c =
     λ is_open db left. g.met.P.Store.Store.settled connection.store db is_open left ∙ ap (λ (d : Database). d.trees) (sym (c.is_autocommit-settled.ensures.settled idle is_open)) in
     let left = c.close.ensures.left in
     record {
-      closed = c.close.result;
-      told = refl;
       left = left.0;
       stands = left.1;
       quiet = subst (λ held. IsQuiet s.view s.faults s.recovers s.is_shielded held.store left.0) c.release-connection.ensures.same (quiet_then c.into_store.ensures.quiet left.2);

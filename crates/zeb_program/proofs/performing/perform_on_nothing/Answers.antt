@@ -1,6 +1,7 @@
 use Rattle.std.proofs.Common.{refl}
 use Rattle.sqlite.specs.Files.{file_state}
 use Rattle.zeb_change.specs.Conditions.{conditions}
+use Rattle.zeb_paths.specs.Walks.{telling}
 use Rattle.zeb_register.specs.Formats.{packed_blocks, version_of}
 use Rattle.zeb_program.specs.PrivateWordRuns.{IsOwnOr, ServesOnNothing}
 use Rattle.zeb_program.proofs.MemoryLemmas.{always_clean}
@@ -14,6 +15,7 @@ returns-clause-serves g c =
     let own = done.0 in
     let k = conditions (version_of packed_blocks) session.profile session.limits in
     let last = c.carry_out-served.new.session.connection in
-    gives_for c.told_of.result (λ answer. IsOwnOr answer own) (ServesOnNothing (g.P.Paths.tells c.args.paths.now) c.args.profile c.args.task.now)
-    (λ answer. served_nothing (g.P.Paths.tells c.args.paths.now) c.args.profile c.args.task.now k (file_state session.connection) (file_state last) own answer
-    c.in_ok-session.ensures.under c.in_ok-session.ensures.empty (done.2.serves (always_clean (λ _. refl) last)) done.2.names) (c.told_of.ensures.gives own done.1)
+    let at = telling (g.P.Paths.tells c.args.paths.now) (g.P.Paths.stands c.args.paths.now) (g.P.Paths.lists c.args.paths.now) in
+    gives_for c.told_of.result (λ answer. IsOwnOr answer own) (ServesOnNothing (g.P.Paths.tells c.args.paths.now) at c.args.profile c.args.task.now)
+    (λ answer. served_nothing (g.P.Paths.tells c.args.paths.now) at c.args.profile c.args.task.now k (file_state session.connection) (file_state last) own answer
+    c.in_ok-session.ensures.under c.in_ok-session.ensures.empty (done.2.serves (always_clean (λ _. refl) last)) done.2.reaches) (c.told_of.ensures.gives own done.1)

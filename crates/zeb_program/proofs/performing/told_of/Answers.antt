@@ -30,7 +30,7 @@ returns-in_ok-warning-in-Ok-Shown-clause-gives g c = λ own stands.
     let same : c.into_bytes.result.items ≡ string_bytes c.in-Ok-Shown.lines.text = search rules in
     (it.0, same ∙ it.2, inl (sym it.1))
 
-pub returns-in-Err-clause-gives : goal.returns-in-Err-clause-gives
-returns-in-Err-clause-gives g c = λ own stands.
+pub returns-in_ok-explained-in-Err-clause-gives : goal.returns-in_ok-explained-in-Err-clause-gives
+returns-in_ok-explained-in-Err-clause-gives g c = λ own stands.
     let it = subst (λ served. StandsFor served own) c.in-Err.is stands in
-    inl (ap Err c.explained.ensures.fault ∙ sym it)
+    inl (ap Err c.in_ok-explained-in-Err.ensures.fault ∙ sym it)

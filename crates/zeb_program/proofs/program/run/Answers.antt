@@ -28,7 +28,7 @@ returns-then-is_empty-clause-script g c = λ none quiet. (
 
 pub returns-clause-words : goal.returns-clause-words
 returns-clause-words g c = λ some sound quiet.
-    let at = places g.P.Store.Store g.P.Paths.tells g.P.Paths.opens g.P.Paths.refuses g.P.Paths.lacks g.P.Paths.lets_go g.P.Paths.leaves c.args.files.now c.run_words-ended.new.paths in
+    let at = places g.P.Store.Store g.P.Paths.tells g.P.Paths.stands g.P.Paths.lists g.P.Paths.explains g.P.Paths.opens g.P.Paths.refuses g.P.Paths.lacks g.P.Paths.has g.P.Paths.lets_go g.P.Paths.leaves c.args.files.now c.run_words-ended.new.paths in
     let words = map string_bytes c.args.words.now in
     let given = g.R.Source.remaining c.args.input.now in
     let left = g.R.Source.remaining c.run_words-ended.new.input in

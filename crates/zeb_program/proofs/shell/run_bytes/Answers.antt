@@ -1,10 +1,4 @@
-use Rattle.std.proofs.Common.{◌∙◌, ap}
-use Rattle.sqlite.specs.Held.{state}
-use Rattle.sqlite.specs.State.{HasCleanDisk}
-use Rattle.zeb_change.specs.Conditions.{conditions}
-use Rattle.zeb_register.specs.Formats.{version_of}
-use Rattle.zeb_program.specs.Lines.{first_line}
-use Rattle.zeb_program.specs.OverTables.{LineOver}
+use Rattle.zeb_program.proofs.Cited.{◌∙◌, ap, state, HasCleanDisk, conditions, version_of, first_line, LineOver}
 use Rattle.zeb_program.proofs.ShellLemmas.{no_text_answer, text_answer}
 use Rattle.zeb_program.proofs.ShellOverLemmas.{no_text_over, text_over}
 use Rattle.zeb_program.proofs.shell.run_bytes.Goals as goal

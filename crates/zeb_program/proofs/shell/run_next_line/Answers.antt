@@ -1,9 +1,4 @@
-use Rattle.std.proofs.Common.{◌≡◌, Err, refl, rules}
-use Rattle.sqlite.specs.Held.{state}
-use Rattle.zeb_change.specs.Conditions.{conditions}
-use Rattle.zeb_register.specs.Formats.{version_of}
-use Rattle.zeb_program.specs.OverTables.{LineOver}
-use Rattle.zeb_program.specs.declared.line_input.LineFault.TheVariants.{Memory}
+use Rattle.zeb_program.proofs.Cited.{◌≡◌, Err, refl, rules, state, conditions, version_of, LineOver, Memory}
 use Rattle.zeb_program.proofs.LineInputLemmas.{ends_read}
 use Rattle.zeb_program.proofs.ShellLemmas.{next_answer, next_none, next_some, next_taken, none_read}
 use Rattle.zeb_program.proofs.ShellOverLemmas.{next_over}

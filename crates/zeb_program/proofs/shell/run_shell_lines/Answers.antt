@@ -1,13 +1,4 @@
-use Rattle.std.proofs.Common.{◌≡◌, ◌∙◌, ◌+◌, inr, refl, rules, subst₂}
-use Rattle.std.specs.Prelude.{IfErr, IfSome}
-use Rattle.sqlite.specs.Held.{state}
-use Rattle.sqlite.specs.State.{HasCleanDisk}
-use Rattle.zeb_change.specs.Conditions.{conditions}
-use Rattle.zeb_register.specs.Formats.{version_of}
-use Rattle.zeb_program.specs.Answers.{Writes}
-use Rattle.zeb_program.specs.Lines.{first_line}
-use Rattle.zeb_program.specs.OverTables.{LineOver}
-use Rattle.zeb_program.specs.declared.line_input.LineFault.TheVariants.{Memory}
+use Rattle.zeb_program.proofs.Cited.{◌≡◌, ◌∙◌, ◌+◌, inr, refl, rules, subst₂, IfErr, IfSome, state, HasCleanDisk, conditions, version_of, Writes, first_line, LineOver, Memory}
 use Rattle.zeb_program.proofs.LineInputLemmas.{ends_before}
 use Rattle.zeb_program.proofs.ShellOverLemmas.{goes_line, goes_start}
 use Rattle.zeb_program.proofs.ShellLemmas.{AnswersNext, serves_line, serves_start}

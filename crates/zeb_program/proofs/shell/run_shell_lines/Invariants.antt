@@ -1,9 +1,4 @@
-use Rattle.std.proofs.Common.{◌≡◌, false}
-use Rattle.sqlite.specs.Held.{state}
-use Rattle.sqlite.specs.State.{HasCleanDisk}
-use Rattle.zeb_change.specs.Conditions.{conditions}
-use Rattle.zeb_register.specs.Formats.{version_of}
-use Rattle.zeb_program.specs.OverTables.{LineOver}
+use Rattle.zeb_program.proofs.Cited.{◌≡◌, false, state, HasCleanDisk, conditions, version_of, LineOver}
 use Rattle.zeb_program.proofs.ShellLemmas.{Serves}
 use Rattle.zeb_program.proofs.ShellOverLemmas.{Goes}
 use Rattle.zeb_program.proofs.shell.run_shell_lines.Given as goal

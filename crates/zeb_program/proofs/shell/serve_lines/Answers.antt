@@ -1,7 +1,4 @@
-use Rattle.std.proofs.Common.{◌∙◌, ap}
-use Rattle.std.specs.Prelude.{Err}
-use Rattle.zeb_change.specs.Conditions.{conditions}
-use Rattle.zeb_register.specs.Formats.{version_of}
+use Rattle.zeb_program.proofs.Cited.{◌∙◌, ap, Err, conditions, version_of}
 use Rattle.zeb_program.proofs.ShellTextLemmas.{read_by, read_sound, served_all, served_part}
 use Rattle.zeb_program.proofs.shell.serve_lines.Goals as goal
 

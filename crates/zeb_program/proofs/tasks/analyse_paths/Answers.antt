@@ -44,3 +44,6 @@ pub returns-in-Ok-clause-unmarked : goal.returns-in-Ok-clause-unmarked
 returns-in-Ok-clause-unmarked g c = λ files known.
     let read = c.in_ok-lines.ensures.reads in
     read.unmarked ∙ ap (unmarked_of 1) (read.these files known)
+
+pub returns-in-Ok-clause-reaches : goal.returns-in-Ok-clause-reaches
+returns-in-Ok-clause-reaches g c = c.in_ok-lines.ensures.found

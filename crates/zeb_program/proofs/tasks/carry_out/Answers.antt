@@ -1,12 +1,13 @@
 use Rattle.std.proofs.Common.{refl, subst, sym}
 use Rattle.sqlite.specs.Held.{state}
 use Rattle.zeb_change.specs.Conditions.{conditions}
+use Rattle.zeb_paths.specs.Walks.{telling}
 use Rattle.zeb_register.specs.Formats.{version_of}
 use Rattle.zeb_program.specs.TaskAnswers.{ReadsWhole, paths_of}
 use Rattle.zeb_program.proofs.OverLemmas.{analysed_task_over, asked_task_over, changed_task_over}
-use Rattle.zeb_program.proofs.TaskLemmas.{analysed_files, analysed_task, analysis_under, asked_task, change_under, changed_task, read_under}
+use Rattle.zeb_program.proofs.TaskLemmas.{analysed_files, analysed_task, analysis_reaches, asked_reaches, asked_task, change_reaches, changed_task}
 use Rattle.zeb_program.proofs.WarningLemmas.{served_whole}
-use Rattle.zeb_program.proofs.WordRunLemmas.{replied_under}
+use Rattle.zeb_program.proofs.WordRunLemmas.{replied_reaches}
 use Rattle.zeb_program.proofs.tasks.carry_out.Goals as goal
 
 pub returns-in-Ask-clause-done : goal.returns-in-Ask-clause-done
@@ -20,7 +21,7 @@ returns-in-Ask-clause-done g c =
       record {
         serves = λ clean. asked_task told k c.args.task.now old new c.ask.result c.in-Ask.command c.in-Ask.is (c.ask.ensures.answer clean);
         over = λ clean. asked_task_over told g.L.Layout.format k c.args.task.now old new c.ask.result c.in-Ask.command c.in-Ask.is (c.ask.ensures.over clean) (c.ask.ensures.refused clean);
-        names = read_under (paths_of c.args.task.now) c.ask.result c.ask.ensures.read;
+        reaches = asked_reaches (telling (g.P.Paths.tells c.args.paths.now) (g.P.Paths.stands c.args.paths.now) (g.P.Paths.lists c.args.paths.now)) c.args.task.now c.in-Ask.command c.ask.result c.in-Ask.is c.ask.ensures.read;
       },
     )
 
@@ -40,7 +41,7 @@ returns-in-Change-clause-done g c =
         over = λ clean.
             changed_task_over told g.L.Layout.format k c.args.task.now old new own c.in-Change.kind c.in-Change.database c.in-Change.named c.deref.result.now
             c.in-Change.is c.deref.ensures.value (c.change_by_paths.ensures.over clean) (c.change_by_paths.ensures.leaves clean);
-        names = change_under c.args.task.now c.in-Change.kind c.in-Change.database c.in-Change.named c.deref.result.now c.change_by_paths.result c.in-Change.is c.deref.ensures.value c.change_by_paths.ensures.names;
+        reaches = change_reaches (telling (g.P.Paths.tells c.args.paths.now) (g.P.Paths.stands c.args.paths.now) (g.P.Paths.lists c.args.paths.now)) c.args.task.now c.in-Change.kind c.in-Change.database c.in-Change.named c.deref.result.now c.change_by_paths.result c.in-Change.is c.deref.ensures.value c.change_by_paths.ensures.reaches;
       },
     )
 
@@ -58,7 +59,7 @@ returns-in-Analyse-clause-done g c =
             (λ files known. analysed_files k told _ files known held done.0 done.2);
         over = λ clean.
             analysed_task_over told g.L.Layout.format k c.args.task.now held held done.0 c.in-Analyse.named c.deref-in-Analyse.result.now c.in-Analyse.is c.deref-in-Analyse.ensures.value done.2 refl;
-        names = replied_under (paths_of c.args.task.now) c.analyse_paths.result done.0 done.1 (analysis_under c.args.task.now c.in-Analyse.named c.deref-in-Analyse.result.now c.analyse_paths.result c.in-Analyse.is c.deref-in-Analyse.ensures.value c.analyse_paths.ensures.names);
+        reaches = replied_reaches (telling (g.P.Paths.tells c.args.paths.now) (g.P.Paths.stands c.args.paths.now) (g.P.Paths.lists c.args.paths.now)) (paths_of c.args.task.now) c.analyse_paths.result done.0 done.1 (analysis_reaches (telling (g.P.Paths.tells c.args.paths.now) (g.P.Paths.stands c.args.paths.now) (g.P.Paths.lists c.args.paths.now)) c.args.task.now c.in-Analyse.named c.deref-in-Analyse.result.now c.analyse_paths.result c.in-Analyse.is c.deref-in-Analyse.ensures.value c.analyse_paths.ensures.reaches);
       },
     )
 

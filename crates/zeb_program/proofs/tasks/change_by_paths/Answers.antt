@@ -88,3 +88,8 @@ returns-in_err-readers-clause-over g c = λ clean.
     let is : c.from_residual.result ≡ Err why = search rules in
     subst (PathsOver told format profile c.args.kind limits name paths held) (sym is)
     (unread_over told format profile c.args.kind limits name paths held why c.in_err-readers.ensures.unfound.0 c.in_err-readers.ensures.unfound.1 c.in_err-readers.ensures.memory)
+
+pub returns-in-Ok-clause-reaches : goal.returns-in-Ok-clause-reaches
+returns-in-Ok-clause-reaches g c =
+    let read = c.in_ok-readers.ensures.given in
+    (read.files, read.left, read.later, read.walks, read.ends)

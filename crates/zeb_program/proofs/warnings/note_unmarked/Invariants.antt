@@ -1,6 +1,4 @@
-use Rattle.std.proofs.Common.{◌≡◌, ◌+◌, ◌++◌, ◌≤◌, length}
-use Rattle.zeb_marc.specs.Splits.{split_of}
-use Rattle.zeb_program.specs.PrivateWarnings.{unmarked_from}
+use Rattle.zeb_program.proofs.Cited.{◌≡◌, ◌+◌, ◌++◌, ◌≤◌, length, split_of, unmarked_from}
 use Rattle.zeb_program.proofs.warnings.note_unmarked.Given as goal
 
 abbrev pub invariant-loop-left : goal.invariant-loop-left

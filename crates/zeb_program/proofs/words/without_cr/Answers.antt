@@ -1,5 +1,4 @@
-use Rattle.std.proofs.Common.{refl, ◌∙◌, ap, arith}
-use Rattle.std.proofs.lemmas.Str.Pattern.{strip_suffix_char}
+use Rattle.zeb_program.proofs.Cited.{refl, ◌∙◌, ap, arith, strip_suffix_char}
 use Rattle.zeb_program.proofs.LineLemmas.{stripped}
 use Rattle.zeb_program.proofs.words.without_cr.Goals as goal
 

@@ -9,7 +9,7 @@ pub returns-clause-joined : goal.returns-clause-joined
 returns-clause-joined c format db one run rise old mid new first rest = put_more format db one run rise old mid first new rest
 
 pub returns-clause-parted : goal.returns-clause-parted
-returns-clause-parted c format db one run rise old new puts = parted db one run rise old new format puts
+returns-clause-parted c format keeps db one run rise old new puts = parted db one run rise old new format keeps puts
 
 pub returns-clause-first : goal.returns-clause-first
 returns-clause-first c = refused_first

@@ -1,5 +1,4 @@
-use Rattle.zeb_search.proofs.Cited.{rules, true, false, ◌≡◌, ◌↔◌, ◌∙◌, ◌++◌, ◌∷◌, [], ℕ, List, Err, ap, refl, sym, subst, inl, inr, state, Trees, Vec, Global, TermCount, FoundKeys, Key, key_in, NoRows, EntryDict, RegisterDict, AreMet, HasMet, IsWanted, NamesEntry, StandTogether, TermsRise}
-use Rattle.zeb_register.specs.Terms.{HidesSome}
+use Rattle.zeb_search.proofs.Cited.{rules, true, false, ◌≡◌, ◌↔◌, ◌∙◌, ◌++◌, ◌∷◌, [], ℕ, List, Err, ap, refl, sym, subst, inl, inr, state, Trees, Vec, Global, TermCount, FoundKeys, Key, key_in, NoRows, EntryDict, RegisterDict, AreMet, HasMet, IsWanted, NamesEntry, StandTogether, TermsRise, HidesSome}
 use Rattle.zeb_search.proofs.SearchCountLemmas.{counted_for, counted_still}
 use Rattle.zeb_search.proofs.MetTerms.{keys_met, named_met}
 use Rattle.zeb_search.proofs.ToldLemmas.{tells_refused}

@@ -1,6 +1,4 @@
-use Rattle.zeb_search.proofs.Cited.{rules, Vec, Global, Trees, ◌≡◌, ◌∙◌, ◌∷◌, ◌+◌, ◌*◌, [], List, None, Some, ap, arith, length, length-append, refl, sym, subst, string_bytes, Err, state, Has, TermCount, NoRows, RegisterDict, HasMet, LeadsTo, TermsRise}
-use Rattle.zeb_register.specs.Terms.{HidesFrom, HidesSome, ListsAll, ListsFrom}
-use Rattle.zeb_register.proofs.CountLists.{all_told}
+use Rattle.zeb_search.proofs.Cited.{rules, Vec, Global, Trees, ◌≡◌, ◌∙◌, ◌∷◌, ◌+◌, ◌*◌, [], List, None, Some, ap, arith, length, length-append, refl, sym, subst, string_bytes, Err, state, Has, TermCount, NoRows, RegisterDict, HasMet, LeadsTo, TermsRise, HidesFrom, HidesSome, ListsAll, ListsFrom, all_told}
 use Rattle.zeb_register.proofs.FormatLemmas.{registers_have_terms}
 use Rattle.zeb_search.proofs.MetPages.{MetUpTo, all_met, last_met, met_of, more_of, more_rises, next_met, none_met}
 use Rattle.zeb_search.proofs.MetTerms.{page_told}
@@ -125,11 +123,10 @@ returns-in_err-page-clause-units g c =
     let new = state g.S.Store c.terms_from.new.conn in
     let format = g.L.Layout.format in
     let of = c.args.of in
-    let start = c.as_str.result.now in
     let cause = c.in_err-page.field-0.0 in
     let told : c.from_residual-in_err-page.result ≡ Err cause = search rules in
-    let hides = λ (trees : Trees). HidesFrom format trees of.db.0 of.index of.register start c.pages.page_terms in
-    let lists = λ (trees : Trees) (page : Vec TermCount Global). ListsFrom format trees of.db.0 of.index of.register start c.pages.page_terms page.items in
+    let hides = λ (trees : Trees). HidesFrom format trees of.db.0 of.index of.register c.as_str.result.now c.pages.page_terms in
+    let lists = λ (trees : Trees) (page : Vec TermCount Global). ListsFrom format trees of.db.0 of.index of.register c.as_str.result.now c.pages.page_terms page.items in
     tells_refused hides (λ trees. HidesSome format trees of.db.0 of.index of.register) lists (λ (trees : Trees) (terms : Vec TermCount Global). HasMet format trees of.db.0 of.index of.register c.args.wanted terms.items) old new cause c.from_residual-in_err-page.result told
     (λ _ _ hidden. (hidden.term, hidden.hidden)) (tells_later hides lists old now new c.pages.invariant.read c.terms_from.ensures.call.crash (Err cause) c.in_err-page.ensures.units)
 

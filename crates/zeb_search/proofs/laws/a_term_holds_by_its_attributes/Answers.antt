@@ -1,7 +1,4 @@
-use Rattle.zeb_search.proofs.Cited.{Has}
-use Rattle.zeb_register.specs.Content.{posted}
-use Rattle.zeb_search.specs.ByAttributes.{occurs_in}
-use Rattle.zeb_search.specs.Registers.{is_kept_in}
+use Rattle.zeb_search.proofs.Cited.{Has, posted, occurs_in, is_kept_in}
 use Rattle.zeb_search.proofs.AttributeRows.{has_row, held_by, held_by_query}
 use Rattle.zeb_search.proofs.KeptValues.{kept_by_query}
 use Rattle.zeb_search.proofs.laws.a_term_holds_by_its_attributes.Goals as goal

@@ -1,5 +1,4 @@
-use Rattle.zeb_search.proofs.Cited.{length, ◌-◌, ◌+◌, ◌≤◌, nat_cmp}
-use Rattle.std.specs.List.Sorted.{IsStrictlySortedBy}
+use Rattle.zeb_search.proofs.Cited.{length, ◌-◌, ◌+◌, ◌≤◌, nat_cmp, IsStrictlySortedBy}
 use Rattle.zeb_search.proofs.JoinedLists.{AreWalked}
 use Rattle.zeb_search.proofs.lists.joined.Given as goal
 

@@ -1,6 +1,5 @@
-use Rattle.zeb_search.proofs.Cited.{◌≡◌, ◌∙◌, ◌↔◌, ◌<◌, ◌+◌, ◌++◌, ◌∷◌, [], Bool, true, false, cond, IsTrue, List, length, get_or, arith, refl, sym, ap, subst, Vec, get_or_default, posting_cmp, Posting, IsBehind}
+use Rattle.zeb_search.proofs.Cited.{◌≡◌, ◌∙◌, ◌↔◌, ◌<◌, ◌+◌, ◌++◌, ◌∷◌, [], Bool, true, false, cond, IsTrue, List, length, get_or, arith, refl, sym, ap, subst, Vec, get_or_default, posting_cmp, Posting, IsBehind, IsStrictlySortedBy}
 use Rattle.std.proofs.Common.{Global}
-use Rattle.std.specs.List.Sorted.{IsStrictlySortedBy}
 use Rattle.zeb_search.proofs.FollowingPostings.{AreFollowed, follow_begins, follow_step, origin}
 use Rattle.zeb_search.proofs.lists.with_one_within.Goals as goal
 use Rattle.zeb_search.proofs.lists.with_one_within.Goals.{then-at-others+then-stands_behind+in_ok-push, else-at-others, else-at-others-via-then-at-others+else-stands_behind, else-at-others-via-else-at-others}

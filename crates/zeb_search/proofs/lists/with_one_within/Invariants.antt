@@ -1,5 +1,4 @@
-use Rattle.zeb_search.proofs.Cited.{length, ◌≤◌, posting_cmp}
-use Rattle.std.specs.List.Sorted.{IsStrictlySortedBy}
+use Rattle.zeb_search.proofs.Cited.{length, ◌≤◌, posting_cmp, IsStrictlySortedBy}
 use Rattle.zeb_search.proofs.FollowingPostings.{AreFollowed}
 use Rattle.zeb_search.proofs.lists.with_one_within.Given as goal
 

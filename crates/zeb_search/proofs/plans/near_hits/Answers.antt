@@ -1,6 +1,4 @@
-use Rattle.zeb_search.proofs.Cited.{rules, ◌≡◌, ◌∷◌, [], ℕ, Ok, Err, Vec, Global, inl, inr, refl, sym, subst, state, Trees, NearOf, PlanFinds, ReadsWord}
-use Rattle.std.specs.List.Sorted.{IsStrictlySortedBy}
-use Rattle.zeb_register.specs.Content.{posting_cmp}
+use Rattle.zeb_search.proofs.Cited.{rules, ◌≡◌, ◌∷◌, [], ℕ, Ok, Err, Vec, Global, inl, inr, refl, sym, subst, state, Trees, NearOf, PlanFinds, ReadsWord, IsStrictlySortedBy, posting_cmp}
 use Rattle.zeb_search.proofs.ReadLemmas.{as_read, clean_before}
 use Rattle.zeb_search.proofs.WordCalls.{Reads, places_later, word_refused}
 use Rattle.zeb_search.proofs.WordCounts.{words_behind, one_word_counted}

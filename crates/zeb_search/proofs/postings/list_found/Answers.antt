@@ -32,7 +32,6 @@ loop-left-preserved g c =
     let run = c.first_run.result.0.now in
     let behind = c.first_run.result.1.now in
     let list = c.in_ok-list.list in
-    let postings = c.loop-left.postings.items in
     let read = c.loop-left.invariant.read in
     let crash = c.list_of_run.ensures.call.crash in
     let rows = g.L.Layout.block_rows in
@@ -48,7 +47,7 @@ loop-left-preserved g c =
             let here = tells_later (λ trees. HidesKeys format trees of run (2 ≤ length run)) (λ (trees : Trees) (l : Vec Posting Global). ListsKeys format trees of run (2 ≤ length run) l.items) old now new read crash (Ok list)
             (c.in_ok-list.ensures.units (part_in_order of found.keys.items done run behind whole are)) clean store in
             subst (ListsKeys format old.now.trees of (done ++ run) (IsTrue found.are_neighbours)) (sym c.in_ok-postings.ensures)
-            (lists_more format old.now.trees of (2 ≤ length run) (IsTrue found.are_neighbours) joined done run postings list.items before here),
+            (lists_more format old.now.trees of (2 ≤ length run) (IsTrue found.are_neighbours) joined done run c.loop-left.postings.items list.items before here),
         λ clean store content has are.
             let first = clean_before now new crash clean in
             let there = subst (λ t. holds_in format t content) (sym (still_trees old now read first)) has in

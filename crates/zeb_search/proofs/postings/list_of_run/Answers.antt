@@ -1,7 +1,4 @@
-use Rattle.zeb_search.proofs.Cited.{on_ok_weaker, ◌≤◌, holds_in, length, Trees, Vec, Global, Posting, state, AreRun, HidesKeys, ListsKeys}
-use Rattle.zeb_register.specs.Units.{HasMalformedBetween, ListsBetween, ListsUnits, has_malformed}
-use Rattle.zeb_register.proofs.Answered.{told_held}
-use Rattle.zeb_register.proofs.KeyLists.{list_told}
+use Rattle.zeb_search.proofs.Cited.{on_ok_weaker, ◌≤◌, holds_in, length, Trees, Vec, Global, Posting, state, AreRun, HidesKeys, ListsKeys, HasMalformedBetween, ListsBetween, ListsUnits, has_malformed, told_held, list_told}
 use Rattle.zeb_search.proofs.KeyReads.{between_hides, between_lists, one_hides, one_lists}
 use Rattle.zeb_search.proofs.NeighbourLemmas.{between_counted, each_counted, ends_got, several}
 use Rattle.zeb_search.proofs.OneKey.{one_counted}

@@ -1,5 +1,4 @@
-use Rattle.zeb_search.proofs.Cited.{rules, ◌≡◌, IsTrue, Err, inl, List, Ok, subst, state, Trees, Vec, Global, EntryDict, Posting, AreNumbers, FoundKeys, FindsEntries, HasPosting, HidesEntries, HidesKeys, IsWanted, ListsKeys, NamesEntry, AreMet, ℕ}
-use Rattle.zeb_register.specs.Terms.{HidesSome}
+use Rattle.zeb_search.proofs.Cited.{rules, ◌≡◌, IsTrue, Err, inl, List, Ok, subst, state, Trees, Vec, Global, EntryDict, Posting, AreNumbers, FoundKeys, FindsEntries, HasPosting, HidesEntries, HidesKeys, IsWanted, ListsKeys, NamesEntry, AreMet, ℕ, HidesSome}
 use Rattle.zeb_search.proofs.EntryReads.{entries_hidden, entries_read}
 use Rattle.zeb_search.proofs.FoundLaws.{found_held, keys_held}
 use Rattle.zeb_search.proofs.NeighbourLemmas.{found_counted}

@@ -1,10 +1,5 @@
-use Rattle.zeb_search.proofs.Cited.{rules, ◌≡◌, ◌∙◌, IsTrue, Err, inl, length, Ok, sym, on_ok_weaker, state, holds_in, Trees, Vec, Global, EntryDict, Posting, RegisterOf, FoundKeys, AreFound, Fits, HasNoStar, HidesKeys, HidesWord, ListsKeys, AreMet, ReadsWord, posting_cmp}
-use Rattle.std.specs.List.Sorted.{IsStrictlySortedBy}
+use Rattle.zeb_search.proofs.Cited.{rules, ◌≡◌, ◌∙◌, IsTrue, Err, inl, length, Ok, sym, on_ok_weaker, state, holds_in, Trees, Vec, Global, EntryDict, Posting, RegisterOf, FoundKeys, AreFound, Fits, HasNoStar, HidesKeys, HidesWord, ListsKeys, AreMet, ReadsWord, posting_cmp, IsStrictlySortedBy, HidesSome, ListsUnits, has_malformed, told_held, list_told}
 use Rattle.zeb_keys.specs.declared.Register.TheVariants as register
-use Rattle.zeb_register.specs.Terms.{HidesSome}
-use Rattle.zeb_register.specs.Units.{ListsUnits, has_malformed}
-use Rattle.zeb_register.proofs.Answered.{told_held}
-use Rattle.zeb_register.proofs.KeyLists.{list_told}
 use Rattle.zeb_search.proofs.EntryReads.{entries_hidden, entries_read, reads_same}
 use Rattle.zeb_search.proofs.FoundLaws.{found_held, keys_held}
 use Rattle.zeb_search.proofs.KeyReads.{one_hides, one_lists}

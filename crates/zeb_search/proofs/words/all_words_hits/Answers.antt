@@ -69,19 +69,17 @@ loop-other-preserved g c =
 
 pub returns-clause-units : goal.returns-clause-units
 returns-clause-units g c clean store =
-    let others = c.in-Some.others.now in
     let first = c.loop-other.invariant.first in
-    let whole = take_whole others c.loop-other.other-index (omega (arith, c.loop-other-test.false)) in
-    let all : first.0 ∷ take c.loop-other.other-index others ≡ c.args.patterns.now = ap (λ (l : List (List Symbol)). first.0 ∷ l) whole ∙ sym first.1 in
+    let whole = take_whole c.in-Some.others.now c.loop-other.other-index (omega (arith, c.loop-other-test.false)) in
+    let all : first.0 ∷ take c.loop-other.other-index c.in-Some.others.now ≡ c.args.patterns.now = ap (λ (l : List (List Symbol)). first.0 ∷ l) whole ∙ sym first.1 in
     subst (λ (l : List (List Symbol)). FindsWords g.L.Layout.format (state g.S.Store c.args.connection.now).now.trees c.args.of.db.0 HasEach c.args.of.index l c.loop-other.hits.items) all
     (c.loop-other.invariant.found first.0 first.1 clean store)
 
 pub returns-clause-work : goal.returns-clause-work
 returns-clause-work g c =
-    let others = c.in-Some.others.now in
     let first = c.loop-other.invariant.first in
-    let whole = take_whole others c.loop-other.other-index (omega (arith, c.loop-other-test.false)) in
-    let all : first.0 ∷ take c.loop-other.other-index others ≡ c.args.patterns.now = ap (λ (l : List (List Symbol)). first.0 ∷ l) whole ∙ sym first.1 in
+    let whole = take_whole c.in-Some.others.now c.loop-other.other-index (omega (arith, c.loop-other-test.false)) in
+    let all : first.0 ∷ take c.loop-other.other-index c.in-Some.others.now ≡ c.args.patterns.now = ap (λ (l : List (List Symbol)). first.0 ∷ l) whole ∙ sym first.1 in
     subst (λ (l : List (List Symbol)). CountedWords g.L.Layout.format g.L.Layout.row_work g.L.Layout.block_rows c.args.of.db.0 c.args.of.index l (state g.S.Store c.args.connection.now) (state g.S.Store c.loop-other.connection) c.args.work.now c.loop-other.work)
     all (c.loop-other.invariant.counted first.0 first.1)
 

@@ -1,5 +1,4 @@
-use Rattle.zeb_search.proofs.Cited.{rules, ◌≡◌, ◌==◌, ◌∙◌, ◌∷◌, [], ℕ, Bool, false, List, Err, Vec, Global, ap, arith, filter, inl, refl, length, subst, subst₂, sym, on_ok_weaker, state, Trees, Symbol, posting_cmp, Posting, PhraseOf, AreNumbers, FindsTerm, FindsWords, HasPosting, HasRun, HidesWords, PlacesFound, CountedWords, TermFinds}
-use Rattle.std.specs.List.Sorted.{IsStrictlySortedBy}
+use Rattle.zeb_search.proofs.Cited.{rules, ◌≡◌, ◌==◌, ◌∙◌, ◌∷◌, [], ℕ, Bool, false, List, Err, Vec, Global, ap, arith, filter, inl, refl, length, subst, subst₂, sym, on_ok_weaker, state, Trees, Symbol, posting_cmp, Posting, PhraseOf, AreNumbers, FindsTerm, FindsWords, HasPosting, HasRun, HidesWords, PlacesFound, CountedWords, TermFinds, IsStrictlySortedBy}
 use Rattle.zeb_search.proofs.OneKey.{one_alone}
 use Rattle.zeb_search.proofs.PlanLemmas.{firsts_rise}
 use Rattle.zeb_search.proofs.ToldLemmas.{tells_more, tells_refused}
@@ -46,9 +45,8 @@ returns-in-len1-false-clause-units g c =
     let db = c.args.of.db.0 in
     let index = c.args.of.index in
     let pattern = c.pattern-item.result in
-    let patterns = c.args.patterns.now in
-    let one : length patterns ≡ 1 = omega (arith, c.in-len1-false.len_at_least, c.in-len1-false.len_below) in
-    let alone = one_alone patterns pattern one c.pattern-item.is in
+    let one : length c.args.patterns.now ≡ 1 = omega (arith, c.in-len1-false.len_at_least, c.in-len1-false.len_below) in
+    let alone = one_alone c.args.patterns.now pattern one c.pattern-item.is in
     subst₂ (λ (l : List (List Symbol)) (b : Bool). FindsTerm format db (PhraseOf index l b) old new c.word_hits.result) (sym alone) (sym c.in-len1-false.is-1)
     (tells_more (Hides format db index pattern) (λ trees. HidesWords format trees db index (pattern ∷ [])) (Finds format db index pattern) (λ (trees : Trees) (hits : Vec ℕ Global). FindsWords format trees db (λ lists. HasRun lists false) index (pattern ∷ []) hits.items)
     old new c.word_hits.result (λ _ _ bad. (pattern, inl refl, bad)) (λ _ _ hits. one_phrase_found format old.now.trees db index pattern hits.items) c.word_hits.ensures.units)
@@ -68,9 +66,8 @@ returns-in_err-places-clause-units g c =
 pub returns-in-len1-false-clause-work : goal.returns-in-len1-false-clause-work
 returns-in-len1-false-clause-work g c =
     let pattern = c.pattern-item.result in
-    let patterns = c.args.patterns.now in
-    let one : length patterns ≡ 1 = omega (arith, c.in-len1-false.len_at_least, c.in-len1-false.len_below) in
-    let alone = one_alone patterns pattern one c.pattern-item.is in
+    let one : length c.args.patterns.now ≡ 1 = omega (arith, c.in-len1-false.len_at_least, c.in-len1-false.len_below) in
+    let alone = one_alone c.args.patterns.now pattern one c.pattern-item.is in
     let old = state g.S.Store c.args.connection.now in
     let new = state g.S.Store c.word_hits.new.connection in
     on_ok_weaker c.word_hits.result (λ counted.

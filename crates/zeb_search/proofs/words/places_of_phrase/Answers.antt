@@ -1,6 +1,4 @@
-use Rattle.zeb_search.proofs.Cited.{rules, ◌≡◌, ◌∙◌, ◌++◌, ◌∷◌, [], List, Ok, Err, Vec, Global, ap, inl, refl, subst, sym, append_assoc, append_cancel_left, has_right, state, Trees, Has, Symbol, Posting, PlacesFound, ReadsWord, CountedWords}
-use Rattle.std.specs.List.Sorted.{IsStrictlySortedBy}
-use Rattle.zeb_register.specs.Content.{posting_cmp}
+use Rattle.zeb_search.proofs.Cited.{rules, ◌≡◌, ◌∙◌, ◌++◌, ◌∷◌, [], List, Ok, Err, Vec, Global, ap, inl, refl, subst, sym, append_assoc, append_cancel_left, has_right, state, Trees, Has, Symbol, Posting, PlacesFound, ReadsWord, CountedWords, IsStrictlySortedBy, posting_cmp}
 use Rattle.zeb_search.proofs.PlanLemmas.{no_patterns, some_patterns}
 use Rattle.zeb_search.proofs.ReadLemmas.{as_read, clean_before, read_then}
 use Rattle.zeb_search.proofs.WordCalls.{Reads, places_later, word_refused}
@@ -55,7 +53,6 @@ loop-pattern-init g c =
     let old = state g.S.Store c.args.connection.now in
     let new = state g.S.Store c.places_of_words.new.connection in
     let last = c.in-Some.last.now in
-    let others = c.in-Some.others.now in
     record {
       read = as_read old new c.in_ok-places.places c.in_ok-places.ensures.call;
       behind = (
@@ -67,7 +64,7 @@ loop-pattern-init g c =
             one_place g.L.Layout.format old.now.trees c.args.of.db.0 c.args.of.index last c.in_ok-places.places.items here.0 here.1,
       );
       counted = λ behind is.
-          let same : last ∷ [] ≡ behind = append_cancel_left others (last ∷ []) behind (sym c.in-Some.ensures.cases.0 ∙ is) in
+          let same : last ∷ [] ≡ behind = append_cancel_left c.in-Some.others.now (last ∷ []) behind (sym c.in-Some.ensures.cases.0 ∙ is) in
           subst (λ (l : List (List Symbol)). CountedWords g.L.Layout.format g.L.Layout.row_work g.L.Layout.block_rows c.args.of.db.0 c.args.of.index l old new c.args.work.now c.places_of_words.new.work) same
           (one_word_counted g.L.Layout.format g.L.Layout.row_work g.L.Layout.block_rows c.args.of.db.0 c.args.of.index last old new c.args.work.now c.places_of_words.new.work c.in_ok-places.ensures.work);
       no_work = c.places_of_words.ensures.no_work;

@@ -1,5 +1,4 @@
-use Rattle.zeb_words.proofs.Cited.{rules, ◌≡◌, ◌∙◌, ap, ap₂, codes, pos, int_max, int_min, range_inclusive_end, range_inclusive_start, signed_between, IfOk-weaker, new_rule, with_rule, rule_of, ValueParser, number_rule}
-use Rattle.std.specs.Prelude.{Some}
+use Rattle.zeb_words.proofs.Cited.{rules, ◌≡◌, ◌∙◌, ap, ap₂, codes, pos, int_max, int_min, range_inclusive_end, range_inclusive_start, signed_between, IfOk-weaker, new_rule, with_rule, rule_of, ValueParser, number_rule, Some}
 use Rattle.clap.specs.declared.builder.value_parser.ValueParser.TheVariants as parser
 use Rattle.zeb_words.proofs.program.scanning.Goals as goal
 

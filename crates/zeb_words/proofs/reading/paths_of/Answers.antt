@@ -1,5 +1,4 @@
-use Rattle.zeb_words.proofs.Cited.{rules, ◌≡◌, ◌∙◌, ap, codes, unwrap_or, IfOk-weaker, found_of, raw_values-rows, path_texts}
-use Rattle.std.specs.Prelude.{[]}
+use Rattle.zeb_words.proofs.Cited.{rules, ◌≡◌, ◌∙◌, ap, codes, unwrap_or, IfOk-weaker, found_of, raw_values-rows, path_texts, []}
 use Rattle.zeb_words.proofs.reading.paths_of.Goals as goal
 
 pub returns-in-Some : goal.returns-in-Some

@@ -1,5 +1,4 @@
-use Rattle.zeb_change.proofs.Cited.{◌≡◌, ◌∙◌, ◌++◌, List, ℕ, ap, arith, subst, sym, Key, Pending, IsNotNoted, IsNotedAlso, change_in}
-use Rattle.zeb_change.specs.NoteWords.{change_words}
+use Rattle.zeb_change.proofs.Cited.{◌≡◌, ◌∙◌, ◌++◌, List, ℕ, ap, arith, subst, sym, Key, Pending, IsNotNoted, IsNotedAlso, change_in, change_words}
 use Rattle.zeb_change.proofs.NotedChanges.{first}
 use Rattle.zeb_change.proofs.pending.Pending.note_first.Goals as goal
 

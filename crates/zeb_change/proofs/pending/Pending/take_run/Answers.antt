@@ -1,5 +1,4 @@
-use Rattle.zeb_change.proofs.Cited.{◌∙◌, arith, refl, sym}
-use Rattle.zeb_change.specs.declared.pending.TakenKey.{TakenKey}
+use Rattle.zeb_change.proofs.Cited.{◌∙◌, arith, refl, sym, TakenKey}
 use Rattle.zeb_change.proofs.TakenKeys.{all_taken, none_taken, one_taken}
 use Rattle.zeb_change.proofs.pending.Pending.take_run.Goals as goal
 

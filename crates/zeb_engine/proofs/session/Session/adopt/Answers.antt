@@ -8,15 +8,14 @@ returns-clause-taken g c clean =
     let old = state g.S.Store c.args.connection in
     let now = c.make_absent_tables.new.connection in
     let new = state g.S.Store now in
-    let settled = c.is_autocommit-settled.ensures in
-    let idle : IsTrue c.is_autocommit-settled.result = settled.value ∙ ap not c.make_absent_tables.ensures.idle in
+    let idle : IsTrue c.is_autocommit-settled.result = c.is_autocommit-settled.ensures.value ∙ ap not c.make_absent_tables.ensures.idle in
     let opened : StaysOpen old new = c.in_default.ensures.call.accepted clean in
     let makes : MakesTables old new = c.in_default.ensures.makes clean in
     let keeps = bears_keeps old new opened makes in
     record {
       ours = has_own old new opened c.in_default.ensures.takes makes;
       stays = opened;
-      durable = λ is_open db left. g.met.S.Store.settled now.store db is_open left ∙ ap (λ (d : Database). d.trees) (sym (settled.settled idle is_open));
+      durable = λ is_open db left. g.met.S.Store.settled now.store db is_open left ∙ ap (λ (d : Database). d.trees) (sym (c.is_autocommit-settled.ensures.settled idle is_open));
       there = makes.there;
       rows = makes.rows;
       keeps = keeps;

@@ -1,5 +1,4 @@
-use Rattle.zeb_engine.proofs.Cited.{◌≡◌, ◌∙◌, Err, OnOk, refl, rules, arith, subst, state, HasCleanDisk, conditions, name_bytes, splits_of, Work, Costs, no_work, ElderOver, EldersOver, LeavesRows, LosesNamedOver, ReasonsOver, NeverUnready, version_of}
-use Rattle.zeb_engine.specs.Steps.{changed_by_files, turned}
+use Rattle.zeb_engine.proofs.Cited.{◌≡◌, ◌∙◌, Err, OnOk, refl, rules, arith, subst, state, HasCleanDisk, conditions, name_bytes, splits_of, Work, Costs, no_work, ElderOver, EldersOver, LeavesRows, LosesNamedOver, ReasonsOver, NeverUnready, version_of, changed_by_files, turned}
 use Rattle.zeb_engine.proofs.CommandsDone.{faulty_done}
 use Rattle.zeb_engine.proofs.CommitCrashes.{survives_after}
 use Rattle.zeb_engine.proofs.Readers.{named_or_none}
@@ -61,7 +60,7 @@ returns-clause-done g c =
                   law.elders _ _ _ mid _ new.now there answer (rows there) texts told,
                   law.reasons _ _ _ mid _ new.now answer (rows there) texts told fine,
                 )) store;
-            leaves = said_after (λ trees. OnOk answer (LeavesRows held.profile c.args.kind name trees new)) old mid nothing opened (λ there. law.leaves _ _ _ mid _ new.now new refl answer (rows there));
+            leaves = said_after (λ trees. OnOk answer (LeavesRows (version_of g.L.Layout.format) held.profile c.args.kind name trees new)) old mid nothing opened (λ there. law.leaves _ _ _ mid _ new.now new refl answer (rows there));
             loses = λ texts told. said_after (λ trees. OnOk answer (LosesNamedOver held.profile name texts trees new.now.trees)) old mid nothing opened (λ there. law.named _ _ _ mid _ new.now answer (rows there) texts told);
             honest = λ is before keeps.
                 let at = held_behind looked end first held.limits clean before keeps in

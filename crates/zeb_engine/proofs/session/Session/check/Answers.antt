@@ -11,21 +11,19 @@ use Rattle.zeb_engine.proofs.session.Session.check.Goals as goal
 
 pub returns-in_err-check_ready-clause-done : goal.returns-in_err-check_ready-clause-done
 returns-in_err-check_ready-clause-done g c =
-    let held = c.args.self.now in
     let told : c.from_residual.result ≡ Err c.in_err-check_ready.field-0.0 = search rules in
-    rw told (unready_done g.L.Layout.format g.L.Layout.row_work g.L.Layout.block_rows held.limits c.in_err-check_ready.ensures.looks held.work c.requires.fresh (Check) tt)
+    rw told (unready_done g.L.Layout.format g.L.Layout.row_work g.L.Layout.block_rows c.args.self.now.limits c.in_err-check_ready.ensures.looks c.args.self.now.work c.requires.fresh (Check) tt)
 
 pub returns-in_err-is_image-clause-done : goal.returns-in_err-is_image-clause-done
 returns-in_err-is_image-clause-done g c =
     let held = c.args.self.now in
     let k = conditions (version_of g.L.Layout.format) held.profile held.limits in
     let old = state g.S.Store held.connection in
-    let mid = state g.S.Store c.check_ready.new.connection in
     let new = c.is_image.new.connection in
     let looked = c.in_ok-check_ready.ensures.looks in
     let image = c.in_err-is_image.ensures in
     let call = image.call in
-    let first = clean_before mid (state g.S.Store new) call.crash in
+    let first = clean_before (state g.S.Store c.check_ready.new.connection) (state g.S.Store new) call.crash in
     let fault = c.in_err-is_image.field-0.0 in
     let answer : Result Reply Refusal = Err (register_refusal fault) in
     let told : c.from_residual-in_err-is_image.result ≡ answer = search rules in

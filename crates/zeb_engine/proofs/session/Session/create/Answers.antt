@@ -1,5 +1,4 @@
-use Rattle.zeb_engine.proofs.Cited.{◌≡◌, Err, rules, arith, subst, sym, state, HasCleanDisk, conditions, name_bytes, Create, Reply, IsReady, CreatesDatabase, version_of}
-use Rattle.zeb_engine.specs.Steps.{turned, created}
+use Rattle.zeb_engine.proofs.Cited.{◌≡◌, Err, rules, arith, subst, sym, state, HasCleanDisk, conditions, name_bytes, Create, Reply, IsReady, CreatesDatabase, version_of, turned, created}
 use Rattle.zeb_engine.proofs.ChangeNumbers.{showing}
 use Rattle.zeb_engine.proofs.MadeTables.{creates_makes, creates_told}
 use Rattle.zeb_engine.proofs.ReadsInTurn.{asked_never, asked_unread}

@@ -1,5 +1,4 @@
-use Rattle.zeb_engine.proofs.Cited.{◌≡◌, Err, rules, arith, refl, subst, sym, state, HasCleanDisk, conditions, name_bytes, Drop, Reply, IsReady, DropsNamed, version_of}
-use Rattle.zeb_engine.specs.Steps.{turned, dropped}
+use Rattle.zeb_engine.proofs.Cited.{◌≡◌, Err, rules, arith, refl, subst, sym, state, HasCleanDisk, conditions, name_bytes, Drop, Reply, IsReady, DropsNamed, version_of, turned, dropped}
 use Rattle.zeb_engine.proofs.ChangeNumbers.{showing}
 use Rattle.zeb_engine.proofs.MadeTables.{drops_takes, drops_told}
 use Rattle.zeb_engine.proofs.ReadsInTurn.{asked_never, asked_unread}

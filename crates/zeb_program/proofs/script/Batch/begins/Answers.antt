@@ -1,9 +1,4 @@
-use Rattle.std.proofs.Common.{◌≡◌, ◌∙◌, Bool, ap, false, rules, subst, sym, true}
-use Rattle.std.proofs.lemmas.Slice.Eq.{bytes_eq-Decides}
-use Rattle.std.specs.Prelude.{codes}
-use Rattle.std.specs.Str.{IsUtf8}
-use Rattle.zeb_program.specs.Scripts.{BeginsRegister}
-use Rattle.zeb_program.specs.Words.{without_blanks}
+use Rattle.zeb_program.proofs.Cited.{◌≡◌, ◌∙◌, Bool, ap, false, rules, subst, sym, true, bytes_eq-Decides, codes, IsUtf8, BeginsRegister, without_blanks}
 use Rattle.zeb_program.proofs.PathLemmas.{begins_here, begins_later, begins_none, begins_rest}
 use Rattle.zeb_program.proofs.ScriptLemmas.{after_first_line-IsUtf8, is_empty}
 use Rattle.zeb_program.proofs.script.Batch.begins.Goals as goal

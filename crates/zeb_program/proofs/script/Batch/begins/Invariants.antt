@@ -1,7 +1,4 @@
-use Rattle.std.proofs.Common.{length}
-use Rattle.zeb_program.specs.Scripts.{BeginsRegister}
-use denote.Text.{Utf8}
-use denote.Shadow.{shadow}
+use Rattle.zeb_program.proofs.Cited.{length, BeginsRegister, Utf8, shadow}
 use Rattle.zeb_program.proofs.script.Batch.begins.Given as goal
 
 -- a line of the whole is one of the rest

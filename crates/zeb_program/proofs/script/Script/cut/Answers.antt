@@ -1,8 +1,5 @@
-use Rattle.std.proofs.Common.{◌∙◌, sym, refl, ap, ◌≡◌, Bool, true, false}
-use Rattle.std.proofs.lemmas.Slice.Eq.{bytes_eq-Decides}
-use Rattle.std.specs.Prelude.{codes}
+use Rattle.zeb_program.proofs.Cited.{◌∙◌, sym, refl, ap, ◌≡◌, Bool, true, false, bytes_eq-Decides, codes, without_blanks}
 use Rattle.zeb_program.proofs.ScriptLemmas.{reached_start, reached_next, reached_boundary, reached_divider, reached_end, after_first_line-IsUtf8, not_empty, is_empty}
-use Rattle.zeb_program.specs.Words.{without_blanks}
 use Rattle.zeb_program.proofs.script.Script.cut.Goals as goal
 
 pub loop-rest-init : goal.loop-rest-init
@@ -13,8 +10,7 @@ split_at-requires c = reached_boundary c.loop-rest.lines_before c.args.text.now 
 
 pub returns-then-eq-clause-divided : goal.returns-then-eq-clause-divided
 returns-then-eq-clause-divided c =
-    let divider = (bytes_eq-Decides c.without_blanks.result.now (codes ".")).0 (sym c.if-eq.ensures) in
-    let line = sym (c.without_blanks.ensures ∙ ap without_blanks c.cut_line.ensures.line) ∙ divider in
+    let line = sym (c.without_blanks.ensures ∙ ap without_blanks c.cut_line.ensures.line) ∙ ((bytes_eq-Decides c.without_blanks.result.now (codes ".")).0 (sym c.if-eq.ensures)) in
     rw c.cut_line.ensures.rest (reached_divider c.loop-rest.lines_before c.args.text.now c.loop-rest.rest.now c.split_at.result.0.now c.loop-rest.invariant.1 c.split_at.ensures.front line)
 
 differs : {b : Bool} → b ≡ false → b ≡ true → ⊥

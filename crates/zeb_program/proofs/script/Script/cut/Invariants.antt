@@ -1,7 +1,5 @@
-use Rattle.std.proofs.Common.{length}
+use Rattle.zeb_program.proofs.Cited.{length, Utf8, shadow}
 use Rattle.zeb_program.proofs.ScriptLemmas.{IsReached}
-use denote.Text.{Utf8}
-use denote.Shadow.{shadow}
 use Rattle.zeb_program.proofs.script.Script.cut.Given as goal
 
 abbrev pub invariant-loop-rest : goal.invariant-loop-rest

@@ -1,0 +1,39 @@
+use Rattle.zeb_leaves.proofs.Cited.{Row, List, [], Err, ap, arith, inl, subst, rules, state}
+use Rattle.zeb_leaves.proofs.SpotsSaid.{sums_hidden, sums_told, terms_hidden}
+use Rattle.zeb_leaves.proofs.TermsTold.{uncovered_hides}
+use Rattle.zeb_leaves.specs.PrivateTermReads.{HideAllOwns, IsNoText, SaysNone, ShowAllOwns}
+use Rattle.zeb_register.proofs.Answered.{refused_so}
+use Rattle.zeb_leaves.proofs.term_totals.totals.Goals as goal
+
+pub returns-clause-units : goal.returns-clause-units
+returns-clause-units g c clean store =
+    let s0 = state g.S.Store c.args.conn.now in
+    let rows = c.in_ok-rows.rows.items in
+    let counted = c.in_ok-counts.ensures in
+    let said = c.in_ok-occurrences.ensures in
+    sums_told s0 store c.args.at rows (c.in_ok-rows.ensures.finds clean store) counted.0 said.0 c.in_ok-counts.counts.items said.1 (subst (λ (l : List Row). ShowAllOwns [] l counted.0) c.deref.ensures.value counted.1) counted.2
+    (subst (λ (l : List Row). ShowAllOwns [] l said.0) c.deref-2.ensures.value said.2) said.3 _ (omega (arith, c.len.ensures, c.in_ok-counts.counts.ok.0)) said.4
+
+pub returns-in_err-occurrences-clause-units : goal.returns-in_err-occurrences-clause-units
+returns-in_err-occurrences-clause-units g c clean store =
+    let s0 = state g.S.Store c.args.conn.now in
+    refused_so _ _ c.from_residual-in_err-occurrences.result c.in_err-occurrences.field-0.0 (search rules) (
+      λ told. sums_hidden s0 store c.args.at c.in_ok-rows.rows.items (c.in_ok-rows.ensures.finds clean store) (subst (HideAllOwns SaysNone []) c.deref-2.ensures.value (c.in_err-occurrences.ensures.1 told)),
+      λ failed. absurd (c.in_err-occurrences.ensures.0 failed),
+    )
+
+pub returns-in_err-counts-clause-units : goal.returns-in_err-counts-clause-units
+returns-in_err-counts-clause-units g c clean store =
+    let s0 = state g.S.Store c.args.conn.now in
+    refused_so _ _ c.from_residual-in_err-counts.result c.in_err-counts.field-0.0 (search rules) (
+      λ told. terms_hidden s0 store c.args.at c.in_ok-rows.rows.items (c.in_ok-rows.ensures.finds clean store) (subst (HideAllOwns IsNoText []) c.deref.ensures.value (c.in_err-counts.ensures.1 told)),
+      λ failed. absurd (c.in_err-counts.ensures.0 failed),
+    )
+
+pub returns-in_err-rows-clause-units : goal.returns-in_err-rows-clause-units
+returns-in_err-rows-clause-units g c clean store =
+    let s0 = state g.S.Store c.args.conn.now in
+    refused_so _ _ c.from_residual.result c.in_err-rows.field-0.0 (search rules) (
+      λ told. let it = uncovered_hides s0 store c.args.at (c.in_err-rows.ensures.finds clean store told) in (it.0, inl it.1),
+      λ failed. c.in_err-rows.ensures.refused clean store (ap Err failed),
+    )

@@ -1,0 +1,12 @@
+use Rattle.zeb_leaves.proofs.Cited.{rules, pos, to_z-of_z, register_code}
+use Rattle.zeb_register.proofs.Calls.{alters, refused_keeps}
+use Rattle.zeb_register.proofs.Columns.{column_is}
+use Rattle.zeb_leaves.proofs.WriteStatements.{sets_leaf}
+use Rattle.zeb_leaves.proofs.writes.leaf_set.Goals as goal
+
+pub returns-clause-call : goal.returns-clause-call
+returns-clause-call g c = record {
+  ok = λ clean inside. alters _ _ _ _ _ _ c.execute.result (c.execute.ensures.runs clean inside) (λ count store ran. sets_leaf c.args.at.db.0 (pos c.args.at.index) (pos (register_code c.args.at.register)) c.args.term.now c.args.number c.args.bytes.now _ _ count store (simp (c.params-to_sql.ensures, c.params-to_sql-2.ensures, c.params-to_sql-3.ensures, c.params-to_sql-4.ensures, c.params-to_sql-5.ensures, c.params-to_sql-6.ensures, to_z-of_z, column_is c.column-db.ensures.fits c.column-db.ensures.value, c.from-reg.ensures, c.code.ensures, c.ranges.number) at ran));
+  err = λ clean inside. refused_keeps _ _ _ _ c.execute.result (c.execute.ensures.runs clean inside);
+  crash = search rules;
+}

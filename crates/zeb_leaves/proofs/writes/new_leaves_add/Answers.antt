@@ -1,0 +1,43 @@
+-- One leaf is put after the other.
+use Rattle.zeb_leaves.proofs.Cited.{state, HasCleanDisk, Has, all_has, ◌≡◌, ◌∙◌, Err, [], arith, refl, rules, sym, blocks_tree}
+use Rattle.std.specs.Prelude.{IsUtf8}
+use Rattle.sqlite_rules.proofs.ListLemmas.{has_at}
+use Rattle.zeb_leaf.specs.declared.parting.NewLeaf.{NewLeaf}
+use Rattle.zeb_leaves.specs.PrivateLeafWrites.{GainsLeaves}
+use Rattle.zeb_leaves.proofs.WrittenLeaves.{gains_more, gains_none}
+use Rattle.zeb_register.proofs.CallsInTurn.{quiet_still, quiet_then}
+use Rattle.zeb_register.proofs.Calls.{changes_none, stays_still, stays_then}
+use Rattle.zeb_leaves.proofs.writes.new_leaves_add.Goals as goal
+
+pub loop-leaf-init : goal.loop-leaf-init
+loop-leaf-init g c =
+    let first = state g.S.Store c.args.tx.now.conn.now in
+    record {
+      same = refl;
+      crash = quiet_still first;
+      stays = λ clean inside. stays_still first inside;
+      within = omega arith;
+      put = λ clean inside store. changes_none blocks_tree (GainsLeaves c.args.at []) first (gains_none c.args.at first blocks_tree) store;
+    }
+
+pub loop-leaf-preserved : goal.loop-leaf-preserved
+loop-leaf-preserved g c = record {
+  same = c.in_ok-new_leaf_add.ensures.same ∙ c.loop-leaf.invariant.same;
+  crash = quiet_then _ _ _ c.loop-leaf.invariant.crash c.new_leaf_add.ensures.call.crash;
+  stays = λ clean inside.
+      let before = c.loop-leaf.invariant.stays (omega (arith, c.new_leaf_add.ensures.call.crash.clean)) inside in stays_then _ _ _ before (c.in_ok-new_leaf_add.ensures.call.ok clean before.inside).on;
+  within = omega (arith, c.loop-leaf-test.true);
+  put = λ clean inside store.
+      let mid : HasCleanDisk (state g.S.Store c.loop-leaf.tx.conn.now) = omega (arith, c.new_leaf_add.ensures.call.crash.clean) in
+      let before = c.loop-leaf.invariant.stays mid inside in
+      let put' = c.loop-leaf.invariant.put mid inside store in
+      gains_more c.args.at c.args.leaves.now c.loop-leaf.leaf-index c.leaf-item.result _ _ _ c.loop-leaf-test.true c.leaf-item.is put' ((c.in_ok-new_leaf_add.ensures.call.ok clean before.inside).rows put'.layout);
+}
+
+pub returns-in_err-new_leaf_add-clause-honest : goal.returns-in_err-new_leaf_add-clause-honest
+returns-in_err-new_leaf_add-clause-honest g c is all =
+    let fault = c.in_err-new_leaf_add.field-0.0 in
+    let told : c.from_residual.result ≡ Err fault = search rules in
+    let leaf = c.leaf-item.result in
+    let here : Has c.args.leaves.now leaf = has_at c.args.leaves.now c.loop-leaf.leaf-index leaf c.loop-leaf-test.true c.leaf-item.is in
+    c.in_err-new_leaf_add.ensures.honest (sym told ∙ is) (all_has (λ (l : NewLeaf). IsUtf8 l.term) c.args.leaves.now leaf all here)

@@ -1,0 +1,59 @@
+-- What only the contracts of private functions speak of; no public clause reaches it: leaves that are written.
+use Rattle.std.specs.Prelude.{◌≡◌, ◌⊎◌, ◌↔◌, ◌++◌, ◌∷◌, ℕ, ℤ, pos, Bool, List, []}
+use Rattle.sqlite.specs.declared.types.Value.TheVariants.{Blob, Int, Text}
+use Rattle.sqlite.specs.Order.{Row}
+use Rattle.sqlite.specs.Tree.{Trees}
+use Rattle.sqlite_rules.specs.Lists.{Has}
+use Rattle.zeb_keys.specs.Registers.{register_code}
+use Rattle.zeb_leaf.specs.declared.entries.Entry.{Entry}
+use Rattle.zeb_leaf.specs.declared.parting.NewLeaf.{NewLeaf}
+use Rattle.zeb_register.specs.Covering.{leaf_key}
+use Rattle.zeb_leaves.specs.LeafChanges.{ArePartedFrom}
+use Rattle.zeb_register.specs.PrivateKeyColumns.{IsBlockOf, register_columns}
+use Rattle.zeb_register.specs.Sql.{HasRow}
+use Rattle.zeb_register.specs.UnitChanges.{IsTold}
+use Rattle.zeb_register.specs.declared.registers.RegisterOf.{RegisterOf}
+
+-- the row of a leaf, with its register, its own key and its bytes
+abbrev pub leaf_columns : RegisterOf → List ℕ → ℤ → List ℕ → Row
+leaf_columns at term number bytes = register_columns at ++ (Text term ∷ Int number ∷ Blob bytes ∷ [])
+
+-- a row of this register with this key
+abbrev pub IsLeafWith : RegisterOf → List ℕ → ℤ → Row → Type 0
+IsLeafWith at = IsBlockOf at.db.0 (pos at.index) (pos (register_code at.register))
+
+abbrev pub new_row : RegisterOf → NewLeaf → Row
+new_row at leaf = leaf_columns at leaf.term (pos leaf.block) leaf.bytes
+
+-- the row is that of one of the leaves
+abbrev pub IsNewRow : RegisterOf → List NewLeaf → Row → Type 0
+IsNewRow at leaves row = (leaf : NewLeaf) × Has leaves leaf × (row ≡ new_row at leaf)
+
+-- the table has the rows of the leaves beside those that it had
+abbrev pub GainsLeaves : RegisterOf → List NewLeaf → ℕ → Trees → Trees → Type 0
+GainsLeaves at leaves tree old new = (row : Row) → HasRow new tree row ↔ (HasRow old tree row ⊎ IsNewRow at leaves row)
+
+-- the table has the leaf with this key and these bytes in the place of that with the key, and the others beside
+abbrev pub PutsLeaves : RegisterOf → List ℕ → ℤ → List ℕ → List NewLeaf → ℕ → Trees → Trees → Type 0
+PutsLeaves at term number bytes leaves tree old new =
+    (row : Row) → HasRow new tree row
+    ↔ ((HasRow old tree row × ¬ IsLeafWith at term number row) ⊎ ((row ≡ leaf_columns at term number bytes) ⊎ IsNewRow at leaves row))
+
+-- where it is told rightly whether there is a leaf with the key, the leaves are put
+abbrev pub IfToldPuts : Bool → RegisterOf → List ℕ → ℤ → List ℕ → List NewLeaf → ℕ → Trees → Trees → Type 0
+IfToldPuts is_there at term number bytes leaves tree old new =
+    IsTold is_there (IsLeafWith at term number) tree old → PutsLeaves at term number bytes leaves tree old new
+
+-- a row of the register that shows one of these leaves behind its register
+abbrev pub IsRowOfOne : RegisterOf → List Row → Row → Type 0
+IsRowOfOne at leaves row = (leaf : Row) × Has leaves leaf × (row ≡ register_columns at ++ leaf)
+
+-- the table has, in the place of the leaf with this key, leaves that have the entries from the key on
+abbrev pub PutsEntries : RegisterOf → List ℕ → ℕ → List Entry → ℕ → Trees → Trees → Type 0
+PutsEntries at term block entries tree old new =
+    (first : Row) × (more : List Row) × ArePartedFrom (leaf_key term block) first more entries
+    × ((row : Row) → HasRow new tree row ↔ ((HasRow old tree row × ¬ IsLeafWith at term (pos block) row) ⊎ IsRowOfOne at (first ∷ more) row))
+
+abbrev pub IfToldPutsEntries : Bool → RegisterOf → List ℕ → ℕ → List Entry → ℕ → Trees → Trees → Type 0
+IfToldPutsEntries is_there at term block entries tree old new =
+    IsTold is_there (IsLeafWith at term (pos block)) tree old → PutsEntries at term block entries tree old new

@@ -1,0 +1,130 @@
+//! How much a register holds, by the entries of its leaves.
+
+ghost use Rattle.std.specs.Prelude.{◌≡◌, ◌≢◌, ℕ, List, length};
+ghost use Rattle.std.specs.Option.{option_map};
+ghost use Rattle.sqlite.specs.Held.{state};
+ghost use Rattle.sqlite.specs.State.{IsUnchanged};
+ghost use Rattle.zeb_leaf.specs.declared.spans.BlockKey.{BlockKey as KeyOfBlock};
+ghost use Rattle.zeb_leaves.specs.PrivateTermReads.{HideAllOwns, HideOwns, HidesOwn, SayMany};
+ghost use Rattle.zeb_leaves.specs.PrivateTermReads.{SaysNone, ShowAllOwns, ShowOwns, ShowsOwn, SomeBad};
+ghost use Rattle.zeb_register.specs.Readings.{SaysPart};
+ghost use Rattle.zeb_leaves.specs.TermReads.{TellsLeafTotals};
+ghost use Rattle.zeb_register.specs.Answers.{Answers, IfDamaged};
+ghost use Rattle.zeb_register.specs.Calls.{Reading};
+ghost use Rattle.zeb_register.specs.Occurring.{capped};
+
+use crate::own_entries::own_entries;
+use crate::rows_from::leaves_from;
+use crate::said_postings::push_said;
+use crate::spans::own_key;
+use crate::terms::counts_in;
+use sqlite::{Alter, Connection, Row};
+use std::alloc::Global;
+use zeb_leaf::{BlockKey, Entry, Held};
+use zeb_register::{RegFault, RegisterOf, Totals};
+
+/// How many postings an entry says. `Damaged` where it says none.
+fn entry_postings(alloc: Global, entry: &Entry) -> Result<u64, RegFault>
+    ensures { Answers (λ fault. (fault ≢ RegFault.Store) × IfDamaged (SaysNone entry.now) fault)
+        (λ many. (part : List _) × SaysPart entry.now part × (many ≡ length part)) result }
+{
+    let mut part = Vec::new(alloc);
+    let held = Held {
+        block: entry.block,
+        records: entry.records,
+        bytes: entry.bytes.as_slice(),
+    };
+    push_said(&mut part, &held)?;
+    Ok(part.len() as u64)
+}
+
+/// How many postings entries say together.
+fn entries_postings(alloc: Global, own: &[Entry]) -> Result<u64, RegFault>
+    ensures { Answers (λ fault. (fault ≢ RegFault.Store)
+        × IfDamaged (SomeBad SaysNone own.now) fault)
+        (λ many. (sum : ℕ) × SayMany own.now sum × (many ≡ capped sum)) result }
+{
+    let mut many: u64 = 0;
+    for entry in own {
+        many = many.saturating_add(entry_postings(alloc, entry)?);
+    }
+    Ok(many)
+}
+
+/// How many postings the entries say that a row has from the first key on and below the end, where there is one.
+fn row_postings(
+    alloc: Global,
+    row: &Row,
+    from: BlockKey,
+    end: Option<BlockKey>,
+) -> Result<u64, RegFault>
+    ensures { Answers (λ fault. (fault ≢ RegFault.Store)
+        × IfDamaged (HidesOwn SaysNone from.entry.term.now from.entry.block
+        (option_map (λ (k : KeyOfBlock). (k.term.now, k.block)) end.entry) row.now) fault)
+        (λ many. (own : List _) × (sum : ℕ) × ShowsOwn from.entry.term.now from.entry.block
+        (option_map (λ (k : KeyOfBlock). (k.term.now, k.block)) end.entry) row.now own
+        × SayMany own sum × (many ≡ capped sum)) result }
+{
+    let own = own_entries(alloc, row, from, end)?;
+    entries_postings(alloc, &own)
+}
+
+/// How many postings the entries say that rows have from the first text on: each row up to the own key of the next.
+fn postings_from<'a>(
+    alloc: Global,
+    leaf: &'a Row,
+    behind: &'a [Row],
+    first: &'a [u8],
+) -> Result<u64, RegFault>
+    ensures { Answers (λ fault. (fault ≢ RegFault.Store)
+        × IfDamaged (HideOwns SaysNone first.now 0 leaf.now behind.now) fault)
+        (λ many. (own : List _) × (sum : ℕ) × ShowOwns first.now 0 leaf.now behind.now own
+        × SayMany own sum × (many ≡ capped sum)) result }
+{
+    let mut many: u64 = 0;
+    let mut row = leaf;
+    let mut from = BlockKey {
+        term: first,
+        block: 0,
+    };
+    for next in behind {
+        let own = own_key(next)?;
+        many = many.saturating_add(row_postings(alloc, row, from, Some(own))?);
+        row = next;
+        from = own;
+    }
+    Ok(many.saturating_add(row_postings(alloc, row, from, None)?))
+}
+
+/// How many postings the entries of these leaves say from the first text on.
+fn postings_in(alloc: Global, rows: &[Row], first: &[u8]) -> Result<u64, RegFault>
+    ensures { Answers (λ fault. (fault ≢ RegFault.Store)
+        × IfDamaged (HideAllOwns SaysNone first.now rows.now) fault)
+        (λ many. (own : List _) × (sum : ℕ) × ShowAllOwns first.now rows.now own
+        × SayMany own sum × (many ≡ capped sum)) result }
+{
+    match rows.split_first() {
+        Some((leaf, behind)) => postings_from(alloc, leaf, behind, first),
+        None => Ok(0),
+    }
+}
+
+/// How many terms of a register some record has, and how many postings these have, each at most 2^64 - 1. All leaves of the register are
+/// held at once. `Damaged` only where a term has no count, one that some record has isn't UTF-8, or a block of such a term is malformed.
+pub fn totals<S: Alter>(
+    alloc: Global,
+    conn: &mut Connection<S>,
+    at: RegisterOf,
+) -> Result<Totals, RegFault>
+    ensures call { Reading (state S.Store conn.old) (state S.Store conn.new) result
+        (λ _. IsUnchanged) }
+    ensures units { TellsLeafTotals at (state S.Store conn.old) (state S.Store conn.new) result }
+{
+    let rows = leaves_from(alloc, conn, at, "")?;
+    let counts = counts_in(alloc, &rows, &[])?;
+    let occurrences = postings_in(alloc, &rows, &[])?;
+    Ok(Totals {
+        terms: counts.len() as u64,
+        occurrences,
+    })
+}

@@ -1,0 +1,150 @@
+//! The terms of a register, each with how many records have it, by the entries of its leaves.
+
+ghost use Rattle.std.specs.Prelude.{◌≡◌, ◌≢◌, ◌↔◌, List, [], IsTrue, IsUtf8};
+ghost use Rattle.std.specs.Option.{option_map};
+ghost use Rattle.sqlite.specs.Held.{state};
+ghost use Rattle.sqlite.specs.State.{IsUnchanged};
+ghost use Rattle.zeb_leaf.specs.declared.spans.BlockKey.{BlockKey as KeyOfBlock};
+ghost use Rattle.zeb_leaves.specs.PrivateTermReads.{CountAll, CountsIn, HideAllOwns, HideOwns, HidesOwn};
+ghost use Rattle.zeb_leaves.specs.PrivateTermReads.{IsNoText, ShowAllOwns, ShowOwns, ShowsOwn, SomeBad};
+ghost use Rattle.zeb_leaves.specs.TermReads.{TellsAllLeaves};
+ghost use Rattle.zeb_register.specs.Answers.{Answers, IfDamaged};
+ghost use Rattle.zeb_register.specs.Calls.{Reading};
+
+use crate::own_entries::own_entries;
+use crate::rows_from::leaves_from;
+use crate::said_postings::records_with;
+use crate::spans::own_key;
+use sqlite::{Alter, Connection, Row};
+use std::alloc::Global;
+use zeb_keys::Term;
+use zeb_leaf::{BlockKey, Entry};
+use zeb_register::{RegFault, RegisterOf, TermCount};
+
+/// The term of these bytes. `Damaged` where they are no UTF-8.
+fn term_of(alloc: Global, bytes: &[u8]) -> Result<Term, RegFault>
+    ensures { Answers (λ fault. (fault ≢ RegFault.Store) × IfDamaged (¬ IsUtf8 bytes.now) fault)
+        (λ term. (term ≡ bytes.now) × IsUtf8 bytes.now) result }
+{
+    match str::from_utf8(bytes) {
+        Ok(text) => Ok(Term::new(String::from_str(alloc, text)?)),
+        Err(_) => Err(RegFault::Damaged),
+    }
+}
+
+/// Whether a term has these bytes.
+fn is_term(term: &Term, bytes: &[u8]) -> bool
+    ensures { IsTrue result ↔ (term.now ≡ bytes.now) }
+{
+    term.as_str().as_bytes() == bytes
+}
+
+/// Counts the records of an entry. No term of the entries behind it comes before the last of those that are counted.
+fn count_entry(alloc: Global, counts: &mut Vec<TermCount>, entry: &Entry) -> Result<(), RegFault>
+    ensures { Answers (λ fault. (fault ≢ RegFault.Store) × IfDamaged (IsNoText entry.now) fault)
+        (λ _. CountsIn entry.now counts.old.items counts.new.items) result }
+{
+    if let Some(last) = counts.last_mut() {
+        if is_term(&last.term, entry.term.as_slice()) {
+            last.records = records_with(last.records, entry.records)?;
+            return Ok(());
+        }
+    }
+    let term = term_of(alloc, entry.term.as_slice())?;
+    counts.push(TermCount {
+        term,
+        records: entry.records,
+    })?;
+    Ok(())
+}
+
+/// Counts the records of entries, one after the other.
+fn count_entries(alloc: Global, counts: &mut Vec<TermCount>, own: &[Entry]) -> Result<(), RegFault>
+    ensures { Answers (λ fault. (fault ≢ RegFault.Store)
+        × IfDamaged (SomeBad IsNoText own.now) fault)
+        (λ _. CountAll own.now counts.old.items counts.new.items) result }
+{
+    for entry in own {
+        count_entry(alloc, counts, entry)?;
+    }
+    Ok(())
+}
+
+/// Counts the records of the entries that a row has from the first key on and below the end, where there is one.
+fn count_row(
+    alloc: Global,
+    counts: &mut Vec<TermCount>,
+    row: &Row,
+    from: BlockKey,
+    end: Option<BlockKey>,
+) -> Result<(), RegFault>
+    ensures { Answers (λ fault. (fault ≢ RegFault.Store)
+        × IfDamaged (HidesOwn IsNoText from.entry.term.now from.entry.block
+        (option_map (λ (k : KeyOfBlock). (k.term.now, k.block)) end.entry) row.now) fault)
+        (λ _. (own : List _) × ShowsOwn from.entry.term.now from.entry.block
+        (option_map (λ (k : KeyOfBlock). (k.term.now, k.block)) end.entry) row.now own
+        × CountAll own counts.old.items counts.new.items) result }
+{
+    let own = own_entries(alloc, row, from, end)?;
+    count_entries(alloc, counts, &own)
+}
+
+/// The terms of the entries that rows have from the first text on, each with its records: each row up to the own key of the next.
+fn counts_from<'a>(
+    alloc: Global,
+    leaf: &'a Row,
+    behind: &'a [Row],
+    first: &'a [u8],
+) -> Result<Vec<TermCount>, RegFault>
+    ensures { Answers (λ fault. (fault ≢ RegFault.Store)
+        × IfDamaged (HideOwns IsNoText first.now 0 leaf.now behind.now) fault)
+        (λ counts. (own : List _) × ShowOwns first.now 0 leaf.now behind.now own
+        × CountAll own [] counts.items) result }
+{
+    let mut counts = Vec::new(alloc);
+    let mut row = leaf;
+    let mut from = BlockKey {
+        term: first,
+        block: 0,
+    };
+    for next in behind {
+        let own = own_key(next)?;
+        count_row(alloc, &mut counts, row, from, Some(own))?;
+        row = next;
+        from = own;
+    }
+    count_row(alloc, &mut counts, row, from, None)?;
+    Ok(counts)
+}
+
+/// The terms of the entries that these leaves have from the first text on, each with its records.
+pub(crate) fn counts_in(
+    alloc: Global,
+    rows: &[Row],
+    first: &[u8],
+) -> Result<Vec<TermCount>, RegFault>
+    ensures { Answers (λ fault. (fault ≢ RegFault.Store)
+        × IfDamaged (HideAllOwns IsNoText first.now rows.now) fault)
+        (λ counts. (own : List _) × ShowAllOwns first.now rows.now own
+        × CountAll own [] counts.items) result }
+{
+    match rows.split_first() {
+        Some((leaf, behind)) => counts_from(alloc, leaf, behind, first),
+        None => Ok(Vec::new(alloc)),
+    }
+}
+
+/// The terms of a register that some record has, in the order of their bytes, each with the number of these records. All leaves of the
+/// register are held at once. `Damaged` only where a term has no count, or one that some record has isn't UTF-8.
+pub fn terms_of<S: Alter>(
+    alloc: Global,
+    conn: &mut Connection<S>,
+    at: RegisterOf,
+) -> Result<Vec<TermCount>, RegFault>
+    ensures call { Reading (state S.Store conn.old) (state S.Store conn.new) result
+        (λ _. IsUnchanged) }
+    ensures units { TellsAllLeaves at (state S.Store conn.old) (state S.Store conn.new) result }
+{
+    let rows = leaves_from(alloc, conn, at, "")?;
+    counts_in(alloc, &rows, &[])
+}
