@@ -55,7 +55,6 @@ ALL = {
         "texts::texts_are_read",
         "texts::texts_are_read_as_by_another_program",
         "profiles::profiles_are_read",
-        "queries::queries_are_planned",
         "extraction::records_are_extracted",
         "analyses::analyses_are_made",
     ],
@@ -64,6 +63,7 @@ ALL = {
     "refused_memory": [
         "stories::memory_or_the_ordinary_answer",
         "stories::memory_or_the_ordinary_change",
+        "stories::memory_or_the_ordinary_hits",
         "stories::memory_or_the_ordinary_refusal",
         "stories::memory_or_the_ordinary_diagnostic",
         "lists::a_list_lacks_memory_or_one_command_does",

@@ -15,8 +15,9 @@ from repository import ROOT
 PART_OF_MEMORY = 4
 # So many processes are planned for a processor. More were seen to be no faster: each is a copy of what was proved so far.
 AT_ONCE = 2
-# How many processes a proof of the longest chains has at least: rt gives it one where much else is ready too.
-IN_CHAIN = 3
+# How many processes a proof of the longest chains has at least, and any other: rt gives it one where much else is ready too, and it stays with that
+# one when all else has ended.
+IN_CHAIN, BESIDE = 3, 2
 # By how much proofs of shorter chains lower their priority, and all other tasks.
 PROOF_GIVES_WAY, OTHERS_GIVE_WAY = 3, 6
 # What part of the longest chain one has to have that is nearly as long: lines tell the time of a proof no better than that.
@@ -65,7 +66,7 @@ def plan_closely(rt):
 
         def laid_out(key, waits, lines, needs, call):
             if key[1] == "proof":
-                return waits, lines, needs, giving_way(0, call, IN_CHAIN) if key in first else giving_way(PROOF_GIVES_WAY, call)
+                return waits, lines, needs, giving_way(0, call, IN_CHAIN) if key in first else giving_way(PROOF_GIVES_WAY, call, BESIDE)
             return waits if key[1] == "tests" else [*waits, *proofs], lines, needs, giving_way(OTHERS_GIVE_WAY, call)
 
         return in_lanes({key: laid_out(key, *it) for key, it in tasks.items()})

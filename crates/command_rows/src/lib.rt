@@ -1,8 +1,9 @@
-//! Commands over a register as rows, each with what is printed for it, and no product code: how rows, and statements between them, are run,
-//! for the tests of several crates.
+//! Commands over a register as lines of text, and no product code: how they are read and run, and what is printed for each, for the tests of
+//! several crates.
 #![tactic(auto)]
 
-pub mod commands;
+pub mod lines;
 pub mod lots;
+pub mod readers;
+pub mod sessions;
 pub mod stories;
-pub mod texts;

@@ -1,54 +1,100 @@
-//! Registers over one layout and then the other, whose rows change between commands.
+//! Stories: lines that a register is taken through.
 
-use crate::commands::{Row, run};
-use sqlite::{Alter, Connection};
-use std::alloc::AllocGlobal;
-use std::test::Fail;
-use zeb_engine::Limits;
-use zeb_packed::Blocks;
-use zeb_register::Rows;
+use crate::sessions::{Answer, Stopped, ask, lacks_memory, prints};
+use sqlite::{Alter, Connection, MemStore};
+use std::alloc::{AllocError, Global};
+use tables::queries::state;
 
-/// Of which layout the rows are.
+/// A command of a story, the setting that it is asked under, and what is printed for it.
 #[derive(Clone, Copy)]
-pub enum Kept {
-    Plain,
-    Packed,
+pub struct Row<'a> {
+    pub setting: &'a str,
+    pub command: &'a str,
+    pub wanted: &'a str,
 }
 
-/// What is done with a store.
-#[derive(Drop)]
-pub enum Part<'a> {
-    /// Commands under a profile, over a row for each posting.
-    Plain(&'a str, &'a [Row<'a>]),
-    /// Commands under a profile, over packed tables.
-    Packed(&'a str, &'a [Row<'a>]),
-    /// Statements, each of which changes one row.
-    Changes(&'a [&'a str]),
-}
-
-/// Does a part with a connection, which is given back.
-pub fn done<S: Alter + Drop>(
-    rt: &impl AllocGlobal,
-    connection: Connection<S>,
-    part: &Part<'_>,
-) -> Result<Connection<S>, Fail> {
-    let all = Limits::GREATEST;
-    match part {
-        Part::Plain(profile, rows) => run::<S, Rows>(rt, connection, all, profile, rows),
-        Part::Packed(profile, rows) => run::<S, Blocks>(rt, connection, all, profile, rows),
-        Part::Changes(statements) => changed(connection, statements),
-    }
-}
-
-fn changed<S: Alter + Drop>(
-    connection: Connection<S>,
-    statements: &[&str],
-) -> Result<Connection<S>, Fail> {
-    let mut connection = connection;
-    for sql in statements {
-        if connection.execute(sql, &[])? != 1 {
-            return Err(Fail::new("a statement that changes no row, or more"));
+/// The commands of a story. A line has commands with `; ` between, an arrow, and what each of them is answered with; one without an arrow is the
+/// setting of those below it.
+pub fn rows_of(alloc: Global, story: &str) -> Result<Vec<Row<'_>>, AllocError> {
+    let mut rows = Vec::new(alloc);
+    let mut row = Row {
+        setting: "",
+        command: "",
+        wanted: "",
+    };
+    for line in story.split('\n') {
+        match line.split_once(" -> ") {
+            Some((commands, wanted)) => {
+                row.wanted = wanted;
+                add_rows(&mut rows, row, commands)?;
+            }
+            None => row.setting = line,
         }
     }
-    Ok(connection)
+    Ok(rows)
+}
+
+/// Adds a row for each command of a line.
+fn add_rows<'a>(
+    rows: &mut Vec<Row<'a>>,
+    row: Row<'a>,
+    commands: &'a str,
+) -> Result<(), AllocError> {
+    for command in commands.split("; ") {
+        rows.push(Row { command, ..row })?;
+    }
+    Ok(())
+}
+
+/// A store in memory with the tables of a register, and no row.
+pub fn new_store(alloc: Global) -> Result<Connection<MemStore>, AllocError> {
+    let new = Connection::open_in_memory(alloc).or(Err(AllocError))?;
+    let (store, _) = ask(alloc, new, "plain books", "check");
+    Ok(store)
+}
+
+/// All rows of a store.
+fn rows_in<S: Alter>(alloc: Global, store: &mut Connection<S>) -> Result<String, AllocError> {
+    state(alloc, store).or(Err(AllocError))
+}
+
+/// The answer to a line. A refusal leaves all rows as they were.
+fn asked_once<S: Alter + Drop>(
+    alloc: Global,
+    mut store: Connection<S>,
+    setting: &str,
+    command: &str,
+) -> Result<(Connection<S>, Answer), Stopped> {
+    let before = rows_in(alloc, &mut store)?;
+    let (left, answer) = ask(alloc, store, setting, command);
+    store = left;
+    if answer.is_err() && rows_in(alloc, &mut store)?.as_str() != before.as_str() {
+        return Err(Stopped::Otherwise(format!(in alloc; "{command}: other rows")?));
+    }
+    Ok((store, answer))
+}
+
+/// The same, asked again where memory is refused for it: at most one request is refused in a run.
+pub fn asked<S: Alter + Drop>(
+    alloc: Global,
+    store: Connection<S>,
+    setting: &str,
+    command: &str,
+) -> Result<(Connection<S>, Answer), Stopped> {
+    let (store, answer) = asked_once(alloc, store, setting, command)?;
+    if lacks_memory(&answer) {
+        return asked_once(alloc, store, setting, command);
+    }
+    Ok((store, answer))
+}
+
+/// Takes a new store through a story.
+pub fn tell(alloc: Global, story: &str) -> Result<(), Stopped> {
+    let mut store = new_store(alloc)?;
+    for row in &rows_of(alloc, story)? {
+        let (left, answer) = asked(alloc, store, row.setting, row.command)?;
+        prints(alloc, &answer, row.command, row.wanted)?;
+        store = left;
+    }
+    Ok(())
 }

@@ -2,41 +2,40 @@
 //! returns; one that is refused leaves all rows as they were; both layouts answer alike; and a check finds a register sound just where
 //! nothing was done that harms it.
 
-use command_rows::commands::{Step, adopted, answer, command_of, told};
 use command_rows::lots::Draw;
-use command_rows::texts::is_text;
+use command_rows::sessions::{Stopped, ask, prints, told};
+use command_rows::stories::{asked, new_store};
 use sqlite::{Connection, MemStore, params};
-use std::alloc::AllocGlobal;
+use std::alloc::{AllocError, AllocGlobal, Global};
 use std::process::Abort;
 use std::test::Fail;
-use tables::queries::{TABLES, all_rows};
-use worked_samples::{BARE, BOOKS, CAFE, CUT, DOCK, MOBY};
-use zeb_engine::Limits;
-use zeb_packed::Blocks;
-use zeb_register::{Layout, Rows};
 
 /// How many registers are made in each layout.
 const REGISTERS: usize = 500;
 
+const PLAIN: &str = "plain books";
+
+const PACKED: &str = "packed books";
+
 /// Of which commands a register is made.
-const MAKING: &[Step<'static>] = &[
-    Step::Update(&[&[MOBY]]),
-    Step::Update(&[&[CAFE], &[DOCK]]),
-    Step::Update(&[&[DOCK, CAFE, MOBY]]),
-    Step::Update(&[&[CAFE], &[CUT]]),
-    Step::Update(&[&[MOBY], &[BARE]]),
-    Step::Delete(&[&[MOBY]]),
-    Step::Delete(&[&[CAFE]]),
-    Step::Adelete(&[&[MOBY, CAFE]]),
-    Step::Create("a"),
-    Step::Drop("a"),
-    Step::Drop("Default"),
-    Step::Reindex,
-    Step::Upgrade,
+static MAKING: [&str; 13] = [
+    "update Default moby",
+    "update Default cafe dock",
+    "update Default dock+cafe+moby",
+    "update Default cafe cut",
+    "update Default moby bare",
+    "delete Default moby",
+    "delete Default cafe",
+    "adelete Default moby+cafe",
+    "create a",
+    "drop a",
+    "drop Default",
+    "reindex",
+    "upgrade",
 ];
 
 /// What harms no register, by a number of 1 to 9.
-const HARMLESS: [&str; 4] = [
+static HARMLESS: [&str; 4] = [
     "UPDATE databases SET last = last + ?1",
     "INSERT INTO databases VALUES (100 + ?1, 'empty', ?1)",
     "UPDATE databases SET name = 'another' WHERE name = 'a' AND ?1 > 4",
@@ -44,7 +43,7 @@ const HARMLESS: [&str; 4] = [
 ];
 
 /// What harms each register of which it changes a row, by a number of 1 to 9.
-const HARMFUL: [&str; 22] = [
+static HARMFUL: [&str; 22] = [
     "DELETE FROM meta WHERE name = 'identifier' AND ?1 > 0",
     "UPDATE meta SET value = '00' || ?1 WHERE name = 'identifier' AND ?1 > 1",
     "INSERT INTO meta VALUES ('more', ?1 || '')",
@@ -70,135 +69,109 @@ const HARMFUL: [&str; 22] = [
 ];
 
 /// What is asked of each register after a check.
-const ASKED: &[Step<'static>] = &[
-    Step::Find("@attr 1=4 @attr 5=1 d"),
-    Step::Find("@or @attr 1=4 cafe @attr 1=31 @attr 4=109 1851"),
-    Step::Scan("Default", 5, 2, "@attr 1=4 m"),
-    Step::Stat("Default"),
-    Step::Dump("Default"),
-    Step::Analyse(&[&[MOBY]]),
-    Step::Update(&[&[DOCK, CAFE]]),
-    Step::Delete(&[&[CAFE]]),
-    Step::Adelete(&[&[MOBY, CAFE]]),
-    Step::Create("b"),
-    Step::Drop("a"),
-    Step::Update(&[&[MOBY]]),
-    Step::Upgrade,
-    Step::Reindex,
+static ASKED: [&str; 14] = [
+    "find Default @attr 1=4 @attr 5=1 d",
+    "find Default @or @attr 1=4 cafe @attr 1=31 @attr 4=109 1851",
+    "scan Default 5 2 @attr 1=4 m",
+    "stat Default",
+    "dump Default",
+    "analyse moby",
+    "update Default dock+cafe",
+    "delete Default cafe",
+    "adelete Default moby+cafe",
+    "create b",
+    "drop a",
+    "update Default moby",
+    "upgrade",
+    "reindex",
 ];
 
-const SOUND: &str = "ok\n";
-
-const DAMAGED: &str = "zebraidx: register damaged";
-
-/// What is printed for a command, over a connection that is given back. A refusal leaves all rows as they were.
-fn asked<L: Layout>(
-    rt: &(impl Abort + AllocGlobal),
-    connection: Connection<MemStore>,
-    step: &Step<'_>,
-) -> Result<(Connection<MemStore>, String), Fail> {
-    let mut connection = connection;
-    let before = all_rows(rt.alloc(), &mut connection, &TABLES)?;
-    let Ok(mut session) = adopted::<MemStore, L>(rt.alloc(), connection, BOOKS, Limits::GREATEST)
-    else {
-        return Err(Fail::new("the register is refused"));
-    };
-    let command = command_of(rt.alloc(), step)?;
-    let given = answer(&mut session, &command);
-    let mut connection = session.release();
-    if given.is_err() {
-        is_text(&all_rows(rt.alloc(), &mut connection, &TABLES)?, &before, 0)?;
-    }
-    let text = told(rt.alloc(), &given)?;
-    Ok((connection, text))
-}
+type Store = Connection<MemStore>;
 
 /// A register that commands made, and what was printed for them.
-fn made<L: Layout>(
-    rt: &(impl Abort + AllocGlobal),
-    draw: &mut Draw,
-) -> Result<(Connection<MemStore>, String), Fail> {
-    let new = Connection::open_in_memory(rt.alloc())?;
-    let Ok(mut session) = adopted::<MemStore, L>(rt.alloc(), new, BOOKS, Limits::GREATEST) else {
-        return Err(Fail::new("the register is refused"));
-    };
-    let _ = answer(&mut session, &command_of(rt.alloc(), &Step::Init)?);
-    let mut printed = String::new(rt.alloc());
+fn made(alloc: Global, draw: &mut Draw, setting: &str) -> Result<(Store, String), AllocError> {
+    let (mut store, _) = ask(alloc, new_store(alloc)?, setting, "init");
+    let mut printed = String::new(alloc);
     for _ in 0..=draw.below(7) {
-        if let Some(step) = MAKING.get(draw.below(MAKING.len())) {
-            let given = answer(&mut session, &command_of(rt.alloc(), step)?);
-            printed.push_str(told(rt.alloc(), &given)?.as_str())?;
-        }
+        let (left, answer) = ask(alloc, store, setting, draw.one_of(&MAKING));
+        printed.push_str(told(alloc, &answer)?.as_str())?;
+        store = left;
     }
-    Ok((session.release(), printed))
+    Ok((store, printed))
 }
 
 /// Whether one of the statements, drawn by lot, changes a row.
-fn changes(connection: &mut Connection<MemStore>, draw: &mut Draw, statements: &[&str]) -> bool {
+fn changes(store: &mut Store, draw: &mut Draw, statements: &[&str]) -> bool {
     let sql = draw.one_of(statements);
     let number = i64::try_from(draw.below(9)).unwrap_or(0).saturating_add(1);
-    match connection.execute(sql, params![number]) {
+    match store.execute(sql, params![number]) {
         Ok(count) => count > 0,
         Err(_) => false,
     }
 }
 
 /// Changes rows, and says whether that does harm.
-fn is_harmed(connection: &mut Connection<MemStore>, draw: &mut Draw) -> bool {
+fn is_harmed(store: &mut Store, draw: &mut Draw) -> bool {
     for _ in 0..draw.below(3) {
-        let _ = changes(connection, draw, &HARMLESS);
+        let _ = changes(store, draw, &HARMLESS);
     }
-    draw.below(4) > 0 && changes(connection, draw, &HARMFUL)
+    draw.below(4) > 0 && changes(store, draw, &HARMFUL)
 }
 
-/// A command prints this over a connection, which is given back.
-fn prints<L: Layout>(
-    rt: &(impl Abort + AllocGlobal),
-    connection: Connection<MemStore>,
-    step: &Step<'_>,
+/// A command prints this.
+fn gives(
+    alloc: Global,
+    store: Store,
+    setting: &str,
+    line: &str,
     wanted: &str,
-) -> Result<Connection<MemStore>, Fail> {
-    let (connection, text) = asked::<L>(rt, connection, step)?;
-    is_text(&text, wanted, 0)?;
-    Ok(connection)
+) -> Result<Store, Stopped> {
+    let (store, answer) = asked(alloc, store, setting, line)?;
+    prints(alloc, &answer, line, wanted)?;
+    Ok(store)
 }
 
 /// Everything is asked of a register, and what is printed is given. A check tells whether it was harmed; what wasn't is sound later too,
 /// and so is what is begun anew.
-fn all_asked<L: Layout>(
-    rt: &(impl Abort + AllocGlobal),
-    connection: Connection<MemStore>,
+fn all_asked(
+    alloc: Global,
+    store: Store,
+    setting: &str,
     is_harmed: bool,
-) -> Result<String, Fail> {
-    let verdict = if is_harmed { DAMAGED } else { SOUND };
-    let mut connection = prints::<L>(rt, connection, &Step::Check, verdict)?;
-    let mut printed = String::new(rt.alloc());
-    for step in ASKED {
-        let (left, text) = asked::<L>(rt, connection, step)?;
-        printed.push_str(text.as_str())?;
-        connection = left;
+) -> Result<String, Stopped> {
+    let verdict = if is_harmed {
+        "1: register damaged"
+    } else {
+        "ok"
+    };
+    let mut store = gives(alloc, store, setting, "check", verdict)?;
+    let mut printed = String::new(alloc);
+    for line in &ASKED {
+        let (left, answer) = asked(alloc, store, setting, line)?;
+        printed.push_str(told(alloc, &answer)?.as_str())?;
+        store = left;
     }
     if !is_harmed {
-        connection = prints::<L>(rt, connection, &Step::Check, SOUND)?;
+        store = gives(alloc, store, setting, "check", "ok")?;
     }
-    let connection = prints::<L>(rt, connection, &Step::Init, SOUND)?;
-    prints::<L>(rt, connection, &Step::Check, SOUND)?;
+    let store = gives(alloc, store, setting, "init", "ok")?;
+    gives(alloc, store, setting, "check", "ok")?;
     Ok(printed)
 }
 
 /// Makes a register in either layout by the same commands, changes their rows by the same statements, and asks everything of each. The
 /// same is printed for the commands, and for what is asked where neither was harmed: a statement may harm one of them alone.
-fn drawn(rt: &(impl Abort + AllocGlobal), draw: &mut Draw) -> Result<(), Fail> {
+fn drawn<H: Abort + AllocGlobal>(rt: &H, draw: &mut Draw) -> Result<(), Stopped> {
     let mut again = *draw;
-    let (mut plain, printed) = made::<Rows>(rt, draw)?;
-    let (mut packed, wanted) = made::<Blocks>(rt, &mut again)?;
-    is_text(&printed, &wanted, 0)?;
+    let (mut plain, printed) = made(rt.alloc(), draw, PLAIN)?;
+    let (mut packed, wanted) = made(rt.alloc(), &mut again, PACKED)?;
+    assert_eq!(rt; printed.as_str(), wanted.as_str());
     let is_plain_harmed = is_harmed(&mut plain, draw);
     let is_packed_harmed = is_harmed(&mut packed, &mut again);
-    let printed = all_asked::<Rows>(rt, plain, is_plain_harmed)?;
-    let wanted = all_asked::<Blocks>(rt, packed, is_packed_harmed)?;
+    let printed = all_asked(rt.alloc(), plain, PLAIN, is_plain_harmed)?;
+    let wanted = all_asked(rt.alloc(), packed, PACKED, is_packed_harmed)?;
     if !is_plain_harmed && !is_packed_harmed {
-        is_text(&printed, &wanted, 0)?;
+        assert_eq!(rt; printed.as_str(), wanted.as_str());
     }
     Ok(())
 }

@@ -4,7 +4,7 @@ use crate::rows::Row;
 use crate::runs::{Ends, OPEN};
 use std::test::Fail;
 use std::{env, fs, process};
-use worked_samples::{CAFE, MOBY};
+use worked_samples::record;
 use zeb_marc::Slice;
 use zeb_paths::Disk;
 
@@ -47,9 +47,9 @@ fn write_files(rt: &HostRuntime, folder: &str) -> Result<(), Fail> {
         let text = format!(in alloc; "identifier 001\natt 1016 Any\nstore {folder}/{rest}")?;
         fs::write(rt, path.as_str(), text.as_str())?;
     }
-    for (name, record) in [("a", MOBY), ("b", CAFE)] {
-        let path = format!(in alloc; "{inner}/{name}")?;
-        fs::write(rt, path.as_str(), record)?;
+    for (file, name) in [("a", "moby"), ("b", "cafe")] {
+        let path = format!(in alloc; "{inner}/{file}")?;
+        fs::write(rt, path.as_str(), record(name))?;
     }
     Ok(())
 }

@@ -1,7 +1,7 @@
 //! Runs of the program as lines of text.
 
 use std::alloc::{AllocError, Global};
-use worked_samples::{CAFE, MOBY};
+use worked_samples::record;
 
 /// What a run is given, and what it writes and ends in.
 #[derive(Drop)]
@@ -49,8 +49,8 @@ impl Row {
     pub fn add(&mut self, input: &str, answer: &str) -> Result<(), AllocError> {
         let alloc = *self.words.allocator();
         for line in input.split_terminator("; ") {
-            let line = line.replace(alloc, "<A>", &hex::encode(alloc, MOBY)?)?;
-            let line = line.replace(alloc, "<B>", &hex::encode(alloc, CAFE)?)?;
+            let line = line.replace(alloc, "<A>", &hex::encode(alloc, record("moby"))?)?;
+            let line = line.replace(alloc, "<B>", &hex::encode(alloc, record("cafe"))?)?;
             writeln!(self.input, "{line}")?;
         }
         for line in answer.split_terminator("; ") {

@@ -3,17 +3,15 @@
 ghost use Rattle.std.specs.Prelude.{◌≡◌, [], false};
 
 use crate::rows::Row;
+use command_rows::sessions::ask;
 use sqlite::{Connection, MemStore};
 use std::alloc::{AllocError, Global};
 use std::io::{ErrorKind, Write};
 use std::process::Abort;
 use std::{io, str};
-use worked_samples::{BOOKS, CAFE, DOCK, MOBY};
-use zeb_engine::{Command, DbName, Kind, Limits, Session};
+use worked_samples::{profile, record};
 use zeb_marc::Source;
-use zeb_packed::Blocks;
 use zeb_paths::{Paths, Shelf, Shelved};
-use zeb_profile::Profile;
 use zeb_program::{Output, Sink, run};
 
 /// The status of a run in which something failed.
@@ -121,11 +119,11 @@ impl Ends {
         requires { R.has_failed input.old ≡ false }
     {
         let files = [
-            filed("zebra.cfg", BOOKS.as_bytes()),
-            filed("a.mrc", MOBY),
-            filed("b.mrc", CAFE),
-            filed("in/b.mrc", CAFE),
-            filed("in/a/dock.mrc", DOCK),
+            filed("zebra.cfg", profile("books").as_bytes()),
+            filed("a.mrc", record("moby")),
+            filed("b.mrc", record("cafe")),
+            filed("in/b.mrc", record("cafe")),
+            filed("in/a/dock.mrc", record("dock")),
         ];
         let store = loaded(*row.words.allocator())?;
         Ok(Ends::run(takes, row, input, &mut Shelf::new(&files, Some(store))))
@@ -140,23 +138,20 @@ impl Ends {
     }
 }
 
-fn filed(path: &'static str, bytes: &'static [u8]) -> Shelved<'static> {
+fn filed<'a>(path: &'a str, bytes: &'a [u8]) -> Shelved<'a> {
     let bytes = Some(bytes);
     Shelved { path, bytes }
 }
 
 /// A store in memory whose register holds Moby Dick in the database `Default`.
 fn loaded(alloc: Global) -> Result<Connection<MemStore>, AllocError> {
-    let connection = Connection::open_in_memory(alloc)?;
-    let profile = Profile::read(alloc, BOOKS).or(Err(AllocError))?;
-    let adopted = Session::<_, Blocks>::adopt(alloc, connection, profile, Limits::GREATEST);
-    let mut session = adopted.or(Err(AllocError))?;
-    let change = Command::Change {
-        kind: Kind::Update,
-        database: DbName::read("Default").ok_or(AllocError)?,
-        files: vec![in alloc; Vec::from_slice(alloc, MOBY)?]?,
-    };
-    session.command(&Command::Init).or(Err(AllocError))?;
-    session.command(&change).or(Err(AllocError))?;
-    Ok(session.release())
+    let mut store = Connection::open_in_memory(alloc)?;
+    for line in ["init", "update Default moby"] {
+        let (left, answer) = ask(alloc, store, "packed books", line);
+        store = left;
+        if answer.is_err() {
+            return Err(AllocError);
+        }
+    }
+    Ok(store)
 }

@@ -1,15 +1,20 @@
 //! What is read of keys, by the leaves of a register. A line is a term and behind ` ->` its postings, each as `1:2.3`, the number of the
 //! record, of the unit and of the word in it, and the number of its records; or a fault by its name. Of two terms with `..` between it is the
 //! postings of all terms from the one to the other. Of `*` it is each term of the register with the number of its records, and of `#` how many
-//! terms it has, and how many postings.
+//! terms it has, and how many postings. Of a text with `+` and a number it is so many terms from there on, and with `-` so many below.
 
 use sqlite::{Alter, Connection, params};
 use std::alloc::Global;
 use std::fmt::Write;
 use std::test::Fail;
 use zeb_keys::{Key, Register, Term};
-use zeb_leaves::{key_count, key_list, postings_between, terms_of, totals};
-use zeb_register::{DatabaseId, Posting, RegFault, RegisterOf, database_put, make_tables};
+use zeb_leaves::{
+    key_count, key_list, postings_between, run_changes, terms_before, terms_from, terms_of, totals,
+};
+use zeb_register::{
+    DatabaseId, KeyChanges, Place, Posting, RecordChange, RegFault, RegisterOf, TermCount,
+    database_put, make_tables,
+};
 
 /// Whether all that was asked got its answer.
 type Outcome = Result<(), Fail>;
@@ -35,7 +40,20 @@ b..d -> 1:2.2,256:2.2,1:2.2,255:1.1,
 aa..az -> none
 c..a -> none
 * -> a:1,b:2,c:2,
-# -> 3 terms, 5 postings";
+# -> 3 terms, 5 postings
++9 -> a:1,b:2,c:2,
+a+1 -> a:1,
+b+1 -> b:2,
+aa+2 -> b:2,c:2,
+b+0 -> none
+d+2 -> none
+z-2 -> b:2,c:2,
+c-1 -> b:2,
+c-9 -> a:1,b:2,
+aa-1 -> a:1,
+c-0 -> none
+a-1 -> none
+-3 -> none";
 
 /// What they say where the second is cut.
 static CUT: &str = "\
@@ -49,7 +67,24 @@ a..b -> Damaged
 c..d -> Damaged
 d..a -> none
 * -> Damaged
-# -> Damaged";
+# -> Damaged
+a+1 -> a:1,
+a+2 -> Damaged
+b+1 -> Damaged
+c+1 -> Damaged
+b+0 -> none
+b-1 -> a:1,
+c-1 -> Damaged
+d-2 -> Damaged";
+
+/// What they say of neighbouring terms where the first is cut.
+static CUT_FIRST: &str = "\
+c+1 -> c:2,
+b+1 -> Damaged
+a+1 -> Damaged
+z-1 -> c:2,
+z-2 -> Damaged
+b-1 -> Damaged";
 
 /// What is said where there is no first leaf.
 static HEADLESS: &str = "\
@@ -59,7 +94,13 @@ c -> 1:2.2,255:1.1, of 2
 a..c -> Damaged
 c..d -> 1:2.2,255:1.1,
 * -> Damaged
-# -> Damaged";
+# -> Damaged
+b+1 -> Damaged
+c+1 -> c:2,
+d-1 -> c:2,
+d-2 -> Damaged
+a-1 -> Damaged
+-1 -> none";
 
 /// What is said where there is no leaf.
 static EMPTY: &str = "\
@@ -67,7 +108,9 @@ a -> of 0
 b -> of 0
 a..b -> none
 * -> none
-# -> 0 terms, 0 postings";
+# -> 0 terms, 0 postings
+a+1 -> none
+a-1 -> none";
 
 /// The first leaf again, and in it c in record 1, which the second leaf covers.
 static STRAY: &[u8] = &[
@@ -90,12 +133,36 @@ static COUNTED: &str = "\
 /// The first leaf again, with a and the byte 0xff in place of b.
 static NO_TEXT: &[u8] = &[0, 1, 0x61, 0, 1, 3, 1, 2, 2, 1, 1, 0xff, 0, 1, 3, 1, 2, 2];
 
-/// What is said of the terms where one isn't UTF-8.
+/// What is said where one of the first leaf's terms isn't UTF-8.
 static UNTOLD: &str = "\
-a -> 1:2.2, of 1
+a -> Damaged
+b -> Damaged
 c -> 1:2.2,255:1.1, of 2
 * -> Damaged
 # -> Damaged";
+
+/// What is said where the second leaf's own term is the byte 0x80, and so isn't UTF-8.
+static NO_KEY: &str = "\
+a -> 1:2.2, of 1
+é -> Damaged
+* -> Damaged
+# -> Damaged";
+
+/// What is said where b has left record 256.
+static LEFT: &str = "\
+b -> 1:2.2, of 1
+c -> 1:2.2,255:1.1, of 2
+* -> a:1,b:1,c:2,
+# -> 3 terms, 4 postings";
+
+/// In which order terms come into records: each with the number of the record, and that of its unit and word.
+static COMING: &[(&str, u64, u64)] = &[
+    ("b", 256, 2),
+    ("a", 1, 2),
+    ("c", 255, 1),
+    ("b", 1, 2),
+    ("c", 1, 2),
+];
 
 /// Makes the tables, and a database.
 fn begin<S: Alter>(conn: &mut Connection<S>) -> Result<DatabaseId, RegFault> {
@@ -133,6 +200,53 @@ fn put_postings(list: &[Posting], text: &mut String) -> Result<(), RegFault> {
     Ok(())
 }
 
+/// Puts places of a term in a record where others stood.
+fn put_places<S: Alter>(
+    alloc: Global,
+    conn: &mut Connection<S>,
+    db: DatabaseId,
+    term: &str,
+    change: RecordChange<'_>,
+) -> Result<(), RegFault> {
+    if !conn.is_autocommit() {
+        return Err(RegFault::Store);
+    }
+    let key = key_of(alloc, term)?;
+    let mut tx = conn.transaction();
+    run_changes(
+        &mut tx,
+        db,
+        &[KeyChanges {
+            key: &key,
+            changes: &[change],
+        }],
+    )?;
+    tx.commit()?;
+    Ok(())
+}
+
+/// The place whose unit and word have this number.
+fn place(number: u64) -> Place {
+    Place {
+        seq: number,
+        pos: number,
+    }
+}
+
+/// Places of a record in the place of others.
+fn change<'a>(sysno: u64, old: &'a [Place], new: &'a [Place]) -> RecordChange<'a> {
+    RecordChange { sysno, old, new }
+}
+
+/// A term of the first index's words.
+fn key_of(alloc: Global, term: &str) -> Result<Key, RegFault> {
+    Ok(Key {
+        index: 0,
+        register: Register::Word,
+        term: Term::new(String::from_str(alloc, term)?),
+    })
+}
+
 /// What is read of a term of the first index's words.
 fn read_key<S: Alter>(
     alloc: Global,
@@ -140,11 +254,7 @@ fn read_key<S: Alter>(
     db: DatabaseId,
     term: &str,
 ) -> Result<String, RegFault> {
-    let key = Key {
-        index: 0,
-        register: Register::Word,
-        term: Term::new(String::from_str(alloc, term)?),
-    };
+    let key = key_of(alloc, term)?;
     let mut text = String::new(alloc);
     put_postings(&key_list(alloc, conn, db, &key)?, &mut text)?;
     let records = key_count(alloc, conn, db, &key)?;
@@ -181,20 +291,40 @@ fn words_of(db: DatabaseId) -> RegisterOf {
     }
 }
 
-/// The terms of the register, each with the number of its records.
-fn read_terms<S: Alter>(
-    alloc: Global,
-    conn: &mut Connection<S>,
-    db: DatabaseId,
-) -> Result<String, RegFault> {
+/// The terms, each with the number of its records.
+fn terms_text(alloc: Global, counts: &[TermCount]) -> Result<String, RegFault> {
     let mut text = String::new(alloc);
-    for count in &terms_of(alloc, conn, words_of(db))? {
+    for count in counts {
         write!(text, "{}:{},", count.term, count.records)?;
     }
     if text.is_empty() {
         text.push_str("none")?;
     }
     Ok(text)
+}
+
+/// The number that the text spells, or 0.
+fn number_of(text: &str) -> u64 {
+    text.parse().unwrap_or(0)
+}
+
+/// So many terms beside a text, where it is asked for these.
+fn read_beside<S: Alter>(
+    alloc: Global,
+    conn: &mut Connection<S>,
+    db: DatabaseId,
+    words: &str,
+) -> Result<Option<String>, RegFault> {
+    let at = words_of(db);
+    if let Some((start, many)) = words.split_once("+") {
+        let counts = terms_from(alloc, conn, at, start, number_of(many))?;
+        return Ok(Some(terms_text(alloc, &counts)?));
+    }
+    if let Some((start, many)) = words.split_once("-") {
+        let counts = terms_before(alloc, conn, at, start, number_of(many))?;
+        return Ok(Some(terms_text(alloc, &counts)?));
+    }
+    Ok(None)
 }
 
 /// How many terms the register has, and how many postings.
@@ -209,7 +339,7 @@ fn read_totals<S: Alter>(
     Ok(text)
 }
 
-/// What is read of a term, of the terms between two, or of all.
+/// What is read of a term, of the terms between two, of those beside a text, or of all.
 fn read<S: Alter>(
     alloc: Global,
     conn: &mut Connection<S>,
@@ -217,10 +347,14 @@ fn read<S: Alter>(
     words: &str,
 ) -> Result<String, RegFault> {
     if words == "*" {
-        return read_terms(alloc, conn, db);
+        let counts = terms_of(alloc, conn, words_of(db))?;
+        return terms_text(alloc, &counts);
     }
     if words == "#" {
         return read_totals(alloc, conn, db);
+    }
+    if let Some(text) = read_beside(alloc, conn, db, words)? {
+        return Ok(text);
     }
     match words.split_once("..") {
         Some((first, last)) => read_between(alloc, conn, db, first, last),
@@ -254,6 +388,16 @@ fn a_key_is_read_in_all_its_leaves(rt: HostRuntime) -> Outcome {
     run(alloc, &mut conn, db, WHOLE)?;
     conn.execute("UPDATE blocks SET data = x'00' WHERE block = 1", &[])?;
     run(alloc, &mut conn, db, CUT)
+}
+
+#[test]
+fn a_damaged_leaf_behind_the_last_term_is_not_told(rt: HostRuntime) -> Outcome {
+    let alloc = rt.alloc();
+    let mut conn = Connection::open_in_memory(alloc)?;
+    let db = begin(&mut conn)?;
+    put_leaf(&mut conn, db, "", 0, &[0])?;
+    put_leaf(&mut conn, db, "b", 1, SECOND)?;
+    run(alloc, &mut conn, db, CUT_FIRST)
 }
 
 #[test]
@@ -293,8 +437,49 @@ fn a_miscounted_block_is_counted_and_not_summed(rt: HostRuntime) -> Outcome {
 }
 
 #[test]
-fn a_term_that_is_no_text_is_not_told(rt: HostRuntime) -> Outcome {
+fn a_leaf_with_a_term_that_is_no_text_is_damaged(rt: HostRuntime) -> Outcome {
     let alloc = rt.alloc();
     let mut conn = Connection::open_in_memory(alloc)?;
     run_beside(alloc, &mut conn, NO_TEXT, UNTOLD)
+}
+
+#[test]
+fn a_leaf_whose_own_term_is_no_text_is_damaged(rt: HostRuntime) -> Outcome {
+    let alloc = rt.alloc();
+    let mut conn = Connection::open_in_memory(alloc)?;
+    let db = begin(&mut conn)?;
+    put_leaf(&mut conn, db, "", 0, FIRST)?;
+    put_leaf(&mut conn, db, "b", 1, SECOND)?;
+    conn.execute(
+        "UPDATE blocks SET term = CAST(x'80' AS TEXT) WHERE block = 1",
+        &[],
+    )?;
+    run(alloc, &mut conn, db, NO_KEY)
+}
+
+#[test]
+fn what_is_written_is_read(rt: HostRuntime) -> Outcome {
+    let alloc = rt.alloc();
+    let mut conn = Connection::open_in_memory(alloc)?;
+    let db = begin(&mut conn)?;
+    for (term, sysno, number) in COMING {
+        let new = [place(*number)];
+        put_places(alloc, &mut conn, db, term, change(*sysno, &[], &new))?;
+    }
+    run(alloc, &mut conn, db, WHOLE)?;
+    put_places(alloc, &mut conn, db, "b", change(256, &[place(2)], &[]))?;
+    run(alloc, &mut conn, db, LEFT)
+}
+
+#[test]
+fn other_places_than_a_record_has_are_damage(rt: HostRuntime) -> Outcome {
+    let alloc = rt.alloc();
+    let mut conn = Connection::open_in_memory(alloc)?;
+    let db = begin(&mut conn)?;
+    put_leaf(&mut conn, db, "", 0, FIRST)?;
+    put_leaf(&mut conn, db, "b", 1, SECOND)?;
+    match put_places(alloc, &mut conn, db, "a", change(1, &[place(1)], &[])) {
+        Err(RegFault::Damaged) => run(alloc, &mut conn, db, WHOLE),
+        _ => Err(Fail::new(String::from_str(alloc, "no damage is told")?)),
+    }
 }

@@ -1,48 +1,47 @@
 //! Lists of commands: one lacks memory as a whole and has run nothing, or a command of it lacks memory and is as one that wasn't given.
 
-use crate::lines::command_of;
-use crate::telling::{Answer, Done, prints};
-use command_rows::commands::{adopted, answer, is_refused_with, lacks_memory, told};
+use command_rows::lines::command_of;
+use command_rows::sessions::{Answer, Stopped, adopted, answer, lacks_memory, prints, told};
 use sqlite::{Connection, MemStore};
 use std::alloc::{AllocError, AllocGlobal, Global};
 use std::process::Abort;
 use std::test::Fail;
 use tables::queries::state;
-use worked_samples::BOOKS;
 use zeb_engine::{Command, Limits, Refusal};
 use zeb_packed::Blocks;
 
 /// A list of commands of each kind, and what is printed for each.
 static LIST: &str = "\
 init -> ok
+find Default @attr 1=4 moby -> 1: diagnostic 235 at 0: Default
 create a -> ok
-create a -> zebraidx: database exists
-update moby cafe -> inserted 2 updated 0 deleted 0
-find @attr 1=4 whale -> hits 1; 1 a1
-find @attr 1=9999 x -> zebraidx: diagnostic 114 at 13: 9999
-scan Default 2 @attr 1=4 m -> dick 1; moby 1; or 1
+create a -> 1: database exists
+update Default moby cafe -> inserted 2 updated 0 deleted 0
+find Default @attr 1=4 whale -> hits 1; 1 a1
+find Default @attr 1=9999 x -> 1: diagnostic 114 at 13: 9999
+scan Default 3 2 @attr 1=4 m -> dick 1; moby 1; or 1
 stat Default -> records 2; last 2; Title:w 6 6; Title:p 2 2; Date:n 1 1; Any:w 7 7
 dump Default -> bytes of moby+cafe
-update dock cut -> zebraidx: file 2 record 1: Truncated
+update Default dock cut -> 1: file 2 record 1: Truncated
 analyse moby -> record 1 1 a1; Title:w 2 2 dick; Title:w 2 1 moby; Title:w 3 1 or; \
 Title:w 3 2 the; Title:w 3 3 whale; Title:p 2 1 moby dick; Date:n 4 1 1851; Any:w 4 1 c1851; \
 Any:w 2 2 dick; Any:w 2 1 moby; Any:w 3 1 or; Any:w 3 2 the; Any:w 3 3 whale
-adelete moby+again -> inserted 0 updated 0 deleted 1
-delete moby -> zebraidx: file 1 record 1: unknown identifier
+adelete Default moby+again -> inserted 0 updated 0 deleted 1
+delete Default moby -> 1: file 1 record 1: unknown identifier
 check -> ok
 reindex -> ok
 upgrade -> ok
 drop a -> ok
-dump a -> zebraidx: diagnostic 235 at 0: a";
+dump a -> 1: diagnostic 235 at 0: a";
 
 /// The commands of the list but one, if it has that.
-fn listed(alloc: Global, left_out: usize) -> Result<Vec<Command>, Refusal> {
+fn listed(alloc: Global, left_out: usize) -> Result<Vec<Command>, AllocError> {
     let mut commands = Vec::new(alloc);
     for (place, row) in LIST.split('\n').enumerate() {
         let (line, _) = row.split_once(" -> ").ok_or(AllocError)?;
         if place != left_out {
-            let command = command_of(alloc, line)?;
-            commands.push(command).map_err(AllocError::from)?;
+            let command = command_of(alloc, line).or(Err(AllocError))?;
+            commands.push(command)?;
         }
     }
     Ok(commands)
@@ -50,21 +49,22 @@ fn listed(alloc: Global, left_out: usize) -> Result<Vec<Command>, Refusal> {
 
 /// The answers to these over a new register, and all rows behind them. A list that lacks memory as a whole has run nothing, and is run
 /// again.
-fn ran(rt: &(impl Abort + AllocGlobal), left_out: usize) -> Result<(Vec<Answer>, String), Refusal> {
+fn ran(rt: &(impl Abort + AllocGlobal), left_out: usize) -> Result<(Vec<Answer>, String), Stopped> {
     let commands = listed(rt.alloc(), left_out)?;
-    let new = Connection::open_in_memory(rt.alloc())?;
-    let adopted = adopted::<MemStore, Blocks>(rt.alloc(), new, BOOKS, Limits::GREATEST);
+    let new = Connection::open_in_memory(rt.alloc()).or(Err(AllocError))?;
+    let adopted = adopted::<MemStore, Blocks>(rt.alloc(), new, "books", Limits::GREATEST);
     let mut session = adopted.or(Err(AllocError))?;
     let answers = match session.run_all(&commands) {
         Ok(answers) => answers,
         Err(refusal) => {
             assert!(rt; matches!(refusal, Refusal::Memory));
-            assert!(rt; is_refused_with(&answer(&mut session, &Command::Check), 1));
-            session.run_all(&commands)?
+            let check = answer(rt.alloc(), &mut session, "check");
+            prints(rt.alloc(), &check, "check", "1: register not initialised")?;
+            session.run_all(&commands).or(Err(AllocError))?
         }
     };
     assert_eq!(rt; answers.len(), commands.len());
-    let rows = state(rt.alloc(), &mut session.release())?;
+    let rows = state(rt.alloc(), &mut session.release()).or(Err(AllocError))?;
     Ok((answers, rows))
 }
 
@@ -74,7 +74,7 @@ fn is_without<H: Abort + AllocGlobal>(
     answers: &[Answer],
     rows: &str,
     place: usize,
-) -> Done {
+) -> Result<(), Stopped> {
     let (without, wanted) = ran(rt, place)?;
     assert_eq!(rt; rows, wanted.as_str(), "{place}");
     let behind = answers.iter().skip(place.saturating_add(1));
@@ -85,21 +85,23 @@ fn is_without<H: Abort + AllocGlobal>(
     Ok(())
 }
 
-fn run_list(rt: &(impl Abort + AllocGlobal)) -> Done {
+fn run_list(rt: &(impl Abort + AllocGlobal)) -> Result<(), Stopped> {
     let (answers, rows) = ran(rt, usize::MAX)?;
     for (place, (answer, line)) in answers.iter().zip(LIST.split('\n')).enumerate() {
         if lacks_memory(answer) {
             return is_without(rt, &answers, &rows, place);
         }
-        prints(rt, answer, line.split_once(" -> ").ok_or(AllocError)?.1)?;
+        let (line, wanted) = line.split_once(" -> ").ok_or(AllocError)?;
+        prints(rt.alloc(), answer, line, wanted)?;
     }
     Ok(())
 }
 
 #[test]
 fn a_list_lacks_memory_or_one_command_does(rt: HostRuntime) -> Result<(), Fail> {
-    if run_list(&rt).is_err() {
-        run_list(&rt)?;
+    let mut outcome = run_list(&rt);
+    if matches!(outcome, Err(Stopped::Memory)) {
+        outcome = run_list(&rt);
     }
-    Ok(())
+    Ok(outcome?)
 }

@@ -1,5 +1,6 @@
 //! Why a file of cases can't be run.
 
+use command_rows::lines::Unread;
 use std::alloc::{AllocError, AllocFailed};
 use std::fmt;
 
@@ -20,6 +21,15 @@ impl From<AllocError> for Fault {
 impl<T: Drop> From<AllocFailed<T>> for Fault {
     fn from(_error: AllocFailed<T>) -> Fault {
         Fault::Memory
+    }
+}
+
+impl From<Unread> for Fault {
+    fn from(fault: Unread) -> Fault {
+        match fault {
+            Unread::Memory => Fault::Memory,
+            Unread::NoCommand => Fault::Line("no such line"),
+        }
     }
 }
 

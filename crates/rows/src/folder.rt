@@ -1,8 +1,8 @@
 //! The files that cases run over, and the register that words find at their profile's path.
 
-use crate::commands::command_of;
 use crate::faults::Fault;
 use crate::stores::{Kept, Store};
+use command_rows::lines::command_of;
 use sqlite::{Connection, MemStore};
 use std::alloc::{AllocError, Global};
 use std::str;

@@ -2,7 +2,6 @@
 #![tactic(auto)]
 
 mod book;
-mod commands;
 mod damages;
 mod faults;
 mod folder;

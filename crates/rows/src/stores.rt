@@ -1,13 +1,14 @@
 //! A store in memory, whose tables either layout has.
 
 use crate::faults::Fault;
+use command_rows::sessions::adopted;
 use sqlite::{Connection, MemStore};
 use std::alloc::Global;
 use std::mem;
 use zeb_engine::{Command, Limits, Refusal, Reply, Session};
 use zeb_packed::Blocks;
 use zeb_profile::Profile;
-use zeb_register::{Layout, Rows, Work};
+use zeb_register::{Rows, Work};
 
 /// A layout of the tables: a posting a row, or packed into blocks.
 #[derive(Clone, Copy)]
@@ -48,15 +49,16 @@ impl Store {
     /// Begins a session of this layout under a profile; there is none where the store is refused.
     pub fn begin(&mut self, alloc: Global, kept: Kept, profile: &str) -> Result<(), Fault> {
         let connection = self.take()?;
-        let Ok(profile) = Profile::read(alloc, profile) else {
+        if Profile::read(alloc, profile).is_err() {
             return Err(Fault::Line("the profile is refused"));
-        };
+        }
+        let limits = Limits::GREATEST;
         *self = match kept {
-            Kept::Plain => match adopted(alloc, connection, profile) {
+            Kept::Plain => match adopted(alloc, connection, profile, limits) {
                 Ok(session) => Store::Plain(session),
                 Err(connection) => Store::Free(connection),
             },
-            Kept::Packed => match adopted(alloc, connection, profile) {
+            Kept::Packed => match adopted(alloc, connection, profile, limits) {
                 Ok(session) => Store::Packed(session),
                 Err(connection) => Store::Free(connection),
             },
@@ -80,20 +82,5 @@ impl Store {
             Store::Packed(session) => session.work(),
             _ => Work::default(),
         }
-    }
-}
-
-/// A session over the connection, which is given back where it is refused.
-fn adopted<L: Layout>(
-    alloc: Global,
-    connection: Connection<MemStore>,
-    profile: Profile,
-) -> Result<Session<MemStore, L>, Connection<MemStore>> {
-    if !connection.is_autocommit() {
-        return Err(connection);
-    }
-    match Session::adopt(alloc, connection, profile, Limits::GREATEST) {
-        Ok(session) => Ok(session),
-        Err((connection, _)) => Err(connection),
     }
 }

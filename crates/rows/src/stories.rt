@@ -1,12 +1,12 @@
 //! Stories: a store in memory that is taken through lines, one after the other.
 
-use crate::commands::command_of;
 use crate::faults::Fault;
 use crate::folder::Folder;
 use crate::outcomes::Outcome;
 use crate::rows::{Line, Row};
 use crate::stores::{Kept, Store};
 use crate::texts::text_of;
+use command_rows::lines::command_of;
 use sqlite::{Connection, MemStore};
 use std::alloc::Global;
 use tables::queries::{execute, rows};

@@ -3,13 +3,15 @@
 use crate::rows::{bytes_of, rows_hold};
 use std::alloc::{AllocError, Global};
 use std::test::Fail;
-use worked_samples::{BOOKS, MOBY_LINES};
+use worked_samples::profile;
 use zeb_analysis::{Analysis, AnalysisFault, analyse, analysis_lines};
 use zeb_profile::Profile;
 
 /// How many records there may be, and the records of each file; then what is printed of the first one, or why the analysis ends.
 static ROWS: &str = "\
-1 moby -> its lines
+1 moby -> record 1 1 a1%0aTitle:w 2 2 dick%0aTitle:w 2 1 moby%0aTitle:w 3 1 or%0aTitle:w 3 2 the%0a\
+Title:w 3 3 whale%0aTitle:p 2 1 moby dick%0aDate:n 4 1 1851%0aAny:w 4 1 c1851%0aAny:w 2 2 dick%0a\
+Any:w 2 1 moby%0aAny:w 3 1 or%0aAny:w 3 2 the%0aAny:w 3 3 whale%0a
 # The limit is of records, and what stands behind the last one is none.
 1 moby+cut -> file 1 record 2: Truncated
 # A record too many isn't looked at.
@@ -24,7 +26,7 @@ fn files_of(alloc: Global, text: &str) -> Result<Vec<Vec<u8>>, AllocError> {
     Ok(files)
 }
 
-/// The lines of the first analysis, or a word for those of `moby`.
+/// The lines of the first analysis.
 fn lines_of(alloc: Global, found: &[Analysis]) -> Result<String, AllocError> {
     let mut names = Vec::new(alloc);
     for name in ["Title", "Date", "Any"] {
@@ -33,17 +35,13 @@ fn lines_of(alloc: Global, found: &[Analysis]) -> Result<String, AllocError> {
     let Some(first) = found.first() else {
         return String::from_str(alloc, "no analysis");
     };
-    let lines = analysis_lines(alloc, &names, first)?;
-    if lines.as_str() == MOBY_LINES {
-        return String::from_str(alloc, "its lines");
-    }
-    Ok(lines)
+    analysis_lines(alloc, &names, first)
 }
 
 fn answer(alloc: Global, text: &str) -> Result<String, AllocError> {
     let (limit, files) = text.split_once(' ').unwrap_or((text, ""));
     let files = files_of(alloc, files)?;
-    let profile = Profile::read(alloc, BOOKS).or(Err(AllocError))?;
+    let profile = Profile::read(alloc, profile("books")).or(Err(AllocError))?;
     match analyse(alloc, &profile, limit.parse().unwrap_or(0), &files) {
         Ok(analyses) => lines_of(alloc, &analyses),
         Err(AnalysisFault::Memory) => Err(AllocError),

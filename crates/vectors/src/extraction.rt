@@ -4,7 +4,7 @@
 use crate::rows::rows_hold;
 use std::alloc::{AllocError, Global};
 use std::test::Fail;
-use worked_samples::{BOOKS, MOBY};
+use worked_samples::{profile, record};
 use zeb_extract::{IdentFault, identifier, occurrences};
 use zeb_keys::{Key, Occurrence, Register, Term};
 use zeb_marc::Marc;
@@ -39,7 +39,7 @@ fn lines_of(alloc: Global, found: &[Occurrence], profile: &Profile) -> Result<St
 
 /// What a record has under the sample profile.
 fn extracted(alloc: Global, asked: &str, marc: &Marc<'_>) -> Result<String, AllocError> {
-    let profile = Profile::read(alloc, BOOKS).or(Err(AllocError))?;
+    let profile = Profile::read(alloc, profile("books")).or(Err(AllocError))?;
     if asked == "occurrences" {
         return lines_of(alloc, &occurrences(alloc, marc, &profile)?, &profile);
     }
@@ -54,7 +54,7 @@ fn answer(alloc: Global, text: &str) -> Result<String, AllocError> {
     if text == "memory" {
         return IdentFault::Memory.to_string(alloc);
     }
-    match (text.strip_prefix("term "), Marc::read(MOBY)) {
+    match (text.strip_prefix("term "), Marc::read(record("moby"))) {
         (Some(text), _) => Term::new(String::from_str(alloc, text)?).to_string(alloc),
         (None, Ok(marc)) => extracted(alloc, text, &marc),
         (None, Err(fault)) => fault.to_string(alloc),

@@ -13,8 +13,6 @@ mod leaves;
 #[cfg(test)]
 mod profiles;
 #[cfg(test)]
-mod queries;
-#[cfg(test)]
 mod records;
 #[cfg(test)]
 mod rows;

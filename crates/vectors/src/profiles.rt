@@ -3,34 +3,21 @@
 use crate::rows::{or_none, rows_hold};
 use std::alloc::{AllocError, Global};
 use std::test::Fail;
-use worked_samples::BOOKS;
+use worked_samples::profile;
 use zeb_keys::Register;
 use zeb_profile::{Profile, ProfileFault, ProfileFaultKind, UnitPattern};
 
-/// What is asked of a profile: whether it is read, or what it says. `books` is the sample, and any other text the profile itself. A profile
+/// What a profile says. `books` is the sample, and any other text the profile itself. A profile
 /// that isn't read is answered with its fault.
 static ROWS: &str = "\
-# The smallest text with each fault. What further texts are refused with stands in `crates/rows`.
-reading of foo 1 -> line 1: Directive
-reading of melm 24 T -> line 1: Pattern
-reading of melm 245 9x -> line 1: Name
-reading of melm 245 T:z -> line 1: Register
-reading of melm 245 T,t:w -> line 1: DuplicateTarget
-reading of att 4 T%0aatt 4 T -> line 2: DuplicateUse
-reading of att 4 T -> line 1: UnknownIndex
-reading of  -> line 0: NoIdentifier
-reading of identifier 001%0aidentifier 001 -> line 2: TwoIdentifiers
-reading of all A%0aall A -> line 2: TwoAlls
-reading of store a%0astore a -> line 2: TwoStores
-reading of identifier 001 -> line 0: NoStore
-# Texts at the edges of what is refused.
-reading of store x\r%0aidentifier 001\r%0a -> sound
-reading of \t store \t a b # c %0a identifier\t001 %0a# -> sound
-reading of identifier abC%0astore x -> sound
-reading of identifier 035$$%0astore x%0amelm 245$! T%0amelm 245$~ T -> sound
-reading of identifier 001%0astore x%0amelm 245 T%0amelm 245 U%0amelm 245 T -> sound
-reading of identifier 001%0astore x%0aall t,T:p,t:n%0aatt 999999999 T%0aatt 000000004 t -> sound
-reading of identifier 001%0astore x%0aall A-9_z,Nnnnnnnnnnnnnnnnnnnnnnnnnnnnnnnnnnnnnnnnnnnnnnnnnnnnnnnnnnnnnnnn -> sound
+# Faults while a request for memory is refused. What other texts are refused with stands in `crates/rows`.
+store of foo 1 -> line 1: Directive
+store of melm 245 T,t:w -> line 1: DuplicateTarget
+store of att 4 T%0aatt 4 T -> line 2: DuplicateUse
+store of att 4 T -> line 1: UnknownIndex
+store of all A%0aall A -> line 2: TwoAlls
+store of identifier 001%0aidentifier 001 -> line 2: TwoIdentifiers
+store of identifier 001 -> line 0: NoStore
 # Indexes, and a name as the first line spells it, lines of use attributes too.
 store of books -> books.db
 identifier of books -> 001
@@ -126,7 +113,6 @@ fn index_by_use(profile: &Profile, number: &str) -> Option<u64> {
 /// What a profile says in a text of its own.
 fn text_in<'a>(profile: &'a Profile, asked: &str, index: &str) -> &'a str {
     match asked {
-        "reading" => "sound",
         "store" => profile.store_path(),
         "text" => profile.text(),
         _ => profile
@@ -150,9 +136,8 @@ fn said(alloc: Global, profile: &Profile, asked: &str, of: &str) -> Result<Strin
 
 /// What the profile of a text says, or its fault.
 fn told(alloc: Global, text: &str, asked: &str, of: &str) -> Result<String, AllocError> {
-    let text = if text == "books" { BOOKS } else { text };
     let memory = ProfileFaultKind::Memory;
-    match Profile::read(alloc, text) {
+    match Profile::read(alloc, profile(text)) {
         Ok(profile) => said(alloc, &profile, asked, of),
         Err(fault) if fault.line == 0 && fault.kind == memory => Err(AllocError),
         Err(fault) => fault.to_string(alloc),

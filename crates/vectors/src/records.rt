@@ -4,7 +4,7 @@ use crate::rows::{bytes_of, number, rows_hold, text_of};
 use std::alloc::{AllocError, Global};
 use std::process::Abort;
 use std::test::Fail;
-use worked_samples::MOBY;
+use worked_samples::record;
 use zeb_marc::{Field, Marc};
 use zeb_profile::UnitPattern;
 
@@ -121,7 +121,7 @@ fn records_are_read(rt: HostRuntime) -> Result<(), Fail> {
 #[test]
 fn a_beginning_is_no_record(rt: HostRuntime) -> Result<(), Fail> {
     let mut rows = String::new(rt.alloc());
-    for count in 0..MOBY.len() {
+    for count in 0..record("moby").len() {
         writeln!(rows, "{count} of moby -> Truncated")?;
     }
     rows_hold(rt.alloc(), &rows, answer)
@@ -129,7 +129,7 @@ fn a_beginning_is_no_record(rt: HostRuntime) -> Result<(), Fail> {
 
 #[test]
 fn fields_and_units_may_be_taken_singly_or_together(rt: HostRuntime) -> Result<(), Fail> {
-    let marc = Marc::read(MOBY)?;
+    let marc = Marc::read(record("moby"))?;
     let third = marc.units().nth(2).ok_or("a third unit")?;
     assert_eq!(rt; (third.seq, third.code), (3, Some(b'b')));
     assert!(rt; marc.units().nth(4).is_none());

@@ -2,7 +2,7 @@
 
 use std::alloc::{AllocError, Global};
 use std::test::Fail;
-use worked_samples::{BARE, CAFE, CUT, MOBY};
+use worked_samples::record;
 
 /// What is answered, as a text. The only error is a refused request for memory.
 pub type Answer = fn(Global, &str) -> Result<String, AllocError>;
@@ -54,25 +54,14 @@ pub fn repeated(alloc: Global, text: &str) -> Result<String, AllocError> {
     }
 }
 
-/// A sample by its name; else the bytes of the text itself.
-fn sample(name: &str) -> &[u8] {
-    match name {
-        "moby" => MOBY,
-        "cafe" => CAFE,
-        "bare" => BARE,
-        "cut" => CUT,
-        _ => name.as_bytes(),
-    }
-}
-
-/// The bytes of a part: those of a sample or a text, a text many times, or so many of the first ones, as in `63 of cafe`.
+/// The bytes of a part: those of a record by its name or of a text, a text many times, or so many of the first ones, as in `63 of cafe`.
 fn push_part(alloc: Global, bytes: &mut Vec<u8>, part: &str) -> Result<(), AllocError> {
     if let Some((count, name)) = part.split_once(" of ") {
-        let first = sample(name).get(..number(count)).unwrap_or(&[]);
+        let first = record(name).get(..number(count)).unwrap_or(&[]);
         return bytes.extend_from_slice(first);
     }
     let part = repeated(alloc, part)?;
-    bytes.extend_from_slice(sample(&part))
+    bytes.extend_from_slice(record(&part))
 }
 
 /// The bytes of parts, with `+` between them.

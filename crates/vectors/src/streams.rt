@@ -5,7 +5,7 @@ use std::alloc::{AllocError, Global};
 use std::io;
 use std::io::{ErrorKind, Read};
 use std::test::Fail;
-use worked_samples::{CAFE, MOBY};
+use worked_samples::{name_of, record};
 use zeb_marc::{FromRead, Marc, MarcFault, RecordBuf, Slice, Source, next_record};
 
 /// How the bytes of some parts are given, and what is read, up to the end or a failed read: a sample by its name, another record by its
@@ -49,8 +49,8 @@ interrupted moby -> ReadFault, failed
 110 moby+cafe -> moby, cafe, end
 4096 moby+cafe -> moby, cafe, end
 failing moby+cafe -> moby, cafe, ReadFault, failed
-# A record may be as long as five digits say.
-reader 00026nam a2200025 a 4500\x1e+\x1d -> 26, end
+# A record without a field is the shortest; one may be as long as five digits say.
+reader bare -> bare, end
 reader 04096nam a2200025 a 4500\x1e+4070 * \x20+\x1d -> 4096, end
 reader 65536nam a2200025 a 4500\x1e+65510 * \x20+\x1d -> 65536, end
 reader 99999nam a2200025 a 4500\x1e+99973 * \x20+\x1d -> 99999, end
@@ -99,16 +99,13 @@ impl Read for Portions<'_> {
 
 /// A record by its sample's name; another by its length, where it ends the stream.
 fn record_text(alloc: Global, stream: &[u8], record: &[u8]) -> Result<String, AllocError> {
-    if record == MOBY {
-        return String::from_str(alloc, "moby");
+    match name_of(record) {
+        Some(name) => String::from_str(alloc, name),
+        None if Marc::read(record).is_ok() && stream.ends_with(record) => {
+            record.len().to_string(alloc)
+        }
+        None => String::from_str(alloc, "other bytes"),
     }
-    if record == CAFE {
-        return String::from_str(alloc, "cafe");
-    }
-    if Marc::read(record).is_ok() && stream.ends_with(record) {
-        return record.len().to_string(alloc);
-    }
-    String::from_str(alloc, "other bytes")
 }
 
 /// What is answered, where the buffer has as many bytes as it says.
@@ -181,7 +178,7 @@ fn streams_are_read(rt: HostRuntime) -> Result<(), Fail> {
 #[test]
 fn a_read_may_fail_behind_each_byte(rt: HostRuntime) -> Result<(), Fail> {
     let mut rows = String::new(rt.alloc());
-    for count in 0..MOBY.len() {
+    for count in 0..record("moby").len() {
         let reads = count.saturating_add(1);
         writeln!(
             rows,
@@ -189,7 +186,7 @@ fn a_read_may_fail_behind_each_byte(rt: HostRuntime) -> Result<(), Fail> {
         )?;
         writeln!(rows, "failing {count} of moby -> ReadFault, failed")?;
     }
-    for count in 0..CAFE.len() {
+    for count in 0..record("cafe").len() {
         writeln!(
             rows,
             "failing moby+{count} of cafe -> moby, ReadFault, failed"

@@ -7,6 +7,7 @@ pub use Rattle.std.proofs.Math.Seq.{take-append_seam, drop-append_seam, take-suc
 pub use Rattle.std.specs.Cmp.Lexicographic.{slice_cmp}
 pub use Rattle.std.specs.Ordering.{nat_cmp, ordering_then}
 pub use Rattle.std.specs.List.{AllByRecursion}
+pub use Rattle.std.specs.Prelude.{IsUtf8}
 pub use Rattle.zeb_leaf.specs.Order.{IsEntry, entry_cmp}
 pub use Rattle.zeb_leaf.specs.Leaves.{shared_of, leaf_bytes, IsLeaf}
 pub use Rattle.zeb_leaf.specs.Walks.{Place, first_place, behind_entry, last_place, Follows, Walk, Steps, IsStuck, Draft, draft_of}

@@ -1,5 +1,5 @@
 -- One entry at a place, and its bytes.
-use Rattle.zeb_leaf.proofs.Cited.{◌≡◌, ◌≢◌, ℕ, ◌+◌, ◌^◌, ◌<◌, ◌≤◌, List, [], ◌++◌, length, take, drop, refl, sym, ◌∙◌, ap, subst, arith, length-append, length-drop, length-take-le, take-append-drop, drop-append_seam, Entry, IsEntry, shared_of, Place, Follows, behind_entry, Walk, Steps, IsStuck, Parts, AreSmall, Fit, entry_told}
+use Rattle.zeb_leaf.proofs.Cited.{◌≡◌, ◌≢◌, ℕ, ◌+◌, ◌^◌, ◌<◌, ◌≤◌, List, [], ◌++◌, length, take, drop, refl, sym, ◌∙◌, ap, subst, arith, length-append, length-drop, length-take-le, take-append-drop, drop-append_seam, Entry, IsEntry, shared_of, Place, Follows, behind_entry, Walk, Steps, IsStuck, Parts, AreSmall, Fit, entry_told, IsUtf8}
 use Rattle.std.specs.Prelude.{nat_eq}
 use Rattle.std.proofs.lemmas.List.Sums.{common_prefix_len-le}
 use Rattle.zeb_leaf.specs.Leaves.{entry_bytes}
@@ -65,13 +65,13 @@ follows_fit place e follows =
       };
     }
 
--- parts that fit tell an entry that may come there, and are its parts
+-- parts that fit tell an entry that may come there, if its term is text, and are its parts
 pub record Told (place : Place) (p : Parts) : Type 0 where
   pub follows : Follows place (entry_told place.term p)
   pub parts : parts_of place.term (entry_told place.term p) ≡ p
 
-pub fit_told : (place : Place) (p : Parts) → AreSmall p → Fit place p → Told place p
-fit_told place p small fit =
+pub fit_told : (place : Place) (p : Parts) → AreSmall p → Fit place p → IsUtf8 (take p.shared place.term ++ p.suffix) → Told place p
+fit_told place p small fit text =
     let front = take p.shared place.term in
     let xs = drop p.shared place.term in
     let long : length front ≡ p.shared = length-take-le p.shared place.term fit.shared in
@@ -81,7 +81,7 @@ fit_told place p small fit =
     let suffix : drop (shared_of place.term (front ++ p.suffix)) (front ++ p.suffix) ≡ p.suffix = ap (λ (n : ℕ). drop n (front ++ p.suffix)) shared ∙ drop-append_seam front p.suffix in
     let term : length (front ++ p.suffix) < 2 ^ 64 = omega (arith, length-append front p.suffix, long, fit.sound.term) in
     record {
-      follows = record { above = above; sound = record { term = term; block = fit.sound.block; records = fit.sound.records; bytes = small.bytes } };
+      follows = record { above = above; sound = record { text = text; term = term; block = fit.sound.block; records = fit.sound.records; bytes = small.bytes } };
       parts = λ i. record { shared = (shared ∙ long) i; suffix = suffix i; block = p.block; records = p.records; bytes = p.bytes };
     }
 
@@ -97,17 +97,25 @@ stuck_unread walk some none = record {
   none = λ e new step. none (parts_of walk.place.term e) new.left (parts_small walk.place.term e step.follows.sound) (step_parts walk e new step);
 }
 
-pub stuck_unfit : (walk : Walk) (p : Parts) (left : List ℕ) → ¬ (walk.left ≡ []) → AreSmall p → walk.left ≡ parts_bytes p ++ left → ¬ Fit walk.place p → IsStuck walk
-stuck_unfit walk p left some small is unfit = record {
-  some = some;
-  none = λ e new step.
-      let (parts, rest) = same_parts (parts_of walk.place.term e) p new.left left (parts_small walk.place.term e step.follows.sound) small (sym (step_parts walk e new step) ∙ is) in
-      unfit (subst (Fit walk.place) parts (follows_fit walk.place e step.follows));
-}
+-- where parts stand at the front, an entry that stands there has these parts
+module _ (walk : Walk) (p : Parts) (left : List ℕ) (some : ¬ (walk.left ≡ [])) (small : AreSmall p) (is : walk.left ≡ parts_bytes p ++ left) where
+  met : (e : Entry) (new : Walk) → Steps walk e new → parts_of walk.place.term e ≡ p
+  met e new step = (same_parts (parts_of walk.place.term e) p new.left left (parts_small walk.place.term e step.follows.sound) small (sym (step_parts walk e new step) ∙ is)).0
 
-pub step_read : (walk : Walk) (p : Parts) (left : List ℕ) → AreSmall p → walk.left ≡ parts_bytes p ++ left → Fit walk.place p → Steps walk (entry_told walk.place.term p) (record { place = behind_entry (entry_told walk.place.term p); left = left })
-step_read walk p left small is fit =
-    let told = fit_told walk.place p small fit in
+  pub stuck_unfit : ¬ Fit walk.place p → IsStuck walk
+  stuck_unfit unfit = record { some = some; none = λ e new step. unfit (subst (Fit walk.place) (met e new step) (follows_fit walk.place e step.follows)) }
+
+  pub stuck_no_text : ¬ IsUtf8 (take p.shared walk.place.term ++ p.suffix) → IsStuck walk
+  stuck_no_text none = record {
+    some = some;
+    none = λ e new step.
+        let told : e ≡ entry_told walk.place.term p = sym (told_parts walk.place.term e) ∙ ap (entry_told walk.place.term) (met e new step) in
+        none (subst (λ (f : Entry). IsUtf8 f.term) told step.follows.sound.text);
+  }
+
+pub step_read : (walk : Walk) (p : Parts) (left : List ℕ) → AreSmall p → walk.left ≡ parts_bytes p ++ left → Fit walk.place p → IsUtf8 (take p.shared walk.place.term ++ p.suffix) → Steps walk (entry_told walk.place.term p) (record { place = behind_entry (entry_told walk.place.term p); left = left })
+step_read walk p left small is fit text =
+    let told = fit_told walk.place p small fit text in
     let e = entry_told walk.place.term p in
     record {
       follows = told.follows;
@@ -116,9 +124,9 @@ step_read walk p left small is fit =
     }
 
 -- the step that leads on with its term set
-pub step_set : (walk self : Walk) (p : Parts) (left term : List ℕ) → walk ≡ self → term ≡ take p.shared walk.place.term ++ p.suffix → AreSmall p → walk.left ≡ parts_bytes p ++ left → Fit walk.place p
+pub step_set : (walk self : Walk) (p : Parts) (left term : List ℕ) → walk ≡ self → term ≡ take p.shared walk.place.term ++ p.suffix → AreSmall p → walk.left ≡ parts_bytes p ++ left → Fit walk.place p → IsUtf8 term
     → Steps self (record { term = term; block = p.block; records = p.records; bytes = p.bytes }) (record { place = record { term = term; least = p.block + 1 }; left = left })
-step_set walk self p left term self_is term_is small is fit =
-    let here = step_read walk p left small is fit in
+step_set walk self p left term self_is term_is small is fit text =
+    let here = step_read walk p left small is fit (subst IsUtf8 term_is text) in
     let moved = subst (λ (t : List ℕ). Steps walk (record { term = t; block = p.block; records = p.records; bytes = p.bytes }) (record { place = record { term = t; least = p.block + 1 }; left = left })) (sym term_is) here in
     subst (λ (w : Walk). Steps w (record { term = term; block = p.block; records = p.records; bytes = p.bytes }) (record { place = record { term = term; least = p.block + 1 }; left = left })) self_is moved

@@ -1,6 +1,10 @@
 -- Worked leaves, and bytes that are none: what the bytes have at their front is told by computing it.
-use Rattle.zeb_leaf.proofs.Cited.{◌≡◌, ◌≢◌, ℕ, ◌+◌, ◌^◌, ◌<◌, ◌≤◌, List, [], ◌∷◌, ◌++◌, length, take, drop, refl, sym, ◌∙◌, ap, subst, inl, inr, arith, lit<, lit≤, take-append_seam, drop-append_seam, Entry, IsEntry, IsLeaf, leaf_bytes, Place, first_place, behind_entry, Parts, AreSmall, Fit, entry_told}
+use Rattle.zeb_leaf.proofs.Cited.{◌≡◌, ◌≢◌, ℕ, ◌+◌, ◌^◌, ◌<◌, ◌≤◌, List, [], ◌∷◌, ◌++◌, length, take, drop, refl, sym, ◌∙◌, ap, subst, inl, inr, arith, true, false, lit<, lit≤, take-append_seam, drop-append_seam, Entry, IsEntry, IsLeaf, leaf_bytes, Place, first_place, behind_entry, Parts, AreSmall, Fit, entry_told, IsUtf8}
 use Rattle.std.specs.Prelude.{replicate}
+use Rattle.std.specs.Str.{chars, is_utf8}
+use Rattle.std.proofs.Math.Utf8.{encode}
+use Rattle.std.proofs.Math.Seq.{take-nil}
+use Rattle.std.proofs.lemmas.Str.{IsUtf8-from_is_utf8, is_utf8-from_IsUtf8}
 use Rattle.zeb_leaf.specs.Worked.{entry}
 use Rattle.zeb_blocks.specs.Numbers.{groups, uleb}
 use Rattle.zeb_blocks.specs.Left.{number_at, behind}
@@ -67,6 +71,7 @@ parts_front p rest small =
 record Begins (place : Place) (list : List Entry) (bytes : List ℕ) (p : Parts) (left : List ℕ) : Type 0 where
   rest : List Entry
   fit : Fit place p
+  text : IsUtf8 (take p.shared place.term ++ p.suffix)
   spelled : bytes ≡ parts_bytes p ++ left
   spells : Spells (behind_entry (entry_told place.term p)) rest left
 
@@ -87,6 +92,7 @@ begins place (e ∷ rest) bytes p left first last some spells =
     record {
       rest = rest;
       fit = subst (Fit place) same (follows_fit place e spells.follow.0);
+      text = subst (λ (f : Entry). IsUtf8 f.term) told spells.follow.0.sound.text;
       spelled = at ∙ (λ i. parts_bytes (same i) ++ same_left i);
       spells = subst (λ (b : List ℕ). Spells (behind_entry (entry_told place.term p)) rest b) same_left moved;
     }
@@ -110,6 +116,21 @@ unfit_second bytes p q behind_p left first last some second end more none list l
     let b = begins first_place list bytes p behind_p first last some (leaf_spells bytes list leaf) in
     let b2 = begins (behind_entry (entry_told [] p)) b.rest behind_p q left second end more b.spells in
     none (b2.fit, b2.spelled)
+
+-- where its term isn't text
+no_text : (bytes : List ℕ) (p : Parts) (left : List ℕ) → parts_at bytes ≡ p → behind_parts bytes ≡ left → bytes ≢ [] → ¬ IsUtf8 p.suffix → (list : List Entry) → ¬ IsLeaf bytes list
+no_text bytes p left first last some none list leaf =
+    let b = begins first_place list bytes p left first last some (leaf_spells bytes list leaf) in
+    none (subst (λ (front : List ℕ). IsUtf8 (front ++ p.suffix)) (take-nil p.shared) b.text)
+
+no_text_second : (bytes : List ℕ) (p q : Parts) (behind_p left : List ℕ) → parts_at bytes ≡ p → behind_parts bytes ≡ behind_p → bytes ≢ [] → parts_at behind_p ≡ q → behind_parts behind_p ≡ left → behind_p ≢ []
+    → ¬ IsUtf8 (take q.shared (entry_told [] p).term ++ q.suffix) → (list : List Entry) → ¬ IsLeaf bytes list
+no_text_second bytes p q behind_p left first last some second end more none list leaf =
+    let b = begins first_place list bytes p behind_p first last some (leaf_spells bytes list leaf) in
+    none (begins (behind_entry (entry_told [] p)) b.rest behind_p q left second end more b.spells).text
+
+is_no_text : (bytes : List ℕ) → is_utf8 bytes ≡ false → ¬ IsUtf8 bytes
+is_no_text bytes none text = let both : false ≡ true = sym none ∙ is_utf8-from_IsUtf8 bytes text in cc
 
 -- a number that isn't in its shortest form
 pub no_long : (list : List Entry) → ¬ IsLeaf (0x80 ∷ 0 ∷ 1 ∷ 97 ∷ 0 ∷ 1 ∷ 3 ∷ 1 ∷ 2 ∷ 2 ∷ []) list
@@ -161,27 +182,37 @@ pub no_block : (list : List Entry) → ¬ IsLeaf (0 ∷ 1 ∷ 97 ∷ (replicate 
 unfolding number_at behind
 no_block = unfit _ (parts 0 (97 ∷ []) (2 ^ 56) 1 block_bytes) [] refl refl (λ none. cc) (λ (fit, spelled). let low : 2 ^ 56 < 2 ^ 56 = fit.sound.block in omega arith)
 
+-- a term that isn't UTF-8
+pub no_utf8 : (list : List Entry) → ¬ IsLeaf (0 ∷ 1 ∷ 0xe9 ∷ 0 ∷ 1 ∷ 3 ∷ 1 ∷ 2 ∷ 2 ∷ []) list
+unfolding number_at behind chars is_utf8
+no_utf8 = no_text _ (parts 0 (0xe9 ∷ []) 0 1 block_bytes) [] refl refl (λ none. cc) (is_no_text (0xe9 ∷ []) refl)
+
+-- a term that isn't, though what it doesn't share is
+pub no_whole_utf8 : (list : List Entry) → ¬ IsLeaf (0 ∷ 2 ∷ 0xc3 ∷ 0xa9 ∷ 0 ∷ 1 ∷ 3 ∷ 1 ∷ 2 ∷ 2 ∷ 1 ∷ 2 ∷ 0xc3 ∷ 0xaa ∷ 0 ∷ 1 ∷ 3 ∷ 1 ∷ 2 ∷ 2 ∷ []) list
+unfolding number_at behind chars encode is_utf8
+no_whole_utf8 = no_text_second _ (parts 0 (0xc3 ∷ 0xa9 ∷ []) 0 1 block_bytes) (parts 1 (0xc3 ∷ 0xaa ∷ []) 0 1 block_bytes) (1 ∷ 2 ∷ 0xc3 ∷ 0xaa ∷ 0 ∷ 1 ∷ 3 ∷ 1 ∷ 2 ∷ 2 ∷ []) [] refl refl (λ none. cc) refl refl (λ none. cc) (is_no_text (0xc3 ∷ 0xc3 ∷ 0xaa ∷ []) refl)
+
 -- ---- worked leaves
 
-entry_at : (term : List ℕ) (block records : ℕ) (bytes : List ℕ) → length term < 2 ^ 64 → block < 2 ^ 56 → 1 ≤ records → records ≤ 256 → length bytes < 2 ^ 64 → IsEntry (entry term block records bytes)
-entry_at term block records bytes a b c d e = record { term = a; block = b; records = (c, d); bytes = e }
+entry_at : (term : List ℕ) (block records : ℕ) (bytes : List ℕ) → is_utf8 term ≡ true → length term < 2 ^ 64 → block < 2 ^ 56 → 1 ≤ records → records ≤ 256 → length bytes < 2 ^ 64 → IsEntry (entry term block records bytes)
+entry_at term block records bytes text a b c d e = record { text = IsUtf8-from_is_utf8 term text; term = a; block = b; records = (c, d); bytes = e }
 
 -- two terms that share three bytes
 pub leaf_shared : IsLeaf (0 ∷ 3 ∷ 109 ∷ 111 ∷ 98 ∷ 0 ∷ 1 ∷ 3 ∷ 1 ∷ 2 ∷ 2 ∷ 3 ∷ 1 ∷ 121 ∷ 0 ∷ 1 ∷ 3 ∷ 1 ∷ 2 ∷ 2 ∷ []) (entry (109 ∷ 111 ∷ 98 ∷ []) 0 1 (1 ∷ 2 ∷ 2 ∷ []) ∷ entry (109 ∷ 111 ∷ 98 ∷ 121 ∷ []) 0 1 (1 ∷ 2 ∷ 2 ∷ []) ∷ [])
-unfolding entries_bytes entry_bytes counted uleb groups
-leaf_shared = leaf_by (entry (109 ∷ 111 ∷ 98 ∷ []) 0 1 (1 ∷ 2 ∷ 2 ∷ [])) (entry (109 ∷ 111 ∷ 98 ∷ 121 ∷ []) 0 1 (1 ∷ 2 ∷ 2 ∷ []) ∷ []) _ (record { above = inl refl; sound = entry_at (109 ∷ 111 ∷ 98 ∷ []) 0 1 (1 ∷ 2 ∷ 2 ∷ []) (lit< tt) (lit< tt) (lit≤ tt) (lit≤ tt) (lit< tt) }, (record { above = inl refl; sound = entry_at (109 ∷ 111 ∷ 98 ∷ 121 ∷ []) 0 1 (1 ∷ 2 ∷ 2 ∷ []) (lit< tt) (lit< tt) (lit≤ tt) (lit≤ tt) (lit< tt) }, tt)) refl
+unfolding entries_bytes entry_bytes counted uleb groups chars encode is_utf8
+leaf_shared = leaf_by (entry (109 ∷ 111 ∷ 98 ∷ []) 0 1 (1 ∷ 2 ∷ 2 ∷ [])) (entry (109 ∷ 111 ∷ 98 ∷ 121 ∷ []) 0 1 (1 ∷ 2 ∷ 2 ∷ []) ∷ []) _ (record { above = inl refl; sound = entry_at (109 ∷ 111 ∷ 98 ∷ []) 0 1 (1 ∷ 2 ∷ 2 ∷ []) refl (lit< tt) (lit< tt) (lit≤ tt) (lit≤ tt) (lit< tt) }, (record { above = inl refl; sound = entry_at (109 ∷ 111 ∷ 98 ∷ 121 ∷ []) 0 1 (1 ∷ 2 ∷ 2 ∷ []) refl (lit< tt) (lit< tt) (lit≤ tt) (lit≤ tt) (lit< tt) }, tt)) refl
 
 -- two blocks of a term, the second with 256 records
 pub leaf_blocks : IsLeaf (0 ∷ 1 ∷ 97 ∷ 0 ∷ 1 ∷ 3 ∷ 1 ∷ 2 ∷ 2 ∷ 1 ∷ 0 ∷ 2 ∷ 0x80 ∷ 2 ∷ 3 ∷ 0 ∷ 2 ∷ 2 ∷ []) (entry (97 ∷ []) 0 1 (1 ∷ 2 ∷ 2 ∷ []) ∷ entry (97 ∷ []) 2 256 (0 ∷ 2 ∷ 2 ∷ []) ∷ [])
-unfolding entries_bytes entry_bytes counted uleb groups
-leaf_blocks = leaf_by (entry (97 ∷ []) 0 1 (1 ∷ 2 ∷ 2 ∷ [])) (entry (97 ∷ []) 2 256 (0 ∷ 2 ∷ 2 ∷ []) ∷ []) _ (record { above = inl refl; sound = entry_at (97 ∷ []) 0 1 (1 ∷ 2 ∷ 2 ∷ []) (lit< tt) (lit< tt) (lit≤ tt) (lit≤ tt) (lit< tt) }, (record { above = inr (refl, lit≤ tt); sound = entry_at (97 ∷ []) 2 256 (0 ∷ 2 ∷ 2 ∷ []) (lit< tt) (lit< tt) (lit≤ tt) (lit≤ tt) (lit< tt) }, tt)) refl
+unfolding entries_bytes entry_bytes counted uleb groups chars encode is_utf8
+leaf_blocks = leaf_by (entry (97 ∷ []) 0 1 (1 ∷ 2 ∷ 2 ∷ [])) (entry (97 ∷ []) 2 256 (0 ∷ 2 ∷ 2 ∷ []) ∷ []) _ (record { above = inl refl; sound = entry_at (97 ∷ []) 0 1 (1 ∷ 2 ∷ 2 ∷ []) refl (lit< tt) (lit< tt) (lit≤ tt) (lit≤ tt) (lit< tt) }, (record { above = inr (refl, lit≤ tt); sound = entry_at (97 ∷ []) 2 256 (0 ∷ 2 ∷ 2 ∷ []) refl (lit< tt) (lit< tt) (lit≤ tt) (lit≤ tt) (lit< tt) }, tt)) refl
 
 -- an empty term
 pub leaf_empty_term : IsLeaf (0 ∷ 0 ∷ 0 ∷ 1 ∷ 3 ∷ 1 ∷ 2 ∷ 2 ∷ []) (entry [] 0 1 (1 ∷ 2 ∷ 2 ∷ []) ∷ [])
-unfolding entries_bytes entry_bytes counted uleb groups
-leaf_empty_term = leaf_by (entry [] 0 1 (1 ∷ 2 ∷ 2 ∷ [])) ([]) _ (record { above = inr (refl, lit≤ tt); sound = entry_at [] 0 1 (1 ∷ 2 ∷ 2 ∷ []) (lit< tt) (lit< tt) (lit≤ tt) (lit≤ tt) (lit< tt) }, tt) refl
+unfolding entries_bytes entry_bytes counted uleb groups chars encode is_utf8
+leaf_empty_term = leaf_by (entry [] 0 1 (1 ∷ 2 ∷ 2 ∷ [])) ([]) _ (record { above = inr (refl, lit≤ tt); sound = entry_at [] 0 1 (1 ∷ 2 ∷ 2 ∷ []) refl (lit< tt) (lit< tt) (lit≤ tt) (lit≤ tt) (lit< tt) }, tt) refl
 
 -- two terms of one letter each, é and ê, that share a byte of it
 pub leaf_bytes_shared : IsLeaf (0 ∷ 2 ∷ 0xc3 ∷ 0xa9 ∷ 0 ∷ 1 ∷ 3 ∷ 1 ∷ 2 ∷ 2 ∷ 1 ∷ 1 ∷ 0xaa ∷ 0 ∷ 1 ∷ 3 ∷ 1 ∷ 2 ∷ 2 ∷ []) (entry (0xc3 ∷ 0xa9 ∷ []) 0 1 (1 ∷ 2 ∷ 2 ∷ []) ∷ entry (0xc3 ∷ 0xaa ∷ []) 0 1 (1 ∷ 2 ∷ 2 ∷ []) ∷ [])
-unfolding entries_bytes entry_bytes counted uleb groups
-leaf_bytes_shared = leaf_by (entry (0xc3 ∷ 0xa9 ∷ []) 0 1 (1 ∷ 2 ∷ 2 ∷ [])) (entry (0xc3 ∷ 0xaa ∷ []) 0 1 (1 ∷ 2 ∷ 2 ∷ []) ∷ []) _ (record { above = inl refl; sound = entry_at (0xc3 ∷ 0xa9 ∷ []) 0 1 (1 ∷ 2 ∷ 2 ∷ []) (lit< tt) (lit< tt) (lit≤ tt) (lit≤ tt) (lit< tt) }, (record { above = inl refl; sound = entry_at (0xc3 ∷ 0xaa ∷ []) 0 1 (1 ∷ 2 ∷ 2 ∷ []) (lit< tt) (lit< tt) (lit≤ tt) (lit≤ tt) (lit< tt) }, tt)) refl
+unfolding entries_bytes entry_bytes counted uleb groups chars encode is_utf8
+leaf_bytes_shared = leaf_by (entry (0xc3 ∷ 0xa9 ∷ []) 0 1 (1 ∷ 2 ∷ 2 ∷ [])) (entry (0xc3 ∷ 0xaa ∷ []) 0 1 (1 ∷ 2 ∷ 2 ∷ []) ∷ []) _ (record { above = inl refl; sound = entry_at (0xc3 ∷ 0xa9 ∷ []) 0 1 (1 ∷ 2 ∷ 2 ∷ []) refl (lit< tt) (lit< tt) (lit≤ tt) (lit≤ tt) (lit< tt) }, (record { above = inl refl; sound = entry_at (0xc3 ∷ 0xaa ∷ []) 0 1 (1 ∷ 2 ∷ 2 ∷ []) refl (lit< tt) (lit< tt) (lit≤ tt) (lit≤ tt) (lit< tt) }, tt)) refl

@@ -45,7 +45,7 @@ pub record Sound (p : Parts) : Type 0 where
   pub block : p.block < 2 ^ 56
   pub records : (1 ≤ p.records) × (p.records ≤ 256)
 
--- they tell an entry that may come at the place
+-- they tell an entry that may come at the place, if its term is text
 pub record Fit (place : Place) (p : Parts) : Type 0 where
   pub shared : p.shared ≤ length place.term
   pub rises : Rises (drop p.shared place.term) p.suffix place.least p.block

@@ -37,11 +37,10 @@ impl Bytes {
     }
 }
 
-/// A block of a term's postings, as a leaf has it. Neither the term nor the block's bytes are asked what they spell: a damaged leaf
-/// can hold any.
+/// A block of a term's postings, as a leaf has it. The block's bytes aren't asked what they spell: a damaged leaf can hold any.
 #[derive(Debug, Drop)]
 pub struct Entry {
-    /// The term's bytes.
+    /// The term's bytes, which are UTF-8.
     pub term: Bytes,
     /// The block's number, a system number div 256, 0 to 2^56 - 1.
     pub block: u64,

@@ -63,7 +63,7 @@ pub fn worked_leaves()
         ∷ entry (0xc3 ∷ 0xaa ∷ []) 0 1 (1 ∷ 2 ∷ 2 ∷ []) ∷ []) }
     // Nothing; a number that isn't in its shortest form; bytes shared with no term; fewer bytes shared than can be; a term below the
     // one before it; the same term and block again; no records; 257 records; a block's bytes that are cut; a byte behind the last
-    // entry; a block of no system number.
+    // entry; a block of no system number; a term that isn't UTF-8; one that isn't, though what it doesn't share with the one before is.
     ensures none { AllByRecursion (λ bytes. (list : List Entry) → ¬ IsLeaf bytes list)
         ([] ∷ (0x80 ∷ 0 ∷ 1 ∷ 97 ∷ 0 ∷ 1 ∷ 3 ∷ 1 ∷ 2 ∷ 2 ∷ [])
         ∷ (1 ∷ 0 ∷ 0 ∷ 1 ∷ 3 ∷ 1 ∷ 2 ∷ 2 ∷ [])
@@ -74,5 +74,8 @@ pub fn worked_leaves()
         ∷ (0 ∷ 1 ∷ 97 ∷ 0 ∷ 0x81 ∷ 2 ∷ 3 ∷ 1 ∷ 2 ∷ 2 ∷ [])
         ∷ (0 ∷ 1 ∷ 97 ∷ 0 ∷ 1 ∷ 3 ∷ 1 ∷ 2 ∷ [])
         ∷ (0 ∷ 1 ∷ 97 ∷ 0 ∷ 1 ∷ 3 ∷ 1 ∷ 2 ∷ 2 ∷ 0 ∷ [])
-        ∷ (0 ∷ 1 ∷ 97 ∷ (replicate 8 0x80 ++ 1 ∷ 1 ∷ 3 ∷ 1 ∷ 2 ∷ 2 ∷ [])) ∷ []) }
+        ∷ (0 ∷ 1 ∷ 97 ∷ (replicate 8 0x80 ++ 1 ∷ 1 ∷ 3 ∷ 1 ∷ 2 ∷ 2 ∷ []))
+        ∷ (0 ∷ 1 ∷ 0xe9 ∷ 0 ∷ 1 ∷ 3 ∷ 1 ∷ 2 ∷ 2 ∷ [])
+        ∷ (0 ∷ 2 ∷ 0xc3 ∷ 0xa9 ∷ 0 ∷ 1 ∷ 3 ∷ 1 ∷ 2 ∷ 2 ∷ 1 ∷ 2 ∷ 0xc3 ∷ 0xaa ∷ 0 ∷ 1 ∷ 3 ∷ 1 ∷ 2 ∷ 2 ∷ [])
+        ∷ []) }
 {}

@@ -26,7 +26,7 @@ pub struct NewBlock {
 /// What becomes of a block of a term.
 #[derive(Debug, Drop)]
 pub struct BlockChange {
-    /// The term's bytes.
+    /// The term's bytes, which are UTF-8.
     pub term: Bytes,
     /// The block's number, a system number div 256, 0 to 2^56 - 1.
     pub block: u64,

@@ -14,7 +14,7 @@ use std::alloc::{AllocError, Global};
 /// A leaf that is to be written: the key of its first entry, and its bytes.
 #[derive(Debug, Drop)]
 pub struct NewLeaf {
-    /// The term's bytes.
+    /// The term's bytes, which are UTF-8.
     pub term: Bytes,
     /// The block's number, 0 to 2^56 - 1.
     pub block: u64,

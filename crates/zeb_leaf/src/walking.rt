@@ -1,5 +1,5 @@
 //! A walk over a leaf, entry by entry.
-ghost use Rattle.std.specs.Prelude.{◌≡◌, ◌++◌, [], OnErr, OnOk, MatchOption, take};
+ghost use Rattle.std.specs.Prelude.{◌≡◌, ◌++◌, ◌↔◌, [], IsTrue, IsUtf8, OnErr, OnOk, MatchOption};
 ghost use Rattle.zeb_leaf.specs.Answers.{Answers, entry_of};
 ghost use Rattle.zeb_leaf.specs.Walks.{Steps, IsStuck, first_place};
 
@@ -7,6 +7,7 @@ use crate::entries::{Held, LeafFault};
 use crate::telling::Told;
 use std::alloc::{AllocError, Global};
 use std::marker::Model;
+use std::mem;
 
 /// A reader of a leaf: contracts see the place that it came to, and the bytes that are left.
 #[derive(Debug, Drop)]
@@ -14,6 +15,8 @@ pub struct LeafReader<'a> {
     term: Vec<u8>,
     least: u64,
     left: &'a [u8],
+    /// Where the next term is put together: only once it is known to be text, it takes the place of the one before it.
+    next_term: Vec<u8>,
 }
 
 impl<'a> Model for LeafReader<'a> {
@@ -27,14 +30,20 @@ impl<'a> Model for LeafReader<'a> {
     } };
 }
 
-/// Makes the term before an entry the entry's own. Where memory ran out, it stays as it was.
-pub(crate) fn set_term(term: &mut Vec<u8>, shared: usize, suffix: &[u8]) -> Result<(), AllocError>
-    ensures ok { OnOk result (term.new.items ≡ take shared term.old.items ++ suffix.now) }
-    ensures err { OnErr result (term.new.items ≡ term.old.items) }
+/// Makes the bytes those of two parts, one behind the other. Where memory ran out, they may be others.
+fn set_joined(bytes: &mut Vec<u8>, front: &[u8], back: &[u8]) -> Result<(), AllocError>
+    ensures { OnOk result (bytes.new.items ≡ front.now ++ back.now) }
 {
-    term.reserve(suffix.len())?;
-    term.truncate(shared);
-    term.extend_from_slice(suffix)
+    bytes.clear();
+    bytes.extend_from_slice(front)?;
+    bytes.extend_from_slice(back)
+}
+
+/// Whether bytes are UTF-8.
+fn is_text(bytes: &[u8]) -> bool
+    ensures { IsTrue result ↔ IsUtf8 bytes.now }
+{
+    str::from_utf8(bytes).is_ok()
 }
 
 impl<'a> LeafReader<'a> {
@@ -46,6 +55,7 @@ impl<'a> LeafReader<'a> {
             term: Vec::new(alloc),
             least: 0,
             left: bytes,
+            next_term: Vec::new(alloc),
         }
     }
 
@@ -60,8 +70,8 @@ impl<'a> LeafReader<'a> {
     ///
     /// [`LeafFault::Malformed`] exactly where no entry that may come here stands at the front of what is left: a number is cut, isn't
     /// in the shortest form of ULEB128 or doesn't fit 64 bits; bytes are cut; a term isn't told by the longest start that it shares
-    /// with the one before it; term and block don't rise; the block is 2^56 or more; or there are no records, or more than 256. Then,
-    /// and where memory ran out, the walk stays where it was.
+    /// with the one before it, or isn't UTF-8; term and block don't rise; the block is 2^56 or more; or there are no records, or more
+    /// than 256. Then, and where memory ran out, the walk stays where it was.
     pub fn next(&mut self) -> Result<Option<Held<'a>>, LeafFault>
         ensures answers { Answers (IsStuck self.old) (λ found. MatchOption found
             ((self.old.left ≡ []) × (self.new ≡ self.old))
@@ -77,7 +87,12 @@ impl<'a> LeafReader<'a> {
         if !told.fits(self.term.as_slice(), self.least) {
             return Err(LeafFault::Malformed);
         }
-        set_term(&mut self.term, told.shared, told.suffix)?;
+        let (shared, _) = self.term.as_slice().split_at(told.shared);
+        set_joined(&mut self.next_term, shared, told.suffix)?;
+        if !is_text(self.next_term.as_slice()) {
+            return Err(LeafFault::Malformed);
+        }
+        mem::swap(&mut self.term, &mut self.next_term);
         self.least = told.block + 1;
         self.left = left;
         Ok(Some(Held {

@@ -8,7 +8,6 @@ ghost use Rattle.zeb_leaf.specs.Leaves.{counted, entry_bytes, leaf_bytes, shared
 ghost use Rattle.zeb_leaf.specs.Walks.{Follows, draft_of};
 
 use crate::entries::Entry;
-use crate::walking::set_term;
 use std::alloc::{AllocError, Global};
 use std::marker::Model;
 use zeb_blocks::write_number;
@@ -49,6 +48,16 @@ fn write_entry(out: &mut Vec<u8>, before: &[u8], entry: &Entry) -> Result<(), Al
     write_counted(out, entry.bytes.as_slice())
 }
 
+/// Makes a term another one. Where memory ran out, it stays as it was.
+fn set_term(term: &mut Vec<u8>, new: &[u8]) -> Result<(), AllocError>
+    ensures ok { OnOk result (term.new.items ≡ new.now) }
+    ensures err { OnErr result (term.new.items ≡ term.old.items) }
+{
+    term.reserve(new.len())?;
+    term.clear();
+    term.extend_from_slice(new)
+}
+
 /// Puts the bytes of an entry behind those of one with this term, and makes the term the entry's own. Where memory ran out, the term stays
 /// as it was, and a part of the bytes may have been put there.
 fn put_entry(out: &mut Vec<u8>, term: &mut Vec<u8>, entry: &Entry) -> Result<(), AllocError>
@@ -60,7 +69,7 @@ fn put_entry(out: &mut Vec<u8>, term: &mut Vec<u8>, entry: &Entry) -> Result<(),
         × (term.new.items ≡ term.old.items)) }
 {
     write_entry(out, term.as_slice(), entry)?;
-    set_term(term, 0, entry.term.as_slice())
+    set_term(term, entry.term.as_slice())
 }
 
 /// A leaf that is being written, entry by entry: contracts see the place behind its last entry, and its bytes so far.

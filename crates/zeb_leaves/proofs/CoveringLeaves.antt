@@ -1,9 +1,8 @@
 -- Which leaf covers a key, by what the statements show.
-use Rattle.zeb_leaves.proofs.Cited.{Row, column, row_cmp, Int, Text, Blob, ◌≡◌, ◌≢◌, ◌∙◌, ◌⊎◌, ◌<◌, ◌+◌, ◌≤◌, ◌++◌, ◌∷◌, ℕ, ℤ, Some, None, Option, subst, pos, true, false, List, [], refl, sym, ap, inl, inr, arith, Ordering, Less, Equal, Greater, nat_cmp, slice_cmp, ordering_then, value_cmp-Int, value_cmp-Text, less_is, is_less, Covers, IsCovering, IsLeafOf, IsUncovered, IsUpTo, HasBlockFrom, IsGreatest, ShowsGreatest, leaf_key, own_key, IsRest, IsStore, State, blocks_tree, key_in, Register, register_front, register_code, ints_order}
+use Rattle.zeb_leaves.proofs.Cited.{Row, column, row_cmp, Int, Text, Blob, ◌≡◌, ◌≢◌, ◌∙◌, ◌⊎◌, ◌<◌, ◌+◌, ◌≤◌, ◌++◌, ◌∷◌, ℕ, ℤ, Some, None, Option, subst, pos, true, false, List, [], refl, sym, ap, inl, inr, arith, Ordering, Less, Equal, Greater, nat_cmp, slice_cmp, ordering_then, value_cmp-Int, value_cmp-Text, less_is, is_less, Covers, IsCovering, IsLeafOf, IsUncovered, IsUpTo, HasBlockFrom, IsFirst, IsGreatest, IsLastOf, IsLeast, ShowsFirst, ShowsGreatest, ShowsLeast, ShowsSome, TellsSome, leaf_key, own_key, IsRest, IsStore, State, blocks_tree, key_in, Register, register_front, register_code, ints_order}
 use Rattle.std.proofs.Common.{Bool, negsuc}
 use Rattle.std.proofs.lemmas.Bool.{cases_lt}
 use Rattle.std.specs.Ordering.{is_lt}
-use Rattle.std.specs.Prelude.{MatchOption}
 use Rattle.sqlite.specs.Order.{value_cmp}
 use Rattle.zeb_keys.proofs.Rising.{texts_apart}
 use Rattle.zeb_register.proofs.KeyOrder.{greater_is, key_order, up_to_block}
@@ -29,7 +28,7 @@ is_from m n from = elim (cases_lt m n) [
   | inr up ↦ up
 ]
 
-from_is : (m n : ℕ) → n ≤ m → is_lt (value_cmp (Int (pos m)) (Int (pos n))) ≡ false
+pub from_is : (m n : ℕ) → n ≤ m → is_lt (value_cmp (Int (pos m)) (Int (pos n))) ≡ false
 from_is m n up = from (is_lt (value_cmp (Int (pos m)) (Int (pos n)))) refl
   where
     from : (b : Bool) → is_lt (value_cmp (Int (pos m)) (Int (pos n))) ≡ b → is_lt (value_cmp (Int (pos m)) (Int (pos n))) ≡ false
@@ -120,12 +119,12 @@ module _ (s : State) (store : IsStore s) (db : ℤ) (index : ℕ) (register : Re
           λ above. up_to_block term shape.1 block (omega (arith, low)) (sym (ap (λ (r : Row). row_cmp (own_key r) key) shape.3 ∙ ap (λ t. row_cmp (leaf_key t shape.1) key) same) ∙ above),
         )
 
-    below_is_lower : (row : Row) → OfTermsBelow row → (it : Shape row) × (slice_cmp nat_cmp it.0 term ≡ Less)
+    pub below_is_lower : (row : Row) → OfTermsBelow row → (it : Shape row) × (slice_cmp nat_cmp it.0 term ≡ Less)
     below_is_lower row it =
         let shape = shape_from row 0 it.0 it.2 in
         ((shape.0, shape.1, shape.2, shape.3), text_below shape.0 term (sym (ap (λ (r : Row). is_lt (value_cmp (column r 0) (Text term))) shape.3) ∙ it.1))
 
-    below_up : (row : Row) → OfTermsBelow row → Leaves row × IsUpTo key row
+    pub below_up : (row : Row) → OfTermsBelow row → Leaves row × IsUpTo key row
     below_up row it =
         let low = below_is_lower row it in (
           leaf_from row 0 it.0 it.2,
@@ -171,17 +170,33 @@ module _ (s : State) (store : IsStore s) (db : ℤ) (index : ℕ) (register : Re
 
 -- ---- one row that is shown
 
-pub shown_greatest : (P : Row → Type 0) (rows : List Row) (found : Option Row) → MatchOption found (rows ≡ []) (λ row. (front : List Row) × (rows ≡ front ++ row ∷ [])) → ShowsGreatest P rows → IsGreatest P found
-shown_greatest P [] None is none = none
-shown_greatest P (r ∷ rows) None is it = absurd (let e : r ∷ rows ≡ [] = is in cc)
-shown_greatest P [] (Some row) is none = absurd (never is.0 is.1)
+never_last : (row : Row) → IsLastOf [] (Some row) → ⊥
+never_last row is = from is.0 is.1
   where
-    never : (front : List Row) → [] ≡ front ++ row ∷ [] → ⊥
-    never [] e = cc
-    never (x ∷ front) e = cc
-shown_greatest P (r ∷ rows) (Some row) is it =
+    from : (front : List Row) → [] ≡ front ++ row ∷ [] → ⊥
+    from [] e = cc
+    from (x ∷ front) e = cc
+
+pub shown_first : (Before : Row → Row → Type 0) (P : Row → Type 0) (rows : List Row) (found : Option Row) → IsLastOf rows found → ShowsFirst Before P rows → IsFirst Before P found
+shown_first Before P [] None is none = none
+shown_first Before P (r ∷ rows) None is it = absurd (let e : r ∷ rows ≡ [] = is in cc)
+shown_first Before P [] (Some row) is none = absurd (never_last row is)
+shown_first Before P (r ∷ rows) (Some row) is it =
     let same : r ≡ row = same_last [] is.0 r row (sym (ap (λ l. r ∷ l) it.0) ∙ is.1) in
-    (subst P same it.1, subst (λ (x : Row). (other : Row) → P other → IsUpTo (own_key x) other) same it.2)
+    (subst P same it.1, subst (λ (x : Row). (other : Row) → P other → Before x other) same it.2)
+
+pub shown_greatest : (P : Row → Type 0) (rows : List Row) (found : Option Row) → IsLastOf rows found → ShowsGreatest P rows → IsGreatest P found
+shown_greatest = shown_first (λ row other. IsUpTo (own_key row) other)
+
+pub shown_least : (P : Row → Type 0) (rows : List Row) (found : Option Row) → IsLastOf rows found → ShowsLeast P rows → IsLeast P found
+shown_least = shown_first (λ row other. IsUpTo (own_key other) row)
+
+-- one of them, if there is one
+pub shown_some : (P Q : Row → Type 0) (rows : List Row) (found : Option Row) → ((row : Row) → P row → Q row) → ((row : Row) → Q row → P row) → IsLastOf rows found → ShowsSome P rows → TellsSome Q found
+shown_some P Q [] None so back is none = λ row there. none row (back row there)
+shown_some P Q (r ∷ rows) None so back is some = absurd (let e : r ∷ rows ≡ [] = is in cc)
+shown_some P Q [] (Some row) so back is none = absurd (never_last row is)
+shown_some P Q (r ∷ rows) (Some row) so back is some = (some.0, so some.0 some.1)
 
 pub uncovered : (Leaves : Row → Type 0) (key : Row) → ((leaf : Row) → Leaves leaf → ¬ IsUpTo key leaf) → (leaf : Row) → Leaves leaf → IsUncovered Leaves key
 uncovered Leaves sought none leaf there = (leaf, there, λ other covers. none other covers.is covers.up_to)

@@ -1,10 +1,11 @@
 -- The statements that find leaves, each with what it is compiled to.
-use Rattle.zeb_leaves.proofs.Cited.{Row, column, row_cmp, Trees, Int, Text, Has, all_has, ◌≡◌, ◌∙◌, ◌++◌, ◌∷◌, ℕ, ℤ, pos, true, false, List, [], length, map, codes, refl, sym, ap, subst, inl, inr, arith, length-map, IsUpTo, own_key, ShowsGreatest, ShowsSome, HasBlockFrom, IsRest, IsStore, State, Shown, blocks_tree, store_schema}
+use Rattle.zeb_leaves.proofs.Cited.{Row, column, Trees, Int, Text, Has, all_has, ◌≡◌, ◌∙◌, ◌++◌, ◌∷◌, ℕ, ℤ, pos, true, false, List, [], length, map, codes, refl, sym, ap, subst, inl, inr, arith, length-map, IsUpTo, own_key, ShowsFirst, ShowsGreatest, ShowsLeast, ShowsSome, HasBlockFrom, IsRest, IsStore, State, Shown, blocks_tree, store_schema}
 use Rattle.std.proofs.Common.{Equal, Greater, Less, Ordering}
 use Rattle.std.specs.Ordering.{is_lt, ordering_then}
 use Rattle.sqlite.specs.Command.TheVariants.{Select}
 use Rattle.sqlite.specs.Listing.{understood}
 use Rattle.sqlite.specs.Order.{value_cmp}
+use Rattle.sqlite.specs.Query.{output_cmp}
 use Rattle.sqlite.specs.Term.{Term, col}
 use Rattle.sqlite.specs.Tree.{rowid}
 use Rattle.sqlite.specs.View.{is_int}
@@ -19,7 +20,7 @@ use Rattle.zeb_register.proofs.PrefixSelects.{IsAfter, after_key, lists_after}
 use Rattle.zeb_register.proofs.Refusals.{IsQuery}
 use Rattle.zeb_register.proofs.Scans.{reads}
 use Rattle.zeb_register.proofs.Selects.{list_so, shown_places}
-use Rattle.zeb_register.proofs.StatementForms.{Condition, alone, at_least, descending, equals, keyed_from, less_than, no_limit, one_row, reading_by, rising, shows}
+use Rattle.zeb_register.proofs.StatementForms.{Condition, alone, at_least, descending, equals, keyed_from, less_than, no_limit, one_row, reading_by, rising, shown_of, shows}
 use Rattle.zeb_register.proofs.ValueKinds.{are_fit, code}
 use Rattle.zeb_register.specs.Sql.{IsListOf}
 use Rattle.zeb_register.proofs.Writes.{codes_there, keyed_there, meets_there}
@@ -32,6 +33,15 @@ leaf_names = codes "term" ∷ codes "block" ∷ codes "data" ∷ []
 
 abbrev falling_keys : List (Term × Order)
 falling_keys = (col 1 4, descending) ∷ (col 1 5, descending) ∷ []
+
+abbrev pub term_order : List ℕ
+term_order = 4 ∷ 5 ∷ []
+
+-- a row before which no other comes is before it, by what they show
+abbrev IsOrderOf : List (Term × Order) → List Condition → Row → (Row → Row → Type 0) → Type 0
+IsOrderOf keys wheres params Before =
+    (r s : Row) → is_lt (output_cmp (reading_by 0 wheres (shows leaf_places) keys one_row) (shown_of (shows leaf_places) keys params s) (shown_of (shows leaf_places) keys params r)) ≡ false
+    → Before (map (column r) leaf_places) (map (column s) leaf_places)
 
 module _ (old : State) (store : IsStore old) where
   abbrev table : List Row
@@ -57,30 +67,36 @@ module _ (old : State) (store : IsStore old) where
     Found = IsAfter table key rest more
 
     module _ (fit : are_fit blocks params wheres ≡ true) where
-      -- the first of the rows that meet the conditions, the greatest first
-      greatest_shown : (text : List ℕ) → IsQuery text params 9 wheres (shows leaf_places) falling_keys one_row leaf_names → (new : State) (rows : List Row) → Shown text params old new rows → ShowsGreatest Found rows
-      greatest_shown text q new rows shown =
-          let read = reads_as text params old new store_schema store.is (Select (alone (reading_by 9 wheres (shows leaf_places) falling_keys one_row)) leaf_names) q.is q.plain q.unlisted rows shown in
-          let answer = reads old.now 9 wheres (shows leaf_places) falling_keys one_row params rows read in
+      -- the first of the rows that meet the conditions, in the order of the statement
+      first_of : (keys : List (Term × Order)) (Before : Row → Row → Type 0) → IsOrderOf keys wheres params Before → (text : List ℕ) → IsQuery text params 9 wheres (shows leaf_places) keys one_row leaf_names → (new : State) (rows : List Row) → Shown text params old new rows
+          → ShowsFirst Before Found rows
+      first_of keys Before order text q new rows shown =
+          let read = reads_as text params old new store_schema store.is (Select (alone (reading_by 9 wheres (shows leaf_places) keys one_row)) leaf_names) q.is q.plain q.unlisted rows shown in
+          let answer = reads old.now 9 wheres (shows leaf_places) keys one_row params rows read in
           let met = meets_there store_schema 4 blocks blocks_static old params wheres store fit in
-          elim (first_shown table wheres (shows leaf_places) falling_keys params rows answer) [
-            | inl none ↦ subst (ShowsGreatest Found) (sym none.0) (λ y found.
+          elim (first_shown table wheres (shows leaf_places) keys params rows answer) [
+            | inl none ↦ subst (ShowsFirst Before Found) (sym none.0) (λ y found.
                 let s = (after_key table key rest more 3 y known).1 found in
                 none.1 s.0 s.1 ((met s.0 s.1).1 s.2))
             | inr first ↦
                 let r = first.0 in
                 let x : Row = map (column r) leaf_places in
                 let shows_x : rows ≡ x ∷ [] = first.1.2 ∙ ap (λ v. v ∷ []) (shown_places params r leaf_places) in
-                subst (ShowsGreatest Found) (sym shows_x) (
+                subst (ShowsFirst Before Found) (sym shows_x) (
                   refl,
                   (after_key table key rest more 3 x known).0 (r, first.1.0, (met r first.1.0).0 first.1.1, refl),
                   λ y found.
                       let s = (after_key table key rest more 3 y known).1 found in
-                      let z : Row = map (column s.0) leaf_places in
-                      let low : is_lt (row_cmp (own_key x) (own_key z)) ≡ false = first.1.3 s.0 s.1 ((met s.0 s.1).1 s.2) in
-                      subst (λ (w : Row). IsUpTo (own_key x) w) (sym s.3) (not_lower (own_key x) (own_key z) low),
+                      subst (Before x) (sym s.3) (order r s.0 (first.1.3 s.0 s.1 ((met s.0 s.1).1 s.2))),
                 )
           ]
+
+      -- the greatest; and the least
+      greatest_shown : (text : List ℕ) → IsQuery text params 9 wheres (shows leaf_places) falling_keys one_row leaf_names → (new : State) (rows : List Row) → Shown text params old new rows → ShowsGreatest Found rows
+      greatest_shown = first_of falling_keys (λ row other. IsUpTo (own_key row) other) (λ r s low. not_lower (own_key (map (column r) leaf_places)) (own_key (map (column s) leaf_places)) low)
+
+      pub least_shown : (text : List ℕ) → IsQuery text params 9 wheres (shows leaf_places) (rising term_order) one_row leaf_names → (new : State) (rows : List Row) → Shown text params old new rows → ShowsLeast Found rows
+      least_shown = first_of (rising term_order) (λ row other. IsUpTo (own_key other) row) (λ r s low. not_lower (own_key (map (column s) leaf_places)) (own_key (map (column r) leaf_places)) low)
 
       -- one of them, if there is one
       some_shown : (text : List ℕ) → IsQuery text params 9 wheres (shows (5 ∷ [])) [] one_row (codes "block" ∷ []) → (new : State) (rows : List Row) → Shown text params old new rows → ShowsSome Found rows
@@ -100,9 +116,9 @@ module _ (old : State) (store : IsStore old) where
 
 -- ---- what is shown of rows that are P is shown of those that are Q
 
-pub greatest_so : (P Q : Row → Type 0) (rows : List Row) → ((row : Row) → P row → Q row) → ((row : Row) → Q row → P row) → ShowsGreatest P rows → ShowsGreatest Q rows
-greatest_so P Q [] so back none = λ row there. none row (back row there)
-greatest_so P Q (row ∷ rows) so back it = (it.0, so row it.1, λ other there. it.2 other (back other there))
+pub first_so : (Before : Row → Row → Type 0) (P Q : Row → Type 0) (rows : List Row) → ((row : Row) → P row → Q row) → ((row : Row) → Q row → P row) → ShowsFirst Before P rows → ShowsFirst Before Q rows
+first_so Before P Q [] so back none = λ row there. none row (back row there)
+first_so Before P Q (row ∷ rows) so back it = (it.0, so row it.1, λ other there. it.2 other (back other there))
 
 some_so : (P Q : Row → Type 0) (rows : List Row) → ((row : Row) → P row → Q row) → ((row : Row) → Q row → P row) → ShowsSome P rows → ShowsSome Q rows
 some_so P Q [] so back none = λ row there. none row (back row there)
@@ -129,7 +145,7 @@ IsOf db idx reg term end trees row = IsRest blocks_tree (register_of db idx reg)
 pub of_term_shown : (old : State) → IsStore old → (db idx reg : ℤ) (term : List ℕ) (end : ℤ) (new : State) (rows : List Row) → Shown of_term_text (register_of db idx reg ++ of_term_rest term end) old new rows
     → ShowsGreatest (IsOf db idx reg term end old.now.trees) rows
 of_term_shown old store db idx reg term end new rows shown =
-    greatest_so (IsAfter (old.now.trees 9) (register_of db idx reg) (of_term_rest term end) of_term_more) (IsOf db idx reg term end old.now.trees) rows (λ row h. ((h.0, h.1), h.2.0, h.2.1.0, h.2.1.1.0)) (λ row h. (h.0.0, h.0.1, (h.1, (h.2, (h.3, tt)))))
+    first_so (λ row other. IsUpTo (own_key row) other) (IsAfter (old.now.trees 9) (register_of db idx reg) (of_term_rest term end) of_term_more) (IsOf db idx reg term end old.now.trees) rows (λ row h. ((h.0, h.1), h.2.0, h.2.1.0, h.2.1.1.0)) (λ row h. (h.0.0, h.0.1, (h.1, (h.2, (h.3, tt)))))
     (greatest_shown old store db idx reg (of_term_rest term end) of_term_more refl of_term_text (of_term_query db idx reg term end) new rows shown)
 
 -- ---- those of the terms below
@@ -153,7 +169,7 @@ IsUnder db idx reg term trees row = IsRest blocks_tree (register_of db idx reg) 
 pub below_shown : (old : State) → IsStore old → (db idx reg : ℤ) (term : List ℕ) (new : State) (rows : List Row) → Shown below_text (register_of db idx reg ++ below_rest term) old new rows
     → ShowsGreatest (IsUnder db idx reg term old.now.trees) rows
 below_shown old store db idx reg term new rows shown =
-    greatest_so (IsAfter (old.now.trees 9) (register_of db idx reg) (below_rest term) below_more) (IsUnder db idx reg term old.now.trees) rows (λ row h. ((h.0, h.1), h.2.0, h.2.1.0)) (λ row h. (h.0.0, h.0.1, (h.1, (h.2, tt))))
+    first_so (λ row other. IsUpTo (own_key row) other) (IsAfter (old.now.trees 9) (register_of db idx reg) (below_rest term) below_more) (IsUnder db idx reg term old.now.trees) rows (λ row h. ((h.0, h.1), h.2.0, h.2.1.0)) (λ row h. (h.0.0, h.0.1, (h.1, (h.2, tt))))
     (greatest_shown old store db idx reg (below_rest term) below_more refl below_text (below_query db idx reg term) new rows shown)
 
 -- ---- any
@@ -188,9 +204,6 @@ two_lower Greater b c lower = absurd (cc)
 two_lower Equal Less c lower = refl
 two_lower Equal Equal c lower = absurd (cc)
 two_lower Equal Greater c lower = absurd (cc)
-
-abbrev pub term_order : List ℕ
-term_order = 4 ∷ 5 ∷ []
 
 abbrev pub between_text : List ℕ
 between_text = BETWEEN.now

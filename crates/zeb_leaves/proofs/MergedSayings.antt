@@ -1,9 +1,9 @@
 -- What merged entries say: of a block that no change touches what the old ones said, of a changed one what its change puts.
-use Rattle.zeb_leaves.proofs.Cited.{Has, ◌≡◌, ◌↔◌, ◌⊎◌, ◌∙◌, ◌∷◌, ℕ, List, [], Some, None, Option, refl, sym, ap, subst, inl, inr, Less, Equal, tied_itself, Posting, Entry, IsAt, SayPart}
+use Rattle.zeb_leaves.proofs.Cited.{Has, ◌≡◌, ◌↔◌, ◌∙◌, ◌∷◌, ℕ, List, [], Some, None, Option, sym, ap, subst, inl, inr, Less, Equal, tied_itself, Posting, Entry, IsAt, SayPart}
 use Rattle.std.specs.Prelude.{Contains}
 use Rattle.std.specs.List.Sorted.{IsStrictlySortedBy}
 use Rattle.std.proofs.lemmas.List.Elements.{Contains-append_cases}
-use Rattle.zeb_leaf.specs.Merging.{AreChanges, AreMerged, IsPut, IsTouched, change_cmp, entry_with, puts}
+use Rattle.zeb_leaf.specs.Merging.{AreChanges, AreMerged, change_cmp, entry_with, puts}
 use Rattle.zeb_leaf.specs.Spans.{key_cmp}
 use Rattle.zeb_leaf.specs.declared.merging.BlockChange.{BlockChange}
 use Rattle.zeb_leaf.specs.declared.merging.NewBlock.{NewBlock}
@@ -12,11 +12,11 @@ use Rattle.zeb_register.proofs.LeafReadings.{entries_total}
 
 -- ---- membership in the words of both crates
 
-has_of : {X : Type 0} (xs : List X) (x : X) → Contains xs x → Has xs x
+pub has_of : {X : Type 0} (xs : List X) (x : X) → Contains xs x → Has xs x
 has_of [] x h = absurd (none_in x h)
 has_of (y ∷ xs) x h = elim (Contains-append_cases (y ∷ []) xs x h) [ inl same ↦ inl (sym (only_in y x same)) | inr more ↦ inr (has_of xs x more) ]
 
-of_has : {X : Type 0} (xs : List X) (x : X) → Has xs x → Contains xs x
+pub of_has : {X : Type 0} (xs : List X) (x : X) → Has xs x → Contains xs x
 of_has [] x h = absurd h
 of_has (y ∷ xs) x (inl same) = subst (Contains (y ∷ xs)) (sym same) (first_in y xs)
 of_has (y ∷ xs) x (inr more) = behind_in y xs x (of_has xs x more)
@@ -24,7 +24,7 @@ of_has (y ∷ xs) x (inr more) = behind_in y xs x (of_has xs x more)
 -- ---- changes by their keys
 
 -- what a change puts is of its block
-put_at : (c : BlockChange) (e : Entry) → Contains (puts c) e → (e.term ≡ c.term) × (e.block ≡ c.block)
+pub put_at : (c : BlockChange) (e : Entry) → Contains (puts c) e → (e.term ≡ c.term) × (e.block ≡ c.block)
 put_at c e h = by c.new h
   where
     by : (new : Option NewBlock) → Contains (entry_with c.term c.block new) e → (e.term ≡ c.term) × (e.block ≡ c.block)
@@ -55,20 +55,25 @@ one_change (x ∷ changes) up c d (inr one) (inr two) term block = one_change ch
 
 -- ---- what entries say that are the same at a block
 
-same_says : (old new : List Entry) (term : List ℕ) (block : ℕ) → ((e : Entry) → IsAt term block e → Has old e → Has new e) → ((e : Entry) → IsAt term block e → Has new e → Has old e) → (part : List Posting) → SayPart old term block part ↔ SayPart new term block part
+pub same_says : (old new : List Entry) (term : List ℕ) (block : ℕ) → ((e : Entry) → IsAt term block e → Has old e → Has new e) → ((e : Entry) → IsAt term block e → Has new e → Has old e) → (part : List Posting) → SayPart old term block part ↔ SayPart new term block part
 same_says old new term block to back part = (
   λ says. record { said = λ e h at. says.said e (back e at h) at; there = λ some. let one = says.there some in (one.0, to one.0 one.2 one.1, one.2) },
   λ says. record { said = λ e h at. says.said e (to e at h) at; there = λ some. let one = says.there some in (one.0, back one.0 one.2 one.1, one.2) },
 )
 
 module _ (changes : List BlockChange) (old new : List Entry) (merged : AreMerged changes old new) where
+  -- of a block that no change touches they have what the old ones had
+  pub still_have : (term : List ℕ) (block : ℕ) → ((c : BlockChange) → Contains changes c → ¬ ((c.term ≡ term) × (c.block ≡ block))) → (e : Entry) → IsAt term block e → Has old e ↔ Has new e
+  still_have term block free e at = (
+    λ h. has_of new e ((merged.has e).1 (inl (of_has old e h, λ touched. free touched.0 touched.1 (sym touched.2.0 ∙ at.0, sym touched.2.1 ∙ at.1)))),
+    λ h. elim ((merged.has e).0 (of_has new e h)) [
+      | inl was ↦ has_of old e was.0
+      | inr put ↦ let key = put_at put.0 e put.2 in absurd (free put.0 put.1 (sym key.0 ∙ at.0, sym key.1 ∙ at.1))
+    ],
+  )
+
   pub still_says : (term : List ℕ) (block : ℕ) → ((c : BlockChange) → Contains changes c → ¬ ((c.term ≡ term) × (c.block ≡ block))) → (part : List Posting) → SayPart old term block part ↔ SayPart new term block part
-  still_says term block free = same_says old new term block
-      (λ e at h. has_of new e ((merged.has e).1 (inl (of_has old e h, λ touched. free touched.0 touched.1 (sym touched.2.0 ∙ at.0, sym touched.2.1 ∙ at.1)))))
-      (λ e at h. elim ((merged.has e).0 (of_has new e h)) [
-        | inl was ↦ has_of old e was.0
-        | inr put ↦ let key = put_at put.0 e put.2 in absurd (free put.0 put.1 (sym key.0 ∙ at.0, sym key.1 ∙ at.1))
-      ])
+  still_says term block free = same_says old new term block (λ e at. (still_have term block free e at).0) (λ e at. (still_have term block free e at).1)
 
   pub now_says : AreChanges changes → (c : BlockChange) → Contains changes c → (part : List Posting) → SayPart (puts c) c.term c.block part ↔ SayPart new c.term c.block part
   now_says are c here = same_says (puts c) new c.term c.block

@@ -27,7 +27,7 @@ less_not Less up = absurd (up refl)
 less_not Equal up = refl
 less_not Greater up = refl
 
-lt_less : (o : Ordering) → is_lt o ≡ true → o ≡ Less
+pub lt_less : (o : Ordering) → is_lt o ≡ true → o ≡ Less
 lt_less Less is = refl
 lt_less Equal is = let e : false ≡ true = is in absurd (cc)
 lt_less Greater is = let e : false ≡ true = is in absurd (cc)
@@ -49,7 +49,7 @@ key_from : (first : List ℕ) (from : ℕ) (e : Entry) → FromKey first from e.
 key_from first from e up =
     less_not (key_cmp e.term e.block first from) (λ less. up_not_less (leaf_key e.term e.block) (leaf_key first from) up (key_order e.term first e.block from ∙ less))
 
-own_is : (first : List ℕ) (from : ℕ) (end : End) (e : Entry) → is_own first from end e ≡ true ↔ (FromKey first from e.term e.block × Within end e.term e.block)
+pub own_is : (first : List ℕ) (from : ℕ) (end : End) (e : Entry) → is_own first from end e ≡ true ↔ (FromKey first from e.term e.block × Within end e.term e.block)
 own_is first from None e = (λ is. (from_key first from e is, tt), λ it. key_from first from e it.0)
 own_is first from (Some end) e = (
   λ is.
@@ -69,13 +69,13 @@ IsHidden Leaves Bad first from =
     ⊎ ((e : Entry) × FromKey first from e.term e.block × IsEntryOf Leaves e.term e × Bad e)
 
 -- rows whose own keys rise
-abbrev KeysRise : List Row → Type 0
+abbrev pub KeysRise : List Row → Type 0
 KeysRise [] = Unit {0}
 KeysRise (row ∷ rows) = ((r : Row) → Has rows r → row_cmp (own_key row) (own_key r) ≡ Less) × KeysRise rows
 
 module _ (Leaves : Row → Type 0) (shaped : (leaf : Row) → Leaves leaf → (t : List ℕ) × (b : ℕ) × (d : List ℕ) × (leaf ≡ leaf_row t b d)) (one : (x y : Row) → Leaves x → Leaves y → own_key x ≡ own_key y → x ≡ y) where
   -- the keys that one leaf covers
-  in_own : (leaf : Row) (In : List ℕ → ℕ → Type 0) (first : List ℕ) (from : ℕ) (end : End) (own : List Entry) → ((t : List ℕ) (b : ℕ) → In t b → Covers Leaves (leaf_key t b) leaf)
+  pub in_own : (leaf : Row) (In : List ℕ → ℕ → Type 0) (first : List ℕ) (from : ℕ) (end : End) (own : List Entry) → ((t : List ℕ) (b : ℕ) → In t b → Covers Leaves (leaf_key t b) leaf)
       → ((t : List ℕ) (b : ℕ) → In t b ↔ (FromKey first from t b × Within end t b)) → ShowsOwn first from end leaf own → HasOwnIn Leaves In own
   in_own leaf In first from end own covers so shows = record {
     whole = λ t b is. (shows.0, entries_at Leaves shaped one (leaf_key t b) leaf shows.0 (covers t b is) shows.1);
@@ -96,7 +96,7 @@ module _ (Leaves : Row → Type 0) (shaped : (leaf : Row) → Leaves leaf → (t
 
   -- ---- leaves in their order
 
-  key_behind : (x y : Row) → Leaves x → Leaves y → row_cmp x y ≡ Less → row_cmp (own_key x) (own_key y) ≡ Less
+  pub key_behind : (x y : Row) → Leaves x → Leaves y → row_cmp x y ≡ Less → row_cmp (own_key x) (own_key y) ≡ Less
   key_behind x y here there less = from (row_cmp (own_key x) (own_key y)) refl
     where
       up : row_cmp (own_key x) (own_key y) ≢ Greater
@@ -123,25 +123,25 @@ module _ (Leaves : Row → Type 0) (shaped : (leaf : Row) → Leaves leaf → (t
       (λ r here. key_behind row r (known row (inl refl)) (known r (inr here)) (all_has (λ s. row_cmp row s ≡ Less) rows r up.0 here), keys_rise rows up.1 (λ r h. known r (inr h)))
 
   -- the row covers a key, and all leaves above the key stand behind it, in their order
-  record Stands (first : List ℕ) (from : ℕ) (row : Row) (rows : List Row) : Type 0 where
-    covers : Covers Leaves (leaf_key first from) row
-    known : (r : Row) → Has rows r → Leaves r × (row_cmp (leaf_key first from) (own_key r) ≢ Greater)
-    all : (r : Row) → Leaves r → row_cmp (leaf_key first from) (own_key r) ≡ Less → Has rows r
-    rise : KeysRise rows
+  pub record Stands (first : List ℕ) (from : ℕ) (row : Row) (rows : List Row) : Type 0 where
+    pub covers : Covers Leaves (leaf_key first from) row
+    pub known : (r : Row) → Has rows r → Leaves r × (row_cmp (leaf_key first from) (own_key r) ≢ Greater)
+    pub all : (r : Row) → Leaves r → row_cmp (leaf_key first from) (own_key r) ≡ Less → Has rows r
+    pub rise : KeysRise rows
 
   -- the last row covers each key from there on
-  last_own : (first : List ℕ) (from : ℕ) (row : Row) (own : List Entry) → Stands first from row [] → ShowsOwn first from None row own → HasOwnIn Leaves (FromKey first from) own
+  pub last_own : (first : List ℕ) (from : ℕ) (row : Row) (own : List Entry) → Stands first from row [] → ShowsOwn first from None row own → HasOwnIn Leaves (FromKey first from) own
   last_own first from row own it shows =
       in_own row (FromKey first from) first from None own
       (λ t b up. covers_key Leaves row (leaf_key first from) (leaf_key t b) it.covers up (λ other there above other_up. it.all other there above))
       (λ t b. (λ up. (up, tt), λ both. both.0)) shows
 
   module _ (first : List ℕ) (from : ℕ) (row next : Row) (rows : List Row) (it : Stands first from row (next ∷ rows)) (s : List ℕ) (c : ℕ) (key : own_key next ≡ leaf_key s c) where
-    over : row_cmp (leaf_key first from) (leaf_key s c) ≢ Greater
+    pub over : row_cmp (leaf_key first from) (leaf_key s c) ≢ Greater
     over more = (it.known next (inl refl)).1 (ap (row_cmp (leaf_key first from)) key ∙ more)
 
     -- the keys up to the next leaf
-    abbrev UpTo : List ℕ → ℕ → Type 0
+    abbrev pub UpTo : List ℕ → ℕ → Type 0
     UpTo t b = FromKey first from t b × (row_cmp (leaf_key t b) (leaf_key s c) ≡ Less)
 
     here_covers : (t : List ℕ) (b : ℕ) → UpTo t b → Covers Leaves (leaf_key t b) row
@@ -152,10 +152,10 @@ module _ (Leaves : Row → Type 0) (shaped : (leaf : Row) → Leaves leaf → (t
           | inr later ↦ never_itself row_cmp_total (leaf_key s c) (row_cmp_total.trans (leaf_key s c) (own_key other) (leaf_key s c) (subst (λ (k : Row). row_cmp k (own_key other) ≡ Less) key (it.rise.0 other later)) low)
         ])
 
-    here_own : (own : List Entry) → ShowsOwn first from (Some (s, c)) row own → HasOwnIn Leaves UpTo own
+    pub here_own : (own : List Entry) → ShowsOwn first from (Some (s, c)) row own → HasOwnIn Leaves UpTo own
     here_own own shows = in_own row UpTo first from (Some (s, c)) own here_covers (λ t b. (λ is. is, λ is. is)) shows
 
-    next_stands : Stands s c next rows
+    pub next_stands : Stands s c next rows
     next_stands = record {
       covers = covers_itself Leaves shaped one next (it.known next (inl refl)).0 s c key;
       known = λ r h. ((it.known r (inr h)).0, λ above. let e : Less ≡ Greater = sym (subst (λ (k : Row). row_cmp k (own_key r) ≡ Less) key (it.rise.0 r h)) ∙ above in cc);
@@ -207,7 +207,7 @@ module _ (Leaves : Row → Type 0) (shaped : (leaf : Row) → Leaves leaf → (t
   -- ---- all leaves from a text on
 
   module _ (first : List ℕ) where
-    all_stand : (row : Row) (rows : List Row) → AreLeavesFrom Leaves first (row ∷ rows) → Stands first 0 row rows
+    pub all_stand : (row : Row) (rows : List Row) → AreLeavesFrom Leaves first (row ∷ rows) → Stands first 0 row rows
     all_stand row rows are = record {
       covers = are.0;
       known = λ r h. let is = (are.1.each r).0 h in (is.0, λ above. from_term first is.1 is.2 is.4 (sym (ap (row_cmp (leaf_key first 0)) is.3) ∙ above));

@@ -13,7 +13,7 @@ less_key : (d e : Entry) → entry_cmp d e ≡ Less → row_cmp (key_at d) (key_
 less_key d e less = key_order d.term e.term d.block e.block ∙ less
 
 -- what is below a key, that key isn't up to
-not_up : (x y : Row) → row_cmp x y ≡ Less → row_cmp y x ≢ Greater → ⊥
+pub not_up : (x y : Row) → row_cmp x y ≡ Less → row_cmp y x ≢ Greater → ⊥
 not_up x y less up = up (flipped_back x y less)
 
 pub less_is_up : (x y : Row) → row_cmp x y ≡ Less → row_cmp x y ≢ Greater

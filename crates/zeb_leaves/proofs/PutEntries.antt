@@ -1,14 +1,13 @@
 -- Leaves that were cut have the entries, one behind the other, from any key on that the first one is given.
-use Rattle.zeb_leaves.proofs.Cited.{Row, Trees, State, Has, has_mapped, mapped_has, ◌≡◌, ◌↔◌, ◌⊎◌, ◌∙◌, ◌≤◌, ◌++◌, ◌∷◌, ℕ, pos, List, [], length, map, refl, sym, ap, subst, inl, inr, arith, AllByRecursion, Entry, IsLeaf, leaf_bytes, HasRow, ShowsEntries, blocks_tree, leaf_key}
+use Rattle.zeb_leaves.proofs.Cited.{Row, Trees, State, Has, has_mapped, mapped_has, ◌≡◌, ◌⊎◌, ◌∙◌, ◌≤◌, ◌++◌, ◌∷◌, ℕ, pos, List, [], length, map, refl, sym, ap, subst, inl, inr, arith, AllByRecursion, Entry, IsLeaf, blocks_tree, leaf_key}
 use Rattle.std.proofs.Common.{Bool, IsUtf8}
 use Rattle.std.proofs.lemmas.List.{append-nil}
-use Rattle.zeb_leaf.proofs.Members.{all_back}
 use Rattle.zeb_leaf.specs.Cuts.{AreCut, BeginsAt}
 use Rattle.zeb_leaf.specs.declared.entries.TheConstants.{LEAF_BYTES}
 use Rattle.zeb_leaf.specs.declared.parting.NewLeaf.{NewLeaf}
 use Rattle.zeb_leaves.proofs.LeafShapes.{leaf_row}
 use Rattle.zeb_leaves.specs.LeafChanges.{ArePartedFrom, IsPart}
-use Rattle.zeb_leaves.specs.PrivateLeafWrites.{IfToldPuts, IfToldPutsEntries, IsLeafWith, IsNewRow, IsRowOfOne, PutsEntries, PutsLeaves}
+use Rattle.zeb_leaves.specs.PrivateLeafWrites.{IfToldPuts, IfToldPutsEntries, IsNewRow, IsRowOfOne, PutsEntries, PutsLeaves}
 use Rattle.zeb_register.proofs.Calls.{changes_so}
 use Rattle.zeb_register.specs.PrivateKeyColumns.{register_columns}
 use Rattle.zeb_register.specs.Store.{Changes}
@@ -20,41 +19,41 @@ shown_leaf leaf = leaf_row leaf.term leaf.block leaf.bytes
 
 -- ---- the leaves
 
-no_part : (term : List ℕ) (block : ℕ) → ArePartedFrom (leaf_key term block) (leaf_row term block []) [] []
-no_part term block = record { own_is = refl; shown = ([], refl, inr (refl, refl)); small = λ two. absurd (omega arith) }
+no_part : (term : List ℕ) (block : ℕ) → IsUtf8 term → ArePartedFrom (leaf_key term block) (leaf_row term block []) [] []
+no_part term block text = record { own_is = refl; shown = ([], refl, inr (refl, refl), record { term = term; is = refl; text = text }); small = λ two. absurd (omega arith) }
 
 -- the leaf has these entries, with whatever key it is given
-part : (term : List ℕ) (block : ℕ) (bytes : List ℕ) (own : List Entry) → IsLeaf bytes own → (2 ≤ length own → length bytes ≤ LEAF_BYTES) → IsPart (leaf_key term block) (leaf_row term block bytes) own
-part term block bytes own leaf small = record {
+part : (term : List ℕ) (block : ℕ) (bytes : List ℕ) (own : List Entry) → IsUtf8 term → IsLeaf bytes own → (2 ≤ length own → length bytes ≤ LEAF_BYTES) → IsPart (leaf_key term block) (leaf_row term block bytes) own
+part term block bytes own text leaf small = record {
   own_is = refl;
-  shown = (bytes, refl, inl leaf);
+  shown = (bytes, refl, inl leaf, record { term = term; is = refl; text = text });
   small = λ two. subst (λ (b : List ℕ). length b ≤ LEAF_BYTES) leaf.spelled (small two);
 }
 
 -- a list that a leaf begins with has a first entry, and the leaf its key
-begins : (leaf : NewLeaf) (own : List Entry) → BeginsAt leaf own → (e : Entry) × (more : List Entry) × (own ≡ e ∷ more) × (leaf_row e.term e.block leaf.bytes ≡ shown_leaf leaf)
-begins leaf [] none = absurd none
-begins leaf (e ∷ more) first = (e, more, refl, (λ i. leaf_row (sym first.0 i) (sym first.1 i) leaf.bytes))
+begins : (leaf : NewLeaf) (own : List Entry) → BeginsAt leaf own → IsLeaf leaf.bytes own → (e : Entry) × (more : List Entry) × (own ≡ e ∷ more) × IsUtf8 e.term × (leaf_row e.term e.block leaf.bytes ≡ shown_leaf leaf)
+begins leaf [] none is = absurd none
+begins leaf (e ∷ more) first is = (e, more, refl, is.each.0.text, (λ i. leaf_row (sym first.0 i) (sym first.1 i) leaf.bytes))
 
-parts : (above : ℕ) (term : List ℕ) (block : ℕ) (leaf : NewLeaf) (leaves : List NewLeaf) (entries : List Entry) → AreCut above (leaf ∷ leaves) entries
+parts : (above : ℕ) (term : List ℕ) (block : ℕ) (leaf : NewLeaf) (leaves : List NewLeaf) (entries : List Entry) → IsUtf8 term → AreCut above (leaf ∷ leaves) entries
     → ArePartedFrom (leaf_key term block) (leaf_row term block leaf.bytes) (map shown_leaf leaves) entries
-parts above term block leaf [] entries cut =
+parts above term block leaf [] entries text cut =
     let all : entries ≡ cut.0 = cut.2 ∙ ap (λ (l : List Entry). cut.0 ++ l) cut.4 ∙ append-nil cut.0 in
-    subst (λ (l : List Entry). IsPart (leaf_key term block) (leaf_row term block leaf.bytes) l) (sym all) (part term block leaf.bytes cut.0 cut.3.spelled cut.3.small)
-parts above term block leaf (next ∷ leaves) entries cut =
+    subst (λ (l : List Entry). IsPart (leaf_key term block) (leaf_row term block leaf.bytes) l) (sym all) (part term block leaf.bytes cut.0 text cut.3.spelled cut.3.small)
+parts above term block leaf (next ∷ leaves) entries text cut =
     let own = cut.0 in
     let behind = cut.4 in
-    let first = begins next behind.0 behind.3.first in
+    let first = begins next behind.0 behind.3.first behind.3.spelled in
     let e = first.0 in
     let rest = first.1 ++ behind.1 in
     let rest_is : cut.1 ≡ e ∷ rest = behind.2 ∙ ap (λ (l : List Entry). l ++ behind.1) first.2 in
-    let more = parts above e.term e.block next leaves cut.1 behind in (
+    let more = parts above e.term e.block next leaves cut.1 first.3 behind in (
       own,
       e,
       rest,
       cut.2 ∙ ap (λ (l : List Entry). own ++ l) rest_is,
-      part term block leaf.bytes own cut.3.spelled cut.3.small,
-      subst (λ (r : Row). ArePartedFrom (leaf_key e.term e.block) r (map shown_leaf leaves) (e ∷ rest)) first.3
+      part term block leaf.bytes own text cut.3.spelled cut.3.small,
+      subst (λ (r : Row). ArePartedFrom (leaf_key e.term e.block) r (map shown_leaf leaves) (e ∷ rest)) first.4
           (subst (λ (l : List Entry). ArePartedFrom (leaf_key e.term e.block) (leaf_row e.term e.block next.bytes) (map shown_leaf leaves) l) rest_is more),
     )
 
@@ -94,27 +93,23 @@ module _ (at : RegisterOf) (term : List ℕ) (block : ℕ) (bytes : List ℕ) (l
       (λ puts told. rows_put entries blocks_tree a.now.trees b.now.trees are (puts told))
 
 -- where the entries make no leaf, and where they make some
-pub none_put : (above : ℕ) (at : RegisterOf) (term : List ℕ) (block : ℕ) (is_there : Bool) (entries : List Entry) (a b : State) → AreCut above [] entries → Changes blocks_tree (IfToldPuts is_there at term (pos block) [] []) a b
+pub none_put : (above : ℕ) (at : RegisterOf) (term : List ℕ) (block : ℕ) (is_there : Bool) (entries : List Entry) (a b : State) → IsUtf8 term → AreCut above [] entries → Changes blocks_tree (IfToldPuts is_there at term (pos block) [] []) a b
     → Changes blocks_tree (IfToldPutsEntries is_there at term block entries) a b
-none_put above at term block is_there entries a b none =
-    all_rows at term block [] [] is_there entries a b (subst (λ (l : List Entry). ArePartedFrom (leaf_key term block) (leaf_row term block []) [] l) (sym none) (no_part term block))
+none_put above at term block is_there entries a b text none =
+    all_rows at term block [] [] is_there entries a b (subst (λ (l : List Entry). ArePartedFrom (leaf_key term block) (leaf_row term block []) [] l) (sym none) (no_part term block text))
 
-pub some_put : (above : ℕ) (at : RegisterOf) (term : List ℕ) (block : ℕ) (leaf : NewLeaf) (leaves : List NewLeaf) (is_there : Bool) (entries : List Entry) (a b : State) → AreCut above (leaf ∷ leaves) entries
+pub some_put : (above : ℕ) (at : RegisterOf) (term : List ℕ) (block : ℕ) (leaf : NewLeaf) (leaves : List NewLeaf) (is_there : Bool) (entries : List Entry) (a b : State) → IsUtf8 term → AreCut above (leaf ∷ leaves) entries
     → Changes blocks_tree (IfToldPuts is_there at term (pos block) leaf.bytes leaves) a b → Changes blocks_tree (IfToldPutsEntries is_there at term block entries) a b
-some_put above at term block leaf leaves is_there entries a b cut = all_rows at term block leaf.bytes leaves is_there entries a b (parts above term block leaf leaves entries cut)
+some_put above at term block leaf leaves is_there entries a b text cut = all_rows at term block leaf.bytes leaves is_there entries a b (parts above term block leaf leaves entries text cut)
 
--- the terms of the leaves' keys are terms of the entries
-pub keys_are_texts : (above : ℕ) (leaves : List NewLeaf) (entries : List Entry) → AreCut above leaves entries → AllByRecursion (λ (e : Entry). IsUtf8 e.term) entries → AllByRecursion (λ (leaf : NewLeaf). IsUtf8 leaf.term) leaves
-keys_are_texts above [] entries cut all = tt
-keys_are_texts above (leaf ∷ leaves) entries cut all =
-    let each = subst (λ (l : List Entry). AllByRecursion (λ (e : Entry). IsUtf8 e.term) l) cut.2 all in (
-      first_is leaf cut.0 cut.1 cut.3.first each,
-      keys_are_texts above leaves cut.1 cut.4 (all_back (λ (e : Entry). IsUtf8 e.term) cut.0 cut.1 each),
-    )
+-- the terms of the leaves' keys are terms of entries
+pub keys_are_texts : (above : ℕ) (leaves : List NewLeaf) (entries : List Entry) → AreCut above leaves entries → AllByRecursion (λ (leaf : NewLeaf). IsUtf8 leaf.term) leaves
+keys_are_texts above [] entries cut = tt
+keys_are_texts above (leaf ∷ leaves) entries cut = (first_is leaf cut.0 cut.3.first cut.3.spelled, keys_are_texts above leaves cut.1 cut.4)
   where
-    first_is : (leaf : NewLeaf) (own rest : List Entry) → BeginsAt leaf own → AllByRecursion (λ (e : Entry). IsUtf8 e.term) (own ++ rest) → IsUtf8 leaf.term
-    first_is leaf [] rest none each = absurd none
-    first_is leaf (e ∷ own) rest first each = subst IsUtf8 (sym first.0) each.0
+    first_is : (leaf : NewLeaf) (own : List Entry) → BeginsAt leaf own → IsLeaf leaf.bytes own → IsUtf8 leaf.term
+    first_is leaf [] none is = absurd none
+    first_is leaf (e ∷ own) first is = subst IsUtf8 (sym first.0) is.each.0.text
 
 pub no_leaves : (leaves : List NewLeaf) → length leaves ≡ 0 → leaves ≡ []
 no_leaves [] none = refl

@@ -60,10 +60,10 @@ module _ (Old New : Row → Type 0) (was : Row) (entries : List Entry) (by : Rep
 
   -- what the old leaf covered, one of the new ones covers
   module _ (key : Row) (covers : Covers Old key was) where
-    found : Found key news entries
+    pub found : Found key news entries
     found = find key (own_key was) by.first by.more entries by.parts by.rising from_was covers.up_to
 
-    found_covers : Covers New key found.leaf
+    pub found_covers : Covers New key found.leaf
     found_covers = record {
       is = (by.rows found.leaf).1 (inr found.is);
       up_to = found.up_to;
@@ -123,7 +123,7 @@ module _ (Old New : Row → Type 0) (was : Row) (entries : List Entry) (by : Rep
       not_itself : (x y : Row) → row_cmp x y ≡ Less → x ≡ y → ⊥
       not_itself x y less same = up_itself x (subst (λ (r : Row). row_cmp r x ≡ Greater) (sym same) (flipped_back x y less))
 
-  first_new : New by.first
+  pub first_new : New by.first
   first_new = (by.rows by.first).1 (inr (inl refl))
 
   -- and no other leaf covers more
@@ -256,10 +256,10 @@ module _ (New : Row → Type 0) (entries : List Entry) (by : BeginsLeaves New en
   from_least e here = least_up e.term e.block
 
   module _ (term : List ℕ) (block : ℕ) where
-    first_found : Found (leaf_key term block) firsts entries
+    pub first_found : Found (leaf_key term block) firsts entries
     first_found = find (leaf_key term block) (leaf_key [] 0) by.first by.more entries by.parts by.rising from_least (least_up term block)
 
-    first_covers : Covers New (leaf_key term block) first_found.leaf
+    pub first_covers : Covers New (leaf_key term block) first_found.leaf
     first_covers = record {
       is = (by.rows first_found.leaf).1 first_found.is;
       up_to = first_found.up_to;

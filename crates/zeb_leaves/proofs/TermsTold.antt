@@ -54,7 +54,7 @@ module _ (trees : Trees) (at : RegisterOf) where
   pub entry_counts : (e : Entry) → IsEntryOf Own e.term e → (records : ℕ) → SumsRecords Own e.term records → 1 ≤ records
   entry_counts e is records sums = omega (arith, sums.sum, some_records Own e.term e is, records_in sums.own e ((sums.each e).1 is))
 
-  text_hides : (e : Entry) → IsEntryOf Own e.term e → IsNoText e → Hides e.term
+  pub text_hides : (e : Entry) → IsEntryOf Own e.term e → IsNoText e → Hides e.term
   text_hides e is bad = λ records shows. bad (shows.1 (entry_counts e is records shows.0))
 
   pub hidden_term : (first : List ℕ) (from : ℕ) → IsHidden Own IsNoText first from → HidesSomeLeaf trees at.db.0 at.index at.register

@@ -10,7 +10,7 @@ use Rattle.sqlite.specs.declared.types.Value.{Value}
 use Rattle.sqlite_tied.specs.Compute.{everything}
 use Rattle.zeb_leaves.specs.declared.writes.TheConstants.{ADD, SET}
 use Rattle.zeb_register.proofs.PostingStatements.{blocks, blocks_static}
-use Rattle.zeb_register.proofs.StatementForms.{Condition, alone, equals, no_limit, reading, shows}
+use Rattle.zeb_register.proofs.StatementForms.{Condition, alone, equals, no_limit, reading}
 use Rattle.zeb_register.proofs.Writes.{RemakesRows, changed_so, gains, inserts, updates}
 use Rattle.zeb_register.specs.PrivateKeyColumns.{IsBlockOf}
 use Rattle.zeb_register.specs.PrivateRowStatements.{Gains, Renews}

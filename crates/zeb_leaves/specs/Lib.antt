@@ -5,4 +5,9 @@ pub mod PrivateLeafReads
 pub mod PrivateSpans
 pub mod PrivateSaid
 pub mod PrivateTermReads
+pub mod PrivateNearTerms
 pub mod PrivateLeafWrites
+pub mod PrivatePieces
+pub mod PrivatePutPieces
+pub mod PrivateTurning
+pub mod PrivateAgreeing

@@ -1,5 +1,5 @@
 -- What only the contracts of private functions speak of; no public clause reaches it: leaves that are written.
-use Rattle.std.specs.Prelude.{◌≡◌, ◌⊎◌, ◌↔◌, ◌++◌, ◌∷◌, ℕ, ℤ, pos, Bool, List, []}
+use Rattle.std.specs.Prelude.{◌≡◌, ◌⊎◌, ◌↔◌, ◌++◌, ◌∷◌, ℕ, ℤ, pos, Bool, List, [], Option, Some, None}
 use Rattle.sqlite.specs.declared.types.Value.TheVariants.{Blob, Int, Text}
 use Rattle.sqlite.specs.Order.{Row}
 use Rattle.sqlite.specs.Tree.{Trees}
@@ -9,6 +9,8 @@ use Rattle.zeb_leaf.specs.declared.entries.Entry.{Entry}
 use Rattle.zeb_leaf.specs.declared.parting.NewLeaf.{NewLeaf}
 use Rattle.zeb_register.specs.Covering.{leaf_key}
 use Rattle.zeb_leaves.specs.LeafChanges.{ArePartedFrom}
+use Rattle.zeb_leaves.specs.PrivateSpans.{ShowsKey}
+use Rattle.zeb_leaves.specs.PrivateTermReads.{End}
 use Rattle.zeb_register.specs.PrivateKeyColumns.{IsBlockOf, register_columns}
 use Rattle.zeb_register.specs.Sql.{HasRow}
 use Rattle.zeb_register.specs.UnitChanges.{IsTold}
@@ -57,3 +59,16 @@ PutsEntries at term block entries tree old new =
 abbrev pub IfToldPutsEntries : Bool → RegisterOf → List ℕ → ℕ → List Entry → ℕ → Trees → Trees → Type 0
 IfToldPutsEntries is_there at term block entries tree old new =
     IsTold is_there (IsLeafWith at term (pos block)) tree old → PutsEntries at term block entries tree old new
+
+-- ---- the keys that a leaf covers, from its own key up to the leaf behind it
+
+-- the end is the own key of the leaf, and there is none without one
+abbrev pub IsEndAt : Option Row → End → Type 0
+IsEndAt None None = Unit {0}
+IsEndAt (Some leaf) (Some end) = ShowsKey leaf end.0 end.1
+IsEndAt _ _ = ⊥
+
+-- the leaf shows no key
+abbrev pub HidesEnd : Option Row → Type 0
+HidesEnd None = ⊥
+HidesEnd (Some leaf) = (term : List ℕ) (block : ℕ) → ¬ ShowsKey leaf term block

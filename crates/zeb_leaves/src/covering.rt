@@ -1,11 +1,11 @@
 //! The leaf that covers a block of a term.
 
-ghost use Rattle.std.specs.Prelude.{◌≡◌, ◌≢◌, ◌<◌, ◌^◌, ◌++◌, ◌∷◌, [], List, None, Err, MatchOption};
+ghost use Rattle.std.specs.Prelude.{◌≡◌, ◌≢◌, ◌<◌, ◌^◌, None, Err};
 ghost use Rattle.sqlite.specs.Held.{state};
 ghost use Rattle.sqlite.specs.State.{IsUnchanged};
 ghost use Rattle.zeb_register.specs.Covering.{leaf_key};
 ghost use Rattle.zeb_leaves.specs.PrivateLeafReads.{IsCovering, IsGreatest, IsLeafAt, IsLeafIn, IsUncovered};
-ghost use Rattle.zeb_leaves.specs.PrivateLeafReads.{IsOfTermBelow, IsOfTermsBelow};
+ghost use Rattle.zeb_leaves.specs.PrivateLeafReads.{IsLastOf, IsOfTermBelow, IsOfTermsBelow};
 ghost use Rattle.zeb_register.specs.Answers.{Answers, IfDamaged};
 ghost use Rattle.zeb_register.specs.Calls.{Reading};
 ghost use Rattle.zeb_register.specs.Clauses.{IsReasoned, OnStore, Tells};
@@ -15,9 +15,8 @@ use sqlite::{Alter, Connection, Row};
 use zeb_register::{RegFault, RegisterOf};
 
 /// The last of the rows.
-fn last_row(rows: Vec<Row>) -> Option<Row>
-    ensures { MatchOption result (rows.items ≡ [])
-        (λ row. (front : List _) × (rows.items ≡ front ++ row ∷ [])) }
+pub(crate) fn last_row(rows: Vec<Row>) -> Option<Row>
+    ensures { IsLastOf rows.items result }
 {
     let mut rows = rows;
     rows.pop()
@@ -82,7 +81,10 @@ pub(crate) fn covering_leaf<S: Alter>(
 }
 
 /// No leaf. `Damaged` where the register has one.
-fn no_leaf<S: Alter>(conn: &mut Connection<S>, at: RegisterOf) -> Result<Option<Row>, RegFault>
+pub(crate) fn no_leaf<S: Alter>(
+    conn: &mut Connection<S>,
+    at: RegisterOf,
+) -> Result<Option<Row>, RegFault>
     ensures call { Reading (state S.Store conn.old) (state S.Store conn.new) result
         (λ _. IsUnchanged) }
     ensures none { OnStore (state S.Store conn.old) (state S.Store conn.new) (λ trees. Answers

@@ -3,23 +3,39 @@
 //! No command uses it yet. It is the layout to come, whose registers have few rows.
 #![tactic(auto)]
 
+mod agreeing;
+mod agreeing_entries;
+mod agreeing_rows;
+mod agreeing_walk;
 mod between;
 mod covering;
+mod database_laws;
+mod first_terms;
+mod inside;
 mod key_reads;
+mod last_terms;
 mod own_entries;
+mod pieces;
 mod replacing;
 mod rows_from;
 mod said_postings;
 mod spans;
 mod statements;
+mod statements_inside;
 mod term_totals;
 mod terms;
+mod turned_entries;
+mod turning;
+mod until_enough;
 mod writes;
 
 pub use between::postings_between;
+pub use first_terms::terms_from;
 pub use key_reads::{block_list, key_count, key_list};
+pub use last_terms::terms_before;
 pub use replacing::{
     leaves_begin_a_register, leaves_take_the_place_of_one, merged_entries_say_what_was_put,
 };
 pub use term_totals::totals;
 pub use terms::terms_of;
+pub use turning::run_changes;

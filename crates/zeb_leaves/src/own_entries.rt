@@ -10,15 +10,14 @@ ghost use Rattle.zeb_leaves.specs.PrivateSpans.{ShowsNone};
 ghost use Rattle.zeb_leaves.specs.PrivateTermReads.{ShowsOwn, is_own};
 ghost use Rattle.zeb_register.specs.Answers.{Answers, IfDamaged};
 
-use crate::spans::told_of_leaf;
+use crate::spans::{leaf_bytes, told_of_leaf};
 use sqlite::Row;
 use std::alloc::Global;
 use zeb_leaf::{BlockKey, Entry, read_leaf};
 use zeb_register::RegFault;
-use zeb_register::for_layouts::read_bytes;
 
 /// Whether a key is below another one.
-fn is_below(key: BlockKey, other: BlockKey) -> bool
+pub(crate) fn is_below(key: BlockKey, other: BlockKey) -> bool
     ensures { result ≡ is_lt (key_cmp key.entry.term.now key.entry.block other.entry.term.now
         other.entry.block) }
 {
@@ -43,12 +42,12 @@ fn is_own_entry(entry: &Entry, from: BlockKey, end: Option<BlockKey>) -> bool
     }
 }
 
-/// The entries of a row: none where it has no bytes. It is refused where the bytes are no leaf.
+/// The entries of a row: none where it has no bytes. It is refused where the bytes are no leaf, or its own term is no text.
 fn row_entries(alloc: Global, row: &Row) -> Result<Vec<Entry>, RegFault>
     ensures { Answers (λ fault. (fault ≢ RegFault.Store) × IfDamaged (ShowsNone row.now) fault)
         (λ entries. ShowsEntries row.now entries.items) result }
 {
-    let bytes = read_bytes(row, 2)?;
+    let bytes = leaf_bytes(row)?;
     if bytes.is_empty() {
         return Ok(Vec::new(alloc));
     }

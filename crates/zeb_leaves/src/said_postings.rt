@@ -16,7 +16,7 @@ use zeb_leaf::Held;
 use zeb_register::RegFault;
 
 /// How many records rising postings are of.
-fn records_in(list: &[Posting]) -> u64
+pub(crate) fn records_in(list: &[Posting]) -> u64
     ensures { IsStrictlySortedBy posting_cmp list.now → IsCount (HasRecordOf list.now) result }
 {
     let mut records: u64 = 0;

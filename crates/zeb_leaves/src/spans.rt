@@ -1,11 +1,11 @@
 //! The leaves that cover the blocks of neighbouring terms, and what they have of these.
 
-ghost use Rattle.std.specs.Prelude.{◌≡◌, ◌≢◌, ◌++◌, ◌∷◌, [], ℕ, List, Err, IfErr, IfOk};
+ghost use Rattle.std.specs.Prelude.{◌≡◌, ◌≢◌, ◌↔◌, ◌++◌, ◌∷◌, [], ℕ, List, Err, IfErr, IfOk, IsTrue};
 ghost use Rattle.sqlite.specs.Held.{state};
 ghost use Rattle.sqlite.specs.Order.{column};
 ghost use Rattle.sqlite.specs.State.{IsUnchanged};
-ghost use Rattle.sqlite.specs.declared.types.Value.TheVariants.{Text};
-ghost use Rattle.zeb_register.specs.Covering.{leaf_key};
+ghost use Rattle.sqlite.specs.declared.types.Value.TheVariants.{Blob, Text};
+ghost use Rattle.zeb_register.specs.Covering.{HasTextTerm, leaf_key};
 ghost use Rattle.zeb_leaves.specs.PrivateLeafReads.{IsLeafIn, IsUncovered};
 ghost use Rattle.zeb_leaves.specs.PrivateSpans.{AreSpanLeaves, IsRowBetween, ShowAllSpans, ShowSpans};
 ghost use Rattle.zeb_leaves.specs.PrivateSpans.{ShowsKey, ShowsNone, ShowsSpan, SomeShowsNoKey};
@@ -92,6 +92,29 @@ pub(crate) fn own_key(row: &Row) -> Result<BlockKey<'_>, RegFault>
     Ok(BlockKey { term, block })
 }
 
+/// Whether the term of a leaf's own key is text.
+fn has_text_term(row: &Row) -> bool
+    ensures { IsTrue result ↔ HasTextTerm row.now }
+{
+    match read_text(row, 0) {
+        Ok(term) => str::from_utf8(term).is_ok(),
+        Err(_) => false,
+    }
+}
+
+/// The bytes of a leaf. They take no memory: they are refused as `Damaged` alone, where the leaf's own term is no text, or where another type
+/// is in their place.
+pub(crate) fn leaf_bytes(row: &Row) -> Result<&[u8], RegFault>
+    ensures ok { IfOk result (λ bytes. (column row.now 2 ≡ Blob bytes.now) × HasTextTerm row.now) }
+    ensures refused { IfErr result (λ fault. (fault ≡ RegFault.Damaged)
+        × ((bytes : List ℕ) → column row.now 2 ≡ Blob bytes → ¬ HasTextTerm row.now)) }
+{
+    if !has_text_term(row) {
+        return Err(RegFault::Damaged);
+    }
+    read_bytes(row, 2)
+}
+
 /// As what the fault of a leaf is told.
 pub(crate) fn told_of_leaf(fault: LeafFault) -> RegFault
     ensures damaged { result ≡ RegFault.Damaged → fault ≡ LeafFault.Malformed }
@@ -104,7 +127,7 @@ pub(crate) fn told_of_leaf(fault: LeafFault) -> RegFault
 }
 
 /// Puts what a row has from the first key on and below the end behind the others. A row without bytes has nothing; it is refused where the
-/// bytes are no leaf.
+/// bytes are no leaf, or its own term is no text.
 pub(crate) fn push_row_span<'a>(
     alloc: Global,
     held: &mut Vec<Held<'a>>,
@@ -117,7 +140,7 @@ pub(crate) fn push_row_span<'a>(
         × ShowsSpan first.entry.term.now first.entry.block end.entry.term.now end.entry.block
         row.now among × (held.new.items ≡ held.old.items ++ among)) result }
 {
-    let bytes = read_bytes(row, 2)?;
+    let bytes = leaf_bytes(row)?;
     if bytes.is_empty() {
         return Ok(());
     }

@@ -14,16 +14,16 @@ use zeb_register::RegisterOf;
 use zeb_register::for_layouts::look_up;
 
 // A block below 0 is no block's number, and so its row is no leaf.
-const OF_TERM: &str =
+pub(crate) const OF_TERM: &str =
     "SELECT term, block, data FROM blocks WHERE db = ?1 AND idx = ?2 AND reg = ?3 AND term = ?4 AND block >= ?5 AND block < ?6 ORDER BY term DESC, block DESC LIMIT 1";
 
-const OF_TERMS_BELOW: &str =
+pub(crate) const OF_TERMS_BELOW: &str =
     "SELECT term, block, data FROM blocks WHERE db = ?1 AND idx = ?2 AND reg = ?3 AND term < ?4 AND block >= ?5 ORDER BY term DESC, block DESC LIMIT 1";
 
 const BETWEEN: &str =
     "SELECT term, block, data FROM blocks WHERE db = ?1 AND idx = ?2 AND reg = ?3 AND term >= ?4 AND term < ?5 AND block >= ?6 ORDER BY term, block";
 
-const ANY: &str =
+pub(crate) const ANY: &str =
     "SELECT block FROM blocks WHERE db = ?1 AND idx = ?2 AND reg = ?3 AND block >= ?4 LIMIT 1";
 
 /// The greatest leaf of the term whose own block is below `end`.

@@ -110,7 +110,7 @@ fn postings_in(alloc: Global, rows: &[Row], first: &[u8]) -> Result<u64, RegFaul
 }
 
 /// How many terms of a register some record has, and how many postings these have, each at most 2^64 - 1. All leaves of the register are
-/// held at once. `Damaged` only where a term has no count, one that some record has isn't UTF-8, or a block of such a term is malformed.
+/// held at once. `Damaged` only where a term has no count, or a block of one that some record has is malformed.
 pub fn totals<S: Alter>(
     alloc: Global,
     conn: &mut Connection<S>,

@@ -33,14 +33,18 @@ fn term_of(alloc: Global, bytes: &[u8]) -> Result<Term, RegFault>
 }
 
 /// Whether a term has these bytes.
-fn is_term(term: &Term, bytes: &[u8]) -> bool
+pub(crate) fn is_term(term: &Term, bytes: &[u8]) -> bool
     ensures { IsTrue result ↔ (term.now ≡ bytes.now) }
 {
     term.as_str().as_bytes() == bytes
 }
 
 /// Counts the records of an entry. No term of the entries behind it comes before the last of those that are counted.
-fn count_entry(alloc: Global, counts: &mut Vec<TermCount>, entry: &Entry) -> Result<(), RegFault>
+pub(crate) fn count_entry(
+    alloc: Global,
+    counts: &mut Vec<TermCount>,
+    entry: &Entry,
+) -> Result<(), RegFault>
     ensures { Answers (λ fault. (fault ≢ RegFault.Store) × IfDamaged (IsNoText entry.now) fault)
         (λ _. CountsIn entry.now counts.old.items counts.new.items) result }
 {
@@ -135,7 +139,7 @@ pub(crate) fn counts_in(
 }
 
 /// The terms of a register that some record has, in the order of their bytes, each with the number of these records. All leaves of the
-/// register are held at once. `Damaged` only where a term has no count, or one that some record has isn't UTF-8.
+/// register are held at once. `Damaged` only where a term has no count.
 pub fn terms_of<S: Alter>(
     alloc: Global,
     conn: &mut Connection<S>,

@@ -1,11 +1,10 @@
 //! Leaves that are written: one in the place of a leaf or as the first of a register, and others behind it.
 
-ghost use Rattle.std.specs.Prelude.{IsUtf8, ◌≡◌, ◌≢◌, pos, [], Err, IfErr, IfOk, IsTrue};
+ghost use Rattle.std.specs.Prelude.{IsUtf8, ◌≡◌, ◌≢◌, pos, [], Err, IsTrue};
 ghost use Rattle.std.specs.List.{AllByRecursion};
 ghost use Rattle.sqlite.specs.Held.{state};
 ghost use Rattle.std.specs.List.Sorted.{IsStrictlySortedBy};
 ghost use Rattle.zeb_leaf.specs.Order.{IsEntry, entry_cmp};
-ghost use Rattle.zeb_leaf.specs.declared.entries.Entry.{Entry};
 ghost use Rattle.zeb_leaf.specs.declared.parting.NewLeaf.{NewLeaf};
 ghost use Rattle.zeb_leaves.specs.PrivateLeafWrites.{GainsLeaves, IfToldPuts, IfToldPutsEntries};
 ghost use Rattle.zeb_leaves.specs.PrivateLeafWrites.{IsLeafWith, leaf_columns, new_row};
@@ -67,48 +66,49 @@ fn leaf_set<S: Alter>(
     tx.execute(SET, params![db, at.index, reg, term, number, bytes])
 }
 
-/// The text of a term. `Damaged` where it is none.
-fn text_of(term: &[u8]) -> Result<&str, RegFault>
-    ensures ok { IfOk result (λ text. text.now ≡ term.now) }
-    ensures refused { IfErr result (λ fault. (fault ≡ RegFault.Damaged) × ¬ IsUtf8 term.now) }
+/// The text of a term.
+pub(crate) fn text_of(term: &[u8]) -> &str
+    requires { IsUtf8 term.now }
+    ensures { result.now ≡ term.now }
 {
     match str::from_utf8(term) {
-        Ok(text) => Ok(text),
-        Err(_) => Err(RegFault::Damaged),
+        Ok(text) => text,
+        Err(_) => unreachable!(),
     }
 }
 
-/// Puts the row of a new leaf. `Damaged` where the term of its key is no text.
+/// Puts the row of a new leaf.
 fn new_leaf_add<S: Alter>(
     tx: &mut Transaction<'_, S>,
     at: RegisterOf,
     leaf: &NewLeaf,
 ) -> Result<(), RegFault>
+    requires { IsUtf8 leaf.now.term }
     ensures same { tx.new.conn.ghost_name ≡ tx.old.conn.ghost_name }
     ensures call { Writes blocks_tree (Gains (new_row at leaf.now))
         (state S.Store tx.old.conn.now) (state S.Store tx.new.conn.now) result }
-    ensures honest { result ≡ Err RegFault.Damaged → ¬ IsUtf8 leaf.now.term }
+    ensures honest { result ≢ Err RegFault.Damaged }
 {
-    let term = text_of(leaf.term.as_slice())?;
+    let term = text_of(leaf.term.as_slice());
     let number = stored(leaf.block)?;
     leaf_add(tx, at, term, number, leaf.bytes.as_slice())?;
     Ok(())
 }
 
-/// Puts the rows of new leaves. `Damaged` where the term of a key is no text.
+/// Puts the rows of new leaves.
 fn new_leaves_add<S: Alter>(
     tx: &mut Transaction<'_, S>,
     at: RegisterOf,
     leaves: &[NewLeaf],
 ) -> Result<(), RegFault>
+    requires { AllByRecursion (λ (leaf : NewLeaf). IsUtf8 leaf.term) leaves.now }
     ensures same { tx.new.conn.ghost_name ≡ tx.old.conn.ghost_name }
     ensures call { Inside (state S.Store tx.old.conn.now) (state S.Store tx.new.conn.now) result
         (λ _ a b. IsTrue a.is_open → GoesOn a b) }
     ensures put { ChangesTable blocks_tree
         (state S.Store tx.old.conn.now) (state S.Store tx.new.conn.now) result
         (λ _. GainsLeaves at leaves.now) }
-    ensures honest { result ≡ Err RegFault.Damaged
-        → ¬ AllByRecursion (λ (leaf : NewLeaf). IsUtf8 leaf.term) leaves.now }
+    ensures honest { result ≢ Err RegFault.Damaged }
 {
     for leaf in leaves {
         new_leaf_add(tx, at, leaf)?;
@@ -140,7 +140,7 @@ fn leaf_put<S: Alter>(
 }
 
 /// Puts a leaf with this key and these bytes in the place of that with the key, and new leaves beside it. It is told whether there is one
-/// with the key. `Damaged` only where the term of a new leaf's key is no text.
+/// with the key.
 fn leaves_put<S: Alter>(
     tx: &mut Transaction<'_, S>,
     at: RegisterOf,
@@ -150,14 +150,14 @@ fn leaves_put<S: Alter>(
     is_there: bool,
     leaves: &[NewLeaf],
 ) -> Result<(), RegFault>
+    requires { AllByRecursion (λ (leaf : NewLeaf). IsUtf8 leaf.term) leaves.now }
     ensures same { tx.new.conn.ghost_name ≡ tx.old.conn.ghost_name }
     ensures call { Inside (state S.Store tx.old.conn.now) (state S.Store tx.new.conn.now) result
         (λ _. GoesOn) }
     ensures put { ChangesTable blocks_tree
         (state S.Store tx.old.conn.now) (state S.Store tx.new.conn.now) result
         (λ _. IfToldPuts is_there at term.now (pos block) bytes.now leaves.now) }
-    ensures honest { result ≡ Err RegFault.Damaged
-        → ¬ AllByRecursion (λ (leaf : NewLeaf). IsUtf8 leaf.term) leaves.now }
+    ensures honest { result ≢ Err RegFault.Damaged }
 {
     leaf_put(tx, at, term, block, bytes, is_there)?;
     new_leaves_add(tx, at, leaves)
@@ -165,8 +165,6 @@ fn leaves_put<S: Alter>(
 
 /// Puts leaves with these entries in the place of the leaf with this key, which has to be told whether it is there. The first of them has the
 /// key as its own, and has no bytes where there are no entries; each other has the key of its first entry. No other row is changed.
-///
-/// `Damaged` only where the term of an entry is no text.
 pub(crate) fn entries_put<S: Alter>(
     alloc: Global,
     tx: &mut Transaction<'_, S>,
@@ -184,8 +182,7 @@ pub(crate) fn entries_put<S: Alter>(
     ensures put { ChangesTable blocks_tree
         (state S.Store tx.old.conn.now) (state S.Store tx.new.conn.now) result
         (λ _. IfToldPutsEntries is_there at key.entry.term.now key.entry.block entries.now) }
-    ensures honest { result ≡ Err RegFault.Damaged
-        → ¬ AllByRecursion (λ (e : Entry). IsUtf8 e.term) entries.now }
+    ensures honest { result ≢ Err RegFault.Damaged }
 {
     let leaves = cut(alloc, entries, filling)?;
     match leaves.split_first() {

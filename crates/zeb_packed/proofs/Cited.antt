@@ -45,7 +45,7 @@ pub use Rattle.zeb_keys.proofs.Rising.{numbers_apart}
 pub use Rattle.zeb_keys.specs.Registers.{register_code}
 pub use Rattle.zeb_keys.specs.declared.Register.{Register}
 pub use Rattle.zeb_keys.specs.declared.keys.Key.{Key}
-pub use Rattle.zeb_packed.specs.PrivatePackedChanges.{block_columns, IsClearFrom, IfTold, SpellsIn, block_key, dict_columns, PutsBlock, IsParted}
+pub use Rattle.zeb_packed.specs.PrivatePackedChanges.{block_columns, IsClearFrom, IfTold, SpellsIn, block_key, dict_columns, PutsBlock}
 pub use Rattle.zeb_packed.specs.PrivatePackedRows.{IsFallingListOf, IsRestBefore, IsRestFrom, count_row}
 pub use Rattle.zeb_packed.specs.PrivateUnitCalls.{LacksNewBlocks, AllowsBlocks, TurnsBlocks, AllowsBlock, PutsRun, TurnsBlock}
 pub use Rattle.zeb_register.specs.PrivateUnits.{units_of}

@@ -7,6 +7,7 @@ use Rattle.zeb_packed.specs.PrivatePackedRows.{EndsCounting, TellTerms}
 use Rattle.zeb_register.specs.Terms.{Comes, HidesBefore, HidesCount, HidesFrom, HidesNearest, HidesSome, IsNearest, ListsAll, ListsBefore, ListsCounts, ListsFrom, ListsNearest, shows_count}
 use Rattle.zeb_register.proofs.BetweenRows.{begins}
 use Rattle.zeb_register.proofs.CountLemmas.{comes_is, comes_not}
+use Rattle.zeb_register.proofs.NearestTerms.{hides_next}
 use Rattle.zeb_register.proofs.RisingLists.{cut_rises, flipped_total, has_reversed, reversed_rises}
 use Rattle.zeb_register.proofs.RowLemmas.{same_bytes, text_first}
 use Rattle.zeb_register.proofs.TermLists.{taken_or}
@@ -220,17 +221,13 @@ module _ (s : State) (store : IsStore s) (db : ℤ) (index : ℕ) (register : Re
 
     pub nearest_hide : (ends : EndsCounting rows) (terms : List TermCount) → ((t : TermCount) → Has terms t ↔ Has ends.terms t) → length terms ≡ length ends.terms
         → (IsStrictlySortedBy (λ t u. T t.term u.term) ends.terms → IsStrictlySortedBy term_cmp terms) → HidesNearest packed_blocks s.now.trees db index register IsOn IsNearer n
-    nearest_hide ends terms same long turn = record {
-      term = text.0;
-      on = (on ends.row text.0 shown).0 own.1;
-      hidden = row_hides ends.row own.0 ends.bad text.0 shown;
-      terms = terms;
-      few = omega (arith, long, many front ends.terms ends.told ours, length_taken, at_most);
-      nearer = counts_told front ends.terms ends.told ours (λ other. IsOn other × IsNearer other text.0) terms same (turn (near_up front ends.terms ends.told.shown ours (take_rises total ends.at rows rows_up))) (λ row term h is. (
-        (on row term is).0 (there row (has_taken ends.at rows row h)).1,
-        order row ends.row term text.0 (ours row h) own.0 is shown (taken_below total rows ends.at ends.row rows_up ends.within ends.is row h),
-      )) reach;
-    }
+    nearest_hide ends terms same long turn =
+        hides_next packed_blocks s.now.trees db index register IsOn IsNearer n text.0 ((on ends.row text.0 shown).0 own.1) (row_hides ends.row own.0 ends.bad text.0 shown) terms
+        (omega (arith, long, many front ends.terms ends.told ours, length_taken, at_most))
+        (counts_told front ends.terms ends.told ours (λ other. IsOn other × IsNearer other text.0) terms same (turn (near_up front ends.terms ends.told.shown ours (take_rises total ends.at rows rows_up))) (λ row term h is. (
+          (on row term is).0 (there row (has_taken ends.at rows row h)).1,
+          order row ends.row term text.0 (ours row h) own.0 is shown (taken_below total rows ends.at ends.row rows_up ends.within ends.is row h),
+        )) reach)
       where
         front : List Row
         front = take ends.at rows

@@ -1,8 +1,7 @@
 -- One record's change of what is held of a block, as a change of its units.
-use Rattle.zeb_packed.proofs.Cited.{packed_blocks, ◌≡◌, ◌≢◌, ◌∙◌, ◌/◌, ◌≤◌, ℕ, List, [], ◌∷◌, map, refl, sym, ap, subst, inl, inr, arith, eqb_tells, Has, all_has, LiesIn, Posting, Place, RecordChange, IsListChanged, posting_at, units_of, places_in, CountsOn, IsBlockCounted, IsStorableChange, KeyUnits, TurnsUnit, place_in}
-use Rattle.zeb_packed.proofs.PackedParts.{own_of}
-use Rattle.zeb_register.proofs.RisingPlaces.{are_in, mapped_back, same_places}
+use Rattle.zeb_packed.proofs.Cited.{packed_blocks, ◌≡◌, ◌≢◌, ◌∙◌, ◌/◌, ◌≤◌, ℕ, List, [], ◌∷◌, refl, sym, subst, inl, inr, arith, eqb_tells, Has, all_has, LiesIn, Posting, RecordChange, units_of, places_in, CountsOn, IsBlockCounted, IsStorableChange, KeyUnits, TurnsUnit, place_in}
 use Rattle.zeb_register.proofs.KeyPlaces.{place_of}
+use Rattle.zeb_register.specs.UnitChanges.{TurnsPlaces}
 use Rattle.zeb_packed.proofs.UnitTurns.{counts_same}
 
 has_none : (sysno : ℕ) (list : List Posting) → places_in sysno list ≢ [] → list ≢ []
@@ -11,10 +10,6 @@ has_none sysno (p ∷ list) some = λ none. cc
 
 counted_in : (block : ℕ) (list : List Posting) (records : ℕ) → (list ≢ [] → 1 ≤ records) → IsBlockCounted block (units_of list records)
 counted_in block list records counted n at some = counted (has_none n list some)
-
--- the own postings, without their number, are the places
-own_unit : (sysno : ℕ) (list : List Posting) (own : List Place) → map (posting_at sysno) own ≡ own_of sysno list → own ≡ places_in sysno list
-own_unit sysno list own same = sym (mapped_back sysno own) ∙ ap (map place_of) same
 
 module _ (change : RecordChange) (block : ℕ) (one : List Posting) (was : ℕ) (inside : change.sysno / 256 ≡ block) (lies : LiesIn block one) (stored : IsStorableChange change) where
   -- some record of the block has the key where its list has a posting
@@ -27,8 +22,8 @@ module _ (change : RecordChange) (block : ℕ) (one : List Posting) (was : ℕ) 
   )
 
   -- no change is made of a record with other places
-  pub not_found : (own : List Place) → map (posting_at change.sysno) own ≡ own_of change.sysno one → own ≢ change.old.now → (are : KeyUnits) → ¬ TurnsUnit packed_blocks change (units_of one was) are
-  not_found own shown other are turns = other (own_unit change.sysno one own shown ∙ turns.found)
+  pub not_found : places_in change.sysno one ≢ change.old.now → (are : KeyUnits) → ¬ TurnsUnit packed_blocks change (units_of one was) are
+  not_found other are turns = other turns.found
 
   pub not_counted : was ≡ 0 → one ≢ [] → (are : KeyUnits) → ¬ TurnsUnit packed_blocks change (units_of one was) are
   not_counted none some are turns = let it = some_unit one lies some in omega (arith, turns.count.had it.0 it.1 it.2, none)
@@ -36,19 +31,12 @@ module _ (change : RecordChange) (block : ℕ) (one : List Posting) (was : ℕ) 
   pub not_followed : ((after : ℕ) → CountsOn change.old.now change.new.now was after → ¬ (after ≤ 999999999)) → (are : KeyUnits) → ¬ TurnsUnit packed_blocks change (units_of one was) are
   not_followed never are turns = never are.records turns.count.counted turns.count.few
 
-  module _ (two : List Posting) (after : ℕ) (own : List Place) (shown : map (posting_at change.sysno) own ≡ own_of change.sysno one) (same : own ≡ change.old.now) (changed : IsListChanged change.sysno change.new.now one two)
-      (then' : LiesIn block two) (counts : CountsOn change.old.now change.new.now was after) where
-    put_unit : places_in change.sysno two ≡ change.new.now
-    put_unit = sym (are_in change.sysno change.new.now two stored.places.0 changed.rising changed.part)
-
-    kept_unit : (n : ℕ) → n ≢ change.sysno → places_in n two ≡ places_in n one
-    kept_unit n other = same_places n two one changed.rising lies.rising (λ p at. changed.others p (λ it. other (sym at ∙ it)))
-
+  module _ (two : List Posting) (after : ℕ) (turned : TurnsPlaces change one two) (then' : LiesIn block two) (counts : CountsOn change.old.now change.new.now was after) where
     pub unit_turned : after ≤ 999999999 → (one ≢ [] → 1 ≤ was) → (two ≢ [] → 1 ≤ after) → TurnsUnit packed_blocks change (units_of one was) (units_of two after)
     unit_turned few had has = record {
-      found = sym (own_unit change.sysno one own shown) ∙ same;
-      put = put_unit;
-      kept = kept_unit;
+      found = turned.found;
+      put = turned.put;
+      kept = turned.kept;
       count = record {
         counted = counts;
         few = few;
@@ -62,7 +50,7 @@ module _ (change : RecordChange) (block : ℕ) (one : List Posting) (was : ℕ) 
         let it = some_unit two then' some in
         let count : are.records ≡ after = counts_same change.old.now change.new.now was are.records after turns.count.counted counts in
         let unit : are.places it.0 ≡ places_in it.0 two = elim (eqb_tells it.0 change.sysno) [
-          | inl own' ↦ subst (λ n. are.places n ≡ places_in n two) (sym own'.1) (turns.put ∙ sym put_unit)
-          | inr other ↦ turns.kept it.0 other.1 ∙ sym (kept_unit it.0 other.1)
+          | inl own' ↦ subst (λ n. are.places n ≡ places_in n two) (sym own'.1) (turns.put ∙ sym turned.put)
+          | inr other ↦ turns.kept it.0 other.1 ∙ sym (turned.kept it.0 other.1)
         ] in
         omega (arith, turns.count.has it.0 it.1 (λ no. it.2 (sym unit ∙ no)), count, none)

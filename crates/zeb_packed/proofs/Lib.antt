@@ -5,7 +5,6 @@ pub mod PackedRowStatements
 pub mod DictTerms
 pub mod PackedReads
 pub mod PackedWrites
-pub mod PackedParts
 pub mod PackedTotals
 pub mod KeyRows
 pub mod PackedSound

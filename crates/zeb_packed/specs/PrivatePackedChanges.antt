@@ -1,16 +1,14 @@
 -- What only the contracts of private functions speak of; no public clause reaches it.
 -- Parts of a key's list changed block by block, and what is written of them.
-use Rattle.std.specs.Prelude.{◌≡◌, ◌↔◌, ◌⊎◌, ◌≤◌, ◌^◌, ◌==◌, ℕ, ℤ, nat_lt, Bool, List, [], ◌∷◌, filter, map}
+use Rattle.std.specs.Prelude.{◌≡◌, ◌↔◌, ◌⊎◌, ◌≤◌, ◌^◌, ℕ, ℤ, Bool, List, [], ◌∷◌}
 use Rattle.sqlite.specs.declared.types.Value.TheVariants.{Int, Text, Blob}
 use Rattle.sqlite.specs.Order.{Row, column}
 use Rattle.sqlite.specs.Tree.{Trees}
 use Rattle.zeb_blocks.specs.declared.postings.Posting.{Posting}
 use Rattle.zeb_blocks.specs.Blocks.{BlockSpells}
 use Rattle.zeb_keys.specs.declared.keys.Key.{Key}
-use Rattle.zeb_packed.specs.declared.packed_parts.Parted.{Parted}
 use Rattle.zeb_packed.specs.declared.packed_changes.Known.{Known}
 use Rattle.zeb_register.specs.UnitChanges.{IsBlockIn, IsTold}
-use Rattle.zeb_register.specs.Content.{posting_at}
 use Rattle.zeb_register.specs.PackedBlocks.{block_row}
 use Rattle.zeb_register.specs.Sql.{HasRow}
 
@@ -38,14 +36,6 @@ IfTold is_there P Rows tree old new = IsTold is_there P tree old → Rows tree o
 -- the row shows bytes that spell the list in the block
 abbrev pub SpellsIn : ℕ → Row → List Posting → Type 0
 SpellsIn block row list = (bytes : List ℕ) × (column row 0 ≡ Blob bytes) × BlockSpells block list bytes
-
--- ---- one record's part of a list
-
--- the postings of a list, parted at a record
-pub record IsParted (sysno : ℕ) (list : List Posting) (parted : Parted) : Type 0 where
-  pub before : parted.before.items ≡ filter (λ p. nat_lt p.sysno sysno) list
-  pub own : map (posting_at sysno) parted.own.items ≡ filter (λ p. p.sysno == sysno) list
-  pub behind : parted.behind.items ≡ filter (λ p. nat_lt sysno p.sysno) list
 
 -- ---- what is known of a key
 

@@ -1,22 +1,17 @@
 //! What the packed tables hold of a key in one block, and what they hold of it after records' places are changed.
 
-ghost use Rattle.std.specs.Prelude.{◌≡◌, ◌≢◌, ◌≤◌, ◌++◌, ◌∷◌, [], ℕ, List};
-ghost use Rattle.std.specs.Prelude.{map, true, false, IfOk, MatchOption, OnOk};
+ghost use Rattle.std.specs.Prelude.{◌≡◌, ◌≢◌, ◌≤◌, [], ℕ, true, false, IfOk, MatchOption};
 ghost use Rattle.std.specs.List.{AllByRecursion};
 ghost use Rattle.zeb_blocks.specs.Blocks.{LiesIn};
-ghost use Rattle.zeb_blocks.specs.declared.postings.Posting.{Posting};
-ghost use Rattle.zeb_register.specs.Content.{posting_at};
 ghost use Rattle.zeb_register.specs.PrivatePackedRows.{IsInBlock};
 ghost use Rattle.zeb_register.specs.Formats.{packed_blocks};
 ghost use Rattle.zeb_register.specs.PrivateUnits.{units_of};
 ghost use Rattle.zeb_register.specs.Answers.{Answers, IfDamaged};
-ghost use Rattle.zeb_packed.specs.PrivatePackedChanges.{IsParted};
 ghost use Rattle.zeb_register.specs.UnitChanges.{CountsOn, IsStorableChange, KeyUnits, TurnsUnit, TurnsUnits};
 
 use crate::packed::MOST_RECORDS;
-use std::alloc::Global;
 use zeb_blocks::Posting;
-use zeb_register::for_layouts::stored;
+use zeb_register::for_layouts::postings_changed;
 use zeb_register::{Place, RecordChange, RegFault};
 
 /// What the tables hold of a key: its postings in one block, and how many records have it at all.
@@ -69,21 +64,16 @@ impl Held {
         ensures lies { IfOk result (λ held. LiesIn self.now.block held.list.items) }
         ensures block { IfOk result (λ held. held.block ≡ self.now.block) }
     {
-        let parted = parted_at(*self.list.allocator(), &self.list, change.sysno)?;
-        if !are_same(&parted.own, change.old) || self.lacks_records() {
-            return Err(RegFault::Damaged);
-        }
+        let list = postings_changed(*self.list.allocator(), &self.list, change)?;
         let Some(records) = records_after(self.records, change.old, change.new) else {
             return Err(RegFault::Damaged);
         };
-        let list = joined(parted.before, change.sysno, change.new, &parted.behind)?;
-        let block = self.block;
         let held = Held {
-            block,
+            block: self.block,
             list,
             records,
         };
-        if held.lacks_records() {
+        if self.lacks_records() || held.lacks_records() {
             return Err(RegFault::Damaged);
         }
         Ok(held)
@@ -96,82 +86,6 @@ impl Held {
     {
         self.records == 0 && !self.list.is_empty()
     }
-}
-
-/// Postings parted at a record: those of the records before it, its own places, and the postings of the records behind it.
-#[derive(Debug, Drop)]
-struct Parted {
-    before: Vec<Posting>,
-    own: Vec<Place>,
-    behind: Vec<Posting>,
-}
-
-impl Parted {
-    /// Puts a posting that stands behind the others.
-    fn put(&mut self, posting: Posting, sysno: u64) -> Result<(), RegFault>
-        ensures parted { OnOk result ((list : List Posting) → IsParted sysno list self.old
-            → IsParted sysno (list ++ posting ∷ []) self.new) }
-        ensures honest { result ≢ Err RegFault.Damaged }
-    {
-        if posting.sysno < sysno {
-            self.before.push(posting)?;
-        } else if posting.sysno == sysno {
-            self.own.push(Place {
-                seq: posting.seq,
-                pos: posting.pos,
-            })?;
-        } else {
-            self.behind.push(posting)?;
-        }
-        Ok(())
-    }
-}
-
-/// The postings of a list, parted at a record.
-fn parted_at(alloc: Global, list: &[Posting], sysno: u64) -> Result<Parted, RegFault>
-    ensures parted { IfOk result (IsParted sysno list.now) }
-    ensures honest { result ≢ Err RegFault.Damaged }
-{
-    let mut parted = Parted {
-        before: Vec::new(alloc),
-        own: Vec::new(alloc),
-        behind: Vec::new(alloc),
-    };
-    for posting in list {
-        parted.put(*posting, sysno)?;
-    }
-    Ok(parted)
-}
-
-/// Whether two lists have the same places, in the same order.
-fn are_same(one: &[Place], two: &[Place]) -> bool
-    ensures same { result ≡ true → one.now ≡ two.now }
-    ensures other { result ≡ false → one.now ≢ two.now }
-{
-    one == two
-}
-
-/// The postings before a record, those of its places, and those behind it.
-fn joined(
-    before: Vec<Posting>,
-    sysno: u64,
-    places: &[Place],
-    behind: &[Posting],
-) -> Result<Vec<Posting>, RegFault>
-    ensures list { IfOk result (λ list. list.items ≡ before.items ++ (map (posting_at sysno)
-        places.now ++ behind.now)) }
-    ensures honest { result ≢ Err RegFault.Damaged }
-{
-    let mut list = before;
-    for place in places {
-        list.push(Posting {
-            sysno,
-            seq: place.seq,
-            pos: place.pos,
-        })?;
-    }
-    list.extend_from_slice(behind)?;
-    Ok(list)
 }
 
 /// How many records have a key after one record's places are changed; `None` where none had it, and this one did, or where a database has

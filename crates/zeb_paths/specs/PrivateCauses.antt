@@ -1,16 +1,32 @@
 -- What only the contracts of private functions speak of; no public clause reaches it.
 -- Why a file isn't opened of which SQLite's kit says no more than that it can't be, and whether a store may stand at a path (this program's own).
-use Rattle.std.specs.Prelude.{◌≡◌, Bool, false, true, Result}
-use Rattle.std.specs.Fs.{IsDir, file_type}
+use Rattle.std.specs.Prelude.{◌≡◌, ◌≢◌, ◌⊎◌, Bool, false, true, Result, Ok, Err}
+use Rattle.std.specs.Fs.{IsDir, IsFile, file_type}
 use Rattle.std.specs.IoError.{error_kind}
 use Rattle.std.specs.Result.{IsErrAnd, IsOkAnd}
 use Rattle.std.specs.declared.fs.attrs.Metadata.{Metadata}
 use Rattle.std.specs.declared.io.Error.{Error}
 use Rattle.std.specs.declared.io.ErrorKind.{ErrorKind}
 use Rattle.std.specs.declared.io.ErrorKind.TheVariants as system
-use Rattle.zeb_paths.specs.Causes.{store_cause_of}
+use Rattle.zeb_paths.specs.Causes.{path_cause_of, store_cause_of}
+use Rattle.zeb_paths.specs.declared.causes.PathCause.{PathCause}
+use Rattle.zeb_paths.specs.declared.causes.PathCause.TheVariants as path
 use Rattle.zeb_paths.specs.declared.causes.StoreCause.{StoreCause}
 use Rattle.zeb_paths.specs.declared.causes.StoreCause.TheVariants as store
+
+-- This is told of a path that isn't read, where this is found there: why it can't be looked at; or why what stands there can't be read; or else
+-- what it is.
+abbrev pub IsUnreadBy : Result Metadata Error → PathCause → Type 0
+IsUnreadBy (Err error) cause = cause ≡ path_cause_of (error_kind error)
+IsUnreadBy (Ok found) cause =
+    ((error : Error) × (cause ≡ path_cause_of (error_kind error)))
+    ⊎ ((IsDir (file_type found) → cause ≡ path.Folder) × (IsFile (file_type found) → cause ≡ path.Content)
+    × (¬ IsDir (file_type found) → ¬ IsFile (file_type found) → cause ≡ path.Neither))
+
+-- the cause that a look gives, or that of the call that fails in it
+abbrev pub read_cause : Result PathCause Error → PathCause
+read_cause (Ok cause) = cause
+read_cause (Err error) = path_cause_of (error_kind error)
 
 -- whether a look at what stands at its path, and beside it, may tell this
 abbrev pub is_looked_up : StoreCause → Bool
@@ -23,6 +39,23 @@ is_looked_up _ = true
 abbrev pub folder_cause_of : ErrorKind → StoreCause
 folder_cause_of system.NotFound = store.NoFolder
 folder_cause_of other = store_cause_of other
+
+-- none can be made in a folder of which this is found, for this cause
+abbrev pub IsUnmade : Result Metadata Error → StoreCause → Type 0
+IsUnmade (Ok found) cause = (IsDir (file_type found) → cause ≡ store.Forbidden) × (¬ IsDir (file_type found) → cause ≡ store.NoFolder)
+IsUnmade (Err error) cause = cause ≡ folder_cause_of (error_kind error)
+
+-- This is told of a store at a path where this is found: no file; nothing, in a folder where none can be made; or why the path can't be looked at.
+abbrev pub IsLookedUp : Result Metadata Error → StoreCause → Type 0
+IsLookedUp (Ok found) cause = ¬ IsFile (file_type found) → cause ≡ store.NoFile
+IsLookedUp (Err error) cause =
+    (error_kind error ≡ system.NotFound → (folder : Result Metadata Error) × IsUnmade folder cause)
+    × (error_kind error ≢ system.NotFound → cause ≡ store_cause_of (error_kind error))
+
+-- what a look tells; where it meets nothing the system has failed a call before
+abbrev pub told_by_look : Result (Unit {0}) StoreCause → StoreCause
+told_by_look (Ok done) = store.Failed
+told_by_look (Err cause) = cause
 
 -- why one that is there isn't opened, where the system says this of its log, which can't be opened: one that isn't there could not be made
 abbrev pub log_cause_of : ErrorKind → StoreCause

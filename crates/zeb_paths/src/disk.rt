@@ -1,6 +1,6 @@
 //! The paths of the file system.
 
-ghost use Rattle.std.specs.Prelude.{◌≡◌, ◌≢◌, ◌↔◌, ⊤, Err, None, Ok, Some, IfErr, IfOk, IsSome, true};
+ghost use Rattle.std.specs.Prelude.{◌≡◌, ◌≢◌, ◌↔◌, ⊤, [], Err, None, Ok, Some, IfErr, IfOk, IsSome, true};
 ghost use Rattle.std.specs.Fs.{IsDir, IsFile, file_type};
 ghost use Rattle.std.specs.IoError.{error_kind};
 ghost use Rattle.std.specs.Io.{ReadsAtMost};
@@ -9,8 +9,9 @@ ghost use Rattle.sqlite.specs.State.{HasCleanDisk};
 ghost use Rattle.sqlite_store.specs.FileStore.{faults, is_shielded, recovers, view};
 ghost use Rattle.sqlite_trees.specs.View.{IsQuiet};
 ghost use Rattle.zeb_paths.specs.Causes.{path_cause_of};
-ghost use Rattle.zeb_paths.specs.Closing.{IsOneFile};
+ghost use Rattle.zeb_paths.specs.Closing.{IsCauseMet, IsLeft};
 ghost use Rattle.zeb_paths.specs.Opened.{IsWellOpened};
+ghost use Rattle.zeb_paths.specs.declared.disk.Progress.TheVariants.{Ended};
 
 use crate::causes::{Closed, PathCause, StoreCause};
 use crate::looks::{may_have_store, why_unopened, why_unread};
@@ -70,7 +71,7 @@ fn kind_of(found: io::Result<Metadata>) -> Result<PathKind, PathCause>
 
 /// Ends a store: its log is copied into its one file, where that doesn't fail.
 fn close_store<D: Medium + Drop>(store: FileStore<D>) -> Closed
-    ensures { (left : _) × IsOneFile result left
+    ensures { (left : _) × IsLeft result left
         × IsQuiet view faults recovers is_shielded store left }
 {
     let mut store = store;
@@ -83,9 +84,7 @@ fn close_store<D: Medium + Drop>(store: FileStore<D>) -> Closed
 
 /// Why a store may have failed that has met this.
 fn cause_of(met: Met) -> Option<StoreCause>
-    ensures damaged { met.caught ≢ 0 → result ≡ Some StoreCause.Damaged }
-    ensures full { met.caught ≡ 0 → met.refused ≢ 0 → result ≡ Some StoreCause.Full }
-    ensures none { met.caught ≡ 0 → met.refused ≡ 0 → result ≡ None }
+    ensures { IsCauseMet met result }
 {
     if met.caught > 0 {
         return Some(StoreCause::Damaged);
@@ -116,7 +115,7 @@ impl<'a> Paths for Disk<'a> {
 
     ghost lets_go = { λ _ _. ⊤ };
 
-    ghost leaves = { λ _ closed left. IsOneFile closed left };
+    ghost leaves = { λ _ closed left. IsLeft closed left };
 
     fn kind(&self, path: &str) -> Result<PathKind, PathCause> {
         kind_of(fs::metadata(self.rt, path))
@@ -199,19 +198,26 @@ impl Drop for FileReader<'_> {
 }
 
 impl FileReader<'_> {
-    /// Reads into the buffer, from the file's beginning at the first call.
+    /// Reads into the buffer, from the file's beginning at the first call. Behind its end the file isn't opened anew: no byte of it is
+    /// given twice.
     fn read_on(&mut self, buffer: &mut [u8]) -> io::Result<usize>
         ensures bound { ReadsAtMost result buffer.new }
         ensures failed { self.new.failed ≡ self.old.failed }
+        ensures end { result ≡ Ok 0 → buffer.new ≢ [] → self.new.progress ≡ Ended }
+        ensures ended { self.old.progress ≡ Ended → (result ≡ Ok 0) × (self.new ≡ self.old) }
     {
         if let Progress::Unopened = self.progress {
             let file = fs::open(self.rt, self.path.as_str())?;
             self.progress = Progress::Open(BufReader::new(self.rt.alloc(), file)?);
         }
-        match &mut self.progress {
-            Progress::Open(reader) => reader.read(buffer),
-            _ => Ok(0),
+        let count = match &mut self.progress {
+            Progress::Open(reader) => reader.read(buffer)?,
+            _ => 0,
+        };
+        if count == 0 && !buffer.is_empty() {
+            self.progress = Progress::Ended;
         }
+        Ok(count)
     }
 }
 
@@ -228,9 +234,6 @@ impl Source for FileReader<'_> {
         }
         match passed_on(self.read_on(buffer)) {
             Ok(count) => {
-                if count == 0 && !buffer.is_empty() {
-                    self.progress = Progress::Ended;
-                }
                 if let Some(tally) = self.tally {
                     tally.pass(&buffer[..count]);
                 }

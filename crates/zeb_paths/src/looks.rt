@@ -8,7 +8,7 @@ ghost use Rattle.std.specs.Fs.{IsDir, IsFile, file_type};
 ghost use Rattle.std.specs.IoError.{error_kind};
 ghost use Rattle.std.specs.declared.io.ErrorKind.TheVariants as system;
 ghost use Rattle.zeb_paths.specs.Causes.{sqlite_cause_of};
-ghost use Rattle.zeb_paths.specs.PrivateCauses.{IsFree, folder_cause_of, is_looked_up, log_cause_of};
+ghost use Rattle.zeb_paths.specs.PrivateCauses.{IsFree, IsLookedUp, IsUnmade, IsUnreadBy, is_looked_up, log_cause_of, read_cause, told_by_look};
 
 use crate::causes::{PathCause, StoreCause};
 use sqlite::{Error, ErrorCode};
@@ -17,7 +17,9 @@ use std::io::{self, Read};
 use std::os::unix::fs::MetadataExt;
 
 /// Why the path isn't read.
-pub fn why_unread(rt: &HostRuntime, path: &str) -> PathCause {
+pub fn why_unread(rt: &HostRuntime, path: &str) -> PathCause
+    ensures { (found : _) × IsUnreadBy found result }
+{
     match read_anew(rt, path) {
         Ok(cause) => cause,
         Err(error) => PathCause::from(error),
@@ -25,7 +27,9 @@ pub fn why_unread(rt: &HostRuntime, path: &str) -> PathCause {
 }
 
 /// Looks at a path, and reads what stands there: what it can be, where nothing fails.
-fn read_anew(rt: &HostRuntime, path: &str) -> io::Result<PathCause> {
+fn read_anew(rt: &HostRuntime, path: &str) -> io::Result<PathCause>
+    ensures { (found : _) × IsUnreadBy found (read_cause result) }
+{
     let found = fs::metadata(rt, path)?;
     if found.is_dir() {
         for entry in fs::read_dir(rt, path)? {
@@ -88,7 +92,8 @@ pub fn may_have_store(rt: &HostRuntime, path: &str) -> bool
 /// Why the store at a path isn't opened, where this is what SQLite's kit says of it.
 pub fn why_unopened(rt: &HostRuntime, path: &str, error: Error) -> StoreCause
     ensures said { error ≢ SqliteFailure CannotOpen → result ≡ sqlite_cause_of error }
-    ensures looked { error ≡ SqliteFailure CannotOpen → is_looked_up result ≡ true }
+    ensures looked { error ≡ SqliteFailure CannotOpen → (found : _) × IsLookedUp found result
+        × (is_looked_up result ≡ true) }
 {
     if error != Error::SqliteFailure(ErrorCode::CannotOpen) {
         return StoreCause::from(error);
@@ -102,6 +107,7 @@ pub fn why_unopened(rt: &HostRuntime, path: &str, error: Error) -> StoreCause
 /// Looks at what a store needs, in the kit's order, and makes nothing.
 fn open_anew(rt: &HostRuntime, path: &str) -> Result<(), StoreCause>
     ensures looked { IfErr result (λ cause. is_looked_up cause ≡ true) }
+    ensures found { (found : _) × IsLookedUp found (told_by_look result) }
 {
     match fs::metadata(rt, path) {
         Ok(found) => use_file(rt, path, found),
@@ -112,9 +118,7 @@ fn open_anew(rt: &HostRuntime, path: &str) -> Result<(), StoreCause>
 
 /// Why no file can be made in a folder of which this is found.
 fn why_unmade(folder: io::Result<Metadata>) -> StoreCause
-    ensures folder { IfOk folder (λ found. IsDir (file_type found) → result ≡ StoreCause.Forbidden) }
-    ensures other { IfOk folder (λ found. (¬ IsDir (file_type found)) → result ≡ StoreCause.NoFolder) }
-    ensures fault { IfErr folder (λ error. result ≡ folder_cause_of (error_kind error)) }
+    ensures unmade { IsUnmade folder result }
     ensures looked { is_looked_up result ≡ true }
 {
     match folder {

@@ -1,5 +1,10 @@
 -- Records that don't say that they are in Unicode: what is left of a file.
-use Rattle.zeb_program.proofs.Cited.{◌≡◌, ◌∙◌, ℕ, ◌<◌, true, false, List, [], ◌∷◌, ◌++◌, Vec, length, refl, ap, subst, sym, arith, Option, Some, Result, Ok, Err, IfOk, is_some, Global, length-append, AnalysedLines, Gives, Next, at_end, a_slice, a_fault, next_of, split_of, ReadsWhole, IsServedFor, MayWarn, warned_in, warning_of, Fault, Place}
+use Rattle.zeb_program.proofs.Cited.{◌≡◌, ◌∙◌, ℕ, ◌<◌, true, false, List, [], ◌∷◌, ◌++◌, Vec, length, refl, ap, subst, sym, arith, Option, Some, Result, Ok, Err, IfOk, is_some, Global, length-append, AnalysedLines, Gives, Next, at_end, a_slice, a_fault, next_of, split_of, ReadsWhole, IsServedFor, MayWarn, WarnsOf, unmarked_by, unmarked_in, warned_in, warning_of, Fault, Place, string_bytes}
+use Rattle.std.specs.Option.{option_map}
+use Rattle.std.specs.Result.{IsOkAnd}
+use Rattle.zeb_program.specs.TaskAnswers.{AreTold, paths_of}
+use Rattle.zeb_program.specs.declared.failures.Failure.{Failure}
+use Rattle.zeb_program.specs.declared.performing.Told.{Told}
 use Rattle.zeb_marc.specs.declared.faults.MarcFault.{MarcFault}
 use Rattle.zeb_marc.proofs.SplitLaws.{NextIs, SoundSlice-from_checks, next_view, split_of-next}
 use Rattle.zeb_program.specs.declared.tasks.Served.{Served}
@@ -38,9 +43,23 @@ warned task (first ∷ others) records reads = (reads, (length (first ∷ others
 
 -- the line is that of the records which were read
 pub shown_warned : (served : Result Served Fault) (lines : AnalysedLines) (unmarked : Vec Place Global) (told : Option (List ℕ)) (places : List Place) (records : ℕ) → served ≡ Ok (Shown lines unmarked)
-    → places ≡ unmarked.items → records ≡ lines.records → told ≡ warning_of places records → IfOk served (λ it. told ≡ warned_in it)
+    → places ≡ unmarked.items → records ≡ lines.records → told ≡ warning_of places records → IsOkAnd served (λ it. told ≡ warned_in it)
 shown_warned served lines unmarked told places records is same count said =
-    subst (λ it. IfOk it (λ one. told ≡ warned_in one)) (sym is) (said ∙ ap (λ these. warning_of these records) same ∙ ap (warning_of unmarked.items) count)
+    subst (λ it. IsOkAnd it (λ one. told ≡ warned_in one)) (sym is) (said ∙ ap (λ these. warning_of these records) same ∙ ap (warning_of unmarked.items) count)
+
+-- what is warned of with an answer is what stands in it
+warned_of : (one : Served) (places : List Place) (warning : Option (List ℕ)) → warning ≡ warned_in one → unmarked_in one ≡ places → (records : ℕ) × (warning ≡ warning_of places records)
+warned_of (Replied reply) places warning is are = (0, is ∙ ap (λ these. warning_of these 0) are)
+warned_of (Shown lines unmarked) places warning is are = (lines.records, is ∙ ap (λ these. warning_of these lines.records) are)
+
+pub warns_of : (tells : List ℕ → Option (List ℕ)) (task : Task) (served : Result Served Fault) (result : Result Told Failure) → IfOk result (λ told. MayWarn task (option_map string_bytes told.warning))
+    → IfOk result (λ told. IsOkAnd served (λ one. option_map string_bytes told.warning ≡ warned_in one))
+    → ((files : List (List ℕ)) → AreTold tells (paths_of task) files → IfOk served (λ one. unmarked_in one ≡ unmarked_by task files))
+    → IfOk result (λ told. WarnsOf tells task (option_map string_bytes told.warning))
+warns_of tells task served (Err failure) may is unmarked = tt
+warns_of tells task (Err fault) (Ok told) may is unmarked = absurd is
+warns_of tells task (Ok one) (Ok told) may is unmarked =
+    record { line = may; places = λ files known. warned_of one (unmarked_by task files) (option_map string_bytes told.warning) is (unmarked files known) }
 
 -- an analysis may be answered by lines
 pub served_whole : (task : Task) (r : Result Served Fault) → ReadsWhole task → IfOk r (IsServedFor task)

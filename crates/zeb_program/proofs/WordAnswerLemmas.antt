@@ -1,5 +1,6 @@
 -- What is written for words, at each end.
-use Rattle.zeb_program.proofs.Cited.{◌≡◌, ◌⊎◌, ℕ, Bool, false, List, inl, inr, refl, subst, sym, ◌≢◌, Option, Some, Result, Ok, Err, IfOk, OnErr, String, string_bytes, AllocError, Global, Appends, IsAtEnd, Keeps, Appends-kept, Keeps-refl, Keeps-trans, MayWarn, Status, Failed}
+use Rattle.zeb_program.proofs.Cited.{◌≡◌, ◌⊎◌, ℕ, Bool, false, List, inl, inr, refl, subst, sym, ◌≢◌, Option, None, Some, Result, Ok, Err, IfOk, OnErr, String, string_bytes, AllocError, Global, Appends, IsAtEnd, Keeps, Appends-kept, Keeps-refl, Keeps-trans, Status, Failed, warning_bytes}
+use Rattle.std.proofs.KnownBytes.{Appends-nil}
 use Rattle.std.specs.Option.{option_map}
 use Rattle.zeb_words.specs.declared.words.Usage.{Usage}
 use Rattle.zeb_words.specs.declared.words.Usage.TheVariants as usage
@@ -9,7 +10,7 @@ use Rattle.zeb_words.specs.declared.words.Act.TheVariants.{Batch, Shell}
 use Rattle.zeb_words.specs.declared.words.Words.{Words}
 use Rattle.zeb_program.specs.Errands.{IsTaskOf}
 use Rattle.zeb_program.specs.Registers.{Places}
-use Rattle.zeb_program.specs.WordAnswers.{AnswersWords, misused, batched, served, named, EndsWords, NamesTask, StopsWords, stopped_task, stopped_batch, stopped_shell, TellsApart, TellsUsage, WarnsAtMost}
+use Rattle.zeb_program.specs.WordAnswers.{AnswersWords, misused, batched, served, named, EndsWords, NamesTask, StopsWords, stopped_task, stopped_batch, stopped_shell, TellsApart, TellsUsage}
 use Rattle.zeb_program.specs.WordRuns.{RunsBatch, RunsShell, StopsBatch, StopsShell}
 use Rattle.zeb_program.proofs.StopLemmas.{StopsBatch-kept, StopsShell-kept}
 use Rattle.zeb_program.proofs.WordRunLemmas.{RunsBatch-kept, RunsShell-kept, TellsApart-kept}
@@ -71,11 +72,14 @@ early_words at words given left unread old new fault_old fault_new failed fault_
 early_words at words given left unread old new fault_old fault_new failed fault_failed (Err e) h = λ sound quiet. inr (h sound quiet, refl)
 
 -- a warning's line
-pub warned_once : (task : Task) (warning : Option (String Global)) (line : String Global) (bytes : List ℕ) (fault_old fault_new : Option (List ℕ)) → warning ≡ Some line
-    → MayWarn task (option_map string_bytes warning) → bytes ≡ string_bytes line → Appends fault_old fault_new bytes → WarnsAtMost task fault_old fault_new
-warned_once task warning line bytes fault_old fault_new is may same wrote =
-    let one = subst (λ w. MayWarn task (option_map string_bytes w)) is may in
-    inr (one.0, (string_bytes line, one.1, subst (Appends fault_old fault_new) same wrote))
+pub warned_once : (warning : Option (String Global)) (line : String Global) (bytes : List ℕ) (fault_old fault_new : Option (List ℕ)) → warning ≡ Some line → bytes ≡ string_bytes line
+    → Appends fault_old fault_new bytes → Appends fault_old fault_new (warning_bytes (option_map string_bytes warning))
+warned_once warning line bytes fault_old fault_new is same wrote =
+    subst (λ w. Appends fault_old fault_new (warning_bytes (option_map string_bytes w))) (sym is) (subst (Appends fault_old fault_new) same wrote)
+
+-- and where there is none
+pub warned_never : (warning : Option (String Global)) (fault_old : Option (List ℕ)) → warning ≡ None → Appends fault_old fault_old (warning_bytes (option_map string_bytes warning))
+warned_never warning fault_old is = subst (λ w. Appends fault_old fault_old (warning_bytes (option_map string_bytes w))) (sym is) (Appends-nil fault_old)
 
 -- a sink that is the same keeps what its writer holds
 same_kept : {S : Type 0} (contents : S → Option (List ℕ)) (old new : S) → new ≡ old → Keeps (contents old) (contents new)

@@ -230,7 +230,7 @@ served_nothing tells at profile task c held last own answer under keeps serves n
 
 -- of one that is answered
 pub told_done : {S : Type 0} (at : Places S) (config : String Global) (task : Task) (old new fault_old fault_new : Option (List ℕ)) (status : Status) (told : Told) (Why : Option StoreCause → Failure → Type 0)
-    → GivesClosed (Ok told) (Performs at config task) Why → status ≡ closing_status told.closed → Appends old new told.text.items → WarnsClosed task told.closed fault_old fault_new
+    → GivesClosed (Ok told) (Performs at config task) Why → status ≡ closing_status told.closed → Appends old new told.text.items → WarnsClosed at.tells task told.closed fault_old fault_new
     → TellsApart at config task old new fault_old fault_new status
 told_done at config task old new fault_old fault_new status told Why gives closing wrote warns =
     inl (told.closed, closing, (gives.0, gives.2, subst (Appends old new) gives.1 wrote), warns)

@@ -6,11 +6,11 @@ use Rattle.zeb_change.specs.declared.refusals.Refusal.{Refusal}
 use Rattle.zeb_engine.specs.Answers.{answer_of}
 use Rattle.zeb_engine.specs.Steps.{Run}
 use Rattle.zeb_engine.specs.declared.commands.Command.{Command}
-use Rattle.zeb_engine.specs.declared.commands.Command.TheVariants.{Change}
 use Rattle.zeb_engine.specs.declared.replies.Reply.{Reply}
 use Rattle.zeb_image.specs.Holdings.{Holdings}
 use Rattle.zeb_image.specs.NameOf.{name_bytes}
 use Rattle.zeb_program.specs.Answers.{AnswersBatch, answer_status, answer_text, bad_line, mark_line}
+use Rattle.zeb_program.specs.Batches.{IsChangeOf}
 use Rattle.zeb_program.specs.Lines.{first_line, after_first_line}
 use Rattle.zeb_program.specs.PathChanges.{AreFilesTold}
 use Rattle.zeb_program.specs.Says.{Says}
@@ -22,9 +22,7 @@ use Rattle.zeb_program.specs.declared.path_changes.PathChange.{PathChange}
 
 -- the command makes that change by one file of these bytes
 abbrev pub MakesChange : PathChange → List ℕ → Command → Type 0
-MakesChange change file (Change kind database files) =
-    (kind ≡ change.kind) × (name_bytes database ≡ name_bytes change.database) × (map (λ given. given.items) files.items ≡ file ∷ [])
-MakesChange change file _ = ⊥
+MakesChange change file = IsChangeOf (λ kind database files. (kind ≡ change.kind) × (name_bytes database ≡ name_bytes change.database) × (files ≡ file ∷ []))
 
 -- the line names a change by a path, and these are the bytes of the file there
 abbrev pub NamesFile : (List ℕ → Option (List ℕ)) → List ℕ → PathChange → List ℕ → Type 0

@@ -85,6 +85,25 @@ Names text (Find database query first count) =
 Names text (Scan database query number position) = (first_word text ≡ codes "scan") × NamesScan (after_first_word text) database (string_bytes query) number position
 Names text (Analyse files) = ⊥
 
+-- P is so of what a change names, or Q of what a find does, or R of what a scan does; every other command is none of these
+abbrev pub OfParts : (P : Kind → DbName → List (List ℕ) → Type 0) → (Q R : DbName → List ℕ → ℕ → ℕ → Type 0) → Command → Type 0
+OfParts P Q R Init = ⊥
+OfParts P Q R Check = ⊥
+OfParts P Q R Reindex = ⊥
+OfParts P Q R Upgrade = ⊥
+OfParts P Q R (Create name) = ⊥
+OfParts P Q R (Drop name) = ⊥
+OfParts P Q R (Stat name) = ⊥
+OfParts P Q R (Dump name) = ⊥
+OfParts P Q R (Change kind database files) = P kind database (map (λ file. file.items) files.items)
+OfParts P Q R (Find database query first count) = Q database (string_bytes query) first count
+OfParts P Q R (Scan database query number position) = R database (string_bytes query) number position
+OfParts P Q R (Analyse files) = ⊥
+
+-- the command is a change, and P is so of what it names: its kind, its database and its files
+abbrev pub IsChangeOf : (Kind → DbName → List (List ℕ) → Type 0) → Command → Type 0
+IsChangeOf P = OfParts P (λ database query first count. ⊥) (λ database query number position. ⊥)
+
 -- a change is named, whatever its kind
 pub record HasChange (text : List ℕ) : Type 0 where
   pub name : IsDatabaseName (first_word text)

@@ -5,7 +5,7 @@ use Rattle.zeb_profile.specs.declared.directives.Directive.{Directive}
 use Rattle.zeb_engine.specs.Analysed.{HasLines}
 use Rattle.zeb_program.specs.declared.analyses.AnalysedFiles.{AnalysedFiles}
 use Rattle.zeb_program.specs.Inputs.{AreShort}
-use Rattle.zeb_program.specs.PrivateWarnings.{unmarked_of}
+use Rattle.zeb_program.specs.Warnings.{unmarked_of}
 use Rattle.zeb_program.specs.TaskAnswers.{AreTold}
 
 -- files at and below these paths were read, and this comes of their records

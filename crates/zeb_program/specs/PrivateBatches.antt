@@ -1,22 +1,21 @@
 -- What only the contracts of private functions speak of; no public clause reaches it.
 -- Changes, finds, pages and scans that the lines of a batch name (this program's own).
-use Rattle.std.specs.Prelude.{◌≡◌, ◌≢◌, ℕ, List, [], Ok, codes, drop, map, string_bytes, take}
+use Rattle.std.specs.Prelude.{◌≡◌, ◌≢◌, ℕ, List, [], Ok, codes, drop, string_bytes, take}
 use Rattle.hex.specs.Hex.{decode_of}
 use Rattle.zeb_image.specs.Names.{IsDatabaseName}
+use Rattle.zeb_image.specs.declared.names.DbName.{DbName}
 use Rattle.zeb_engine.specs.declared.commands.Command.{Command}
-use Rattle.zeb_engine.specs.declared.commands.Command.TheVariants.{Change, Find, Scan}
 use Rattle.zeb_change.specs.declared.settings.Kind.{Kind}
 use Rattle.zeb_program.specs.declared.lines.Line.{Line}
-use Rattle.zeb_program.specs.declared.lines.Line.TheVariants.{Command as Order, Path, Bad}
+use Rattle.zeb_program.specs.declared.lines.Line.TheVariants.{Remark, Command as Order, Path, Mark, Bad}
 use Rattle.zeb_program.specs.declared.path_changes.PathChange.{PathChange}
-use Rattle.zeb_program.specs.Batches.{HasChange, IsName, NamesChange, NamesFind, NamesPage, NamesScan}
+use Rattle.zeb_program.specs.Batches.{HasChange, IsChangeOf, IsName, NamesChange, NamesFind, NamesPage, NamesScan, OfParts}
 use Rattle.zeb_program.specs.PathChanges.{IsDigits}
 use Rattle.zeb_program.specs.Words.{first_word, after_first_word}
 
 -- the command is a change of that kind, and the text names its database and its file
 abbrev pub IsChange : Kind → List ℕ → Command → Type 0
-IsChange kind text (Change its_kind database files) = (its_kind ≡ kind) × NamesChange text database (map (λ file. file.items) files.items)
-IsChange kind text _ = ⊥
+IsChange kind text = IsChangeOf (λ its_kind database files. (its_kind ≡ kind) × NamesChange text database files)
 
 -- a file is given as `hex:` and the digits of these bytes
 pub record AreBytesOf (file bytes : List ℕ) : Type 0 where
@@ -42,19 +41,21 @@ abbrev pub SaysChange : Kind → List ℕ → Line → Type 0
 SaysChange kind text (Order command) = IsChange kind text command
 SaysChange kind text (Path change) = IsPathChange kind text change
 SaysChange kind text Bad = ¬ HasChange text × ¬ HasFile text
-SaysChange kind text _ = ⊥
+SaysChange kind text Remark = ⊥
+SaysChange kind text (Mark marked) = ⊥
+
+-- the command is a find, and P is so of what it names: its database, its query, and which of its hits it shows
+abbrev pub IsFindOf : (DbName → List ℕ → ℕ → ℕ → Type 0) → Command → Type 0
+IsFindOf P = OfParts (λ kind database files. ⊥) P (λ database query number position. ⊥)
 
 -- the command is a find of the first 20 records, and the text names its database and its query
 abbrev pub IsFind : List ℕ → Command → Type 0
-IsFind text (Find database query first count) = NamesFind text database (string_bytes query) × (first ≡ 1) × (count ≡ 20)
-IsFind text _ = ⊥
+IsFind text = IsFindOf (λ database query first count. NamesFind text database query × (first ≡ 1) × (count ≡ 20))
 
 -- the command is a find, and the text names its database, which of its hits it shows, and its query
 abbrev pub IsPage : List ℕ → Command → Type 0
-IsPage text (Find database query first count) = NamesPage text database (string_bytes query) first count
-IsPage text _ = ⊥
+IsPage text = IsFindOf (NamesPage text)
 
 -- the command is a scan, and the text names its database, its range and its query
 abbrev pub IsScan : List ℕ → Command → Type 0
-IsScan text (Scan database query number position) = NamesScan text database (string_bytes query) number position
-IsScan text _ = ⊥
+IsScan text = OfParts (λ kind database files. ⊥) (λ database query first count. ⊥) (NamesScan text)

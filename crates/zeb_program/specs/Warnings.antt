@@ -1,8 +1,40 @@
--- The line by which an analysis warns of records that don't say that they are in Unicode (MARC 21, leader, position 9: `a`
--- stands for UCS/Unicode). That all are read as UTF-8, and the line, are this program's own.
-use Rattle.std.specs.Prelude.{◌≡◌, ℕ, List, [], ◌∷◌, ◌++◌, codes}
+-- What an analysis warns of: records that don't say that they are in Unicode (MARC 21, leader, position 9: `a` stands for UCS/Unicode).
+-- That all are read as UTF-8, and the line, are this program's own.
+use Rattle.std.specs.Prelude.{◌≡◌, ℕ, ◌+◌, ◌==◌, Bool, List, [], ◌∷◌, ◌++◌, codes, length, slice_get, unwrap_or, Option, Some, None, IfSome, if◌then◌else◌}
 use Rattle.std.specs.Fmt.{decimal}
+use Rattle.zeb_marc.specs.Splits.{split_of}
+use Rattle.zeb_program.specs.TaskAnswers.{AreTold, ReadsWhole, paths_of}
+use Rattle.zeb_program.specs.declared.tasks.Task.{Task}
+use Rattle.zeb_program.specs.declared.tasks.Task.TheVariants.{Ask, Change, Analyse}
 use Rattle.zeb_program.specs.declared.warnings.Place.{Place}
+
+-- ---- the records
+
+-- position 9 of a record's leader has `a`
+abbrev pub says_unicode : List ℕ → Bool
+says_unicode bytes = unwrap_or (slice_get bytes 9) 0 == 97
+
+abbrev pub place : ℕ → ℕ → Place
+place file nth = record { file = file; nth = nth }
+
+-- the places of those of a file's records that don't say so, where the first of the records has this place
+abbrev pub unmarked_from : ℕ → ℕ → List (List ℕ) → List Place
+unmarked_from file nth [] = []
+unmarked_from file nth (bytes ∷ others) =
+    if says_unicode bytes then unmarked_from file (nth + 1) others else place file nth ∷ unmarked_from file (nth + 1) others
+
+-- the same of the records of files with these texts, of which the first has this number
+abbrev pub unmarked_of : ℕ → List (List ℕ) → List Place
+unmarked_of file [] = []
+unmarked_of file (text ∷ texts) = unmarked_from file 1 (split_of text).slices ++ unmarked_of (file + 1) texts
+
+-- those of which a task warns that reads files of these bytes: only an analysis does
+abbrev pub unmarked_by : Task → List (List ℕ) → List Place
+unmarked_by (Ask command) files = []
+unmarked_by (Change kind database paths) files = []
+unmarked_by (Analyse paths) files = unmarked_of 1 files
+
+-- ---- the line
 
 -- so many of all records are read as UTF-8 and don't say that they are in Unicode, the first of them at this place
 abbrev pub warning_line : ℕ → ℕ → Place → List ℕ
@@ -13,3 +45,24 @@ warning_line unmarked records first =
 -- such a line
 abbrev pub IsWarning : List ℕ → Type 0
 IsWarning line = (unmarked : ℕ) × (records : ℕ) × (first : Place) × (line ≡ warning_line unmarked records first)
+
+-- the line for these places among so many records; none where all say that they are in Unicode
+abbrev pub warning_of : List Place → ℕ → Option (List ℕ)
+warning_of [] records = None
+warning_of (first ∷ others) records = Some (warning_line (length (first ∷ others)) records first)
+
+-- ---- a task
+
+-- where a task warns, it is an analysis, and this is the line
+abbrev pub MayWarn : Task → Option (List ℕ) → Type 0
+MayWarn task warning = IfSome warning (λ line. ReadsWhole task × IsWarning line)
+
+-- What a task warns of: where the bytes of a file at each of its paths are told, just of those of their records that don't say so.
+pub record WarnsOf (told : List ℕ → Option (List ℕ)) (task : Task) (warning : Option (List ℕ)) : Type 0 where
+  pub line : MayWarn task warning
+  pub places : (files : List (List ℕ)) → AreTold told (paths_of task) files → (records : ℕ) × (warning ≡ warning_of (unmarked_by task files) records)
+
+-- what is written of a warning: nothing, where there is none
+abbrev pub warning_bytes : Option (List ℕ) → List ℕ
+warning_bytes None = []
+warning_bytes (Some line) = line

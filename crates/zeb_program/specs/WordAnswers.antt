@@ -16,10 +16,9 @@ use Rattle.zeb_program.specs.Closings.{TellsClosed}
 use Rattle.zeb_program.specs.Registers.{Places}
 use Rattle.zeb_program.specs.FixedLines.{usage_line}
 use Rattle.zeb_program.specs.Statuses.{IsFaultStatus, closing_status}
-use Rattle.zeb_program.specs.TaskAnswers.{ReadsWhole}
 use Rattle.zeb_program.specs.declared.statuses.Status.{Status}
 use Rattle.zeb_program.specs.declared.statuses.Status.TheVariants.{Answered, Misused, Failed}
-use Rattle.zeb_program.specs.Warnings.{IsWarning}
+use Rattle.zeb_program.specs.Warnings.{WarnsOf, warning_bytes}
 use Rattle.zeb_program.specs.WordRuns.{RunsBatch, RunsShell, StopsBatch, StopsShell, TellsWhy, WritesReply}
 
 -- words that name no command
@@ -53,20 +52,20 @@ TellsUsage (Help text) old new fault_old fault_new status =
     (status ≡ Answered) × Appends old new (string_bytes text) × Keeps fault_old fault_new
 TellsUsage Memory old new fault_old fault_new status = (status ≡ Failed) × Keeps old new × Keeps fault_old fault_new
 
--- nothing goes to the fault output, but an analysis may add one line there, which warns of records
-abbrev pub WarnsAtMost : Task → Option (List ℕ) → Option (List ℕ) → Type 0
-WarnsAtMost task fault_old fault_new = Keeps fault_old fault_new ⊎ (ReadsWhole task × Writes fault_old fault_new IsWarning)
+-- what the task warns of goes to the fault output, and nothing else
+abbrev pub Warns : (List ℕ → Option (List ℕ)) → Task → Option (List ℕ) → Option (List ℕ) → Type 0
+Warns told task fault_old fault_new = (warning : Option (List ℕ)) × WarnsOf told task warning × Appends fault_old fault_new (warning_bytes warning)
 
 -- the same, and below it how the register was closed
-abbrev pub WarnsClosed : Task → Closed → Option (List ℕ) → Option (List ℕ) → Type 0
-WarnsClosed task closed fault_old fault_new = (between : Option (List ℕ)) × WarnsAtMost task fault_old between × TellsClosed between fault_new closed
+abbrev pub WarnsClosed : (List ℕ → Option (List ℕ)) → Task → Closed → Option (List ℕ) → Option (List ℕ) → Type 0
+WarnsClosed told task closed fault_old fault_new = (between : Option (List ℕ)) × Warns told task fault_old between × TellsClosed between fault_new closed
 
 -- the answer to a task, under the profile in this file, goes to the output, and only a warning to the fault output, and, with status 3, that the
 -- register's file needs its log; why there is no answer goes to the fault output alone, as the line of a fault, with the status of that fault, and below
 -- it its cause
 abbrev pub TellsApart : {S : Type 0} → Places S → String Global → Task → Option (List ℕ) → Option (List ℕ) → Option (List ℕ) → Option (List ℕ) → Status → Type 0
 TellsApart at config task old new fault_old fault_new status =
-    ((closed : Closed) × (status ≡ closing_status closed) × WritesReply at config task closed old new × WarnsClosed task closed fault_old fault_new)
+    ((closed : Closed) × (status ≡ closing_status closed) × WritesReply at config task closed old new × WarnsClosed at.tells task closed fault_old fault_new)
     ⊎ (IsFaultStatus status × Keeps old new × Writes fault_old fault_new (TellsWhy at config task status))
 
 -- What is written for words, and the status: of an input that has this before, where it tells that, and this behind, and of which a read failed or didn't.

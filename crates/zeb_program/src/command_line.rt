@@ -14,9 +14,9 @@ ghost use Rattle.std.specs.Io.KnownBytes.{Appends, IsAtEnd};
 ghost use Rattle.zeb_program.specs.PrivateFaults.{IsUnread};
 ghost use Rattle.zeb_program.specs.Inputs.{TakesAtMost};
 ghost use Rattle.zeb_program.specs.FixedLines.{usage_line};
-ghost use Rattle.zeb_program.specs.WordAnswers.{AnswersWords, NamesLines, NamesNothing, NamesShell, StopsWords, TellsApart, TellsUsage, WarnsAtMost, WarnsClosed};
-ghost use Rattle.zeb_program.specs.PrivateWarnings.{MayWarn};
-ghost use Rattle.zeb_program.specs.declared.tasks.Task.{Task as Asked};
+ghost use Rattle.zeb_program.specs.WordAnswers.{AnswersWords, NamesLines, NamesNothing, NamesShell, StopsWords, TellsApart, TellsUsage};
+ghost use Rattle.zeb_program.specs.Warnings.{warning_bytes};
+ghost use Rattle.zeb_program.specs.Closings.{TellsClosed};
 ghost use Rattle.std.specs.Option.{option_map};
 
 use crate::batch::{run_lines, run_on_nothing};
@@ -147,10 +147,11 @@ fn tell_answer<W: Write, V: Write>(
 ) -> Status
     ensures text { output.new.failed ≡ false →
         Appends (W.contents output.old.writer) (W.contents output.new.writer) told.now.text.items }
-    ensures told { fault_output.new.failed ≡ false → (task : Asked)
-        → MayWarn task (option_map string_bytes told.now.warning)
-        → WarnsClosed task told.now.closed (V.contents fault_output.old.writer)
-        (V.contents fault_output.new.writer) }
+    // A warning, and below it how the register was closed.
+    ensures told { fault_output.new.failed ≡ false → (between : _)
+        × Appends (V.contents fault_output.old.writer) between
+        (warning_bytes (option_map string_bytes told.now.warning))
+        × TellsClosed between (V.contents fault_output.new.writer) told.now.closed }
     ensures closing { result ≡ closing_status told.now.closed }
 {
     output.write(told.text.as_slice());
@@ -161,9 +162,8 @@ fn tell_answer<W: Write, V: Write>(
 /// Writes a warning, where there is one.
 fn warn<V: Write>(warning: &Option<String>, fault_output: &mut Sink<V>)
     ensures sound { fault_output.new.failed ≡ false → fault_output.old.failed ≡ false }
-    ensures told { fault_output.new.failed ≡ false → (task : Asked)
-        → MayWarn task (option_map string_bytes warning.now) → WarnsAtMost task
-        (V.contents fault_output.old.writer) (V.contents fault_output.new.writer) }
+    ensures told { fault_output.new.failed ≡ false → Appends (V.contents fault_output.old.writer)
+        (V.contents fault_output.new.writer) (warning_bytes (option_map string_bytes warning.now)) }
 {
     match warning {
         Some(line) => fault_output.write(line.as_bytes()),

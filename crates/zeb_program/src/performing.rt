@@ -18,6 +18,8 @@ ghost use Rattle.zeb_program.specs.Explanations.{ExplainsRefusal, ExplainsUnread
 ghost use Rattle.zeb_program.specs.PrivateFaults.{IsOpeningFault};
 ghost use Rattle.zeb_program.specs.ScriptAnswers.{AreScriptConditions};
 ghost use Rattle.zeb_program.specs.PrivateWarnings as spec;
+ghost use Rattle.zeb_program.specs.Warnings.{MayWarn, WarnsOf};
+ghost use Rattle.std.specs.Result.{IsOkAnd};
 ghost use Rattle.zeb_program.specs.declared.failures.Cause.TheVariants.{File as FileOf};
 ghost use Rattle.zeb_program.specs.declared.faults.Fault.{Fault};
 ghost use Rattle.zeb_program.specs.declared.faults.Fault.TheVariants.{Refused};
@@ -55,8 +57,8 @@ pub fn perform<P: Paths>(
     task: &Task,
     paths: &mut P,
 ) -> Result<Told, Failure>
-    ensures warns { IfOk result
-        (λ told. spec.MayWarn task.now (option_map string_bytes told.warning)) }
+    ensures warns { IfOk result (λ told. WarnsOf (P.tells paths.old) task.now
+        (option_map string_bytes told.warning)) }
     ensures performs { GivesClosed result (Performs (places P.Store.Store P.tells P.stands P.lists
         P.explains P.opens P.refuses P.lacks P.has P.lets_go P.leaves paths.old paths.new) config
         task.now) (ExplainsFailure
@@ -87,8 +89,8 @@ fn perform_in_register<P: Paths>(
     paths: &mut P,
 ) -> Result<Told, Failure>
     requires { AtStore profile (P.has paths.old) ⊎ (task.now ≡ Task.Ask Command.Init) }
-    ensures warns { IfOk result
-        (λ told. spec.MayWarn task.now (option_map string_bytes told.warning)) }
+    ensures warns { IfOk result (λ told. WarnsOf (P.tells paths.old) task.now
+        (option_map string_bytes told.warning)) }
     ensures serves { GivesClosed result (ServesUnder (places P.Store.Store P.tells P.stands P.lists
         P.explains P.opens P.refuses P.lacks P.has P.lets_go P.leaves paths.old paths.new) profile
         task.now) (ExplainsFailure
@@ -108,8 +110,8 @@ fn perform_on_nothing<P: Paths>(
     task: &Task,
     paths: &P,
 ) -> Result<Told, Failure>
-    ensures warns { IfOk result
-        (λ told. spec.MayWarn task.now (option_map string_bytes told.warning)) }
+    ensures warns { IfOk result (λ told. WarnsOf (P.tells paths.now) task.now
+        (option_map string_bytes told.warning)) }
     ensures serves { GivesFor result (ServesOnNothing (P.tells paths.now)
         (telling (P.tells paths.now) (P.stands paths.now) (P.lists paths.now)) profile task.now) }
     ensures explains { IfErr result (ExplainsFailure
@@ -131,10 +133,10 @@ fn told_of<P: Paths>(
     closed: Closed,
 ) -> Result<Told, Failure>
     requires shown { IfOk served (spec.IsServedFor task.now) }
-    ensures warned { IfOk result (λ told. IfOk served
+    ensures warned { IfOk result (λ told. IsOkAnd served
         (λ it. option_map string_bytes told.warning ≡ spec.warned_in it)) }
     ensures warns { IfOk result
-        (λ told. spec.MayWarn task.now (option_map string_bytes told.warning)) }
+        (λ told. MayWarn task.now (option_map string_bytes told.warning)) }
     ensures gives { (own : Result Reply Fault) → StandsFor served own
         → GivesFor result (λ answer. IsOwnOr answer own) }
     ensures closed { IfOk result (λ told. told.closed ≡ closed) }

@@ -16,6 +16,7 @@ ghost use Rattle.zeb_program.specs.PrivateServing.{CarriesOut, StandsFor};
 ghost use Rattle.zeb_program.specs.Serving.{AnswersFrom};
 ghost use Rattle.zeb_program.specs.TaskAnswers.{AnswersCommand, AreTold, ReadsWhole, paths_of};
 ghost use Rattle.zeb_program.specs.PrivateWarnings as spec;
+ghost use Rattle.zeb_program.specs.Warnings.{unmarked_by, unmarked_of};
 ghost use Rattle.zeb_program.specs.declared.faults.Fault.{Fault};
 ghost use Rattle.zeb_program.specs.declared.tasks.Task.{Task};
 
@@ -173,7 +174,7 @@ pub fn carry_out<S: Alter, L: Layout, P: Paths>(
         × IfErr result (λ fault. IsUnread fault → session.new ≡ session.old) }
     // Where the bytes of a file at each path are told; and of another task than an analysis nothing is to be warned of.
     ensures unmarked { (files : List (List ℕ)) → AreTold (P.tells paths.now) (paths_of task.now)
-        files → IfOk result (λ served. spec.unmarked_in served ≡ spec.unmarked_by task.now files) }
+        files → IfOk result (λ served. spec.unmarked_in served ≡ unmarked_by task.now files) }
     ensures shown { IfOk result (spec.IsServedFor task.now) }
 {
     match task {
@@ -273,7 +274,7 @@ fn analyse_paths<S: Alter, L: Layout, P: Paths>(
     // Where the bytes of a file at each path are told.
     ensures unmarked { (files : List (List ℕ)) → AreTold (P.tells paths.now)
         (map string_bytes named.now) files
-        → IfOk result (λ served. spec.unmarked_in served ≡ spec.unmarked_of 1 files) }
+        → IfOk result (λ served. spec.unmarked_in served ≡ unmarked_of 1 files) }
 {
     let AnalysedFiles { lines, unmarked } = analyse_files(alloc, session, paths, named)?;
     match lines {

@@ -3,8 +3,7 @@
 ghost use Rattle.std.specs.Prelude.{◌≡◌, ◌<◌, ◌∷◌, ◌++◌, [], false, true, length, string_bytes, IfOk, OnOk};
 ghost use Rattle.std.specs.Option.{option_map};
 ghost use Rattle.zeb_marc.specs.Splits.{split_of};
-ghost use Rattle.zeb_program.specs.PrivateWarnings as spec;
-ghost use Rattle.zeb_program.specs.Warnings as lines;
+ghost use Rattle.zeb_program.specs.Warnings as spec;
 
 use std::alloc::{AllocError, Global};
 use zeb_marc::{RecordBuf, Slice, next_record};
@@ -66,7 +65,7 @@ fn warning_line(
     records: u64,
     first: Place,
 ) -> Result<String, AllocError>
-    ensures { IfOk result (λ line. string_bytes line ≡ lines.warning_line unmarked records first) }
+    ensures { IfOk result (λ line. string_bytes line ≡ spec.warning_line unmarked records first) }
 {
     let Place { file, nth } = first;
     format!(in alloc;

@@ -51,6 +51,16 @@ module _ (format : Format) (trees : Trees) (db : ℤ) (index : ℕ) (register : 
     | inr none ↦ (0, (lists.others term asked none, λ some. absurd (omega (arith, some))), λ some. absurd (omega (arith, some)))
   ]
 
+  -- one that some record has is listed with its count
+  pub shown_listed : (P : List ℕ → Type 0) (terms : List TermCount) → Lists P terms → (t : TermCount) → P t.term → 1 ≤ t.records → counts t.term t.records → Has terms t
+  shown_listed P terms lists t asked some own =
+      let it = asked_shown P terms lists t.term asked in
+      let same : it.0 ≡ t.records = one_number format trees db (key_in index register t.term) it.0 t.records it.1.0 own in
+      let u = it.2 (omega (arith, same, some)) in
+      let records : u.0.records ≡ t.records = one_number format trees db (key_in index register t.term) u.0.records t.records (subst (λ v. counts v u.0.records) u.2 (lists.each u.0 u.1).2.0) own in
+      let is : u.0 ≡ t = (λ i. record { term = u.2 i; records = records i }) in
+      subst (Has terms) is u.1
+
   -- ---- tables that hold a content
 
   module _ (content : Content) (holds : holds_in format trees content) where
@@ -222,14 +232,7 @@ module _ (format : Format) (at : RegisterOf) where
 
 module _ (format : Format) (trees : Trees) (db : ℤ) (index : ℕ) (register : Register) where
   all_in : (one two : List TermCount) → ListsAll format trees db index register one → ListsAll format trees db index register two → (t : TermCount) → Has one t → Has two t
-  all_in one two left right t h =
-      let it = asked_shown format trees db index register (λ _. Unit {0}) two right t.term tt in
-      let own = left.each t h in
-      let same : it.0 ≡ t.records = one_number format trees db (key_in index register t.term) it.0 t.records it.1.0 own.2.0 in
-      let u = it.2 (omega (arith, same, own.1)) in
-      let records : u.0.records ≡ t.records = one_number format trees db (key_in index register t.term) u.0.records t.records (subst (λ v. counts_as format trees db (key_in index register v) u.0.records) u.2 (right.each u.0 u.1).2.0) own.2.0 in
-      let is : u.0 ≡ t = (λ i. record { term = u.2 i; records = records i }) in
-      subst (Has two) is u.1
+  all_in one two left right t h = let own = left.each t h in shown_listed format trees db index register (λ _. Unit {0}) two right t tt own.1 own.2.0
 
   pub one_all : (one two : List TermCount) → ListsAll format trees db index register one → ListsAll format trees db index register two → one ≡ two
   one_all one two left right = same_list term_total one two left.rising right.rising (all_in one two left right) (all_in two one right left)

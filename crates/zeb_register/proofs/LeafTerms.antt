@@ -29,7 +29,8 @@ module _ (trees : Trees) (content : Content) (holds : HoldsLeaves trees content)
         map term_of alone.entries,
         λ id db other leaf is entries shows e in_it.
             let bytes : column leaf 2 ≡ Blob it.3 = ap (λ (r : Row). column r 6) (sym is) ∙ ap (λ (r : Row). column r 5) it.4 in
-            let also : ShowsEntries own entries = (shows.0, sym bytes ∙ shows.1, shows.2) in
+            let term : column leaf 0 ≡ Text key.term = ap (λ (r : Row). column r 4) (sym is) ∙ ap (λ (r : Row). column r 3) it.4 in
+            let also : ShowsEntries own entries = (shows.0, sym bytes ∙ shows.1, shows.2, record { term = shows.3.term; is = sym term ∙ shows.3.is; text = shows.3.text }) in
             let same = one_shown own entries alone.entries also alone.shown in
             mapped_has term_of alone.entries e (subst (λ (l : List Entry). Has l e) same in_it),
       )

@@ -73,6 +73,7 @@ pub mod BlockContents
 pub mod RowUnits
 pub mod KeyLists
 pub mod CountLists
+pub mod NearestTerms
 pub mod BetweenRows
 pub mod BetweenLists
 pub mod PlainTerms
@@ -94,4 +95,5 @@ pub mod RunTurns
 pub mod RunSplits
 pub mod RunLaws
 pub mod RunCounts
+pub mod RecordParts
 pub mod Cited

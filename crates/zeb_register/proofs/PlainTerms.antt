@@ -12,6 +12,7 @@ use Rattle.zeb_register.specs.Units.{ListsUnits}
 use Rattle.zeb_register.proofs.BetweenRows.{begins}
 use Rattle.zeb_register.proofs.CountLemmas.{comes_is, comes_not, comes_or, count_none, count_so, some_count, term_total}
 use Rattle.zeb_register.proofs.KeyPlaces.{place_in, place_of, placed_at}
+use Rattle.zeb_register.proofs.NearestTerms.{hides_next}
 use Rattle.zeb_register.proofs.PostingStatements.{postings, postings_static}
 use Rattle.zeb_register.proofs.RisingLists.{never_itself, pushed_rises}
 use Rattle.zeb_register.proofs.RowLemmas.{spread, text_first}
@@ -216,18 +217,11 @@ module _ (trees : Trees) (db : ℤ) (index : ℕ) (register : Register) (IsOn : 
     module _ (next : List ℕ) (on : IsOn next) (found : HasIt next × IsLeft next) (first : (u : List ℕ) → HasIt u × IsLeft u → ¬ IsNearer u next) where
       -- the count of the next one can't be shown
       pub next_hides : HidesCount plain_rows trees db index register next → ((u : List ℕ) → IsDone u → IsNearer u next) → (n : ℕ) → length terms < n → HidesNearest plain_rows trees db index register IsOn IsNearer n
-      next_hides hidden nearer n few = record {
-        term = next;
-        on = on;
-        hidden = hidden;
-        terms = terms;
-        few = few;
-        nearer = record {
-          rising = lists.rising;
-          each = λ t h. let it = lists.each t h in ((it.0.0, nearer t.term it.0.1), it.1, it.2);
-          others = λ u asked no'. unlisted u asked.0 no' (λ has later. first u (has, later) asked.1);
-        };
-      }
+      next_hides hidden nearer n few = hides_next plain_rows trees db index register IsOn IsNearer n next on hidden terms few (record {
+        rising = lists.rising;
+        each = λ t h. let it = lists.each t h in ((it.0.0, nearer t.term it.0.1), it.1, it.2);
+        others = λ u asked no'. unlisted u asked.0 no' (λ has later. first u (has, later) asked.1);
+      })
 
       -- with the next one more are gone over
       pub next_listed : (IsDone' : List ℕ → Type 0) → ((u : List ℕ) → IsDone u → IsDone' u) → IsDone' next → ((u : List ℕ) → IsDone' u → (u ≡ next) ⊎ (IsDone u ⊎ IsNearer u next))

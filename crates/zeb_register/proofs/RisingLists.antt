@@ -44,6 +44,34 @@ module _ {K : Type 0} {R : K → K → Ordering} (o : IsTotalOrder R) where
         | inr deep ↦ deep
       ]))
 
+  -- a list that rises is no longer than one that has all of its values
+  pub no_longer : (ys xs : List K) → IsStrictlySortedBy R ys → IsStrictlySortedBy R xs → ((z : K) → Has xs z → Has ys z) → length xs ≤ length ys
+  unfolding IsStrictlySortedBy
+  no_longer [] [] down up there = omega arith
+  no_longer [] (x ∷ xs) down up there = absurd (there x (inl refl))
+  no_longer (y ∷ ys) [] down up there = omega arith
+  no_longer (y ∷ ys) (x ∷ xs) down up there = elim (there x (inl refl)) [
+    | inl same ↦ omega (
+      arith,
+      no_longer ys xs down.1 up.1 (λ z h. elim (there z (inr h)) [
+        | inl is ↦ absurd (never_itself x (subst (λ w. R x w ≡ Less) (is ∙ sym same) (all_has (λ w. R x w ≡ Less) xs z up.0 h)))
+        | inr deep ↦ deep
+      ]),
+    )
+    | inr deep ↦
+        let low : R y x ≡ Less = all_has (λ w. R y w ≡ Less) ys x down.0 deep in
+        omega (
+          arith,
+          no_longer ys (x ∷ xs) down.1 up (λ z h. elim (there z h) [
+            | inl is ↦ absurd (never_itself y (subst (λ w. R y w ≡ Less) is (elim h [
+              | inl first ↦ subst (λ w. R y w ≡ Less) (sym first) low
+              | inr later ↦ o.trans y x z low (all_has (λ w. R x w ≡ Less) xs z up.0 later)
+            ])))
+            | inr there ↦ there
+          ]),
+        )
+  ]
+
   -- what passes a test rises still
   pub kept_rises : (p : K → Bool) (xs : List K) → IsStrictlySortedBy R xs → IsStrictlySortedBy R (filter p xs)
   unfolding IsStrictlySortedBy

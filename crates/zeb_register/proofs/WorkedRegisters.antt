@@ -1,6 +1,9 @@
 -- Worked registers of two leaves: which of them covers what, and what they say.
-use Rattle.zeb_register.proofs.Cited.{Row, row_cmp, Blob, Has, row_cmp_total, ◌≡◌, ◌≢◌, ◌∙◌, ◌⊎◌, ◌∷◌, ◌/◌, ℕ, zero, suc, List, [], length, eqb_tells, refl, sym, ap, subst, inl, inr, arith, Less, Equal, Greater, nat_cmp, slice_cmp, ordering_then, ordering_reverse, tied_itself, codes, Posting, IsCount, part_in}
-use Rattle.std.proofs.Common.{lit<, lit≤}
+use Rattle.zeb_register.proofs.Cited.{Row, row_cmp, Blob, Text, Has, row_cmp_total, ◌≡◌, ◌≢◌, ◌∙◌, ◌⊎◌, ◌∷◌, ◌/◌, ℕ, zero, suc, List, [], length, eqb_tells, refl, sym, ap, subst, inl, inr, arith, Less, Equal, Greater, nat_cmp, slice_cmp, ordering_then, ordering_reverse, tied_itself, codes, Posting, IsCount, part_in}
+use Rattle.std.proofs.Common.{IsUtf8, true, false, lit<, lit≤}
+use Rattle.std.specs.Str.{chars, is_utf8}
+use Rattle.std.proofs.Math.Utf8.{encode}
+use Rattle.std.proofs.lemmas.Str.{IsUtf8-from_is_utf8, IsUtf8-nil, is_utf8-from_IsUtf8}
 use Rattle.zeb_leaf.specs.Leaves.{IsLeaf, leaf_bytes}
 use Rattle.zeb_leaf.specs.Order.{IsEntry, entry_cmp}
 use Rattle.zeb_leaf.specs.declared.entries.Entry.{Entry}
@@ -14,7 +17,7 @@ use Rattle.zeb_blocks.specs.Worked.{at}
 use Rattle.zeb_blocks.proofs.WorkedBlocks.{spelled_next_block, spelled_next_record, spelled_one}
 use Rattle.zeb_leaf.specs.Worked.{entry}
 use Rattle.zeb_leaf.proofs.WorkedLeaves.{no_cut}
-use Rattle.zeb_register.specs.Worked.{cut_leaf, first_entries, first_leaf, leaf, miscounted_leaf, second_entries, second_leaf, stray_leaf}
+use Rattle.zeb_register.specs.Worked.{cut_leaf, first_entries, first_leaf, leaf, miscounted_leaf, no_text_leaf, second_entries, second_leaf, stray_leaf}
 use Rattle.zeb_register.proofs.KeyOrder.{key_order}
 use Rattle.zeb_register.proofs.LeafReadings.{one_shown}
 use Rattle.zeb_register.proofs.LeafSums.{one_entry, records_summed}
@@ -132,8 +135,20 @@ leaf_of_two : (d e : Entry) → IsEntry d → IsEntry e → entry_cmp d e ≡ Le
 unfolding IsStrictlySortedBy
 leaf_of_two d e one two less = record { some = λ none. cc; rising = ((less, tt), (tt, tt)); each = (one, (two, tt)); spelled = refl }
 
-shows_leaf : (term : List ℕ) (block : ℕ) (entries : List Entry) → IsLeaf (leaf_bytes entries) entries → ShowsEntries (leaf term block entries) entries
-shows_leaf term block entries is = (leaf_bytes entries, refl, inl is)
+shows_leaf : (term : List ℕ) (block : ℕ) (entries : List Entry) → IsUtf8 term → IsLeaf (leaf_bytes entries) entries → ShowsEntries (leaf term block entries) entries
+shows_leaf term block entries text is = (leaf_bytes entries, refl, inl is, record { term = term; is = refl; text = text })
+
+a_text : IsUtf8 (codes "a")
+unfolding chars encode is_utf8
+a_text = IsUtf8-from_is_utf8 (codes "a") refl
+
+b_text : IsUtf8 (codes "b")
+unfolding chars encode is_utf8
+b_text = IsUtf8-from_is_utf8 (codes "b") refl
+
+c_text : IsUtf8 (codes "c")
+unfolding chars encode is_utf8
+c_text = IsUtf8-from_is_utf8 (codes "c") refl
 
 abbrev entry_a : Entry
 entry_a = entry (codes "a") 0 1 (1 ∷ 2 ∷ 2 ∷ [])
@@ -148,10 +163,10 @@ abbrev entry_c : Entry
 entry_c = entry (codes "c") 0 2 (1 ∷ 2 ∷ 2 ∷ 0xfe ∷ 1 ∷ 1 ∷ 1 ∷ [])
 
 first_is : IsLeaf (leaf_bytes first_entries) first_entries
-first_is = leaf_of_two entry_a entry_b (record { term = lit< tt; block = lit< tt; records = (lit≤ tt, lit≤ tt); bytes = lit< tt }) (record { term = lit< tt; block = lit< tt; records = (lit≤ tt, lit≤ tt); bytes = lit< tt }) refl
+first_is = leaf_of_two entry_a entry_b (record { text = a_text; term = lit< tt; block = lit< tt; records = (lit≤ tt, lit≤ tt); bytes = lit< tt }) (record { text = b_text; term = lit< tt; block = lit< tt; records = (lit≤ tt, lit≤ tt); bytes = lit< tt }) refl
 
 second_is : IsLeaf (leaf_bytes second_entries) second_entries
-second_is = leaf_of_two entry_b1 entry_c (record { term = lit< tt; block = lit< tt; records = (lit≤ tt, lit≤ tt); bytes = lit< tt }) (record { term = lit< tt; block = lit< tt; records = (lit≤ tt, lit≤ tt); bytes = lit< tt }) refl
+second_is = leaf_of_two entry_b1 entry_c (record { text = b_text; term = lit< tt; block = lit< tt; records = (lit≤ tt, lit≤ tt); bytes = lit< tt }) (record { text = c_text; term = lit< tt; block = lit< tt; records = (lit≤ tt, lit≤ tt); bytes = lit< tt }) refl
 
 says_one : (term : List ℕ) → SaysPart (entry term 0 1 (1 ∷ 2 ∷ 2 ∷ [])) (at 1 2 2 ∷ [])
 says_one term = record { spelled = spelled_one; counted = one_record (at 1 2 2) }
@@ -230,10 +245,10 @@ other_block : (d : Entry) (term : List ℕ) (block : ℕ) → d.block ≢ block 
 other_block d term block differs is = differs is.1
 
 first_shows : ShowsEntries first_leaf first_entries
-first_shows = shows_leaf [] 0 first_entries first_is
+first_shows = shows_leaf [] 0 first_entries IsUtf8-nil first_is
 
 second_shows : ShowsEntries second_leaf second_entries
-second_shows = shows_leaf (codes "b") 1 second_entries second_is
+second_shows = shows_leaf (codes "b") 1 second_entries b_text second_is
 
 -- ---- what the first leaf says, whatever the second one is
 
@@ -306,8 +321,8 @@ counts_d = records_summed Worked (codes "d") [] (reads_d first_leaf refl) 0 (cou
 pub stray_beside : ¬ IsLeafAlone (Has (stray_leaf ∷ second_leaf ∷ [])) stray_leaf
 stray_beside alone =
     let is : IsLeaf (leaf_bytes (entry_a ∷ entry (codes "c") 0 1 (1 ∷ 2 ∷ 2 ∷ []) ∷ [])) (entry_a ∷ entry (codes "c") 0 1 (1 ∷ 2 ∷ 2 ∷ []) ∷ []) =
-    leaf_of_two entry_a (entry (codes "c") 0 1 (1 ∷ 2 ∷ 2 ∷ [])) (record { term = lit< tt; block = lit< tt; records = (lit≤ tt, lit≤ tt); bytes = lit< tt }) (record { term = lit< tt; block = lit< tt; records = (lit≤ tt, lit≤ tt); bytes = lit< tt }) refl in
-    let same = one_shown stray_leaf _ alone.entries (shows_leaf [] 0 _ is) alone.shown in
+    leaf_of_two entry_a (entry (codes "c") 0 1 (1 ∷ 2 ∷ 2 ∷ [])) (record { text = a_text; term = lit< tt; block = lit< tt; records = (lit≤ tt, lit≤ tt); bytes = lit< tt }) (record { text = c_text; term = lit< tt; block = lit< tt; records = (lit≤ tt, lit≤ tt); bytes = lit< tt }) refl in
+    let same = one_shown stray_leaf _ alone.entries (shows_leaf [] 0 _ IsUtf8-nil is) alone.shown in
     let covers = alone.within (entry (codes "c") 0 1 (1 ∷ 2 ∷ 2 ∷ [])) (subst (λ l. Has l (entry (codes "c") 0 1 (1 ∷ 2 ∷ 2 ∷ []))) same (inr (inl refl))) in
     covers.greatest second_leaf (inr (inl refl)) (up_c stray_leaf second_leaf refl refl 0) (key_order (codes "b") [] 1 0)
 
@@ -326,6 +341,20 @@ cut_lacks_b = inl (cut_leaf, second_covers_b first_leaf cut_leaf refl refl 0, no
 pub cut_lacks_c : LacksEntriesAt (Has (first_leaf ∷ cut_leaf ∷ [])) (leaf_key (codes "c") 0)
 cut_lacks_c = inl (cut_leaf, second_covers_c first_leaf cut_leaf refl refl 0, no_entries_cut)
 
+-- a leaf whose own term is no text
+no_text : ¬ IsUtf8 (0x80 ∷ [])
+unfolding chars encode is_utf8
+no_text text = let both : false ≡ true = is_utf8-from_IsUtf8 (0x80 ∷ []) text in cc
+
+pub no_text_lacks : LacksEntriesAt (Has (first_leaf ∷ no_text_leaf ∷ [])) (leaf_key (0xc3 ∷ 0xa9 ∷ []) 0)
+no_text_lacks =
+    let key = leaf_key (0xc3 ∷ 0xa9 ∷ []) 0 in
+    let up : IsUpTo key no_text_leaf = λ above. let e : Less ≡ Greater = sym (key_order (0x80 ∷ []) (0xc3 ∷ 0xa9 ∷ []) 0 0) ∙ above in cc in
+    inl (no_text_leaf, covers_second first_leaf no_text_leaf (key_order [] (0x80 ∷ []) 0 0) key up, λ entries shows. no_text (subst IsUtf8 (own shows.3.term shows.3.is) shows.3.text))
+  where
+    own : (term : List ℕ) → Text (0x80 ∷ []) ≡ Text term → term ≡ 0x80 ∷ []
+    own term is = cc
+
 pub uncovered_a : LacksEntriesAt (Has (second_leaf ∷ [])) (leaf_key (codes "a") 0)
 uncovered_a = inr (
   second_leaf,
@@ -339,12 +368,12 @@ uncovered_a = inr (
 pub miscounted_a : IsPartMalformed (Has (miscounted_leaf ∷ second_leaf ∷ [])) (codes "a") 0
 miscounted_a =
     let e = entry (codes "a") 0 2 (1 ∷ 2 ∷ 2 ∷ []) in
-    let is = leaf_of_two e entry_b (record { term = lit< tt; block = lit< tt; records = (lit≤ tt, lit≤ tt); bytes = lit< tt }) (record { term = lit< tt; block = lit< tt; records = (lit≤ tt, lit≤ tt); bytes = lit< tt }) refl in
+    let is = leaf_of_two e entry_b (record { text = a_text; term = lit< tt; block = lit< tt; records = (lit≤ tt, lit≤ tt); bytes = lit< tt }) (record { text = b_text; term = lit< tt; block = lit< tt; records = (lit≤ tt, lit≤ tt); bytes = lit< tt }) refl in
     inr (
       miscounted_leaf,
       e ∷ entry_b ∷ [],
       first_covers_a miscounted_leaf second_leaf refl refl 0,
-      shows_leaf [] 0 (e ∷ entry_b ∷ []) is,
+      shows_leaf [] 0 (e ∷ entry_b ∷ []) IsUtf8-nil is,
       λ part says.
           let said = says.said e (inl refl) (refl, refl) in
           let one = one_spelled 0 (1 ∷ 2 ∷ 2 ∷ []) part (at 1 2 2 ∷ []) said.spelled spelled_one in

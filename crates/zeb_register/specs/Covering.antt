@@ -1,6 +1,6 @@
 -- Which leaf of a register covers a key. A leaf is a row of `blocks`, shown by the columns behind its database, index and register: a term
 -- and the number of a block, which are the leaf's own key, and the leaf's bytes. This layout is the project's own.
-use Rattle.std.specs.Prelude.{◌≡◌, ◌≢◌, ◌⊎◌, ℕ, pos, List, [], ◌∷◌}
+use Rattle.std.specs.Prelude.{◌≡◌, ◌≢◌, ◌⊎◌, ℕ, pos, List, [], ◌∷◌, IsUtf8}
 use Rattle.std.specs.declared.cmp.Ordering.TheVariants.{Greater}
 use Rattle.sqlite.specs.declared.types.Value.TheVariants.{Int, Text, Blob}
 use Rattle.sqlite.specs.Order.{Row, column, row_cmp}
@@ -19,10 +19,16 @@ own_key leaf = column leaf 0 ∷ column leaf 1 ∷ []
 abbrev pub IsUpTo : Row → Row → Type 0
 IsUpTo key leaf = row_cmp (own_key leaf) key ≢ Greater
 
--- the leaf's bytes are those of the entries, or it has no bytes and there are no entries
+-- the term of the leaf's own key is text
+pub record HasTextTerm (leaf : Row) : Type 0 where
+  pub term : List ℕ
+  pub is : column leaf 0 ≡ Text term
+  pub text : IsUtf8 term
+
+-- the leaf's bytes are those of the entries, or it has no bytes and there are no entries; and its own term is text
 abbrev pub ShowsEntries : Row → List Entry → Type 0
 ShowsEntries leaf entries =
-    (bytes : List ℕ) × (column leaf 2 ≡ Blob bytes) × (IsLeaf bytes entries ⊎ ((bytes ≡ []) × (entries ≡ [])))
+    (bytes : List ℕ) × (column leaf 2 ≡ Blob bytes) × (IsLeaf bytes entries ⊎ ((bytes ≡ []) × (entries ≡ []))) × HasTextTerm leaf
 
 module _ (Leaves : Row → Type 0) where
   -- the leaf covers the key: it is the greatest of those that aren't above it
@@ -37,7 +43,7 @@ module _ (Leaves : Row → Type 0) where
     pub shown : (leaf : Row) → Covers key leaf → ShowsEntries leaf entries
     pub covered : ((leaf : Row) × Covers key leaf) ⊎ ((entries ≡ []) × ((leaf : Row) → ¬ Leaves leaf))
 
-  -- the bytes of the leaf that covers the key are those of no entries; or the register has a leaf, and none covers the key
+  -- the leaf that covers the key shows no entries, by its bytes or its own term; or the register has a leaf, and none covers the key
   abbrev pub LacksEntriesAt : Row → Type 0
   LacksEntriesAt key =
       ((leaf : Row) × Covers key leaf × ((entries : List Entry) → ¬ ShowsEntries leaf entries))

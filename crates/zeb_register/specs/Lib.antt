@@ -43,3 +43,4 @@ pub mod KeptUnits
 pub mod UnitChanges
 pub mod RunChanges
 pub mod PrivateUnits
+pub mod PrivateRecordParts

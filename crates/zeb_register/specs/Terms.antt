@@ -62,14 +62,18 @@ module _ (format : Format) (trees : Trees) (db : ℤ) (index : ℕ) (register : 
       pub few : length terms ≤ n
       pub are : ListsCounts (IsNearest terms) terms
 
-    -- the count of one of them can't be shown, and those of all nearer ones can
+    -- the term is nearer than another, some record has it, and so many records can be shown
+    abbrev pub IsShownNearer : List ℕ → TermCount → Type 0
+    IsShownNearer term t = IsOn t.term × IsNearer t.term term × (1 ≤ t.records)
+        × shows_count format trees db (key_in index register t.term) t.records
+
+    -- the count of one of them can't be shown, and those of fewer than n nearer ones can
     pub record HidesNearest : Type 0 where
       pub term : List ℕ
       pub on : IsOn term
       pub hidden : HidesCount term
-      pub terms : List TermCount
-      pub few : length terms < n
-      pub nearer : ListsCounts (λ other. IsOn other × IsNearer other term) terms
+      pub few : (terms : List TermCount) → IsStrictlySortedBy term_cmp terms
+          → ((t : TermCount) → Has terms t → IsShownNearer term t) → length terms < n
 
   -- the first n that don't come before the start, and the last n that do
   abbrev pub ListsFrom : (start : List ℕ) → ℕ → List TermCount → Type 0

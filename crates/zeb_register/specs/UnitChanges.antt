@@ -6,6 +6,7 @@ use Rattle.sqlite.specs.Order.{Row}
 use Rattle.sqlite.specs.State.{State}
 use Rattle.sqlite.specs.Tree.{Trees}
 use Rattle.sqlite_rules.specs.Lists.{Has}
+use Rattle.zeb_blocks.specs.declared.postings.Posting.{Posting}
 use Rattle.zeb_keys.specs.Registers.{register_code}
 use Rattle.zeb_keys.specs.declared.keys.Key.{Key}
 use Rattle.zeb_register.specs.declared.faults.RegFault.{RegFault}
@@ -14,7 +15,7 @@ use Rattle.zeb_register.specs.declared.registers.Place.{Place}
 use Rattle.zeb_register.specs.declared.registers.RecordChange.{RecordChange}
 use Rattle.zeb_register.specs.Answers.{Answers}
 use Rattle.zeb_register.specs.Clauses.{InStore}
-use Rattle.zeb_register.specs.Content.{AreStorablePlaces}
+use Rattle.zeb_register.specs.Content.{AreStorablePlaces, places_in}
 use Rattle.zeb_register.specs.Formats.{Format, packed_blocks, packed_leaves, plain_rows}
 use Rattle.zeb_register.specs.KeptUnits.{KeepsUnits}
 use Rattle.zeb_register.specs.PackedBlocks.{block_row, dict_row}
@@ -80,6 +81,14 @@ AreSame one two = ((sysno : ℕ) → two.places sysno ≡ one.places sysno) × (
 abbrev pub TurnsUnits : Format → List RecordChange → (old new : KeyUnits) → Type 0
 TurnsUnits format [] old new = AreSame old new
 TurnsUnits format (change ∷ changes) old new = (mid : KeyUnits) × TurnsUnit format change old mid × TurnsUnits format changes mid new
+
+-- ---- the postings of a key in a block
+
+-- The record had the places that the change says, and then has the new ones. Each other record has those that it had.
+pub record TurnsPlaces (change : RecordChange) (old new : List Posting) : Type 0 where
+  pub found : places_in change.sysno old ≡ change.old.now
+  pub put : places_in change.sysno new ≡ change.new.now
+  pub kept : (sysno : ℕ) → sysno ≢ change.sysno → places_in sysno new ≡ places_in sysno old
 
 -- ---- which units the changes read
 

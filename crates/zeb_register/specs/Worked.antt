@@ -38,3 +38,7 @@ cut_leaf = leaf_key (codes "b") 1 ++ Blob (0 ∷ 1 ∷ 97 ∷ 0 ∷ 1 ∷ 3 ∷ 
 -- a first leaf that says of a that two records have it, where its block has one
 abbrev pub miscounted_leaf : Row
 miscounted_leaf = leaf [] 0 (entry (codes "a") 0 2 (1 ∷ 2 ∷ 2 ∷ []) ∷ entry (codes "b") 0 1 (1 ∷ 2 ∷ 2 ∷ []) ∷ [])
+
+-- a leaf whose own term is no text, without entries
+abbrev pub no_text_leaf : Row
+no_text_leaf = leaf_key (0x80 ∷ []) 0 ++ Blob [] ∷ []

@@ -4,6 +4,7 @@
 pub use crate::checked_changes::check_changes;
 pub use crate::dropping::database_drop_whole;
 pub use crate::packed_agreeing::blocks_agree;
+pub use crate::record_parts::postings_changed;
 pub use crate::statements::inside::nothing_inside;
 pub use crate::statements::keys::KeyOf;
 pub use crate::statements::queries::look_up;

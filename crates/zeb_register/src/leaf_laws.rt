@@ -10,7 +10,7 @@ ghost use Rattle.zeb_register.specs.HeldLeaves.{AreLeavesAlone, HoldsLeaves, IsL
 ghost use Rattle.zeb_register.specs.LeafUnits.{AreLeavesWhole};
 ghost use Rattle.zeb_register.specs.LeafUnits.{IsLeafOf, LeavesCount, LeavesRead};
 ghost use Rattle.zeb_register.specs.Readings.{IsPartMalformed, LacksSum, PartReads, SumsRecords};
-ghost use Rattle.zeb_register.specs.Worked.{cut_leaf, first_leaf, miscounted_leaf};
+ghost use Rattle.zeb_register.specs.Worked.{cut_leaf, first_leaf, miscounted_leaf, no_text_leaf};
 ghost use Rattle.zeb_register.specs.Worked.{second_leaf, stray_leaf};
 ghost use Rattle.zeb_register.specs.Content.{Content, HasRisingLists, places_in, posted};
 ghost use Rattle.zeb_register.specs.Occurring.{AreTermsOf, HasKey, IsCount};
@@ -75,6 +75,8 @@ pub fn worked_registers()
         × LacksSum (Has (first_leaf ∷ cut_leaf ∷ [])) (codes "b")
         × PartReads (Has (first_leaf ∷ cut_leaf ∷ [])) (codes "b") 0 (at 1 2 2 ∷ [])
         × SumsRecords (Has (first_leaf ∷ cut_leaf ∷ [])) (codes "a") 1 }
+    // A leaf whose own term is no text damages what it covers, as é.
+    ensures no_text { IsPartMalformed (Has (first_leaf ∷ no_text_leaf ∷ [])) (0xc3 ∷ 0xa9 ∷ []) 0 }
     // What no leaf covers is malformed, and what an entry miscounts.
     ensures uncovered { IsPartMalformed (Has (second_leaf ∷ [])) (codes "a") 0 }
     ensures miscounted { IsPartMalformed (Has (miscounted_leaf ∷ second_leaf ∷ [])) (codes "a") 0 }

@@ -26,6 +26,7 @@ mod plain;
 mod plain_between;
 mod plain_changes;
 mod read_beside;
+mod record_parts;
 mod registers;
 mod run_laws;
 mod schema;

@@ -62,7 +62,7 @@ pub use Rattle.zeb_register.proofs.ContentChanges.{posting_total, postings_apart
 pub use Rattle.zeb_register.proofs.CountLemmas.{is_less, less_is, counted_none, some_count}
 pub use Rattle.zeb_register.proofs.CountLists.{held_shows, asked_shown, all_told}
 pub use Rattle.zeb_register.proofs.KeyLists.{count_held, held_listing, held_whole, whole_list, whole_sound, one_places, list_told}
-pub use Rattle.zeb_register.proofs.RisingLists.{never_back, never_itself, pushed_rises, before_last, front_rises, joined_rises}
+pub use Rattle.zeb_register.proofs.RisingLists.{never_back, never_itself, no_longer, pushed_rises, before_last, front_rises, joined_rises}
 pub use Rattle.zeb_register.proofs.RowLemmas.{same_bytes}
 pub use Rattle.zeb_register.proofs.TermLists.{above_least, least_above}
 pub use Rattle.zeb_register.proofs.TermRows.{taken_below, taken_more, last_view}

@@ -1,40 +1,9 @@
 -- How many rows of `dict` calls read, one after the other.
-use Rattle.zeb_search.proofs.Cited.{◌≡◌, ◌∙◌, ◌++◌, ◌∷◌, ◌+◌, ◌*◌, ◌≤◌, [], ℕ, ℤ, List, arith, ap, refl, sym, subst, inl, inr, length, map, length-append, Ordering, Less, length-map, mul-add, mul-le-mul_left, IsTotalOrder, nat_list_cmp_total, State, Survives, Has, all_has, has_mapped, mapped_has, Symbol, Register, PlanValue, TermOf, PairOf, NearOf, TermPlanValue, RecordNumberOf, NoWordsOf, AlwaysOf, NumberOf, OrderedOf, CompleteOf, PhraseOf, AllWordsOf, AnyWordOf, Occurrence, TermCount, Work, Content, posted, Format, AreTermsOf, TermIn, Works, never_itself, CountsByContent, HasNoStar, AreWithoutStars, IsOneKey, NamesEntries, TermNamesEntries, NoRows, EntryDict, PlanDict, RegisterDict, TermDict, WordDict, TermsRise}
-use Rattle.std.specs.List.Sorted.{IsStrictlySortedBy}
+use Rattle.zeb_search.proofs.Cited.{◌≡◌, ◌∙◌, ◌++◌, ◌∷◌, ◌+◌, ◌*◌, ◌≤◌, [], ℕ, ℤ, List, arith, ap, refl, sym, subst, inl, inr, length, map, length-append, length-map, mul-add, mul-le-mul_left, nat_list_cmp_total, State, Survives, Has, has_mapped, mapped_has, Symbol, Register, PlanValue, TermOf, PairOf, NearOf, TermPlanValue, RecordNumberOf, NoWordsOf, AlwaysOf, NumberOf, OrderedOf, CompleteOf, PhraseOf, AllWordsOf, AnyWordOf, Occurrence, TermCount, Work, Content, posted, Format, AreTermsOf, TermIn, Works, no_longer, CountsByContent, HasNoStar, AreWithoutStars, IsOneKey, NamesEntries, TermNamesEntries, NoRows, EntryDict, PlanDict, RegisterDict, TermDict, WordDict, TermsRise}
 use Rattle.zeb_keys.specs.declared.Register.TheVariants as register
 use Rattle.zeb_search.proofs.SearchCountLemmas.{counted_then, no_rows_then, terms_count}
 use Rattle.zeb_search.proofs.ReadLemmas.{IsRead}
 use Rattle.zeb_search.proofs.RisingTexts.{terms_rise}
-
--- ---- lists that rise
-
--- a list that rises is no longer than one that has all of its values
-no_longer : {K : Type 0} {R : K → K → Ordering} (o : IsTotalOrder R) (ys xs : List K) → IsStrictlySortedBy R ys → IsStrictlySortedBy R xs → ((z : K) → Has xs z → Has ys z) → length xs ≤ length ys
-unfolding IsStrictlySortedBy
-no_longer o [] [] down up there = omega arith
-no_longer o [] (x ∷ xs) down up there = absurd (there x (inl refl))
-no_longer o (y ∷ ys) [] down up there = omega arith
-no_longer {R = R} o (y ∷ ys) (x ∷ xs) down up there = elim (there x (inl refl)) [
-  | inl same ↦ omega (
-    arith,
-    no_longer o ys xs down.1 up.1 (λ z h. elim (there z (inr h)) [
-      | inl is ↦ absurd (never_itself o x (subst (λ w. R x w ≡ Less) (is ∙ sym same) (all_has (λ w. R x w ≡ Less) xs z up.0 h)))
-      | inr deep ↦ deep
-    ]),
-  )
-  | inr deep ↦
-      let low : R y x ≡ Less = all_has (λ w. R y w ≡ Less) ys x down.0 deep in
-      omega (
-        arith,
-        no_longer o ys (x ∷ xs) down.1 up (λ z h. elim (there z h) [
-          | inl is ↦ absurd (never_itself o y (subst (λ w. R y w ≡ Less) is (elim h [
-            | inl first ↦ subst (λ w. R y w ≡ Less) (sym first) low
-            | inr later ↦ o.trans y x z low (all_has (λ w. R x w ≡ Less) xs z up.0 later)
-          ])))
-          | inr there ↦ there
-        ]),
-      )
-]
 
 -- terms of a register, each once, are no more than all of its terms
 pub no_more_terms : (O : ℕ → Occurrence → Type 0) (index : ℕ) (register : Register) (terms all : List TermCount) → TermsRise terms → ((t : TermCount) → Has terms t → (n : ℕ) × TermIn O index register t.term n)

@@ -4,32 +4,24 @@ use super::words::{Change, Words};
 use super::{Done, Opened};
 use sqlite::{Alter, Transaction};
 use std::cmp::Ordering;
-use worked_samples::{CAFE, MOBY};
+use worked_samples::record;
 use zeb_keys::order_is_by_parts;
 use zeb_register::{
     DatabaseId, KeyChanges, Layout, RegFault, Work, database_put, make_tables, meta_put,
     record_of_ident, record_put, record_take, wipe,
 };
 
-/// The bytes of a sample by its name, bytes that are no text, or the word's own.
+/// The bytes of a record by its name, bytes that are no text, or the word's own.
 fn bytes_of(word: &str) -> &[u8] {
-    match word {
-        "MOBY" => MOBY,
-        "CAFE" => CAFE,
-        "BINARY" => b"\0\xff",
-        text => text.as_bytes(),
+    if word == "BINARY" {
+        return b"\0\xff";
     }
+    record(word)
 }
 
 /// The other way round.
 pub fn name_of(bytes: &[u8]) -> &str {
-    if bytes == MOBY {
-        return "MOBY";
-    }
-    if bytes == CAFE {
-        return "CAFE";
-    }
-    str::from_utf8(bytes).unwrap_or("no text")
+    worked_samples::name_of(bytes).unwrap_or(str::from_utf8(bytes).unwrap_or("no text"))
 }
 
 /// A key, and a change of it.

@@ -18,20 +18,20 @@ UPDATE records SET ident = CAST(x'ff' AS TEXT) WHERE sysno = 1 -> 1
 ident_of 1 -> Damaged
 records -> Damaged
 record_from 1 -> Damaged
-record_from 2 -> 2 b2 CAFE
+record_from 2 -> 2 b2 cafe
 record_count -> 2
 ident_of 2 -> b2
-do record_of_ident b2 -> 2 CAFE
+do record_of_ident b2 -> 2 cafe
 
 # A number below 0 is passed over, and its row is counted.
 with begun default filled
 UPDATE records SET sysno = -1 WHERE sysno = 1 -> 1
 do record_of_ident a1 -> Damaged
 records -> Damaged
-record_from 0 -> 2 b2 CAFE
+record_from 0 -> 2 b2 cafe
 record_count -> 2
 ident_of 2 -> b2
-do record_of_ident b2 -> 2 CAFE";
+do record_of_ident b2 -> 2 cafe";
 
 /// The rows of `postings`.
 pub static OF_POSTINGS: &str = "\
@@ -61,7 +61,7 @@ with begun default filled
 UPDATE postings SET pos = -1 WHERE idx = 0 AND term = 'moby' -> 1
 do key_change 0:w <moby> 1 2.1 - -> Damaged
 database_of Default -> 2
-records -> 1 a1 MOBY,2 b2 CAFE,
+records -> 1 a1 moby,2 b2 cafe,
 terms_of 0:w -> Damaged
 totals 0:w -> Damaged
 totals 2:w -> 7 7

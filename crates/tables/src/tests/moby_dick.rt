@@ -11,8 +11,8 @@ do meta_put identifier 001";
 /// The two records, and what they are found by. Unit 1 is their field 001, unit 2 is 245$a, and in the first record unit 3 is
 /// 245$b and unit 4 is 260$c.
 pub static FILLED: &str = "\
-do record_put 1 a1 MOBY
-do record_put 2 b2 CAFE
+do record_put 1 a1 moby
+do record_put 2 b2 cafe
 do key_change 0:w <cafe> 2 - 2.1
 do key_change 0:w <dick> 1 - 2.2
 do key_change 0:w <moby> 1 - 2.1
@@ -59,18 +59,18 @@ database_of Default -> 2
 database_of default -> none
 database_of Defaul -> none
 database_of -> none
-do record_of_ident a1 -> 1 MOBY
-do record_of_ident b2 -> 2 CAFE
+do record_of_ident a1 -> 1 moby
+do record_of_ident b2 -> 2 cafe
 do record_of_ident A1 -> none
 do record_of_ident -> none
 ident_of 1 -> a1
 ident_of 2 -> b2
 ident_of 3 -> none
-records -> 1 a1 MOBY,2 b2 CAFE,
+records -> 1 a1 moby,2 b2 cafe,
 record_count -> 2
-record_from 0 -> 1 a1 MOBY
-record_from 1 -> 1 a1 MOBY
-record_from 2 -> 2 b2 CAFE
+record_from 0 -> 1 a1 moby
+record_from 1 -> 1 a1 moby
+record_from 2 -> 2 b2 cafe
 record_from 3 -> none
 key_list 0:w <moby> -> 1:2.1,
 key_list 0:w <cafe> -> 2:2.1,

@@ -14,17 +14,18 @@ use crate::RegFault;
 use crate::statements::postings::NOTHING;
 use crate::statements::records::FIRST_FROM;
 use sqlite::{Alter, Error, Row, Transaction, params};
+use std::alloc::Global;
 
-/// Reads nothing. It is refused where the connection is closed.
-pub fn nothing_inside<S: Alter>(tx: &mut Transaction<'_, S>) -> Result<(), Error>
+/// Reads nothing, and gives the allocator by which it was read. It is refused where the connection is closed.
+pub fn nothing_inside<S: Alter>(tx: &mut Transaction<'_, S>) -> Result<Global, Error>
     ensures same { tx.new.conn.ghost_name ≡ tx.old.conn.ghost_name }
     ensures call { Inside (state S.Store tx.old.conn.now) (state S.Store tx.new.conn.now) result
         (λ _. OnlyReads) }
     ensures err { IsReasonedErrorInside (state S.Store tx.old.conn.now)
         (state S.Store tx.new.conn.now) result }
 {
-    tx.query_all(NOTHING, &[])?;
-    Ok(())
+    let rows = tx.query_all(NOTHING, &[])?;
+    Ok(*rows.allocator())
 }
 
 /// The record with the least number that is not below `start`: at most one row.

@@ -1,27 +1,17 @@
-use Rattle.zeb_leaves.proofs.Cited.{◌≡◌, ◌+◌, ◌<◌, ℕ, ℤ, List, Option, pos, HasCleanDisk, IsGreatest, Row, Trees, arith, state, subst}
-use Rattle.std.proofs.Common.{◌+ℤ◌, ◌^◌, of_z, to_z, w64}
-use Rattle.std.proofs.lemmas.Int.{ints}
+use Rattle.zeb_leaves.proofs.Cited.{HasCleanDisk, IsGreatest, IsUpTo, arith, own_key, state, subst}
 use Rattle.sqlite.specs.Effect.{Database}
 use Rattle.std.proofs.lemmas.Result.{IfOk-weaker}
 use Rattle.zeb_leaves.proofs.CoveringLeaves.{covers_below, covers_own}
 use Rattle.zeb_leaves.specs.PrivateLeafReads.{IsOfTermBelow, IsOfTermsBelow}
-use Rattle.zeb_register.specs.declared.registers.RegisterOf.{RegisterOf}
+use Rattle.zeb_leaves.proofs.InsideCalls.{up_to_next}
 use Rattle.zeb_register.proofs.Calls.{reading_then, store_same}
 use Rattle.zeb_register.proofs.Causes.{reasoned_after}
 use Rattle.zeb_leaves.proofs.covering.covering_leaf.Goals as goal
 
--- the end behind a block, as it is added in the code
-end_is : (block : ℕ) → block < 2 ^ 56 → to_z w64 (of_z w64 (to_z w64 block +ℤ pos 1)) ≡ pos (block + 1)
-end_is block small = omega (arith, ints)
-
-up_to_end : (at : RegisterOf) (term : List ℕ) (block : ℕ) (trees : Trees) (found : Option Row) → block < 2 ^ 56
-    → IsGreatest (IsOfTermBelow at term (to_z w64 (of_z w64 (to_z w64 block +ℤ pos 1))) trees) found → IsGreatest (IsOfTermBelow at term (pos (block + 1)) trees) found
-up_to_end at term block trees found small = subst (λ (z : ℤ). IsGreatest (IsOfTermBelow at term z trees) found) (end_is block small)
-
 pub returns-in-Some-clause-covers : goal.returns-in-Some-clause-covers
 returns-in-Some-clause-covers g c clean store =
     let s0 = state g.S.Store c.args.conn.now in
-    covers_own s0 store c.args.at.db.0 c.args.at.index c.args.at.register c.args.term.now c.args.block c.in-Some.leaf (rw c.in-Some.is at (up_to_end c.args.at c.args.term.now c.args.block s0.now.trees _ c.requires (c.in_ok-leaf.ensures.finds clean store)))
+    covers_own s0 store c.args.at.db.0 c.args.at.index c.args.at.register c.args.term.now c.args.block c.in-Some.leaf (rw c.in-Some.is at (up_to_next (λ z. IsOfTermBelow c.args.at c.args.term.now z s0.now.trees) (λ row other. IsUpTo (own_key row) other) c.args.block _ c.requires (c.in_ok-leaf.ensures.finds clean store)))
 
 pub returns-in-None-clause-call : goal.returns-in-None-clause-call
 returns-in-None-clause-call g c = reading_then _ _ _ _ _ c.in_ok-leaf.ensures.call c.leaf_of_terms_below.ensures.call
@@ -32,7 +22,7 @@ returns-in-None-clause-covers g c clean store =
     let s1 = state g.S.Store c.leaf_of_term.new.conn in
     let clean1 : HasCleanDisk s1 = omega (arith, c.leaf_of_terms_below.ensures.call.crash.clean) in
     let same = (c.in_ok-leaf.ensures.call.ok clean1).0.now_is in
-    let none = rw c.in-None.is at (up_to_end c.args.at c.args.term.now c.args.block s0.now.trees _ c.requires (c.in_ok-leaf.ensures.finds clean1 store)) in
+    let none = rw c.in-None.is at (up_to_next (λ z. IsOfTermBelow c.args.at c.args.term.now z s0.now.trees) (λ row other. IsUpTo (own_key row) other) c.args.block _ c.requires (c.in_ok-leaf.ensures.finds clean1 store)) in
     IfOk-weaker c.leaf_of_terms_below.result _ _ (λ found second. covers_below s0 store c.args.at.db.0 c.args.at.index c.args.at.register c.args.term.now c.args.block none found (subst (λ (d : Database). IsGreatest (IsOfTermsBelow c.args.at c.args.term.now d.trees) found) same second))
     (c.leaf_of_terms_below.ensures.finds clean (store_same s0 s1 same store))
 

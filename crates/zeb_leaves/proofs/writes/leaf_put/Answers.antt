@@ -1,5 +1,5 @@
 -- The row is renewed where it is there, or put where none is.
-use Rattle.zeb_leaves.proofs.Cited.{◌∙◌, ◌++◌, ◌∷◌, [], pos, ℤ, rules, subst, sym, state, blocks_tree}
+use Rattle.zeb_leaves.proofs.Cited.{[], pos, ℤ, rules, subst, sym, state, blocks_tree}
 use Rattle.std.proofs.Common.{Bool}
 use Rattle.zeb_leaves.proofs.WrittenLeaves.{put_new, put_there}
 use Rattle.zeb_leaves.specs.PrivateLeafWrites.{IfToldPuts, IsLeafWith, leaf_columns}

@@ -1,8 +1,8 @@
 -- The first leaf is put, and then those behind it.
-use Rattle.zeb_leaves.proofs.Cited.{Err, arith, rules, pos, state, HasCleanDisk}
+use Rattle.zeb_leaves.proofs.Cited.{arith, rules, pos, state, HasCleanDisk}
 use Rattle.std.proofs.lemmas.Result.{IfOk-weaker}
 use Rattle.zeb_leaves.proofs.WrittenLeaves.{all_put}
-use Rattle.zeb_register.proofs.Calls.{goes_keeps, goes_then, on_err, on_err_so}
+use Rattle.zeb_register.proofs.Calls.{goes_keeps, goes_then, on_err_so}
 use Rattle.zeb_leaves.proofs.writes.leaves_put.Goals as goal
 
 pub returns-clause-call : goal.returns-clause-call

@@ -1,5 +1,5 @@
 -- One leaf is put after the other.
-use Rattle.zeb_leaves.proofs.Cited.{state, HasCleanDisk, Has, all_has, ◌≡◌, ◌∙◌, Err, [], arith, refl, rules, sym, blocks_tree}
+use Rattle.zeb_leaves.proofs.Cited.{state, HasCleanDisk, all_has, ◌∙◌, [], arith, refl, blocks_tree}
 use Rattle.std.specs.Prelude.{IsUtf8}
 use Rattle.sqlite_rules.proofs.ListLemmas.{has_at}
 use Rattle.zeb_leaf.specs.declared.parting.NewLeaf.{NewLeaf}
@@ -34,10 +34,7 @@ loop-leaf-preserved g c = record {
       gains_more c.args.at c.args.leaves.now c.loop-leaf.leaf-index c.leaf-item.result _ _ _ c.loop-leaf-test.true c.leaf-item.is put' ((c.in_ok-new_leaf_add.ensures.call.ok clean before.inside).rows put'.layout);
 }
 
-pub returns-in_err-new_leaf_add-clause-honest : goal.returns-in_err-new_leaf_add-clause-honest
-returns-in_err-new_leaf_add-clause-honest g c is all =
-    let fault = c.in_err-new_leaf_add.field-0.0 in
-    let told : c.from_residual.result ≡ Err fault = search rules in
+pub new_leaf_add-requires : goal.new_leaf_add-requires
+new_leaf_add-requires g c =
     let leaf = c.leaf-item.result in
-    let here : Has c.args.leaves.now leaf = has_at c.args.leaves.now c.loop-leaf.leaf-index leaf c.loop-leaf-test.true c.leaf-item.is in
-    c.in_err-new_leaf_add.ensures.honest (sym told ∙ is) (all_has (λ (l : NewLeaf). IsUtf8 l.term) c.args.leaves.now leaf all here)
+    all_has (λ (l : NewLeaf). IsUtf8 l.term) c.args.leaves.now leaf c.requires (has_at c.args.leaves.now c.loop-leaf.leaf-index leaf c.loop-leaf-test.true c.leaf-item.is)

@@ -1,4 +1,5 @@
-use Rattle.std.proofs.Common.{refl}
+use Rattle.std.proofs.Common.{refl, string_bytes}
+use Rattle.std.specs.Option.{option_map}
 use Rattle.zeb_program.specs.Registers.{places}
 use Rattle.zeb_program.proofs.WordAnswerLemmas.{untouched}
 use Rattle.zeb_program.proofs.WordRunLemmas.{told_done, told_why}
@@ -6,8 +7,9 @@ use Rattle.zeb_program.proofs.command_line.run_task.Goals as goal
 
 pub returns-in-Ok-clause-apart : goal.returns-in-Ok-clause-apart
 returns-in-Ok-clause-apart g c = λ sound quiet.
+    let told = c.tell_answer.ensures.told quiet in
     told_done (places g.P.Store.Store g.P.Paths.tells g.P.Paths.stands g.P.Paths.lists g.P.Paths.explains g.P.Paths.opens g.P.Paths.refuses g.P.Paths.lacks g.P.Paths.has g.P.Paths.lets_go g.P.Paths.leaves c.args.paths.now c.perform.new.paths) c.args.config c.args.task.now _ _ _ _ c.tell_answer.result c.in-Ok.told (λ _ _. Unit {0})
-    c.in-Ok.ensures.performs c.tell_answer.ensures.closing (c.tell_answer.ensures.text sound) (c.tell_answer.ensures.told quiet c.args.task.now c.in-Ok.ensures.warns)
+    c.in-Ok.ensures.performs c.tell_answer.ensures.closing (c.tell_answer.ensures.text sound) (told.0, (option_map string_bytes c.in-Ok.told.warning, c.in-Ok.ensures.warns, told.1), told.2)
 
 pub returns-in-Err-clause-apart : goal.returns-in-Err-clause-apart
 returns-in-Err-clause-apart g c =

@@ -1,11 +1,9 @@
-use Rattle.std.proofs.Common.{inl}
-use Rattle.std.proofs.KnownBytes.{Keeps-refl}
-use Rattle.zeb_program.proofs.WordAnswerLemmas.{warned_once}
+use Rattle.zeb_program.proofs.WordAnswerLemmas.{warned_never, warned_once}
 use Rattle.zeb_program.proofs.command_line.warn.Goals as goal
 
 pub returns-in-Some-clause-told : goal.returns-in-Some-clause-told
-returns-in-Some-clause-told g c = λ sound task may.
-    warned_once task c.args.warning.now c.in-Some.line c.as_bytes.result.now _ _ c.in-Some.is may c.as_bytes.ensures.value (c.write.ensures.bytes sound)
+returns-in-Some-clause-told g c = λ sound.
+    warned_once c.args.warning.now c.in-Some.line c.as_bytes.result.now _ _ c.in-Some.is c.as_bytes.ensures.value (c.write.ensures.bytes sound)
 
 pub returns-in-None-clause-told : goal.returns-in-None-clause-told
-returns-in-None-clause-told g c = λ sound task may. inl (Keeps-refl (g.V.Write.contents c.args.fault_output.now.writer))
+returns-in-None-clause-told g c = λ sound. warned_never c.args.warning.now _ c.in-None.is

@@ -5,6 +5,7 @@ use Rattle.zeb_paths.specs.Walks.{telling}
 use Rattle.zeb_register.specs.Formats.{packed_blocks, version_of}
 use Rattle.zeb_program.specs.PrivateWordRuns.{IsOwnOr, ServesOnNothing}
 use Rattle.zeb_program.proofs.MemoryLemmas.{always_clean}
+use Rattle.zeb_program.proofs.WarningLemmas.{warns_of}
 use Rattle.zeb_program.proofs.WordRunLemmas.{gives_for, served_nothing}
 use Rattle.zeb_program.proofs.performing.perform_on_nothing.Goals as goal
 
@@ -19,3 +20,7 @@ returns-clause-serves g c =
     gives_for c.told_of.result (λ answer. IsOwnOr answer own) (ServesOnNothing (g.P.Paths.tells c.args.paths.now) at c.args.profile c.args.task.now)
     (λ answer. served_nothing (g.P.Paths.tells c.args.paths.now) at c.args.profile c.args.task.now k (file_state session.connection) (file_state last) own answer
     c.in_ok-session.ensures.under c.in_ok-session.ensures.empty (done.2.serves (always_clean (λ _. refl) last)) done.2.reaches) (c.told_of.ensures.gives own done.1)
+
+pub returns-clause-warns : goal.returns-clause-warns
+returns-clause-warns g c =
+    warns_of (g.P.Paths.tells c.args.paths.now) c.args.task.now c.carry_out-served.result c.told_of.result c.told_of.ensures.warns c.told_of.ensures.warned c.carry_out-served.ensures.unmarked

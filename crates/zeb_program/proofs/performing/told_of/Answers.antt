@@ -1,7 +1,9 @@
 use Rattle.std.proofs.Common.{◌≡◌, ◌∙◌, Err, None, Ok, ap, inl, refl, rules, string_bytes, subst, sym}
 use Rattle.std.specs.Prelude.{IfOk}
+use Rattle.std.specs.Result.{IsOkAnd}
 use Rattle.zeb_program.specs.PrivateServing.{StandsFor}
-use Rattle.zeb_program.specs.PrivateWarnings.{IsServedFor, MayWarn, warned_in}
+use Rattle.zeb_program.specs.PrivateWarnings.{IsServedFor, warned_in}
+use Rattle.zeb_program.specs.Warnings.{MayWarn}
 use Rattle.zeb_program.proofs.WarningLemmas.{shown_warned, warned}
 use Rattle.zeb_program.proofs.performing.told_of.Goals as goal
 
@@ -12,7 +14,7 @@ returns-in_ok-render-in-Ok-Replied-clause-gives g c = λ own stands.
 
 pub returns-in_ok-render-in-Ok-Replied-clause-warned : goal.returns-in_ok-render-in-Ok-Replied-clause-warned
 returns-in_ok-render-in-Ok-Replied-clause-warned g c =
-    subst (λ served. IfOk served (λ it. None ≡ warned_in it)) (sym (c.in-Ok-Replied.is ∙ ap Ok c.in-Ok-Replied.field-0-is)) refl
+    subst (λ served. IsOkAnd served (λ it. None ≡ warned_in it)) (sym (c.in-Ok-Replied.is ∙ ap Ok c.in-Ok-Replied.field-0-is)) refl
 
 pub returns-in_ok-warning-in-Ok-Shown-clause-warned : goal.returns-in_ok-warning-in-Ok-Shown-clause-warned
 returns-in_ok-warning-in-Ok-Shown-clause-warned g c =

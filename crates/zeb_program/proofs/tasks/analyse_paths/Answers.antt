@@ -2,7 +2,7 @@ use Rattle.std.proofs.Common.{◌≡◌, ◌∙◌, ◌<◌, ◌^◌, Err, Ok, a
 use Rattle.zeb_engine.specs.Analysed.{HasLines}
 use Rattle.zeb_engine.proofs.AnalysedReplies.{is_analysed, is_counted, is_printed, shown_reply}
 use Rattle.zeb_program.specs.PrivateServing.{StandsFor}
-use Rattle.zeb_program.specs.PrivateWarnings.{unmarked_of}
+use Rattle.zeb_program.specs.Warnings.{unmarked_of}
 use Rattle.zeb_program.specs.declared.faults.Fault.TheVariants.{Refused}
 use Rattle.zeb_program.proofs.OverLemmas.{analysed_over, unanalysed_over, unshown_over}
 use Rattle.zeb_program.proofs.tasks.analyse_paths.Goals as goal

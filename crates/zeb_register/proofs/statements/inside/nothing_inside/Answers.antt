@@ -6,19 +6,19 @@ use Rattle.zeb_register.proofs.statements.inside.nothing_inside.Goals as goal
 
 pub returns-clause-call : goal.returns-clause-call
 returns-clause-call g c = record {
-  ok = λ clean inside. alone_inside _ _ _ _ _ nothing_query.silent (c.in_ok-query_all.ensures.ok clean) inside;
+  ok = λ clean inside. alone_inside _ _ _ _ _ nothing_query.silent (c.in_ok-rows.ensures.ok clean) inside;
   err = search rules;
   crash = search rules;
 }
 
-pub returns-in_err-query_all-clause-call : goal.returns-in_err-query_all-clause-call
-returns-in_err-query_all-clause-call g c = record {
+pub returns-in_err-rows-clause-call : goal.returns-in_err-rows-clause-call
+returns-in_err-rows-clause-call g c = record {
   ok = search rules;
-  err = λ clean inside. on_err _ _ (query_keeps {A = ℕ} _ _ _ _ (Err _) nothing_query.silent (c.in_err-query_all.ensures.err clean));
+  err = λ clean inside. on_err _ _ (query_keeps {A = ℕ} _ _ _ _ (Err _) nothing_query.silent (c.in_err-rows.ensures.err clean));
   crash = search rules;
 }
 
-pub returns-in_err-query_all-clause-err : goal.returns-in_err-query_all-clause-err
-returns-in_err-query_all-clause-err g c clean inside store =
+pub returns-in_err-rows-clause-err : goal.returns-in_err-rows-clause-err
+returns-in_err-rows-clause-err g c clean inside store =
     let is = err_from_is_err_and c.from_residual.result c.from_residual.ensures.1 in
-    rw (is.1, is.2) (λ told. refused nothing_query _ _ _ store told (not_late _ _ _ _ _ inside (c.in_err-query_all.ensures.err clean)))
+    rw (is.1, is.2) (λ told. refused nothing_query _ _ _ store told (not_late _ _ _ _ _ inside (c.in_err-rows.ensures.err clean)))

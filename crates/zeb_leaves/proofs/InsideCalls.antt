@@ -1,0 +1,60 @@
+-- Calls that look for a leaf inside a transaction, one after the other.
+use Rattle.zeb_leaves.proofs.Cited.{Row, Trees, State, Shown, HasCleanDisk, ◌≡◌, ◌≢◌, ◌⊎◌, ◌∙◌, ◌<◌, ◌+◌, ℕ, ℤ, pos, List, Ok, Err, Result, Option, arith, subst, IsFirst, IsLastOf, IsStore, ShowsLast}
+use Rattle.std.proofs.Common.{◌+ℤ◌, ◌^◌, of_z, to_z, w64}
+use Rattle.std.proofs.lemmas.Int.{ints}
+use Rattle.sqlite.specs.State.{FailsToQuery, IsTooLate, Survives}
+use Rattle.sqlite.specs.declared.error.Error.{Error}
+use Rattle.zeb_register.proofs.Calls.{goes_keeps, query_keeps, reads_goes}
+use Rattle.zeb_register.proofs.CallsInTurn.{quiet_then}
+use Rattle.zeb_register.specs.Calls.{Inside, OnlyReads}
+use Rattle.zeb_register.specs.Clauses.{TellsInside}
+use Rattle.zeb_register.specs.Faults.{fault_of}
+use Rattle.zeb_register.specs.Queries.{IsSilent}
+use Rattle.zeb_register.specs.declared.faults.RegFault.{RegFault}
+use Rattle.zeb_register.specs.declared.faults.RegFault.TheVariants.{Damaged}
+
+-- ---- one query
+
+-- a query that is refused tells nothing
+pub shows_none : (sql : List ℕ) (params : Row) (old new : State) (e : Error) (result : Result (Option Row) RegFault) → result ≡ Err (fault_of e) → result ≢ Err Damaged → IsSilent sql
+    → (HasCleanDisk new → FailsToQuery sql params old new e ⊎ IsTooLate sql params old new e) → Survives old new (λ _. ⊥) → ShowsLast sql params old new result
+shows_none sql params old new e (Ok found) is honest silent failed crash = absurd (cc)
+shows_none sql params old new e (Err fault) is honest silent failed crash = record {
+  call = record { ok = λ clean inside. tt; err = λ clean inside. query_keeps {A = ℕ} sql params old new (Err e) silent (failed clean); crash = crash };
+  last = λ clean. tt;
+  honest = honest;
+}
+
+-- what is found is told by the rows that are shown
+pub finds : {sql : List ℕ} {params : Row} (Q : Trees → Option Row → Type 0) (old new : State) (result : Result (Option Row) RegFault)
+    → ((rows : List Row) (found : Option Row) → IsStore old → Shown sql params old new rows → IsLastOf rows found → Q old.now.trees found) → ShowsLast sql params old new result → TellsInside old new result Q
+finds Q old new (Ok found) so shows clean inside store = let it = shows.last clean in so it.0 found store it.1 it.2
+finds Q old new (Err fault) so shows clean inside store = tt
+
+-- ---- one call behind another
+
+pub reads_then : (a b c : State) → OnlyReads a b → OnlyReads b c → OnlyReads a c
+reads_then a b c one two = record { was_open = one.was_open; is_open = two.is_open; now_is = two.now_is ∙ one.now_is; committed_is = two.committed_is ∙ one.committed_is; mode = two.mode }
+
+pub inside_then : {A B E : Type 0} (a b c : State) (x : A) (r : Result B E) → Inside {E = E} a b (Ok x) (λ _. OnlyReads) → Inside b c r (λ _. OnlyReads) → Inside a c r (λ _. OnlyReads)
+inside_then a b c x (Ok y) first second = record {
+  ok = λ clean inside. let before = first.ok (omega (arith, second.crash.clean)) inside in reads_then a b c before (second.ok clean before.mode);
+  err = λ clean inside. tt;
+  crash = quiet_then a b c first.crash second.crash;
+}
+inside_then a b c x (Err e) first second = record {
+  ok = λ clean inside. tt;
+  err = λ clean inside. let before = first.ok (omega (arith, second.crash.clean)) inside in goes_keeps a b c (reads_goes a b before) (second.err clean before.mode);
+  crash = quiet_then a b c first.crash second.crash;
+}
+
+-- ---- the end behind a block, as it is added in the code
+
+abbrev pub next_number : ℕ → ℤ
+next_number block = to_z w64 (of_z w64 (to_z w64 block +ℤ pos 1))
+
+pub next_is : (block : ℕ) → block < 2 ^ 56 → next_number block ≡ pos (block + 1)
+next_is block small = omega (arith, ints)
+
+pub up_to_next : (P : ℤ → Row → Type 0) (Before : Row → Row → Type 0) (block : ℕ) (found : Option Row) → block < 2 ^ 56 → IsFirst Before (P (next_number block)) found → IsFirst Before (P (pos (block + 1))) found
+up_to_next P Before block found small = subst (λ (z : ℤ). IsFirst Before (P z) found) (next_is block small)

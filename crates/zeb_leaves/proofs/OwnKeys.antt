@@ -1,0 +1,12 @@
+-- No two rows of `blocks` have one key.
+use Rattle.zeb_leaves.proofs.Cited.{Row, State, column, Int, Blob, ◌≡◌, ◌∷◌, ℕ, ℤ, List, [], refl, ap, inl, IsRest, IsStore, Key, blocks_tree}
+use Rattle.zeb_leaves.specs.PrivateAgreeing.{HaveOwnKeys, rest_shown}
+use Rattle.zeb_register.proofs.PostingStatements.{blocks, blocks_keys, blocks_static}
+use Rattle.zeb_register.proofs.SharedKeys.{single}
+
+pub own_keys : (s : State) → IsStore s → (id : ℤ) → HaveOwnKeys (IsRest blocks_tree (Int id ∷ []) s.now.trees)
+own_keys s store id key block x y here there =
+    let same = single 4 blocks blocks_static ((1 ∷ 2 ∷ 3 ∷ 4 ∷ 5 ∷ []) ∷ []) blocks_keys s store here.0 there.0 (Int id ∷ rest_shown key block x) (Int id ∷ rest_shown key block y) here.1 there.1
+    (inl (refl, (refl, (refl, (refl, (refl, tt)))))) (inl (refl, (refl, (refl, (refl, (refl, tt)))))) in
+    let bytes : Blob x ≡ Blob y = ap (λ (r : Row). column r 6) same in
+    let e : x ≡ y = cc in e

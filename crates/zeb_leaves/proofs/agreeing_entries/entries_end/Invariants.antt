@@ -1,0 +1,10 @@
+-- What is left of the entries takes the postings that are left, where all of them take those of the list.
+use Rattle.zeb_leaves.proofs.Cited.{◌↔◌, ◌≤◌, List, length, drop}
+use Rattle.zeb_leaves.specs.PrivateAgreeing.{TakeEntries, leaf_of}
+use Rattle.zeb_register.specs.declared.expected.KeyPosting.{KeyPosting}
+use Rattle.zeb_leaves.proofs.agreeing_entries.entries_end.Given as goal
+
+abbrev pub invariant-loop-entry : goal.invariant-loop-entry
+invariant-loop-entry l =
+    (l.end ≤ length l.postings)
+    × ((rest : List KeyPosting) → TakeEntries (leaf_of l.leaf).key l.entries (drop l.at l.postings) rest ↔ TakeEntries (leaf_of l.leaf).key (drop l.entry-index l.entries) (drop l.end l.postings) rest)

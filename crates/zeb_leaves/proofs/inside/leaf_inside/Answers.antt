@@ -1,0 +1,20 @@
+use Rattle.zeb_leaves.proofs.Cited.{HasCleanDisk, arith, state}
+use Rattle.zeb_leaves.proofs.CoveringCalls.{answered_uncovered}
+use Rattle.zeb_leaves.proofs.InsideCalls.{inside_then}
+use Rattle.zeb_register.proofs.Calls.{store_same}
+use Rattle.zeb_leaves.proofs.inside.leaf_inside.Goals as goal
+
+pub returns-in-Some-clause-finds : goal.returns-in-Some-clause-finds
+returns-in-Some-clause-finds g c clean inside store = rw c.in-Some.is at (c.in_ok-leaf.ensures.covers clean inside store)
+
+pub returns-in-None-clause-call : goal.returns-in-None-clause-call
+returns-in-None-clause-call g c = inside_then _ _ _ _ _ c.in_ok-leaf.ensures.call c.no_leaf.ensures.call
+
+pub returns-in-None-clause-finds : goal.returns-in-None-clause-finds
+returns-in-None-clause-finds g c clean inside store =
+    let s0 = state g.S.Store c.args.tx.now.conn.now in
+    let s1 = state g.S.Store c.covering_leaf.new.tx.conn.now in
+    let clean1 : HasCleanDisk s1 = omega (arith, c.no_leaf.ensures.call.crash.clean) in
+    let read = c.in_ok-leaf.ensures.call.ok clean1 inside in
+    let none = rw c.in-None.is at (c.in_ok-leaf.ensures.covers clean1 inside store) in
+    answered_uncovered c.args.at c.args.term.now c.args.block s0.now s1.now read.now_is none c.no_leaf.result (c.no_leaf.ensures.none clean read.mode (store_same s0 s1 read.now_is store))

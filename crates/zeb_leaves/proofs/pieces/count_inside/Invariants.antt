@@ -1,0 +1,8 @@
+-- The changes so far are of records of the block.
+use Rattle.zeb_leaves.proofs.Cited.{AllByRecursion}
+use Rattle.std.proofs.Common.{take}
+use Rattle.zeb_register.specs.PrivatePackedRows.{IsInBlock}
+use Rattle.zeb_leaves.proofs.pieces.count_inside.Given as goal
+
+abbrev pub invariant-loop-count : goal.invariant-loop-count
+invariant-loop-count l = AllByRecursion (IsInBlock l.block) (take l.count l.changes)

@@ -1,0 +1,7 @@
+-- The changes so far can all be stored.
+use Rattle.std.proofs.Common.{take}
+use Rattle.zeb_leaves.specs.PrivatePieces.{AreStorable}
+use Rattle.zeb_leaves.proofs.turning.check_run.Given as goal
+
+abbrev pub invariant-loop-one : goal.invariant-loop-one
+invariant-loop-one l = AreStorable (take l.one-index l.run)

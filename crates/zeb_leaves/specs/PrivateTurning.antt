@@ -1,0 +1,56 @@
+-- What only the contracts of private functions speak of; no public clause reaches it: the pieces of a run at the front, put into one leaf.
+use Rattle.std.specs.Prelude.{◌≡◌, ◌≤◌, ℕ, ℤ, List, [], ◌∷◌, Some, None, Result, length, take, IsUtf8}
+use Rattle.std.specs.declared.cmp.Ordering.TheVariants.{Less}
+use Rattle.sqlite.specs.Order.{Row}
+use Rattle.sqlite.specs.State.{State}
+use Rattle.sqlite.specs.Tree.{Trees}
+use Rattle.zeb_leaf.specs.Spans.{key_cmp}
+use Rattle.zeb_leaves.specs.PrivateLeafReads.{IsLeafIn}
+use Rattle.zeb_leaves.specs.PrivatePieces.{block_of}
+use Rattle.zeb_leaves.specs.PrivatePutPieces.{EndsLeaf}
+use Rattle.zeb_leaves.specs.PrivateTermReads.{End}
+use Rattle.zeb_register.specs.Answers.{Answers, IfDamaged}
+use Rattle.zeb_register.specs.Clauses.{InStore}
+use Rattle.zeb_register.specs.Covering.{Covers, leaf_key}
+use Rattle.zeb_register.specs.Formats.{packed_leaves}
+use Rattle.zeb_register.specs.RunChanges.{LacksLeave, PutsKeys}
+use Rattle.zeb_register.specs.Store.{IsStore}
+use Rattle.zeb_register.specs.declared.faults.RegFault.{RegFault}
+use Rattle.zeb_register.specs.declared.registers.KeyChanges.{KeyChanges}
+use Rattle.zeb_register.specs.declared.registers.RegisterOf.{RegisterOf}
+
+-- the piece is of the register
+abbrev pub IsOfRegister : RegisterOf → KeyChanges → Type 0
+IsOfRegister at piece = (piece.key.now.index ≡ at.index) × (piece.key.now.register ≡ at.register)
+
+-- and its term is text
+abbrev pub IsTextOf : RegisterOf → KeyChanges → Type 0
+IsTextOf at piece = IsOfRegister at piece × IsUtf8 piece.key.now.term
+
+-- its block is below the end, where there is one
+abbrev pub IsBelow : End → KeyChanges → Type 0
+IsBelow None piece = Unit {0}
+IsBelow (Some end) piece = key_cmp piece.key.now.term (block_of piece.changes.now) end.0 end.1 ≡ Less
+
+-- the leaf covers the block of the first of them
+abbrev pub CoversFirst : (Row → Type 0) → Row → List KeyChanges → Type 0
+CoversFirst Leaves leaf [] = Unit {0}
+CoversFirst Leaves leaf (piece ∷ pieces) = Covers Leaves (leaf_key piece.key.now.term (block_of piece.changes.now)) leaf
+
+-- the pieces at the front are put, one at least, and so many are they; or one of all lacks leave
+abbrev pub PutsFront : ℤ → List KeyChanges → (old : Trees) → (new : State) → Result ℕ RegFault → Type 0
+PutsFront db pieces old new = Answers (IfDamaged (LacksLeave packed_leaves db pieces old))
+    (λ count. (1 ≤ count) × (count ≤ length pieces) × IsStore new × PutsKeys packed_leaves db (take count pieces) old new.now.trees)
+
+-- inside a transaction on a store
+abbrev pub TurnsFront : ℤ → List KeyChanges → (old new : State) → Result ℕ RegFault → Type 0
+TurnsFront db pieces old new result = InStore old new (λ trees. PutsFront db pieces trees new result)
+
+-- the same where the register has no leaf
+abbrev pub BeginsFront : RegisterOf → List KeyChanges → (old new : State) → Result ℕ RegFault → Type 0
+BeginsFront at pieces old new result = InStore old new (λ trees. ((leaf : Row) → ¬ IsLeafIn trees at leaf) → PutsFront at.db.0 pieces trees new result)
+
+-- the same where the leaf covers the first of them, and what it covers ends there
+abbrev pub ReplacesFront : RegisterOf → Row → End → List KeyChanges → (old new : State) → Result ℕ RegFault → Type 0
+ReplacesFront at leaf end pieces old new result = InStore old new (λ trees.
+    EndsLeaf (IsLeafIn trees at) leaf end → CoversFirst (IsLeafIn trees at) leaf pieces → PutsFront at.db.0 pieces trees new result)

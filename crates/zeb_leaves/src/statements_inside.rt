@@ -1,0 +1,134 @@
+//! The statements that find a leaf inside a transaction.
+
+ghost use Rattle.std.specs.Prelude.{◌≡◌, ◌≢◌, Err};
+ghost use Rattle.sqlite.specs.Held.{state};
+ghost use Rattle.sqlite.specs.Values.{bound};
+ghost use Rattle.zeb_leaves.specs.PrivateLeafReads.{IsGreatest, IsLeafIn, IsLeast, ShowsLast};
+ghost use Rattle.zeb_leaves.specs.PrivateLeafReads.{IsOfTermBelow, IsOfTermFrom, IsOfTermsBelow, TellsSome};
+ghost use Rattle.zeb_leaves.specs.PrivateTermReads.{IsRowFrom};
+ghost use Rattle.zeb_register.specs.Calls.{Inside, OnlyReads};
+ghost use Rattle.zeb_register.specs.Clauses.{TellsInside};
+ghost use Rattle.zeb_register.specs.Queries.{IsSilent};
+
+use crate::covering::last_row;
+use crate::statements::{ANY, OF_TERM, OF_TERMS_BELOW};
+use sqlite::types::ValueRef;
+use sqlite::{Alter, Row, Transaction, params};
+use zeb_register::{RegFault, RegisterOf};
+
+const OF_TERM_FROM: &str =
+    "SELECT term, block, data FROM blocks WHERE db = ?1 AND idx = ?2 AND reg = ?3 AND term = ?4 AND block >= ?5 ORDER BY term, block LIMIT 1";
+
+// A block below 0 is no block's number, and so its row is no leaf.
+const OF_TERMS_FROM: &str =
+    "SELECT term, block, data FROM blocks WHERE db = ?1 AND idx = ?2 AND reg = ?3 AND term >= ?4 AND block >= ?5 ORDER BY term, block LIMIT 1";
+
+/// The last of the rows that a query shows inside a transaction. Nothing changes.
+fn last_shown<S: Alter>(
+    tx: &mut Transaction<'_, S>,
+    sql: &str,
+    params: &[ValueRef<'_>],
+) -> Result<Option<Row>, RegFault>
+    requires { IsSilent sql.now }
+    ensures same { tx.new.conn.ghost_name ≡ tx.old.conn.ghost_name }
+    ensures shows { ShowsLast sql.now (bound params.now) (state S.Store tx.old.conn.now)
+        (state S.Store tx.new.conn.now) result }
+{
+    let rows = tx.query_all(sql, params)?;
+    Ok(last_row(rows))
+}
+
+/// The greatest leaf of the term whose own block is below `end`.
+pub(crate) fn leaf_of_term_inside<S: Alter>(
+    tx: &mut Transaction<'_, S>,
+    at: RegisterOf,
+    term: &str,
+    end: i64,
+) -> Result<Option<Row>, RegFault>
+    ensures same { tx.new.conn.ghost_name ≡ tx.old.conn.ghost_name }
+    ensures call { Inside (state S.Store tx.old.conn.now) (state S.Store tx.new.conn.now) result
+        (λ _. OnlyReads) }
+    ensures finds { TellsInside (state S.Store tx.old.conn.now) (state S.Store tx.new.conn.now)
+        result (λ trees found. IsGreatest (IsOfTermBelow at term.now end trees) found) }
+    ensures honest { result ≢ Err RegFault.Damaged }
+{
+    let db = at.db.column();
+    let reg = u32::from(at.register.code());
+    let least: u32 = 0;
+    last_shown(tx, OF_TERM, params![db, at.index, reg, term, least, end])
+}
+
+/// The greatest leaf of the terms below this one.
+pub(crate) fn leaf_of_terms_below_inside<S: Alter>(
+    tx: &mut Transaction<'_, S>,
+    at: RegisterOf,
+    term: &str,
+) -> Result<Option<Row>, RegFault>
+    ensures same { tx.new.conn.ghost_name ≡ tx.old.conn.ghost_name }
+    ensures call { Inside (state S.Store tx.old.conn.now) (state S.Store tx.new.conn.now) result
+        (λ _. OnlyReads) }
+    ensures finds { TellsInside (state S.Store tx.old.conn.now) (state S.Store tx.new.conn.now)
+        result (λ trees found. IsGreatest (IsOfTermsBelow at term.now trees) found) }
+    ensures honest { result ≢ Err RegFault.Damaged }
+{
+    let db = at.db.column();
+    let reg = u32::from(at.register.code());
+    let least: u32 = 0;
+    last_shown(tx, OF_TERMS_BELOW, params![db, at.index, reg, term, least])
+}
+
+/// A row, where the register has a leaf.
+pub(crate) fn some_row_inside<S: Alter>(
+    tx: &mut Transaction<'_, S>,
+    at: RegisterOf,
+) -> Result<Option<Row>, RegFault>
+    ensures same { tx.new.conn.ghost_name ≡ tx.old.conn.ghost_name }
+    ensures call { Inside (state S.Store tx.old.conn.now) (state S.Store tx.new.conn.now) result
+        (λ _. OnlyReads) }
+    ensures finds { TellsInside (state S.Store tx.old.conn.now) (state S.Store tx.new.conn.now)
+        result (λ trees found. TellsSome (IsLeafIn trees at) found) }
+    ensures honest { result ≢ Err RegFault.Damaged }
+{
+    let db = at.db.column();
+    let reg = u32::from(at.register.code());
+    let least: u32 = 0;
+    last_shown(tx, ANY, params![db, at.index, reg, least])
+}
+
+/// The least leaf of the term whose own block isn't below `first`.
+pub(crate) fn leaf_of_term_from<S: Alter>(
+    tx: &mut Transaction<'_, S>,
+    at: RegisterOf,
+    term: &str,
+    first: i64,
+) -> Result<Option<Row>, RegFault>
+    ensures same { tx.new.conn.ghost_name ≡ tx.old.conn.ghost_name }
+    ensures call { Inside (state S.Store tx.old.conn.now) (state S.Store tx.new.conn.now) result
+        (λ _. OnlyReads) }
+    ensures finds { TellsInside (state S.Store tx.old.conn.now) (state S.Store tx.new.conn.now)
+        result (λ trees found. IsLeast (IsOfTermFrom at term.now first trees) found) }
+    ensures honest { result ≢ Err RegFault.Damaged }
+{
+    let db = at.db.column();
+    let reg = u32::from(at.register.code());
+    last_shown(tx, OF_TERM_FROM, params![db, at.index, reg, term, first])
+}
+
+/// The least leaf of the terms that aren't below `first`.
+pub(crate) fn leaf_of_terms_from<S: Alter>(
+    tx: &mut Transaction<'_, S>,
+    at: RegisterOf,
+    first: &str,
+) -> Result<Option<Row>, RegFault>
+    ensures same { tx.new.conn.ghost_name ≡ tx.old.conn.ghost_name }
+    ensures call { Inside (state S.Store tx.old.conn.now) (state S.Store tx.new.conn.now) result
+        (λ _. OnlyReads) }
+    ensures finds { TellsInside (state S.Store tx.old.conn.now) (state S.Store tx.new.conn.now)
+        result (λ trees found. IsLeast (IsRowFrom at first.now trees) found) }
+    ensures honest { result ≢ Err RegFault.Damaged }
+{
+    let db = at.db.column();
+    let reg = u32::from(at.register.code());
+    let least: u32 = 0;
+    last_shown(tx, OF_TERMS_FROM, params![db, at.index, reg, first, least])
+}

@@ -1,0 +1,152 @@
+//! What becomes of the entries of a leaf where pieces of a run are changed: each piece's entry is read, turned and spelled anew.
+
+ghost use Rattle.std.specs.Prelude.{◌≢◌, ◌↔◌, List, IsTrue, IfOk, MatchOption};
+ghost use Rattle.std.specs.List.{AllByRecursion};
+ghost use Rattle.std.specs.List.Sorted.{IsStrictlySortedBy};
+ghost use Rattle.sqlite_rules.specs.Lists.{Has};
+ghost use Rattle.zeb_blocks.specs.Blocks.{LiesIn};
+ghost use Rattle.zeb_leaf.specs.Order.{entry_cmp};
+ghost use Rattle.zeb_leaf.specs.declared.entries.Entry.{Entry};
+ghost use Rattle.zeb_leaves.specs.PrivatePieces.{HasPostings, IsPiece, LackTurn, LacksTurn, TurnAllEntries, TurnsEntries, block_of};
+ghost use Rattle.zeb_register.specs.Answers.{Answers, IfDamaged};
+ghost use Rattle.zeb_register.specs.Formats.{packed_leaves};
+ghost use Rattle.zeb_register.specs.PrivatePackedRows.{IsInBlock};
+ghost use Rattle.zeb_register.specs.PrivateUnits.{units_of};
+ghost use Rattle.zeb_register.specs.Readings.{IsAt, SayPart};
+ghost use Rattle.zeb_register.specs.UnitChanges.{IsStorableChange, KeyUnits, TurnsUnits};
+
+use crate::pieces::first_block;
+use crate::said_postings::{push_said, records_in};
+use std::alloc::{AllocError, Global};
+use zeb_blocks::{Posting, spell};
+use zeb_leaf::{BlockChange, BlockKey, Bytes, Entry, Held, NewBlock};
+use zeb_register::for_layouts::postings_changed;
+use zeb_register::{KeyChanges, RecordChange, RegFault};
+
+/// Whether an entry is that of a block of a term.
+fn is_at(entry: &Entry, key: BlockKey) -> bool
+    ensures { IsTrue result ↔ IsAt key.entry.term.now key.entry.block entry.now }
+{
+    entry.block == key.block && entry.term.as_slice() == key.term
+}
+
+/// The entry of a block of a term, where there is one.
+fn entry_at<'a>(entries: &'a [Entry], key: BlockKey) -> Option<&'a Entry>
+    ensures { MatchOption result
+        ((e : Entry) → Has entries.now e → ¬ IsAt key.entry.term.now key.entry.block e)
+        (λ found. Has entries.now found.now
+        × IsAt key.entry.term.now key.entry.block found.now) }
+{
+    for entry in entries {
+        if is_at(entry, key) {
+            return Some(entry);
+        }
+    }
+    None
+}
+
+/// The postings that entries say of a block of a term: none where it has no entry.
+fn postings_at(alloc: Global, entries: &[Entry], key: BlockKey) -> Result<Vec<Posting>, RegFault>
+    requires { IsStrictlySortedBy entry_cmp entries.now }
+    ensures { Answers (λ fault. (fault ≢ RegFault.Store)
+        × IfDamaged ((part : List _)
+        → ¬ SayPart entries.now key.entry.term.now key.entry.block part) fault)
+        (λ list. SayPart entries.now key.entry.term.now key.entry.block list.items) result }
+{
+    let mut postings = Vec::new(alloc);
+    if let Some(entry) = entry_at(entries, key) {
+        let held = Held {
+            block: entry.block,
+            records: entry.records,
+            bytes: entry.bytes.as_slice(),
+        };
+        push_said(&mut postings, &held)?;
+    }
+    Ok(postings)
+}
+
+/// The postings of a block after changes of its records, one after the other. `Damaged` where a record has other places than its change says.
+fn postings_after(
+    alloc: Global,
+    list: Vec<Posting>,
+    changes: &[RecordChange<'_>],
+) -> Result<Vec<Posting>, RegFault>
+    requires lies { LiesIn (block_of changes.now) list.items }
+    requires inside { AllByRecursion (IsInBlock (block_of changes.now)) changes.now }
+    requires stored { AllByRecursion IsStorableChange changes.now }
+    ensures turned { Answers (λ fault. (fault ≢ RegFault.Store)
+        × IfDamaged ((are : KeyUnits)
+        → ¬ TurnsUnits packed_leaves changes.now (units_of list.items 0) are) fault)
+        (λ next. TurnsUnits packed_leaves changes.now (units_of list.items 0)
+        (units_of next.items 0)) result }
+    ensures lies { IfOk result (λ next. LiesIn (block_of changes.now) next.items) }
+{
+    let mut list = list;
+    for change in changes {
+        list = postings_changed(alloc, &list, change)?;
+    }
+    Ok(list)
+}
+
+/// What a block has that has these postings: `None` where there are none. The only refusal is want of memory.
+fn block_with(alloc: Global, block: u64, list: &[Posting]) -> Result<Option<NewBlock>, AllocError>
+    requires { LiesIn block list.now }
+    ensures { IfOk result (λ new. HasPostings block list.now new) }
+{
+    if list.is_empty() {
+        return Ok(None);
+    }
+    let bytes = spell(alloc, block, list)?;
+    Ok(Some(NewBlock {
+        records: records_in(list),
+        bytes: Bytes::new(bytes),
+    }))
+}
+
+/// What becomes of the block of a piece in a leaf with these entries. `Damaged` only where they say nothing of it that can be changed so; beside
+/// that only memory can fail.
+pub(crate) fn piece_change(
+    alloc: Global,
+    entries: &[Entry],
+    piece: &KeyChanges<'_>,
+) -> Result<BlockChange, RegFault>
+    requires piece { IsPiece piece.now }
+    requires rising { IsStrictlySortedBy entry_cmp entries.now }
+    ensures { Answers (λ fault. (fault ≢ RegFault.Store)
+        × IfDamaged (LacksTurn entries.now piece.now) fault)
+        (λ change. TurnsEntries entries.now piece.now change) result }
+{
+    let key = BlockKey {
+        term: piece.key.term.as_str().as_bytes(),
+        block: first_block(piece.changes),
+    };
+    let old = postings_at(alloc, entries, key)?;
+    let list = postings_after(alloc, old, piece.changes)?;
+    let term = Vec::from_slice(alloc, key.term)?;
+    let new = block_with(alloc, key.block, &list)?;
+    Ok(BlockChange {
+        term: Bytes::new(term),
+        block: key.block,
+        new,
+    })
+}
+
+/// What becomes of the blocks of several pieces, in their order. Refused as for one of them.
+pub(crate) fn piece_changes(
+    alloc: Global,
+    entries: &[Entry],
+    pieces: &[KeyChanges<'_>],
+) -> Result<Vec<BlockChange>, RegFault>
+    requires pieces { AllByRecursion IsPiece pieces.now }
+    requires rising { IsStrictlySortedBy entry_cmp entries.now }
+    ensures { Answers (λ fault. (fault ≢ RegFault.Store)
+        × IfDamaged (LackTurn entries.now pieces.now) fault)
+        (λ changes. TurnAllEntries entries.now pieces.now changes.items) result }
+{
+    let mut changes = Vec::new(alloc);
+    for piece in pieces {
+        let change = piece_change(alloc, entries, piece)?;
+        changes.push(change)?;
+    }
+    Ok(changes)
+}

@@ -1,0 +1,223 @@
+//! A run of keys whose places change, put into leaves: each leaf is read and written once for all pieces of the run that it covers.
+
+ghost use Rattle.std.specs.Prelude.{◌≡◌, ◌≢◌, ◌↔◌, ◌≤◌, [], length, take, IfErr, IfOk, IsTrue, IsUtf8, OnOk};
+ghost use Rattle.std.specs.List.{AllByRecursion};
+ghost use Rattle.std.specs.Option.{option_map};
+ghost use Rattle.sqlite.specs.Held.{state};
+ghost use Rattle.zeb_leaf.specs.declared.spans.BlockKey.{BlockKey as KeyOfBlock};
+ghost use Rattle.zeb_leaves.specs.PrivatePieces.{ArePieces, AreStorable};
+ghost use Rattle.zeb_leaves.specs.PrivateTurning.{BeginsFront, IsBelow, IsOfRegister};
+ghost use Rattle.zeb_leaves.specs.PrivateTurning.{IsTextOf, ReplacesFront, TurnsFront};
+ghost use Rattle.zeb_register.specs.Calls.{GoesOn, Inside};
+ghost use Rattle.zeb_register.specs.Formats.{packed_leaves};
+ghost use Rattle.zeb_register.specs.RunChanges.{ChangesKeys, IsRun};
+
+use crate::inside::{end_at, leaf_behind, leaf_inside};
+use crate::own_entries::{is_below, own_entries};
+use crate::pieces::{first_block, pieces_of};
+use crate::spans::own_key;
+use crate::turned_entries::piece_changes;
+use crate::writes::{LeafKey, entries_put, text_of};
+use sqlite::{Alter, Row, Transaction};
+use std::alloc::Global;
+use zeb_leaf::{BlockKey, Filling, merge};
+use zeb_register::for_layouts::{check_changes, nothing_inside};
+use zeb_register::{DatabaseId, KeyChanges, RegFault, RegisterOf};
+
+/// So many pieces are put into a leaf at once with the first one: their entries are held together.
+const MORE_AT_ONCE: usize = 4_095;
+
+/// Whether a piece is of the register.
+fn is_of_register(piece: &KeyChanges<'_>, at: RegisterOf) -> bool
+    ensures { IsTrue result ↔ IsOfRegister at piece.now }
+{
+    piece.key.index == at.index && piece.key.register == at.register
+}
+
+/// Whether the block of a piece is below the end, where there is one.
+fn is_before(piece: &KeyChanges<'_>, end: Option<BlockKey<'_>>) -> bool
+    ensures before { IsTrue result
+        ↔ IsBelow (option_map (λ (k : KeyOfBlock). (k.term.now, k.block)) end.entry) piece.now }
+    ensures text { IsUtf8 piece.now.key.now.term }
+{
+    let own = BlockKey {
+        term: piece.key.term.as_str().as_bytes(),
+        block: first_block(piece.changes),
+    };
+    match end {
+        Some(end) => is_below(own, end),
+        None => true,
+    }
+}
+
+/// How many pieces there are before the first that isn't of the register, or not below the end; at most as many as are put at once with the one
+/// before them.
+fn count_covered(pieces: &[KeyChanges<'_>], at: RegisterOf, end: Option<BlockKey<'_>>) -> usize
+    ensures within { result ≤ length pieces.now }
+    ensures register { AllByRecursion (IsTextOf at) (take result pieces.now) }
+    ensures below { AllByRecursion
+        (IsBelow (option_map (λ (k : KeyOfBlock). (k.term.now, k.block)) end.entry))
+        (take result pieces.now) }
+{
+    for (count, piece) in pieces.iter().enumerate() {
+        if count == MORE_AT_ONCE || !is_of_register(piece, at) || !is_before(piece, end) {
+            return count;
+        }
+    }
+    pieces.len()
+}
+
+/// Puts the pieces at the front that are of the register, which has no leaf, into its first leaves; returns how many these are.
+fn register_begun<S: Alter>(
+    alloc: Global,
+    tx: &mut Transaction<'_, S>,
+    at: RegisterOf,
+    pieces: &[KeyChanges<'_>],
+) -> Result<usize, RegFault>
+    requires some { pieces.now ≢ [] }
+    requires pieces { ArePieces pieces.now }
+    requires first { AllByRecursion (IsTextOf at) (take 1 pieces.now) }
+    ensures same { tx.new.conn.ghost_name ≡ tx.old.conn.ghost_name }
+    ensures call { Inside (state S.Store tx.old.conn.now) (state S.Store tx.new.conn.now) result
+        (λ _. GoesOn) }
+    ensures turned { BeginsFront at pieces.now (state S.Store tx.old.conn.now)
+        (state S.Store tx.new.conn.now) result }
+    ensures further { IfOk result (λ count. (1 ≤ count) × (count ≤ length pieces.now)) }
+{
+    let count = 1 + count_covered(&pieces[1..], at, None);
+    let changes = piece_changes(alloc, &[], &pieces[..count])?;
+    let entries = merge(alloc, &[], changes)?;
+    let first = LeafKey { term: "", block: 0 };
+    entries_put(alloc, tx, at, first, false, &entries, Filling::Full)?;
+    Ok(count)
+}
+
+/// Puts the pieces at the front that a leaf covers, from that of the first on, into it; returns how many these are. The end is the own key of the
+/// leaf behind it. Leaves are filled where nothing stands behind them, and else halved.
+fn leaf_turned<S: Alter>(
+    alloc: Global,
+    tx: &mut Transaction<'_, S>,
+    at: RegisterOf,
+    leaf: &Row,
+    end: Option<BlockKey<'_>>,
+    pieces: &[KeyChanges<'_>],
+) -> Result<usize, RegFault>
+    requires some { pieces.now ≢ [] }
+    requires pieces { ArePieces pieces.now }
+    requires first { AllByRecursion (IsTextOf at) (take 1 pieces.now) }
+    ensures same { tx.new.conn.ghost_name ≡ tx.old.conn.ghost_name }
+    ensures call { Inside (state S.Store tx.old.conn.now) (state S.Store tx.new.conn.now) result
+        (λ _. GoesOn) }
+    ensures turned { ReplacesFront at leaf.now
+        (option_map (λ (k : KeyOfBlock). (k.term.now, k.block)) end.entry) pieces.now
+        (state S.Store tx.old.conn.now) (state S.Store tx.new.conn.now) result }
+    ensures further { IfOk result (λ count. (1 ≤ count) × (count ≤ length pieces.now)) }
+{
+    let count = 1 + count_covered(&pieces[1..], at, end);
+    let own = own_key(leaf)?;
+    let entries = own_entries(alloc, leaf, own, end)?;
+    let changes = piece_changes(alloc, &entries, &pieces[..count])?;
+    let merged = merge(alloc, &entries, changes)?;
+    let key = LeafKey {
+        term: text_of(own.term),
+        block: own.block,
+    };
+    let filling = if end.is_none() {
+        Filling::Full
+    } else {
+        Filling::Even
+    };
+    entries_put(alloc, tx, at, key, true, &merged, filling)?;
+    Ok(count)
+}
+
+/// Puts the pieces at the front that one leaf covers; returns how many these are.
+///
+/// `Damaged` where the register has leaves and none covers the first piece, where the leaf's bytes are no leaf's, and where a record has other
+/// places than its change says.
+fn front_turned<S: Alter>(
+    alloc: Global,
+    tx: &mut Transaction<'_, S>,
+    db: DatabaseId,
+    pieces: &[KeyChanges<'_>],
+) -> Result<usize, RegFault>
+    requires some { pieces.now ≢ [] }
+    requires pieces { ArePieces pieces.now }
+    ensures same { tx.new.conn.ghost_name ≡ tx.old.conn.ghost_name }
+    ensures call { Inside (state S.Store tx.old.conn.now) (state S.Store tx.new.conn.now) result
+        (λ _. GoesOn) }
+    ensures turned { TurnsFront db.0 pieces.now (state S.Store tx.old.conn.now)
+        (state S.Store tx.new.conn.now) result }
+    ensures further { IfOk result (λ count. (1 ≤ count) × (count ≤ length pieces.now)) }
+{
+    let first = pieces[0];
+    let at = RegisterOf {
+        db,
+        index: first.key.index,
+        register: first.key.register,
+    };
+    let term = first.key.term.as_str();
+    let block = first_block(first.changes);
+    let Some(leaf) = leaf_inside(tx, at, term, block)? else {
+        return register_begun(alloc, tx, at, pieces);
+    };
+    let behind = leaf_behind(alloc, tx, at, term, block)?;
+    let end = end_at(behind.as_ref())?;
+    leaf_turned(alloc, tx, at, &leaf, end, pieces)
+}
+
+/// Puts all pieces, leaf by leaf.
+fn pieces_turned<S: Alter>(
+    alloc: Global,
+    tx: &mut Transaction<'_, S>,
+    db: DatabaseId,
+    pieces: &[KeyChanges<'_>],
+) -> Result<(), RegFault>
+    requires { ArePieces pieces.now }
+    ensures same { tx.new.conn.ghost_name ≡ tx.old.conn.ghost_name }
+    ensures call { Inside (state S.Store tx.old.conn.now) (state S.Store tx.new.conn.now) result
+        (λ _ a b. IsTrue a.is_open → GoesOn a b) }
+    ensures units { ChangesKeys packed_leaves db.0 pieces.now (state S.Store tx.old.conn.now)
+        (state S.Store tx.new.conn.now) result }
+{
+    let mut done = 0;
+    while done < pieces.len() {
+        done += front_turned(alloc, tx, db, &pieces[done..])?;
+    }
+    Ok(())
+}
+
+/// Refuses changes of a run that no row has, as `Store`.
+fn check_run(run: &[KeyChanges<'_>]) -> Result<(), RegFault>
+    ensures stored { OnOk result (AreStorable run.now) }
+    ensures refused { IfErr result (λ fault. fault ≡ RegFault.Store) }
+{
+    for one in run {
+        check_changes(one.changes)?;
+    }
+    Ok(())
+}
+
+/// Puts the changes of a run of keys, each where its `old` stood. Each leaf is read once and written once for all changes that it covers, of
+/// 4,096 blocks at most.
+///
+/// `Damaged` where a record has other places than its `old`, and where what a leaf says of a changed block can't be read. `Store` also where a
+/// change can't be stored. Keys may be changed then that stand before the one that is refused.
+pub fn run_changes<S: Alter>(
+    tx: &mut Transaction<'_, S>,
+    db: DatabaseId,
+    run: &[KeyChanges<'_>],
+) -> Result<(), RegFault>
+    requires rising { IsRun run.now }
+    ensures same { tx.new.conn.ghost_name ≡ tx.old.conn.ghost_name }
+    ensures call { Inside (state S.Store tx.old.conn.now) (state S.Store tx.new.conn.now) result
+        (λ _. GoesOn) }
+    ensures units { ChangesKeys packed_leaves db.0 run.now (state S.Store tx.old.conn.now)
+        (state S.Store tx.new.conn.now) result }
+{
+    // A closed connection is refused also where there is no change.
+    let alloc = nothing_inside(tx)?;
+    check_run(run)?;
+    let pieces = pieces_of(alloc, run)?;
+    pieces_turned(alloc, tx, db, &pieces)
+}
